@@ -1,0 +1,9 @@
+pub mod Codes
+pub mod Insns
+pub mod Programs
+pub mod Refusals
+pub mod Masks
+pub mod Stacks
+pub mod Numbers
+pub mod MemberLaws
+pub mod ProgramLaws

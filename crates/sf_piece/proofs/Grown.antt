@@ -1,0 +1,122 @@
+-- Pieces whose pools have grown, the instruction at hand, and the first piece.
+use Rattle.std.proofs.Common.{◌≡◌, ℕ, zero, suc, ◌+◌, ◌-◌, ◌<◌, ◌≤◌, ◌^◌, Bool, true, false, List, [], ◌∷◌, ◌++◌, length, take, drop, map, reverse, get_or, Option, Some, None, slice_get, refl, sym, ap, subst, ◌∙◌, ◌⊎◌, inl, inr, arith, append_assoc, append-nil, length-append}
+use Rattle.std.specs.Prelude.{option_map, replicate}
+use Rattle.std.specs.List.{AllByRecursion, list_all, flat_map}
+use Rattle.std.proofs.lemmas.Option.{same_Some, slice_get-get_or}
+use Rattle.std.proofs.lemmas.List.{get_or-reverse, length-reverse}
+use Rattle.sf_insn.specs.declared.input.Input.{Input}
+use Rattle.sf_insn.specs.Inputs.{IsInput}
+use Rattle.sf_check.specs.declared.insn.Insn.{Insn}
+use Rattle.sf_check.specs.declared.insn.Insn.TheVariants.{Negate}
+use Rattle.sf_check.specs.Insns.{loaded_by}
+use Rattle.sf_check.specs.Programs.{IsAt, IsLawful}
+use Rattle.sf_check.specs.Stacks.{IsLawfulStack}
+use Rattle.sf_run.specs.declared.action.Action.TheVariants.{Allow}
+use Rattle.sf_run.specs.declared.action.Answer.{Answer}
+use Rattle.sf_run.specs.Machine.{State, start, met_by, return_of, trace_of, returns_of, step}
+use Rattle.sf_run.specs.Answers.{IsAnswer}
+use Rattle.sf_run.specs.AnswerLaws.{answer_none}
+use Rattle.sf_run.specs.Routes.{IsWholeRoute}
+use Rattle.sf_run.specs.RunLaws.{Safe, safe_start, load_is_set}
+use Rattle.sf_run.specs.TraceLaws.{newest_first}
+use Rattle.sf_sym.specs.declared.pool.Node.{Node}
+use Rattle.sf_sym.specs.declared.pool.NodeId.{NodeId}
+use Rattle.sf_sym.specs.declared.pool.Cond.{Cond}
+use Rattle.sf_sym.specs.Pool.{IsPool, Extends, value_of, values_of, node_value, is_met, IsCondBelow}
+use Rattle.sf_sym.specs.ValueLaws.{value-older}
+use Rattle.sf_dom.specs.Facts.{Known, Covers, Agrees, TakesIn, NoneAgrees}
+use Rattle.sf_piece.specs.declared.machine.Machine.{Machine}
+use Rattle.sf_piece.specs.Pieces.{PieceData, is_member, is_prefix, HasNoMember, IsRightAnswer, IsRoot}
+use Rattle.sf_piece.specs.Works.{valued, met_of, IsPending, IsIn, InProgram, HasTaken, RunsOn, Follows, AreNodesBelow, StandsAt, IsPiece, Standing, IsPushed}
+use Rattle.sf_piece.proofs.Valued.{valued_grown, all_grown, below_grown}
+use Rattle.sf_piece.proofs.Children.{piece_named}
+
+-- ---- a grown pool
+
+abbrev pub grown : PieceData → List Node → Known → PieceData
+grown p added fs = record p { pool = p.pool ++ added; facts = fs }
+
+below_le : (n m : ℕ) (cs : List Cond) → n ≤ m → AllByRecursion (IsCondBelow n) cs → AllByRecursion (IsCondBelow m) cs
+below_le n m [] h b = tt
+below_le n m (c ∷ cs) h b = ((omega (arith, b.0.0), omega (arith, b.0.1)), below_le n m cs h b.1)
+
+nodes_le : (n m : ℕ) (k : Machine) → n ≤ m → AreNodesBelow n k → AreNodesBelow m k
+nodes_le n m k h b = record { a = omega (arith, b.a); x = omega (arith, b.x); zero = omega (arith, b.zero); scratch = λ j w e. omega (arith, b.scratch j w e) }
+
+pub members_grown : (p : PieceData) (added : List Node) (fs : Known) (d : Input) → AllByRecursion (IsCondBelow (length p.pool)) p.conditions → is_member (grown p added fs) d ≡ is_member p d
+unfolding is_member
+members_grown p added fs d b = all_grown p.pool added d p.conditions b
+
+in_grown : (p : PieceData) (added : List Node) (rest : List (List Insn)) (pre : List Bool) → AreNodesBelow (length p.pool) p.machine → InProgram rest p.pool p.machine pre → InProgram rest (p.pool ++ added) p.machine pre
+in_grown p added [] pre b h = h
+in_grown p added (code ∷ later) pre b h = record { safe = λ d. subst (Safe code) (sym (valued_grown p.pool added p.machine d b)) (h.safe d); pending = h.pending }
+
+pub stands_grown : (p : PieceData) (added : List Node) (fs : Known) (rest : List (List Insn)) (base pre : List Bool) → AllByRecursion (IsCondBelow (length p.pool)) p.conditions → AreNodesBelow (length p.pool) p.machine → StandsAt p rest base pre → StandsAt (grown p added fs) rest base pre
+stands_grown p added fs rest base pre bounded b s = record {
+  rest_is = s.rest_is;
+  laws = s.laws;
+  name_is = s.name_is;
+  number = s.number;
+  inside = in_grown p added rest pre b s.inside;
+  route = s.route;
+  runs = λ d inp member.
+      let f = s.runs d inp (sym (members_grown p added fs d bounded) ∙ member) in
+      let same : valued (p.pool ++ added) p.machine d ≡ valued p.pool p.machine d = valued_grown p.pool added p.machine d b in
+      record {
+        ends = λ more vs r. f.ends more vs (subst (λ (t : State). RunsOn rest d t more vs) same r);
+        taken = subst (λ (t : State). HasTaken rest d t p.machine.taken pre) (sym same) f.taken;
+      };
+}
+
+length_le : (p : PieceData) (added : List Node) → length p.pool ≤ length (p.pool ++ added)
+length_le p added = omega (arith, length-append p.pool added)
+
+pub grown_piece : (p : PieceData) (added : List Node) (fs : Known) → IsPiece p → IsPool (p.pool ++ added) → Covers fs (p.pool ++ added) → TakesIn p.facts fs p.pool (p.pool ++ added) → IsPiece (grown p added fs)
+grown_piece p added fs h pool covers takes = record {
+  lawful = h.lawful;
+  pool = pool;
+  bounded = below_le (length p.pool) (length (p.pool ++ added)) p.conditions (length_le p added) h.bounded;
+  nodes = nodes_le (length p.pool) (length (p.pool ++ added)) p.machine (length_le p added) h.nodes;
+  zero = λ d. value-older p.pool added d p.machine.zero.0 h.nodes.zero ∙ h.zero d;
+  covers = covers;
+  known = λ d inp member. takes d inp (h.known d inp (sym (members_grown p added fs d h.bounded) ∙ member));
+  members = λ d inp. members_grown p added fs d h.bounded ∙ h.members d inp;
+  rest = h.rest;
+  base = h.base;
+  pre = h.pre;
+  stands = stands_grown p added fs h.rest h.base h.pre h.bounded h.nodes h.stands;
+}
+
+pub pushed : (p : PieceData) (added : List Node) (fs : Known) (node : Node) (id : NodeId) → IsPiece p → id.0 < length (p.pool ++ added) → ((d : Input) → value_of (p.pool ++ added) d id.0 ≡ node_value d (values_of p.pool d) node) → IsPushed p node (grown p added fs) id
+pushed p added fs node id h within value = record {
+  same = refl;
+  within = within;
+  value = value;
+  members = λ d. members_grown p added fs d h.bounded;
+  state = λ d. valued_grown p.pool added p.machine d h.nodes;
+  standing = λ i s. record {
+    code = s.code;
+    later = s.later;
+    base = s.base;
+    pre = s.pre;
+    stands = stands_grown p added fs (s.code ∷ s.later) s.base s.pre h.bounded h.nodes s.stands;
+    at = s.at;
+    lawful = s.lawful;
+    running = s.running;
+    small = s.small;
+    in_range = s.in_range;
+    nodes = nodes_le (length p.pool) (length (p.pool ++ added)) p.machine (length_le p added) h.nodes;
+    zero = λ d. value-older p.pool added d p.machine.zero.0 h.nodes.zero ∙ h.zero d;
+    set = s.set;
+    taken = s.taken;
+    value = s.value;
+  };
+  nodes = nodes_le (length p.pool) (length (p.pool ++ added)) p.machine (length_le p added) h.nodes;
+}
+
+bool_false : (b : Bool) → (b ≡ true → ⊥) → b ≡ false
+bool_false true h = absurd (h refl)
+bool_false false h = refl
+
+pub none_member : (p : PieceData) → IsPiece p → NoneAgrees p.facts p.pool → HasNoMember p
+none_member p h none = record { none = λ d inp. bool_false (is_member p d) (λ member. none d inp (h.known d inp member)) }

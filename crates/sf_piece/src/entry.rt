@@ -1,0 +1,159 @@
+//! A truth value of the trace, taken as true, as false or as both.
+
+ghost use Rattle.std.specs.Prelude.{◌≡◌, IfOk, length, MatchOption};
+ghost use Rattle.std.specs.Arc.{arc_value};
+ghost use Rattle.sf_sym.specs.Pool.{IsCondBelow};
+ghost use Rattle.sf_piece.specs.Works.{Standing, IsEntry, AfterEntry, IsTurned, IsChild, Asks, IsImplied, AreChildFacts, IsNever};
+ghost use Rattle.sf_piece.specs.Turns.{IsTurn};
+
+use crate::fault::Fault;
+use crate::machine::Machine;
+use crate::piece::Piece;
+use crate::stepping::{Met, step};
+use sf_check::Insn;
+use sf_dom::Facts;
+use sf_run::Answer;
+use sf_sym::{Cond, Pool};
+use std::alloc::Global;
+use std::sync::Arc;
+
+/// What became of a piece by one instruction.
+#[derive(Drop)]
+pub(crate) enum Turn {
+    On(Piece),
+    Split(Arc<Piece>, Arc<Piece>),
+    Settled(Vec<bool>, Answer),
+    Empty,
+}
+
+/// Where the machine stands after the entry.
+fn after(piece: &Piece, insn: Insn, sense: bool) -> Machine
+    requires standing { Standing piece.now insn }
+    requires asks { Asks piece.now insn }
+    ensures { AfterEntry piece.now insn sense result }
+{
+    let m = piece.machine;
+    match insn {
+        Insn::Branch(_, _, on_true, on_false) => {
+            let skipped = if sense { on_true } else { on_false };
+            Machine {
+                place: m.place + 1 + skipped as usize,
+                ..m
+            }
+        }
+        Insn::ReturnA => Machine {
+            taken: m.taken + 1,
+            value: 2 * m.value + u32::from(sense),
+            ..m
+        },
+        _ => {
+            if sense {
+                m.returned(0)
+            } else {
+                Machine { taken: 1, ..m }
+            }
+        }
+    }
+}
+
+/// The entry is this on every member: it goes into the name alone.
+fn take(piece: Piece, insn: Insn, cond: Cond, sense: bool) -> Result<Piece, Fault>
+    requires standing { Standing piece insn }
+    requires entry { IsEntry piece insn cond }
+    requires implied { IsImplied piece cond sense }
+    ensures { IfOk result (IsTurned piece) }
+{
+    let _cond = cond;
+    let to = after(&piece, insn, sense);
+    let Piece {
+        stack,
+        mut name,
+        pool,
+        conditions,
+        machine: _,
+        facts,
+    } = piece;
+    name.push(sense)?;
+    Ok(Piece {
+        stack,
+        name,
+        pool,
+        conditions,
+        machine: to,
+        facts,
+    })
+}
+
+/// The members on which the entry is this.
+fn child(
+    alloc: Global,
+    piece: &Piece,
+    insn: Insn,
+    cond: Cond,
+    sense: bool,
+    facts: Facts,
+) -> Result<Arc<Piece>, Fault>
+    requires standing { Standing piece.now insn }
+    requires entry { IsEntry piece.now insn cond }
+    requires facts { AreChildFacts piece.now cond sense facts }
+    ensures { IfOk result (λ c. IsChild piece.now cond sense (arc_value c)) }
+{
+    let to = after(piece, insn, sense);
+    let mut name = Vec::from_slice(alloc, piece.name.as_slice())?;
+    name.push(sense)?;
+    let mut conditions = Vec::from_slice(alloc, piece.conditions.as_slice())?;
+    conditions.push(Cond { sense, ..cond })?;
+    let child = Piece {
+        stack: Arc::try_clone(&piece.stack)?,
+        name,
+        pool: piece.pool.fork(alloc)?,
+        conditions,
+        machine: to,
+        facts,
+    };
+    Ok(Arc::new(alloc, child)?)
+}
+
+/// The piece's facts with the entry as this, or none where that contradicts.
+fn learnt(alloc: Global, piece: &Piece, cond: Cond, sense: bool) -> Result<Option<Facts>, Fault>
+    requires { IsCondBelow (length piece.now.pool) cond }
+    ensures { IfOk result (λ o. MatchOption o (IsNever piece.now cond sense) (λ fs. AreChildFacts piece.now cond sense fs)) }
+{
+    let mut facts = piece.facts.fork(alloc)?;
+    if facts.learn(alloc, &piece.pool, &Cond { sense, ..cond })? {
+        Ok(Some(facts))
+    } else {
+        Ok(None)
+    }
+}
+
+/// Learns the entry as false and as true, each from the same facts.
+fn decide(alloc: Global, piece: Piece, insn: Insn, cond: Cond) -> Result<Turn, Fault>
+    requires standing { Standing piece insn }
+    requires entry { IsEntry piece insn cond }
+    ensures { IfOk result (IsTurn piece) }
+{
+    let on_false = learnt(alloc, &piece, cond, false)?;
+    let on_true = learnt(alloc, &piece, cond, true)?;
+    match (on_false, on_true) {
+        (Some(f), Some(t)) => Ok(Turn::Split(
+            child(alloc, &piece, insn, cond, false, f)?,
+            child(alloc, &piece, insn, cond, true, t)?,
+        )),
+        (Some(_), None) => Ok(Turn::On(take(piece, insn, cond, false)?)),
+        (None, Some(_)) => Ok(Turn::On(take(piece, insn, cond, true)?)),
+        (None, None) => Ok(Turn::Empty),
+    }
+}
+
+/// One instruction or one entry.
+pub(crate) fn work_once(alloc: Global, piece: Piece) -> Result<Turn, Fault>
+    ensures { IfOk result (IsTurn piece) }
+{
+    match step(alloc, piece)? {
+        Met::Done(piece) => Ok(Turn::On(piece)),
+        Met::Entry(piece, insn, cond) => decide(alloc, piece, insn, cond),
+        Met::End(name, answer) => Ok(Turn::Settled(name, answer)),
+        Met::Nothing => Ok(Turn::Empty),
+    }
+}

@@ -1,0 +1,19 @@
+//! Pieces of the input space: named sets of inputs, and how one is worked.
+#![tactic(auto)]
+
+mod entry;
+mod fault;
+mod first;
+mod machine;
+mod piece;
+mod stepping;
+mod work;
+
+pub use fault::Fault;
+pub use first::root;
+pub use machine::Machine;
+pub use piece::Piece;
+pub use work::{Step, Work, advance};
+
+#[cfg(test)]
+mod tests;

@@ -1,0 +1,10 @@
+pub mod Machine
+pub mod Answers
+pub mod Code
+pub mod RunLaws
+pub mod Routes
+pub mod RouteLaws
+pub mod TraceLaws
+pub mod CompletionLaws
+pub mod Examples
+pub mod AnswerLaws

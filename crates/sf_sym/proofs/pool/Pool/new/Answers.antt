@@ -1,0 +1,19 @@
+use Rattle.std.proofs.Common.{rules, ◌≡◌, ℕ, ◌+◌, ◌<◌, length, List, [], ◌∷◌, ◌++◌, arith, below_more, ◌∙◌, ap}
+use Rattle.std.proofs.lemmas.List.{length_push, get_or_append_left, get_or_push}
+use Rattle.sf_sym.specs.ValueLaws.{AreOrdered-push}
+use Rattle.sf_sym.specs.Pool.{IsPool, node_at, AreOrdered}
+use Rattle.sf_sym.specs.declared.pool.Node.TheVariants.{Const, Word}
+use Rattle.sf_sym.proofs.pool.Pool.new.Goals as goal
+
+pub loop-i-preserved : goal.loop-i-preserved
+loop-i-preserved c =
+    let ns = c.loop-i.nodes.items in
+    let i = c.loop-i.i in
+    let old = c.loop-i.invariant in
+    rw c.in_ok-push.ensures.items (record {
+      count = length_push ns (Word i) ∙ omega arith;
+      word = below_more (λ k. node_at (ns ++ Word i ∷ []) k ≡ Word k) i
+          (λ k h. let l : k < length ns = omega arith in get_or_append_left ns (Word i ∷ []) (Const 0) k l ∙ old.word k h)
+          (get_or_push ns (Word i) (Const 0) i old.count);
+      ordered = AreOrdered-push 0 ns (Word i) old.ordered (omega arith);
+    })
