@@ -1,0 +1,4 @@
+pub mod Numbers
+pub mod Books
+pub mod Changes
+pub mod Shelves

@@ -1,0 +1,18 @@
+//! The worklist of an exploration: a partition of all inputs among pieces that are left to work and regions that
+//! are settled. No thread and no lock: the crates above share it as they like.
+#![tactic(auto)]
+
+mod book;
+mod entries;
+mod fault;
+mod key;
+mod settled;
+mod shelf;
+
+pub use book::{Book, Counts, Lease};
+pub use entries::Region;
+pub use fault::Fault;
+pub use settled::Settled;
+
+#[cfg(test)]
+mod tests;
