@@ -2,17 +2,20 @@
 use Rattle.std.proofs.Common.{◌≡◌, ℕ, zero, suc, ◌⊎◌, inl, inr, ⊎_elim, cond, drop, length-append, ◌+◌, ◌==◌, ◌*◌, ◌<◌, ◌≤◌, Bool, true, false, List, [], ◌∷◌, ◌++◌, length, map, get_or, set, refl, sym, ◌∙◌, ap, subst, arith, append_assoc, Option, Some, None}
 use Rattle.std.specs.List.{All, remove, HoldsAt, sum_by}
 use Rattle.std.proofs.lemmas.List.Sums.{sum_by-remove, sum_by-cons}
-use Rattle.std.proofs.lemmas.List.Elements.{All-push, All-map, All-filter, All-head, All-tail}
+use Rattle.std.proofs.lemmas.List.Elements.{All-push, All-map, All-filter, All-head, All-tail, All-cons, All-nil}
 use Rattle.std.proofs.lemmas.Bool.Decides.{nat_tests}
 use Rattle.std.proofs.lemmas.List.{get_or_default}
 use Rattle.sf_run.specs.declared.action.Answer.{Answer}
-use Rattle.sf_book.proofs.Names.{hits, bit, prefix-refl, prefix-append}
+use Rattle.sf_check.specs.declared.insn.Insn.{Insn}
+use Rattle.sf_check.specs.Stacks.{IsLawfulStack}
+use Rattle.sf_book.specs.PartitionLaws.{bit, prefix-refl}
+use Rattle.sf_book.proofs.Names.{hits, prefix-append}
 use Rattle.sf_book.proofs.Shelves.{some_inj}
-use Rattle.sf_piece.specs.Pieces.{PieceData, WorkData, is_prefix, IsTrulyNamed, IsRightSplit, IsRightAnswer, HasNoMember}
-use Rattle.sf_book.specs.Books.{EntryData, RegionData, BookData, IsLawful, IsKept, IsRising}
+use Rattle.sf_piece.specs.Pieces.{PieceData, WorkData, is_prefix, IsTrulyNamed, IsRightSplit, IsRightAnswer, HasNoMember, IsRoot}
+use Rattle.sf_book.specs.Books.{EntryData, RegionData, BookData, IsLawful, IsKept, IsRising, fresh}
 use Rattle.sf_book.specs.Changes.{with_lease, with_lease_at, entry_at, without, MayCommit, IsStale}
 use Rattle.sf_book.proofs.Lists.{remove_without}
-use Rattle.sf_book.proofs.Lawful.{IsReplaced, entry, after_split, after_answer, after_empty, split_lawful, answer_lawful, empty_lawful, marks_lawful}
+use Rattle.sf_book.proofs.Lawful.{fresh_lawful, IsReplaced, entry, after_split, after_answer, after_empty, split_lawful, answer_lawful, empty_lawful, marks_lawful}
 
 -- where in the list the work's piece is
 pub record IsPlace (es : List EntryData) (id : ℕ) (w : WorkData) (place : ℕ) : Type 0 where
@@ -173,3 +176,10 @@ pub child_names : (b : BookData) (id : ℕ) (w : WorkData) (f t : PieceData) →
 child_names b id w f t h m right =
     let r = may_place b id w m in
     new_names b w.piece f t r.0 m.entry h r.1.there (r.1.has_name m.entry) right
+
+pub kept_fresh : (stack : List (List Insn)) (r : PieceData) (budget : ℕ) → IsLawfulStack stack → IsRoot stack r → IsKept (fresh stack r budget) 1
+kept_fresh stack r budget lawful h = record {
+  lawful = fresh_lawful stack r budget lawful h;
+  below = All-cons (λ e. e.id < 1) (record { id = 0; piece = r; leased = false }) [] (omega arith) (All-nil (λ e. e.id < 1));
+  few = omega arith;
+}

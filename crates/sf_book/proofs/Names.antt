@@ -5,11 +5,8 @@ use Rattle.sf_insn.specs.Inputs.{IsInput}
 use Rattle.sf_run.specs.declared.action.Answer.{Answer}
 use Rattle.sf_run.specs.Machine.{trace_of}
 use Rattle.sf_sym.specs.Pool.{same}
+use Rattle.sf_book.specs.PartitionLaws.{bit, prefix-refl}
 use Rattle.sf_piece.specs.Pieces.{PieceData, is_member, is_prefix, IsTrulyNamed, IsRightSplit, IsRightAnswer}
-
--- 1 for true
-abbrev pub bit : Bool → ℕ
-bit b = cond b 1 0
 
 -- 1 where the list begins with the name
 abbrev pub hits : List Bool → List Bool → ℕ
@@ -18,11 +15,6 @@ hits n t = bit (is_prefix n t)
 pub bit-le : (b : Bool) → bit b ≤ 1
 bit-le true = omega arith
 bit-le false = omega arith
-
-pub prefix-refl : (n : List Bool) → is_prefix n n ≡ true
-prefix-refl [] = refl
-prefix-refl (true ∷ bs) = prefix-refl bs
-prefix-refl (false ∷ bs) = prefix-refl bs
 
 pub prefix-append : (m r : List Bool) → is_prefix m (m ++ r) ≡ true
 prefix-append [] r = refl

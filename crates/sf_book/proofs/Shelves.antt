@@ -1,6 +1,6 @@
 -- The outstanding pieces that two maps stand for.
 use Rattle.std.proofs.Common.{◌≡◌, ◌≢◌, ℕ, ◌+◌, ◌<◌, ◌≤◌, ◌==◌, Bool, true, false, not, cond, List, [], ◌∷◌, ◌++◌, map, length, get_or, Option, None, Some, refl, sym, ◌∙◌, ap, subst, arith, append-nil, ◌⊎◌, inl, inr, ⊎_elim}
-use Rattle.std.specs.List.{All, AllByRecursion, find, filter}
+use Rattle.std.specs.List.{All, AllByRecursion, find, filter, slice_get}
 use Rattle.std.specs.List.Sorted.{IsStrictlySortedBy}
 use Rattle.std.specs.Option.{option_map, option_map_or, unwrap_or, IsSome}
 use Rattle.std.specs.Ordering.{bool_cmp, is_eq, nat_cmp, eq_by_cmp, match_ordering}
@@ -18,6 +18,7 @@ use Rattle.std.proofs.lemmas.Map.Entries.{none_below_head, none_past_head, looku
 use Rattle.std.proofs.lemmas.Map.Keys.{IsDistinct-from_sorted, sorted_head, sorted_tail}
 use Rattle.std.proofs.lemmas.Map.Made.{lookup-map_values}
 use Rattle.std.proofs.lemmas.Option.{slice_get-get_or}
+use Rattle.std.proofs.lemmas.Simd.{map-map}
 use Rattle.std.proofs.lemmas.List.{map-append}
 use Rattle.std.proofs.lemmas.List.Elements.{All-head, All-tail, All-map, All-nil, All-cons}
 use Rattle.sf_piece.specs.Pieces.{PieceData}
@@ -577,3 +578,7 @@ without_last es x h = without_append x.id es (x ∷ []) ∙ (rw (without_low x.i
 pub without_below : (i : ℕ) (es : List EntryData) (x y : EntryData) → i < x.id → i < y.id → without i ((es ++ x ∷ []) ++ y ∷ []) ≡ (without i es ++ x ∷ []) ++ y ∷ []
 without_below i es x y lx ly =
     without_append i (es ++ x ∷ []) (y ∷ []) ∙ (rw (without_append i es (x ∷ []), num_no x.id i (λ k. let e = k in omega arith), num_no y.id i (λ k. let e = k in omega arith)) refl)
+
+-- the pieces stand in the order of their ids
+pub piece_place : (ids : List (ℕ × PieceData)) (names : List (PieceData × Mark)) (i : ℕ) (p : PieceData) → slice_get (map (λ (e : ℕ × PieceData). e.1) ids) i ≡ Some p → slice_get (map (λ (e : EntryData). e.piece) (entries_of ids names)) i ≡ Some p
+piece_place ids names i p h = rw map-map h

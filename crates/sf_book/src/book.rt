@@ -2,8 +2,11 @@
 
 ghost use Rattle.std.specs.Prelude.{◌≡◌, ◌≢◌, ◌+◌, ◌<◌, ◌≤◌, ℕ, All, IfOk, IfErr, OnOk, IsTrue, OnErr, MatchOption, length, map, true, false, []};
 ghost use Rattle.std.specs.Arc.{arc_value};
+ghost use Rattle.sf_insn.specs.declared.input.Input.{Input};
+ghost use Rattle.sf_insn.specs.Inputs.{IsInput};
 ghost use Rattle.sf_piece.specs.Pieces.{PieceData, IsRoot};
 ghost use Rattle.sf_book.specs.Books.{IsLawful, counts_of, fresh};
+ghost use Rattle.sf_book.specs.Partition.{parts_of, names_of, LiesInOne, NoneBeginsAnother};
 ghost use Rattle.sf_book.specs.Changes.{CommitsAs, Leases, Settles, Refuses, MayCommit, with_lease, with_lease_at};
 ghost use Rattle.sf_book.specs.declared.fault.Fault.TheVariants.{Memory, Foreign};
 
@@ -69,6 +72,7 @@ impl Book {
         ensures ok { IfOk result (λ b. (r : PieceData) × IsRoot (arc_value stack) r × (b ≡ fresh (arc_value stack) r budget)) }
         ensures err { IfErr result (λ f. f ≡ Memory) }
     {
+        let _programs = stack.programs();
         let piece = root(alloc, &stack)?;
         let outstanding = Shelf::open(alloc, 0, piece)?;
         Ok(Book {
@@ -91,10 +95,13 @@ impl Book {
         self.budget
     }
 
-    /// What the book counts.
+    /// What the book counts. Whenever it is asked, each input lies in exactly one of its pieces and regions.
+    #[tactic(auto, using(crate::specs::PartitionLaws::lies_in_one, crate::specs::PartitionLaws::none_begins_another))]
     pub fn counts(&self) -> Counts
         ensures counts { result ≡ counts_of self.now }
         ensures lawful { IsLawful self.now }
+        ensures one { (d : Input) → IsInput d → LiesInOne (parts_of self.now) d }
+        ensures apart { NoneBeginsAnother (names_of self.now) }
     {
         Counts {
             left: self.outstanding.len(),

@@ -6,12 +6,14 @@ mod book;
 mod entries;
 mod fault;
 mod key;
+mod laws;
 mod settled;
 mod shelf;
 
 pub use book::{Book, Counts, Lease};
 pub use entries::Region;
 pub use fault::Fault;
+pub use laws::{each_input_lies_in_one, no_name_begins_another};
 pub use settled::Settled;
 
 #[cfg(test)]

@@ -2,6 +2,9 @@
 
 ghost use Rattle.std.specs.Prelude.{◌≡◌, ◌<◌, length, map, slice_get, Some};
 ghost use Rattle.std.specs.Arc.{arc_value};
+ghost use Rattle.sf_insn.specs.declared.input.Input.{Input};
+ghost use Rattle.sf_insn.specs.Inputs.{IsInput};
+ghost use Rattle.sf_book.specs.Partition.{parts_of, names_of, LiesInOne, NoneBeginsAnother};
 ghost use Rattle.sf_book.specs.Books.{EntryData, IsSettled, IsRightRegion, counts_of};
 
 use crate::book::Counts;
@@ -95,10 +98,13 @@ impl Settled {
         self.emptied[i].name()
     }
 
-    /// The counts of the book when it was closed.
+    /// The counts of the book when it was closed. Each input lies in exactly one of its pieces and regions.
+    #[tactic(auto, using(crate::specs::PartitionLaws::lies_in_one, crate::specs::PartitionLaws::none_begins_another))]
     pub fn counts(&self) -> Counts
         ensures counts { result ≡ counts_of self.now }
         ensures lawful { IsSettled self.now }
+        ensures one { (d : Input) → IsInput d → LiesInOne (parts_of self.now) d }
+        ensures apart { NoneBeginsAnother (names_of self.now) }
     {
         Counts {
             left: self.outstanding.len(),

@@ -82,10 +82,7 @@ impl Shelf {
         requires { i < length self.now }
         ensures { slice_get (map (λ (e : EntryData). e.piece) self.now) i ≡ Some (arc_value result.now) }
     {
-        let Some(named) = self.by_id.values().nth(i) else {
-            unreachable!()
-        };
-        named.piece()
+        named_at(&self.by_id, i).piece()
     }
 
     /// Puts the piece with the first name among those not on lease on lease.
@@ -175,6 +172,17 @@ impl Shelf {
             }
         }
     }
+}
+
+/// The piece at this place in the order of ids.
+fn named_at(by_id: &BTreeMap<u64, Named>, i: usize) -> &Named
+    requires { i < length (values by_id.now) }
+    ensures { slice_get (values by_id.now) i ≡ Some result.now }
+{
+    let Some(named) = by_id.values().nth(i) else {
+        unreachable!()
+    };
+    named
 }
 
 /// Puts a piece under an id, or leaves all as it was.
