@@ -21,5 +21,5 @@ pub record LiesInOne (pieces : List PieceData) (d : Input) : Type 0 where
   pub only : (i : ℕ) (p : PieceData) → slice_get pieces i ≡ Some p → is_member p d ≡ true → i ≡ place
 
 -- no name begins the name at another place
-abbrev pub NoneBeginsAnother : List (List Bool) → Type 0
-NoneBeginsAnother names = (i j : ℕ) (m n : List Bool) → slice_get names i ≡ Some m → slice_get names j ≡ Some n → is_prefix m n ≡ true → i ≡ j
+pub record NoneBeginsAnother (names : List (List Bool)) : Type 0 where
+  pub one_place : (i j : ℕ) (m n : List Bool) → slice_get names i ≡ Some m → slice_get names j ≡ Some n → is_prefix m n ≡ true → i ≡ j

@@ -86,13 +86,15 @@ prefix-refl (false ∷ bs) = prefix-refl bs
 
 -- no name of a lawful book begins another
 pub none_begins_another : (b : BookData) → IsLawful b → NoneBeginsAnother (names_of b)
-none_begins_another b h i j m n at at' begins =
-    let f : List Bool → ℕ = λ k. bit (is_prefix k n) in
-    let es = map (λ (e : EntryData). e.piece.name) b.outstanding in
-    let rs = map (λ (r : RegionData). r.name) b.regions in
-    let all : sum_by f (es ++ rs ++ b.emptied) ≡ sum_by f (es ++ rs) + sum_by f b.emptied = sum_by-append f (es ++ rs) b.emptied in
-    let both : sum_by f (es ++ rs) ≡ sum_by f es + sum_by f rs = sum_by-append f es rs in
-    let left : sum_by f es ≡ sum_by (λ (e : EntryData). f e.piece.name) b.outstanding = sum_by-map f (λ (e : EntryData). e.piece.name) b.outstanding in
-    let right : sum_by f rs ≡ sum_by (λ (r : RegionData). f r.name) b.regions = sum_by-map f (λ (r : RegionData). r.name) b.regions in
-    let apart = h.apart n in
-    no_second (λ k. is_prefix k n) (es ++ rs ++ b.emptied) (omega arith) i j m n at at' begins (prefix-refl n)
+none_begins_another b h = record {
+  one_place = λ i j m n at at' begins.
+      let f : List Bool → ℕ = λ k. bit (is_prefix k n) in
+      let es = map (λ (e : EntryData). e.piece.name) b.outstanding in
+      let rs = map (λ (r : RegionData). r.name) b.regions in
+      let all : sum_by f (es ++ rs ++ b.emptied) ≡ sum_by f (es ++ rs) + sum_by f b.emptied = sum_by-append f (es ++ rs) b.emptied in
+      let both : sum_by f (es ++ rs) ≡ sum_by f es + sum_by f rs = sum_by-append f es rs in
+      let left : sum_by f es ≡ sum_by (λ (e : EntryData). f e.piece.name) b.outstanding = sum_by-map f (λ (e : EntryData). e.piece.name) b.outstanding in
+      let right : sum_by f rs ≡ sum_by (λ (r : RegionData). f r.name) b.regions = sum_by-map f (λ (r : RegionData). r.name) b.regions in
+      let apart = h.apart n in
+      no_second (λ k. is_prefix k n) (es ++ rs ++ b.emptied) (omega arith) i j m n at at' begins (prefix-refl n);
+}
