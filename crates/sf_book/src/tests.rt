@@ -130,7 +130,7 @@ fn a_child_given_back_is_leased_again(rt: HostRuntime) -> Result<(), Fail> {
     book.give_back(t);
     let (id, work) = worked(alloc, &mut book)?;
     assert_eq!(rt; id, t);
-    assert_eq!(rt; work.piece().name(), &[true]);
+    assert_eq!(rt; work.piece().name(), [true].as_slice());
     assert!(rt; book.commit(id, work)?.is_some());
     assert_eq!(rt; book.counts(), counts(3, 0, 0, 2, 2));
     Ok(())
@@ -194,8 +194,8 @@ fn an_ended_book_shows_what_is_left(rt: HostRuntime) -> Result<(), Fail> {
     assert_eq!(rt; settled.region_count(), 0);
     assert_eq!(rt; settled.emptied_count(), 0);
     assert_eq!(rt; settled.outstanding_count(), 2);
-    assert_eq!(rt; settled.outstanding(0).name(), &[false]);
-    assert_eq!(rt; settled.outstanding(1).name(), &[true]);
+    assert_eq!(rt; settled.outstanding(0).name(), [false].as_slice());
+    assert_eq!(rt; settled.outstanding(1).name(), [true].as_slice());
     Ok(())
 }
 
