@@ -107,9 +107,9 @@ impl Settled {
         ensures apart { NoneBeginsAnother (names_of self.now) }
     {
         Counts {
-            left: self.outstanding.len(),
-            settled: self.regions.len(),
-            emptied: self.emptied.len(),
+            left: self.outstanding_count(),
+            settled: self.region_count(),
+            emptied: self.emptied_count(),
             splits: self.splits,
             commits: self.commits,
         }
