@@ -16,8 +16,8 @@ use Rattle.sf_run.specs.Machine.{trace_of}
 use Rattle.sf_piece.specs.Pieces.{PieceData, is_member, is_prefix, IsTrulyNamed, IsRightSplit, IsRightAnswer, HasNoMember, IsRoot}
 use Rattle.sf_book.specs.Books.{EntryData, RegionData, BookData, IsOutstanding, IsRightRegion, IsNoBeginning, IsRising, IsLawful, members_of, names_before, fresh}
 use Rattle.sf_book.specs.Changes.{without, with_lease_at}
-use Rattle.sf_book.specs.PartitionLaws.{bit}
-use Rattle.sf_book.proofs.Names.{hits, split_members, split_names, same_members, answer_members, answer_begins, hits-le}
+use Rattle.sf_book.specs.PartitionLaws.{bit, hits}
+use Rattle.sf_book.proofs.Names.{split_members, split_names, same_members, answer_members, answer_begins, hits-le}
 use Rattle.sf_book.proofs.Lists.{remove_without, IsRising-filter, IsRising-push, IsRising-map, sum_by-map_same}
 
 -- what is known of the place whose piece a commit replaces

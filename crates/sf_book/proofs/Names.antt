@@ -5,12 +5,8 @@ use Rattle.sf_insn.specs.Inputs.{IsInput}
 use Rattle.sf_run.specs.declared.action.Answer.{Answer}
 use Rattle.sf_run.specs.Machine.{trace_of}
 use Rattle.sf_sym.specs.Pool.{same}
-use Rattle.sf_book.specs.PartitionLaws.{bit, prefix-refl}
+use Rattle.sf_book.specs.PartitionLaws.{bit, hits, prefix-refl}
 use Rattle.sf_piece.specs.Pieces.{PieceData, is_member, is_prefix, IsTrulyNamed, IsRightSplit, IsRightAnswer}
-
--- 1 where the list begins with the name
-abbrev pub hits : List Bool → List Bool → ℕ
-hits n t = bit (is_prefix n t)
 
 pub bit-le : (b : Bool) → bit b ≤ 1
 bit-le true = omega arith

@@ -25,6 +25,7 @@ use Rattle.sf_piece.specs.Pieces.{PieceData}
 use Rattle.sf_book.specs.Books.{EntryData, IsRising}
 use Rattle.sf_book.specs.Changes.{entry_at, with_lease, with_lease_at, without, IsBefore, IsFirstFree}
 use Rattle.sf_book.specs.Shelves.{name_cmp, name_total, piece_at, mark_of, entry_of, entries_of, IsShelf, LeasesEntry}
+use Rattle.sf_book.specs.NameOrderLaws.{names_exact}
 use Rattle.sf_book.specs.declared.shelf.Mark.{Mark}
 use Rattle.sf_book.proofs.Lists.{without-above}
 
@@ -64,16 +65,6 @@ num_no i j h = grind (arith, nat_tests)
 
 num_same : (i j : ℕ) → (i == j) ≡ true → i ≡ j
 num_same i j h = grind (arith, nat_tests)
-
--- names that compare equal are equal
-names_exact : (a b : List Bool) → is_eq (slice_cmp bool_cmp a b) ≡ true → a ≡ b
-names_exact [] [] h = refl
-names_exact [] (y ∷ b) h = absurd (cc)
-names_exact (x ∷ a) [] h = absurd (cc)
-names_exact (true ∷ a) (true ∷ b) h = ap (λ l. true ∷ l) (names_exact a b h)
-names_exact (true ∷ a) (false ∷ b) h = absurd (cc)
-names_exact (false ∷ a) (true ∷ b) h = absurd (cc)
-names_exact (false ∷ a) (false ∷ b) h = ap (λ l. false ∷ l) (names_exact a b h)
 
 same_name : (p q : PieceData) → is_at (name_cmp p) q ≡ true → p.name ≡ q.name
 same_name p q h = names_exact p.name q.name h

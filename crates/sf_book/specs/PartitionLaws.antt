@@ -14,6 +14,10 @@ use Rattle.sf_book.specs.Partition.{parts_of, names_of, LiesInOne, NoneBeginsAno
 abbrev pub bit : Bool → ℕ
 bit b = cond b 1 0
 
+-- 1 where the list begins with the name
+abbrev pub hits : List Bool → List Bool → ℕ
+hits n t = bit (is_prefix n t)
+
 module _ {A : Type 0} (p : A → Bool) where
   -- where the count is 0 there is none
   none_there : (xs : List A) → sum_by (λ x. bit (p x)) xs ≡ 0 → (j : ℕ) (y : A) → slice_get xs j ≡ Some y → p y ≡ true → ⊥

@@ -46,7 +46,7 @@ children_free es i j f t h =
     let back : (n (m T)).leased ≡ false = (let t : (j == j) ≡ true = grind (arith, nat_tests) in rw t refl) in
     rw (map-append, map-append)
     (All-append Free (map n (map m es)) (n (m F) ∷ n (m T) ∷ []) (free_map j (map m es) (free_map i es h))
-      (All-cons Free (n (m F)) (n (m T) ∷ []) (marked_free j (m F) (back_free i f)) (All-cons Free (n (m T)) [] back (All-nil Free))))
+    (All-cons Free (n (m F)) (n (m T) ∷ []) (marked_free j (m F) (back_free i f)) (All-cons Free (n (m T)) [] back (All-nil Free))))
 
 abbrev pub given_back : ℕ → BookData → BookData
 given_back i b = record b { outstanding = map (with_lease_at i false) b.outstanding }

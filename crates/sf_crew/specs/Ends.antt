@@ -1,4 +1,4 @@
--- Turns of a worker, and where an audit ends.
+-- Turns of a worker, and where an exploration ends.
 use Rattle.std.specs.Prelude.{◌≡◌, ℕ, ◌+◌, List, [], All, false, ◌⊎◌}
 use Rattle.sf_book.specs.Books.{EntryData, BookData, IsSettled}
 use Rattle.sf_check.specs.declared.insn.Insn.{Insn}
@@ -21,7 +21,7 @@ pub record GoesOn (b c : BookData) : Type 0 where
   pub commits : c.commits ≡ b.commits + 1
   pub free : IsFree c.outstanding
 
--- the end of an audit of the stack with the budget
+-- the end of an exploration of the stack with the budget
 pub record IsEndOf (stack : List (List Insn)) (budget : ℕ) (s : BookData) : Type 0 where
   pub settled : IsSettled s
   pub of : s.stack ≡ stack

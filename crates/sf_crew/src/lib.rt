@@ -1,11 +1,11 @@
 //! Workers that explore a stack by the pieces of a book.
 #![tactic(auto)]
 
-mod explore;
+mod exploring;
 mod fault;
 mod gate;
 
-pub use explore::explore;
+pub use exploring::explore;
 pub use fault::Fault;
 pub use gate::{Gate, Open};
 

@@ -1,5 +1,5 @@
 use Rattle.std.proofs.Common.{rules, ◌≡◌, ◌≤◌, inr, arith}
-use Rattle.sf_crew.proofs.explore.work_off.Goals as goal
+use Rattle.sf_crew.proofs.exploring.work_off.Goals as goal
 
 pub returns-clause-end : goal.returns-clause-end
 returns-clause-end g c =
