@@ -1,8 +1,8 @@
 -- What a book keeps through its calls.
-use Rattle.std.proofs.Common.{◌≡◌, ℕ, zero, suc, ◌⊎◌, inl, inr, ⊎_elim, cond, drop, length-append, ◌+◌, ◌==◌, ◌*◌, ◌<◌, ◌≤◌, Bool, true, false, List, [], ◌∷◌, ◌++◌, length, map, get_or, set, refl, sym, ◌∙◌, ap, subst, arith, append_assoc, Option, Some, None}
+use Rattle.std.proofs.Common.{◌≡◌, ℕ, zero, suc, ◌⊎◌, inl, inr, ⊎_elim, cond, drop, length-append, ◌+◌, ◌==◌, ◌<◌, ◌≤◌, Bool, true, false, List, [], ◌∷◌, ◌++◌, length, map, get_or, refl, sym, ◌∙◌, ap, subst, arith, append_assoc, Option, Some}
 use Rattle.std.specs.List.{All, remove, HoldsAt, sum_by}
 use Rattle.std.proofs.lemmas.List.Sums.{sum_by-remove, sum_by-cons}
-use Rattle.std.proofs.lemmas.List.Elements.{All-push, All-map, All-filter, All-head, All-tail, All-cons, All-nil}
+use Rattle.std.proofs.lemmas.List.Elements.{All-push, All-map, All-filter, All-cons, All-nil}
 use Rattle.std.proofs.lemmas.Bool.Decides.{nat_tests}
 use Rattle.std.proofs.lemmas.List.{get_or_default}
 use Rattle.sf_run.specs.declared.action.Answer.{Answer}
@@ -12,8 +12,8 @@ use Rattle.sf_book.specs.PartitionLaws.{bit, hits, prefix-refl}
 use Rattle.sf_book.proofs.Names.{prefix-append}
 use Rattle.sf_book.proofs.Shelves.{some_inj}
 use Rattle.sf_piece.specs.Pieces.{PieceData, WorkData, is_prefix, IsTrulyNamed, IsRightSplit, IsRightAnswer, HasNoMember, IsRoot}
-use Rattle.sf_book.specs.Books.{EntryData, RegionData, BookData, IsLawful, IsKept, IsRising, fresh}
-use Rattle.sf_book.specs.Changes.{with_lease, with_lease_at, entry_at, without, MayCommit, IsStale}
+use Rattle.sf_book.specs.Books.{EntryData, BookData, IsLawful, IsKept, fresh}
+use Rattle.sf_book.specs.Changes.{entry_at, without, MayCommit, IsStale}
 use Rattle.sf_book.proofs.Lists.{remove_without}
 use Rattle.sf_book.proofs.Lawful.{fresh_lawful, IsReplaced, entry, after_split, after_answer, after_empty, split_lawful, answer_lawful, empty_lawful, marks_lawful}
 

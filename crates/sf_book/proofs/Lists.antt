@@ -1,11 +1,11 @@
 -- Lists of entries in the order of their ids.
-use Rattle.std.proofs.Common.{◌≡◌, ℕ, zero, suc, ◌+◌, ◌<◌, ◌==◌, Bool, true, false, not, cond, List, [], ◌∷◌, ◌++◌, length, map, get_or, set, take, drop, Option, Some, None, refl, sym, ◌∙◌, ap, subst, arith}
-use Rattle.std.specs.List.{All, AllByRecursion, filter, find, remove, sum_by}
+use Rattle.std.proofs.Common.{◌≡◌, ℕ, zero, suc, ◌<◌, ◌==◌, Bool, true, false, cond, List, [], ◌∷◌, ◌++◌, length, map, get_or, refl, sym, ◌∙◌, ap, subst, arith}
+use Rattle.std.specs.List.{All, AllByRecursion, filter, remove, sum_by}
 use Rattle.std.proofs.lemmas.Bool.Decides.{nat_tests}
 use Rattle.std.proofs.lemmas.List.Elements.{All-head, All-tail}
 use Rattle.std.proofs.lemmas.List.Sums.{sum_by-cons}
 use Rattle.sf_book.specs.Books.{EntryData, IsRising}
-use Rattle.sf_book.specs.Changes.{without, entry_at, with_lease_at}
+use Rattle.sf_book.specs.Changes.{without}
 
 above-get : (a : ℕ) (es : List EntryData) (i : ℕ) (d : EntryData) → AllByRecursion (λ f. a < f.id) es → i < length es → a < (get_or es i d).id
 above-get a [] i d h l = absurd (omega arith)

@@ -1,5 +1,5 @@
 -- A book in which nothing is without a member, as on a plain stack, against the feasible traces of its stack.
-use Rattle.std.specs.Prelude.{◌≡◌, ℕ, ◌+◌, ◌*◌, Bool, true, List, [], All, length, map}
+use Rattle.std.specs.Prelude.{◌≡◌, ◌+◌, ◌*◌, Bool, true, List, [], All, length, map}
 use Rattle.sf_insn.specs.declared.input.Input.{Input}
 use Rattle.sf_insn.specs.Inputs.{IsInput}
 use Rattle.sf_piece.specs.Pieces.{PieceData, is_member}

@@ -3,7 +3,7 @@
 use Rattle.std.proofs.Common.{◌≡◌, ℕ, zero, suc, ◌+◌, ◌*◌, ◌<◌, ◌≤◌, Bool, true, false, List, [], ◌∷◌, ◌++◌, length, map, get_or, Some, refl, sym, ◌∙◌, ap, subst, arith, ◌⊎◌, inl, inr, append-nil}
 use Rattle.std.specs.Prelude.{Contains, ◌↔◌}
 use Rattle.std.specs.List.{All, sum_by, slice_get}
-use Rattle.std.proofs.lemmas.List.{length-map, get_or_default}
+use Rattle.std.proofs.lemmas.List.{length-map}
 use Rattle.std.proofs.lemmas.List.Elements.{All-head, All-tail}
 use Rattle.std.proofs.lemmas.List.Sums.{sum_by-cons, get_or-le-sum_by}
 use Rattle.std.proofs.lemmas.Option.{slice_get_within, get_or_from_slice_get, same_Some}
@@ -13,14 +13,12 @@ use Rattle.sf_check.specs.declared.insn.Insn.{Insn}
 use Rattle.sf_check.specs.Stacks.{IsLawfulStack}
 use Rattle.sf_check.specs.MemberLaws.{contains_cons, contains_here, contains_there, contains_nil}
 use Rattle.sf_run.specs.Machine.{trace_of}
-use Rattle.sf_run.specs.Routes.{IsWholeRoute}
 use Rattle.sf_run.specs.RouteLaws.{one_whole}
 use Rattle.sf_run.specs.TraceLaws.{trace_is_whole_route}
-use Rattle.sf_run.specs.Feasible.{IsFeasible, AreInNameOrder, AreFeasibleTraces}
+use Rattle.sf_run.specs.Feasible.{AreFeasibleTraces}
 use Rattle.sf_run.specs.FeasibleLaws.{one_order}
-use Rattle.sf_sym.specs.Pool.{same}
-use Rattle.sf_piece.specs.Pieces.{PieceData, is_member, is_prefix}
-use Rattle.sf_book.specs.Books.{EntryData, RegionData, BookData, IsOutstanding, IsRightRegion, IsLawful, IsSettled, IsInNameOrder, members_of}
+use Rattle.sf_piece.specs.Pieces.{is_member, is_prefix}
+use Rattle.sf_book.specs.Books.{EntryData, RegionData, BookData, IsOutstanding, IsRightRegion, IsLawful, IsSettled, members_of}
 use Rattle.sf_book.specs.Exact.{HasMember, HasMembers, IsWorkedOff}
 use Rattle.sf_book.specs.PartitionLaws.{bit, hits, some_there}
 use Rattle.sf_book.specs.NameOrderLaws.{strictly_in_order}

@@ -1,5 +1,5 @@
 -- Outstanding pieces by id, beside a mark for each name.
-use Rattle.std.specs.Prelude.{◌≡◌, ◌≢◌, ℕ, Bool, true, false, List, map, Option, Some, refl}
+use Rattle.std.specs.Prelude.{◌≡◌, ℕ, true, false, List, map, Option, Some, refl}
 use Rattle.std.specs.Ordering.{bool_cmp, is_eq, nat_cmp, eq_by_cmp}
 use Rattle.std.specs.declared.cmp.Ordering.{Ordering}
 use Rattle.std.specs.Cmp.{IsTotalOrder, on_total, bool_cmp_total}

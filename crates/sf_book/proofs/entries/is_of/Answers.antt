@@ -1,4 +1,4 @@
-use Rattle.std.proofs.Common.{rules, ◌≡◌, ◌∙◌, ap}
+use Rattle.std.proofs.Common.{rules, ◌∙◌, ap}
 use Rattle.sf_piece.specs.Pieces.{PieceData}
 use Rattle.sf_book.proofs.entries.is_of.Goals as goal
 

@@ -1,4 +1,4 @@
-use Rattle.std.proofs.Common.{rules, ◌≡◌, is_lt, Bool}
+use Rattle.std.proofs.Common.{rules, ◌≡◌, is_lt}
 use Rattle.std.specs.Ordering.{bool_cmp}
 use Rattle.std.specs.Cmp.Lexicographic.{slice_cmp}
 use Rattle.std.proofs.lemmas.List.Sorted.{ranks_by, answers_always}

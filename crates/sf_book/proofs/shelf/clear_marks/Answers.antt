@@ -1,4 +1,4 @@
-use Rattle.std.proofs.Common.{rules, ◌≡◌, Bool, true, false}
+use Rattle.std.proofs.Common.{rules, false}
 use Rattle.std.proofs.lemmas.Map.Made.{map_same_pairs}
 use Rattle.sf_book.specs.declared.shelf.Mark.{Mark}
 use Rattle.sf_book.proofs.shelf.clear_marks.Goals as goal

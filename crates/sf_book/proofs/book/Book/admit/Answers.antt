@@ -1,4 +1,4 @@
-use Rattle.std.proofs.Common.{rules, ◌≡◌, ◌<◌, ◌≤◌, arith, refl, sym}
+use Rattle.std.proofs.Common.{◌≤◌, arith, refl, sym}
 use Rattle.sf_book.proofs.book.Book.admit.Goals as goal
 
 pub returns-then-self-clause-err : goal.returns-then-self-clause-err

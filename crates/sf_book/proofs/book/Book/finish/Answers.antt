@@ -1,4 +1,3 @@
-use Rattle.std.proofs.Common.{rules, ◌≡◌}
 use Rattle.sf_book.specs.Books.{BookData}
 use Rattle.sf_book.proofs.Lawful.{permuted_lawful}
 use Rattle.sf_book.proofs.book.Book.finish.Goals as goal

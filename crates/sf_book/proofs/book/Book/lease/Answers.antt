@@ -1,4 +1,4 @@
-use Rattle.std.proofs.Common.{rules, ◌≡◌, refl, true}
+use Rattle.std.proofs.Common.{refl, true}
 use Rattle.sf_book.proofs.Kept.{kept_marks}
 use Rattle.sf_book.specs.Changes.{with_lease_at}
 use Rattle.sf_book.proofs.book.Book.lease.Goals as goal

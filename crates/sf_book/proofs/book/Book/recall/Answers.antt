@@ -1,4 +1,4 @@
-use Rattle.std.proofs.Common.{rules, ◌≡◌, refl, false}
+use Rattle.std.proofs.Common.{refl, false}
 use Rattle.sf_book.proofs.Kept.{kept_marks}
 use Rattle.sf_book.specs.Changes.{with_lease}
 use Rattle.sf_book.proofs.book.Book.recall.Goals as goal

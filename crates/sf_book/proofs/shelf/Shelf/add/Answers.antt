@@ -1,4 +1,4 @@
-use Rattle.std.proofs.Common.{rules, ◌≡◌, ◌<◌, ◌≢◌, sym, ◌∙◌, ap, refl, true, None, Some}
+use Rattle.std.proofs.Common.{◌∙◌, refl}
 use Rattle.sf_book.proofs.Shelves.{is_added, added_ids, added_shelf, added_view, put_back}
 use Rattle.sf_book.proofs.shelf.Shelf.add.Goals as goal
 

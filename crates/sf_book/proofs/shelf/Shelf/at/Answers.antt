@@ -1,4 +1,3 @@
-use Rattle.std.proofs.Common.{rules, ◌≡◌}
 use Rattle.sf_book.proofs.Shelves.{piece_place}
 use Rattle.sf_book.proofs.shelf.Shelf.at.Goals as goal
 

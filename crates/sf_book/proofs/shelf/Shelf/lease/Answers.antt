@@ -1,4 +1,4 @@
-use Rattle.std.proofs.Common.{rules, ◌≡◌, sym, ◌∙◌, ap, refl, true, None, Some}
+use Rattle.std.proofs.Common.{◌≡◌, sym, ◌∙◌, refl, true}
 use Rattle.sf_book.specs.Shelves.{piece_at}
 use Rattle.sf_book.proofs.Shelves.{first_piece, leases_entry, all_leased, marked_shelf, some_inj, none_some}
 use Rattle.sf_book.proofs.shelf.Shelf.lease.Goals as goal

@@ -1,4 +1,4 @@
-use Rattle.std.proofs.Common.{rules, ◌≡◌, sym, ◌∙◌, ap, refl, None, Some}
+use Rattle.std.proofs.Common.{sym, ◌∙◌, ap}
 use Rattle.std.specs.Option.{option_map}
 use Rattle.sf_book.proofs.Shelves.{entry_at_is}
 use Rattle.sf_book.specs.Shelves.{entry_of}

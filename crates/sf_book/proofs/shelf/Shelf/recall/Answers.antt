@@ -1,4 +1,3 @@
-use Rattle.std.proofs.Common.{rules, ◌≡◌, map, false}
 use Rattle.sf_book.proofs.Shelves.{recalled_shelf, recalled_view}
 use Rattle.sf_book.proofs.shelf.Shelf.recall.Goals as goal
 

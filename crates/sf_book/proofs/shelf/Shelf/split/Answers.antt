@@ -1,4 +1,3 @@
-use Rattle.std.proofs.Common.{rules, ◌≡◌, ◌<◌, ◌≢◌, sym, ◌∙◌, ap, refl, true, None, Some}
 use Rattle.sf_book.proofs.Shelves.{without_last}
 use Rattle.sf_book.proofs.shelf.Shelf.split.Goals as goal
 
