@@ -1,0 +1,115 @@
+-- What contracts see of a book, and when it is lawful.
+use Rattle.std.specs.Prelude.{◌≡◌, ℕ, ◌+◌, ◌*◌, ◌<◌, ◌≤◌, Bool, true, false, List, [], ◌∷◌, length, All, count_by}
+use Rattle.std.specs.List.{AllByRecursion}
+use Rattle.std.specs.List.Sorted.{IsSortedByKey}
+use Rattle.std.specs.Ordering.{bool_cmp}
+use Rattle.std.specs.Cmp.Lexicographic.{slice_cmp}
+use Rattle.sf_insn.specs.declared.input.Input.{Input}
+use Rattle.sf_insn.specs.Inputs.{IsInput}
+use Rattle.sf_check.specs.declared.insn.Insn.{Insn}
+use Rattle.sf_check.specs.Stacks.{IsLawfulStack}
+use Rattle.sf_run.specs.declared.action.Answer.{Answer}
+use Rattle.sf_run.specs.Machine.{trace_of}
+use Rattle.sf_run.specs.Answers.{Answers}
+use Rattle.sf_run.specs.Routes.{IsWholeRoute}
+use Rattle.sf_piece.specs.Pieces.{PieceData, is_member, is_prefix, IsTrulyNamed}
+use Rattle.sf_book.specs.declared.book.Counts.{Counts}
+
+-- an outstanding piece, under its id, on lease or not
+pub record EntryData : Type 0 where
+  pub id : ℕ
+  pub piece : PieceData
+  pub leased : Bool
+
+-- a settled piece with its whole name and the answer on its members
+pub record RegionData : Type 0 where
+  pub piece : PieceData
+  pub name : List Bool
+  pub answer : Answer
+
+pub record BookData : Type 0 where
+  pub stack : List (List Insn)
+  -- in the order of their ids
+  pub outstanding : List EntryData
+  -- in the order in which they settled
+  pub regions : List RegionData
+  -- names of pieces that turned out to have no member
+  pub emptied : List (List Bool)
+  pub splits : ℕ
+  pub commits : ℕ
+  pub budget : ℕ
+
+-- of how many outstanding pieces and regions the input is a member
+abbrev pub members_of : List EntryData → List RegionData → Input → ℕ
+members_of es rs d = count_by (λ e. is_member e.piece d) es + count_by (λ r. is_member r.piece d) rs
+
+-- how many of the names the list of truth values begins with
+abbrev pub names_before : List EntryData → List RegionData → List (List Bool) → List Bool → ℕ
+names_before es rs ns t = count_by (λ e. is_prefix e.piece.name t) es + count_by (λ r. is_prefix r.name t) rs + count_by (λ n. is_prefix n t) ns
+
+-- each id is below all later ones
+abbrev pub IsRising : List EntryData → Type 0
+IsRising [] = Unit {0}
+IsRising (e ∷ es) = AllByRecursion (λ f. e.id < f.id) es × IsRising es
+
+-- a piece of the stack, truly named
+pub record IsOutstanding (stack : List (List Insn)) (e : EntryData) : Type 0 where
+  pub of : e.piece.stack ≡ stack
+  pub named : IsTrulyNamed e.piece
+
+-- truly named by a whole route, and right on each member
+pub record IsRightRegion (stack : List (List Insn)) (r : RegionData) : Type 0 where
+  pub of : r.piece.stack ≡ stack
+  pub route : IsWholeRoute stack r.name
+  pub members : (d : Input) → IsInput d → is_member r.piece d ≡ is_prefix r.name (trace_of stack d)
+  pub answers : (d : Input) → IsInput d → is_member r.piece d ≡ true → Answers stack d r.answer
+
+-- no trace begins with the name
+pub record IsNoBeginning (stack : List (List Insn)) (n : List Bool) : Type 0 where
+  pub none : (d : Input) → IsInput d → is_prefix n (trace_of stack d) ≡ false
+
+-- a book of a lawful stack that is a partition of all inputs
+pub record IsLawful (b : BookData) : Type 0 where
+  pub stack : IsLawfulStack b.stack
+  pub outstanding : All (IsOutstanding b.stack) b.outstanding
+  pub regions : All (IsRightRegion b.stack) b.regions
+  -- each input is a member of exactly one
+  pub one : (d : Input) → IsInput d → members_of b.outstanding b.regions d ≡ 1
+  pub emptied : All (IsNoBeginning b.stack) b.emptied
+  -- no two names have a common continuation, so none is a beginning of another
+  pub apart : (t : List Bool) → names_before b.outstanding b.regions b.emptied t ≤ 1
+  pub pieces : length b.outstanding + length b.regions + length b.emptied ≡ 1 + b.splits
+  pub committed : b.commits ≡ b.splits + length b.regions + length b.emptied
+  pub within : b.commits ≤ b.budget
+  pub ids : IsRising b.outstanding
+
+-- a new book, with the root outstanding
+abbrev pub fresh : List (List Insn) → PieceData → ℕ → BookData
+fresh stack r budget = record {
+  stack = stack;
+  outstanding = record { id = 0; piece = r; leased = false } ∷ [];
+  regions = [];
+  emptied = [];
+  splits = 0;
+  commits = 0;
+  budget = budget;
+}
+
+-- what a book keeps: it is lawful, and the next id is above all ids
+pub record IsKept (b : BookData) (next : ℕ) : Type 0 where
+  pub lawful : IsLawful b
+  pub below : All (λ e. e.id < next) b.outstanding
+  pub few : next ≤ 2 * b.commits + 1
+
+-- what is counted of a book
+abbrev pub counts_of : BookData → Counts
+counts_of b = record { left = length b.outstanding; settled = length b.regions; emptied = length b.emptied; splits = b.splits; commits = b.commits }
+
+-- regions in name order
+abbrev pub IsInNameOrder : List RegionData → Type 0
+IsInNameOrder rs = IsSortedByKey (λ r. r.name) (slice_cmp bool_cmp) rs
+
+-- what an ended audit keeps
+pub record IsSettled (b : BookData) : Type 0 where
+  pub lawful : IsLawful b
+  pub order : IsInNameOrder b.regions

@@ -1,0 +1,92 @@
+-- What the calls on a book do to it.
+use Rattle.std.specs.Prelude.{◌≡◌, ◌≢◌, ℕ, ◌+◌, ◌<◌, ◌==◌, not, Bool, true, false, List, [], ◌∷◌, ◌++◌, All, filter, find, map, Option, Some, None, if◌then◌else◌, MatchOption, IsPermutation}
+use Rattle.std.specs.Ordering.{bool_cmp}
+use Rattle.std.specs.declared.cmp.Ordering.TheVariants.{Less}
+use Rattle.std.specs.Cmp.Lexicographic.{slice_cmp}
+use Rattle.sf_piece.specs.Pieces.{PieceData, StepData, WorkData, Split, Settled, Empty}
+use Rattle.sf_book.specs.Books.{EntryData, BookData}
+use Rattle.sf_book.specs.declared.fault.Fault.{Fault}
+use Rattle.sf_book.specs.declared.fault.Fault.TheVariants.{Foreign, Stale, Spent, Memory}
+
+-- the outstanding piece under an id
+abbrev pub entry_at : ℕ → List EntryData → Option EntryData
+entry_at id es = find (λ e. e.id == id) es
+
+-- the entry, on lease or not
+abbrev pub with_lease : Bool → EntryData → EntryData
+with_lease on e = record { id = e.id; piece = e.piece; leased = on }
+
+-- the same where it has the id
+abbrev pub with_lease_at : ℕ → Bool → EntryData → EntryData
+with_lease_at id on e = record { id = e.id; piece = e.piece; leased = (if e.id == id then on else e.leased) }
+
+-- the others
+abbrev pub without : ℕ → List EntryData → List EntryData
+without id es = filter (λ e. not (e.id == id)) es
+
+-- the first name comes before the second in name order
+abbrev pub IsBefore : List Bool → List Bool → Type 0
+IsBefore m n = slice_cmp bool_cmp m n ≡ Less
+
+-- no outstanding piece that isn't on lease has a name before this one
+abbrev pub IsFirstFree : List Bool → List EntryData → Type 0
+IsFirstFree n es = All (λ e. e.leased ≡ false → ¬ IsBefore e.piece.name n) es
+
+-- the work is of the book's stack, for the piece under the id, and the budget isn't spent
+pub record MayCommit (b : BookData) (id : ℕ) (w : WorkData) : Type 0 where
+  pub same_stack : w.piece.stack ≡ b.stack
+  pub entry : EntryData
+  pub there : entry_at id b.outstanding ≡ Some entry
+  pub same_name : w.piece.name ≡ entry.piece.name
+
+-- there is no outstanding piece under the id, or it has another name
+abbrev pub IsStale : ℕ → List EntryData → WorkData → Type 0
+IsStale id es w = MatchOption (entry_at id es) (Unit {0}) (λ e. e.piece.name ≢ w.piece.name)
+
+-- why a commit is refused
+abbrev pub Refuses : BookData → ℕ → WorkData → Fault → Type 0
+Refuses b id w Foreign = w.piece.stack ≢ b.stack
+Refuses b id w Stale = (w.piece.stack ≡ b.stack) × IsStale id b.outstanding w
+Refuses b id w Spent = MayCommit b id w × (b.commits ≡ b.budget)
+Refuses b id w Memory = MayCommit b id w × (b.commits < b.budget)
+
+-- the ids are new and rise
+abbrev pub AreNewIds : List EntryData → ℕ → ℕ → Type 0
+AreNewIds es i j = All (λ e. e.id < i) es × (i < j)
+
+-- the book with the piece under the id replaced by its work's result
+abbrev pub CommitsAs : BookData → ℕ → PieceData → List Bool → StepData → Option (ℕ × ℕ) → BookData → Type 0
+CommitsAs b id p n (Split f t) (Some ids) c =
+    AreNewIds b.outstanding ids.0 ids.1
+    × (c ≡ record b {
+      outstanding = without id b.outstanding ++ (record { id = ids.0; piece = f; leased = true } ∷ record { id = ids.1; piece = t; leased = true } ∷ []);
+      splits = b.splits + 1;
+      commits = b.commits + 1;
+    })
+CommitsAs b id p n (Settled a) None c =
+    c ≡ record b {
+      outstanding = without id b.outstanding;
+      regions = b.regions ++ record { piece = p; name = n; answer = a } ∷ [];
+      commits = b.commits + 1;
+    }
+CommitsAs b id p n Empty None c =
+    c ≡ record b { outstanding = without id b.outstanding; emptied = b.emptied ++ p.name ∷ []; commits = b.commits + 1 }
+CommitsAs b id p n (Split f t) None c = ⊥
+CommitsAs b id p n (Settled a) (Some ids) c = ⊥
+CommitsAs b id p n Empty (Some ids) c = ⊥
+
+-- the first piece that isn't on lease is leased, and nothing else changes
+pub record Leases (b : BookData) (id : ℕ) (p : PieceData) (c : BookData) : Type 0 where
+  pub there : entry_at id b.outstanding ≡ Some (record { id = id; piece = p; leased = false })
+  pub first : IsFirstFree p.name b.outstanding
+  pub after : c ≡ record b { outstanding = map (with_lease_at id true) b.outstanding }
+
+-- the book's parts with the regions in name order
+pub record Settles (b s : BookData) : Type 0 where
+  pub stack : s.stack ≡ b.stack
+  pub outstanding : s.outstanding ≡ b.outstanding
+  pub regions : IsPermutation b.regions s.regions
+  pub emptied : s.emptied ≡ b.emptied
+  pub splits : s.splits ≡ b.splits
+  pub commits : s.commits ≡ b.commits
+  pub budget : s.budget ≡ b.budget

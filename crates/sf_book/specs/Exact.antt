@@ -1,0 +1,22 @@
+-- A book in which nothing is without a member, as on a plain stack, against the feasible traces of its stack.
+use Rattle.std.specs.Prelude.{◌≡◌, ◌+◌, ◌*◌, Bool, true, List, [], All, length, map}
+use Rattle.sf_insn.specs.declared.input.Input.{Input}
+use Rattle.sf_insn.specs.Inputs.{IsInput}
+use Rattle.sf_piece.specs.Pieces.{PieceData, is_member}
+use Rattle.sf_book.specs.Books.{EntryData, RegionData, BookData}
+
+-- some input is a member
+abbrev pub HasMember : PieceData → Type 0
+HasMember p = (d : Input) × IsInput d × (is_member p d ≡ true)
+
+-- each outstanding piece and each region has a member, and no piece was emptied
+pub record HasMembers (b : BookData) : Type 0 where
+  pub outstanding : All (λ (e : EntryData). HasMember e.piece) b.outstanding
+  pub regions : All (λ (r : RegionData). HasMember r.piece) b.regions
+  pub emptied : b.emptied ≡ []
+
+-- the regions have exactly these names, in this order, and were come to by splits and commits alone
+pub record IsWorkedOff (b : BookData) (traces : List (List Bool)) : Type 0 where
+  pub names : map (λ (r : RegionData). r.name) b.regions ≡ traces
+  pub splits : b.splits + 1 ≡ length traces
+  pub commits : b.commits + 1 ≡ 2 * length traces

@@ -1,0 +1,10 @@
+pub mod Numbers
+pub mod Books
+pub mod Changes
+pub mod ChangeLaws
+pub mod Shelves
+pub mod Partition
+pub mod PartitionLaws
+pub mod NameOrderLaws
+pub mod Exact
+pub mod ExactLaws

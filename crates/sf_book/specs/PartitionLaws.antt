@@ -1,0 +1,103 @@
+-- Counts of one, read place by place.
+use Rattle.std.proofs.Common.{◌≡◌, ℕ, zero, suc, ◌+◌, ◌≤◌, Bool, true, false, cond, List, [], ◌∷◌, ◌++◌, map, Some, refl, sym, ◌∙◌, ap, arith}
+use Rattle.std.specs.List.{slice_get, sum_by}
+use Rattle.std.proofs.lemmas.List.Sums.{sum_by-cons, sum_by-append}
+use Rattle.std.proofs.lemmas.Option.{same_Some}
+use Rattle.sf_insn.specs.declared.input.Input.{Input}
+use Rattle.sf_insn.specs.Inputs.{IsInput}
+use Rattle.sf_piece.specs.Pieces.{PieceData, is_member, is_prefix}
+use Rattle.sf_book.specs.Books.{EntryData, RegionData, BookData, IsLawful}
+use Rattle.sf_book.specs.Partition.{parts_of, names_of, LiesInOne, NoneBeginsAnother}
+
+-- 1 for true
+abbrev pub bit : Bool → ℕ
+bit b = cond b 1 0
+
+-- 1 where the list begins with the name
+abbrev pub hits : List Bool → List Bool → ℕ
+hits n t = bit (is_prefix n t)
+
+module _ {A : Type 0} (p : A → Bool) where
+  -- where the count is 0 there is none
+  none_there : (xs : List A) → sum_by (λ x. bit (p x)) xs ≡ 0 → (j : ℕ) (y : A) → slice_get xs j ≡ Some y → p y ≡ true → ⊥
+  none_there [] zeros j y at hit = cc
+  none_there (x ∷ xs) zeros zero y at hit =
+      let all = sum_by-cons (λ x. bit (p x)) x xs in
+      let one : bit (p x) ≡ 1 = ap (λ k. bit (p k)) (same_Some x y at) ∙ ap bit hit in
+      absurd (omega arith)
+  none_there (x ∷ xs) zeros (suc j) y at hit =
+      let all = sum_by-cons (λ x. bit (p x)) x xs in
+      none_there xs (omega arith) j y at hit
+
+  -- where the count is at most 1 there is no second one
+  pub no_second : (xs : List A) → sum_by (λ x. bit (p x)) xs ≤ 1 → (i j : ℕ) (x y : A) → slice_get xs i ≡ Some x → slice_get xs j ≡ Some y → p x ≡ true → p y ≡ true → i ≡ j
+  no_second [] few i j x y at at' hit hit' = cc
+  no_second (z ∷ xs) few zero zero x y at at' hit hit' = refl
+  no_second (z ∷ xs) few zero (suc j) x y at at' hit hit' =
+      let all = sum_by-cons (λ x. bit (p x)) z xs in
+      let one : bit (p z) ≡ 1 = ap (λ k. bit (p k)) (same_Some z x at) ∙ ap bit hit in
+      absurd (none_there xs (omega arith) j y at' hit')
+  no_second (z ∷ xs) few (suc i) zero x y at at' hit hit' =
+      let all = sum_by-cons (λ x. bit (p x)) z xs in
+      let one : bit (p z) ≡ 1 = ap (λ k. bit (p k)) (same_Some z y at') ∙ ap bit hit' in
+      absurd (none_there xs (omega arith) i x at hit)
+  no_second (z ∷ xs) few (suc i) (suc j) x y at at' hit hit' =
+      let all = sum_by-cons (λ x. bit (p x)) z xs in
+      ap suc (no_second xs (omega arith) i j x y at at' hit hit')
+
+  -- where the count is not 0 there is one
+  pub some_there : (xs : List A) → 1 ≤ sum_by (λ x. bit (p x)) xs → (i : ℕ) × (x : A) × (slice_get xs i ≡ Some x) × (p x ≡ true)
+  some_there [] some = absurd (omega arith)
+  some_there (x ∷ xs) some = by (p x) refl (λ k. some_there xs k)
+    where
+      by : (b : Bool) → p x ≡ b → (1 ≤ sum_by (λ x. bit (p x)) xs → (i : ℕ) × (y : A) × (slice_get xs i ≡ Some y) × (p y ≡ true)) → (i : ℕ) × (y : A) × (slice_get (x ∷ xs) i ≡ Some y) × (p y ≡ true)
+      by true is rest = (zero, x, refl, is)
+      by false is rest =
+          let all = sum_by-cons (λ x. bit (p x)) x xs in
+          let none : bit (p x) ≡ 0 = ap bit is in
+          let r = rest (omega arith) in
+          (suc r.0, r.1, r.2, r.3)
+
+sum_by-map : {A B : Type 0} (f : B → ℕ) (g : A → B) (xs : List A) → sum_by f (map g xs) ≡ sum_by (λ x. f (g x)) xs
+sum_by-map f g [] = refl
+sum_by-map f g (x ∷ xs) = sum_by-cons f (g x) (map g xs) ∙ (ap (λ k. f (g x) + k) (sum_by-map f g xs) ∙ sym (sum_by-cons (λ x. f (g x)) x xs))
+
+-- each input lies in exactly one outstanding piece or region of a lawful book
+pub lies_in_one : (b : BookData) → IsLawful b → (d : Input) → IsInput d → LiesInOne (parts_of b) d
+lies_in_one b h d n =
+    let m : PieceData → ℕ = λ p. bit (is_member p d) in
+    let es = map (λ (e : EntryData). e.piece) b.outstanding in
+    let rs = map (λ (r : RegionData). r.piece) b.regions in
+    let both : sum_by m (es ++ rs) ≡ sum_by m es + sum_by m rs = sum_by-append m es rs in
+    let left : sum_by m es ≡ sum_by (λ (e : EntryData). m e.piece) b.outstanding = sum_by-map m (λ (e : EntryData). e.piece) b.outstanding in
+    let right : sum_by m rs ≡ sum_by (λ (r : RegionData). m r.piece) b.regions = sum_by-map m (λ (r : RegionData). r.piece) b.regions in
+    let one = h.one d n in
+    let r = some_there (λ p. is_member p d) (es ++ rs) (omega arith) in
+    record {
+      place = r.0;
+      piece = r.1;
+      there = r.2;
+      member = r.3;
+      only = λ i p at hit. no_second (λ p. is_member p d) (es ++ rs) (omega arith) i r.0 p r.1 at r.2 hit r.3;
+    }
+
+-- each list begins with itself
+pub prefix-refl : (n : List Bool) → is_prefix n n ≡ true
+prefix-refl [] = refl
+prefix-refl (true ∷ bs) = prefix-refl bs
+prefix-refl (false ∷ bs) = prefix-refl bs
+
+-- no name of a lawful book begins another
+pub none_begins_another : (b : BookData) → IsLawful b → NoneBeginsAnother (names_of b)
+none_begins_another b h = record {
+  one_place = λ i j m n at at' begins.
+      let f : List Bool → ℕ = λ k. bit (is_prefix k n) in
+      let es = map (λ (e : EntryData). e.piece.name) b.outstanding in
+      let rs = map (λ (r : RegionData). r.name) b.regions in
+      let all : sum_by f (es ++ rs ++ b.emptied) ≡ sum_by f (es ++ rs) + sum_by f b.emptied = sum_by-append f (es ++ rs) b.emptied in
+      let both : sum_by f (es ++ rs) ≡ sum_by f es + sum_by f rs = sum_by-append f es rs in
+      let left : sum_by f es ≡ sum_by (λ (e : EntryData). f e.piece.name) b.outstanding = sum_by-map f (λ (e : EntryData). e.piece.name) b.outstanding in
+      let right : sum_by f rs ≡ sum_by (λ (r : RegionData). f r.name) b.regions = sum_by-map f (λ (r : RegionData). r.name) b.regions in
+      let apart = h.apart n in
+      no_second (λ k. is_prefix k n) (es ++ rs ++ b.emptied) (omega arith) i j m n at at' begins (prefix-refl n);
+}

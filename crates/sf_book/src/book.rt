@@ -1,0 +1,235 @@
+//! The book: what is outstanding, what is settled, and how a work takes the place of its piece.
+
+ghost use Rattle.std.specs.Prelude.{◌≡◌, ◌≢◌, ◌+◌, ◌<◌, ◌≤◌, ℕ, All, IfOk, IfErr, OnOk, IsTrue, OnErr, MatchOption, length, map, true, false, []};
+ghost use Rattle.std.specs.Arc.{arc_value};
+ghost use Rattle.sf_insn.specs.declared.input.Input.{Input};
+ghost use Rattle.sf_insn.specs.Inputs.{IsInput};
+ghost use Rattle.sf_piece.specs.Pieces.{PieceData, IsRoot};
+ghost use Rattle.sf_book.specs.Books.{IsLawful, counts_of, fresh};
+ghost use Rattle.sf_book.specs.Partition.{parts_of, names_of, LiesInOne, NoneBeginsAnother};
+ghost use Rattle.sf_book.specs.Changes.{CommitsAs, Leases, Settles, Refuses, MayCommit, with_lease, with_lease_at};
+ghost use Rattle.sf_book.specs.declared.fault.Fault.TheVariants.{Memory, Foreign};
+
+use crate::entries::{Emptied, Region, add, has_name, is_of, put_in_order};
+use crate::fault::Fault;
+use crate::settled::Settled;
+use crate::shelf::Shelf;
+use sf_check::Stack;
+use sf_piece::{Piece, Step, Work, root};
+use std::alloc::Global;
+use std::marker::Model;
+use std::sync::Arc;
+
+/// What a book counts: `left + settled + emptied = 1 + splits` and `commits = splits + settled + emptied`.
+#[derive(Clone, Copy, Debug, PartialEq, Eq)]
+pub struct Counts {
+    /// Outstanding pieces, on lease or not.
+    pub left: usize,
+    /// Settled regions.
+    pub settled: usize,
+    /// Pieces that turned out to have no member.
+    pub emptied: usize,
+    /// Works committed that split their piece.
+    pub splits: u32,
+    /// Works committed.
+    pub commits: u32,
+}
+
+/// A piece to work on, and the id under which it is outstanding.
+#[derive(Drop)]
+pub struct Lease {
+    pub id: u64,
+    pub piece: Arc<Piece>,
+}
+
+/// The worklist of an exploration: each input of its stack lies in exactly one outstanding piece or settled region.
+#[derive(Drop)]
+pub struct Book {
+    stack: Arc<Stack>,
+    outstanding: Shelf,
+    regions: Vec<Region>,
+    emptied: Vec<Emptied>,
+    splits: u32,
+    commits: u32,
+    budget: u32,
+    next_id: u64,
+}
+
+impl Model for Book {
+    ghost use Rattle.sf_book.specs.Books.{BookData, IsKept};
+
+    ghost Value = { BookData };
+
+    ghost view = { λ b. record { stack = b.stack.value; outstanding = b.outstanding; regions = b.regions.items; emptied = b.emptied.items; splits = b.splits; commits = b.commits; budget = b.budget } };
+
+    ghost invariant = { λ b. IsKept (record { stack = b.stack.value; outstanding = b.outstanding; regions = b.regions.items; emptied = b.emptied.items; splits = b.splits; commits = b.commits; budget = b.budget }) b.next_id };
+}
+
+impl Book {
+    /// A new book of the stack, with the piece of all inputs outstanding, that takes so many works. `Memory` where
+    /// a growth is refused.
+    pub fn open(alloc: Global, stack: Arc<Stack>, budget: u32) -> Result<Book, Fault>
+        ensures ok { IfOk result (λ b. (r : PieceData) × IsRoot (arc_value stack) r × (b ≡ fresh (arc_value stack) r budget)) }
+        ensures err { IfErr result (λ f. f ≡ Memory) }
+    {
+        let _programs = stack.programs();
+        let piece = root(alloc, &stack)?;
+        let outstanding = Shelf::open(alloc, 0, piece)?;
+        Ok(Book {
+            stack,
+            outstanding,
+            regions: Vec::new(alloc),
+            emptied: Vec::new(alloc),
+            splits: 0,
+            commits: 0,
+            budget,
+            next_id: 1,
+        })
+    }
+
+    /// How many works the book takes in all.
+    pub fn budget(&self) -> u32
+        ensures budget { result ≡ self.now.budget }
+        ensures lawful { IsLawful self.now }
+    {
+        self.budget
+    }
+
+    /// What the book counts. Whenever it is asked, each input lies in exactly one of its pieces and regions.
+    #[tactic(auto, using(crate::specs::PartitionLaws::lies_in_one, crate::specs::PartitionLaws::none_begins_another))]
+    pub fn counts(&self) -> Counts
+        ensures counts { result ≡ counts_of self.now }
+        ensures lawful { IsLawful self.now }
+        ensures one { (d : Input) → IsInput d → LiesInOne (parts_of self.now) d }
+        ensures apart { NoneBeginsAnother (names_of self.now) }
+    {
+        Counts {
+            left: self.outstanding.len(),
+            settled: self.regions.len(),
+            emptied: self.emptied.len(),
+            splits: self.splits,
+            commits: self.commits,
+        }
+    }
+
+    /// Puts the piece with the first name among those not on lease on lease, and answers it; `None` where all are on
+    /// lease. `Memory` where a growth is refused: the book is unchanged then.
+    pub fn lease(&mut self) -> Result<Option<Lease>, Fault>
+        ensures ok { IfOk result (λ l. MatchOption l ((self.new ≡ self.old) × All (λ e. e.leased ≡ true) self.old.outstanding) (λ l. Leases self.old l.id (arc_value l.piece) self.new)) }
+        ensures err { IfErr result (λ f. (f ≡ Memory) × (self.new ≡ self.old)) }
+    {
+        let Some((id, piece)) = self.outstanding.lease()? else {
+            return Ok(None);
+        };
+        Ok(Some(Lease { id, piece }))
+    }
+
+    /// Takes the piece under the id off lease. An id that is not outstanding changes nothing.
+    pub fn give_back(&mut self, id: u64)
+        ensures { self.new ≡ record self.old { outstanding = map (with_lease_at id false) self.old.outstanding } }
+    {
+        self.outstanding.give_back(id);
+    }
+
+    /// Takes all pieces off lease.
+    pub fn recall(&mut self)
+        ensures { self.new ≡ record self.old { outstanding = map (with_lease false) self.old.outstanding } }
+    {
+        self.outstanding.recall();
+    }
+
+    /// Puts what became of a piece in its place: its two children, a region or an emptied name. Answers the ids of
+    /// the children, the false one's first, which are outstanding and on lease.
+    ///
+    /// Refused, with the book unchanged, in this order: `Foreign` where the work is of another stack; `Stale` where
+    /// no piece is outstanding under the id, or one with another name; `Spent` where the budget is spent; `Memory`
+    /// where a growth is refused.
+    pub fn commit(&mut self, id: u64, work: Work) -> Result<Option<(u64, u64)>, Fault>
+        ensures ok { IfOk result (λ ids. MayCommit self.old id work × (self.old.commits < self.old.budget) × CommitsAs self.old id work.piece work.name work.step ids self.new) }
+        ensures err { IfErr result (λ f. Refuses self.old id work f × (self.new ≡ self.old)) }
+    {
+        self.admit(id, &work)?;
+        self.replace(id, work)
+    }
+
+    /// Refuses a work that isn't of the piece under the id, or comes when the budget is spent.
+    fn admit(&self, id: u64, work: &Work) -> Result<(), Fault>
+        ensures ok { OnOk result (MayCommit self.now id work.now × (self.now.commits < self.now.budget)) }
+        ensures err { IfErr result (λ f. Refuses self.now id work.now f) }
+    {
+        if !is_of(work, &self.stack) {
+            return Err(Fault::Foreign);
+        }
+        let Some(piece) = self.outstanding.piece(id) else {
+            return Err(Fault::Stale);
+        };
+        if !has_name(piece, work) {
+            return Err(Fault::Stale);
+        }
+        if self.commits == self.budget {
+            return Err(Fault::Spent);
+        }
+        Ok(())
+    }
+
+    /// Puts the work's result in the place of its piece, or leaves all as it was.
+    fn replace(&mut self, id: u64, work: Work) -> Result<Option<(u64, u64)>, Fault>
+        requires may { MayCommit self.old id work }
+        requires room { self.old.commits < self.old.budget }
+        ensures ok { IfOk result (λ ids. CommitsAs self.old id work.piece work.name work.step ids self.new) }
+        ensures err { IfErr result (λ f. (f ≡ Memory) × (self.new ≡ self.old)) }
+    {
+        let next = self.next_id;
+        let (piece, step, name) = work.into_parts();
+        match step {
+            Step::Split(f, t) => {
+                self.outstanding.split(id, next, next + 1, f, t)?;
+                self.splits += 1;
+                self.commits += 1;
+                self.next_id = next + 2;
+                Ok(Some((next, next + 1)))
+            }
+            Step::Settled(answer) => {
+                add(
+                    &mut self.regions,
+                    Region {
+                        piece,
+                        name,
+                        answer,
+                    },
+                )?;
+                self.outstanding.take(id);
+                self.commits += 1;
+                Ok(None)
+            }
+            Step::Empty => {
+                add(&mut self.emptied, Emptied { piece })?;
+                self.outstanding.take(id);
+                self.commits += 1;
+                Ok(None)
+            }
+        }
+    }
+
+    /// Closes the book of this stack, and puts its regions in name order. `Foreign` where the book is of another
+    /// stack.
+    pub fn finish(self, stack: &Stack) -> Result<Settled, Fault>
+        ensures ok { IfOk result (λ s. (self.stack ≡ stack.now) × Settles self s) }
+        ensures err { IfErr result (λ f. (f ≡ Foreign) × (self.stack ≢ stack.now)) }
+    {
+        if !self.stack.is_same(stack) {
+            return Err(Fault::Foreign);
+        }
+        let mut regions = self.regions;
+        put_in_order(&mut regions);
+        Ok(Settled {
+            stack: self.stack,
+            outstanding: self.outstanding,
+            regions,
+            emptied: self.emptied,
+            splits: self.splits,
+            commits: self.commits,
+            budget: self.budget,
+        })
+    }
+}

@@ -1,0 +1,116 @@
+//! What a book keeps of pieces that are no longer outstanding, and how a work is told to be of one.
+
+ghost use Rattle.std.specs.Prelude.{◌≡◌, ◌↔◌, ◌∷◌, [], ◌++◌, IsTrue, IfErr, OnOk, IsPermutation};
+ghost use Rattle.std.specs.Ordering.{bool_cmp};
+ghost use Rattle.std.specs.Cmp.Lexicographic.{slice_cmp};
+ghost use Rattle.std.specs.Arc.{arc_value};
+ghost use Rattle.sf_book.specs.Books.{IsInNameOrder};
+ghost use Rattle.sf_book.specs.declared.fault.Fault.TheVariants.{Memory};
+
+use crate::fault::Fault;
+use sf_check::Stack;
+use sf_piece::{Piece, Work};
+use sf_run::Answer;
+use std::cmp::Ordering;
+use std::marker::Model;
+use std::sync::Arc;
+
+/// A settled piece: each member has this whole name as its trace, and this answer.
+#[derive(Drop)]
+pub struct Region {
+    pub(crate) piece: Arc<Piece>,
+    pub(crate) name: Vec<bool>,
+    pub(crate) answer: Answer,
+}
+
+impl Model for Region {
+    ghost use Rattle.sf_book.specs.Books.{RegionData};
+
+    ghost Value = { RegionData };
+
+    ghost view = { λ r. record { piece = r.piece.value; name = r.name.items; answer = r.answer } };
+}
+
+impl Region {
+    /// The piece that settled: its path condition and its facts are those of the region.
+    pub fn piece(&self) -> &Arc<Piece>
+        ensures { arc_value result.now ≡ self.now.piece }
+    {
+        &self.piece
+    }
+
+    /// The trace that all members have.
+    pub fn name(&self) -> &[bool]
+        ensures { result.now ≡ self.now.name }
+    {
+        self.name.as_slice()
+    }
+
+    /// What the stack answers on each member.
+    pub fn answer(&self) -> Answer
+        ensures { result ≡ self.now.answer }
+    {
+        self.answer
+    }
+}
+
+/// A piece without a member, seen as its name.
+#[derive(Drop)]
+pub(crate) struct Emptied {
+    pub(crate) piece: Arc<Piece>,
+}
+
+impl Model for Emptied {
+    ghost use Rattle.std.specs.Prelude.{List, Bool};
+
+    ghost Value = { List Bool };
+
+    ghost view = { λ e. e.piece.value.name };
+}
+
+impl Emptied {
+    /// The piece's name.
+    pub(crate) fn name(&self) -> &[bool]
+        ensures { result.now ≡ self.now }
+    {
+        self.piece.name()
+    }
+}
+
+/// Adds an element, or leaves all as it was.
+pub(crate) fn add<T: Drop>(v: &mut Vec<T>, x: T) -> Result<(), Fault>
+    ensures ok { OnOk result (v.new.items ≡ v.old.items ++ x ∷ []) }
+    ensures err { IfErr result (λ f. (f ≡ Memory) × (v.new.items ≡ v.old.items)) }
+{
+    v.push(x)?;
+    Ok(())
+}
+
+/// Whether the piece has the name of the work's.
+pub(crate) fn has_name(piece: &Arc<Piece>, work: &Work) -> bool
+    ensures { IsTrue result ↔ ((arc_value piece.now).name ≡ work.now.piece.name) }
+{
+    piece.name() == work.piece().name()
+}
+
+/// Whether the work is of the stack.
+pub(crate) fn is_of(work: &Work, stack: &Arc<Stack>) -> bool
+    ensures { IsTrue result ↔ (work.now.piece.stack ≡ arc_value stack.now) }
+{
+    work.piece().stack().is_same(stack)
+}
+
+/// How the names of two regions compare.
+fn by_name(a: &Region, b: &Region) -> Ordering
+    ensures { result ≡ slice_cmp bool_cmp a.now.name b.now.name }
+{
+    a.name.as_slice().cmp(b.name.as_slice())
+}
+
+/// Puts regions in name order, in place.
+pub(crate) fn put_in_order(regions: &mut Vec<Region>)
+    ensures permutation { IsPermutation regions.old.items regions.new.items }
+    ensures sorted { IsInNameOrder regions.new.items }
+{
+    regions.sort_unstable_by(|a, b| by_name(a, b));
+}

@@ -1,0 +1,20 @@
+//! The worklist of an exploration: a partition of all inputs among pieces that are left to work and regions that
+//! are settled. No thread and no lock: the crates above share it as they like.
+#![tactic(auto)]
+
+mod book;
+mod entries;
+mod fault;
+mod key;
+mod laws;
+mod settled;
+mod shelf;
+
+pub use book::{Book, Counts, Lease};
+pub use entries::Region;
+pub use fault::Fault;
+pub use laws::{each_input_lies_in_one, no_name_begins_another};
+pub use settled::Settled;
+
+#[cfg(test)]
+mod tests;

@@ -1,0 +1,117 @@
+//! How an exploration ended.
+
+ghost use Rattle.std.specs.Prelude.{◌≡◌, ◌<◌, length, map, slice_get, Some};
+ghost use Rattle.std.specs.Arc.{arc_value};
+ghost use Rattle.sf_insn.specs.declared.input.Input.{Input};
+ghost use Rattle.sf_insn.specs.Inputs.{IsInput};
+ghost use Rattle.sf_book.specs.Partition.{parts_of, names_of, LiesInOne, NoneBeginsAnother};
+ghost use Rattle.sf_book.specs.Books.{EntryData, IsSettled, IsRightRegion, counts_of};
+
+use crate::book::Counts;
+use crate::entries::{Emptied, Region};
+use crate::shelf::Shelf;
+use sf_check::Stack;
+use sf_piece::Piece;
+use std::marker::Model;
+use std::sync::Arc;
+
+/// How an exploration ended: all inputs of the stack among settled regions, in name order, and pieces that are left.
+#[derive(Drop)]
+pub struct Settled {
+    pub(crate) stack: Arc<Stack>,
+    pub(crate) outstanding: Shelf,
+    pub(crate) regions: Vec<Region>,
+    pub(crate) emptied: Vec<Emptied>,
+    pub(crate) splits: u32,
+    pub(crate) commits: u32,
+    pub(crate) budget: u32,
+}
+
+impl Model for Settled {
+    ghost use Rattle.sf_book.specs.Books.{BookData, IsSettled};
+
+    ghost Value = { BookData };
+
+    ghost view = { λ b. record { stack = b.stack.value; outstanding = b.outstanding; regions = b.regions.items; emptied = b.emptied.items; splits = b.splits; commits = b.commits; budget = b.budget } };
+
+    ghost invariant = { λ b. IsSettled (record { stack = b.stack.value; outstanding = b.outstanding; regions = b.regions.items; emptied = b.emptied.items; splits = b.splits; commits = b.commits; budget = b.budget }) };
+}
+
+impl Settled {
+    /// The stack that was explored.
+    pub fn stack(&self) -> &Arc<Stack>
+        ensures value { arc_value result.now ≡ self.now.stack }
+        ensures lawful { IsSettled self.now }
+    {
+        &self.stack
+    }
+
+    /// How many regions are settled.
+    pub fn region_count(&self) -> usize
+        ensures value { result ≡ length self.now.regions }
+        ensures lawful { IsSettled self.now }
+    {
+        self.regions.len()
+    }
+
+    /// The region at this place in the order of names.
+    pub fn region(&self, i: usize) -> &Region
+        requires { i < length self.now.regions }
+        ensures value { slice_get self.now.regions i ≡ Some result.now }
+        ensures right { IsRightRegion self.now.stack result.now }
+        ensures lawful { IsSettled self.now }
+    {
+        &self.regions[i]
+    }
+
+    /// How many pieces are left.
+    pub fn outstanding_count(&self) -> usize
+        ensures value { result ≡ length self.now.outstanding }
+        ensures lawful { IsSettled self.now }
+    {
+        self.outstanding.len()
+    }
+
+    /// The piece that is left at this place in the order of ids. It is come to from the first one.
+    pub fn outstanding(&self, i: usize) -> &Arc<Piece>
+        requires { i < length self.now.outstanding }
+        ensures value { slice_get (map (λ (e : EntryData). e.piece) self.now.outstanding) i ≡ Some (arc_value result.now) }
+        ensures lawful { IsSettled self.now }
+    {
+        self.outstanding.at(i)
+    }
+
+    /// How many pieces turned out to have no member.
+    pub fn emptied_count(&self) -> usize
+        ensures value { result ≡ length self.now.emptied }
+        ensures lawful { IsSettled self.now }
+    {
+        self.emptied.len()
+    }
+
+    /// The name of a piece that turned out to have no member, in the order in which they did.
+    pub fn emptied(&self, i: usize) -> &[bool]
+        requires { i < length self.now.emptied }
+        ensures value { slice_get self.now.emptied i ≡ Some result.now }
+        ensures lawful { IsSettled self.now }
+    {
+        self.emptied[i].name()
+    }
+
+    /// The counts of the book when it was closed. Each input lies in exactly one of its pieces and regions.
+    #[tactic(auto, using(crate::specs::PartitionLaws::lies_in_one, crate::specs::PartitionLaws::none_begins_another))]
+    pub fn counts(&self) -> Counts
+        ensures counts { result ≡ counts_of self.now }
+        ensures lawful { IsSettled self.now }
+        ensures one { (d : Input) → IsInput d → LiesInOne (parts_of self.now) d }
+        ensures apart { NoneBeginsAnother (names_of self.now) }
+    {
+        Counts {
+            left: self.outstanding_count(),
+            settled: self.region_count(),
+            emptied: self.emptied_count(),
+            splits: self.splits,
+            commits: self.commits,
+        }
+    }
+}
