@@ -12,7 +12,7 @@ use Rattle.sf_sym.specs.declared.pool.Node.{Node}
 use Rattle.sf_sym.specs.declared.pool.Node.TheVariants.{Const}
 use Rattle.sf_sym.specs.declared.pool.NodeId.{NodeId}
 use Rattle.sf_sym.specs.Pool.{value_of, values_of, node_value}
-use Rattle.sf_dom.specs.Facts.{Known}
+use Rattle.sf_dom.specs.Facts.{FactsView}
 use Rattle.sf_piece.specs.declared.machine.Machine.{Machine}
 use Rattle.sf_piece.specs.Pieces.{PieceData, is_member}
 use Rattle.sf_piece.specs.Works.{valued, AreNodesBelow, Standing, Goes, GoesBy, SetsA, SetsX, IsPushed}

@@ -21,7 +21,7 @@ use Rattle.sf_sym.specs.declared.pool.NodeId.{NodeId}
 use Rattle.sf_sym.specs.Pool.{IsPool, value_of, values_of, node_value, is_met, IsCondBelow}
 use Rattle.sf_sym.specs.declared.pool.Cond.{Cond}
 use Rattle.sf_insn.specs.Words.{apply}
-use Rattle.sf_dom.specs.Facts.{Known, Covers, Agrees}
+use Rattle.sf_dom.specs.Facts.{FactsView, Covers, Agrees}
 use Rattle.sf_piece.specs.declared.machine.Machine.{Machine}
 use Rattle.sf_piece.specs.Machines.{returned}
 use Rattle.sf_piece.specs.Pieces.{PieceData, is_member, is_prefix, IsTrulyNamed}
@@ -247,7 +247,7 @@ abbrev pub IsImplied : PieceData → Cond → Bool → Type 0
 IsImplied p cond b = (d : Input) → IsInput d → is_member p d ≡ true → is_met p.pool d (sensed cond b) ≡ true
 
 -- facts of the members that have the entry so
-pub record AreChildFacts (p : PieceData) (cond : Cond) (b : Bool) (facts : Known) : Type 0 where
+pub record AreChildFacts (p : PieceData) (cond : Cond) (b : Bool) (facts : FactsView) : Type 0 where
   pub covers : Covers facts p.pool
   pub known : (d : Input) → IsInput d → is_member p d ≡ true → is_met p.pool d (sensed cond b) ≡ true → Agrees facts p.pool d
 
