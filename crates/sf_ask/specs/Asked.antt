@@ -1,0 +1,22 @@
+-- What a question asks.
+use Rattle.std.specs.Prelude.{ℕ, List, replicate, slice_index_or}
+use Rattle.sf_ask.specs.declared.actions.ActionSet.{ActionSet}
+
+-- A question: the bytes of its name; for each of the sixteen words a range (low, high) and a pair (mask, value); and
+-- the actions that it asks about.
+pub record Asked : Type 0 where
+  pub name : List ℕ
+  pub ranges : List (ℕ × ℕ)
+  pub masks : List (ℕ × ℕ)
+  pub actions : ActionSet
+
+-- the range of a word, and its mask with its value
+abbrev pub range_at : Asked → ℕ → ℕ × ℕ
+range_at q word = slice_index_or q.ranges word (0, 0)
+
+abbrev pub mask_at : Asked → ℕ → ℕ × ℕ
+mask_at q word = slice_index_or q.masks word (0, 0)
+
+-- masks that every word meets
+abbrev pub no_masks : List (ℕ × ℕ)
+no_masks = replicate 16 (0, 0)
