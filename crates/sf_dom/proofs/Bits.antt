@@ -68,9 +68,9 @@ pub xor-bits : (a b za oa zb ob : ℕ) → HasBits a za oa → HasBits b zb ob
     → HasBits (bit_xor a b) (bit_or (bit_and za zb) (bit_and oa ob)) (bit_or (bit_and za ob) (bit_and oa zb))
 xor-bits a b za oa zb ob ha hb = record {
   zero = λ i. rw (bit_at_xor a b i, bit_at_or (bit_and za zb) (bit_and oa ob) i, bit_at_and za zb i, bit_at_and oa ob i)
-    (xor_zero _ _ _ _ _ _ (bit_at-lt a i) (bit_at-lt b i) (ha.zero i) (ha.one i) (hb.zero i) (hb.one i));
+      (xor_zero _ _ _ _ _ _ (bit_at-lt a i) (bit_at-lt b i) (ha.zero i) (ha.one i) (hb.zero i) (hb.one i));
   one = λ i. rw (bit_at_xor a b i, bit_at_or (bit_and za ob) (bit_and oa zb) i, bit_at_and za ob i, bit_at_and oa zb i)
-    (xor_one _ _ _ _ _ _ (bit_at-lt a i) (bit_at-lt b i) (ha.zero i) (ha.one i) (hb.zero i) (hb.one i));
+      (xor_one _ _ _ _ _ _ (bit_at-lt a i) (bit_at-lt b i) (ha.zero i) (ha.one i) (hb.zero i) (hb.one i));
 }
 
 -- known bits of both kinds of knowledge
@@ -107,9 +107,9 @@ back-xor x c z o l h =
     let ox : (i : ℕ) → bit_at o i ≤ (bit_at x i + bit_at c i) % 2 = λ i. rw (bit_at_xor x c i) at (h.one i) in
     record {
       zero = λ i. rw (bit_at_or (bit_and z (4294967295 - c)) (bit_and o c) i, bit_at_and z (4294967295 - c) i, bit_at_and o c i)
-        (back_xor_zero _ _ _ _ _ (bit_at-lt x i) (bit_at-lt c i) (bit_at-complement c i l) (zx i) (ox i));
+          (back_xor_zero _ _ _ _ _ (bit_at-lt x i) (bit_at-lt c i) (bit_at-complement c i l) (zx i) (ox i));
       one = λ i. rw (bit_at_or (bit_and o (4294967295 - c)) (bit_and z c) i, bit_at_and o (4294967295 - c) i, bit_at_and z c i)
-        (back_xor_one _ _ _ _ _ (bit_at-lt x i) (bit_at-lt c i) (bit_at-complement c i l) (zx i) (ox i));
+          (back_xor_one _ _ _ _ _ (bit_at-lt x i) (bit_at-lt c i) (bit_at-complement c i l) (zx i) (ox i));
     }
 
 -- the known ones are at most the number
@@ -151,34 +151,41 @@ shl-bits a za oa s h =
     let past : (n i : ℕ) → 32 ≤ i → bit_at (n * 2 ^ s % 2 ^ 32) i ≡ 0 = λ n i l. bit_at_above (n * 2 ^ s % 2 ^ 32) 32 i (omega arith) l in
     record {
       zero = λ i. elim (cases_lt i 32) [
-          inl l ↦ elim (cases_lt i s) [
-              inl m ↦ rw (low a i l m) (zero_right _ (bit_at-lt _ i))
-            | inr m ↦ rw (bit_at_or (za * 2 ^ s % 2 ^ 32) (2 ^ s - 1) i, high a i l m, high za i l m, bit_at_ones_above s i m) (max_zero _ _ (h.zero (i - s))) ]
-        | inr l ↦ rw (past a i l) (zero_right _ (bit_at-lt _ i)) ];
+        | inl l ↦ elim (cases_lt i s) [
+          | inl m ↦ rw (low a i l m) (zero_right _ (bit_at-lt _ i))
+          | inr m ↦ rw (bit_at_or (za * 2 ^ s % 2 ^ 32) (2 ^ s - 1) i, high a i l m, high za i l m, bit_at_ones_above s i m) (max_zero _ _ (h.zero (i - s)))
+        ]
+        | inr l ↦ rw (past a i l) (zero_right _ (bit_at-lt _ i))
+      ];
       one = λ i. elim (cases_lt i 32) [
-          inl l ↦ elim (cases_lt i s) [
-              inl m ↦ rw (low oa i l m) (omega arith)
-            | inr m ↦ rw (high a i l m, high oa i l m) (h.one (i - s)) ]
-        | inr l ↦ rw (past oa i l) (omega arith) ];
+        | inl l ↦ elim (cases_lt i s) [
+          | inl m ↦ rw (low oa i l m) (omega arith)
+          | inr m ↦ rw (high a i l m, high oa i l m) (h.one (i - s))
+        ]
+        | inr l ↦ rw (past oa i l) (omega arith)
+      ];
     }
   where
     zero_right : (b : ℕ) → b < 2 → b + 0 ≤ 1
     zero_right b l = omega arith
+
     max_zero : (z n : ℕ) → z + n ≤ 1 → max z 0 + n ≤ 1
     max_zero z n l = omega arith
 
 -- moved right by s
 pub shr-bits : (a za oa s : ℕ) → s < 32 → a < 2 ^ 32 → HasBits a za oa → HasBits (a / 2 ^ s) (bit_or (za / 2 ^ s) (2 ^ 32 - 2 ^ (32 - s))) (oa / 2 ^ s)
 shr-bits a za oa s ls la h = record {
-    zero = λ i. rw (bit_at-shr a s i, bit_at_or (za / 2 ^ s) (2 ^ 32 - 2 ^ (32 - s)) i, bit_at-shr za s i)
+  zero = λ i. rw (bit_at-shr a s i, bit_at_or (za / 2 ^ s) (2 ^ 32 - 2 ^ (32 - s)) i, bit_at-shr za s i)
       (elim (cases_lt i (32 - s)) [
-          inl l ↦ rw (bit_at_mask_below (32 - s) 32 i l) (max_zero _ _ (h.zero (s + i)))
-        | inr l ↦ rw (bit_at_above a 32 (s + i) la (omega arith)) (two_bits _ _ (bit_at-lt za (s + i)) (bit_at-lt _ i)) ]);
-    one = λ i. rw (bit_at-shr a s i, bit_at-shr oa s i) (h.one (s + i));
-  }
+        | inl l ↦ rw (bit_at_mask_below (32 - s) 32 i l) (max_zero _ _ (h.zero (s + i)))
+        | inr l ↦ rw (bit_at_above a 32 (s + i) la (omega arith)) (two_bits _ _ (bit_at-lt za (s + i)) (bit_at-lt _ i))
+      ]);
+  one = λ i. rw (bit_at-shr a s i, bit_at-shr oa s i) (h.one (s + i));
+}
   where
     max_zero : (z n : ℕ) → z + n ≤ 1 → max z 0 + n ≤ 1
     max_zero z n l = omega arith
+
     two_bits : (b c : ℕ) → b < 2 → c < 2 → max b c + 0 ≤ 1
     two_bits b c l m = omega arith
 
@@ -202,23 +209,28 @@ leading-bits low high n k ll above below e =
     let down : n / 2 ^ k ≤ high / 2 ^ k = div_mono n high k below in
     let same : n / 2 ^ k ≡ low / 2 ^ k = omega arith in
     let at_bit : (i : ℕ) → k ≤ i → bit_at n i ≡ bit_at low i
-      = λ i l. let j : k + (i - k) ≡ i = omega arith in
-          ap (bit_at n) (sym j) ∙ sym (bit_at-shr n k (i - k)) ∙ ap (λ m. bit_at m (i - k)) same ∙ bit_at-shr low k (i - k) ∙ ap (bit_at low) j in
+    = λ i l. let j : k + (i - k) ≡ i = omega arith in
+    ap (bit_at n) (sym j) ∙ sym (bit_at-shr n k (i - k)) ∙ ap (λ m. bit_at m (i - k)) same ∙ bit_at-shr low k (i - k) ∙ ap (bit_at low) j in
     record {
       zero = λ i. rw (bit_at_and (4294967295 - low) (2 ^ 32 - 2 ^ k) i) (elim (cases_lt i k) [
-          inl l ↦ rw (bit_at_mask_below k 32 i l) (min_zero _ _ (bit_at-lt n i))
-        | inr l ↦ rw (at_bit i l) (min_part _ _ _ (bit_at-complement low i ll)) ]);
+        | inl l ↦ rw (bit_at_mask_below k 32 i l) (min_zero _ _ (bit_at-lt n i))
+        | inr l ↦ rw (at_bit i l) (min_part _ _ _ (bit_at-complement low i ll))
+      ]);
       one = λ i. rw (bit_at_and low (2 ^ 32 - 2 ^ k) i) (elim (cases_lt i k) [
-          inl l ↦ rw (bit_at_mask_below k 32 i l) (min_none _ _)
-        | inr l ↦ rw (at_bit i l) (min_first _ _) ]);
+        | inl l ↦ rw (bit_at_mask_below k 32 i l) (min_none _ _)
+        | inr l ↦ rw (at_bit i l) (min_first _ _)
+      ]);
     }
   where
     min_zero : (z n : ℕ) → n < 2 → min z 0 + n ≤ 1
     min_zero z n l = omega arith
+
     min_part : (z m n : ℕ) → z + n ≤ 1 → min z m + n ≤ 1
     min_part z m n l = omega arith
+
     min_none : (o n : ℕ) → min o 0 ≤ n
     min_none o n = omega arith
+
     min_first : (o m : ℕ) → min o m ≤ o
     min_first o m = omega arith
 

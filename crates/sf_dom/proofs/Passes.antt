@@ -23,11 +23,11 @@ use Rattle.sf_dom.specs.Facts.{known_at, numbers_at, excluded_of, AgreesWith, Ar
 pub meet-is : (a b : Known) (low high : ℕ) → low ≡ max a.low b.low → high ≡ min a.high b.high
     → IsMeet a b (known_of low high (bit_or a.zeros b.zeros) (bit_or a.ones b.ones))
 meet-is a b low high el eh = record {
-    left = narrowed a low high b.zeros b.ones (omega arith) (omega arith);
-    right = rw (or_comm a.zeros b.zeros, or_comm a.ones b.ones) (narrowed b low high a.zeros a.ones (omega arith) (omega arith));
-    both = λ n p q. let x = p.above in let y = p.below in let z = q.above in let w = q.below in
+  left = narrowed a low high b.zeros b.ones (omega arith) (omega arith);
+  right = rw (or_comm a.zeros b.zeros, or_comm a.ones b.ones) (narrowed b low high a.zeros a.ones (omega arith) (omega arith));
+  both = λ n p q. let x = p.above in let y = p.below in let z = q.above in let w = q.below in
       record { above = omega arith; below = omega arith; bits = join-bits n a.zeros a.ones b.zeros b.ones p.bits q.bits };
-  }
+}
 
 -- the value of a node is left by what was known of it and by its rule
 pub pass-left : (ks : List Known) (ex : List (List ℕ)) (ns : List Node) (d : Input) (i : ℕ) (by_rule met : Known)
@@ -47,8 +47,9 @@ pub pass-set : (ks : List Known) (ex : List (List ℕ)) (ns : List Node) (d : In
     → i < length ks → AgreesWith ks ex ns d → Leaves next (excluded_of ex (node_at ns i)) (value_of ns d i) → AgreesWith (set ks i next) ex ns d
 pass-set ks ex ns d i next l a h j lj =
     elim (cases_eq j i) [
-        inl e ↦ rw (e, get_or-set_same ks i next (known_of 0 0 0 0) l) h
-      | inr ne ↦ rw (get_or-set_other ks i j next (known_of 0 0 0 0) ne) (a j (omega (arith, length-set ks i next))) ]
+      | inl e ↦ rw (e, get_or-set_same ks i next (known_of 0 0 0 0) l) h
+      | inr ne ↦ rw (get_or-set_other ks i j next (known_of 0 0 0 0) ne) (a j (omega (arith, length-set ks i next)))
+    ]
 
 -- operands are older
 pub operands-below : (ns : List Node) (i : ℕ) → IsPool ns → i < length ns → OperandsBelow i (node_at ns i)
@@ -101,16 +102,16 @@ pub IsPassed-new : (ks : List Known) (ex : List (List ℕ)) (ns : List Node) (i 
     → (AreDecidedOperands ks (node_at ns i) → IsForced r) → ((c : ℕ) → node_at ns i ≡ Const c → (r.low ≡ c) × (r.high ≡ c))
     → IsNarrower r met → IsTightNode met next ex (node_at ns i) → IsPassed ks ex ns i
 IsPassed-new ks ex ns i r met next e forced constant h t = record {
-    settled = rw e t.settled;
-    tight = λ w n. rw e (t.tight w n);
-    decided = λ o. rw e (forced-decided r met next ex (node_at ns i) h t (forced o));
-    constant = λ c n.
+  settled = rw e t.settled;
+  tight = λ w n. rw e (t.tight w n);
+  decided = λ o. rw e (forced-decided r met next ex (node_at ns i) h t (forced o));
+  constant = λ c n.
       let k = constant c n in
       let a = h.low in let b = h.high in
       let a2 = t.narrower.low in let b2 = t.narrower.high in
       let o = t.settled.ordered in
       rw e (omega arith, omega arith);
-  }
+}
 
 -- one step of a pass
 pub passed-set : (ks : List Known) (ex : List (List ℕ)) (ns : List Node) (i : ℕ) (r met next : Known) → IsPool ns → length ks ≡ length ns → i < length ks
@@ -120,20 +121,22 @@ pub passed-set : (ks : List Known) (ex : List (List ℕ)) (ns : List Node) (i : 
     → IsNarrower r met → IsTightNode met next ex (node_at ns i) → (k : ℕ) → k < i + 1 → IsPassed (set ks i next) ex ns k
 passed-set ks ex ns i r met next p len l older forced constant h t k lk =
     let same : (j : ℕ) → j < i → known_at ks j ≡ known_at (set ks i next) j
-      = λ j b. sym (get_or-set_other ks i j next (known_of 0 0 0 0) (λ e. absurd (omega arith))) in
+    = λ j b. sym (get_or-set_other ks i j next (known_of 0 0 0 0) (λ e. absurd (omega arith))) in
     let lower = operands-below ns i p (omega arith) in
     elim (cases_lt k i) [
-        inl b ↦ IsPassed-same ks (set ks i next) ex ns k p (omega arith) (λ j c. same j (omega arith)) (older k b)
+      | inl b ↦ IsPassed-same ks (set ks i next) ex ns k p (omega arith) (λ j c. same j (omega arith)) (older k b)
       | inr g ↦ (let e : k ≡ i = omega arith in
           rw e (IsPassed-new (set ks i next) ex ns i r met next (get_or-set_same ks i next (known_of 0 0 0 0) l)
-            (λ o. forced (settled-operands ks i (node_at ns i) lower (λ j b. (older j b).settled)) (AreDecidedOperands-same (set ks i next) ks i (node_at ns i) lower (λ j b. sym (same j b)) o))
-            constant h t)) ]
+          (λ o. forced (settled-operands ks i (node_at ns i) lower (λ j b. (older j b).settled)) (AreDecidedOperands-same (set ks i next) ks i (node_at ns i) lower (λ j b. sym (same j b)) o))
+          constant h t))
+    ]
 
 pub AllNarrower-set : (old ks : List Known) (i : ℕ) (next : Known) → length old ≡ length ks → i < length ks → AllNarrower old ks → IsNarrower (known_at ks i) next → AllNarrower old (set ks i next)
 AllNarrower-set old ks i next len l h n j b =
     elim (cases_eq j i) [
-        inl e ↦ rw (e, get_or-set_same ks i next (known_of 0 0 0 0) l) (IsNarrower-trans (known_at old i) (known_at ks i) next (h i (omega arith)) n)
-      | inr ne ↦ rw (get_or-set_other ks i j next (known_of 0 0 0 0) ne) (h j b) ]
+      | inl e ↦ rw (e, get_or-set_same ks i next (known_of 0 0 0 0) l) (IsNarrower-trans (known_at old i) (known_at ks i) next (h i (omega arith)) n)
+      | inr ne ↦ rw (get_or-set_other ks i j next (known_of 0 0 0 0) ne) (h j b)
+    ]
 
 pub AllNarrower-refl : (ks : List Known) → AllNarrower ks ks
 AllNarrower-refl ks i l = IsNarrower-refl (known_at ks i)
@@ -149,14 +152,15 @@ pub passed-push : (ks : List Known) (ex : List (List ℕ)) (ns : List Node) (fro
     → IsTightNode r next ex (node_at ns i) → (k : ℕ) → from ≤ k → k < i + 1 → IsPassed (ks ++ next ∷ []) ex ns k
 passed-push ks ex ns from i r next p len l fl settled older forced constant t k fk lk =
     let same : (j : ℕ) → j < i → known_at ks j ≡ known_at (ks ++ next ∷ []) j
-      = λ j b. sym (get_or_append_left ks (next ∷ []) (known_of 0 0 0 0) j (omega arith)) in
+    = λ j b. sym (get_or_append_left ks (next ∷ []) (known_of 0 0 0 0) j (omega arith)) in
     let lower = operands-below ns i p l in
     elim (cases_lt k i) [
-        inl b ↦ IsPassed-same ks (ks ++ next ∷ []) ex ns k p (omega arith) (λ j c. same j (omega arith)) (older k fk b)
+      | inl b ↦ IsPassed-same ks (ks ++ next ∷ []) ex ns k p (omega arith) (λ j c. same j (omega arith)) (older k fk b)
       | inr g ↦ (let e : k ≡ i = omega arith in
           rw e (IsPassed-new (ks ++ next ∷ []) ex ns i r r next (get_or_push ks next (known_of 0 0 0 0) i len)
-            (λ o. forced (settled-operands ks i (node_at ns i) lower settled) (AreDecidedOperands-same (ks ++ next ∷ []) ks i (node_at ns i) lower (λ j b. sym (same j b)) o))
-            constant (IsNarrower-refl r) t)) ]
+          (λ o. forced (settled-operands ks i (node_at ns i) lower settled) (AreDecidedOperands-same (ks ++ next ∷ []) ks i (node_at ns i) lower (λ j b. sym (same j b)) o))
+          constant (IsNarrower-refl r) t))
+    ]
 
 -- a number that a word has is not excluded for it, where the word's own node is there, or nothing is excluded
 pub kept-node : (ks : List Known) (ex : List (List ℕ)) (ns : List Node) (d : Input) (n : Node) (v : ℕ) → IsPool ns → OperandsBelow (length ns) n → v ≡ node_value d (values_of ns d) n
@@ -184,8 +188,9 @@ pub agrees-push : (ks : List Known) (ex : List (List ℕ)) (ns : List Node) (d :
     → Leaves next (excluded_of ex (node_at ns i)) (value_of ns d i) → AgreesWith (ks ++ next ∷ []) ex ns d
 agrees-push ks ex ns d i next len a h j lj =
     elim (cases_lt j (length ks)) [
-        inl b ↦ rw (get_or_append_left ks (next ∷ []) (known_of 0 0 0 0) j b) (a j b)
-      | inr g ↦ (let e : j ≡ i = omega (arith, length_push ks next) in rw (e, get_or_push ks next (known_of 0 0 0 0) i len) h) ]
+      | inl b ↦ rw (get_or_append_left ks (next ∷ []) (known_of 0 0 0 0) j b) (a j b)
+      | inr g ↦ (let e : j ≡ i = omega (arith, length_push ks next) in rw (e, get_or_push ks next (known_of 0 0 0 0) i len) h)
+    ]
 
 -- what lets new nodes be taken in goes on to hold
 pub still-none : (old ks : List Known) (ex : List (List ℕ)) → length old ≤ length ks → ((16 ≤ length old) ⊎ ((w : ℕ) → numbers_at ex w ≡ [])) → ((16 ≤ length ks) ⊎ ((w : ℕ) → numbers_at ex w ≡ []))

@@ -31,15 +31,16 @@ exact-some old new ns met s only = let k = only s.0 s.1 s.2 in ((λ _. (s.0, s.1
 pub undecided : (f : FactsView) (ns : List Node) (i n : ℕ) → Covers f ns → ArePlainNodes ns → i < length ns
     → ((known_at f.known i).low ≢ (known_at f.known i).high) → ¬ ((d : Input) → IsInput d → AgreesWith f.known f.excluded ns d → value_of ns d i ≡ n)
 undecided f ns i n h plain l ne all = elim (cases_lt i 16) [
-    inl b ↦
+  | inl b ↦
       (let p = h.pool in
-       let t = h.lawful.tight i b in
-       let s = sampled f i (known_at f.known i).low b h.lawful t.low in
-       let u = sampled f i (known_at f.known i).high b h.lawful t.high in
-       let one = all s.0 s.1 (words-agree f ns s.0 h plain s.2) in
-       let two = all u.0 u.1 (words-agree f ns u.0 h plain u.2) in
-       ne (sym s.3 ∙ sym (value-word ns s.0 i p b) ∙ one ∙ sym two ∙ value-word ns u.0 i p b ∙ u.3))
-  | inr g ↦ (let count = h.count in let c = plain i g l in let k = h.constants i c.0 (omega arith) c.1 in ne (k.0 ∙ sym k.1)) ]
+      let t = h.lawful.tight i b in
+      let s = sampled f i (known_at f.known i).low b h.lawful t.low in
+      let u = sampled f i (known_at f.known i).high b h.lawful t.high in
+      let one = all s.0 s.1 (words-agree f ns s.0 h plain s.2) in
+      let two = all u.0 u.1 (words-agree f ns u.0 h plain u.2) in
+      ne (sym s.3 ∙ sym (value-word ns s.0 i p b) ∙ one ∙ sym two ∙ value-word ns u.0 i p b ∙ u.3))
+  | inr g ↦ (let count = h.count in let c = plain i g l in let k = h.constants i c.0 (omega arith) c.1 in ne (k.0 ∙ sym k.1))
+]
 
 -- facts after a pass
 pub pass-facts : (ks : List Known) (ex : List (List ℕ)) (ns : List Node) → IsPool ns → length ks ≡ length ns → length ex ≡ 16 → ((i : ℕ) → i < length ns → IsPassed ks ex ns i)
@@ -97,15 +98,18 @@ grown-facts old new ex ns p h kept le g =
     let covers = g.covers in
     let count = h.count in
     let same : (i : ℕ) → i < length old → known_at old i ≡ known_at new i
-      = λ i l. ap (λ xs. known_at xs i) (sym kept) ∙ get_or-take (length old) new i (record { low = 0; high = 0; zeros = 0; ones = 0 }) l in
-    (record {
-      count = omega arith;
-      words = h.words;
-      settled = λ i l. elim (cases_lt i (length old)) [
-          inl b ↦ rw (same i b) at (h.settled i b)
-        | inr o ↦ (g.passed h.settled i o (omega arith)).settled ];
-      tight = λ w l. rw (same w (omega arith)) at (h.tight w l);
-    }, same)
+    = λ i l. ap (λ xs. known_at xs i) (sym kept) ∙ get_or-take (length old) new i (record { low = 0; high = 0; zeros = 0; ones = 0 }) l in (
+      record {
+        count = omega arith;
+        words = h.words;
+        settled = λ i l. elim (cases_lt i (length old)) [
+          | inl b ↦ rw (same i b) at (h.settled i b)
+          | inr o ↦ (g.passed h.settled i o (omega arith)).settled
+        ];
+        tight = λ w l. rw (same w (omega arith)) at (h.tight w l);
+      },
+      same,
+    )
 
 pub grown-of : (old new : List Known) (ex : List (List ℕ)) (before ns : List Node) → IsPool ns → Covers (record { known = old; excluded = ex }) before → Extends before ns
     → take (length old) new ≡ old → length old ≤ length ns → IsGrown old new ex ns → Covers (record { known = new; excluded = ex }) ns
@@ -120,11 +124,13 @@ grown-of old new ex before ns p h more kept le g =
       lawful = facts.0;
       count = g.covers;
       constants = λ i c l e. elim (cases_lt i (length old)) [
-          inl b ↦ rw (same i b) at (h.constants i c b (sym (older i b) ∙ e))
-        | inr o ↦ (g.passed h.lawful.settled i o (omega arith)).constant c e ];
+        | inl b ↦ rw (same i b) at (h.constants i c b (sym (older i b) ∙ e))
+        | inr o ↦ (g.passed h.lawful.settled i o (omega arith)).constant c e
+      ];
       decided = λ i l d. elim (cases_lt i (length old)) [
-          inl b ↦ rw (same i b) at (h.decided i b (rw (older i b) at (AreDecidedOperands-same new old i (node_at ns i) (operands-below ns i p (omega arith)) (λ j m. sym (same j (omega arith))) d)))
-        | inr o ↦ (g.passed h.lawful.settled i o (omega arith)).decided d ];
+        | inl b ↦ rw (same i b) at (h.decided i b (rw (older i b) at (AreDecidedOperands-same new old i (node_at ns i) (operands-below ns i p (omega arith)) (λ j m. sym (same j (omega arith))) d)))
+        | inr o ↦ (g.passed h.lawful.settled i o (omega arith)).decided d
+      ];
     }
 
 -- an excluded number is not agreed with any more
@@ -165,16 +171,19 @@ plain-gives old new ex ex' ns cond d p lo ln lv lw s h b plain know a =
   where
     x : ℕ
     x = value_of ns d cond.node.0
+
     low : ℕ
     low = (known_at old cond.other.0).low
+
     by_sharp : (t : Test) (sense : Bool) → cond.test ≡ t → cond.sense ≡ sense → IsDecided (known_at old cond.other.0)
-      → Leaves (known_at new cond.node.0) (excluded_of ex' (node_at ns cond.node.0)) x → IsSharp t sense low → Gives t x low sense
+        → Leaves (known_at new cond.node.0) (excluded_of ex' (node_at ns cond.node.0)) x → IsSharp t sense low → Gives t x low sense
     by_sharp t sense et es dw leaves sh =
         let before : IsSharp cond.test cond.sense low = subst (λ (u : Test). IsSharp u cond.sense low) (sym et) (subst (λ (b : Bool). IsSharp t b low) (sym es) sh) in
         let given = h.sharp dw before x leaves.admitted in
         subst (λ (b : Bool). Gives t x low b) es (subst (λ (u : Test). Gives u x low cond.sense) et given)
+
     by_test : (t : Test) (sense : Bool) → cond.test ≡ t → cond.sense ≡ sense → (i : ℕ) → node_at ns cond.node.0 ≡ Word i → IsDecided (known_at old cond.other.0) → low ≡ plain.number → IsPlainTest t plain.number
-      → Leaves (known_at new cond.node.0) (excluded_of ex' (node_at ns cond.node.0)) x → Gives t x low sense
+        → Leaves (known_at new cond.node.0) (excluded_of ex' (node_at ns cond.node.0)) x → Gives t x low sense
     by_test Equal false et es i ei dw wl pt leaves = differs-gives x low (λ e. (rw ei at leaves.kept) (rw e (b.added i ei dw et es)))
     by_test Equal true et es i ei dw wl pt leaves = by_sharp Equal true et es dw leaves tt
     by_test Greater false et es i ei dw wl pt leaves = by_sharp Greater false et es dw leaves tt
@@ -183,8 +192,9 @@ plain-gives old new ex ex' ns cond d p lo ln lv lw s h b plain know a =
     by_test GreaterOrEqual true et es i ei dw wl pt leaves = by_sharp GreaterOrEqual true et es dw leaves tt
     by_test AnyBit false et es i ei dw wl pt leaves = by_sharp AnyBit false et es dw leaves tt
     by_test AnyBit true et es i ei dw wl pt leaves = by_sharp AnyBit true et es dw leaves (pt.0, pt.1, wl ∙ pt.2)
+
     by_node : (n : Node) → node_at ns cond.node.0 ≡ n → IsWordOrConst n → IsDecided (known_at old cond.other.0) → low ≡ plain.number
-      → Leaves (known_at new cond.node.0) (excluded_of ex' (node_at ns cond.node.0)) x → Gives cond.test x low cond.sense
+        → Leaves (known_at new cond.node.0) (excluded_of ex' (node_at ns cond.node.0)) x → Gives cond.test x low cond.sense
     by_node (Word i) e k dw wl leaves = by_test cond.test cond.sense refl refl i e dw wl plain.test leaves
     by_node (Const c) e k dw wl leaves =
         let v = know cond.node.0 c (omega arith) e in

@@ -49,13 +49,13 @@ pub word-node : (o : Option Known) (k : Known) (ex : List (List ℕ)) (i : ℕ)
     → MatchOption o ((n : ℕ) → ¬ Leaves k (excluded_of ex (Word i)) n) (λ r. IsTightNode k r ex (Word i))
 word-node None k ex i h = h
 word-node (Some r) k ex i h = record {
-    same = h.same;
-    narrower = h.narrower;
-    settled = h.settled;
-    ones_low = h.ones_low;
-    high_zeros = h.high_zeros;
-    tight = λ j e. let same : i ≡ j = cc in rw same at h.tight;
-  }
+  same = h.same;
+  narrower = h.narrower;
+  settled = h.settled;
+  ones_low = h.ones_low;
+  high_zeros = h.high_zeros;
+  tight = λ j e. let same : i ≡ j = cc in rw same at h.tight;
+}
 
 -- a vector whose items were all written through a slice
 pub written_back : {X : Type 0} (xs ys : List X) (n : ℕ) → length xs ≡ length ys → n ≡ length ys → take n (xs ++ drop (length xs) ys) ≡ xs
@@ -95,16 +95,19 @@ walked ks ex ns d i x c op gained li lx a e g =
 pub excluded-word : (ex : List (List ℕ)) (i : ℕ) (xs : List ℕ) (n : Node) (other : Known) → i < 16 → length ex ≡ 16 → n ≡ Word i → IsDecided other
     → ((m : ℕ) → Contains xs m ↔ (Contains (numbers_at ex i) m ⊎ (m ≡ other.low))) → AreExcluded ex (set ex i xs) n other
 excluded-word ex i xs n other l len e d h = record {
-    more = λ j m lj k. elim (cases_eq j i) [
-        inl s ↦ rw (s, get_or-set_same ex i xs [] (omega arith)) ((h m).1 (inl (rw s at k)))
-      | inr ne ↦ rw (get_or-set_other ex i j xs [] ne) k ];
-    only = λ j m lj k. elim (cases_eq j i) [
-        inl s ↦ (elim ((h m).0 (rw (s, get_or-set_same ex i xs [] (omega arith)) at k)) [
-            inl old ↦ inl (rw s old)
-          | inr new ↦ inr (e ∙ ap Word (sym s), d, new) ])
-      | inr ne ↦ inl (rw (get_or-set_other ex i j xs [] ne) at k) ];
-    added = λ j f dd. let s : i ≡ j = cc in rw (← s, get_or-set_same ex i xs [] (omega arith)) ((h other.low).1 (inr refl));
-  }
+  more = λ j m lj k. elim (cases_eq j i) [
+    | inl s ↦ rw (s, get_or-set_same ex i xs [] (omega arith)) ((h m).1 (inl (rw s at k)))
+    | inr ne ↦ rw (get_or-set_other ex i j xs [] ne) k
+  ];
+  only = λ j m lj k. elim (cases_eq j i) [
+    | inl s ↦ (elim ((h m).0 (rw (s, get_or-set_same ex i xs [] (omega arith)) at k)) [
+      | inl old ↦ inl (rw s old)
+      | inr new ↦ inr (e ∙ ap Word (sym s), d, new)
+    ])
+    | inr ne ↦ inl (rw (get_or-set_other ex i j xs [] ne) at k)
+  ];
+  added = λ j f dd. let s : i ≡ j = cc in rw (← s, get_or-set_same ex i xs [] (omega arith)) ((h other.low).1 (inr refl));
+}
 
 -- a number that is not the excluded one stays
 pub kept-still : (ex ex' : List (List ℕ)) (n m : Node) (other : Known) (v : ℕ) → AreExcluded ex ex' n other → ((i : ℕ) → m ≡ Word i → i < 16)
@@ -113,8 +116,9 @@ kept-still ex ex' n (Const c) other v h b ne k w = k w
 kept-still ex ex' n (Bin op x y) other v h b ne k w = k w
 kept-still ex ex' n (Neg x) other v h b ne k w = k w
 kept-still ex ex' n (Word i) other v h b ne k w = elim (h.only i v (b i refl) w) [
-    inl old ↦ k old
-  | inr new ↦ ne i refl new.0 new.1 new.2 ]
+  | inl old ↦ k old
+  | inr new ↦ ne i refl new.0 new.1 new.2
+]
 
 -- the value of a decided node
 pub decided-value : (k : Known) (v : ℕ) → Admits k v → IsDecided k → v ≡ k.low
@@ -128,24 +132,24 @@ exclude-keeps ks ex ex' ns d v w p len lv lw h ne adm a j lj =
     record {
       admitted = (a j lj).admitted;
       kept = kept-still ex ex' (node_at ns v) (node_at ns j) (known_at ks w) (value_of ns d j) h
-        (word-below j (node_at ns j) (operands-below ns j p (omega arith)))
-        (λ i e f dec same.
+          (word-below j (node_at ns j) (operands-below ns j p (omega arith)))
+          (λ i e f dec same.
           let here : value_of ns d j ≡ value_of ns d v = value-node ns d j p (omega arith) ∙ ap (node_value d (values_of ns d)) (e ∙ sym f) ∙ sym (value-node ns d v p (omega arith)) in
           ne (sym here ∙ same ∙ sym (decided-value (known_at ks w) (value_of ns d w) adm dec)))
-        (a j lj).kept;
+          (a j lj).kept;
     }
 
 pub both-excluded : (ks : List Known) (ex mid ex' : List (List ℕ)) (ns : List Node) (cond : Cond) → IsPool ns → length ks ≡ length ns → cond.node.0 < length ks → cond.other.0 < length ks
     → AreExcluded ex mid (node_at ns cond.node.0) (known_at ks cond.other.0) → AreExcluded mid ex' (node_at ns cond.other.0) (known_at ks cond.node.0)
     → cond.test ≡ Equal → cond.sense ≡ false → AreBothExcluded ks ex ex' ns cond
 both-excluded ks ex mid ex' ns cond p len lv lw h k et es = record {
-    keeps = λ d input a holds.
+  keeps = λ d input a holds.
       let differ = gives-differs (value_of ns d cond.node.0) (value_of ns d cond.other.0) (rw (et, es) at holds) in
       let one = exclude-keeps ks ex mid ns d cond.node.0 cond.other.0 p len lv lw h differ (a cond.other.0 lw).admitted a in
       exclude-keeps ks mid ex' ns d cond.other.0 cond.node.0 p len lw lv k (λ e. differ (sym e)) (a cond.node.0 lv).admitted one;
-    more = λ w m l c. k.more w m l (h.more w m l c);
-    added = λ i e dec et2 es2. k.more i _ (word-below cond.node.0 (node_at ns cond.node.0) (operands-below ns cond.node.0 p (omega arith)) i e) (h.added i e dec);
-  }
+  more = λ w m l c. k.more w m l (h.more w m l c);
+  added = λ i e dec et2 es2. k.more i _ (word-below cond.node.0 (node_at ns cond.node.0) (operands-below ns cond.node.0 p (omega arith)) i e) (h.added i e dec);
+}
 
 -- a condition is taken in, step by step
 pub settle-steps : (o a b c e : List Known) (ex : List (List ℕ)) (ns : List Node) (cond : Cond) (v' w' : Known)
@@ -157,10 +161,11 @@ pub settle-steps : (o a b c e : List Known) (ex : List (List ℕ)) (ns : List No
     → KeepsAgreeing c e ex ns × AllNarrower c e
     → ((n : List Known) → IsPass e n ex ns → (KeepsAgreeingOn o n ex ns (Holds ns cond)) × AllNarrower o n × ((x : ℕ) → Admits (known_at n cond.node.0) x → Admits v' x))
 settle-steps o a b c e ex ns cond v' w' lo la lb lc le lv lw pair s1 s2 w1 w2 n pass =
-    let an = AllNarrower-trans a b n (omega arith) s2.1 (AllNarrower-trans b c n (omega arith) w1.1 (AllNarrower-trans c e n (omega arith) w2.1 pass.narrower)) in
-    ((λ d p agrees h. let q = pair d p agrees h in pass.keeps d p (w2.0 d p (w1.0 d p (s2.0 d p (s1.0 d p agrees q.0) q.1)))),
-     AllNarrower-trans o a n (omega arith) s1.1 an,
-     (λ x h. s1.2.numbers x ((an cond.node.0 (omega arith)).numbers x h)))
+    let an = AllNarrower-trans a b n (omega arith) s2.1 (AllNarrower-trans b c n (omega arith) w1.1 (AllNarrower-trans c e n (omega arith) w2.1 pass.narrower)) in (
+      (λ d p agrees h. let q = pair d p agrees h in pass.keeps d p (w2.0 d p (w1.0 d p (s2.0 d p (s1.0 d p agrees q.0) q.1)))),
+      AllNarrower-trans o a n (omega arith) s1.1 an,
+      (λ x h. s1.2.numbers x ((an cond.node.0 (omega arith)).numbers x h)),
+    )
 
 pub settled-all : (r : Bool) (o a b c e n : List Known) (ex : List (List ℕ)) (ns : List Node) (cond : Cond) (v' w' : Known)
     → length o ≡ length ns → length a ≡ length ns → length b ≡ length ns → length c ≡ length ns → length e ≡ length ns → cond.node.0 < length ns → cond.other.0 < length ns

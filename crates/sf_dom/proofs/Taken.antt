@@ -43,9 +43,10 @@ pub taken-only : (old new : List Known) (ex ex' : List (List ℕ)) (ns : List No
 taken-only old new ex ex' ns cond h below t plain d a =
     let count = h.count in
     let covers = t.covers in
-    let settled = h.lawful.settled cond.node.0 (omega (arith, below.0)) in
-    (agrees-with-fewer old ex ex' ns d h.pool count t.both.more (agrees-back old new ex' ns d (omega arith) t.settled.narrower a),
-     passes-met ns d cond (plain-gives old new ex ex' ns cond d h.pool count covers below.0 below.1 settled t.settled t.both plain h.constants a))
+    let settled = h.lawful.settled cond.node.0 (omega (arith, below.0)) in (
+      agrees-with-fewer old ex ex' ns d h.pool count t.both.more (agrees-back old new ex' ns d (omega arith) t.settled.narrower a),
+      passes-met ns d cond (plain-gives old new ex ex' ns cond d h.pool count covers below.0 below.1 settled t.settled t.both plain h.constants a),
+    )
 
 pub narrow-word : (old new : List Known) (ex : List (List ℕ)) (ns : List Node) (w : ℕ) (more : Known) → Covers (record { known = old; excluded = ex }) ns → w < 16 → length new ≡ length old
     → IsNarrow old new ex ns w more → NarrowsWord (record { known = old; excluded = ex }) (record { known = new; excluded = ex }) ns w more

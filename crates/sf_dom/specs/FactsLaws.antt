@@ -22,8 +22,9 @@ AgreesOnWords f d = (w : ℕ) → w < 16 → Leaves (known_at f.known w) (number
 -- no bit is in a number and in its complement
 pub bit_at-complement : (c i : ℕ) → c < 2 ^ 32 → bit_at (4294967295 - c) i + bit_at c i ≤ 1
 bit_at-complement c i l = elim (cases_lt i 32) [
-    inl h ↦ omega (arith, bit_at_not w32 c i l h, bit_at-lt c i)
-  | inr h ↦ omega (arith, bit_at_above c 32 i l h, bit_at-lt (4294967295 - c) i) ]
+  | inl h ↦ omega (arith, bit_at_not w32 c i l h, bit_at-lt c i)
+  | inr h ↦ omega (arith, bit_at_above c 32 i l h, bit_at-lt (4294967295 - c) i)
+]
 
 -- a constant is known in full
 pub constant-admits : (c : ℕ) → c < 2 ^ 32 → Admits (record { low = c; high = c; zeros = 4294967295 - c; ones = c }) c
@@ -40,15 +41,17 @@ sampled f w n lw h leaves =
     let len : length xs ≡ 16 = length-map ks (λ k. k.low) ∙ tlen in
     let d : Input = record { words = set xs w n } in
     let at : (i : ℕ) → i < 16 → Leaves (known_at f.known i) (numbers_at f.excluded i) (get_or (set xs w n) i 0)
-      = λ i l. elim (cases_eq i w) [
-          inl e ↦ rw (e, get_or-set_same xs w n 0 (omega arith)) leaves
-        | inr ne ↦ (let low : get_or xs i 0 ≡ (known_at f.known i).low
-              = get_or-map (λ k. k.low) ks i (record { low = 0; high = 0; zeros = 0; ones = 0 }) 0 (omega arith) ∙ ap (λ (k : Known). k.low) (get_or-take 16 f.known i (record { low = 0; high = 0; zeros = 0; ones = 0 }) l) in
-            rw (get_or-set_other xs w i n 0 ne, low) (h.tight i l).low) ] in
+    = λ i l. elim (cases_eq i w) [
+      | inl e ↦ rw (e, get_or-set_same xs w n 0 (omega arith)) leaves
+      | inr ne ↦ (let low : get_or xs i 0 ≡ (known_at f.known i).low
+          = get_or-map (λ k. k.low) ks i (record { low = 0; high = 0; zeros = 0; ones = 0 }) 0 (omega arith) ∙ ap (λ (k : Known). k.low) (get_or-take 16 f.known i (record { low = 0; high = 0; zeros = 0; ones = 0 }) l) in
+          rw (get_or-set_other xs w i n 0 ne, low) (h.tight i l).low)
+    ] in
     let fits : (i : ℕ) → get_or (set xs w n) i 0 < 2 ^ 32
-      = λ i. elim (cases_lt i 16) [
-          inl l ↦ omega (arith, (at i l).admitted.below, (h.settled i (omega arith)).fits)
-        | inr g ↦ omega (arith, get_or_past (set xs w n) i 0 (omega (arith, length-set xs w n))) ] in
+    = λ i. elim (cases_lt i 16) [
+      | inl l ↦ omega (arith, (at i l).admitted.below, (h.settled i (omega arith)).fits)
+      | inr g ↦ omega (arith, get_or_past (set xs w n) i 0 (omega (arith, length-set xs w n)))
+    ] in
     (d, record { sixteen = length-set xs w n ∙ len; each = fits }, at, get_or-set_same xs w n 0 (omega arith))
 
 -- the value of a word
@@ -72,11 +75,12 @@ words-agree f ns d h plain a i l =
     let p = h.pool in
     let len = h.count in
     elim (cases_lt i 16) [
-      inl b ↦ rw (p.word i b, value-word ns d i p b) (a i b)
-    | inr g ↦ (let c = plain i g (omega arith) in
-        let k = h.constants i c.0 l c.1 in
-        rw (c.1, value-constant ns d i c.0 p (omega arith) c.1)
-          (record { admitted = decided-admits (known_at f.known i) c.0 (h.lawful.settled i l) k.0 k.1; kept = λ w. absurd (omega (arith, w.1)) })) ]
+      | inl b ↦ rw (p.word i b, value-word ns d i p b) (a i b)
+      | inr g ↦ (let c = plain i g (omega arith) in
+          let k = h.constants i c.0 l c.1 in
+          rw (c.1, value-constant ns d i c.0 p (omega arith) c.1)
+          (record { admitted = decided-admits (known_at f.known i) c.0 (h.lawful.settled i l) k.0 k.1; kept = λ w. absurd (omega (arith, w.1)) }))
+    ]
 
 -- Over words and constants some input agrees.
 pub some-input : (f : FactsView) (ns : List Node) → Covers f ns → ArePlainNodes ns → SomeInput f ns (λ d. true)

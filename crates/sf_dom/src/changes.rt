@@ -39,7 +39,13 @@ pub fn taken(
 }
 
 /// Takes into a word's facts what else is known of it. False: no input that agrees has it.
-fn narrow(nodes: &mut [Known], excluded: &[Exclusions], pool: &Pool, word: usize, more: Known) -> bool
+fn narrow(
+    nodes: &mut [Known],
+    excluded: &[Exclusions],
+    pool: &Pool,
+    word: usize,
+    more: Known,
+) -> bool
     requires covers { length nodes.old ≡ length pool.now }
     requires words { length excluded.now ≡ 16 }
     requires word { word < 16 }

@@ -78,7 +78,8 @@ impl Exclusions {
     pub fn has_same(&self, other: &Exclusions) -> bool
         ensures { IsTrue result ↔ AreSameNumbers self.now other.now }
     {
-        all_stand_in(self.numbers.as_slice(), other.numbers.as_slice()) && all_stand_in(other.numbers.as_slice(), self.numbers.as_slice())
+        all_stand_in(self.numbers.as_slice(), other.numbers.as_slice())
+            && all_stand_in(other.numbers.as_slice(), self.numbers.as_slice())
     }
 }
 

@@ -36,7 +36,11 @@ fn back(op: BinOp, node: Known, c: u32, operand: Known) -> Option<Known>
     match op {
         BinOp::And => Some(with_bits(operand, node.zeros & c, node.ones)),
         BinOp::Or => Some(with_bits(operand, node.zeros, node.ones & !c)),
-        BinOp::Xor => Some(with_bits(operand, (node.zeros & !c) | (node.ones & c), (node.ones & !c) | (node.zeros & c))),
+        BinOp::Xor => Some(with_bits(
+            operand,
+            (node.zeros & !c) | (node.ones & c),
+            (node.ones & !c) | (node.zeros & c),
+        )),
         _ => None,
     }
 }
@@ -94,8 +98,16 @@ fn tested(v: Known, w: Known, test: Test, sense: bool) -> Option<Pair>
     match (test, sense) {
         (Test::Equal, true) => Some(equal(v, w)),
         (Test::Equal, false) => Some(Pair {
-            node: if w.low == w.high { differs(v, w.low)? } else { v },
-            other: if v.low == v.high { differs(w, v.low)? } else { w },
+            node: if w.low == w.high {
+                differs(v, w.low)?
+            } else {
+                v
+            },
+            other: if v.low == v.high {
+                differs(w, v.low)?
+            } else {
+                w
+            },
         }),
         (Test::Greater, true) => greater(v, w),
         (Test::Greater, false) => {
@@ -114,24 +126,38 @@ fn tested(v: Known, w: Known, test: Test, sense: bool) -> Option<Pair>
             })
         }
         (Test::AnyBit, true) => {
-            let node = if w.low == w.high { common_bit(v, w.low)? } else { v };
+            let node = if w.low == w.high {
+                common_bit(v, w.low)?
+            } else {
+                v
+            };
             Some(Pair { node, other: w })
         }
         (Test::AnyBit, false) => {
-            let node = if w.low == w.high { no_common_bit(v, w.low) } else { v };
+            let node = if w.low == w.high {
+                no_common_bit(v, w.low)
+            } else {
+                v
+            };
             Some(Pair { node, other: w })
         }
     }
 }
 
 /// Tightens what is known of a node where it stands. False: no input agrees.
-pub fn settle_node(nodes: &mut [Known], excluded: &[Exclusions], pool: &Pool, at: usize, more: Known) -> bool
+pub fn settle_node(
+    nodes: &mut [Known],
+    excluded: &[Exclusions],
+    pool: &Pool,
+    at: usize,
+    more: Known,
+) -> bool
     requires covers { length nodes.old ≡ length pool.now }
     requires words { length excluded.now ≡ 16 }
     requires place { at < length pool.now }
     ensures { MatchBool result
         (KeepsAgreeingOn nodes.old nodes.new excluded.now pool.now (λ d. Admits more (value_of pool.now d at))
-            × AllNarrower nodes.old nodes.new × IsNarrower more (known_at nodes.new at))
+        × AllNarrower nodes.old nodes.new × IsNarrower more (known_at nodes.new at))
         (NoneAgreesOn nodes.old excluded.now pool.now (λ d. Admits more (value_of pool.now d at))) }
 {
     let node = pool.node(NodeId(at));
@@ -191,7 +217,12 @@ pub fn exclude(excluded: &mut [Exclusions], node: Node, other: Known) -> Result<
 }
 
 /// Where a condition says that two nodes differ, neither is the number of the other, if that is decided.
-pub fn exclude_both(excluded: &mut [Exclusions], nodes: &[Known], pool: &Pool, cond: &Cond) -> Result<(), Fault>
+pub fn exclude_both(
+    excluded: &mut [Exclusions],
+    nodes: &[Known],
+    pool: &Pool,
+    cond: &Cond,
+) -> Result<(), Fault>
     requires covers { length nodes.now ≡ length pool.now }
     requires words { length excluded.old ≡ 16 }
     requires node { cond.now.node.0 < length pool.now }

@@ -6,7 +6,7 @@ use Rattle.sf_dom.proofs.changes.narrow.Goals as goal
 pub returns-then-settle_node : goal.returns-then-settle_node
 returns-then-settle_node c =
     narrowed-all c.pass.result c.args.nodes.now c.settle_node.new.nodes c.pass.new.nodes c.args.excluded.now c.args.pool.now c.args.word c.args.more c.len-count.ensures.lawful c.requires.word
-      c.requires.covers (omega arith) c.if-settle_node.ensures c.pass.ensures
+    c.requires.covers (omega arith) c.if-settle_node.ensures c.pass.ensures
 
 pub returns-else-settle_node : goal.returns-else-settle_node
 returns-else-settle_node c = rw c.if-settle_node.false

@@ -10,12 +10,12 @@ use Rattle.sf_dom.specs.Facts.{known_at}
 
 pub loop-i-init : goal.loop-i-init
 loop-i-init c = record {
-    count = omega arith;
-    kept = take_all (length c.args.nodes.now.items) c.args.nodes.now.items (omega arith);
-    longer = omega arith;
-    keeps = λ d p a. a;
-    passed = λ s k a b. absurd (omega arith);
-  }
+  count = omega arith;
+  kept = take_all (length c.args.nodes.now.items) c.args.nodes.now.items (omega arith);
+  longer = omega arith;
+  keeps = λ d p a. a;
+  passed = λ s k a b. absurd (omega arith);
+}
 
 pub returns-in-None-clause-grown : goal.returns-in-None-clause-grown
 returns-in-None-clause-grown c = λ d p a.
@@ -49,15 +49,16 @@ loop-i-preserved c =
       kept = take-append-le (length old) ks (next ∷ []) longer ∙ inv.kept;
       longer = omega (arith, length_push ks next);
       keeps = λ d p a.
-        let agrees = inv.keeps d p a in
-        let by_rule = rw (c.as_slice.ensures.value, c.node-node.ensures.node) at (c.rule-known.ensures.value d (values_of ns d) p) in
-        let left = grown-left ks ex ns d i c.rule-known.result lawful (omega arith) (still-none old ks ex longer c.requires.none) agrees (by_rule (λ j l. (agrees j l).admitted)) in
-        agrees-push ks ex ns d i next count agrees (t.same (value_of ns d i) left);
+          let agrees = inv.keeps d p a in
+          let by_rule = rw (c.as_slice.ensures.value, c.node-node.ensures.node) at (c.rule-known.ensures.value d (values_of ns d) p) in
+          let left = grown-left ks ex ns d i c.rule-known.result lawful (omega arith) (still-none old ks ex longer c.requires.none) agrees (by_rule (λ j l. (agrees j l).admitted)) in
+          agrees-push ks ex ns d i next count agrees (t.same (value_of ns d i) left);
       passed = λ settled.
-        passed-push ks ex ns (length old) i c.rule-known.result next lawful count (omega arith) (omega arith)
+          passed-push ks ex ns (length old) i c.rule-known.result next lawful count (omega arith) (omega arith)
           (λ k l. elim (cases_lt k (length old)) [
-              inl b ↦ (let same : known_at old k ≡ known_at ks k = ap (λ xs. known_at xs k) (sym inv.kept) ∙ get_or-take (length old) ks k (known_of 0 0 0 0) b in rw same at (settled k b))
-            | inr g ↦ (inv.passed settled k g l).settled ])
+            | inl b ↦ (let same : known_at old k ≡ known_at ks k = ap (λ xs. known_at xs k) (sym inv.kept) ∙ get_or-take (length old) ks k (known_of 0 0 0 0) b in rw same at (settled k b))
+            | inr g ↦ (inv.passed settled k g l).settled
+          ])
           (inv.passed settled)
           (rw (c.as_slice.ensures.value, c.node-node.ensures.node) at c.rule-known.ensures.forced)
           (rw c.node-node.ensures.node at c.rule-known.ensures.constant) t;

@@ -29,12 +29,12 @@ loop-i-preserved c =
     let t = rw c.node-node.ensures.node at c.in-Some.ensures in
     record {
       keeps = λ d p a.
-        let agrees = c.loop-i.invariant.keeps d p a in
-        let by_rule = rw c.node-node.ensures.node at (c.rule.ensures.value d (values_of ns d) p (λ j l. (agrees j l).admitted)) in
-        let left = pass-left ks ex ns d i c.rule.result c.meet-known.result c.node-node.ensures.lawful (omega arith) (omega arith) agrees by_rule c.meet-known.ensures in
-        pass-set ks ex ns d i next (omega arith) agrees (t.same (value_of ns d i) left);
+          let agrees = c.loop-i.invariant.keeps d p a in
+          let by_rule = rw c.node-node.ensures.node at (c.rule.ensures.value d (values_of ns d) p (λ j l. (agrees j l).admitted)) in
+          let left = pass-left ks ex ns d i c.rule.result c.meet-known.result c.node-node.ensures.lawful (omega arith) (omega arith) agrees by_rule c.meet-known.ensures in
+          pass-set ks ex ns d i next (omega arith) agrees (t.same (value_of ns d i) left);
       narrower = AllNarrower-set c.args.nodes.now ks i next (omega arith) (omega arith) c.loop-i.invariant.narrower
-        (IsNarrower-trans (known_at ks i) c.meet-known.result next c.meet-known.ensures.left t.narrower);
+          (IsNarrower-trans (known_at ks i) c.meet-known.result next c.meet-known.ensures.left t.narrower);
       passed = passed-set ks ex ns i c.rule.result c.meet-known.result next c.node-node.ensures.lawful (omega arith) (omega arith) c.loop-i.invariant.passed
-        (rw c.node-node.ensures.node at c.rule.ensures.forced) (rw c.node-node.ensures.node at c.rule.ensures.constant) c.meet-known.ensures.right t;
+          (rw c.node-node.ensures.node at c.rule.ensures.forced) (rw c.node-node.ensures.node at c.rule.ensures.constant) c.meet-known.ensures.right t;
     }

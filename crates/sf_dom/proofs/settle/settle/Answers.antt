@@ -46,7 +46,7 @@ returns-else-not-walk-2 c =
     let w = cond.other.0 in
     let pair = c.in-Some.ensures in
     settled-all c.pass.result o c.settle_node.new.nodes c.settle_node-in-Some.new.nodes c.walk.new.nodes c.walk-in-Some.new.nodes c.pass.new.nodes ex ns cond c.in-Some.pair.node c.in-Some.pair.other
-      c.requires.covers (omega arith) (omega arith) (omega arith) (omega arith) c.requires.node c.requires.other
-      (λ d p a h. pair.pair (value_of ns d v) (value_of ns d w) (a v (omega arith)).admitted (a w (omega arith)).admitted h)
-      c.if-not-settle_node.ensures c.if-not-settle_node-2.ensures c.if-not-walk.ensures c.if-not-walk-2.ensures
-      pair.sharp pair.decided c.pass.ensures
+    c.requires.covers (omega arith) (omega arith) (omega arith) (omega arith) c.requires.node c.requires.other
+    (λ d p a h. pair.pair (value_of ns d v) (value_of ns d w) (a v (omega arith)).admitted (a w (omega arith)).admitted h)
+    c.if-not-settle_node.ensures c.if-not-settle_node-2.ensures c.if-not-walk.ensures c.if-not-walk-2.ensures
+    pair.sharp pair.decided c.pass.ensures

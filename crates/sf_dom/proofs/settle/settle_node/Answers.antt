@@ -18,7 +18,8 @@ returns-in-Some c =
     let ex = c.args.excluded.now in
     let at = c.args.at in
     let next = c.in-Some.next in
-    let t = rw c.node-node.ensures.node at c.in-Some.ensures in
-    ((λ d p a m. pass-set ks ex ns d at next (omega arith) a (t.same (value_of ns d at) (met-left ks ex ns d at c.args.more c.meet.result (omega arith) a m c.meet.ensures))),
-     AllNarrower-set ks ks at next (omega arith) (omega arith) (AllNarrower-refl ks) (IsNarrower-trans (known_at ks at) c.meet.result next c.meet.ensures.left t.narrower),
-     narrower-at ks at c.args.more next (omega arith) (IsNarrower-trans c.args.more c.meet.result next c.meet.ensures.right t.narrower))
+    let t = rw c.node-node.ensures.node at c.in-Some.ensures in (
+      (λ d p a m. pass-set ks ex ns d at next (omega arith) a (t.same (value_of ns d at) (met-left ks ex ns d at c.args.more c.meet.result (omega arith) a m c.meet.ensures))),
+      AllNarrower-set ks ks at next (omega arith) (omega arith) (AllNarrower-refl ks) (IsNarrower-trans (known_at ks at) c.meet.result next c.meet.ensures.left t.narrower),
+      narrower-at ks at c.args.more next (omega arith) (IsNarrower-trans c.args.more c.meet.result next c.meet.ensures.right t.narrower),
+    )

@@ -34,10 +34,10 @@ loop-op-preserved c =
     record {
       within = omega (arith, o.ensures.smaller);
       keeps = λ d p a.
-        let agrees = c.loop-op.invariant.keeps d p a in
-        let left = walked ks ex ns d c.loop-op.at o.x o.c o.op c.in-Some-back.gained (omega arith) (omega (arith, o.ensures.smaller)) agrees (o.ensures.value d p c.in-Some-back.ensures.swappable) c.in-Some-back.ensures.bits in
-        pass-set ks ex ns d o.x next (omega (arith, o.ensures.smaller)) agrees (t.same (value_of ns d o.x) left);
+          let agrees = c.loop-op.invariant.keeps d p a in
+          let left = walked ks ex ns d c.loop-op.at o.x o.c o.op c.in-Some-back.gained (omega arith) (omega (arith, o.ensures.smaller)) agrees (o.ensures.value d p c.in-Some-back.ensures.swappable) c.in-Some-back.ensures.bits in
+          pass-set ks ex ns d o.x next (omega (arith, o.ensures.smaller)) agrees (t.same (value_of ns d o.x) left);
       narrower = AllNarrower-set c.args.nodes.now ks o.x next (omega arith) (omega (arith, o.ensures.smaller)) c.loop-op.invariant.narrower
-        (IsNarrower-trans (known_at ks o.x) c.in-Some-back.gained next c.in-Some-back.ensures.narrower t.narrower);
+          (IsNarrower-trans (known_at ks o.x) c.in-Some-back.gained next c.in-Some-back.ensures.narrower t.narrower);
       count = omega (arith, length-set ks o.x next);
     }

@@ -13,9 +13,9 @@ returns-then-known-clause-some c =
     let covers = rw (← c.self.view_is) at c.requires.covers in
     let here = get_or_read items c.args.node.0 c.index-known.result.now (omega (arith, c.requires.node, covers.count)) c.index-known.ensures (known_of 0 0 0 0) in
     rw (← c.self.view_is) (λ n e d p a.
-      let low : c.index-known.result.now.low ≡ n = same_Some _ _ e in
-      let admitted = rw (← here) at (a c.args.node.0 (omega (arith, c.requires.node, covers.count))).admitted in
-      omega (arith, admitted.above, admitted.below, c.if-known.true, low))
+    let low : c.index-known.result.now.low ≡ n = same_Some _ _ e in
+    let admitted = rw (← here) at (a c.args.node.0 (omega (arith, c.requires.node, covers.count))).admitted in
+    omega (arith, admitted.above, admitted.below, c.if-known.true, low))
 
 pub returns-else-known-clause-none : goal.returns-else-known-clause-none
 unfolding Agrees
@@ -24,4 +24,4 @@ returns-else-known-clause-none c =
     let covers = rw (← c.self.view_is) at c.requires.covers in
     let here = get_or_read items c.args.node.0 c.index-known.result.now (omega (arith, c.requires.node, covers.count)) c.index-known.ensures (known_of 0 0 0 0) in
     rw (← c.self.view_is) (λ plain e n all.
-      undecided _ c.args.pool.now c.args.node.0 n covers plain c.requires.node (rw here at c.if-known.false) all)
+    undecided _ c.args.pool.now c.args.node.0 n covers plain c.requires.node (rw here at c.if-known.false) all)

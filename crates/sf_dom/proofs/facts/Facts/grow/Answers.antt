@@ -23,7 +23,7 @@ pub returns-in-Ok-true-clause-only : goal.returns-in-Ok-true-clause-only
 unfolding Agrees
 returns-in-Ok-true-clause-only c =
     rw (← c.self.view_is) (λ before h more e d p a. agrees-before c.self.inside.nodes.items c.self.inside.excluded.items before c.args.pool.now d h.count more
-      (agrees-kept c.self.inside.nodes.items c.append.new.nodes.items c.self.inside.excluded.items c.args.pool.now d c.in-Ok-true.ensures.kept c.in-Ok-true.ensures.longer a))
+    (agrees-kept c.self.inside.nodes.items c.append.new.nodes.items c.self.inside.excluded.items c.args.pool.now d c.in-Ok-true.ensures.kept c.in-Ok-true.ensures.longer a))
 
 pub returns-in-Ok-false-clause-sound : goal.returns-in-Ok-false-clause-sound
 unfolding Agrees

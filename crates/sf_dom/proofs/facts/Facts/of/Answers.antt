@@ -26,12 +26,12 @@ loop-cond-preserved c =
     record {
       covers = c.in_ok-learn.ensures.covers;
       sound = λ d p all.
-        let before = rw (take-take i (i + 1) xs (omega arith)) at (All-take (λ (k : Cond). is_met ns d k ≡ true) i (take (i + 1) xs) all) in
-        let here = λ (e : Cond). rw (get_or-take (i + 1) xs i e (omega arith)) at (all i e (omega (arith, length-take-le (i + 1) xs (omega arith)))) in
-        (rw c.if-not-branch.false at c.in_ok-learn.ensures.sound) d p (old.sound d p before) (here _);
+          let before = rw (take-take i (i + 1) xs (omega arith)) at (All-take (λ (k : Cond). is_met ns d k ≡ true) i (take (i + 1) xs) all) in
+          let here = λ (e : Cond). rw (get_or-take (i + 1) xs i e (omega arith)) at (all i e (omega (arith, length-take-le (i + 1) xs (omega arith)))) in
+          (rw c.if-not-branch.false at c.in_ok-learn.ensures.sound) d p (old.sound d p before) (here _);
       exact = λ plain d p a.
-        let k = c.in_ok-learn.ensures.only (plain i _ (omega arith)) (ap Ok c.if-not-branch.false) d p a in
-        All-more (λ (k : Cond). is_met ns d k ≡ true) xs i _ (omega arith) (old.exact plain d p k.0) k.1;
+          let k = c.in_ok-learn.ensures.only (plain i _ (omega arith)) (ap Ok c.if-not-branch.false) d p a in
+          All-more (λ (k : Cond). is_met ns d k ≡ true) xs i _ (omega arith) (old.exact plain d p k.0) k.1;
     }
 
 pub returns-clause-exact : goal.returns-clause-exact
