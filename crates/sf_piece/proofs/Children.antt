@@ -22,7 +22,7 @@ use Rattle.sf_dom.specs.Facts.{Known, Covers, Agrees}
 use Rattle.sf_piece.specs.declared.machine.Machine.{Machine}
 use Rattle.sf_piece.specs.Machines.{returned}
 use Rattle.sf_piece.specs.Pieces.{PieceData, is_member, is_prefix, IsTrulyNamed}
-use Rattle.sf_piece.specs.Works.{IsPending, StandsAt, IsPiece, Standing, IsEntry, AfterEntry, sensed, IsImplied, AreChildFacts, IsChild, IsOn, HasGone}
+use Rattle.sf_piece.specs.Works.{IsPending, StandsAt, IsPiece, IsLawfulPiece, Standing, IsEntry, AfterEntry, sensed, IsImplied, AreChildFacts, IsChild, IsOn, HasGone}
 use Rattle.sf_piece.proofs.Moves.{made}
 use Rattle.sf_piece.proofs.Kept.{assembled, returned_nodes, some_input}
 use Rattle.sf_piece.proofs.Entries.{Turned, Narrows, branch_turned, return_turned, zero_turned, nonzero_turned, entry_trace}
@@ -162,6 +162,9 @@ route_of p (code ∷ later) base pre s =
 
 pub piece_named : (p : PieceData) → IsPiece p → IsTrulyNamed p
 piece_named p h = record { route = route_of p h.rest h.base h.pre h.stands; members = h.members }
+
+pub lawful_piece : (p : PieceData) → IsPiece p → IsLawfulPiece p
+lawful_piece p h = record { named = piece_named p h; run = h }
 
 pub child_is : (p : PieceData) (i : Insn) (cond : Cond) (b : Bool) (m : Machine) (fs : Known) → IsPiece p → Standing p i → IsEntry p i cond → AreChildFacts p cond b fs → AfterEntry p i b m → IsChild p cond b (child_of p cond b m fs)
 child_is p i cond b m fs h s e facts after = record {

@@ -114,6 +114,11 @@ pub record IsPiece (p : PieceData) : Type 0 where
   pub pre : List Bool
   pub stands : StandsAt p rest base pre
 
+-- what the type of pieces keeps: the name is true, and the symbolic run stands where it should
+pub record IsLawfulPiece (p : PieceData) : Type 0 where
+  pub named : IsTrulyNamed p
+  pub run : IsPiece p
+
 -- ---- for the functions that work a piece
 
 -- what is left to do at most
