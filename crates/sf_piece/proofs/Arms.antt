@@ -15,7 +15,8 @@ use Rattle.sf_sym.specs.Pool.{value_of, values_of, node_value}
 use Rattle.sf_dom.specs.Facts.{Known}
 use Rattle.sf_piece.specs.declared.machine.Machine.{Machine}
 use Rattle.sf_piece.specs.Pieces.{PieceData, is_member}
-use Rattle.sf_piece.specs.Works.{valued, AreNodesBelow, Standing, Goes, GoesBy, SetsA, SetsX, IsPushed}
+use Rattle.sf_piece.specs.SymbolicRun.{valued, AreNodesBelow}
+use Rattle.sf_piece.specs.Works.{Standing, Goes, GoesBy, SetsA, SetsX, IsPushed}
 
 abbrev on_a : Machine → NodeId → Machine
 on_a m id = record m { a = id; place = m.place + 1; taken = 0; value = 0 }

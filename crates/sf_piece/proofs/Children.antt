@@ -22,7 +22,8 @@ use Rattle.sf_dom.specs.Facts.{Known, Covers, Agrees}
 use Rattle.sf_piece.specs.declared.machine.Machine.{Machine}
 use Rattle.sf_piece.specs.Machines.{returned}
 use Rattle.sf_piece.specs.Pieces.{PieceData, is_member, is_prefix, IsTrulyNamed}
-use Rattle.sf_piece.specs.Works.{IsPending, StandsAt, IsPiece, IsLawfulPiece, Standing, IsEntry, AfterEntry, sensed, IsImplied, AreChildFacts, IsChild, IsOn, HasGone}
+use Rattle.sf_piece.specs.SymbolicRun.{IsPending, StandsAt, IsPiece, IsLawfulPiece}
+use Rattle.sf_piece.specs.Works.{Standing, IsEntry, AfterEntry, sensed, IsImplied, AreChildFacts, IsChild, IsOn, HasGone}
 use Rattle.sf_piece.proofs.Moves.{made}
 use Rattle.sf_piece.proofs.Kept.{assembled, returned_nodes, some_input}
 use Rattle.sf_piece.proofs.Entries.{Turned, Narrows, branch_turned, return_turned, zero_turned, nonzero_turned, entry_trace}

@@ -27,7 +27,8 @@ use Rattle.sf_sym.specs.ValueLaws.{value-older}
 use Rattle.sf_dom.specs.Facts.{Known, Covers, Agrees, TakesIn, NoneAgrees}
 use Rattle.sf_piece.specs.declared.machine.Machine.{Machine}
 use Rattle.sf_piece.specs.Pieces.{PieceData, is_member, is_prefix, HasNoMember, IsRightAnswer, IsRoot}
-use Rattle.sf_piece.specs.Works.{valued, met_of, IsPending, IsIn, InProgram, HasTaken, RunsOn, Follows, AreNodesBelow, StandsAt, IsPiece, Standing, IsPushed}
+use Rattle.sf_piece.specs.SymbolicRun.{valued, met_of, IsPending, IsIn, InProgram, HasTaken, RunsOn, Follows, AreNodesBelow, StandsAt, IsPiece}
+use Rattle.sf_piece.specs.Works.{Standing, IsPushed}
 use Rattle.sf_piece.proofs.Valued.{valued_grown, all_grown, below_grown}
 use Rattle.sf_piece.proofs.Children.{piece_named}
 

@@ -26,7 +26,8 @@ use Rattle.sf_dom.specs.Facts.{Known, Covers, Agrees}
 use Rattle.sf_piece.specs.declared.machine.Machine.{Machine}
 use Rattle.sf_piece.specs.Machines.{returned}
 use Rattle.sf_piece.specs.Pieces.{PieceData, is_member, is_prefix}
-use Rattle.sf_piece.specs.Works.{valued, met_of, number_from, IsPending, AreNodesBelow, StandsAt, IsPiece, Standing, Goes, GoesBy, ReturnsNow, HasGone, IsOn, left}
+use Rattle.sf_piece.specs.SymbolicRun.{valued, met_of, number_from, IsPending, AreNodesBelow, StandsAt, IsPiece}
+use Rattle.sf_piece.specs.Works.{Standing, Goes, GoesBy, ReturnsNow, HasGone, IsOn, left}
 use Rattle.sf_piece.proofs.Moves.{made, stands_moved, stands_returned}
 
 pub at_same : (code : List Insn) (place : ℕ) (i j : Insn) → IsAt code place i → IsAt code place j → i ≡ j

@@ -26,7 +26,8 @@ use Rattle.sf_sym.specs.Pool.{IsPool, value_of}
 use Rattle.sf_dom.specs.Facts.{Known, Covers, Agrees}
 use Rattle.sf_piece.specs.declared.machine.Machine.{Machine}
 use Rattle.sf_piece.specs.Pieces.{PieceData, is_member, is_prefix, IsRightAnswer, IsRoot}
-use Rattle.sf_piece.specs.Works.{valued, met_of, number_from, IsPending, InProgram, HasTaken, RouteFrom, RunsOn, Follows, AreNodesBelow, StandsAt, IsPiece, Standing}
+use Rattle.sf_piece.specs.SymbolicRun.{valued, met_of, number_from, IsPending, InProgram, HasTaken, RouteFrom, RunsOn, Follows, AreNodesBelow, StandsAt, IsPiece}
+use Rattle.sf_piece.specs.Works.{Standing}
 use Rattle.sf_piece.proofs.Moves.{runs_whole}
 use Rattle.sf_piece.proofs.Kept.{some_input}
 use Rattle.sf_piece.proofs.Children.{piece_named}

@@ -12,7 +12,7 @@ use Rattle.sf_sym.specs.ValueLaws.{value-older}
 use Rattle.sf_insn.specs.Words.{passes}
 use Rattle.sf_piece.specs.declared.machine.Machine.{Machine}
 use Rattle.sf_piece.specs.Pieces.{PieceData, is_member}
-use Rattle.sf_piece.specs.Works.{valued, AreNodesBelow}
+use Rattle.sf_piece.specs.SymbolicRun.{valued, AreNodesBelow}
 
 pub scratch_same : (ws : List (Option NodeId)) (f g : NodeId → ℕ) → ((k : ℕ) (w : NodeId) → slice_get ws k ≡ Some (Some w) → f w ≡ g w) → map (option_map f) ws ≡ map (option_map g) ws
 scratch_same [] f g h = refl

@@ -9,7 +9,7 @@ ghost use Rattle.sf_piece.specs.Turns.{IsTurn};
 use crate::fault::Fault;
 use crate::machine::Machine;
 use crate::piece::Piece;
-use crate::stepping::{Met, step};
+use crate::walking::{Met, step};
 use sf_check::Insn;
 use sf_dom::Facts;
 use sf_run::Answer;
@@ -154,6 +154,6 @@ pub(crate) fn work_once(alloc: Global, piece: Piece) -> Result<Turn, Fault>
         Met::Done(piece) => Ok(Turn::On(piece)),
         Met::Entry(piece, insn, cond) => decide(alloc, piece, insn, cond),
         Met::End(name, answer) => Ok(Turn::Settled(name, answer)),
-        Met::Nothing => Ok(Turn::Empty),
+        Met::Contradiction => Ok(Turn::Empty),
     }
 }
