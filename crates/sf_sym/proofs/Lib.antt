@@ -1,0 +1,2 @@
+pub mod IndexLemmas
+mod Folds

@@ -1,3 +1,4 @@
 pub mod Pool
+pub mod Index
 pub mod ValueLaws
 pub mod SizeLaws

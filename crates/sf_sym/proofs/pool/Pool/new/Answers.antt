@@ -1,19 +1,22 @@
-use Rattle.std.proofs.Common.{rules, ◌≡◌, ℕ, ◌+◌, ◌<◌, length, List, [], ◌∷◌, ◌++◌, arith, below_more, ◌∙◌, ap}
+use Rattle.std.proofs.Common.{◌≡◌, ◌<◌, length, [], ◌∷◌, ◌++◌, arith, below_more, ◌∙◌}
 use Rattle.std.proofs.lemmas.List.{length_push, get_or_append_left, get_or_push}
 use Rattle.sf_sym.specs.ValueLaws.{AreOrdered-push}
-use Rattle.sf_sym.specs.Pool.{IsPool, node_at, AreOrdered}
+use Rattle.sf_sym.specs.Pool.{node_at}
+use Rattle.sf_sym.specs.Index.{nodes_of}
 use Rattle.sf_sym.specs.declared.pool.Node.TheVariants.{Const, Word}
 use Rattle.sf_sym.proofs.pool.Pool.new.Goals as goal
 
 pub loop-i-preserved : goal.loop-i-preserved
 loop-i-preserved c =
-    let ns = c.loop-i.nodes.items in
+    let ns = nodes_of c.loop-i.entries in
     let i = c.loop-i.i in
     let old = c.loop-i.invariant in
-    rw c.in_ok-push.ensures.items (record {
-      count = length_push ns (Word i) ∙ omega arith;
-      word = below_more (λ k. node_at (ns ++ Word i ∷ []) k ≡ Word k) i
+    let nodes = c.in_ok-add.ensures.ok in
+    record {
+      count = rw nodes (length_push ns (Word i) ∙ omega arith);
+      word = rw nodes (below_more (λ k. node_at (ns ++ Word i ∷ []) k ≡ Word k) i
           (λ k h. let l : k < length ns = omega arith in get_or_append_left ns (Word i ∷ []) (Const 0) k l ∙ old.word k h)
-          (get_or_push ns (Word i) (Const 0) i old.count);
-      ordered = AreOrdered-push 0 ns (Word i) old.ordered (omega arith);
-    })
+          (get_or_push ns (Word i) (Const 0) i old.count));
+      ordered = rw nodes (AreOrdered-push 0 ns (Word i) old.ordered (omega arith));
+      indexed = c.in_ok-add.ensures.indexed;
+    }

@@ -1,6 +1,5 @@
-use Rattle.std.proofs.Common.{◌≡◌, ℕ, ◌+◌, ◌<◌, ◌≤◌, length, take, List, [], ◌∷◌, ◌++◌, arith, ap, sym, refl, ◌∙◌}
+use Rattle.std.proofs.Common.{◌≡◌, length, arith, ap, ◌∙◌}
 use Rattle.sf_sym.specs.ValueLaws.{values_of-more, value-last, length-values_of}
-use Rattle.sf_sym.specs.Pool.{OperandsBelow, node_at, node_value, values_of, value_of}
 use Rattle.sf_sym.proofs.pool.Pool.value.Goals as goal
 
 pub compute-value-requires : goal.compute-value-requires
