@@ -9,7 +9,7 @@ use Rattle.std.proofs.lemmas.Option.{same_Some}
 use Rattle.sf_check.specs.declared.insn.Insn.{Insn}
 use Rattle.sf_check.specs.Insns.{stored_by, loaded_by, successors}
 use Rattle.sf_check.specs.Programs.{AllBelow, IsAt, Leads, IsPath, Stores, IsSetAt, IsUnsetAt}
-use Rattle.sf_check.specs.Masks.{met_at}
+use Rattle.sf_check.specs.Masks.{narrowed}
 use Rattle.sf_check.specs.ProgramLaws.{successor_after}
 use Rattle.sf_check.specs.MemberLaws.{contains_cons, contains_here, contains_there, contains_nil, any_nil, any_here, any_there, any_cons}
 
@@ -41,12 +41,12 @@ met_same ms p s k lt = ap (λ (n : ℕ). bit_at n k) (get_or-set_same ms p (bit_
 met_other : (ms : List ℕ) (p s k q : ℕ) → (q ≡ p → ⊥) → bit_at (get_or (set ms p (bit_and (get_or ms p 0) s)) q 0) k ≡ bit_at (get_or ms q 0) k
 met_other ms p s k q ne = ap (λ (n : ℕ). bit_at n k) (get_or-set_other ms p q (bit_and (get_or ms p 0) s) 0 ne)
 
-pub length-met_at : (qs : List ℕ) (s : ℕ) (ms : List ℕ) → length (met_at qs s ms) ≡ length ms
-length-met_at [] s ms = refl
-length-met_at (p ∷ qs) s ms = length-met_at qs s (set ms p (bit_and (get_or ms p 0) s)) ∙ length-set ms p (bit_and (get_or ms p 0) s)
+pub length-narrowed : (qs : List ℕ) (s : ℕ) (ms : List ℕ) → length (narrowed qs s ms) ≡ length ms
+length-narrowed [] s ms = refl
+length-narrowed (p ∷ qs) s ms = length-narrowed qs s (set ms p (bit_and (get_or ms p 0) s)) ∙ length-set ms p (bit_and (get_or ms p 0) s)
 
 -- no bit is added
-met_keeps : (n : ℕ) (qs : List ℕ) (s : ℕ) (ms : List ℕ) (q k : ℕ) → length ms ≡ n → AllBelow n qs → bit_at (get_or (met_at qs s ms) q 0) k ≡ 1 → bit_at (get_or ms q 0) k ≡ 1
+met_keeps : (n : ℕ) (qs : List ℕ) (s : ℕ) (ms : List ℕ) (q k : ℕ) → length ms ≡ n → AllBelow n qs → bit_at (get_or (narrowed qs s ms) q 0) k ≡ 1 → bit_at (get_or ms q 0) k ≡ 1
 met_keeps n [] s ms q k len below h = h
 met_keeps n (p ∷ qs) s ms q k len below h =
     let later = met_keeps n qs s (set ms p (bit_and (get_or ms p 0) s)) q k (length-set ms p (bit_and (get_or ms p 0) s) ∙ len) below.1 h in
@@ -61,7 +61,7 @@ met_keeps n (p ∷ qs) s ms q k len below h =
         rw e (omega (arith, met_same ms p s k (omega (arith, below.0)), there, bit_at-lt (get_or ms p 0) k, bit_at-lt s k))
 
 -- a bit that stays at a place that is met is in the set
-met_adds : (n : ℕ) (qs : List ℕ) (s : ℕ) (ms : List ℕ) (q k : ℕ) → length ms ≡ n → AllBelow n qs → Contains qs q → bit_at (get_or (met_at qs s ms) q 0) k ≡ 1 → bit_at s k ≡ 1
+met_adds : (n : ℕ) (qs : List ℕ) (s : ℕ) (ms : List ℕ) (q k : ℕ) → length ms ≡ n → AllBelow n qs → Contains qs q → bit_at (get_or (narrowed qs s ms) q 0) k ≡ 1 → bit_at s k ≡ 1
 met_adds n [] s ms q k len below c h = absurd (contains_nil q c)
 met_adds n (p ∷ qs) s ms q k len below c h =
     let len' = length-set ms p (bit_and (get_or ms p 0) s) ∙ len in
@@ -76,7 +76,7 @@ met_adds n (p ∷ qs) s ms q k len below c h =
         omega (arith, met_same ms p s k (omega (arith, below.0)), there, bit_at-lt (get_or ms p 0) k, bit_at-lt s k)
 
 -- a bit that is clear was clear, or is met with a set without it
-met_clear : (n : ℕ) (qs : List ℕ) (s : ℕ) (ms : List ℕ) (q k : ℕ) → length ms ≡ n → AllBelow n qs → bit_at (get_or (met_at qs s ms) q 0) k ≡ 0 → (bit_at (get_or ms q 0) k ≡ 0) ⊎ (Contains qs q × (bit_at s k ≡ 0))
+met_clear : (n : ℕ) (qs : List ℕ) (s : ℕ) (ms : List ℕ) (q k : ℕ) → length ms ≡ n → AllBelow n qs → bit_at (get_or (narrowed qs s ms) q 0) k ≡ 0 → (bit_at (get_or ms q 0) k ≡ 0) ⊎ (Contains qs q × (bit_at s k ≡ 0))
 met_clear n [] s ms q k len below h = inl h
 met_clear n (p ∷ qs) s ms q k len below h =
     elim (met_clear n qs s (set ms p (bit_and (get_or ms p 0) s)) q k (length-set ms p (bit_and (get_or ms p 0) s) ∙ len) below.1 h) [
@@ -160,9 +160,9 @@ load_is_unset code masks place i k known lt at small loads z =
     let found = known.complete place k lt small z in
     (k, found.0, (i, at, loads), found.1, found.2)
 
-pub known_step : (code : List Insn) (masks : List ℕ) (place : ℕ) (i : Insn) (after : ℕ) → Known code masks place → place < length code → IsAt code place i → AllBelow (length code) (successors place i) → ((k : ℕ) → loaded_by i ≡ Some k → bit_at (get_or masks place 0) k ≡ 1) → ((k : ℕ) → bit_at (get_or masks place 0) k ≡ 1 → bit_at after k ≡ 1) → ((k : ℕ) → stored_by i ≡ Some k → bit_at after k ≡ 1) → ((k : ℕ) → bit_at after k ≡ 1 → bit_at (get_or masks place 0) k ≡ 0 → stored_by i ≡ Some k) → Known code (met_at (successors place i) after masks) (place + 1)
+pub known_step : (code : List Insn) (masks : List ℕ) (place : ℕ) (i : Insn) (after : ℕ) → Known code masks place → place < length code → IsAt code place i → AllBelow (length code) (successors place i) → ((k : ℕ) → loaded_by i ≡ Some k → bit_at (get_or masks place 0) k ≡ 1) → ((k : ℕ) → bit_at (get_or masks place 0) k ≡ 1 → bit_at after k ≡ 1) → ((k : ℕ) → stored_by i ≡ Some k → bit_at after k ≡ 1) → ((k : ℕ) → bit_at after k ≡ 1 → bit_at (get_or masks place 0) k ≡ 0 → stored_by i ≡ Some k) → Known code (narrowed (successors place i) after masks) (place + 1)
 known_step code masks place i after known lt at inside fine more stored only = record {
-  size = length-met_at (successors place i) after masks ∙ known.size;
+  size = length-narrowed (successors place i) after masks ∙ known.size;
   sound = sound;
   complete = λ q k q-lt small z. complete q k q-lt small (met_clear (length code) (successors place i) after masks q k known.size inside z);
   all_set = λ j j-lt. all_set j (cases_eq j place) j-lt;
@@ -179,7 +179,7 @@ known_step code masks place i after known lt at inside fine more stored only = r
     here : (q : ℕ) → Leads code place q → Contains (successors place i) q
     here q leads = subst (λ (j : Insn). Contains (successors place j) q) (same_Some leads.0 i (sym leads.1 ∙ at)) leads.2
 
-    sound : (q k : ℕ) (earlier : List ℕ) → bit_at (get_or (met_at (successors place i) after masks) q 0) k ≡ 1 → ComesFromBelow (place + 1) earlier → IsPath code (q ∷ earlier) → Any (Stores code k) earlier
+    sound : (q k : ℕ) (earlier : List ℕ) → bit_at (get_or (narrowed (successors place i) after masks) q 0) k ≡ 1 → ComesFromBelow (place + 1) earlier → IsPath code (q ∷ earlier) → Any (Stores code k) earlier
     sound q k [] h below path = known.sound q k [] (met_keeps (length code) (successors place i) after masks q k known.size inside h) tt path
     sound q k (p ∷ earlier) h below path = from (cases_eq p place)
       where

@@ -1,2 +1,2 @@
+pub mod Meeting
 pub mod Steps
-pub mod Newest

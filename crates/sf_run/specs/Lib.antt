@@ -1,6 +1,9 @@
 pub mod Machine
 pub mod Answers
 pub mod Code
+pub mod Feasible
+pub mod FeasibleLaws
+pub mod Numbers
 pub mod RunLaws
 pub mod Routes
 pub mod RouteLaws

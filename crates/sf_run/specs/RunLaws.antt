@@ -16,7 +16,7 @@ use Rattle.sf_check.specs.Insns.{stored_by, loaded_by, successors, IsInRange}
 use Rattle.sf_check.specs.Programs.{IsAt, IsPath, Stores, IsLawful}
 use Rattle.sf_check.specs.MemberLaws.{contains_here, contains_there, any_nil, any_cons}
 use Rattle.sf_check.specs.ProgramLaws.{successor_after, successors_inside, below_in}
-use Rattle.sf_run.specs.Machine.{State, Progress, goes, returns, stuck, start, operand_of, loaded, operated, tested, executed, step, Outcome, continued, run_for, outcome_of, return_of, with_a, with_x}
+use Rattle.sf_run.specs.Machine.{State, Progress, goes, returns, stuck, start, operand_of, loaded, operated, tested, executed, step, Outcome, continued, run_for, outcome_of, return_of, met_by, with_a, with_x}
 
 -- ---- one end
 
@@ -245,19 +245,23 @@ pub lawful_ends : (code : List Insn) (d : Input) → IsLawful code → IsSome (o
 unfolding outcome_of
 lawful_ends code d lawful = ends_from (length code) code d start lawful (safe_start code lawful.some) (omega arith)
 
-abbrev value : List Bool × ℕ → ℕ
-value o = o.1
-
--- the value that any run from the start comes to is that of the program
-pub value_is : (n : ℕ) (code : List Insn) (d : Input) (o : List Bool × ℕ) → IsLawful code → run_for n code d start ≡ Some o → o.1 ≡ return_of code d
+-- any run from the start that comes to an end is that of the program
+pub outcome_is : (n : ℕ) (code : List Insn) (d : Input) (o : List Bool × ℕ) → IsLawful code → run_for n code d start ≡ Some o → outcome_of code d ≡ Some o
 unfolding outcome_of
-value_is n code d o lawful e = by (outcome_of code d) refl (lawful_ends code d lawful)
+outcome_is n code d o lawful e = by (outcome_of code d) refl (lawful_ends code d lawful)
   where
-    by : (r : Outcome) → outcome_of code d ≡ r → IsSome r → o.1 ≡ return_of code d
+    by : (r : Outcome) → outcome_of code d ≡ r → IsSome r → outcome_of code d ≡ Some o
     by None e' some = absurd cc
     by (Some o') e' some =
         let same : o ≡ o' = run_same n (length code) code d start o o' e e' in
-        rw e' (ap value same)
+        rw e' (ap (λ (p : List Bool × ℕ). Some p) (sym same))
+
+-- so it returns the program's value, and meets what the program meets
+pub value_is : (n : ℕ) (code : List Insn) (d : Input) (o : List Bool × ℕ) → IsLawful code → run_for n code d start ≡ Some o → o.1 ≡ return_of code d
+value_is n code d o lawful e = rw (outcome_is n code d o lawful e) refl
+
+pub met_is : (n : ℕ) (code : List Insn) (d : Input) (o : List Bool × ℕ) → IsLawful code → run_for n code d start ≡ Some o → o.0 ≡ met_by code d
+met_is n code d o lawful e = rw (outcome_is n code d o lawful e) refl
 
 -- a run goes on by a step
 pub run_more : (n : ℕ) (code : List Insn) (d : Input) (s : State) (i : Insn) (met : List Bool) (next : State) (o : List Bool × ℕ) → IsAt code s.place i → executed d s i ≡ goes met next → run_for n code d next ≡ Some o → run_for (suc n) code d s ≡ Some (met ++ o.0, o.1)

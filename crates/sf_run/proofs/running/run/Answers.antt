@@ -12,7 +12,10 @@ pub loop-next-init : goal.loop-next-init
 loop-next-init c =
     let code = c.insns-code.result.now in
     let lawful : IsLawful code = subst IsLawful (sym c.insns-code.ensures.same) c.insns-code.ensures.lawful in
-    record { safe = safe_start code lawful.some; same = λ n o e. value_is n code c.args.input.now o lawful e }
+    record {
+      safe = rw c.start-machine.ensures (safe_start code lawful.some);
+      same = λ n o e. value_is n code c.args.input.now o lawful (rw c.start-machine.ensures at e);
+    }
 
 pub execute-requires-clause-in_range : goal.execute-requires-clause-in_range
 execute-requires-clause-in_range c =

@@ -1,5 +1,5 @@
 use Rattle.sf_run.specs.AnswerLaws.{one}
-use Rattle.sf_run.proofs.answering.one_answer.Goals as goal
+use Rattle.sf_run.proofs.laws.one_answer.Goals as goal
 
 pub returns : goal.returns
 returns c = one

@@ -1,5 +1,5 @@
 use Rattle.sf_run.specs.RunLaws.{lawful_ends}
-use Rattle.sf_run.proofs.running.lawful_programs_return.Goals as goal
+use Rattle.sf_run.proofs.laws.lawful_programs_return.Goals as goal
 
 pub returns : goal.returns
 returns c = lawful_ends

@@ -1,0 +1,5 @@
+use Rattle.sf_check.proofs.FirstFaults.{one_fault}
+use Rattle.sf_check.proofs.laws.one_first_fault.Goals as goal
+
+pub returns : goal.returns
+returns c = one_fault

@@ -1,0 +1,5 @@
+use Rattle.sf_check.proofs.Spelled.{one_spelled}
+use Rattle.sf_check.proofs.laws.one_program.Goals as goal
+
+pub returns : goal.returns
+returns c = one_spelled

@@ -1,0 +1,24 @@
+//! Laws of the definitions, each the contract of a function that does nothing.
+
+ghost use Rattle.std.specs.Prelude.{◌≡◌, List};
+ghost use Rattle.sf_insn.specs.declared.raw.RawInsn.{RawInsn};
+ghost use Rattle.sf_check.specs.declared.insn.Insn.{Insn};
+ghost use Rattle.sf_check.specs.declared.fault.Fault.{Fault};
+ghost use Rattle.sf_check.specs.Programs.{IsLawful, Spells};
+ghost use Rattle.sf_check.specs.Refusals.{IsFirstFault};
+
+/// Instructions spell at most one program.
+pub fn one_program()
+    ensures { (raws : List RawInsn) (a b : List Insn) → Spells raws a → Spells raws b → a ≡ b }
+{}
+
+/// Instructions with a first fault spell no lawful program, so `check` accepts exactly those that spell one.
+pub fn a_fault_spells_no_lawful_program()
+    ensures { (raws : List RawInsn) (e : Fault) (code : List Insn) →
+        IsFirstFault raws e → Spells raws code → IsLawful code → ⊥ }
+{}
+
+/// Instructions have at most one first fault, so `check` tells the only one.
+pub fn one_first_fault()
+    ensures { (raws : List RawInsn) (e f : Fault) → IsFirstFault raws e → IsFirstFault raws f → e ≡ f }
+{}

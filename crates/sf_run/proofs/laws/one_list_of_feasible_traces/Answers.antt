@@ -1,0 +1,5 @@
+use Rattle.sf_run.specs.FeasibleLaws.{one_list}
+use Rattle.sf_run.proofs.laws.one_list_of_feasible_traces.Goals as goal
+
+pub returns : goal.returns
+returns c = one_list

@@ -1,0 +1,7 @@
+-- The numbers under which faults are reported.
+use Rattle.std.specs.Prelude.{ℕ}
+use Rattle.sf_run.specs.declared.fault.Fault.{Fault}
+use Rattle.sf_run.specs.declared.fault.Fault.TheVariants.{Memory}
+
+abbrev pub fault_number : Fault → ℕ
+fault_number Memory = 60

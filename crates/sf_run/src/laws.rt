@@ -1,0 +1,46 @@
+//! Laws of the definitions, each the contract of a function that does nothing.
+
+ghost use Rattle.std.specs.Prelude.{◌≡◌, ◌+◌, ◌*◌, ◌≤◌, ℕ, Bool, List, ◌++◌, length, IsSome};
+ghost use Rattle.sf_insn.specs.declared.input.Input.{Input};
+ghost use Rattle.sf_check.specs.declared.insn.Insn.{Insn};
+ghost use Rattle.sf_check.specs.Programs.{IsLawful};
+ghost use Rattle.sf_check.specs.Stacks.{IsLawfulStack};
+ghost use Rattle.sf_run.specs.declared.action.Answer.{Answer};
+ghost use Rattle.sf_run.specs.Machine.{outcome_of, trace_of};
+ghost use Rattle.sf_run.specs.Answers.{IsAnswer};
+ghost use Rattle.sf_run.specs.Routes.{IsWholeRoute};
+ghost use Rattle.sf_run.specs.Feasible.{AreFeasibleTraces};
+
+/// The machine is never stuck in a lawful program, and comes to a return.
+pub fn lawful_programs_return()
+    ensures { (code : List Insn) (d : Input) → IsLawful code → IsSome (outcome_of code d) }
+{}
+
+/// Return values make at most one answer.
+pub fn one_answer()
+    ensures { (values : List ℕ) (a b : Answer) → IsAnswer values a → IsAnswer values b → a ≡ b }
+{}
+
+/// Each trace is a whole route.
+pub fn traces_are_whole_routes()
+    ensures { (programs : List (List Insn)) (d : Input) →
+        IsLawfulStack programs → IsWholeRoute programs (trace_of programs d) }
+{}
+
+/// No whole route begins another.
+pub fn no_whole_route_begins_another()
+    ensures { (programs : List (List Insn)) (a b more : List Bool) →
+        IsWholeRoute programs a → IsWholeRoute programs b → a ++ more ≡ b → a ≡ b }
+{}
+
+/// A trace of a lawful stack has at most 32768 + 32 * 64 truth values.
+pub fn traces_are_short()
+    ensures { (programs : List (List Insn)) (d : Input) →
+        IsLawfulStack programs → length (trace_of programs d) ≤ 32768 + 32 * 64 }
+{}
+
+/// A stack has at most one list of feasible traces.
+pub fn one_list_of_feasible_traces()
+    ensures { (programs : List (List Insn)) (a b : List (List Bool)) →
+        AreFeasibleTraces programs a → AreFeasibleTraces programs b → a ≡ b }
+{}

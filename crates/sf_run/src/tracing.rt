@@ -1,0 +1,70 @@
+//! The truth values that a stack meets on one input.
+
+ghost use Rattle.std.specs.Prelude.{◌≡◌, ◌++◌, IfOk, OnOk, MatchResult};
+ghost use Rattle.sf_run.specs.Machine.{bits, met_by, trace_of};
+ghost use Rattle.sf_run.specs.Code.{met_at, state_of};
+
+use crate::fault::Fault;
+use crate::machine::{Machine, Next, execute, operand};
+use sf_check::{Insn, Operand, Program, Stack};
+use sf_insn::{BinOp, Input};
+use std::alloc::Global;
+
+// Adds the bits of a word, the highest first.
+fn push_bits(met: &mut Vec<bool>, word: u32) -> Result<(), Fault>
+    ensures pushed { OnOk result (met.new.items ≡ met.old.items ++ bits 32 word) }
+    ensures only { MatchResult result (λ _. Unit {0}) (λ e. e ≡ Fault.Memory) }
+{
+    for i in 0..32u32 {
+        met.push((word >> (31 - i)) & 1 == 1)?;
+    }
+    Ok(())
+}
+
+// Adds the truth values that the instruction meets.
+fn push_met(met: &mut Vec<bool>, machine: &Machine, insn: &Insn) -> Result<(), Fault>
+    ensures pushed { OnOk result (met.new.items ≡ met.old.items ++ met_at (state_of 0 machine.now) insn.now) }
+    ensures only { MatchResult result (λ _. Unit {0}) (λ e. e ≡ Fault.Memory) }
+{
+    match insn {
+        Insn::Branch(test, other, _, _) => {
+            met.push(test.passes(machine.a, operand(machine, *other)))?;
+        }
+        Insn::Alu(BinOp::Div, Operand::X) => met.push(machine.x == 0)?,
+        Insn::ReturnA => push_bits(met, machine.a)?,
+        _ => {}
+    }
+    Ok(())
+}
+
+// Adds the truth values that the program meets.
+fn push_program(met: &mut Vec<bool>, program: &Program, input: &Input) -> Result<(), Fault>
+    ensures pushed { OnOk result (met.new.items ≡ met.old.items ++ met_by program.now input.now) }
+    ensures only { MatchResult result (λ _. Unit {0}) (λ e. e ≡ Fault.Memory) }
+{
+    let code = program.insns();
+    let mut machine = Machine::start();
+    let mut place = 0;
+    loop {
+        let insn = &code[place];
+        push_met(met, &machine, insn)?;
+        match execute(&mut machine, input, place, insn) {
+            Next::Goes(next) => place = next,
+            Next::Returns(_) => return Ok(()),
+        }
+    }
+}
+
+/// The truth values that the stack meets on the input, newest program first: the result of each conditional test; at
+/// each division by X whether X is 0; at each return of A the 32 bits of A, the highest first. At most 32768 + 32 * 64
+/// of them. `Memory` comes only where a growth was refused.
+pub fn trace(alloc: Global, stack: &Stack, input: &Input) -> Result<Vec<bool>, Fault>
+    ensures met { IfOk result (λ v. v.items ≡ trace_of stack.now input.now) }
+    ensures only { MatchResult result (λ _. Unit {0}) (λ e. e ≡ Fault.Memory) }
+{
+    let mut met = Vec::new(alloc);
+    for program in stack.programs().iter().rev() {
+        push_program(&mut met, program, input)?;
+    }
+    Ok(met)
+}
