@@ -1,0 +1,11 @@
+pub mod Bits
+pub mod Rounds
+pub mod ForwardLemmas
+pub mod Passes
+pub mod Halves
+pub mod CommonBits
+pub mod Settles
+pub mod Gives
+pub mod Sampled
+pub mod Masks
+pub mod Taken

@@ -18,10 +18,12 @@ use Rattle.sf_run.specs.CompletionLaws.{some_way}
 use Rattle.sf_sym.specs.declared.pool.Node.{Node}
 use Rattle.sf_sym.specs.declared.pool.Cond.{Cond}
 use Rattle.sf_sym.specs.Pool.{value_of, is_met, same, IsCondBelow}
-use Rattle.sf_dom.specs.Facts.{Known, Covers, Agrees}
+use Rattle.sf_dom.specs.Facts.{FactsView, Covers, Agrees}
 use Rattle.sf_piece.specs.declared.machine.Machine.{Machine}
 use Rattle.sf_piece.specs.Machines.{returned}
 use Rattle.sf_piece.specs.Pieces.{PieceData, is_member, is_prefix, IsTrulyNamed}
+use Rattle.sf_check.specs.Stacks.{IsPlain}
+use Rattle.sf_piece.specs.PlainPieces.{IsPlainPiece}
 use Rattle.sf_piece.specs.SymbolicRun.{IsPending, StandsAt, IsPiece, IsLawfulPiece}
 use Rattle.sf_piece.specs.Works.{Standing, IsEntry, AfterEntry, sensed, IsImplied, AreChildFacts, IsChild, IsOn, HasGone}
 use Rattle.sf_piece.proofs.Moves.{made}
@@ -31,7 +33,7 @@ use Rattle.sf_piece.proofs.Prefixes.{prefix_next, same-true, same-refl, and-true
 
 -- ---- after any entry
 
-turned : (p : PieceData) (i : Insn) (cond : Cond) (b : Bool) (cs : List Cond) (fs : Known) (m : Machine) → IsPiece p → Standing p i → IsEntry p i cond → AfterEntry p i b m → Narrows p cs cond b
+turned : (p : PieceData) (i : Insn) (cond : Cond) (b : Bool) (cs : List Cond) (fs : FactsView) (m : Machine) → IsPiece p → Standing p i → IsEntry p i cond → AfterEntry p i b m → Narrows p cs cond b
     → Turned p (made p (p.name ++ b ∷ []) cs m fs)
 turned p (Branch test other t f) cond b cs fs m h s e after narrow =
     subst (λ (k : Machine). Turned p (made p (p.name ++ b ∷ []) cs k fs)) (sym after) (branch_turned p test other t f cond b cs fs h s e narrow)
@@ -101,23 +103,23 @@ below_push : (n : ℕ) (cs : List Cond) (c : Cond) → AllByRecursion (IsCondBel
 below_push n [] c b h = (h, tt)
 below_push n (x ∷ cs) c b h = (b.0, below_push n cs c b.1 h)
 
-abbrev pub child_of : PieceData → Cond → Bool → Machine → Known → PieceData
+abbrev pub child_of : PieceData → Cond → Bool → Machine → FactsView → PieceData
 child_of p cond b m fs = made p (p.name ++ b ∷ []) (p.conditions ++ sensed cond b ∷ []) m fs
 
-child_members : (p : PieceData) (cond : Cond) (b : Bool) (m : Machine) (fs : Known) (d : Input) → is_member (child_of p cond b m fs) d ≡ (is_member p d && is_met p.pool d (sensed cond b))
+pub child_members : (p : PieceData) (cond : Cond) (b : Bool) (m : Machine) (fs : FactsView) (d : Input) → is_member (child_of p cond b m fs) d ≡ (is_member p d && is_met p.pool d (sensed cond b))
 unfolding is_member
 child_members p cond b m fs d = all_push (is_met p.pool d) p.conditions (sensed cond b)
 
-child_both : (p : PieceData) (cond : Cond) (b : Bool) (m : Machine) (fs : Known) (d : Input) → is_member (child_of p cond b m fs) d ≡ true → (is_member p d ≡ true) × (is_met p.pool d (sensed cond b) ≡ true)
+child_both : (p : PieceData) (cond : Cond) (b : Bool) (m : Machine) (fs : FactsView) (d : Input) → is_member (child_of p cond b m fs) d ≡ true → (is_member p d ≡ true) × (is_met p.pool d (sensed cond b) ≡ true)
 child_both p cond b m fs d member = and-true (is_member p d) (is_met p.pool d (sensed cond b)) (sym (child_members p cond b m fs d) ∙ member)
 
-child_narrows : (p : PieceData) (cond : Cond) (b : Bool) (m : Machine) (fs : Known) → cond.sense ≡ true → Narrows p (p.conditions ++ sensed cond b ∷ []) cond b
+child_narrows : (p : PieceData) (cond : Cond) (b : Bool) (m : Machine) (fs : FactsView) → cond.sense ≡ true → Narrows p (p.conditions ++ sensed cond b ∷ []) cond b
 unfolding is_member
 child_narrows p cond b m fs sense d inp member =
     let both = child_both p cond b m fs d member in
     (both.0, same-true (is_met p.pool d cond) b (sym (sense_is p.pool d cond b sense) ∙ both.1))
 
-pub child_piece : (p : PieceData) (i : Insn) (cond : Cond) (b : Bool) (m : Machine) (fs : Known) → IsPiece p → Standing p i → IsEntry p i cond → AreChildFacts p cond b fs → AfterEntry p i b m → IsPiece (child_of p cond b m fs)
+pub child_piece : (p : PieceData) (i : Insn) (cond : Cond) (b : Bool) (m : Machine) (fs : FactsView) → IsPiece p → Standing p i → IsEntry p i cond → AreChildFacts p cond b fs → AfterEntry p i b m → IsPiece (child_of p cond b m fs)
 child_piece p i cond b m fs h s e facts after =
     let t = turned p i cond b (p.conditions ++ sensed cond b ∷ []) fs m h s e after (child_narrows p cond b m fs e.sense) in
     assembled p (p.name ++ b ∷ []) (p.conditions ++ sensed cond b ∷ []) m fs h (below_push (length p.pool) p.conditions (sensed cond b) h.bounded e.below) t.nodes t.zero_is facts.covers
@@ -164,13 +166,11 @@ route_of p (code ∷ later) base pre s =
 pub piece_named : (p : PieceData) → IsPiece p → IsTrulyNamed p
 piece_named p h = record { route = route_of p h.rest h.base h.pre h.stands; members = h.members }
 
-pub lawful_piece : (p : PieceData) → IsPiece p → IsLawfulPiece p
-lawful_piece p h = record { named = piece_named p h; run = h }
-
-pub child_is : (p : PieceData) (i : Insn) (cond : Cond) (b : Bool) (m : Machine) (fs : Known) → IsPiece p → Standing p i → IsEntry p i cond → AreChildFacts p cond b fs → AfterEntry p i b m → IsChild p cond b (child_of p cond b m fs)
-child_is p i cond b m fs h s e facts after = record {
+pub child_is : (p : PieceData) (cond : Cond) (b : Bool) (m : Machine) (fs : FactsView) → IsLawfulPiece (child_of p cond b m fs) → IsChild p cond b (child_of p cond b m fs)
+child_is p cond b m fs h = record {
   of = refl;
   name = refl;
-  named = piece_named (child_of p cond b m fs) (child_piece p i cond b m fs h s e facts after);
+  named = h.named;
   members = λ d inp. child_members p cond b m fs d;
+  plain = h.plain;
 }

@@ -20,7 +20,7 @@ use Rattle.sf_run.specs.Machine.{State, Progress, goes, returns, stuck, bits, ex
 use Rattle.sf_run.specs.RunLaws.{Safe, step_is, ends_from, option_map_some, put}
 use Rattle.sf_sym.specs.declared.pool.Cond.{Cond}
 use Rattle.sf_sym.specs.Pool.{value_of, is_met, same, IsCondBelow}
-use Rattle.sf_dom.specs.Facts.{Known, Covers, Agrees}
+use Rattle.sf_dom.specs.Facts.{FactsView, Covers, Agrees}
 use Rattle.sf_piece.specs.declared.machine.Machine.{Machine}
 use Rattle.sf_piece.specs.Machines.{returned}
 use Rattle.sf_piece.specs.Pieces.{PieceData, is_member, is_prefix}
@@ -111,7 +111,7 @@ div_false : (b e : Bool) (u : State) → NextIs (if b then returns (true ∷ [])
 div_false true e u n is = let clash : true ≡ false = same_Some true e n ∙ is in absurd cc
 div_false false e u n is = refl
 
-pub branch_turned : (p : PieceData) (test : Test) (other : Operand) (t f : ℕ) (cond : Cond) (b : Bool) (cs : List Cond) (fs : Known) → IsPiece p → (s : Standing p (Branch test other t f)) → IsEntry p (Branch test other t f) cond → Narrows p cs cond b
+pub branch_turned : (p : PieceData) (test : Test) (other : Operand) (t f : ℕ) (cond : Cond) (b : Bool) (cs : List Cond) (fs : FactsView) → IsPiece p → (s : Standing p (Branch test other t f)) → IsEntry p (Branch test other t f) cond → Narrows p cs cond b
     → Turned p (made p (p.name ++ b ∷ []) cs (record p.machine { place = p.machine.place + 1 + (if b then t else f) }) fs)
 unfolding is_member
 branch_turned p test other t f cond b cs fs h s e narrow =
@@ -148,7 +148,7 @@ branch_turned p test other t f cond b cs fs h s e narrow =
     less : (n : ℕ) → p.machine.place < 4096 → 524288 * (length p.stack - p.machine.program) + 64 * (4096 - (p.machine.place + 1 + n)) + (33 - p.machine.taken) < 524288 * (length p.stack - p.machine.program) + 64 * (4096 - p.machine.place) + (33 - p.machine.taken)
     less n small = omega arith
 
-pub return_turned : (p : PieceData) (cond : Cond) (b : Bool) (cs : List Cond) (fs : Known) → IsPiece p → (s : Standing p ReturnA) → IsEntry p ReturnA cond → Narrows p cs cond b
+pub return_turned : (p : PieceData) (cond : Cond) (b : Bool) (cs : List Cond) (fs : FactsView) → IsPiece p → (s : Standing p ReturnA) → IsEntry p ReturnA cond → Narrows p cs cond b
     → Turned p (made p (p.name ++ b ∷ []) cs (record p.machine { taken = p.machine.taken + 1; value = 2 * p.machine.value + (if b then 1 else 0) }) fs)
 unfolding is_member
 return_turned p cond b cs fs h s e narrow =
@@ -187,7 +187,7 @@ div_pending p s none = by s.stands.inside.pending
     by (inr (inl q)) = let clash : ReturnA ≡ Alu Div X = at_same s.code p.machine.place ReturnA (Alu Div X) q.0 s.at in absurd cc
     by (inr (inr q)) = let clash : 0 ≡ 1 = sym none ∙ q.1 in absurd (omega arith)
 
-pub zero_turned : (p : PieceData) (cond : Cond) (cs : List Cond) (fs : Known) → AreNodesBelow (length p.pool) (returned p.machine 0) → IsPiece p → (s : Standing p (Alu Div X)) → IsEntry p (Alu Div X) cond → Narrows p cs cond true
+pub zero_turned : (p : PieceData) (cond : Cond) (cs : List Cond) (fs : FactsView) → AreNodesBelow (length p.pool) (returned p.machine 0) → IsPiece p → (s : Standing p (Alu Div X)) → IsEntry p (Alu Div X) cond → Narrows p cs cond true
     → Turned p (made p (p.name ++ true ∷ []) cs (returned p.machine 0) fs)
 unfolding is_member
 zero_turned p cond cs fs nodes h s e narrow =
@@ -209,7 +209,7 @@ zero_turned p cond cs fs nodes h s e narrow =
       falls = omega arith;
     }
 
-pub nonzero_turned : (p : PieceData) (cond : Cond) (cs : List Cond) (fs : Known) → IsPiece p → (s : Standing p (Alu Div X)) → IsEntry p (Alu Div X) cond → Narrows p cs cond false
+pub nonzero_turned : (p : PieceData) (cond : Cond) (cs : List Cond) (fs : FactsView) → IsPiece p → (s : Standing p (Alu Div X)) → IsEntry p (Alu Div X) cond → Narrows p cs cond false
     → Turned p (made p (p.name ++ false ∷ []) cs (record p.machine { taken = 1 }) fs)
 unfolding is_member
 nonzero_turned p cond cs fs h s e narrow =

@@ -22,19 +22,20 @@ use Rattle.sf_run.specs.TraceLaws.{newest_first}
 use Rattle.sf_sym.specs.declared.pool.Node.{Node}
 use Rattle.sf_sym.specs.declared.pool.NodeId.{NodeId}
 use Rattle.sf_sym.specs.declared.pool.Cond.{Cond}
-use Rattle.sf_sym.specs.Pool.{IsPool, Extends, value_of, values_of, node_value, is_met, IsCondBelow}
+use Rattle.sf_sym.specs.declared.pool.Node.TheVariants.{Const}
+use Rattle.sf_sym.specs.Pool.{node_at, IsPool, Extends, value_of, values_of, node_value, is_met, IsCondBelow}
 use Rattle.sf_sym.specs.ValueLaws.{value-older}
-use Rattle.sf_dom.specs.Facts.{Known, Covers, Agrees, TakesIn, NoneAgrees}
+use Rattle.sf_dom.specs.Facts.{FactsView, Covers, Agrees, TakesIn, NoneAgrees}
 use Rattle.sf_piece.specs.declared.machine.Machine.{Machine}
 use Rattle.sf_piece.specs.Pieces.{PieceData, is_member, is_prefix, HasNoMember, IsRightAnswer, IsRoot}
 use Rattle.sf_piece.specs.SymbolicRun.{valued, met_of, IsPending, IsIn, InProgram, HasTaken, RunsOn, Follows, AreNodesBelow, StandsAt, IsPiece}
-use Rattle.sf_piece.specs.Works.{Standing, IsPushed}
+use Rattle.sf_piece.specs.Works.{Standing, HasGrown, IsPushed}
 use Rattle.sf_piece.proofs.Valued.{valued_grown, all_grown, below_grown}
 use Rattle.sf_piece.proofs.Children.{piece_named}
 
 -- ---- a grown pool
 
-abbrev pub grown : PieceData → List Node → Known → PieceData
+abbrev pub grown : PieceData → List Node → FactsView → PieceData
 grown p added fs = record p { pool = p.pool ++ added; facts = fs }
 
 below_le : (n m : ℕ) (cs : List Cond) → n ≤ m → AllByRecursion (IsCondBelow n) cs → AllByRecursion (IsCondBelow m) cs
@@ -44,7 +45,7 @@ below_le n m (c ∷ cs) h b = ((omega (arith, b.0.0), omega (arith, b.0.1)), bel
 nodes_le : (n m : ℕ) (k : Machine) → n ≤ m → AreNodesBelow n k → AreNodesBelow m k
 nodes_le n m k h b = record { a = omega (arith, b.a); x = omega (arith, b.x); zero = omega (arith, b.zero); scratch = λ j w e. omega (arith, b.scratch j w e) }
 
-pub members_grown : (p : PieceData) (added : List Node) (fs : Known) (d : Input) → AllByRecursion (IsCondBelow (length p.pool)) p.conditions → is_member (grown p added fs) d ≡ is_member p d
+pub members_grown : (p : PieceData) (added : List Node) (fs : FactsView) (d : Input) → AllByRecursion (IsCondBelow (length p.pool)) p.conditions → is_member (grown p added fs) d ≡ is_member p d
 unfolding is_member
 members_grown p added fs d b = all_grown p.pool added d p.conditions b
 
@@ -52,7 +53,7 @@ in_grown : (p : PieceData) (added : List Node) (rest : List (List Insn)) (pre : 
 in_grown p added [] pre b h = h
 in_grown p added (code ∷ later) pre b h = record { safe = λ d. subst (Safe code) (sym (valued_grown p.pool added p.machine d b)) (h.safe d); pending = h.pending }
 
-pub stands_grown : (p : PieceData) (added : List Node) (fs : Known) (rest : List (List Insn)) (base pre : List Bool) → AllByRecursion (IsCondBelow (length p.pool)) p.conditions → AreNodesBelow (length p.pool) p.machine → StandsAt p rest base pre → StandsAt (grown p added fs) rest base pre
+pub stands_grown : (p : PieceData) (added : List Node) (fs : FactsView) (rest : List (List Insn)) (base pre : List Bool) → AllByRecursion (IsCondBelow (length p.pool)) p.conditions → AreNodesBelow (length p.pool) p.machine → StandsAt p rest base pre → StandsAt (grown p added fs) rest base pre
 stands_grown p added fs rest base pre bounded b s = record {
   rest_is = s.rest_is;
   laws = s.laws;
@@ -72,7 +73,7 @@ stands_grown p added fs rest base pre bounded b s = record {
 length_le : (p : PieceData) (added : List Node) → length p.pool ≤ length (p.pool ++ added)
 length_le p added = omega (arith, length-append p.pool added)
 
-pub grown_piece : (p : PieceData) (added : List Node) (fs : Known) → IsPiece p → IsPool (p.pool ++ added) → Covers fs (p.pool ++ added) → TakesIn p.facts fs p.pool (p.pool ++ added) → IsPiece (grown p added fs)
+pub grown_piece : (p : PieceData) (added : List Node) (fs : FactsView) → IsPiece p → IsPool (p.pool ++ added) → Covers fs (p.pool ++ added) → TakesIn p.facts fs p.pool (p.pool ++ added) → IsPiece (grown p added fs)
 grown_piece p added fs h pool covers takes = record {
   lawful = h.lawful;
   pool = pool;
@@ -88,11 +89,9 @@ grown_piece p added fs h pool covers takes = record {
   stands = stands_grown p added fs h.rest h.base h.pre h.bounded h.nodes h.stands;
 }
 
-pub pushed : (p : PieceData) (added : List Node) (fs : Known) (node : Node) (id : NodeId) → IsPiece p → id.0 < length (p.pool ++ added) → ((d : Input) → value_of (p.pool ++ added) d id.0 ≡ node_value d (values_of p.pool d) node) → IsPushed p node (grown p added fs) id
-pushed p added fs node id h within value = record {
+pub has_grown : (p : PieceData) (added : List Node) (fs : FactsView) → IsPiece p → HasGrown p (grown p added fs)
+has_grown p added fs h = record {
   same = refl;
-  within = within;
-  value = value;
   members = λ d. members_grown p added fs d h.bounded;
   state = λ d. valued_grown p.pool added p.machine d h.nodes;
   standing = λ i s. record {
@@ -114,6 +113,9 @@ pushed p added fs node id h within value = record {
   };
   nodes = nodes_le (length p.pool) (length (p.pool ++ added)) p.machine (length_le p added) h.nodes;
 }
+
+pub pushed : (p : PieceData) (added : List Node) (fs : FactsView) (node : Node) (id : NodeId) → IsPiece p → id.0 < length (p.pool ++ added) → ((d : Input) → value_of (p.pool ++ added) d id.0 ≡ node_value d (values_of p.pool d) node) → ((c : ℕ) → node ≡ Const c → node_at (p.pool ++ added) id.0 ≡ Const c) → IsPushed p node (grown p added fs) id
+pushed p added fs node id h within value constant = record { grown = has_grown p added fs h; within = within; value = value; constant = constant }
 
 bool_false : (b : Bool) → (b ≡ true → ⊥) → b ≡ false
 bool_false true h = absurd (h refl)

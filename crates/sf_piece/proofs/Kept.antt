@@ -22,7 +22,7 @@ use Rattle.sf_run.specs.TraceLaws.{step_allowed}
 use Rattle.sf_sym.specs.declared.pool.Cond.{Cond}
 use Rattle.sf_sym.specs.Pool.{value_of, IsCondBelow}
 use Rattle.sf_sym.specs.SizeLaws.{value-small}
-use Rattle.sf_dom.specs.Facts.{Known, Covers, Agrees}
+use Rattle.sf_dom.specs.Facts.{FactsView, Covers, Agrees}
 use Rattle.sf_piece.specs.declared.machine.Machine.{Machine}
 use Rattle.sf_piece.specs.Machines.{returned}
 use Rattle.sf_piece.specs.Pieces.{PieceData, is_member, is_prefix}
@@ -72,7 +72,7 @@ safe_moved code s t i lawful safe at leads none same = record {
 }
 
 -- a piece of the same pool
-pub assembled : (p : PieceData) (name : List Bool) (cs : List Cond) (m : Machine) (fs : Known) → IsPiece p → AllByRecursion (IsCondBelow (length p.pool)) cs → AreNodesBelow (length p.pool) m → m.zero ≡ p.machine.zero → Covers fs p.pool
+pub assembled : (p : PieceData) (name : List Bool) (cs : List Cond) (m : Machine) (fs : FactsView) → IsPiece p → AllByRecursion (IsCondBelow (length p.pool)) cs → AreNodesBelow (length p.pool) m → m.zero ≡ p.machine.zero → Covers fs p.pool
     → ((d : Input) → IsInput d → is_member (made p name cs m fs) d ≡ true → Agrees fs p.pool d)
     → ((d : Input) → IsInput d → is_member (made p name cs m fs) d ≡ is_prefix name (Rattle.sf_run.specs.Machine.trace_of p.stack d))
     → (rest : List (List Insn)) (base pre : List Bool) → StandsAt (made p name cs m fs) rest base pre → IsPiece (made p name cs m fs)
@@ -95,7 +95,7 @@ pub same_members : (p : PieceData) (m : Machine) → IsOn p (made p p.name p.con
 unfolding is_member
 same_members p m = record { of = refl; on = []; name = sym (append-nil p.name); members = λ d inp. refl }
 
-abbrev gone : PieceData → Machine → PieceData
+abbrev pub gone : PieceData → Machine → PieceData
 gone p m = made p p.name p.conditions m p.facts
 
 kept : (p : PieceData) (m : Machine) → IsPiece p → AreNodesBelow (length p.pool) m → m.zero ≡ p.machine.zero → (rest : List (List Insn)) (base pre : List Bool) → StandsAt (gone p m) rest base pre → IsPiece (gone p m)

@@ -18,19 +18,19 @@ use Rattle.sf_run.specs.Routes.{MayMeet, IsWay, returns_at, goes_on, AreWays, Is
 use Rattle.sf_run.specs.RunLaws.{Safe, safe_start, run_more, run_ends, run_same, lawful_ends}
 use Rattle.sf_sym.specs.declared.pool.Cond.{Cond}
 use Rattle.sf_sym.specs.Pool.{value_of}
-use Rattle.sf_dom.specs.Facts.{Known}
+use Rattle.sf_dom.specs.Facts.{FactsView}
 use Rattle.sf_piece.specs.declared.machine.Machine.{Machine}
 use Rattle.sf_piece.specs.Machines.{returned}
 use Rattle.sf_piece.specs.Pieces.{PieceData, is_member}
 use Rattle.sf_piece.specs.SymbolicRun.{valued, met_of, number_from, IsPending, IsIn, InProgram, RouteFrom, RunsOn, HasTaken, Follows, StandsAt}
 
 -- a piece of the same stack and pool
-abbrev pub made : PieceData → List Bool → List Cond → Machine → Known → PieceData
+abbrev pub made : PieceData → List Bool → List Cond → Machine → FactsView → PieceData
 made p name cs m fs = record { stack = p.stack; name = name; pool = p.pool; conditions = cs; machine = m; facts = fs }
 
 -- ---- on in the same program
 
-pub stands_moved : (p : PieceData) (code : List Insn) (later : List (List Insn)) (base pre met : List Bool) (i : Insn) (name : List Bool) (cs : List Cond) (m : Machine) (fs : Known)
+pub stands_moved : (p : PieceData) (code : List Insn) (later : List (List Insn)) (base pre met : List Bool) (i : Insn) (name : List Bool) (cs : List Cond) (m : Machine) (fs : FactsView)
     → StandsAt p (code ∷ later) base pre → IsAt code p.machine.place i → MayMeet p.machine.place i met (Some m.place) → name ≡ base ++ met
     → m.program ≡ p.machine.program → m.so_far ≡ p.machine.so_far → m.taken ≡ 0 → m.value ≡ 0
     → ((d : Input) → Safe code (valued p.pool m d))
@@ -58,7 +58,7 @@ stands_moved p code later base pre met i name cs m fs s at may named program so_
 
 -- ---- more truth values of the instruction at hand
 
-pub stands_kept : (p : PieceData) (code : List Insn) (later : List (List Insn)) (base pre : List Bool) (b : Bool) (name : List Bool) (cs : List Cond) (fs : Known) (taken value : ℕ)
+pub stands_kept : (p : PieceData) (code : List Insn) (later : List (List Insn)) (base pre : List Bool) (b : Bool) (name : List Bool) (cs : List Cond) (fs : FactsView) (taken value : ℕ)
     → StandsAt p (code ∷ later) base pre → name ≡ p.name ++ b ∷ [] → value ≡ number_from 0 (pre ++ b ∷ []) → IsPending code p.machine.place taken (pre ++ b ∷ [])
     → ((d : Input) → IsInput d → is_member (made p name cs (record p.machine { taken = taken; value = value }) fs) d ≡ true → (is_member p d ≡ true) × (pre ++ b ∷ [] ≡ take taken (met_of (step code d (valued p.pool p.machine d)))))
     → StandsAt (made p name cs (record p.machine { taken = taken; value = value }) fs) (code ∷ later) base (pre ++ b ∷ [])
@@ -104,7 +104,7 @@ drop_tail zero (z ∷ xs) x ys e = let f : z ∷ xs ≡ x ∷ ys = e in let g : 
 drop_tail (suc n) [] x ys e = absurd cc
 drop_tail (suc n) (z ∷ xs) x ys e = let k : suc n + 1 ≡ suc (n + 1) = omega arith in ap (λ (j : ℕ). drop j (z ∷ xs)) k ∙ drop_tail n xs x ys e
 
-pub stands_returned : (p : PieceData) (code : List Insn) (later : List (List Insn)) (base pre met : List Bool) (i : Insn) (v : ℕ) (name : List Bool) (cs : List Cond) (fs : Known)
+pub stands_returned : (p : PieceData) (code : List Insn) (later : List (List Insn)) (base pre met : List Bool) (i : Insn) (v : ℕ) (name : List Bool) (cs : List Cond) (fs : FactsView)
     → StandsAt p (code ∷ later) base pre → IsAt code p.machine.place i → MayMeet p.machine.place i met None → name ≡ base ++ met
     → ((d : Input) → value_of p.pool d p.machine.zero.0 ≡ 0)
     → ((d : Input) → IsInput d → is_member (made p name cs (returned p.machine v) fs) d ≡ true → (is_member p d ≡ true) × (executed d (valued p.pool p.machine d) i ≡ returns met v))

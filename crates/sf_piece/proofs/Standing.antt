@@ -23,10 +23,10 @@ use Rattle.sf_run.specs.TraceLaws.{newest_first}
 use Rattle.sf_sym.specs.declared.pool.Node.{Node}
 use Rattle.sf_sym.specs.declared.pool.NodeId.{NodeId}
 use Rattle.sf_sym.specs.Pool.{IsPool, value_of}
-use Rattle.sf_dom.specs.Facts.{Known, Covers, Agrees}
+use Rattle.sf_dom.specs.Facts.{FactsView, Covers, Agrees}
 use Rattle.sf_piece.specs.declared.machine.Machine.{Machine}
 use Rattle.sf_piece.specs.Pieces.{PieceData, is_member, is_prefix, IsRightAnswer, IsRoot}
-use Rattle.sf_piece.specs.SymbolicRun.{valued, met_of, number_from, IsPending, InProgram, HasTaken, RouteFrom, RunsOn, Follows, AreNodesBelow, StandsAt, IsPiece}
+use Rattle.sf_piece.specs.SymbolicRun.{valued, met_of, number_from, IsPending, InProgram, HasTaken, RouteFrom, RunsOn, Follows, AreNodesBelow, StandsAt, IsPiece, IsLawfulPiece}
 use Rattle.sf_piece.specs.Works.{Standing}
 use Rattle.sf_piece.proofs.Moves.{runs_whole}
 use Rattle.sf_piece.proofs.Kept.{some_input}
@@ -123,10 +123,10 @@ at_end p h over = by h.rest h.stands
 abbrev pub first_machine : NodeId → Machine
 first_machine zero_id = record { program = 0; place = 0; a = zero_id; x = zero_id; scratch = replicate 16 None; zero = zero_id; taken = 0; value = 0; so_far = record { action = Allow; info = 0 } }
 
-abbrev pub first_piece : List (List Insn) → List Node → NodeId → Known → PieceData
+abbrev pub first_piece : List (List Insn) → List Node → NodeId → FactsView → PieceData
 first_piece stack pool zero_id fs = record { stack = stack; name = []; pool = pool; conditions = []; machine = first_machine zero_id; facts = fs }
 
-pub first_is : (stack : List (List Insn)) (pool : List Node) (zero_id : NodeId) (fs : Known) → IsLawfulStack stack → IsPool pool → zero_id.0 < length pool → ((d : Input) → value_of pool d zero_id.0 ≡ 0) → Covers fs pool → ((d : Input) → IsInput d → Agrees fs pool d) → IsPiece (first_piece stack pool zero_id fs)
+pub first_is : (stack : List (List Insn)) (pool : List Node) (zero_id : NodeId) (fs : FactsView) → IsLawfulStack stack → IsPool pool → zero_id.0 < length pool → ((d : Input) → value_of pool d zero_id.0 ≡ 0) → Covers fs pool → ((d : Input) → IsInput d → Agrees fs pool d) → IsPiece (first_piece stack pool zero_id fs)
 unfolding is_member
 first_is stack pool zero_id fs lawful is within zeros covers known = record {
   lawful = lawful;
@@ -176,9 +176,9 @@ first_is stack pool zero_id fs lawful is within zeros covers known = record {
     none_taken [] d = tt
     none_taken (c ∷ rest) d = refl
 
-pub first_root : (stack : List (List Insn)) (pool : List Node) (zero_id : NodeId) (fs : Known) → IsPiece (first_piece stack pool zero_id fs) → IsRoot stack (first_piece stack pool zero_id fs)
+pub first_root : (stack : List (List Insn)) (pool : List Node) (zero_id : NodeId) (fs : FactsView) → IsLawfulPiece (first_piece stack pool zero_id fs) → IsRoot stack (first_piece stack pool zero_id fs)
 unfolding is_member
-first_root stack pool zero_id fs h = record { of = refl; name = refl; named = piece_named (first_piece stack pool zero_id fs) h; all = λ d inp. refl }
+first_root stack pool zero_id fs h = record { of = refl; name = refl; named = h.named; all = λ d inp. refl }
 
 -- the instructions that the code reads
 pub at_code : (stack lent : List (List Insn)) (n : ℕ) (p insns : List Insn) → lent ≡ stack → n < length lent → p ≡ get_or lent (length lent - 1 - n) p → insns ≡ p → insns ≡ get_or stack (length stack - 1 - n) []

@@ -11,7 +11,7 @@ use Rattle.sf_check.specs.declared.insn.Insn.{Insn}
 use Rattle.sf_check.specs.declared.insn.Insn.TheVariants.{Alu, ReturnA}
 use Rattle.sf_check.specs.declared.insn.Operand.TheVariants.{X}
 use Rattle.sf_check.specs.Programs.{IsAt, IsLawful}
-use Rattle.sf_check.specs.Stacks.{IsLawfulStack}
+use Rattle.sf_check.specs.Stacks.{IsLawfulStack, IsPlain}
 use Rattle.sf_run.specs.Machine.{State, Progress, goes, returns, stuck, step, run_for, met_by, return_of, trace_of, returns_of}
 use Rattle.sf_run.specs.Answers.{IsAnswer}
 use Rattle.sf_run.specs.Routes.{IsWay, AreWays, IsWholeRoute}
@@ -22,6 +22,7 @@ use Rattle.sf_sym.specs.Pool.{IsPool, value_of, IsCondBelow}
 use Rattle.sf_dom.specs.Facts.{Covers, Agrees}
 use Rattle.sf_piece.specs.declared.machine.Machine.{Machine}
 use Rattle.sf_piece.specs.Machines.{returned}
+use Rattle.sf_piece.specs.PlainPieces.{IsPlainPiece}
 use Rattle.sf_piece.specs.Pieces.{PieceData, is_member, is_prefix, IsTrulyNamed}
 
 -- the concrete state for which a symbolic one stands, on an input
@@ -112,7 +113,9 @@ pub record IsPiece (p : PieceData) : Type 0 where
   pub pre : List Bool
   pub stands : StandsAt p rest base pre
 
--- what the type of pieces keeps: the name is true, and the symbolic run stands where it should
+-- what the type of pieces keeps: the name is true, and the symbolic run stands where it should; on a plain
+-- stack nothing is lost
 pub record IsLawfulPiece (p : PieceData) : Type 0 where
   pub named : IsTrulyNamed p
   pub run : IsPiece p
+  pub plain : IsPlain p.stack → IsPlainPiece p

@@ -9,19 +9,22 @@ use Rattle.sf_check.specs.declared.insn.Insn.{Insn}
 use Rattle.sf_check.specs.declared.insn.Insn.TheVariants.{LoadScratch, LoadXScratch, StoreA, StoreX, Alu, Jump, Branch, ReturnConstant, ReturnA, Tax, Txa}
 use Rattle.sf_check.specs.declared.insn.Operand.{Operand}
 use Rattle.sf_check.specs.Insns.{IsInRange, loaded_by}
-use Rattle.sf_check.specs.declared.insn.Operand.TheVariants.{X}
+use Rattle.sf_check.specs.declared.insn.Operand.TheVariants.{Constant, X}
 use Rattle.sf_check.specs.Programs.{IsAt}
-use Rattle.sf_check.specs.Stacks.{IsLawfulStack}
+use Rattle.sf_check.specs.Stacks.{IsLawfulStack, IsPlain}
 use Rattle.sf_run.specs.Machine.{Progress, goes, returns, operand_of, with_a, with_x, executed, step}
 use Rattle.sf_sym.specs.declared.pool.Node.{Node}
 use Rattle.sf_sym.specs.declared.pool.NodeId.{NodeId}
-use Rattle.sf_sym.specs.Pool.{value_of, values_of, node_value, is_met, IsCondBelow}
+use Rattle.sf_sym.specs.declared.pool.Node.TheVariants.{Const}
+use Rattle.sf_sym.specs.Pool.{node_at, value_of, values_of, node_value, is_met, IsCondBelow}
 use Rattle.sf_sym.specs.declared.pool.Cond.{Cond}
 use Rattle.sf_insn.specs.Words.{apply}
-use Rattle.sf_dom.specs.Facts.{Known, Covers, Agrees}
+use Rattle.sf_dom.specs.Facts.{FactsView, Covers, Agrees, KeepsOnly}
+use Rattle.sf_dom.specs.Facts.{IsPlain as IsPlainCond}
 use Rattle.sf_piece.specs.declared.machine.Machine.{Machine}
 use Rattle.sf_piece.specs.Machines.{returned}
 use Rattle.sf_piece.specs.Pieces.{PieceData, is_member, IsTrulyNamed}
+use Rattle.sf_piece.specs.PlainPieces.{IsPlainPiece}
 use Rattle.sf_piece.specs.SymbolicRun.{AreNodesBelow, StandsAt, met_of, valued}
 
 -- what is left to do at most
@@ -57,25 +60,27 @@ pub record HasGone (p q : PieceData) : Type 0 where
   pub is_on : IsOn p q
   pub falls : left q < left p
 
--- the pool has this node too
-pub record IsPushed (p : PieceData) (node : Node) (q : PieceData) (id : NodeId) : Type 0 where
+-- the pool and the facts have grown, and all else stands as it was
+pub record HasGrown (p q : PieceData) : Type 0 where
   pub same : q ≡ record p { pool = q.pool; facts = q.facts }
-  pub within : id.0 < length q.pool
-  pub value : (d : Input) → value_of q.pool d id.0 ≡ node_value d (values_of p.pool d) node
   pub members : (d : Input) → is_member q d ≡ is_member p d
   pub state : (d : Input) → valued q.pool p.machine d ≡ valued p.pool p.machine d
   pub standing : (i : Insn) → Standing p i → Standing q i
   pub nodes : AreNodesBelow (length q.pool) p.machine
 
+-- the pool has this node too
+pub record IsPushed (p : PieceData) (node : Node) (q : PieceData) (id : NodeId) : Type 0 where
+  pub grown : HasGrown p q
+  pub within : id.0 < length q.pool
+  pub value : (d : Input) → value_of q.pool d id.0 ≡ node_value d (values_of p.pool d) node
+  pub constant : (c : ℕ) → node ≡ Const c → node_at q.pool id.0 ≡ Const c
+
 -- the second word of an operation or a test has a node
 pub record IsOperand (p : PieceData) (other : Operand) (q : PieceData) (id : NodeId) : Type 0 where
-  pub same : q ≡ record p { pool = q.pool; facts = q.facts }
+  pub grown : HasGrown p q
   pub within : id.0 < length q.pool
   pub value : (d : Input) → value_of q.pool d id.0 ≡ operand_of (valued p.pool p.machine d) other
-  pub members : (d : Input) → is_member q d ≡ is_member p d
-  pub state : (d : Input) → valued q.pool p.machine d ≡ valued p.pool p.machine d
-  pub standing : (i : Insn) → Standing p i → Standing q i
-  pub nodes : AreNodesBelow (length q.pool) p.machine
+  pub constant : (k : ℕ) → other ≡ Constant k → node_at q.pool id.0 ≡ Const k
 
 -- a division by X that is not 0, or a step that meets nothing
 abbrev pub GoesBy : PieceData → Insn → Machine → Type 0
@@ -134,6 +139,7 @@ pub record IsEntry (p : PieceData) (i : Insn) (cond : Cond) : Type 0 where
   pub sense : cond.sense ≡ true
   pub below : IsCondBelow (length p.pool) cond
   pub next : (d : Input) → NextIs (executed d (valued p.pool p.machine d) i) p.machine.taken (is_met p.pool d cond)
+  pub plain : IsPlain p.stack → IsPlainCond p.pool cond
 
 -- where the machine stands after it
 abbrev pub AfterEntry : PieceData → Insn → Bool → Machine → Type 0
@@ -154,10 +160,12 @@ IsNever p cond b = (d : Input) → IsInput d → is_member p d ≡ true → is_m
 abbrev pub IsImplied : PieceData → Cond → Bool → Type 0
 IsImplied p cond b = (d : Input) → IsInput d → is_member p d ≡ true → is_met p.pool d (sensed cond b) ≡ true
 
--- facts of the members that have the entry so
-pub record AreChildFacts (p : PieceData) (cond : Cond) (b : Bool) (facts : Known) : Type 0 where
+-- Facts of the members that have the entry so. On a plain stack these are exact: what agrees with them agreed before, and
+-- has the entry so.
+pub record AreChildFacts (p : PieceData) (cond : Cond) (b : Bool) (facts : FactsView) : Type 0 where
   pub covers : Covers facts p.pool
   pub known : (d : Input) → IsInput d → is_member p d ≡ true → is_met p.pool d (sensed cond b) ≡ true → Agrees facts p.pool d
+  pub plain : IsPlain p.stack → KeepsOnly p.facts facts p.pool (λ d. is_met p.pool d (sensed cond b))
 
 abbrev pub IsTurned : PieceData → PieceData → Type 0
 IsTurned p q = HasGone p q
@@ -168,6 +176,7 @@ pub record IsChild (p : PieceData) (cond : Cond) (b : Bool) (c : PieceData) : Ty
   pub name : c.name ≡ p.name ++ b ∷ []
   pub named : IsTrulyNamed c
   pub members : (d : Input) → IsInput d → is_member c d ≡ (is_member p d && is_met p.pool d (sensed cond b))
+  pub plain : IsPlain p.stack → IsPlainPiece c
 
 -- whether an operation asks first whether X is 0
 abbrev pub divides_at : BinOp → Operand → ℕ → Bool

@@ -1,7 +1,9 @@
 //! The symbolic words that an instruction makes.
 
 ghost use Rattle.std.specs.Prelude.{IfOk, MatchOption, length};
+ghost use Rattle.sf_check.specs.Stacks.{IsPlain};
 ghost use Rattle.sf_sym.specs.Pool.{OperandsBelow};
+ghost use Rattle.sf_dom.specs.Facts.{IsWordOrConst};
 ghost use Rattle.sf_piece.specs.Pieces.{HasNoMember};
 ghost use Rattle.sf_piece.specs.Works.{IsPushed, IsOperand};
 
@@ -17,7 +19,8 @@ pub(crate) fn push(
     piece: Piece,
     node: Node,
 ) -> Result<Option<(Piece, NodeId)>, Fault>
-    requires { OperandsBelow (length piece.pool) node }
+    requires below { OperandsBelow (length piece.pool) node }
+    requires plain { IsPlain piece.stack → IsWordOrConst node }
     ensures { IfOk result (λ o. MatchOption o (HasNoMember piece) (λ r. IsPushed piece node r.0 r.1)) }
 {
     let Piece {

@@ -2,7 +2,9 @@
 
 ghost use Rattle.std.specs.Prelude.{◌≡◌, ℕ, IfOk, length, slice_get, slice_set, Some, ◌<◌};
 ghost use Rattle.sf_sym.specs.declared.pool.NodeId.{NodeId as ANodeId};
+ghost use Rattle.sf_check.specs.Stacks.{IsPlain};
 ghost use Rattle.sf_sym.specs.Pool.{OperandsBelow};
+ghost use Rattle.sf_dom.specs.Facts.{IsWordOrConst};
 ghost use Rattle.sf_piece.specs.Works.{Standing, SetsA, SetsX, Goes, HasGone, ReturnsNow, IsMove};
 ghost use Rattle.sf_piece.specs.Turns.{IsMet};
 
@@ -66,6 +68,7 @@ pub(crate) fn set_a(alloc: Global, piece: Piece, insn: Insn, node: Node) -> Resu
     requires standing { Standing piece insn }
     requires below { OperandsBelow (length piece.pool) node }
     requires sets { SetsA piece insn node }
+    requires plain { IsPlain piece.stack → IsWordOrConst node }
     ensures { IfOk result (IsMet piece) }
 {
     match push(alloc, piece, node)? {

@@ -5,16 +5,10 @@ use Rattle.sf_insn.specs.declared.ops.BinOp.{BinOp}
 use Rattle.sf_insn.specs.Words.{apply, negated}
 use Rattle.sf_sym.specs.Pool.{OperandsBelow, IsPool, node_at, node_value, values_of, value_of, number_of, combined, opposite, folded}
 use Rattle.sf_sym.specs.SizeLaws.{apply-small}
-use Rattle.sf_sym.specs.ValueLaws.{value-constant, OperandsBelow-at}
+use Rattle.sf_sym.specs.ValueLaws.{number_of-is, value-constant, OperandsBelow-at}
 use Rattle.sf_sym.specs.declared.pool.Node.{Node}
 use Rattle.sf_sym.specs.declared.pool.Node.TheVariants.{Const, Word, Bin, Neg}
 use Rattle.sf_sym.specs.declared.pool.NodeId.{NodeId}
-
-pub number_of-is : (n : Node) (x : ℕ) → number_of n ≡ Some x → n ≡ Const x
-number_of-is (Const c) x e = let same : c ≡ x = cc in ap Const same
-number_of-is (Word i) x e = absurd cc
-number_of-is (Bin op a b) x e = absurd cc
-number_of-is (Neg a) x e = absurd cc
 
 -- a constant of a pool is a word
 constant-small : (ns : List Node) (i x : ℕ) → IsPool ns → i < length ns → number_of (node_at ns i) ≡ Some x → x < 2 ^ 32

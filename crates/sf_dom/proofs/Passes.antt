@@ -1,0 +1,193 @@
+use Rattle.std.proofs.Common.{◌≡◌, ◌≢◌, ℕ, ◌<◌, ◌≤◌, ◌^◌, ◌-◌, ◌+◌, ◌↔◌, min, max, List, [], ◌∷◌, ◌++◌, length, get_or, set, arith, refl, sym, ap, ◌∙◌, ◌⊎◌, inl, inr}
+use Rattle.std.proofs.lemmas.Bool.{cases_lt, cases_eq}
+use Rattle.std.proofs.lemmas.Nat.{or_comm}
+use Rattle.std.proofs.lemmas.List.{get_or-set_same, get_or-set_other, length-set, get_or_append_left, get_or_push, length_push}
+use Rattle.std.specs.Prelude.{bit_and, bit_or, slice_index, Contains}
+use Rattle.sf_insn.specs.Inputs.{IsInput}
+use Rattle.sf_sym.specs.Pool.{IsPool, node_at, node_value, values_of, value_of}
+use Rattle.sf_sym.specs.declared.pool.Node.{Node}
+use Rattle.sf_insn.specs.declared.input.Input.{Input}
+use Rattle.sf_sym.specs.ValueLaws.{value-node}
+use Rattle.sf_dom.specs.declared.known.Known.{Known}
+use Rattle.sf_dom.specs.Known.{HasBits, Admits, Leaves, IsMeet, IsNarrower, IsSettled, IsForced, IsDecided, IsTight}
+use Rattle.sf_dom.proofs.Rounds.{narrowed}
+use Rattle.sf_dom.specs.Rules.{known_of, AreSettledOperands, IsTightNode, IsPassed, AllNarrower, IsPass}
+use Rattle.sf_dom.proofs.Rounds.{IsNarrower-trans, IsNarrower-refl}
+use Rattle.sf_sym.specs.Pool.{OperandsBelow}
+use Rattle.sf_sym.specs.declared.pool.Node.TheVariants.{Const, Word, Bin, Neg}
+use Rattle.sf_sym.specs.ValueLaws.{OperandsBelow-at}
+use Rattle.sf_dom.proofs.Bits.{join-bits, part-bits}
+use Rattle.sf_dom.specs.Facts.{known_at, numbers_at, excluded_of, AgreesWith, AreDecidedOperands}
+
+-- what both know
+pub meet-is : (a b : Known) (low high : ℕ) → low ≡ max a.low b.low → high ≡ min a.high b.high
+    → IsMeet a b (known_of low high (bit_or a.zeros b.zeros) (bit_or a.ones b.ones))
+meet-is a b low high el eh = record {
+    left = narrowed a low high b.zeros b.ones (omega arith) (omega arith);
+    right = rw (or_comm a.zeros b.zeros, or_comm a.ones b.ones) (narrowed b low high a.zeros a.ones (omega arith) (omega arith));
+    both = λ n p q. let x = p.above in let y = p.below in let z = q.above in let w = q.below in
+      record { above = omega arith; below = omega arith; bits = join-bits n a.zeros a.ones b.zeros b.ones p.bits q.bits };
+  }
+
+-- the value of a node is left by what was known of it and by its rule
+pub pass-left : (ks : List Known) (ex : List (List ℕ)) (ns : List Node) (d : Input) (i : ℕ) (by_rule met : Known)
+    → IsPool ns → length ks ≡ length ns → i < length ks → AgreesWith ks ex ns d
+    → Admits by_rule (node_value d (values_of ns d) (node_at ns i))
+    → IsMeet (known_at ks i) by_rule met
+    → Leaves met (excluded_of ex (node_at ns i)) (value_of ns d i)
+pass-left ks ex ns d i by_rule met p len l a r m =
+    let here = a i l in
+    let e = value-node ns d i p (omega arith) in
+    record {
+      admitted = m.both (value_of ns d i) here.admitted (rw e r);
+      kept = here.kept;
+    }
+
+pub pass-set : (ks : List Known) (ex : List (List ℕ)) (ns : List Node) (d : Input) (i : ℕ) (next : Known)
+    → i < length ks → AgreesWith ks ex ns d → Leaves next (excluded_of ex (node_at ns i)) (value_of ns d i) → AgreesWith (set ks i next) ex ns d
+pass-set ks ex ns d i next l a h j lj =
+    elim (cases_eq j i) [
+        inl e ↦ rw (e, get_or-set_same ks i next (known_of 0 0 0 0) l) h
+      | inr ne ↦ rw (get_or-set_other ks i j next (known_of 0 0 0 0) ne) (a j (omega (arith, length-set ks i next))) ]
+
+-- operands are older
+pub operands-below : (ns : List Node) (i : ℕ) → IsPool ns → i < length ns → OperandsBelow i (node_at ns i)
+operands-below ns i p l = let e : 0 + i ≡ i = omega arith in rw e at (OperandsBelow-at 0 ns i p.ordered l)
+
+pub word-below : (k : ℕ) (n : Node) → OperandsBelow k n → (i : ℕ) → n ≡ Word i → i < 16
+word-below k n o i e = rw e at o
+
+pub OperandsBelow-more : (k m : ℕ) (n : Node) → k ≤ m → OperandsBelow k n → OperandsBelow m n
+OperandsBelow-more k m (Const c) l o = o
+OperandsBelow-more k m (Word i) l o = o
+OperandsBelow-more k m (Bin op a b) l o = let x = o.0 in let y = o.1 in (omega arith, omega arith)
+OperandsBelow-more k m (Neg a) l o = omega arith
+
+pub AreDecidedOperands-same : (ks js : List Known) (k : ℕ) (n : Node) → OperandsBelow k n → ((j : ℕ) → j < k → known_at ks j ≡ known_at js j)
+    → AreDecidedOperands ks n → AreDecidedOperands js n
+AreDecidedOperands-same ks js k (Const c) o e h = h
+AreDecidedOperands-same ks js k (Word i) o e h = h
+AreDecidedOperands-same ks js k (Bin op a b) o e h = (h.0, rw (e a.0 o.0) at h.1, rw (e b.0 o.1) at h.2)
+AreDecidedOperands-same ks js k (Neg a) o e h = rw (e a.0 o) at h
+
+pub settled-operands : (ks : List Known) (k : ℕ) (n : Node) → OperandsBelow k n → ((j : ℕ) → j < k → IsSettled (known_at ks j)) → AreSettledOperands ks n
+settled-operands ks k (Const c) o h = tt
+settled-operands ks k (Word i) o h = tt
+settled-operands ks k (Bin op a b) o h = (h a.0 o.0, h b.0 o.1)
+settled-operands ks k (Neg a) o h = h a.0 o
+
+-- what was passed stays so where nothing up to it is changed
+pub IsPassed-same : (ks js : List Known) (ex : List (List ℕ)) (ns : List Node) (k : ℕ) → IsPool ns → k < length ns
+    → ((j : ℕ) → j ≤ k → known_at ks j ≡ known_at js j) → IsPassed ks ex ns k → IsPassed js ex ns k
+IsPassed-same ks js ex ns k p l e h =
+    let here : known_at ks k ≡ known_at js k = e k (omega arith) in
+    let lower = operands-below ns k p l in
+    record {
+      settled = rw here at h.settled;
+      tight = λ w n. rw here at (h.tight w n);
+      decided = λ o. rw here at (h.decided (AreDecidedOperands-same js ks k (node_at ns k) lower (λ j b. sym (e j (omega arith))) o));
+      constant = λ c n. rw here at (h.constant c n);
+    }
+
+pub forced-decided : (r met next : Known) (ex : List (List ℕ)) (n : Node) → IsNarrower r met → IsTightNode met next ex n → IsForced r → IsDecided next
+forced-decided r met next ex n h t f =
+    let a = h.low in let b = h.high in let c = h.zeros in let d = h.ones in
+    let a2 = t.narrower.low in let b2 = t.narrower.high in let c2 = t.narrower.zeros in let d2 = t.narrower.ones in
+    let o = t.settled.ordered in let ol = t.ones_low in let hz = t.high_zeros in
+    elim f [ inl l ↦ omega arith | inr l ↦ omega arith ]
+
+-- a node that a pass has just gone over
+pub IsPassed-new : (ks : List Known) (ex : List (List ℕ)) (ns : List Node) (i : ℕ) (r met next : Known) → known_at ks i ≡ next
+    → (AreDecidedOperands ks (node_at ns i) → IsForced r) → ((c : ℕ) → node_at ns i ≡ Const c → (r.low ≡ c) × (r.high ≡ c))
+    → IsNarrower r met → IsTightNode met next ex (node_at ns i) → IsPassed ks ex ns i
+IsPassed-new ks ex ns i r met next e forced constant h t = record {
+    settled = rw e t.settled;
+    tight = λ w n. rw e (t.tight w n);
+    decided = λ o. rw e (forced-decided r met next ex (node_at ns i) h t (forced o));
+    constant = λ c n.
+      let k = constant c n in
+      let a = h.low in let b = h.high in
+      let a2 = t.narrower.low in let b2 = t.narrower.high in
+      let o = t.settled.ordered in
+      rw e (omega arith, omega arith);
+  }
+
+-- one step of a pass
+pub passed-set : (ks : List Known) (ex : List (List ℕ)) (ns : List Node) (i : ℕ) (r met next : Known) → IsPool ns → length ks ≡ length ns → i < length ks
+    → ((k : ℕ) → k < i → IsPassed ks ex ns k)
+    → (AreSettledOperands ks (node_at ns i) → AreDecidedOperands ks (node_at ns i) → IsForced r)
+    → ((c : ℕ) → node_at ns i ≡ Const c → (r.low ≡ c) × (r.high ≡ c))
+    → IsNarrower r met → IsTightNode met next ex (node_at ns i) → (k : ℕ) → k < i + 1 → IsPassed (set ks i next) ex ns k
+passed-set ks ex ns i r met next p len l older forced constant h t k lk =
+    let same : (j : ℕ) → j < i → known_at ks j ≡ known_at (set ks i next) j
+      = λ j b. sym (get_or-set_other ks i j next (known_of 0 0 0 0) (λ e. absurd (omega arith))) in
+    let lower = operands-below ns i p (omega arith) in
+    elim (cases_lt k i) [
+        inl b ↦ IsPassed-same ks (set ks i next) ex ns k p (omega arith) (λ j c. same j (omega arith)) (older k b)
+      | inr g ↦ (let e : k ≡ i = omega arith in
+          rw e (IsPassed-new (set ks i next) ex ns i r met next (get_or-set_same ks i next (known_of 0 0 0 0) l)
+            (λ o. forced (settled-operands ks i (node_at ns i) lower (λ j b. (older j b).settled)) (AreDecidedOperands-same (set ks i next) ks i (node_at ns i) lower (λ j b. sym (same j b)) o))
+            constant h t)) ]
+
+pub AllNarrower-set : (old ks : List Known) (i : ℕ) (next : Known) → length old ≡ length ks → i < length ks → AllNarrower old ks → IsNarrower (known_at ks i) next → AllNarrower old (set ks i next)
+AllNarrower-set old ks i next len l h n j b =
+    elim (cases_eq j i) [
+        inl e ↦ rw (e, get_or-set_same ks i next (known_of 0 0 0 0) l) (IsNarrower-trans (known_at old i) (known_at ks i) next (h i (omega arith)) n)
+      | inr ne ↦ rw (get_or-set_other ks i j next (known_of 0 0 0 0) ne) (h j b) ]
+
+pub AllNarrower-refl : (ks : List Known) → AllNarrower ks ks
+AllNarrower-refl ks i l = IsNarrower-refl (known_at ks i)
+
+pub AllNarrower-trans : (a b c : List Known) → length a ≡ length b → AllNarrower a b → AllNarrower b c → AllNarrower a c
+AllNarrower-trans a b c len h k i l = IsNarrower-trans (known_at a i) (known_at b i) (known_at c i) (h i l) (k i (omega arith))
+
+-- a new node at the end
+pub passed-push : (ks : List Known) (ex : List (List ℕ)) (ns : List Node) (from i : ℕ) (r next : Known) → IsPool ns → length ks ≡ i → i < length ns → from ≤ i
+    → ((k : ℕ) → k < i → IsSettled (known_at ks k)) → ((k : ℕ) → from ≤ k → k < i → IsPassed ks ex ns k)
+    → (AreSettledOperands ks (node_at ns i) → AreDecidedOperands ks (node_at ns i) → IsForced r)
+    → ((c : ℕ) → node_at ns i ≡ Const c → (r.low ≡ c) × (r.high ≡ c))
+    → IsTightNode r next ex (node_at ns i) → (k : ℕ) → from ≤ k → k < i + 1 → IsPassed (ks ++ next ∷ []) ex ns k
+passed-push ks ex ns from i r next p len l fl settled older forced constant t k fk lk =
+    let same : (j : ℕ) → j < i → known_at ks j ≡ known_at (ks ++ next ∷ []) j
+      = λ j b. sym (get_or_append_left ks (next ∷ []) (known_of 0 0 0 0) j (omega arith)) in
+    let lower = operands-below ns i p l in
+    elim (cases_lt k i) [
+        inl b ↦ IsPassed-same ks (ks ++ next ∷ []) ex ns k p (omega arith) (λ j c. same j (omega arith)) (older k fk b)
+      | inr g ↦ (let e : k ≡ i = omega arith in
+          rw e (IsPassed-new (ks ++ next ∷ []) ex ns i r r next (get_or_push ks next (known_of 0 0 0 0) i len)
+            (λ o. forced (settled-operands ks i (node_at ns i) lower settled) (AreDecidedOperands-same (ks ++ next ∷ []) ks i (node_at ns i) lower (λ j b. sym (same j b)) o))
+            constant (IsNarrower-refl r) t)) ]
+
+-- a number that a word has is not excluded for it, where the word's own node is there, or nothing is excluded
+pub kept-node : (ks : List Known) (ex : List (List ℕ)) (ns : List Node) (d : Input) (n : Node) (v : ℕ) → IsPool ns → OperandsBelow (length ns) n → v ≡ node_value d (values_of ns d) n
+    → ((16 ≤ length ks) ⊎ ((w : ℕ) → numbers_at ex w ≡ [])) → AgreesWith ks ex ns d → ¬ Contains (excluded_of ex n) v
+kept-node ks ex ns d (Const c) v p o e h a w = absurd (omega (arith, w.1))
+kept-node ks ex ns d (Bin op x y) v p o e h a w = absurd (omega (arith, w.1))
+kept-node ks ex ns d (Neg x) v p o e h a w = absurd (omega (arith, w.1))
+kept-node ks ex ns d (Word i) v p o e (inl l) a w =
+    let words = p.words in
+    let here : node_at ns i ≡ Word i = p.word i o in
+    let value : value_of ns d i ≡ v = value-node ns d i p (omega arith) ∙ ap (node_value d (values_of ns d)) here ∙ sym e in
+    (rw (here, value) at (a i (omega arith)).kept) w
+kept-node ks ex ns d (Word i) v p o e (inr none) a w = let z = (rw (none i) at w) in absurd (omega (arith, z.1))
+
+-- the input agrees with what follows of a new node
+pub grown-left : (ks : List Known) (ex : List (List ℕ)) (ns : List Node) (d : Input) (i : ℕ) (r : Known) → IsPool ns → i < length ns
+    → ((16 ≤ length ks) ⊎ ((w : ℕ) → numbers_at ex w ≡ [])) → AgreesWith ks ex ns d → Admits r (node_value d (values_of ns d) (node_at ns i))
+    → Leaves r (excluded_of ex (node_at ns i)) (value_of ns d i)
+grown-left ks ex ns d i r p l h a adm =
+    let e = value-node ns d i p l in
+    let o = operands-below ns i p l in
+    record { admitted = rw e adm; kept = kept-node ks ex ns d (node_at ns i) (value_of ns d i) p (OperandsBelow-more i (length ns) (node_at ns i) (omega arith) o) e h a }
+
+pub agrees-push : (ks : List Known) (ex : List (List ℕ)) (ns : List Node) (d : Input) (i : ℕ) (next : Known) → length ks ≡ i → AgreesWith ks ex ns d
+    → Leaves next (excluded_of ex (node_at ns i)) (value_of ns d i) → AgreesWith (ks ++ next ∷ []) ex ns d
+agrees-push ks ex ns d i next len a h j lj =
+    elim (cases_lt j (length ks)) [
+        inl b ↦ rw (get_or_append_left ks (next ∷ []) (known_of 0 0 0 0) j b) (a j b)
+      | inr g ↦ (let e : j ≡ i = omega (arith, length_push ks next) in rw (e, get_or_push ks next (known_of 0 0 0 0) i len) h) ]
+
+-- what lets new nodes be taken in goes on to hold
+pub still-none : (old ks : List Known) (ex : List (List ℕ)) → length old ≤ length ks → ((16 ≤ length old) ⊎ ((w : ℕ) → numbers_at ex w ≡ [])) → ((16 ≤ length ks) ⊎ ((w : ℕ) → numbers_at ex w ≡ []))
+still-none old ks ex l (inl a) = inl (omega arith)
+still-none old ks ex l (inr n) = inr n

@@ -1,0 +1,12 @@
+use Rattle.std.proofs.Common.{arith, ◌<◌}
+use Rattle.std.specs.Prelude.{slice_index}
+use Rattle.sf_dom.specs.FactsLaws.{constant-admits}
+use Rattle.sf_dom.proofs.domain.rule.Goals as goal
+
+pub returns-in-Const-clause-value : goal.returns-in-Const-clause-value
+returns-in-Const-clause-value c = λ d older p h. rw c.in-Const.is (constant-admits c.in-Const.c (rw c.in-Const.is at c.requires))
+
+pub returns-in-Word-clause-value : goal.returns-in-Word-clause-value
+returns-in-Word-clause-value c = λ d older p h.
+    let l : c.in-Word.field-0 < 16 = rw c.in-Word.is at c.requires in
+    rw c.in-Word.is (c.full.ensures (slice_index d.words c.in-Word.field-0) (p.each c.in-Word.field-0))

@@ -1,0 +1,152 @@
+-- What the steps of learning do to the facts of nodes, a list, and to the numbers that are excluded for words.
+use Rattle.std.specs.Prelude.{◌≡◌, ◌≢◌, ℕ, ◌-◌, ◌+◌, ◌<◌, ◌≤◌, ◌↔◌, ◌⊎◌, ◌^◌, List, [], length, slice_index, slice_index_or, Contains, Bool, true, false, bit_and, All}
+use Rattle.sf_insn.specs.Inputs.{IsInput}
+use Rattle.sf_insn.specs.Words.{passes}
+use Rattle.sf_sym.specs.Pool.{node_at, value_of, is_met}
+use Rattle.sf_insn.specs.declared.input.Input.{Input}
+use Rattle.sf_sym.specs.declared.pool.Node.{Node}
+use Rattle.sf_sym.specs.declared.pool.Node.TheVariants.{Const, Word, Bin, Neg}
+use Rattle.sf_sym.specs.declared.pool.Cond.{Cond}
+use Rattle.sf_insn.specs.declared.ops.BinOp.{BinOp}
+use Rattle.sf_insn.specs.declared.ops.BinOp.TheVariants.{Add, Sub, Or, And, Xor}
+use Rattle.sf_insn.specs.declared.ops.Test.{Test}
+use Rattle.sf_insn.specs.declared.ops.Test.TheVariants.{Equal, Greater, GreaterOrEqual, AnyBit}
+use Rattle.sf_dom.specs.declared.known.Known.{Known}
+use Rattle.sf_dom.specs.Known.{Admits, Leaves, IsNarrower, IsSettled, IsTight, IsDecided}
+use Rattle.sf_dom.specs.Facts.{known_at, numbers_at, excluded_of, AgreesWith, AreDecidedOperands, IsOneBit, FactsView, Covers, AreNarrower}
+
+abbrev pub known_of : ℕ → ℕ → ℕ → ℕ → Known
+known_of low high zeros ones = record { low = low; high = high; zeros = zeros; ones = ones }
+
+-- every input that agreed agrees still
+abbrev pub KeepsAgreeing : List Known → List Known → List (List ℕ) → List Node → Type 0
+KeepsAgreeing old new ex ns = (d : Input) → IsInput d → AgreesWith old ex ns d → AgreesWith new ex ns d
+
+-- no input agrees
+abbrev pub NoneAgreesWith : List Known → List (List ℕ) → List Node → Type 0
+NoneAgreesWith old ex ns = (d : Input) → IsInput d → ¬ AgreesWith old ex ns d
+
+abbrev pub AreSettledOperands : List Known → Node → Type 0
+AreSettledOperands ks (Bin op a b) = IsSettled (known_at ks a.0) × IsSettled (known_at ks b.0)
+AreSettledOperands ks (Neg a) = IsSettled (known_at ks a.0)
+AreSettledOperands ks _ = Unit {0}
+
+-- a node's facts, tightened
+pub record IsTightNode (old new : Known) (ex : List (List ℕ)) (n : Node) : Type 0 where
+  pub same : (m : ℕ) → Leaves old (excluded_of ex n) m → Leaves new (excluded_of ex n) m
+  pub narrower : IsNarrower old new
+  pub settled : IsSettled new
+  pub ones_low : new.ones ≤ new.low
+  pub high_zeros : new.high ≤ 4294967295 - new.zeros
+  pub tight : (i : ℕ) → n ≡ Word i → IsTight new (numbers_at ex i)
+
+-- what holds of a node that a forward pass has gone over
+pub record IsPassed (ks : List Known) (ex : List (List ℕ)) (ns : List Node) (i : ℕ) : Type 0 where
+  pub settled : IsSettled (known_at ks i)
+  pub tight : (w : ℕ) → node_at ns i ≡ Word w → IsTight (known_at ks i) (numbers_at ex w)
+  pub decided : AreDecidedOperands ks (node_at ns i) → IsDecided (known_at ks i)
+  pub constant : (c : ℕ) → node_at ns i ≡ Const c → ((known_at ks i).low ≡ c) × ((known_at ks i).high ≡ c)
+
+abbrev pub AllNarrower : List Known → List Known → Type 0
+AllNarrower old new = (i : ℕ) → i < length old → IsNarrower (known_at old i) (known_at new i)
+
+-- a forward pass
+pub record IsPass (old new : List Known) (ex : List (List ℕ)) (ns : List Node) : Type 0 where
+  pub keeps : KeepsAgreeing old new ex ns
+  pub narrower : AllNarrower old new
+  pub passed : (i : ℕ) → i < length ns → IsPassed new ex ns i
+
+-- the new nodes are taken in
+pub record IsGrown (old new : List Known) (ex : List (List ℕ)) (ns : List Node) : Type 0 where
+  pub covers : length new ≡ length ns
+  pub keeps : KeepsAgreeing old new ex ns
+  pub passed : ((i : ℕ) → i < length old → IsSettled (known_at old i)) → (i : ℕ) → length old ≤ i → i < length ns → IsPassed new ex ns i
+
+-- the test of two numbers has this result
+abbrev pub Gives : Test → ℕ → ℕ → Bool → Type 0
+Gives test a b sense = passes test a b ≡ sense
+
+-- the test of a condition's nodes has its sense
+abbrev pub Holds : List Node → Cond → Input → Type 0
+Holds ns c d = Gives c.test (value_of ns d c.node.0) (value_of ns d c.other.0) c.sense
+
+-- what a test of two words with this result leaves of both
+abbrev pub LeavesPair : Known → Known → Known → Known → (ℕ → ℕ → Type 0) → Type 0
+LeavesPair v w v' w' passes = (x y : ℕ) → Admits v x → Admits w y → passes x y → Admits v' x × Admits w' y
+
+abbrev pub LeavesNoPair : Known → Known → (ℕ → ℕ → Type 0) → Type 0
+LeavesNoPair v w passes = (x y : ℕ) → Admits v x → Admits w y → ¬ passes x y
+
+-- every input that agreed, and that passes, agrees still
+abbrev pub KeepsAgreeingOn : List Known → List Known → List (List ℕ) → List Node → (Input → Type 0) → Type 0
+KeepsAgreeingOn old new ex ns passes = (d : Input) → IsInput d → AgreesWith old ex ns d → passes d → AgreesWith new ex ns d
+
+-- no input that agrees passes
+abbrev pub NoneAgreesOn : List Known → List (List ℕ) → List Node → (Input → Type 0) → Type 0
+NoneAgreesOn old ex ns passes = (d : Input) → IsInput d → AgreesWith old ex ns d → ¬ passes d
+
+-- an operation of single bits, whose operands may be swapped
+abbrev pub IsSwappable : BinOp → Type 0
+IsSwappable Or = Unit {0}
+IsSwappable And = Unit {0}
+IsSwappable Xor = Unit {0}
+IsSwappable _ = ⊥
+
+-- a test against a number, with a result that an interval and known bits keep exactly
+abbrev pub IsSharp : Test → Bool → ℕ → Type 0
+IsSharp Equal false c = ⊥
+IsSharp AnyBit true c = IsOneBit c
+IsSharp _ _ c = Unit {0}
+
+-- a condition is taken into what is known
+pub record IsSettle (old new : List Known) (ex : List (List ℕ)) (ns : List Node) (cond : Cond) : Type 0 where
+  pub keeps : KeepsAgreeingOn old new ex ns (Holds ns cond)
+  pub narrower : AllNarrower old new
+  pub passed : (i : ℕ) → i < length ns → IsPassed new ex ns i
+  pub sharp : IsDecided (known_at old cond.other.0) → IsSharp cond.test cond.sense (known_at old cond.other.0).low
+      → (x : ℕ) → Admits (known_at new cond.node.0) x → Gives cond.test x (known_at old cond.other.0).low cond.sense
+  pub decided : IsSettled (known_at old cond.node.0) → IsDecided (known_at old cond.node.0) → IsDecided (known_at old cond.other.0)
+      → (x : ℕ) → Admits (known_at new cond.node.0) x → Gives cond.test x (known_at old cond.other.0).low cond.sense
+
+-- the number of a decided node is excluded for a word
+pub record AreExcluded (old new : List (List ℕ)) (n : Node) (other : Known) : Type 0 where
+  pub more : (i m : ℕ) → i < 16 → Contains (numbers_at old i) m → Contains (numbers_at new i) m
+  pub only : (i m : ℕ) → i < 16 → Contains (numbers_at new i) m → Contains (numbers_at old i) m ⊎ ((n ≡ Word i) × IsDecided other × (m ≡ other.low))
+  pub added : (i : ℕ) → n ≡ Word i → IsDecided other → Contains (numbers_at new i) other.low
+
+-- where a condition says that two nodes differ, neither is the number of the other, if that is decided
+pub record AreBothExcluded (ks : List Known) (old new : List (List ℕ)) (ns : List Node) (cond : Cond) : Type 0 where
+  pub keeps : (d : Input) → IsInput d → AgreesWith ks old ns d → Holds ns cond d → AgreesWith ks new ns d
+  pub more : (w m : ℕ) → w < 16 → Contains (numbers_at old w) m → Contains (numbers_at new w) m
+  pub added : (i : ℕ) → node_at ns cond.node.0 ≡ Word i → IsDecided (known_at ks cond.other.0) → cond.test ≡ Equal → cond.sense ≡ false
+      → Contains (numbers_at new i) (known_at ks cond.other.0).low
+
+-- a condition is taken into the facts of a pool
+pub record IsTaken (old : List Known) (ex : List (List ℕ)) (new : List Known) (ex' : List (List ℕ)) (ns : List Node) (cond : Cond) : Type 0 where
+  pub words : length ex' ≡ 16
+  pub covers : length new ≡ length ns
+  pub both : AreBothExcluded old ex ex' ns cond
+  pub settled : IsSettle old new ex' ns cond
+
+-- what else is known of a word is taken in
+pub record IsNarrow (old new : List Known) (ex : List (List ℕ)) (ns : List Node) (w : ℕ) (more : Known) : Type 0 where
+  pub keeps : KeepsAgreeingOn old new ex ns (λ d. Admits more (slice_index d.words w))
+  pub narrower : AllNarrower old new
+  pub word : IsNarrower more (known_at new w)
+  pub passed : (i : ℕ) → i < length ns → IsPassed new ex ns i
+
+-- every condition is met on an input
+abbrev pub AllMet : List Node → List Cond → Input → Type 0
+AllMet ns conds d = All (λ c. is_met ns d c ≡ true) conds
+
+-- no input that agrees has in a word a number that is admitted
+abbrev pub NoneHas : FactsView → List Node → ℕ → Known → Type 0
+NoneHas f ns w more = NoneAgreesOn f.known f.excluded ns (λ d. Admits more (slice_index d.words w))
+
+-- the facts of a word are narrowed by what else is known of it
+pub record NarrowsWord (old new : FactsView) (ns : List Node) (w : ℕ) (more : Known) : Type 0 where
+  pub covers : Covers new ns
+  pub keeps : (d : Input) → IsInput d → AgreesWith old.known old.excluded ns d → Admits more (slice_index d.words w) → AgreesWith new.known new.excluded ns d
+  pub only : (d : Input) → IsInput d → AgreesWith new.known new.excluded ns d → AgreesWith old.known old.excluded ns d × Admits more (slice_index d.words w)
+  pub narrower : AreNarrower old new
+  pub word : IsNarrower more (known_at new.known w)

@@ -1,0 +1,197 @@
+ghost use Rattle.std.specs.Prelude.{◌≡◌, ℕ, ◌+◌, ◌-◌, ◌*◌, ◌/◌, ◌%◌, ◌<◌, ◌≤◌, ◌^◌, if◌then◌else◌, ◌==◌, bit_and, bit_or, bit_xor};
+ghost use Rattle.sf_insn.specs.Words.{apply};
+ghost use Rattle.sf_dom.specs.Known.{Admits, IsSettled, IsDecided, IsForced};
+ghost use Rattle.sf_dom.specs.Facts.{KeepsDecided};
+
+use crate::known::Known;
+use sf_insn::BinOp;
+
+/// An interval, with no bit known.
+fn between(low: u32, high: u32) -> Known
+    ensures admits { (n : ℕ) → low ≤ n → n ≤ high → Admits result n }
+    ensures ends { (result.low ≡ low) × (result.high ≡ high) }
+{
+    Known {
+        low,
+        high,
+        zeros: 0,
+        ones: 0,
+    }
+}
+
+/// Nothing is known.
+pub fn full() -> Known
+    ensures { (n : ℕ) → n < 2 ^ 32 → Admits result n }
+{
+    between(0, u32::MAX)
+}
+
+fn add(a: Known, b: Known) -> Known
+    ensures admits { (x y : ℕ) → Admits a x → Admits b y → Admits result ((x + y) % 2 ^ 32) }
+    ensures forced { IsSettled a → IsSettled b → IsDecided a → IsDecided b → IsForced result }
+{
+    let fits = a.high <= u32::MAX - b.high;
+    let wraps = a.low > u32::MAX - b.low;
+    if fits {
+        between(a.low.wrapping_add(b.low), a.high.wrapping_add(b.high))
+    } else if wraps {
+        between(a.low.wrapping_add(b.low), a.high.wrapping_add(b.high))
+    } else {
+        full()
+    }
+}
+
+fn sub(a: Known, b: Known) -> Known
+    ensures admits { (x y : ℕ) → Admits a x → Admits b y → Admits result ((x + (2 ^ 32 - y)) % 2 ^ 32) }
+    ensures forced { IsSettled a → IsSettled b → IsDecided a → IsDecided b → IsForced result }
+{
+    if a.low >= b.high {
+        between(a.low.wrapping_sub(b.high), a.high.wrapping_sub(b.low))
+    } else if a.high < b.low {
+        between(a.low.wrapping_sub(b.high), a.high.wrapping_sub(b.low))
+    } else {
+        full()
+    }
+}
+
+fn mul(a: Known, b: Known) -> Known
+    ensures { (x y : ℕ) → Admits a x → Admits b y → Admits result ((x * y) % 2 ^ 32) }
+{
+    match a.high.checked_mul(b.high) {
+        Some(high) => between(a.low.wrapping_mul(b.low), high),
+        None => full(),
+    }
+}
+
+fn div(a: Known, b: Known) -> Known
+    ensures { (x y : ℕ) → Admits a x → Admits b y → Admits result (if y == 0 then 0 else x / y) }
+{
+    if b.low >= 1 && b.high >= 1 {
+        between(a.low / b.high, a.high / b.low)
+    } else {
+        between(0, a.high)
+    }
+}
+
+fn or(a: Known, b: Known) -> Known
+    ensures admits { (x y : ℕ) → Admits a x → Admits b y → Admits result (bit_or x y) }
+    ensures forced { IsSettled a → IsSettled b → IsDecided a → IsDecided b → IsForced result }
+{
+    Known {
+        low: a.low.max(b.low),
+        high: u32::MAX,
+        zeros: a.zeros & b.zeros,
+        ones: a.ones | b.ones,
+    }
+}
+
+fn and(a: Known, b: Known) -> Known
+    ensures admits { (x y : ℕ) → Admits a x → Admits b y → Admits result (bit_and x y) }
+    ensures forced { IsSettled a → IsSettled b → IsDecided a → IsDecided b → IsForced result }
+{
+    Known {
+        low: 0,
+        high: a.high.min(b.high),
+        zeros: a.zeros | b.zeros,
+        ones: a.ones & b.ones,
+    }
+}
+
+fn xor(a: Known, b: Known) -> Known
+    ensures admits { (x y : ℕ) → Admits a x → Admits b y → Admits result (bit_xor x y) }
+    ensures forced { IsSettled a → IsSettled b → IsDecided a → IsDecided b → IsForced result }
+{
+    Known {
+        low: 0,
+        high: u32::MAX,
+        zeros: (a.zeros & b.zeros) | (a.ones & b.ones),
+        ones: (a.zeros & b.ones) | (a.ones & b.zeros),
+    }
+}
+
+fn shifted_left(a: Known, s: u32) -> Known
+    requires { s < 32 }
+    ensures { (x : ℕ) → Admits a x → Admits result ((x * 2 ^ s) % 2 ^ 32) }
+{
+    let zeros = (a.zeros << s) | !(u32::MAX << s);
+    let ones = a.ones << s;
+    if a.high <= u32::MAX >> s {
+        Known {
+            low: a.low << s,
+            high: a.high << s,
+            zeros,
+            ones,
+        }
+    } else {
+        Known {
+            low: 0,
+            high: u32::MAX,
+            zeros,
+            ones,
+        }
+    }
+}
+
+fn shifted_right(a: Known, s: u32) -> Known
+    requires { s < 32 }
+    ensures { (x : ℕ) → Admits a x → Admits result (x / 2 ^ s) }
+{
+    Known {
+        low: a.low >> s,
+        high: a.high >> s,
+        zeros: (a.zeros >> s) | !(u32::MAX >> s),
+        ones: a.ones >> s,
+    }
+}
+
+fn shift_left(a: Known, b: Known) -> Known
+    ensures { (x y : ℕ) → Admits a x → Admits b y → Admits result ((x * 2 ^ (y % 32)) % 2 ^ 32) }
+{
+    if b.low == b.high {
+        shifted_left(a, b.low % 32)
+    } else {
+        full()
+    }
+}
+
+fn shift_right(a: Known, b: Known) -> Known
+    ensures { (x y : ℕ) → Admits a x → Admits b y → Admits result (x / 2 ^ (y % 32)) }
+{
+    if b.low == b.high {
+        shifted_right(a, b.low % 32)
+    } else {
+        between(0, a.high)
+    }
+}
+
+/// What follows of an operation from what is known of its operands.
+pub fn forward(op: BinOp, a: Known, b: Known) -> Known
+    ensures admits { (x y : ℕ) → Admits a x → Admits b y → Admits result (apply op x y) }
+    ensures forced { KeepsDecided op → IsSettled a → IsSettled b → IsDecided a → IsDecided b → IsForced result }
+{
+    match op {
+        BinOp::Add => add(a, b),
+        BinOp::Sub => sub(a, b),
+        BinOp::Mul => mul(a, b),
+        BinOp::Div => div(a, b),
+        BinOp::Or => or(a, b),
+        BinOp::And => and(a, b),
+        BinOp::Lsh => shift_left(a, b),
+        BinOp::Rsh => shift_right(a, b),
+        BinOp::Xor => xor(a, b),
+    }
+}
+
+/// What follows of the negation of a word.
+pub fn negated(a: Known) -> Known
+    ensures admits { (x : ℕ) → Admits a x → Admits result ((2 ^ 32 - x) % 2 ^ 32) }
+    ensures forced { IsSettled a → IsDecided a → IsForced result }
+{
+    if a.low >= 1 && a.high >= 1 {
+        between(a.high.wrapping_neg(), a.low.wrapping_neg())
+    } else if a.high == 0 {
+        between(0, 0)
+    } else {
+        full()
+    }
+}

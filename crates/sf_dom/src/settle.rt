@@ -1,0 +1,211 @@
+ghost use Rattle.std.specs.Prelude.{◌≡◌, ◌≢◌, ℕ, ◌+◌, ◌-◌, ◌*◌, ◌/◌, ◌%◌, ◌<◌, ◌≤◌, ◌^◌, ◌⊎◌, List, length, Contains, MatchOption, MatchBool, IfSome, IfOk, OnErr, bit_and, bit_or, bit_xor, true, false};
+ghost use Rattle.sf_insn.specs.Inputs.{IsInput};
+ghost use Rattle.sf_insn.specs.Words.{apply};
+ghost use Rattle.sf_sym.specs.Pool.{OperandsBelow, IsPool, node_at, node_value, values_of, value_of};
+ghost use Rattle.sf_insn.specs.declared.input.Input.{Input};
+ghost use Rattle.sf_dom.specs.Known.{HasBits, Admits, Leaves, IsNarrower, IsSettled, IsDecided};
+ghost use Rattle.sf_dom.specs.Rules.{KeepsAgreeing, NoneAgreesWith, KeepsAgreeingOn, NoneAgreesOn, LeavesPair, LeavesNoPair, IsSwappable, IsSharp, Gives, IsPass, AllNarrower, IsTightNode, IsSettle, AreExcluded, AreBothExcluded, Holds};
+ghost use Rattle.sf_dom.specs.Facts.{known_at, numbers_at, excluded_of, AgreesWith};
+
+use crate::domain::{meet, pass, tightened};
+use crate::exclusions::Exclusions;
+use crate::fault::Fault;
+use crate::known::Known;
+use crate::learning::{Pair, at_least, common_bit, differs, equal, greater, no_common_bit};
+use sf_insn::{BinOp, Test};
+use sf_sym::{Cond, Node, NodeId, Pool, constant_of};
+
+/// What is known, with more known bits.
+fn with_bits(known: Known, zeros: u32, ones: u32) -> Known
+    ensures admits { (x : ℕ) → Admits known x → HasBits x zeros ones → Admits result x }
+    ensures narrower { IsNarrower known result }
+{
+    Known {
+        zeros: known.zeros | zeros,
+        ones: known.ones | ones,
+        ..known
+    }
+}
+
+/// What is known of an operand, with the bits that it gains from those of its node, whose other operand is a constant.
+fn back(op: BinOp, node: Known, c: u32, operand: Known) -> Option<Known>
+    ensures bits { IfSome result (λ g. (x : ℕ) → Admits operand x → Admits node (apply op x c) → Admits g x) }
+    ensures swappable { IfSome result (λ g. IsSwappable op) }
+    ensures narrower { IfSome result (λ g. IsNarrower operand g) }
+{
+    match op {
+        BinOp::And => Some(with_bits(operand, node.zeros & c, node.ones)),
+        BinOp::Or => Some(with_bits(operand, node.zeros, node.ones & !c)),
+        BinOp::Xor => Some(with_bits(operand, (node.zeros & !c) | (node.ones & c), (node.ones & !c) | (node.zeros & c))),
+        _ => None,
+    }
+}
+
+/// The constant operand of a node and its other operand, where exactly one is constant.
+fn constant_operand(pool: &Pool, at: usize) -> Option<(BinOp, usize, u32)>
+    requires { at < length pool.now }
+    ensures smaller { IfSome result (λ o. o.1 < at) }
+    ensures value { IfSome result (λ o. (d : Input) → IsInput d → IsSwappable o.0 → value_of pool.now d at ≡ apply o.0 (value_of pool.now d o.1) o.2) }
+{
+    match pool.node(NodeId(at)) {
+        Node::Bin(op, a, b) => match (constant_of(pool.node(a)), constant_of(pool.node(b))) {
+            (None, Some(c)) => Some((op, a.0, c)),
+            (Some(c), None) => Some((op, b.0, c)),
+            _ => None,
+        },
+        _ => None,
+    }
+}
+
+/// Takes known bits back from a node through constants. False: no input agrees.
+fn walk(nodes: &mut [Known], excluded: &[Exclusions], pool: &Pool, from: usize) -> bool
+    requires covers { length nodes.old ≡ length pool.now }
+    requires words { length excluded.now ≡ 16 }
+    requires start { from < length pool.now }
+    ensures { MatchBool result
+        (KeepsAgreeing nodes.old nodes.new excluded.now pool.now × AllNarrower nodes.old nodes.new)
+        (NoneAgreesWith nodes.old excluded.now pool.now) }
+{
+    let mut at = from;
+    while let Some((op, x, c)) = constant_operand(pool, at) {
+        let node = pool.node(NodeId(x));
+        match back(op, nodes[at], c, nodes[x]) {
+            None => return true,
+            Some(gained) => match tightened(gained, node, excluded) {
+                None => return false,
+                Some(next) => {
+                    nodes[x] = next;
+                }
+            },
+        }
+        at = x;
+    }
+    true
+}
+
+/// What a test leaves of two words, or none where no two numbers pass it.
+fn tested(v: Known, w: Known, test: Test, sense: bool) -> Option<Pair>
+    ensures pair { MatchOption result
+        (LeavesNoPair v w (λ x y. Gives test x y sense))
+        (λ p. LeavesPair v w p.node p.other (λ x y. Gives test x y sense)) }
+    ensures sharp { IsDecided w → IsSharp test sense w.low → IfSome result (λ p. (x : ℕ) → Admits p.node x → Gives test x w.low sense) }
+    ensures decided { IsSettled v → IsDecided v → IsDecided w → IfSome result (λ p. (x : ℕ) → Admits p.node x → Gives test x w.low sense) }
+{
+    match (test, sense) {
+        (Test::Equal, true) => Some(equal(v, w)),
+        (Test::Equal, false) => Some(Pair {
+            node: if w.low == w.high { differs(v, w.low)? } else { v },
+            other: if v.low == v.high { differs(w, v.low)? } else { w },
+        }),
+        (Test::Greater, true) => greater(v, w),
+        (Test::Greater, false) => {
+            let swapped = at_least(w, v);
+            Some(Pair {
+                node: swapped.other,
+                other: swapped.node,
+            })
+        }
+        (Test::GreaterOrEqual, true) => Some(at_least(v, w)),
+        (Test::GreaterOrEqual, false) => {
+            let swapped = greater(w, v)?;
+            Some(Pair {
+                node: swapped.other,
+                other: swapped.node,
+            })
+        }
+        (Test::AnyBit, true) => {
+            let node = if w.low == w.high { common_bit(v, w.low)? } else { v };
+            Some(Pair { node, other: w })
+        }
+        (Test::AnyBit, false) => {
+            let node = if w.low == w.high { no_common_bit(v, w.low) } else { v };
+            Some(Pair { node, other: w })
+        }
+    }
+}
+
+/// Tightens what is known of a node where it stands. False: no input agrees.
+pub fn settle_node(nodes: &mut [Known], excluded: &[Exclusions], pool: &Pool, at: usize, more: Known) -> bool
+    requires covers { length nodes.old ≡ length pool.now }
+    requires words { length excluded.now ≡ 16 }
+    requires place { at < length pool.now }
+    ensures { MatchBool result
+        (KeepsAgreeingOn nodes.old nodes.new excluded.now pool.now (λ d. Admits more (value_of pool.now d at))
+            × AllNarrower nodes.old nodes.new × IsNarrower more (known_at nodes.new at))
+        (NoneAgreesOn nodes.old excluded.now pool.now (λ d. Admits more (value_of pool.now d at))) }
+{
+    let node = pool.node(NodeId(at));
+    match tightened(meet(nodes[at], more), node, excluded) {
+        None => false,
+        Some(next) => {
+            nodes[at] = next;
+            true
+        }
+    }
+}
+
+/// Takes a condition into what is known. False: no input that agrees meets it.
+pub fn settle(nodes: &mut [Known], excluded: &[Exclusions], pool: &Pool, cond: &Cond) -> bool
+    requires covers { length nodes.old ≡ length pool.now }
+    requires words { length excluded.now ≡ 16 }
+    requires node { cond.now.node.0 < length pool.now }
+    requires other { cond.now.other.0 < length pool.now }
+    ensures { MatchBool result
+        (IsSettle nodes.old nodes.new excluded.now pool.now cond.now)
+        (NoneAgreesOn nodes.old excluded.now pool.now (Holds pool.now cond.now)) }
+{
+    let v = cond.node.0;
+    let w = cond.other.0;
+    match tested(nodes[v], nodes[w], cond.test, cond.sense) {
+        None => false,
+        Some(pair) => {
+            if !settle_node(nodes, excluded, pool, v, pair.node) {
+                return false;
+            }
+            if !settle_node(nodes, excluded, pool, w, pair.other) {
+                return false;
+            }
+            if !walk(nodes, excluded, pool, v) {
+                return false;
+            }
+            if !walk(nodes, excluded, pool, w) {
+                return false;
+            }
+            pass(nodes, excluded, pool)
+        }
+    }
+}
+
+/// A word is not the number of a node that is decided.
+pub fn exclude(excluded: &mut [Exclusions], node: Node, other: Known) -> Result<(), Fault>
+    requires words { length excluded.old ≡ 16 }
+    requires word { (i : ℕ) → node ≡ Node.Word i → i < 16 }
+    ensures { IfOk result (λ _. AreExcluded excluded.old excluded.new node other) }
+{
+    if let Node::Word(i) = node
+        && other.low == other.high
+    {
+        excluded[i as usize].add(other.low)?;
+    }
+    Ok(())
+}
+
+/// Where a condition says that two nodes differ, neither is the number of the other, if that is decided.
+pub fn exclude_both(excluded: &mut [Exclusions], nodes: &[Known], pool: &Pool, cond: &Cond) -> Result<(), Fault>
+    requires covers { length nodes.now ≡ length pool.now }
+    requires words { length excluded.old ≡ 16 }
+    requires node { cond.now.node.0 < length pool.now }
+    requires other { cond.now.other.0 < length pool.now }
+    ensures { IfOk result (λ _. AreBothExcluded nodes.now excluded.old excluded.new pool.now cond.now) }
+{
+    let left = pool.node(cond.node);
+    let right = pool.node(cond.other);
+    match (cond.test, cond.sense) {
+        (Test::Equal, false) => {
+            exclude(excluded, left, nodes[cond.other.0])?;
+            exclude(excluded, right, nodes[cond.node.0])?;
+            Ok(())
+        }
+        _ => Ok(()),
+    }
+}
