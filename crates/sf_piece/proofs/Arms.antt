@@ -15,7 +15,8 @@ use Rattle.sf_sym.specs.Pool.{value_of, values_of, node_value}
 use Rattle.sf_dom.specs.Facts.{FactsView}
 use Rattle.sf_piece.specs.declared.machine.Machine.{Machine}
 use Rattle.sf_piece.specs.Pieces.{PieceData, is_member}
-use Rattle.sf_piece.specs.Works.{valued, AreNodesBelow, Standing, Goes, GoesBy, SetsA, SetsX, IsPushed}
+use Rattle.sf_piece.specs.SymbolicRun.{valued, AreNodesBelow}
+use Rattle.sf_piece.specs.Works.{Standing, Goes, GoesBy, SetsA, SetsX, IsPushed}
 
 abbrev on_a : Machine → NodeId → Machine
 on_a m id = record m { a = id; place = m.place + 1; taken = 0; value = 0 }
@@ -24,46 +25,46 @@ abbrev on_x : Machine → NodeId → Machine
 on_x m id = record m { x = id; place = m.place + 1; taken = 0; value = 0 }
 
 pub set_a_goes : (p : PieceData) (i : Insn) (node : Node) (q : PieceData) (id : NodeId) → IsPushed p node q id → SetsA p i node → Goes q i (on_a q.machine id)
-set_a_goes p i node q id h sets = subst (λ (r : PieceData). Goes r i (on_a r.machine id)) (sym h.same) (record {
+set_a_goes p i node q id h sets = subst (λ (r : PieceData). Goes r i (on_a r.machine id)) (sym h.grown.same) (record {
   program = refl;
   so_far = refl;
   zero = refl;
   taken = refl;
   value = refl;
-  nodes = record { a = h.within; x = h.nodes.x; zero = h.nodes.zero; scratch = h.nodes.scratch };
+  nodes = record { a = h.within; x = h.grown.nodes.x; zero = h.grown.nodes.zero; scratch = h.grown.nodes.scratch };
   run = by sets;
 })
   where
     to : (d : Input) (v : ℕ) → value_of q.pool d id.0 ≡ v → valued q.pool (on_a p.machine id) d ≡ record (valued p.pool p.machine d) { place = p.machine.place + 1; a = v }
     to d v e =
-        ap (λ (s : State). record s { place = p.machine.place + 1; a = value_of q.pool d id.0 }) (h.state d)
+        ap (λ (s : State). record s { place = p.machine.place + 1; a = value_of q.pool d id.0 }) (h.grown.state d)
         ∙ ap (λ (n : ℕ). record (valued p.pool p.machine d) { place = p.machine.place + 1; a = n }) e
 
     by : SetsA p i node → GoesBy (record p { pool = q.pool; facts = q.facts }) i (on_a p.machine id)
-    by (inl run) = inl (λ d. ap (λ (s : State). executed d s i) (h.state d) ∙ run d ∙ ap (goes []) (sym (to d (node_value d (values_of p.pool d) node) (h.value d))))
+    by (inl run) = inl (λ d. ap (λ (s : State). executed d s i) (h.grown.state d) ∙ run d ∙ ap (goes []) (sym (to d (node_value d (values_of p.pool d) node) (h.value d))))
     by (inr (is, taken, value)) =
         inr (
           is,
           taken,
           λ d.
               to d (apply Div (value_of p.pool d p.machine.a.0) (value_of p.pool d p.machine.x.0)) (h.value d ∙ value d)
-              ∙ ap (λ (s : State). record s { place = p.machine.place + 1; a = apply Div s.a s.x }) (sym (h.state d)),
+              ∙ ap (λ (s : State). record s { place = p.machine.place + 1; a = apply Div s.a s.x }) (sym (h.grown.state d)),
         )
 
 pub set_x_goes : (p : PieceData) (i : Insn) (k : ℕ) (q : PieceData) (id : NodeId) → IsPushed p (Const k) q id → SetsX p i k → Goes q i (on_x q.machine id)
-set_x_goes p i k q id h sets = subst (λ (r : PieceData). Goes r i (on_x r.machine id)) (sym h.same) (record {
+set_x_goes p i k q id h sets = subst (λ (r : PieceData). Goes r i (on_x r.machine id)) (sym h.grown.same) (record {
   program = refl;
   so_far = refl;
   zero = refl;
   taken = refl;
   value = refl;
-  nodes = record { a = h.nodes.a; x = h.within; zero = h.nodes.zero; scratch = h.nodes.scratch };
-  run = inl (λ d. ap (λ (s : State). executed d s i) (h.state d) ∙ sets d ∙ ap (goes []) (sym (to d (h.value d))));
+  nodes = record { a = h.grown.nodes.a; x = h.within; zero = h.grown.nodes.zero; scratch = h.grown.nodes.scratch };
+  run = inl (λ d. ap (λ (s : State). executed d s i) (h.grown.state d) ∙ sets d ∙ ap (goes []) (sym (to d (h.value d))));
 })
   where
     to : (d : Input) → value_of q.pool d id.0 ≡ k → valued q.pool (on_x p.machine id) d ≡ record (valued p.pool p.machine d) { place = p.machine.place + 1; x = k }
     to d e =
-        ap (λ (s : State). record s { place = p.machine.place + 1; x = value_of q.pool d id.0 }) (h.state d)
+        ap (λ (s : State). record s { place = p.machine.place + 1; x = value_of q.pool d id.0 }) (h.grown.state d)
         ∙ ap (λ (n : ℕ). record (valued p.pool p.machine d) { place = p.machine.place + 1; x = n }) e
 
 -- ---- moves

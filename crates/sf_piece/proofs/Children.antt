@@ -22,7 +22,10 @@ use Rattle.sf_dom.specs.Facts.{FactsView, Covers, Agrees}
 use Rattle.sf_piece.specs.declared.machine.Machine.{Machine}
 use Rattle.sf_piece.specs.Machines.{returned}
 use Rattle.sf_piece.specs.Pieces.{PieceData, is_member, is_prefix, IsTrulyNamed}
-use Rattle.sf_piece.specs.Works.{IsPending, StandsAt, IsPiece, Standing, IsEntry, AfterEntry, sensed, IsImplied, AreChildFacts, IsChild, IsOn, HasGone}
+use Rattle.sf_check.specs.Stacks.{IsPlain}
+use Rattle.sf_piece.specs.PlainPieces.{IsPlainPiece}
+use Rattle.sf_piece.specs.SymbolicRun.{IsPending, StandsAt, IsPiece, IsLawfulPiece}
+use Rattle.sf_piece.specs.Works.{Standing, IsEntry, AfterEntry, sensed, IsImplied, AreChildFacts, IsChild, IsOn, HasGone}
 use Rattle.sf_piece.proofs.Moves.{made}
 use Rattle.sf_piece.proofs.Kept.{assembled, returned_nodes, some_input}
 use Rattle.sf_piece.proofs.Entries.{Turned, Narrows, branch_turned, return_turned, zero_turned, nonzero_turned, entry_trace}
@@ -103,7 +106,7 @@ below_push n (x ∷ cs) c b h = (b.0, below_push n cs c b.1 h)
 abbrev pub child_of : PieceData → Cond → Bool → Machine → FactsView → PieceData
 child_of p cond b m fs = made p (p.name ++ b ∷ []) (p.conditions ++ sensed cond b ∷ []) m fs
 
-child_members : (p : PieceData) (cond : Cond) (b : Bool) (m : Machine) (fs : FactsView) (d : Input) → is_member (child_of p cond b m fs) d ≡ (is_member p d && is_met p.pool d (sensed cond b))
+pub child_members : (p : PieceData) (cond : Cond) (b : Bool) (m : Machine) (fs : FactsView) (d : Input) → is_member (child_of p cond b m fs) d ≡ (is_member p d && is_met p.pool d (sensed cond b))
 unfolding is_member
 child_members p cond b m fs d = all_push (is_met p.pool d) p.conditions (sensed cond b)
 
@@ -163,10 +166,11 @@ route_of p (code ∷ later) base pre s =
 pub piece_named : (p : PieceData) → IsPiece p → IsTrulyNamed p
 piece_named p h = record { route = route_of p h.rest h.base h.pre h.stands; members = h.members }
 
-pub child_is : (p : PieceData) (i : Insn) (cond : Cond) (b : Bool) (m : Machine) (fs : FactsView) → IsPiece p → Standing p i → IsEntry p i cond → AreChildFacts p cond b fs → AfterEntry p i b m → IsChild p cond b (child_of p cond b m fs)
-child_is p i cond b m fs h s e facts after = record {
+pub child_is : (p : PieceData) (cond : Cond) (b : Bool) (m : Machine) (fs : FactsView) → IsLawfulPiece (child_of p cond b m fs) → IsChild p cond b (child_of p cond b m fs)
+child_is p cond b m fs h = record {
   of = refl;
   name = refl;
-  named = piece_named (child_of p cond b m fs) (child_piece p i cond b m fs h s e facts after);
+  named = h.named;
   members = λ d inp. child_members p cond b m fs d;
+  plain = h.plain;
 }

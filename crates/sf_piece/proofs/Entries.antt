@@ -24,7 +24,8 @@ use Rattle.sf_dom.specs.Facts.{FactsView, Covers, Agrees}
 use Rattle.sf_piece.specs.declared.machine.Machine.{Machine}
 use Rattle.sf_piece.specs.Machines.{returned}
 use Rattle.sf_piece.specs.Pieces.{PieceData, is_member, is_prefix}
-use Rattle.sf_piece.specs.Works.{valued, met_of, number_from, IsPending, AreNodesBelow, StandsAt, IsPiece, Standing, IsEntry, AfterEntry, Asks, NextIs, sensed, IsImplied, left}
+use Rattle.sf_piece.specs.SymbolicRun.{valued, met_of, number_from, IsPending, AreNodesBelow, StandsAt, IsPiece}
+use Rattle.sf_piece.specs.Works.{Standing, IsEntry, AfterEntry, Asks, NextIs, sensed, IsImplied, left}
 use Rattle.sf_piece.proofs.Moves.{made, stands_moved, stands_kept, stands_returned}
 use Rattle.sf_piece.proofs.Kept.{at_same, safe_moved, assembled}
 use Rattle.sf_piece.proofs.Prefixes.{prefix_next, prefix-is, same-true, same-refl}

@@ -22,12 +22,14 @@ use Rattle.sf_run.specs.TraceLaws.{newest_first}
 use Rattle.sf_sym.specs.declared.pool.Node.{Node}
 use Rattle.sf_sym.specs.declared.pool.NodeId.{NodeId}
 use Rattle.sf_sym.specs.declared.pool.Cond.{Cond}
-use Rattle.sf_sym.specs.Pool.{IsPool, Extends, value_of, values_of, node_value, is_met, IsCondBelow}
+use Rattle.sf_sym.specs.declared.pool.Node.TheVariants.{Const}
+use Rattle.sf_sym.specs.Pool.{node_at, IsPool, Extends, value_of, values_of, node_value, is_met, IsCondBelow}
 use Rattle.sf_sym.specs.ValueLaws.{value-older}
 use Rattle.sf_dom.specs.Facts.{FactsView, Covers, Agrees, TakesIn, NoneAgrees}
 use Rattle.sf_piece.specs.declared.machine.Machine.{Machine}
 use Rattle.sf_piece.specs.Pieces.{PieceData, is_member, is_prefix, HasNoMember, IsRightAnswer, IsRoot}
-use Rattle.sf_piece.specs.Works.{valued, met_of, IsPending, IsIn, InProgram, HasTaken, RunsOn, Follows, AreNodesBelow, StandsAt, IsPiece, Standing, IsPushed}
+use Rattle.sf_piece.specs.SymbolicRun.{valued, met_of, IsPending, IsIn, InProgram, HasTaken, RunsOn, Follows, AreNodesBelow, StandsAt, IsPiece}
+use Rattle.sf_piece.specs.Works.{Standing, HasGrown, IsPushed}
 use Rattle.sf_piece.proofs.Valued.{valued_grown, all_grown, below_grown}
 use Rattle.sf_piece.proofs.Children.{piece_named}
 
@@ -87,11 +89,9 @@ grown_piece p added fs h pool covers takes = record {
   stands = stands_grown p added fs h.rest h.base h.pre h.bounded h.nodes h.stands;
 }
 
-pub pushed : (p : PieceData) (added : List Node) (fs : FactsView) (node : Node) (id : NodeId) → IsPiece p → id.0 < length (p.pool ++ added) → ((d : Input) → value_of (p.pool ++ added) d id.0 ≡ node_value d (values_of p.pool d) node) → IsPushed p node (grown p added fs) id
-pushed p added fs node id h within value = record {
+pub has_grown : (p : PieceData) (added : List Node) (fs : FactsView) → IsPiece p → HasGrown p (grown p added fs)
+has_grown p added fs h = record {
   same = refl;
-  within = within;
-  value = value;
   members = λ d. members_grown p added fs d h.bounded;
   state = λ d. valued_grown p.pool added p.machine d h.nodes;
   standing = λ i s. record {
@@ -113,6 +113,9 @@ pushed p added fs node id h within value = record {
   };
   nodes = nodes_le (length p.pool) (length (p.pool ++ added)) p.machine (length_le p added) h.nodes;
 }
+
+pub pushed : (p : PieceData) (added : List Node) (fs : FactsView) (node : Node) (id : NodeId) → IsPiece p → id.0 < length (p.pool ++ added) → ((d : Input) → value_of (p.pool ++ added) d id.0 ≡ node_value d (values_of p.pool d) node) → ((c : ℕ) → node ≡ Const c → node_at (p.pool ++ added) id.0 ≡ Const c) → IsPushed p node (grown p added fs) id
+pushed p added fs node id h within value constant = record { grown = has_grown p added fs h; within = within; value = value; constant = constant }
 
 bool_false : (b : Bool) → (b ≡ true → ⊥) → b ≡ false
 bool_false true h = absurd (h refl)

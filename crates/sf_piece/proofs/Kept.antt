@@ -26,7 +26,8 @@ use Rattle.sf_dom.specs.Facts.{FactsView, Covers, Agrees}
 use Rattle.sf_piece.specs.declared.machine.Machine.{Machine}
 use Rattle.sf_piece.specs.Machines.{returned}
 use Rattle.sf_piece.specs.Pieces.{PieceData, is_member, is_prefix}
-use Rattle.sf_piece.specs.Works.{valued, met_of, number_from, IsPending, AreNodesBelow, StandsAt, IsPiece, Standing, Goes, GoesBy, ReturnsNow, HasGone, IsOn, left}
+use Rattle.sf_piece.specs.SymbolicRun.{valued, met_of, number_from, IsPending, AreNodesBelow, StandsAt, IsPiece}
+use Rattle.sf_piece.specs.Works.{Standing, Goes, GoesBy, ReturnsNow, HasGone, IsOn, left}
 use Rattle.sf_piece.proofs.Moves.{made, stands_moved, stands_returned}
 
 pub at_same : (code : List Insn) (place : ℕ) (i j : Insn) → IsAt code place i → IsAt code place j → i ≡ j
@@ -94,7 +95,7 @@ pub same_members : (p : PieceData) (m : Machine) → IsOn p (made p p.name p.con
 unfolding is_member
 same_members p m = record { of = refl; on = []; name = sym (append-nil p.name); members = λ d inp. refl }
 
-abbrev gone : PieceData → Machine → PieceData
+abbrev pub gone : PieceData → Machine → PieceData
 gone p m = made p p.name p.conditions m p.facts
 
 kept : (p : PieceData) (m : Machine) → IsPiece p → AreNodesBelow (length p.pool) m → m.zero ≡ p.machine.zero → (rest : List (List Insn)) (base pre : List Bool) → StandsAt (gone p m) rest base pre → IsPiece (gone p m)

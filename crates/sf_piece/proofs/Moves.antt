@@ -22,7 +22,7 @@ use Rattle.sf_dom.specs.Facts.{FactsView}
 use Rattle.sf_piece.specs.declared.machine.Machine.{Machine}
 use Rattle.sf_piece.specs.Machines.{returned}
 use Rattle.sf_piece.specs.Pieces.{PieceData, is_member}
-use Rattle.sf_piece.specs.Works.{valued, met_of, number_from, IsPending, IsIn, InProgram, RouteFrom, RunsOn, HasTaken, Follows, StandsAt}
+use Rattle.sf_piece.specs.SymbolicRun.{valued, met_of, number_from, IsPending, IsIn, InProgram, RouteFrom, RunsOn, HasTaken, Follows, StandsAt}
 
 -- a piece of the same stack and pool
 abbrev pub made : PieceData → List Bool → List Cond → Machine → FactsView → PieceData

@@ -26,7 +26,8 @@ use Rattle.sf_sym.specs.Pool.{IsPool, value_of}
 use Rattle.sf_dom.specs.Facts.{FactsView, Covers, Agrees}
 use Rattle.sf_piece.specs.declared.machine.Machine.{Machine}
 use Rattle.sf_piece.specs.Pieces.{PieceData, is_member, is_prefix, IsRightAnswer, IsRoot}
-use Rattle.sf_piece.specs.Works.{valued, met_of, number_from, IsPending, InProgram, HasTaken, RouteFrom, RunsOn, Follows, AreNodesBelow, StandsAt, IsPiece, Standing}
+use Rattle.sf_piece.specs.SymbolicRun.{valued, met_of, number_from, IsPending, InProgram, HasTaken, RouteFrom, RunsOn, Follows, AreNodesBelow, StandsAt, IsPiece, IsLawfulPiece}
+use Rattle.sf_piece.specs.Works.{Standing}
 use Rattle.sf_piece.proofs.Moves.{runs_whole}
 use Rattle.sf_piece.proofs.Kept.{some_input}
 use Rattle.sf_piece.proofs.Children.{piece_named}
@@ -175,9 +176,9 @@ first_is stack pool zero_id fs lawful is within zeros covers known = record {
     none_taken [] d = tt
     none_taken (c ∷ rest) d = refl
 
-pub first_root : (stack : List (List Insn)) (pool : List Node) (zero_id : NodeId) (fs : FactsView) → IsPiece (first_piece stack pool zero_id fs) → IsRoot stack (first_piece stack pool zero_id fs)
+pub first_root : (stack : List (List Insn)) (pool : List Node) (zero_id : NodeId) (fs : FactsView) → IsLawfulPiece (first_piece stack pool zero_id fs) → IsRoot stack (first_piece stack pool zero_id fs)
 unfolding is_member
-first_root stack pool zero_id fs h = record { of = refl; name = refl; named = piece_named (first_piece stack pool zero_id fs) h; all = λ d inp. refl }
+first_root stack pool zero_id fs h = record { of = refl; name = refl; named = h.named; all = λ d inp. refl }
 
 -- the instructions that the code reads
 pub at_code : (stack lent : List (List Insn)) (n : ℕ) (p insns : List Insn) → lent ≡ stack → n < length lent → p ≡ get_or lent (length lent - 1 - n) p → insns ≡ p → insns ≡ get_or stack (length stack - 1 - n) []

@@ -1,6 +1,7 @@
 -- A machine's concrete states while its pool grows.
 use Rattle.std.proofs.Common.{◌≡◌, ℕ, zero, suc, ◌<◌, ◌&&◌, Bool, List, [], ◌∷◌, ◌++◌, length, map, Option, Some, None, refl, sym, ap, subst, ◌∙◌, arith}
 use Rattle.std.specs.Prelude.{option_map, slice_get}
+use Rattle.std.proofs.lemmas.Option.{same_Some}
 use Rattle.std.specs.List.{list_all, AllByRecursion}
 use Rattle.sf_insn.specs.declared.input.Input.{Input}
 use Rattle.sf_run.specs.Machine.{State}
@@ -12,7 +13,7 @@ use Rattle.sf_sym.specs.ValueLaws.{value-older}
 use Rattle.sf_insn.specs.Words.{passes}
 use Rattle.sf_piece.specs.declared.machine.Machine.{Machine}
 use Rattle.sf_piece.specs.Pieces.{PieceData, is_member}
-use Rattle.sf_piece.specs.Works.{valued, AreNodesBelow}
+use Rattle.sf_piece.specs.SymbolicRun.{valued, AreNodesBelow}
 
 pub scratch_same : (ws : List (Option NodeId)) (f g : NodeId → ℕ) → ((k : ℕ) (w : NodeId) → slice_get ws k ≡ Some (Some w) → f w ≡ g w) → map (option_map f) ws ≡ map (option_map g) ws
 scratch_same [] f g h = refl
@@ -48,3 +49,8 @@ all_grown pool added d (c ∷ cs) b =
 pub below_grown : (n m : ℕ) (cs : List Cond) → n < m → AllByRecursion (IsCondBelow n) cs → AllByRecursion (IsCondBelow m) cs
 below_grown n m [] h b = tt
 below_grown n m (c ∷ cs) h b = ((omega (arith, b.0.0), omega (arith, b.0.1)), below_grown n m cs h b.1)
+
+pub below_at : (n : ℕ) (cs : List Cond) (k : ℕ) (c : Cond) → AllByRecursion (IsCondBelow n) cs → slice_get cs k ≡ Some c → IsCondBelow n c
+below_at n [] k c b at = absurd cc
+below_at n (x ∷ cs) zero c b at = subst (IsCondBelow n) (same_Some x c at) b.0
+below_at n (x ∷ cs) (suc k) c b at = below_at n cs k c b.1 at

@@ -1,6 +1,6 @@
--- What a piece keeps of the symbolic run that made it.
-use Rattle.std.specs.Prelude.{◌≡◌, ℕ, zero, suc, ◌+◌, ◌-◌, ◌*◌, ◌&&◌, ◌<◌, ◌≤◌, ◌^◌, ◌⊎◌, Bool, true, false, List, [], ◌∷◌, ◌++◌, length, take, drop, reverse, map, All, Option, Some, None, option_map, slice_get, if◌then◌else◌, ◌==◌}
-use Rattle.std.specs.List.{flat_map, AllByRecursion}
+-- The parts of a step of the symbolic run: what the functions that work a piece tell each other. Nothing above this crate
+-- speaks of these.
+use Rattle.std.specs.Prelude.{◌≡◌, ℕ, zero, ◌+◌, ◌-◌, ◌*◌, ◌&&◌, ◌<◌, ◌≤◌, ◌^◌, ◌⊎◌, Bool, true, false, List, [], ◌∷◌, ◌++◌, length, Some, slice_get, if◌then◌else◌, ◌==◌}
 use Rattle.sf_insn.specs.declared.input.Input.{Input}
 use Rattle.sf_insn.specs.Inputs.{IsInput}
 use Rattle.sf_insn.specs.declared.ops.BinOp.{BinOp}
@@ -9,112 +9,23 @@ use Rattle.sf_check.specs.declared.insn.Insn.{Insn}
 use Rattle.sf_check.specs.declared.insn.Insn.TheVariants.{LoadScratch, LoadXScratch, StoreA, StoreX, Alu, Jump, Branch, ReturnConstant, ReturnA, Tax, Txa}
 use Rattle.sf_check.specs.declared.insn.Operand.{Operand}
 use Rattle.sf_check.specs.Insns.{IsInRange, loaded_by}
-use Rattle.sf_check.specs.declared.insn.Operand.TheVariants.{X}
-use Rattle.sf_check.specs.Programs.{IsAt, IsLawful}
-use Rattle.sf_check.specs.Stacks.{IsLawfulStack}
-use Rattle.sf_run.specs.Machine.{State, Progress, goes, returns, stuck, operand_of, with_a, with_x, executed, step, run_for, met_by, return_of, trace_of, returns_of}
-use Rattle.sf_run.specs.Answers.{IsAnswer}
-use Rattle.sf_run.specs.Routes.{IsWay, AreWays, IsWholeRoute}
-use Rattle.sf_run.specs.RunLaws.{Safe}
+use Rattle.sf_check.specs.declared.insn.Operand.TheVariants.{Constant, X}
+use Rattle.sf_check.specs.Programs.{IsAt}
+use Rattle.sf_check.specs.Stacks.{IsLawfulStack, IsPlain}
+use Rattle.sf_run.specs.Machine.{Progress, goes, returns, operand_of, with_a, with_x, executed, step}
 use Rattle.sf_sym.specs.declared.pool.Node.{Node}
 use Rattle.sf_sym.specs.declared.pool.NodeId.{NodeId}
-use Rattle.sf_sym.specs.Pool.{IsPool, value_of, values_of, node_value, is_met, IsCondBelow}
+use Rattle.sf_sym.specs.declared.pool.Node.TheVariants.{Const}
+use Rattle.sf_sym.specs.Pool.{node_at, value_of, values_of, node_value, is_met, IsCondBelow}
 use Rattle.sf_sym.specs.declared.pool.Cond.{Cond}
 use Rattle.sf_insn.specs.Words.{apply}
-use Rattle.sf_dom.specs.Facts.{FactsView, Covers, Agrees}
+use Rattle.sf_dom.specs.Facts.{FactsView, Covers, Agrees, KeepsOnly}
+use Rattle.sf_dom.specs.Facts.{IsPlain as IsPlainCond}
 use Rattle.sf_piece.specs.declared.machine.Machine.{Machine}
 use Rattle.sf_piece.specs.Machines.{returned}
-use Rattle.sf_piece.specs.Pieces.{PieceData, is_member, is_prefix, IsTrulyNamed}
-
--- the concrete state for which a symbolic one stands, on an input
-abbrev pub valued : List Node → Machine → Input → State
-valued pool m d = record {
-  place = m.place;
-  a = value_of pool d m.a.0;
-  x = value_of pool d m.x.0;
-  scratch = map (option_map (λ (n : NodeId). value_of pool d n.0)) m.scratch;
-}
-
--- the nodes of a machine are in the pool
-pub record AreNodesBelow (n : ℕ) (m : Machine) : Type 0 where
-  pub a : m.a.0 < n
-  pub x : m.x.0 < n
-  pub zero : m.zero.0 < n
-  pub scratch : (k : ℕ) (w : NodeId) → slice_get m.scratch k ≡ Some (Some w) → w.0 < n
-
--- the truth values that a step meets
-abbrev pub met_of : Progress → List Bool
-met_of (goes met s) = met
-met_of (returns met v) = met
-met_of stuck = []
-
--- the number that bits spell, the highest first
-abbrev pub number_from : ℕ → List Bool → ℕ
-number_from n [] = n
-number_from n (b ∷ bs) = number_from (2 * n + (if b then 1 else 0)) bs
-
--- Which truth values of the instruction at the place are in the name already: none, bits of a returned A, or that X
--- is not 0.
-abbrev pub IsPending : List Insn → ℕ → ℕ → List Bool → Type 0
-IsPending code place taken pre =
-    ((taken ≡ 0) × (pre ≡ [])) ⊎ ((IsAt code place ReturnA × (taken ≤ 32) × (length pre ≡ taken)) ⊎ (IsAt code place (Alu Div X) × (taken ≡ 1) × (pre ≡ false ∷ [])))
-
--- the machine stands in this program
-pub record IsIn (code : List Insn) (pool : List Node) (m : Machine) (pre : List Bool) : Type 0 where
-  pub safe : (d : Input) → Safe code (valued pool m d)
-  pub pending : IsPending code m.place m.taken pre
-
-abbrev pub InProgram : List (List Insn) → List Node → Machine → List Bool → Type 0
-InProgram [] pool m pre = pre ≡ []
-InProgram (code ∷ later) pool m pre = IsIn code pool m pre
-
--- what control alone may still meet
-abbrev pub RouteFrom : List (List Insn) → ℕ → List Bool → Type 0
-RouteFrom [] place more = more ≡ []
-RouteFrom (code ∷ later) place more = (met : List Bool) × (on : List Bool) × IsWay code place met × AreWays later on × (more ≡ met ++ on)
-
--- what the run of the programs that are left meets and returns
-abbrev pub RunsOn : List (List Insn) → Input → State → List Bool → List ℕ → Type 0
-RunsOn [] d s more vs = (more ≡ []) × (vs ≡ [])
-RunsOn (code ∷ later) d s more vs =
-    (n : ℕ) × (o : List Bool × ℕ) × (run_for n code d s ≡ Some o) × (more ≡ o.0 ++ flat_map (λ p. met_by p d) later) × (vs ≡ o.1 ∷ map (λ p. return_of p d) later)
-
--- the truth values taken are those that the step at hand meets first
-abbrev pub HasTaken : List (List Insn) → Input → State → ℕ → List Bool → Type 0
-HasTaken [] d s taken pre = Unit {0}
-HasTaken (code ∷ later) d s taken pre = pre ≡ take taken (met_of (step code d s))
-
--- the run of a member has come to the machine's state
-pub record Follows (p : PieceData) (rest : List (List Insn)) (base pre : List Bool) (d : Input) : Type 0 where
-  pub ends : (more : List Bool) (vs : List ℕ) → RunsOn rest d (valued p.pool p.machine d) more vs → (trace_of p.stack d ≡ base ++ more) × ((earlier : List ℕ) × (returns_of p.stack d ≡ earlier ++ vs) × IsAnswer earlier p.machine.so_far)
-  pub taken : HasTaken rest d (valued p.pool p.machine d) p.machine.taken pre
-
--- where a piece's run stands, among the programs that have not returned, newest first
-pub record StandsAt (p : PieceData) (rest : List (List Insn)) (base pre : List Bool) : Type 0 where
-  pub rest_is : drop p.machine.program (reverse p.stack) ≡ rest
-  pub laws : AllByRecursion IsLawful rest
-  pub name_is : p.name ≡ base ++ pre
-  pub number : p.machine.value ≡ number_from 0 pre
-  pub inside : InProgram rest p.pool p.machine pre
-  pub route : (more : List Bool) → RouteFrom rest p.machine.place more → IsWholeRoute p.stack (base ++ more)
-  pub runs : (d : Input) → IsInput d → is_member p d ≡ true → Follows p rest base pre d
-
--- what a piece keeps
-pub record IsPiece (p : PieceData) : Type 0 where
-  pub lawful : IsLawfulStack p.stack
-  pub pool : IsPool p.pool
-  pub bounded : AllByRecursion (IsCondBelow (length p.pool)) p.conditions
-  pub nodes : AreNodesBelow (length p.pool) p.machine
-  pub zero : (d : Input) → value_of p.pool d p.machine.zero.0 ≡ 0
-  pub covers : Covers p.facts p.pool
-  pub known : (d : Input) → IsInput d → is_member p d ≡ true → Agrees p.facts p.pool d
-  pub members : (d : Input) → IsInput d → is_member p d ≡ is_prefix p.name (trace_of p.stack d)
-  pub rest : List (List Insn)
-  pub base : List Bool
-  pub pre : List Bool
-  pub stands : StandsAt p rest base pre
-
--- ---- for the functions that work a piece
+use Rattle.sf_piece.specs.Pieces.{PieceData, is_member, IsTrulyNamed}
+use Rattle.sf_piece.specs.PlainPieces.{IsPlainPiece}
+use Rattle.sf_piece.specs.SymbolicRun.{AreNodesBelow, StandsAt, met_of, valued}
 
 -- what is left to do at most
 abbrev pub left : PieceData → ℕ
@@ -149,25 +60,27 @@ pub record HasGone (p q : PieceData) : Type 0 where
   pub is_on : IsOn p q
   pub falls : left q < left p
 
--- the pool has this node too
-pub record IsPushed (p : PieceData) (node : Node) (q : PieceData) (id : NodeId) : Type 0 where
+-- the pool and the facts have grown, and all else stands as it was
+pub record HasGrown (p q : PieceData) : Type 0 where
   pub same : q ≡ record p { pool = q.pool; facts = q.facts }
-  pub within : id.0 < length q.pool
-  pub value : (d : Input) → value_of q.pool d id.0 ≡ node_value d (values_of p.pool d) node
   pub members : (d : Input) → is_member q d ≡ is_member p d
   pub state : (d : Input) → valued q.pool p.machine d ≡ valued p.pool p.machine d
   pub standing : (i : Insn) → Standing p i → Standing q i
   pub nodes : AreNodesBelow (length q.pool) p.machine
 
+-- the pool has this node too
+pub record IsPushed (p : PieceData) (node : Node) (q : PieceData) (id : NodeId) : Type 0 where
+  pub grown : HasGrown p q
+  pub within : id.0 < length q.pool
+  pub value : (d : Input) → value_of q.pool d id.0 ≡ node_value d (values_of p.pool d) node
+  pub constant : (c : ℕ) → node ≡ Const c → node_at q.pool id.0 ≡ Const c
+
 -- the second word of an operation or a test has a node
 pub record IsOperand (p : PieceData) (other : Operand) (q : PieceData) (id : NodeId) : Type 0 where
-  pub same : q ≡ record p { pool = q.pool; facts = q.facts }
+  pub grown : HasGrown p q
   pub within : id.0 < length q.pool
   pub value : (d : Input) → value_of q.pool d id.0 ≡ operand_of (valued p.pool p.machine d) other
-  pub members : (d : Input) → is_member q d ≡ is_member p d
-  pub state : (d : Input) → valued q.pool p.machine d ≡ valued p.pool p.machine d
-  pub standing : (i : Insn) → Standing p i → Standing q i
-  pub nodes : AreNodesBelow (length q.pool) p.machine
+  pub constant : (k : ℕ) → other ≡ Constant k → node_at q.pool id.0 ≡ Const k
 
 -- a division by X that is not 0, or a step that meets nothing
 abbrev pub GoesBy : PieceData → Insn → Machine → Type 0
@@ -226,6 +139,7 @@ pub record IsEntry (p : PieceData) (i : Insn) (cond : Cond) : Type 0 where
   pub sense : cond.sense ≡ true
   pub below : IsCondBelow (length p.pool) cond
   pub next : (d : Input) → NextIs (executed d (valued p.pool p.machine d) i) p.machine.taken (is_met p.pool d cond)
+  pub plain : IsPlain p.stack → IsPlainCond p.pool cond
 
 -- where the machine stands after it
 abbrev pub AfterEntry : PieceData → Insn → Bool → Machine → Type 0
@@ -246,10 +160,12 @@ IsNever p cond b = (d : Input) → IsInput d → is_member p d ≡ true → is_m
 abbrev pub IsImplied : PieceData → Cond → Bool → Type 0
 IsImplied p cond b = (d : Input) → IsInput d → is_member p d ≡ true → is_met p.pool d (sensed cond b) ≡ true
 
--- facts of the members that have the entry so
+-- Facts of the members that have the entry so. On a plain stack these are exact: what agrees with them agreed before, and
+-- has the entry so.
 pub record AreChildFacts (p : PieceData) (cond : Cond) (b : Bool) (facts : FactsView) : Type 0 where
   pub covers : Covers facts p.pool
   pub known : (d : Input) → IsInput d → is_member p d ≡ true → is_met p.pool d (sensed cond b) ≡ true → Agrees facts p.pool d
+  pub plain : IsPlain p.stack → KeepsOnly p.facts facts p.pool (λ d. is_met p.pool d (sensed cond b))
 
 abbrev pub IsTurned : PieceData → PieceData → Type 0
 IsTurned p q = HasGone p q
@@ -260,6 +176,7 @@ pub record IsChild (p : PieceData) (cond : Cond) (b : Bool) (c : PieceData) : Ty
   pub name : c.name ≡ p.name ++ b ∷ []
   pub named : IsTrulyNamed c
   pub members : (d : Input) → IsInput d → is_member c d ≡ (is_member p d && is_met p.pool d (sensed cond b))
+  pub plain : IsPlain p.stack → IsPlainPiece c
 
 -- whether an operation asks first whether X is 0
 abbrev pub divides_at : BinOp → Operand → ℕ → Bool

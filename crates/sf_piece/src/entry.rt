@@ -2,14 +2,16 @@
 
 ghost use Rattle.std.specs.Prelude.{◌≡◌, IfOk, length, MatchOption};
 ghost use Rattle.std.specs.Arc.{arc_value};
+ghost use Rattle.sf_check.specs.Stacks.{IsPlain};
 ghost use Rattle.sf_sym.specs.Pool.{IsCondBelow};
+ghost use Rattle.sf_dom.specs.Facts.{IsPlain as IsPlainCond};
 ghost use Rattle.sf_piece.specs.Works.{Standing, IsEntry, AfterEntry, IsTurned, IsChild, Asks, IsImplied, AreChildFacts, IsNever};
 ghost use Rattle.sf_piece.specs.Turns.{IsTurn};
 
 use crate::fault::Fault;
 use crate::machine::Machine;
 use crate::piece::Piece;
-use crate::stepping::{Met, step};
+use crate::walking::{Met, step};
 use sf_check::Insn;
 use sf_dom::Facts;
 use sf_run::Answer;
@@ -101,7 +103,7 @@ fn child(
     let to = after(piece, insn, sense);
     let mut name = Vec::from_slice(alloc, piece.name.as_slice())?;
     name.push(sense)?;
-    let mut conditions = Vec::from_slice(alloc, piece.conditions.as_slice())?;
+    let mut conditions = piece.conditions.fork()?;
     conditions.push(Cond { sense, ..cond })?;
     let child = Piece {
         stack: Arc::try_clone(&piece.stack)?,
@@ -116,15 +118,14 @@ fn child(
 
 /// The piece's facts with the entry as this, or none where that contradicts.
 fn learnt(alloc: Global, piece: &Piece, cond: Cond, sense: bool) -> Result<Option<Facts>, Fault>
-    requires { IsCondBelow (length piece.now.pool) cond }
+    requires below { IsCondBelow (length piece.now.pool) cond }
+    requires plain { IsPlain piece.now.stack → IsPlainCond piece.now.pool cond }
     ensures { IfOk result (λ o. MatchOption o (IsNever piece.now cond sense) (λ fs. AreChildFacts piece.now cond sense fs)) }
 {
-    let mut facts = piece.facts.fork(alloc)?;
-    if facts.learn(alloc, &piece.pool, &Cond { sense, ..cond })? {
-        Ok(Some(facts))
-    } else {
-        Ok(None)
-    }
+    let learnt = piece
+        .facts
+        .learnt(alloc, &piece.pool, &Cond { sense, ..cond })?;
+    Ok(learnt)
 }
 
 /// Learns the entry as false and as true, each from the same facts.
@@ -154,6 +155,6 @@ pub(crate) fn work_once(alloc: Global, piece: Piece) -> Result<Turn, Fault>
         Met::Done(piece) => Ok(Turn::On(piece)),
         Met::Entry(piece, insn, cond) => decide(alloc, piece, insn, cond),
         Met::End(name, answer) => Ok(Turn::Settled(name, answer)),
-        Met::Nothing => Ok(Turn::Empty),
+        Met::Contradiction => Ok(Turn::Empty),
     }
 }

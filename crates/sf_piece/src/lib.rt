@@ -1,12 +1,14 @@
 //! Pieces of the input space: named sets of inputs, and how one is worked.
 #![tactic(auto)]
 
+mod asking;
 mod entry;
 mod fault;
 mod first;
 mod machine;
+mod nodes;
 mod piece;
-mod stepping;
+mod walking;
 mod work;
 
 pub use fault::Fault;

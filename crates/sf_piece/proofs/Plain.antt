@@ -1,0 +1,152 @@
+-- Pieces of plain stacks.
+use Rattle.std.proofs.Common.{◌≡◌, ℕ, zero, suc, ◌+◌, ◌-◌, ◌<◌, ◌≤◌, ◌^◌, ◌&&◌, Bool, true, false, List, [], ◌∷◌, ◌++◌, length, drop, reverse, Option, Some, None, slice_get, refl, sym, ap, subst, ◌∙◌, inl, inr, arith, replicate, length-append}
+use Rattle.std.specs.Prelude.{All, slice_index, slice_index_or}
+use Rattle.std.specs.List.{AllByRecursion}
+use Rattle.std.proofs.lemmas.List.{get_or_append_left, get_or-reverse, length-reverse}
+use Rattle.std.proofs.lemmas.Option.{same_Some}
+use Rattle.std.proofs.lemmas.Bool.{cases_lt}
+use Rattle.std.proofs.lemmas.List.Elements.{All-nil, All-push, All-weaker, All-head, All-tail, All-drop, All-from_recursion, recursion_from_All}
+use Rattle.sf_insn.specs.declared.input.Input.{Input}
+use Rattle.sf_insn.specs.Inputs.{IsInput}
+use Rattle.sf_insn.specs.declared.ops.Test.{Test}
+use Rattle.sf_insn.specs.declared.ops.Test.TheVariants.{Equal, Greater, GreaterOrEqual, AnyBit}
+use Rattle.sf_check.specs.declared.insn.Insn.{Insn}
+use Rattle.sf_check.specs.declared.insn.Insn.TheVariants.{Branch}
+use Rattle.sf_check.specs.declared.insn.Operand.{Operand}
+use Rattle.sf_check.specs.declared.insn.Operand.TheVariants.{Constant, X}
+use Rattle.sf_run.specs.declared.action.Answer.{Answer}
+use Rattle.sf_check.specs.Stacks.{IsPlain, IsPlainInsn}
+use Rattle.sf_check.specs.Programs.{IsAt}
+use Rattle.sf_run.specs.Machine.{trace_of}
+use Rattle.sf_sym.specs.declared.pool.Node.{Node}
+use Rattle.sf_sym.specs.declared.pool.Node.TheVariants.{Const, Word, Bin, Neg}
+use Rattle.sf_sym.specs.declared.pool.NodeId.{NodeId}
+use Rattle.sf_sym.specs.declared.pool.Cond.{Cond}
+use Rattle.sf_sym.specs.Pool.{IsPool, ArePlainNodes, OperandsBelow, folded, node_at, is_met, IsCondBelow}
+use Rattle.sf_dom.specs.Facts.{FactsView, Agrees, KeepsOnly, TakesIn, IsWordOrConst, IsPlainTest}
+use Rattle.sf_dom.specs.FactsLaws.{some-input}
+use Rattle.sf_dom.specs.Facts.{IsPlain as IsPlainCond}
+use Rattle.sf_piece.specs.declared.machine.Machine.{Machine}
+use Rattle.sf_piece.specs.Pieces.{PieceData, is_member, HasNoMember, IsRightAnswer}
+use Rattle.sf_piece.specs.SymbolicRun.{IsPiece}
+use Rattle.sf_piece.specs.Works.{Standing, AreChildFacts, sensed}
+use Rattle.sf_piece.specs.PlainPieces.{IsPlainPiece}
+use Rattle.sf_piece.proofs.Moves.{made}
+use Rattle.sf_piece.proofs.Grown.{grown, members_grown}
+use Rattle.sf_piece.proofs.Children.{child_of, child_members}
+
+-- ---- the instruction at hand
+
+all_reverse : {X : Type 0} (P : X → Type 0) (xs : List X) → All P xs → All P (reverse xs)
+all_reverse P xs h k d less =
+    let inside : k < length xs = omega (arith, length-reverse xs) in
+    subst P (sym (get_or-reverse xs k d inside)) (h (length xs - 1 - k) d (omega arith))
+
+all_at : {X : Type 0} (P : X → Type 0) (xs : List X) (k : ℕ) (x : X) → All P xs → slice_get xs k ≡ Some x → P x
+all_at P [] k x h at = absurd cc
+all_at P (y ∷ xs) zero x h at = subst P (same_Some y x at) (All-head P y xs h)
+all_at P (y ∷ xs) (suc k) x h at = all_at P xs k x (All-tail P y xs h) at
+
+plain_code : (stack : List (List Insn)) (n : ℕ) (code : List Insn) (later : List (List Insn)) → IsPlain stack → drop n (reverse stack) ≡ code ∷ later → All IsPlainInsn code
+plain_code stack n code later plain e =
+    All-head (λ p. All IsPlainInsn p) code later (subst (λ (l : List (List Insn)). All (λ p. All IsPlainInsn p) l) e (All-drop (λ p. All IsPlainInsn p) n (reverse stack) (all_reverse (λ p. All IsPlainInsn p) stack plain)))
+
+-- the instruction at hand of a plain stack is plain
+pub plain_insn : (p : PieceData) (i : Insn) → IsPlain p.stack → Standing p i → IsPlainInsn i
+plain_insn p i plain s = all_at IsPlainInsn s.code p.machine.place i (plain_code p.stack p.machine.program s.code s.later plain s.stands.rest_is) s.at
+
+-- ---- nodes of a plain pool
+
+pub word_or_const : (ns : List Node) (i : ℕ) → IsPool ns → ArePlainNodes ns → i < length ns → IsWordOrConst (node_at ns i)
+word_or_const ns i pool plain less =
+    elim (cases_lt i 16) [
+      | inl word ↦ subst IsWordOrConst (sym (pool.word i word)) tt
+      | inr past ↦ let c = plain i past less in subst IsWordOrConst (sym c.1) tt
+    ]
+
+-- a pool stays plain where a word or a constant is pushed
+pub pushed_plain : (old new : List Node) (node : Node) → IsPool old → OperandsBelow (length old) node → IsWordOrConst node → ArePlainNodes old
+    → ((c : ℕ) → node ≡ Const c → ArePlainNodes old → ArePlainNodes new) → ((i : ℕ) → i < length old → node_at old i ≡ folded old node → new ≡ old) → ArePlainNodes new
+pushed_plain old new (Const c) pool below is plain constant again = constant c refl plain
+pushed_plain old new (Word i) pool below is plain constant again = subst ArePlainNodes (sym (again i (omega (arith, pool.words)) (pool.word i below))) plain
+pushed_plain old new (Bin op a b) pool below is plain constant again = absurd is
+pushed_plain old new (Neg a) pool below is plain constant again = absurd is
+
+cond_grown : (ns added : List Node) (c : Cond) → IsCondBelow (length ns) c → IsPlainCond ns c → IsPlainCond (ns ++ added) c
+cond_grown ns added c below h = record {
+  node = subst IsWordOrConst (sym (get_or_append_left ns added (Const 0) c.node.0 below.0)) h.node;
+  number = h.number;
+  other = get_or_append_left ns added (Const 0) c.other.0 below.1 ∙ h.other;
+  test = h.test;
+}
+
+conds_grown : (ns added : List Node) (cs : List Cond) → AllByRecursion (IsCondBelow (length ns)) cs → All (IsPlainCond ns) cs → All (IsPlainCond (ns ++ added)) cs
+conds_grown ns added cs below h = All-from_recursion (IsPlainCond (ns ++ added)) cs (by cs below (recursion_from_All (IsPlainCond ns) cs h))
+  where
+    by : (cs : List Cond) → AllByRecursion (IsCondBelow (length ns)) cs → AllByRecursion (IsPlainCond ns) cs → AllByRecursion (IsPlainCond (ns ++ added)) cs
+    by [] below h = tt
+    by (c ∷ cs) below h = (cond_grown ns added c below.0 h.0, by cs below.1 h.1)
+
+-- ---- what becomes of a plain piece
+
+-- the piece's name and machine may change
+pub plain_kept : (p : PieceData) (name : List Bool) (m : Machine) → IsPlainPiece p → IsPlainPiece (made p name p.conditions m p.facts)
+unfolding is_member
+plain_kept p name m h = record { nodes = h.nodes; conditions = h.conditions; exact = h.exact; some = h.some }
+
+pub plain_grown : (p : PieceData) (added : List Node) (fs : FactsView) → IsPiece p → IsPlainPiece p → ArePlainNodes (p.pool ++ added) → TakesIn fs p.facts (p.pool ++ added) p.pool → IsPlainPiece (grown p added fs)
+plain_grown p added fs k h nodes only = record {
+  nodes = nodes;
+  conditions = conds_grown p.pool added p.conditions k.bounded h.conditions;
+  exact = λ d inp agrees. members_grown p added fs d k.bounded ∙ h.exact d inp (only d inp agrees);
+  some = (h.some.0, h.some.1, members_grown p added fs h.some.0 k.bounded ∙ h.some.2);
+}
+
+pub sensed_plain : (ns : List Node) (cond : Cond) (b : Bool) → IsPlainCond ns cond → IsPlainCond ns (sensed cond b)
+sensed_plain ns cond b h = record { node = h.node; number = h.number; other = h.other; test = h.test }
+
+and_is : (a b : Bool) → a ≡ true → b ≡ true → (a && b) ≡ true
+and_is a b e f = rw (e, f) refl
+
+-- the members that have the entry so, where the facts learnt are exact and some input agrees
+pub plain_child : (p : PieceData) (cond : Cond) (b : Bool) (m : Machine) (fs : FactsView) → IsPlainPiece p → IsPlainCond p.pool cond → AreChildFacts p cond b fs → KeepsOnly p.facts fs p.pool (λ d. is_met p.pool d (sensed cond b)) → IsPlainPiece (child_of p cond b m fs)
+plain_child p cond b m fs h plain f only =
+    let some = some-input fs p.pool f.covers h.nodes in
+    let member : (d : Input) → IsInput d → Agrees fs p.pool d → is_member (child_of p cond b m fs) d ≡ true
+    = λ d inp agrees.
+    let both = only d inp agrees in
+    child_members p cond b m fs d ∙ and_is (is_member p d) (is_met p.pool d (sensed cond b)) (h.exact d inp both.0) both.1 in
+    record {
+      nodes = h.nodes;
+      conditions = All-push (IsPlainCond p.pool) p.conditions (sensed cond b) h.conditions (sensed_plain p.pool cond b plain);
+      exact = member;
+      some = (some.0, some.1, member some.0 some.1 some.2);
+    }
+
+-- a plain piece has a member
+pub plain_some : (p : PieceData) → IsPlainPiece p → HasNoMember p → ⊥
+plain_some p h none = let clash : true ≡ false = sym h.some.2 ∙ none.none h.some.0 h.some.1 in absurd cc
+
+-- a region of a plain stack has a member, whose trace is the region's name
+pub plain_settled : (p : PieceData) (whole : List Bool) (a : Answer) → IsPlainPiece p → IsRightAnswer p whole a → (d : Input) × IsInput d × (is_member p d ≡ true) × (trace_of p.stack d ≡ whole)
+plain_settled p whole a h r = (h.some.0, h.some.1, h.some.2, r.trace h.some.0 h.some.1 h.some.2)
+
+-- ---- the condition of a plain test
+
+plain_test : (test : Test) (k t f : ℕ) → IsPlainInsn (Branch test (Constant k) t f) → IsPlainTest test k
+plain_test Equal k t f h = tt
+plain_test Greater k t f h = tt
+plain_test GreaterOrEqual k t f h = tt
+plain_test AnyBit k t f h = h
+
+pub plain_asked : (q : PieceData) (test : Test) (o : Operand) (t f : ℕ) (id : NodeId) → IsPiece q → IsPlainPiece q → IsPlainInsn (Branch test o t f) → ((k : ℕ) → o ≡ Constant k → node_at q.pool id.0 ≡ Const k) → IsPlainCond q.pool (record { node = q.machine.a; test = test; other = id; sense = true })
+plain_asked q test (Constant k) t f id h plain insn constant = record {
+  node = word_or_const q.pool q.machine.a.0 h.pool plain.nodes h.nodes.a;
+  number = k;
+  other = constant k refl;
+  test = plain_test test k t f insn;
+}
+plain_asked q Equal X t f id h plain insn constant = absurd insn
+plain_asked q Greater X t f id h plain insn constant = absurd insn
+plain_asked q GreaterOrEqual X t f id h plain insn constant = absurd insn
+plain_asked q AnyBit X t f id h plain insn constant = absurd insn

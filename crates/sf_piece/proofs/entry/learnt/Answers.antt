@@ -1,0 +1,7 @@
+use Rattle.sf_piece.proofs.Lawful.{learnt_child}
+use Rattle.sf_piece.proofs.entry.learnt.Goals as goal
+
+pub returns : goal.returns
+returns c =
+    let plain = rw (← c.piece.view_is) at c.requires.plain in
+    rw (← c.piece.view_is) (learnt_child _ c.args.cond c.args.sense c.in_ok-learnt.learnt c.piece.invariant.run plain c.in_ok-learnt.ensures.covers c.in_ok-learnt.ensures.sound c.in_ok-learnt.ensures.only)

@@ -1,0 +1,14 @@
+use Rattle.std.proofs.Common.{◌≡◌, ◌∙◌, Some, slice_get, sym, ap}
+use Rattle.std.proofs.lemmas.Option.{slice_get-get_or}
+use Rattle.sf_piece.proofs.Valued.{below_at}
+use Rattle.sf_piece.proofs.piece.Piece.cond.Goals as goal
+
+pub returns-clause-value : goal.returns-clause-value
+returns-clause-value c =
+    let inside = rw (← c.self.view_is) at c.requires in
+    rw (← c.self.view_is) (slice_get-get_or c.self.inside.conditions c.args.i c.get.result inside ∙ ap Some (sym (c.get.ensures c.get.result)))
+
+pub returns-clause-below : goal.returns-clause-below
+returns-clause-below c =
+    let inside = rw (← c.self.view_is) at c.requires in
+    rw (← c.self.view_is) (below_at _ c.self.inside.conditions c.args.i c.get.result c.self.invariant.run.bounded (slice_get-get_or c.self.inside.conditions c.args.i c.get.result inside ∙ ap Some (sym (c.get.ensures c.get.result))))

@@ -1,0 +1,36 @@
+-- What pieces and works of plain stacks keep besides. On a plain stack only words of the input are tested, against
+-- constants, by tests that intervals, known bits and excluded numbers keep exactly. So nothing is lost: each piece has a
+-- member, and no step is empty.
+use Rattle.std.specs.Prelude.{◌≡◌, Bool, true, List, All}
+use Rattle.sf_insn.specs.declared.input.Input.{Input}
+use Rattle.sf_insn.specs.Inputs.{IsInput}
+use Rattle.sf_check.specs.Stacks.{IsPlain}
+use Rattle.sf_run.specs.Machine.{trace_of}
+use Rattle.sf_sym.specs.Pool.{ArePlainNodes}
+use Rattle.sf_dom.specs.Facts.{Agrees}
+use Rattle.sf_dom.specs.Facts.{IsPlain as IsPlainCond}
+use Rattle.sf_piece.specs.Pieces.{PieceData, StepData, Split, Settled, Empty, WorkData, is_member, IsRightWork}
+
+-- Each condition sets a word or a constant against a constant by a plain test, the facts are exact (an input that
+-- agrees with them is a member), and some input is a member.
+pub record IsPlainPiece (p : PieceData) : Type 0 where
+  pub nodes : ArePlainNodes p.pool
+  pub conditions : All (IsPlainCond p.pool) p.conditions
+  pub exact : (d : Input) → IsInput d → Agrees p.facts p.pool d → is_member p d ≡ true
+  pub some : (d : Input) × IsInput d × (is_member p d ≡ true)
+
+-- both pieces of a split are such pieces; a region has a member, whose trace is its name; no step is empty
+abbrev pub IsPlainStep : PieceData → StepData → List Bool → Type 0
+IsPlainStep p (Split f t) n = IsPlainPiece f × IsPlainPiece t
+IsPlainStep p (Settled a) n = (d : Input) × IsInput d × (is_member p d ≡ true) × (trace_of p.stack d ≡ n)
+IsPlainStep p Empty n = ⊥
+
+-- a work of a plain stack
+pub record IsPlainWork (w : WorkData) : Type 0 where
+  pub piece : IsPlainPiece w.piece
+  pub step : IsPlainStep w.piece w.step w.name
+
+-- what the type of works keeps
+pub record IsLawfulWork (w : WorkData) : Type 0 where
+  pub right : IsRightWork w
+  pub plain : IsPlain w.piece.stack → IsPlainWork w
