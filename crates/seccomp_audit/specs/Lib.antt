@@ -1,1 +1,4 @@
 pub mod Texts
+pub mod Faults
+pub mod Filters
+pub mod Status

@@ -2,6 +2,7 @@
 use crate::fault::Fault;
 use crate::files::{Files, read_all};
 use crate::stacks::stack_of;
+use crate::status::status_of;
 use crate::texts::{answer_text, check_text};
 use crate::words;
 use clap::ArgMatches;
@@ -133,7 +134,7 @@ pub fn command<R: Threads + Wait + Sync, F: Files, O: Write, E: Write>(
         Ok(status) => status,
         Err(fault) => {
             let _ = write!(err, "error {fault}\n");
-            fault.status()
+            status_of(&fault)
         }
     }
 }

@@ -5,6 +5,7 @@ mod command;
 mod fault;
 mod files;
 mod stacks;
+mod status;
 #[cfg(test)]
 mod tests;
 mod texts;

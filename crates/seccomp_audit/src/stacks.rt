@@ -1,86 +1,41 @@
 //! Filters from bytes to a stack.
+
+ghost use Rattle.std.specs.Prelude.{◌≡◌, ◌≤◌, ◌<◌, ◌+◌, ◌⊎◌, List, length, IfOk, IfErr};
+ghost use Rattle.sf_insn.specs.Spelling.{spelling};
+ghost use Rattle.sf_insn.specs.declared.raw.RawInsn.{RawInsn as ARawInsn};
+ghost use Rattle.sf_check.specs.declared.fault.Fault.TheVariants.{Memory as CheckMemory};
+ghost use Rattle.sf_check.specs.Programs.{IsLawful};
+ghost use Rattle.sf_check.specs.Refusals.{IsFirstFault};
+ghost use Rattle.seccomp_audit.specs.Filters.{AreSpelled, IsFirstRefused, IsSpelled, Refuses, RefusesFile};
+
+use crate::fault::Fault;
 use sf_check::{Program, Stack, check};
-use sf_insn::decode;
-use std::alloc::{AllocError, AllocFailed, Global};
-use thiserror::Error;
+use sf_insn::{RawInsn, decode};
+use std::alloc::Global;
 
 /// The most filters that a stack may have.
 const MOST_FILTERS: usize = 64;
 
-/// Why files make no stack. The text is the number, the name and the place: filters are numbered from 1 and
-/// instructions from 0.
-#[derive(Debug, Drop, PartialEq, Eq, Error)]
-pub enum Fault {
-    #[error("10 Ragged filter {filter}")]
-    Ragged { filter: usize },
-    #[error("11 Empty filter {filter}")]
-    Empty { filter: usize },
-    #[error("12 TooLong filter {filter}")]
-    TooLong { filter: usize },
-    #[error("20 Code filter {filter} instruction {instruction}")]
-    Code { filter: usize, instruction: usize },
-    #[error("21 Field filter {filter} instruction {instruction}")]
-    Field { filter: usize, instruction: usize },
-    #[error("22 Jump filter {filter} instruction {instruction}")]
-    Jump { filter: usize, instruction: usize },
-    #[error("23 Last filter {filter}")]
-    Last { filter: usize },
-    #[error("24 Scratch filter {filter} instruction {instruction}")]
-    Scratch { filter: usize, instruction: usize },
-    #[error("25 NoFilter")]
-    NoFilter,
-    #[error("26 TooMany")]
-    TooMany,
-    #[error("27 PathLength")]
-    PathLength,
-    #[error("60 Memory")]
-    Memory,
-}
-
-impl Fault {
-    /// The number.
-    pub fn number(&self) -> u16 {
-        match self {
-            Fault::Ragged { .. } => 10,
-            Fault::Empty { .. } => 11,
-            Fault::TooLong { .. } => 12,
-            Fault::Code { .. } => 20,
-            Fault::Field { .. } => 21,
-            Fault::Jump { .. } => 22,
-            Fault::Last { .. } => 23,
-            Fault::Scratch { .. } => 24,
-            Fault::NoFilter => 25,
-            Fault::TooMany => 26,
-            Fault::PathLength => 27,
-            Fault::Memory => 60,
-        }
+/// The instructions of the filter of this number.
+fn instructions_of(alloc: Global, filter: usize, bytes: &[u8]) -> Result<Vec<RawInsn>, Fault>
+    ensures spelled { IfOk result (λ v. bytes.now ≡ spelling v.items) }
+    ensures some { IfOk result (λ v. 0 < length v.items) }
+    ensures short { IfOk result (λ v. length v.items ≤ 4096) }
+    ensures refused { IfErr result (λ e. RefusesFile filter bytes.now e) }
+{
+    match decode(alloc, bytes) {
+        Ok(raws) => Ok(raws),
+        Err(sf_insn::Fault::Ragged) => Err(Fault::Ragged { filter }),
+        Err(sf_insn::Fault::Empty) => Err(Fault::Empty { filter }),
+        Err(sf_insn::Fault::TooLong) => Err(Fault::TooLong { filter }),
+        Err(sf_insn::Fault::Memory) => Err(Fault::Memory),
     }
 }
 
-impl From<AllocError> for Fault {
-    fn from(_e: AllocError) -> Fault {
-        Fault::Memory
-    }
-}
-
-impl<T: Drop> From<AllocFailed<T>> for Fault {
-    fn from(_e: AllocFailed<T>) -> Fault {
-        Fault::Memory
-    }
-}
-
-/// A refusal of the bytes of this filter.
-fn undecoded(filter: usize, fault: sf_insn::Fault) -> Fault {
-    match fault {
-        sf_insn::Fault::Ragged => Fault::Ragged { filter },
-        sf_insn::Fault::Empty => Fault::Empty { filter },
-        sf_insn::Fault::TooLong => Fault::TooLong { filter },
-        sf_insn::Fault::Memory => Fault::Memory,
-    }
-}
-
-/// A refusal of the instructions of this filter, or of the stack.
-fn unlawful(filter: usize, fault: sf_check::Fault) -> Fault {
+/// The fault of the instructions of the filter of this number.
+fn fault_of(filter: usize, fault: sf_check::Fault) -> Fault
+    ensures { (raws : List ARawInsn) → 0 < length raws → length raws ≤ 4096 → (fault ≡ CheckMemory) ⊎ IsFirstFault raws fault → RefusesFile filter (spelling raws) result }
+{
     match fault {
         sf_check::Fault::Empty => Fault::Empty { filter },
         sf_check::Fault::TooLong => Fault::TooLong { filter },
@@ -108,20 +63,24 @@ fn unlawful(filter: usize, fault: sf_check::Fault) -> Fault {
     }
 }
 
-/// The program of one filter.
-fn program_of(alloc: Global, filter: usize, bytes: &[u8]) -> Result<Program, Fault> {
-    let raws = match decode(alloc, bytes) {
-        Ok(raws) => raws,
-        Err(fault) => return Err(undecoded(filter, fault)),
-    };
+/// The program of the filter of this number.
+fn program_of(alloc: Global, filter: usize, bytes: &[u8]) -> Result<Program, Fault>
+    ensures spelled { IfOk result (λ p. IsSpelled bytes.now p × IsLawful p) }
+    ensures refused { IfErr result (λ e. RefusesFile filter bytes.now e) }
+{
+    let raws = instructions_of(alloc, filter, bytes)?;
     match check(alloc, &raws) {
         Ok(program) => Ok(program),
-        Err(fault) => Err(unlawful(filter, fault)),
+        Err(fault) => Err(fault_of(filter, fault)),
     }
 }
 
 /// The programs of the filters, in their order.
-fn programs_of(alloc: Global, filters: &[Vec<u8>]) -> Result<Vec<Program>, Fault> {
+fn programs_of(alloc: Global, filters: &[Vec<u8>]) -> Result<Vec<Program>, Fault>
+    requires { length filters.now ≤ 64 }
+    ensures spelled { IfOk result (λ v. AreSpelled filters.now v.items) }
+    ensures refused { IfErr result (λ e. Refuses filters.now e) }
+{
     let mut programs = Vec::new(alloc);
     for (i, bytes) in filters.iter().enumerate() {
         let program = program_of(alloc, i + 1, bytes)?;
@@ -130,9 +89,13 @@ fn programs_of(alloc: Global, filters: &[Vec<u8>]) -> Result<Vec<Program>, Fault
     Ok(programs)
 }
 
-/// The stack of the filters, in order of installation: `NoFilter` and `TooMany` by their number, then each filter
-/// in order by `decode` and `check`, then `PathLength`.
-pub fn stack_of(alloc: Global, filters: &[Vec<u8>]) -> Result<Stack, Fault> {
+/// The stack of the filters, given in order of installation. Refused, in this order: `NoFilter` and `TooMany` by their
+/// number; filter after filter what its bytes and its instructions are refused for; `PathLength`. `Memory` can come at
+/// any time.
+pub fn stack_of(alloc: Global, filters: &[Vec<u8>]) -> Result<Stack, Fault>
+    ensures spelled { IfOk result (λ s. AreSpelled filters.now s) }
+    ensures refused { IfErr result (λ e. Refuses filters.now e) }
+{
     if filters.is_empty() {
         return Err(Fault::NoFilter);
     }
@@ -142,6 +105,9 @@ pub fn stack_of(alloc: Global, filters: &[Vec<u8>]) -> Result<Stack, Fault> {
     let programs = programs_of(alloc, filters)?;
     match Stack::of(programs) {
         Ok(stack) => Ok(stack),
-        Err(fault) => Err(unlawful(0, fault)),
+        Err(sf_check::Fault::NoFilter) => Err(Fault::NoFilter),
+        Err(sf_check::Fault::TooMany) => Err(Fault::TooMany),
+        Err(sf_check::Fault::PathLength) => Err(Fault::PathLength),
+        Err(_) => Err(Fault::Memory),
     }
 }
