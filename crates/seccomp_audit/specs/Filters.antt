@@ -10,6 +10,7 @@ use Rattle.sf_check.specs.declared.fault.Fault.TheVariants as checks
 use Rattle.sf_check.specs.Programs.{IsLawful, Spells}
 use Rattle.sf_check.specs.Refusals.{IsFirstFault}
 use Rattle.sf_check.specs.Stacks.{path_length}
+use Rattle.seccomp_audit.specs.Pairs.{Pairwise}
 use Rattle.seccomp_audit.specs.declared.fault.Fault.{Fault}
 use Rattle.seccomp_audit.specs.declared.fault.Fault.TheVariants as faults
 
@@ -17,10 +18,9 @@ use Rattle.seccomp_audit.specs.declared.fault.Fault.TheVariants as faults
 abbrev pub IsSpelled : List ℕ → List Insn → Type 0
 IsSpelled bytes program = (raws : List RawInsn) × (bytes ≡ spelling raws) × Spells raws program
 
--- the files spell the programs: at the place of each file stands the program that it spells
-pub record AreSpelled (files : List (Vec ℕ Global)) (programs : List (List Insn)) : Type 0 where
-  pub same : length programs ≡ length files
-  pub each : (n : ℕ) (file : Vec ℕ Global) → slice_get files n ≡ Some file → (p : List Insn) × (slice_get programs n ≡ Some p) × IsSpelled file.items p
+-- the files spell the programs, file by file
+abbrev pub AreSpelled : List (Vec ℕ Global) → List (List Insn) → Type 0
+AreSpelled files programs = Pairwise (λ file p. IsSpelled file.items p) files programs
 
 -- the bytes are those of instructions with this first fault
 abbrev pub HasFirstFault : List ℕ → CheckFault → Type 0

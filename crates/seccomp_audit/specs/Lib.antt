@@ -1,4 +1,6 @@
-pub mod Texts
 pub mod Faults
+pub mod Pairs
+pub mod Files
 pub mod Filters
+pub mod Texts
 pub mod Status
