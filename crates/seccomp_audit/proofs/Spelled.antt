@@ -21,7 +21,7 @@ first_refused files programs place file fault so_far here refused = record {
   refused = refused;
   before = λ n earlier lt h.
       let (p, at, spelled) = so_far.each n earlier lt h in
-    (p, spelled.0, spelled.1);
+      (p, spelled.0, spelled.1);
 }
 
 -- a fault of one file is one of the files

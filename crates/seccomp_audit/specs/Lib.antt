@@ -4,3 +4,4 @@ pub mod Files
 pub mod Filters
 pub mod Texts
 pub mod Status
+pub mod Outputs

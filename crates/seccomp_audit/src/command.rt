@@ -1,27 +1,17 @@
 //! From the words of a command line to a status.
+ghost use Rattle.std.specs.Prelude.{◌≡◌, ◌≤◌, IfOk};
+
+use crate::checking::{check_filters, evaluate_filters, input_of, print};
 use crate::fault::Fault;
 use crate::files::{Files, read_all};
-use crate::stacks::stack_of;
 use crate::status::status_of;
-use crate::texts::{answer_text, check_text};
 use crate::words;
 use clap::ArgMatches;
 use clap::error::ErrorKind;
-use hex::FromHex;
-use sf_insn::{Input, input_of_bytes};
-use sf_run::answer;
 use std::alloc::Global;
 use std::io::Write;
 use std::sync::Wait;
 use std::thread::Threads;
-
-/// Writes a text to standard output.
-fn print<O: Write>(text: &str, out: &mut O) -> Result<(), Fault> {
-    match out.write_all(text.as_bytes()) {
-        Ok(()) => Ok(()),
-        Err(_) => Err(Fault::Write),
-    }
-}
 
 /// The bytes of the filters that the command line names.
 fn filters_of<F: Files>(
@@ -35,24 +25,16 @@ fn filters_of<F: Files>(
     }
 }
 
-/// The input that 128 hexadecimal digits spell.
-fn input_of(text: &str) -> Result<Input, Fault> {
-    match <[u8; 64] as FromHex>::from_hex(text) {
-        Ok(bytes) => Ok(input_of_bytes(&bytes)),
-        Err(_) => Err(Fault::Input),
-    }
-}
-
 fn check<F: Files, O: Write>(
     alloc: Global,
     matches: &ArgMatches<'_>,
     files: &mut F,
     out: &mut O,
-) -> Result<u8, Fault> {
+) -> Result<u8, Fault>
+    ensures { IfOk result (λ status. status ≡ 0) }
+{
     let filters = filters_of(alloc, matches, files)?;
-    let stack = stack_of(alloc, &filters)?;
-    let text = check_text(alloc, &stack)?;
-    print(&text, out)?;
+    check_filters(alloc, &filters, out)?;
     Ok(0)
 }
 
@@ -61,12 +43,12 @@ fn eval<F: Files, O: Write>(
     matches: &ArgMatches<'_>,
     files: &mut F,
     out: &mut O,
-) -> Result<u8, Fault> {
+) -> Result<u8, Fault>
+    ensures { IfOk result (λ status. status ≡ 0) }
+{
     let input = input_of(matches.get_str("input").unwrap_or(""))?;
     let filters = filters_of(alloc, matches, files)?;
-    let stack = stack_of(alloc, &filters)?;
-    let text = answer_text(alloc, answer(&stack, &input))?;
-    print(&text, out)?;
+    evaluate_filters(alloc, &input, &filters, out)?;
     Ok(0)
 }
 
@@ -77,7 +59,9 @@ fn run<R: Threads + Wait + Sync, F: Files, O: Write>(
     matches: &ArgMatches<'_>,
     files: &mut F,
     out: &mut O,
-) -> Result<u8, Fault> {
+) -> Result<u8, Fault>
+    ensures { IfOk result (λ status. status ≤ 4) }
+{
     match matches.subcommand() {
         Some(("check", found)) => check(alloc, found, files, out),
         Some(("eval", found)) => eval(alloc, found, files, out),
@@ -91,7 +75,9 @@ fn explain<O: Write, E: Write>(
     error: &clap::Error,
     out: &mut O,
     err: &mut E,
-) -> Result<u8, Fault> {
+) -> Result<u8, Fault>
+    ensures { IfOk result (λ status. status ≤ 4) }
+{
     if error.kind() == ErrorKind::OutOfMemory {
         return Err(Fault::Memory);
     }
@@ -111,7 +97,9 @@ fn reply<R: Threads + Wait + Sync, F: Files, O: Write, E: Write>(
     files: &mut F,
     out: &mut O,
     err: &mut E,
-) -> Result<u8, Fault> {
+) -> Result<u8, Fault>
+    ensures { IfOk result (λ status. status ≤ 4) }
+{
     match words::form(alloc)?.try_get_matches_from(words) {
         Ok(matches) => run(rt, alloc, &matches, files, out),
         Err(error) => explain(alloc, &error, out, err),
@@ -129,7 +117,9 @@ pub fn command<R: Threads + Wait + Sync, F: Files, O: Write, E: Write>(
     files: &mut F,
     out: &mut O,
     err: &mut E,
-) -> u8 {
+) -> u8
+    ensures { result ≤ 5 }
+{
     match reply(rt, alloc, words, files, out, err) {
         Ok(status) => status,
         Err(fault) => {

@@ -1,6 +1,7 @@
 //! Audits a stack of seccomp filters.
 #![tactic(auto)]
 
+mod checking;
 mod command;
 mod fault;
 mod files;

@@ -6,6 +6,7 @@ ghost use Rattle.sf_insn.specs.declared.raw.RawInsn.{RawInsn as ARawInsn};
 ghost use Rattle.sf_check.specs.declared.fault.Fault.TheVariants.{Memory as CheckMemory};
 ghost use Rattle.sf_check.specs.Programs.{IsLawful};
 ghost use Rattle.sf_check.specs.Refusals.{IsFirstFault};
+ghost use Rattle.sf_check.specs.Stacks.{IsLawfulStack};
 ghost use Rattle.seccomp_audit.specs.Filters.{AreSpelled, IsFirstRefused, IsSpelled, Refuses, RefusesFile};
 
 use crate::fault::Fault;
@@ -94,6 +95,7 @@ fn programs_of(alloc: Global, filters: &[Vec<u8>]) -> Result<Vec<Program>, Fault
 /// any time.
 pub fn stack_of(alloc: Global, filters: &[Vec<u8>]) -> Result<Stack, Fault>
     ensures spelled { IfOk result (λ s. AreSpelled filters.now s) }
+    ensures lawful { IfOk result IsLawfulStack }
     ensures refused { IfErr result (λ e. Refuses filters.now e) }
 {
     if filters.is_empty() {
