@@ -1,14 +1,15 @@
 //! What `check` and `eval` do with the bytes that they were given.
 
-ghost use Rattle.std.specs.Prelude.{◌≡◌, ◌⊎◌, List, Ok, IfOk, IfErr, OnOk, IsOk};
+ghost use Rattle.std.specs.Prelude.{◌≡◌, ◌⊎◌, Err, Ok, IfOk, IfErr, OnOk, IsOk};
 ghost use Rattle.std.specs.Io.KnownBytes.{Appends};
 ghost use Rattle.hex.specs.Hex.{decode_sized};
 ghost use Rattle.sf_insn.specs.Inputs.{input_bytes};
-ghost use Rattle.seccomp_audit.specs.Outputs.{WritesAnswer, WritesCheck};
+ghost use Rattle.seccomp_audit.specs.Outputs.{ChecksFiles, EvaluatesFiles, RefusesFiles, WritesAnswer, WritesCheck};
 ghost use Rattle.seccomp_audit.specs.Filters.{Refuses};
 ghost use Rattle.seccomp_audit.specs.declared.fault.Fault.TheVariants.{Input as InputFault, Write as WriteFault};
 
 use crate::fault::Fault;
+use crate::files::{Files, read_all};
 use crate::stacks::stack_of;
 use crate::texts::{answer_text, check_text};
 use hex::FromHex;
@@ -40,9 +41,8 @@ pub fn input_of(text: &str) -> Result<Input, Fault>
     }
 }
 
-/// Writes the number of instructions of each filter and the path length of their stack. Where the files make no lawful
-/// stack nothing is written.
-pub fn check_filters<O: Write>(alloc: Global, filters: &[Vec<u8>], out: &mut O) -> Result<(), Fault>
+/// Writes the number of instructions of each filter and the path length of their stack.
+fn check_filters<O: Write>(alloc: Global, filters: &[Vec<u8>], out: &mut O) -> Result<(), Fault>
     ensures written { OnOk result (WritesCheck filters.now (O.contents out.old) (O.contents out.new)) }
     ensures refused { IfErr result (λ e. (e ≡ WriteFault) ⊎ (Refuses filters.now e × (out.new ≡ out.old))) }
 {
@@ -51,8 +51,8 @@ pub fn check_filters<O: Write>(alloc: Global, filters: &[Vec<u8>], out: &mut O) 
     print(&text, out)
 }
 
-/// Writes what the stack of the filters answers to the input. Where the files make no lawful stack nothing is written.
-pub fn evaluate_filters<O: Write>(
+/// Writes what the stack of the filters answers to the input.
+fn evaluate_filters<O: Write>(
     alloc: Global,
     input: &Input,
     filters: &[Vec<u8>],
@@ -64,4 +64,38 @@ pub fn evaluate_filters<O: Write>(
     let stack = stack_of(alloc, filters)?;
     let text = answer_text(alloc, answer(&stack, input))?;
     print(&text, out)
+}
+
+/// Reads the filter files, in order of installation, and writes the number of instructions of each and the path length
+/// of their stack. `Read` where a file can't be read; then what the files are refused for; `Write` where standard output
+/// can't be written; `Memory` at any time. Before `Write` nothing is written.
+pub fn check<F: Files, O: Write>(
+    alloc: Global,
+    paths: &[&str],
+    files: &mut F,
+    out: &mut O,
+) -> Result<(), Fault>
+    ensures written { OnOk result (ChecksFiles (F.holds files.old) paths.now (O.contents out.old) (O.contents out.new)) }
+    ensures refused { IfErr result (λ e. (e ≡ WriteFault) ⊎ (RefusesFiles (F.holds files.old) paths.now e × (out.new ≡ out.old))) }
+{
+    let filters = read_all(alloc, paths, files)?;
+    check_filters(alloc, &filters, out)
+}
+
+/// Reads the input from its hexadecimal digits and the filter files, in order of installation, and writes what the stack
+/// of the filters answers to the input. `Input` where the digits spell no input, before a file is read; else as `check`.
+pub fn evaluate<F: Files, O: Write>(
+    alloc: Global,
+    digits: &str,
+    paths: &[&str],
+    files: &mut F,
+    out: &mut O,
+) -> Result<(), Fault>
+    ensures written { OnOk result (EvaluatesFiles digits.now (F.holds files.old) paths.now (O.contents out.old) (O.contents out.new)) }
+    ensures unspelled { (IsOk (decode_sized digits.now 64) → ⊥) → (result ≡ Err InputFault) × (files.new ≡ files.old) × (out.new ≡ out.old) }
+    ensures refused { IsOk (decode_sized digits.now 64) → IfErr result (λ e. (e ≡ WriteFault) ⊎ (RefusesFiles (F.holds files.old) paths.now e × (out.new ≡ out.old))) }
+{
+    let input = input_of(digits)?;
+    let filters = read_all(alloc, paths, files)?;
+    evaluate_filters(alloc, &input, &filters, out)
 }

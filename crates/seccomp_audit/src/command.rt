@@ -1,9 +1,9 @@
 //! From the words of a command line to a status.
 ghost use Rattle.std.specs.Prelude.{◌≡◌, ◌≤◌, IfOk};
 
-use crate::checking::{check_filters, evaluate_filters, input_of, print};
+use crate::checking::{check, evaluate, print};
 use crate::fault::Fault;
-use crate::files::{Files, read_all};
+use crate::files::Files;
 use crate::status::status_of;
 use crate::words;
 use clap::ArgMatches;
@@ -12,45 +12,6 @@ use std::alloc::Global;
 use std::io::Write;
 use std::sync::Wait;
 use std::thread::Threads;
-
-/// The bytes of the filters that the command line names.
-fn filters_of<F: Files>(
-    alloc: Global,
-    matches: &ArgMatches<'_>,
-    files: &mut F,
-) -> Result<Vec<Vec<u8>>, Fault> {
-    match matches.get_strs("filters") {
-        Some(paths) => read_all(alloc, paths, files),
-        None => Ok(Vec::new(alloc)),
-    }
-}
-
-fn check<F: Files, O: Write>(
-    alloc: Global,
-    matches: &ArgMatches<'_>,
-    files: &mut F,
-    out: &mut O,
-) -> Result<u8, Fault>
-    ensures { IfOk result (λ status. status ≡ 0) }
-{
-    let filters = filters_of(alloc, matches, files)?;
-    check_filters(alloc, &filters, out)?;
-    Ok(0)
-}
-
-fn eval<F: Files, O: Write>(
-    alloc: Global,
-    matches: &ArgMatches<'_>,
-    files: &mut F,
-    out: &mut O,
-) -> Result<u8, Fault>
-    ensures { IfOk result (λ status. status ≡ 0) }
-{
-    let input = input_of(matches.get_str("input").unwrap_or(""))?;
-    let filters = filters_of(alloc, matches, files)?;
-    evaluate_filters(alloc, &input, &filters, out)?;
-    Ok(0)
-}
 
 /// Runs the subcommand that the command line names.
 fn run<R: Threads + Wait + Sync, F: Files, O: Write>(
@@ -62,11 +23,19 @@ fn run<R: Threads + Wait + Sync, F: Files, O: Write>(
 ) -> Result<u8, Fault>
     ensures { IfOk result (λ status. status ≤ 4) }
 {
-    match matches.subcommand() {
-        Some(("check", found)) => check(alloc, found, files, out),
-        Some(("eval", found)) => eval(alloc, found, files, out),
-        _ => Ok(4),
+    let Some((name, found)) = matches.subcommand() else {
+        return Ok(4);
+    };
+    let paths = found.get_strs("filters").unwrap_or(&[]);
+    match name {
+        "check" => check(alloc, paths, files, out)?,
+        "eval" => {
+            let digits = found.get_str("input").unwrap_or("");
+            evaluate(alloc, digits, paths, files, out)?;
+        }
+        _ => return Ok(4),
     }
+    Ok(0)
 }
 
 /// Shows the help that was asked for, or why the command line is refused.
