@@ -1,5 +1,8 @@
 //! From the words of a command line to a status.
-ghost use Rattle.std.specs.Prelude.{◌≡◌, ◌≤◌, IfOk};
+ghost use Rattle.std.specs.Prelude.{◌≡◌, ◌≢◌, ◌≤◌, ◌⊎◌, IfOk, IfErr};
+ghost use Rattle.clap.specs.Values.{kind_of};
+ghost use Rattle.seccomp_audit.specs.Faults.{fault_number};
+ghost use Rattle.seccomp_audit.specs.Status.{fault_status};
 
 use crate::checking::{check, evaluate, print};
 use crate::fault::Fault;
@@ -21,7 +24,9 @@ fn run<R: Threads + Wait + Sync, F: Files, O: Write>(
     files: &mut F,
     out: &mut O,
 ) -> Result<u8, Fault>
-    ensures { IfOk result (λ status. status ≤ 4) }
+    ensures status { IfOk result (λ s. (s ≤ 2) ⊎ (s ≡ 4)) }
+    ensures usage { IfOk result (λ s. s ≡ 4 → (files.new ≡ files.old) × (out.new ≡ out.old)) }
+    ensures quiet { IfErr result (λ e. (fault_status (fault_number e) ≡ 5) ⊎ (out.new ≡ out.old)) }
 {
     let Some((name, found)) = matches.subcommand() else {
         return Ok(4);
@@ -45,7 +50,9 @@ fn explain<O: Write, E: Write>(
     out: &mut O,
     err: &mut E,
 ) -> Result<u8, Fault>
-    ensures { IfOk result (λ status. status ≤ 4) }
+    ensures help { (kind_of error.now ≡ ErrorKind.DisplayHelp) ⊎ (kind_of error.now ≡ ErrorKind.DisplayVersion) → IfOk result (λ s. s ≡ 0) }
+    ensures usage { (kind_of error.now ≢ ErrorKind.DisplayHelp) → (kind_of error.now ≢ ErrorKind.DisplayVersion) → IfOk result (λ s. (s ≡ 4) × (out.new ≡ out.old)) }
+    ensures failed { IfErr result (λ e. fault_status (fault_number e) ≡ 5) }
 {
     if error.kind() == ErrorKind::OutOfMemory {
         return Err(Fault::Memory);
@@ -67,7 +74,9 @@ fn reply<R: Threads + Wait + Sync, F: Files, O: Write, E: Write>(
     out: &mut O,
     err: &mut E,
 ) -> Result<u8, Fault>
-    ensures { IfOk result (λ status. status ≤ 4) }
+    ensures status { IfOk result (λ s. (s ≤ 2) ⊎ (s ≡ 4)) }
+    ensures usage { IfOk result (λ s. s ≡ 4 → (files.new ≡ files.old) × (out.new ≡ out.old)) }
+    ensures quiet { IfErr result (λ e. (fault_status (fault_number e) ≡ 5) ⊎ (out.new ≡ out.old)) }
 {
     match words::form(alloc)?.try_get_matches_from(words) {
         Ok(matches) => run(rt, alloc, &matches, files, out),
@@ -77,8 +86,10 @@ fn reply<R: Threads + Wait + Sync, F: Files, O: Write, E: Write>(
 
 /// Does what the words after the program's name say, and gives the exit status.
 ///
-/// 0: done. 3: the filters or the input are refused. 4: the command line is refused. 5: reading, writing or memory
-/// failed. Where something is refused or fails, one line on standard error says what.
+/// 0: done. 3: the filters or the input are refused; standard output is left as it was. 4: the command line is refused; no
+/// file was read, standard output is left as it was, and standard error has the text of `clap`. 5: reading, writing or
+/// memory failed. At 3 and 5 one line on standard error says what: `error`, the number, the name and the place of the
+/// fault.
 pub fn command<R: Threads + Wait + Sync, F: Files, O: Write, E: Write>(
     rt: &R,
     alloc: Global,
@@ -87,7 +98,9 @@ pub fn command<R: Threads + Wait + Sync, F: Files, O: Write, E: Write>(
     out: &mut O,
     err: &mut E,
 ) -> u8
-    ensures { result ≤ 5 }
+    ensures status { result ≤ 5 }
+    ensures usage { result ≡ 4 → (files.new ≡ files.old) × (out.new ≡ out.old) }
+    ensures refused { result ≡ 3 → out.new ≡ out.old }
 {
     match reply(rt, alloc, words, files, out, err) {
         Ok(status) => status,
