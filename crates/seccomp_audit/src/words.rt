@@ -30,7 +30,7 @@ fn eval<'a>(alloc: Global) -> Result<Command<'a>, AllocError> {
 }
 
 /// The form of the command line: its subcommands and what each takes.
-pub fn form<'a>(alloc: Global) -> Result<Command<'a>, AllocError> {
+pub(crate) fn form<'a>(alloc: Global) -> Result<Command<'a>, AllocError> {
     Command::new(alloc, "seccomp_audit")
         .about("Audit a stack of seccomp filters")
         .bin_name("seccomp_audit")?
