@@ -1,0 +1,62 @@
+//! Checks and evaluates real filters: lines such as `check A.bpf B.bpf` and `eval HEX A.bpf B.bpf` come on standard
+//! input, and the files lie where the program runs.
+#![tactic(auto)]
+
+use hex::FromHex;
+use sf_check::{Program, Stack, check};
+use sf_insn::{decode, input_of_bytes};
+use sf_run::answer;
+use std::rt::Files;
+use std::test::Fail;
+use std::{fs, io};
+
+/// The program in a filter file.
+fn program_in<R: Files + AllocGlobal>(rt: &R, path: &str) -> Result<Program, Fail> {
+    let bytes = fs::read(rt, path)?;
+    let raws = decode(rt.alloc(), &bytes)?;
+    Ok(check(rt.alloc(), &raws)?)
+}
+
+/// The stack of the filter files, in order of installation.
+fn stack_in<R: Files + AllocGlobal>(rt: &R, paths: &[&str]) -> Result<Stack, Fail> {
+    let mut programs = Vec::new(rt.alloc());
+    for path in paths {
+        let program = program_in(rt, path)?;
+        programs.push(program)?;
+    }
+    Ok(Stack::of(programs)?)
+}
+
+/// Shows the instructions of each filter and the path length of their stack.
+fn show_check<R: Print>(rt: &R, stack: &Stack) -> io::Result<()> {
+    for (i, program) in stack.programs().iter().enumerate() {
+        println!(rt; "filter {} {} instructions", i + 1, program.insns().len())?;
+    }
+    println!(rt; "path {}", stack.path_length())
+}
+
+/// Shows what the stack answers to the input that the digits spell.
+fn show_answer<R: Print>(rt: &R, stack: &Stack, digits: &str) -> Result<(), Fail> {
+    let bytes = <[u8; 64] as FromHex>::from_hex(digits)?;
+    let answer = answer(stack, &input_of_bytes(&bytes));
+    println!(rt; "{:?} {}", answer.action, answer.info)?;
+    Ok(())
+}
+
+/// Does what one line says.
+fn show<R: Files + Print + AllocGlobal>(rt: &R, line: &str) -> Result<(), Fail> {
+    let words: Vec<&str> = line.split_whitespace().collect(rt.alloc())?;
+    match words.as_slice() {
+        ["check", paths @ ..] => show_check(rt, &stack_in(rt, paths)?)?,
+        ["eval", digits, paths @ ..] => show_answer(rt, &stack_in(rt, paths)?, digits)?,
+        _ => println!(rt; "unknown line")?,
+    }
+    Ok(())
+}
+
+fn main(rt: HostRuntime) -> Result<(), Fail> {
+    for line in rt.lines(rt.alloc()) {
+        show(&rt, line?.as_str())?;
+    }
+    Ok(())
+}

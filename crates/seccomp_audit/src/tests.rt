@@ -1,0 +1,5 @@
+mod evaluates;
+mod kit;
+mod refuses;
+mod usage;
+mod writers;
