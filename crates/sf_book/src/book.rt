@@ -1,6 +1,6 @@
 //! The book: what is outstanding, what is settled, and how a work takes the place of its piece.
 
-ghost use Rattle.std.specs.Prelude.{◌≡◌, ◌≢◌, ◌+◌, ◌<◌, ◌≤◌, ℕ, All, IfOk, IfErr, OnOk, IsTrue, OnErr, MatchOption, length, map, true, false, []};
+ghost use Rattle.std.specs.Prelude.{◌≡◌, ◌≢◌, ◌+◌, ◌<◌, All, IfOk, IfErr, OnOk, MatchOption, map, true, false};
 ghost use Rattle.std.specs.Arc.{arc_value};
 ghost use Rattle.sf_insn.specs.declared.input.Input.{Input};
 ghost use Rattle.sf_insn.specs.Inputs.{IsInput};

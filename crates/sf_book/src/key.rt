@@ -1,7 +1,7 @@
 //! A piece as the key of a map, in the order of names.
 
 ghost use Rattle.std.specs.Prelude.{◌≡◌, Some, refl};
-ghost use Rattle.std.specs.Ordering.{bool_cmp, eq_by_cmp};
+ghost use Rattle.std.specs.Ordering.{eq_by_cmp};
 ghost use Rattle.std.specs.Arc.{arc_value};
 ghost use Rattle.std.specs.Cmp.{eq_by_cmp_equiv, partial_order_from_agreeing_total};
 ghost use Rattle.std.specs.Cmp;

@@ -1,6 +1,6 @@
 //! The outstanding pieces of a book: a map from ids to pieces beside a map from their names to marks.
 
-ghost use Rattle.std.specs.Prelude.{slice_get, ◌≡◌, ◌≢◌, ◌<◌, ◌∷◌, [], ◌++◌, All, IfOk, IfErr, OnOk, MatchOption, MatchBool, length, map, true, false, None, Some, find, not, option_map, Bool, ℕ};
+ghost use Rattle.std.specs.Prelude.{slice_get, ◌≡◌, ◌≢◌, ◌<◌, ◌∷◌, [], ◌++◌, All, IfOk, IfErr, OnOk, MatchOption, length, map, true, false, None, Some, find, not, option_map, Bool};
 ghost use Rattle.std.specs.Arc.{arc_value};
 ghost use Rattle.std.specs.Ordering.{nat_cmp};
 ghost use Rattle.std.specs.Map.{set_value, remove_entry};
