@@ -3,3 +3,7 @@ pub mod Actions
 pub mod Asked
 pub mod Questions
 pub mod Breaking
+pub mod Verdicts
+pub mod Searches
+pub mod Sheets
+pub mod SheetLaws

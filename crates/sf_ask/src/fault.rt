@@ -57,3 +57,19 @@ impl<T: Drop> From<AllocFailed<T>> for Fault {
         Fault::Memory
     }
 }
+
+impl From<sf_dom::Fault> for Fault {
+    ghost from_gives = { λ _ e. e ≡ Memory };
+
+    fn from(_e: sf_dom::Fault) -> Fault {
+        Fault::Memory
+    }
+}
+
+impl From<sf_sym::Fault> for Fault {
+    ghost from_gives = { λ _ e. e ≡ Memory };
+
+    fn from(_e: sf_sym::Fault) -> Fault {
+        Fault::Memory
+    }
+}

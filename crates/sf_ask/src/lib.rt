@@ -1,13 +1,20 @@
-//! Questions about the inputs of a filter stack.
+//! Questions about the inputs of a filter stack, and what settled regions tell of them.
 #![tactic(auto)]
 
 mod actions;
+mod confining;
 mod fault;
+mod judging;
 mod question;
+mod sheet;
+mod verdict;
 
 pub use actions::ActionSet;
 pub use fault::Fault;
+pub use judging::judge;
 pub use question::Question;
+pub use sheet::Sheet;
+pub use verdict::{Reply, Verdict};
 
 #[cfg(test)]
 mod tests;

@@ -8,3 +8,5 @@ pub mod PartitionLaws
 pub mod NameOrderLaws
 pub mod Exact
 pub mod ExactLaws
+pub mod PlainBooks
+pub mod PlainLaws

@@ -4,9 +4,11 @@ ghost use Rattle.std.specs.Prelude.{◌≡◌, ◌≢◌, ◌+◌, ◌<◌, All,
 ghost use Rattle.std.specs.Arc.{arc_value};
 ghost use Rattle.sf_insn.specs.declared.input.Input.{Input};
 ghost use Rattle.sf_insn.specs.Inputs.{IsInput};
+ghost use Rattle.sf_check.specs.Stacks.{IsPlain};
 ghost use Rattle.sf_piece.specs.Pieces.{PieceData, IsRoot};
 ghost use Rattle.sf_book.specs.Books.{IsLawful, counts_of, fresh};
 ghost use Rattle.sf_book.specs.Partition.{parts_of, names_of, LiesInOne, NoneBeginsAnother};
+ghost use Rattle.sf_book.specs.PlainBooks.{IsPlainBook};
 ghost use Rattle.sf_book.specs.Changes.{CommitsAs, Leases, Settles, Refuses, MayCommit, with_lease, with_lease_at};
 ghost use Rattle.sf_book.specs.declared.fault.Fault.TheVariants.{Memory, Foreign};
 
@@ -56,13 +58,14 @@ pub struct Book {
 }
 
 impl Model for Book {
-    ghost use Rattle.sf_book.specs.Books.{BookData, IsKept};
+    ghost use Rattle.sf_book.specs.Books.{BookData};
+    ghost use Rattle.sf_book.specs.PlainBooks.{IsBook};
 
     ghost Value = { BookData };
 
     ghost view = { λ b. record { stack = b.stack.value; outstanding = b.outstanding; regions = b.regions.items; emptied = b.emptied.items; splits = b.splits; commits = b.commits; budget = b.budget } };
 
-    ghost invariant = { λ b. IsKept (record { stack = b.stack.value; outstanding = b.outstanding; regions = b.regions.items; emptied = b.emptied.items; splits = b.splits; commits = b.commits; budget = b.budget }) b.next_id };
+    ghost invariant = { λ b. IsBook (record { stack = b.stack.value; outstanding = b.outstanding; regions = b.regions.items; emptied = b.emptied.items; splits = b.splits; commits = b.commits; budget = b.budget }) b.next_id };
 }
 
 impl Book {
@@ -74,6 +77,7 @@ impl Book {
     {
         let _programs = stack.programs();
         let piece = root(alloc, &stack)?;
+        let _name = piece.name();
         let outstanding = Shelf::open(alloc, 0, piece)?;
         Ok(Book {
             stack,
@@ -102,6 +106,7 @@ impl Book {
         ensures lawful { IsLawful self.now }
         ensures one { (d : Input) → IsInput d → LiesInOne (parts_of self.now) d }
         ensures apart { NoneBeginsAnother (names_of self.now) }
+        ensures plain { IsPlain self.now.stack → IsPlainBook self.now }
     {
         Counts {
             left: self.outstanding.len(),

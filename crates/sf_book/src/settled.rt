@@ -4,6 +4,9 @@ ghost use Rattle.std.specs.Prelude.{◌≡◌, ◌<◌, length, map, slice_get, 
 ghost use Rattle.std.specs.Arc.{arc_value};
 ghost use Rattle.sf_insn.specs.declared.input.Input.{Input};
 ghost use Rattle.sf_insn.specs.Inputs.{IsInput};
+ghost use Rattle.sf_check.specs.Stacks.{IsPlain};
+ghost use Rattle.sf_piece.specs.PlainPieces.{IsPlainPiece};
+ghost use Rattle.sf_book.specs.PlainBooks.{IsPlainBook};
 ghost use Rattle.sf_book.specs.Partition.{parts_of, names_of, LiesInOne, NoneBeginsAnother};
 ghost use Rattle.sf_book.specs.Books.{EntryData, IsSettled, IsRightRegion, counts_of};
 
@@ -28,13 +31,14 @@ pub struct Settled {
 }
 
 impl Model for Settled {
-    ghost use Rattle.sf_book.specs.Books.{BookData, IsSettled};
+    ghost use Rattle.sf_book.specs.Books.{BookData};
+    ghost use Rattle.sf_book.specs.PlainBooks.{IsClosed};
 
     ghost Value = { BookData };
 
     ghost view = { λ b. record { stack = b.stack.value; outstanding = b.outstanding; regions = b.regions.items; emptied = b.emptied.items; splits = b.splits; commits = b.commits; budget = b.budget } };
 
-    ghost invariant = { λ b. IsSettled (record { stack = b.stack.value; outstanding = b.outstanding; regions = b.regions.items; emptied = b.emptied.items; splits = b.splits; commits = b.commits; budget = b.budget }) };
+    ghost invariant = { λ b. IsClosed (record { stack = b.stack.value; outstanding = b.outstanding; regions = b.regions.items; emptied = b.emptied.items; splits = b.splits; commits = b.commits; budget = b.budget }) };
 }
 
 impl Settled {
@@ -42,6 +46,7 @@ impl Settled {
     pub fn stack(&self) -> &Arc<Stack>
         ensures value { arc_value result.now ≡ self.now.stack }
         ensures lawful { IsSettled self.now }
+        ensures plain { IsPlain self.now.stack → IsPlainBook self.now }
     {
         &self.stack
     }
@@ -59,6 +64,7 @@ impl Settled {
         requires { i < length self.now.regions }
         ensures value { slice_get self.now.regions i ≡ Some result.now }
         ensures right { IsRightRegion self.now.stack result.now }
+        ensures plain { IsPlain self.now.stack → IsPlainPiece result.now.piece }
         ensures lawful { IsSettled self.now }
     {
         &self.regions[i]
@@ -105,6 +111,7 @@ impl Settled {
         ensures lawful { IsSettled self.now }
         ensures one { (d : Input) → IsInput d → LiesInOne (parts_of self.now) d }
         ensures apart { NoneBeginsAnother (names_of self.now) }
+        ensures plain { IsPlain self.now.stack → IsPlainBook self.now }
     {
         Counts {
             left: self.outstanding_count(),

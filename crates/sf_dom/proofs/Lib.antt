@@ -9,3 +9,4 @@ pub mod Gives
 pub mod Sampled
 pub mod Masks
 pub mod Taken
+pub mod RisingLemmas

@@ -196,3 +196,12 @@ agrees-push ks ex ns d i next len a h j lj =
 pub still-none : (old ks : List Known) (ex : List (List ℕ)) → length old ≤ length ks → ((16 ≤ length old) ⊎ ((w : ℕ) → numbers_at ex w ≡ [])) → ((16 ≤ length ks) ⊎ ((w : ℕ) → numbers_at ex w ≡ []))
 still-none old ks ex l (inl a) = inl (omega arith)
 still-none old ks ex l (inr n) = inr n
+
+-- a constant whose number is known in full needs no step of a pass
+pub constant-passed : (ks : List Known) (ex : List (List ℕ)) (ns : List Node) (i c : ℕ) → c < 2 ^ 32 → node_at ns i ≡ Const c → known_at ks i ≡ known_of c c (4294967295 - c) c → IsPassed ks ex ns i
+constant-passed ks ex ns i c l e k = record {
+  settled = rw k (record { ordered = omega arith; fits = l; zeros = λ _. refl; ones = λ _. refl });
+  tight = λ w h. absurd (let clash : Const c ≡ Word w = sym e ∙ h in cc);
+  decided = rw e (λ d. absurd d);
+  constant = λ m h. (let same : Const c ≡ Const m = sym e ∙ h in let n : c ≡ m = cc in (rw k n, rw k n));
+}

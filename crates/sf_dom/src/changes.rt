@@ -31,7 +31,7 @@ pub fn taken(
     let _count = pool.len();
     let mut left = Vec::from_slice(alloc, nodes)?;
     let mut lists = copy_all(alloc, excluded)?;
-    exclude_both(lists.as_mut_slice(), nodes, pool, cond)?;
+    exclude_both(alloc, lists.as_mut_slice(), nodes, pool, cond)?;
     if !settle(left.as_mut_slice(), lists.as_slice(), pool, cond) {
         return Ok(None);
     }

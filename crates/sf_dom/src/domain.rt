@@ -1,9 +1,11 @@
-ghost use Rattle.std.specs.Prelude.{◌≡◌, ℕ, ◌+◌, ◌-◌, ◌*◌, ◌/◌, ◌%◌, ◌<◌, ◌≤◌, ◌↔◌, ◌⊎◌, ◌^◌, List, [], ◌∷◌, ◌++◌, length, slice_index, MatchBool, MatchOption, true, false, bit_or, max, min, IfOk, take};
+//! A forward pass: what is known of each node, met with what follows from its operands.
+
+ghost use Rattle.std.specs.Prelude.{◌≡◌, ℕ, ◌+◌, ◌-◌, ◌*◌, ◌/◌, ◌%◌, ◌<◌, ◌≤◌, ◌↔◌, ◌⊎◌, ◌^◌, List, [], ◌∷◌, ◌++◌, length, slice_index, MatchBool, MatchOption, true, false, bit_or, max, min, IfOk, IsTrue, take};
 ghost use Rattle.sf_insn.specs.Inputs.{IsInput};
 ghost use Rattle.sf_sym.specs.Pool.{OperandsBelow, IsPool, node_at, node_value, value_of};
 ghost use Rattle.sf_insn.specs.declared.input.Input.{Input};
 ghost use Rattle.sf_dom.specs.Known.{Admits, Leaves, IsSettled, IsForced, IsMeet};
-ghost use Rattle.sf_dom.specs.Rules.{KeepsAgreeing, NoneAgreesWith, AreSettledOperands, IsTightNode, IsPass, IsGrown};
+ghost use Rattle.sf_dom.specs.Rules.{known_of, KeepsAgreeing, NoneAgreesWith, AreSettledOperands, IsTightNode, IsPass, IsGrown};
 ghost use Rattle.sf_dom.specs.Facts.{known_at, numbers_at, excluded_of, AgreesWith, AreDecidedOperands};
 
 use crate::exclusions::Exclusions;
@@ -26,6 +28,18 @@ pub fn tightened(known: Known, node: Node, excluded: &[Exclusions]) -> Option<Kn
     }
 }
 
+/// A number, known in full.
+fn number(c: u32) -> Known
+    ensures { result ≡ known_of c c (4294967295 - c) c }
+{
+    Known {
+        low: c,
+        high: c,
+        zeros: !c,
+        ones: c,
+    }
+}
+
 /// What follows of a node from what is known of the older ones.
 pub fn rule(nodes: &[Known], node: Node) -> Known
     requires { OperandsBelow (length nodes.now) node }
@@ -36,15 +50,20 @@ pub fn rule(nodes: &[Known], node: Node) -> Known
     ensures constant { (c : ℕ) → node ≡ Node.Const c → (result.low ≡ c) × (result.high ≡ c) }
 {
     match node {
-        Node::Const(c) => Known {
-            low: c,
-            high: c,
-            zeros: !c,
-            ones: c,
-        },
+        Node::Const(c) => number(c),
         Node::Word(_) => full(),
         Node::Bin(op, a, b) => forward(op, nodes[a.0], nodes[b.0]),
         Node::Neg(a) => negated(nodes[a.0]),
+    }
+}
+
+/// Whether this is a constant and its number is known in full.
+fn is_number_of(known: Known, node: Node) -> bool
+    ensures { IsTrue result → (c : ℕ) × (c < 2 ^ 32) × (node ≡ Node.Const c) × (known ≡ known_of c c (4294967295 - c) c) }
+{
+    match node {
+        Node::Const(c) => known == number(c),
+        _ => false,
     }
 }
 
@@ -70,7 +89,11 @@ pub fn pass(nodes: &mut [Known], excluded: &[Exclusions], pool: &Pool) -> bool
 {
     for i in 0..nodes.len() {
         let node = pool.node(NodeId(i));
-        let known = meet(nodes[i], rule(nodes, node));
+        let before = nodes[i];
+        if is_number_of(before, node) {
+            continue;
+        }
+        let known = meet(before, rule(nodes, node));
         match tightened(known, node, excluded) {
             None => return false,
             Some(next) => {

@@ -1,35 +1,71 @@
 //! The numbers that a word does not have.
 
-ghost use Rattle.std.specs.Prelude.{◌≡◌, ℕ, ◌+◌, ◌<◌, ◌≤◌, ◌↔◌, ◌⊎◌, List, [], length, IfOk, IsTrue, Contains};
+ghost use Rattle.std.specs.Prelude.{◌≡◌, ℕ, ◌<◌, ◌↔◌, ◌⊎◌, [], length, IfOk, IsTrue, Contains, OnErr, IfSome, MatchOption};
+ghost use Rattle.std.specs.Arc.{arc_value};
 ghost use Rattle.sf_dom.specs.Known.{AreSameNumbers};
 ghost use Rattle.sf_dom.specs.Facts.{numbers_at};
+ghost use Rattle.sf_dom.specs.Rising.{AreRising};
 
 use crate::fault::Fault;
 use std::alloc::Global;
 use std::marker::Model;
+use std::sync::Arc;
 
-/// The numbers that a word does not have.
+/// The numbers that a word does not have, in rising order. Copies share them, until one gets another number.
 #[derive(Drop)]
 pub struct Exclusions {
-    numbers: Vec<u32>,
+    numbers: Arc<Vec<u32>>,
 }
 
 impl Model for Exclusions {
     ghost use Rattle.std.specs.Prelude.{List, ℕ};
+    ghost use Rattle.std.specs.Arc.{arc_value};
 
     ghost Value = { List ℕ };
 
-    ghost view = { λ e. e.numbers.items };
+    ghost use Rattle.sf_dom.specs.Rising.{AreRising};
+
+    ghost view = { λ e. (arc_value e.numbers).items };
+
+    ghost invariant = { λ e. AreRising (arc_value e.numbers).items };
 }
 
+/// The numbers, as a slice.
+fn slice_of(numbers: &Arc<Vec<u32>>) -> &[u32]
+    ensures { result.now ≡ (arc_value numbers.now).items }
+{
+    numbers.as_slice()
+}
+
+/// Whether a number stands in a rising list.
 fn stands_in(list: &[u32], number: u32) -> bool
+    requires { AreRising list.now }
     ensures { IsTrue result ↔ Contains list.now number }
 {
-    list.contains(&number)
+    list.binary_search(&number).is_ok()
+}
+
+/// A rising list with one more number, or none where the number is there.
+fn with_number(alloc: Global, list: &[u32], number: u32) -> Result<Option<Vec<u32>>, Fault>
+    requires { AreRising list.now }
+    ensures rising { IfOk result (λ o. IfSome o (λ v. AreRising v.items)) }
+    ensures numbers { IfOk result (λ o. MatchOption o
+        (Contains list.now number)
+        (λ v. (n : ℕ) → Contains v.items n ↔ (Contains list.now n ⊎ (n ≡ number)))) }
+{
+    match list.binary_search(&number) {
+        Ok(_) => Ok(None),
+        Err(at) => {
+            let mut more = Vec::from_slice(alloc, list)?;
+            more.insert(at, number)?;
+            Ok(Some(more))
+        }
+    }
 }
 
 /// Whether each of the numbers stands in the list.
 fn all_stand_in(numbers: &[u32], list: &[u32]) -> bool
+    requires { AreRising list.now }
     ensures { IsTrue result ↔ ((n : ℕ) → Contains numbers.now n → Contains list.now n) }
 {
     for n in numbers {
@@ -41,35 +77,38 @@ fn all_stand_in(numbers: &[u32], list: &[u32]) -> bool
 }
 
 impl Exclusions {
-    pub fn new(alloc: Global) -> Self
-        ensures { result ≡ [] }
-    {
-        Exclusions {
-            numbers: Vec::new(alloc),
-        }
-    }
-
-    pub fn has(&self, number: u32) -> bool
-        ensures { IsTrue result ↔ Contains self.now number }
-    {
-        stands_in(self.numbers.as_slice(), number)
-    }
-
-    /// The same numbers.
-    pub fn copy(&self, alloc: Global) -> Result<Exclusions, Fault>
-        ensures { IfOk result (λ e. e ≡ self.now) }
+    /// No numbers. `Memory` where there is none.
+    pub fn new(alloc: Global) -> Result<Exclusions, Fault>
+        ensures { IfOk result (λ e. e ≡ []) }
     {
         Ok(Exclusions {
-            numbers: Vec::from_slice(alloc, self.numbers.as_slice())?,
+            numbers: Arc::new(alloc, Vec::new(alloc))?,
         })
     }
 
-    /// Adds a number, if it is not there.
-    pub fn add(&mut self, number: u32) -> Result<(), Fault>
-        ensures { IfOk result (λ _. (n : ℕ) → Contains self.new n ↔ (Contains self.old n ⊎ (n ≡ number))) }
+    /// Whether a number is there.
+    pub fn has(&self, number: u32) -> bool
+        ensures { IsTrue result ↔ Contains self.now number }
     {
-        if !self.has(number) {
-            self.numbers.push(number)?;
+        stands_in(slice_of(&self.numbers), number)
+    }
+
+    /// The same numbers, shared. `Memory` where there is none.
+    pub fn copy(&self) -> Result<Exclusions, Fault>
+        ensures { IfOk result (λ e. e ≡ self.now) }
+    {
+        Ok(Exclusions {
+            numbers: self.numbers.clone()?,
+        })
+    }
+
+    /// Adds a number, if it is not there. Where there is no memory, `Memory`, and the numbers are as they were.
+    pub fn add(&mut self, alloc: Global, number: u32) -> Result<(), Fault>
+        ensures ok { IfOk result (λ _. (n : ℕ) → Contains self.new n ↔ (Contains self.old n ⊎ (n ≡ number))) }
+        ensures err { OnErr result (self.new ≡ self.old) }
+    {
+        if let Some(more) = with_number(alloc, slice_of(&self.numbers), number)? {
+            self.numbers = Arc::new(alloc, more)?;
         }
         Ok(())
     }
@@ -78,8 +117,9 @@ impl Exclusions {
     pub fn has_same(&self, other: &Exclusions) -> bool
         ensures { IsTrue result ↔ AreSameNumbers self.now other.now }
     {
-        all_stand_in(self.numbers.as_slice(), other.numbers.as_slice())
-            && all_stand_in(other.numbers.as_slice(), self.numbers.as_slice())
+        let left = slice_of(&self.numbers);
+        let right = slice_of(&other.numbers);
+        all_stand_in(left, right) && all_stand_in(right, left)
     }
 }
 
@@ -89,7 +129,7 @@ pub fn copy_all(alloc: Global, lists: &[Exclusions]) -> Result<Vec<Exclusions>, 
 {
     let mut copies = Vec::new(alloc);
     for list in lists {
-        copies.push(list.copy(alloc)?)?;
+        copies.push(list.copy()?)?;
     }
     Ok(copies)
 }
@@ -98,9 +138,10 @@ pub fn copy_all(alloc: Global, lists: &[Exclusions]) -> Result<Vec<Exclusions>, 
 pub fn no_exclusions(alloc: Global) -> Result<Vec<Exclusions>, Fault>
     ensures { IfOk result (λ v. (length v.items ≡ 16) × ((w : ℕ) → numbers_at v.items w ≡ [])) }
 {
+    let none = Exclusions::new(alloc)?;
     let mut lists = Vec::new(alloc);
     for _i in 0..16u8 {
-        lists.push(Exclusions::new(alloc))?;
+        lists.push(none.copy()?)?;
     }
     Ok(lists)
 }

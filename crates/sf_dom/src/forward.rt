@@ -1,3 +1,5 @@
+//! What follows of an operation from what is known of its operands: an interval and known bits for each.
+
 ghost use Rattle.std.specs.Prelude.{◌≡◌, ℕ, ◌+◌, ◌-◌, ◌*◌, ◌/◌, ◌%◌, ◌<◌, ◌≤◌, ◌^◌, if◌then◌else◌, ◌==◌, bit_and, bit_or, bit_xor};
 ghost use Rattle.sf_insn.specs.Words.{apply};
 ghost use Rattle.sf_dom.specs.Known.{Admits, IsSettled, IsDecided, IsForced};
@@ -26,6 +28,7 @@ pub fn full() -> Known
     between(0, u32::MAX)
 }
 
+/// A sum: where none of the sums wraps, or each does, they lie between those of the ends.
 fn add(a: Known, b: Known) -> Known
     ensures admits { (x y : ℕ) → Admits a x → Admits b y → Admits result ((x + y) % 2 ^ 32) }
     ensures forced { IsSettled a → IsSettled b → IsDecided a → IsDecided b → IsForced result }
@@ -41,6 +44,7 @@ fn add(a: Known, b: Known) -> Known
     }
 }
 
+/// A difference: where none of them wraps, or each does, they lie between those of the ends.
 fn sub(a: Known, b: Known) -> Known
     ensures admits { (x y : ℕ) → Admits a x → Admits b y → Admits result ((x + (2 ^ 32 - y)) % 2 ^ 32) }
     ensures forced { IsSettled a → IsSettled b → IsDecided a → IsDecided b → IsForced result }
@@ -54,6 +58,7 @@ fn sub(a: Known, b: Known) -> Known
     }
 }
 
+/// A product: where the greatest fits, the products lie between those of the ends.
 fn mul(a: Known, b: Known) -> Known
     ensures { (x y : ℕ) → Admits a x → Admits b y → Admits result ((x * y) % 2 ^ 32) }
 {
@@ -63,6 +68,7 @@ fn mul(a: Known, b: Known) -> Known
     }
 }
 
+/// A quotient, which is 0 where the divisor is: where no divisor is 0, the quotients lie between those of the ends.
 fn div(a: Known, b: Known) -> Known
     ensures { (x y : ℕ) → Admits a x → Admits b y → Admits result (if y == 0 then 0 else x / y) }
 {
@@ -73,6 +79,7 @@ fn div(a: Known, b: Known) -> Known
     }
 }
 
+/// An OR is at least each operand; its bit is 0 where both are, and 1 where one is.
 fn or(a: Known, b: Known) -> Known
     ensures admits { (x y : ℕ) → Admits a x → Admits b y → Admits result (bit_or x y) }
     ensures forced { IsSettled a → IsSettled b → IsDecided a → IsDecided b → IsForced result }
@@ -85,6 +92,7 @@ fn or(a: Known, b: Known) -> Known
     }
 }
 
+/// An AND is at most each operand; its bit is 0 where one is, and 1 where both are.
 fn and(a: Known, b: Known) -> Known
     ensures admits { (x y : ℕ) → Admits a x → Admits b y → Admits result (bit_and x y) }
     ensures forced { IsSettled a → IsSettled b → IsDecided a → IsDecided b → IsForced result }
@@ -97,6 +105,7 @@ fn and(a: Known, b: Known) -> Known
     }
 }
 
+/// The bit of an XOR is known where both are.
 fn xor(a: Known, b: Known) -> Known
     ensures admits { (x y : ℕ) → Admits a x → Admits b y → Admits result (bit_xor x y) }
     ensures forced { IsSettled a → IsSettled b → IsDecided a → IsDecided b → IsForced result }
@@ -109,6 +118,7 @@ fn xor(a: Known, b: Known) -> Known
     }
 }
 
+/// Moved to the left by `s` bits: the low bits are 0, and where the high end fits, the ends move along.
 fn shifted_left(a: Known, s: u32) -> Known
     requires { s < 32 }
     ensures { (x : ℕ) → Admits a x → Admits result ((x * 2 ^ s) % 2 ^ 32) }
@@ -132,6 +142,7 @@ fn shifted_left(a: Known, s: u32) -> Known
     }
 }
 
+/// Moved to the right by `s` bits: the high bits are 0, and the ends move along.
 fn shifted_right(a: Known, s: u32) -> Known
     requires { s < 32 }
     ensures { (x : ℕ) → Admits a x → Admits result (x / 2 ^ s) }
@@ -144,6 +155,7 @@ fn shifted_right(a: Known, s: u32) -> Known
     }
 }
 
+/// A shift to the left goes by the second operand modulo 32; where that is not decided, nothing is known.
 fn shift_left(a: Known, b: Known) -> Known
     ensures { (x y : ℕ) → Admits a x → Admits b y → Admits result ((x * 2 ^ (y % 32)) % 2 ^ 32) }
 {
@@ -154,6 +166,7 @@ fn shift_left(a: Known, b: Known) -> Known
     }
 }
 
+/// A shift to the right goes by the second operand modulo 32; where that is not decided, the word does not grow.
 fn shift_right(a: Known, b: Known) -> Known
     ensures { (x y : ℕ) → Admits a x → Admits b y → Admits result (x / 2 ^ (y % 32)) }
 {

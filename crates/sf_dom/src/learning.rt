@@ -1,3 +1,5 @@
+//! What the tests leave of two words.
+
 ghost use Rattle.std.specs.Prelude.{◌≡◌, ◌≢◌, ℕ, ◌+◌, ◌-◌, ◌*◌, ◌/◌, ◌%◌, ◌<◌, ◌≤◌, ◌^◌, MatchOption, IfSome, bit_and, bit_or};
 ghost use Rattle.sf_dom.specs.Known.{HasBits, Admits, IsSettled, IsDecided};
 ghost use Rattle.sf_dom.specs.Rules.{LeavesPair, LeavesNoPair};
@@ -6,13 +8,14 @@ ghost use Rattle.sf_dom.specs.Facts.{IsOneBit};
 use crate::domain::meet;
 use crate::known::Known;
 
-/// What is known of two words.
+/// What is known of the two words of a test.
 #[derive(Clone, Copy, Debug, PartialEq, Eq)]
 pub struct Pair {
     pub node: Known,
     pub other: Known,
 }
 
+/// The two are equal: each has what is known of both.
 pub fn equal(v: Known, w: Known) -> Pair
     ensures pair { LeavesPair v w result.node result.other (λ x y. x ≡ y) }
     ensures sharp { w.low ≡ w.high → (x : ℕ) → Admits result.node x → x ≡ w.low }

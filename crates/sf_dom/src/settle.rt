@@ -1,3 +1,5 @@
+//! A condition taken into what is known of the nodes of a pool.
+
 ghost use Rattle.std.specs.Prelude.{◌≡◌, ◌≢◌, ℕ, ◌+◌, ◌-◌, ◌*◌, ◌/◌, ◌%◌, ◌<◌, ◌≤◌, ◌^◌, ◌⊎◌, List, length, Contains, MatchOption, MatchBool, IfSome, IfOk, OnErr, bit_and, bit_or, bit_xor, true, false};
 ghost use Rattle.sf_insn.specs.Inputs.{IsInput};
 ghost use Rattle.sf_insn.specs.Words.{apply};
@@ -14,6 +16,7 @@ use crate::known::Known;
 use crate::learning::{Pair, at_least, common_bit, differs, equal, greater, no_common_bit};
 use sf_insn::{BinOp, Test};
 use sf_sym::{Cond, Node, NodeId, Pool, constant_of};
+use std::alloc::Global;
 
 /// What is known, with more known bits.
 fn with_bits(known: Known, zeros: u32, ones: u32) -> Known
@@ -203,7 +206,12 @@ pub fn settle(nodes: &mut [Known], excluded: &[Exclusions], pool: &Pool, cond: &
 }
 
 /// A word is not the number of a node that is decided.
-pub fn exclude(excluded: &mut [Exclusions], node: Node, other: Known) -> Result<(), Fault>
+pub fn exclude(
+    alloc: Global,
+    excluded: &mut [Exclusions],
+    node: Node,
+    other: Known,
+) -> Result<(), Fault>
     requires words { length excluded.old ≡ 16 }
     requires word { (i : ℕ) → node ≡ Node.Word i → i < 16 }
     ensures { IfOk result (λ _. AreExcluded excluded.old excluded.new node other) }
@@ -211,13 +219,14 @@ pub fn exclude(excluded: &mut [Exclusions], node: Node, other: Known) -> Result<
     if let Node::Word(i) = node
         && other.low == other.high
     {
-        excluded[i as usize].add(other.low)?;
+        excluded[i as usize].add(alloc, other.low)?;
     }
     Ok(())
 }
 
 /// Where a condition says that two nodes differ, neither is the number of the other, if that is decided.
 pub fn exclude_both(
+    alloc: Global,
     excluded: &mut [Exclusions],
     nodes: &[Known],
     pool: &Pool,
@@ -233,8 +242,8 @@ pub fn exclude_both(
     let right = pool.node(cond.other);
     match (cond.test, cond.sense) {
         (Test::Equal, false) => {
-            exclude(excluded, left, nodes[cond.other.0])?;
-            exclude(excluded, right, nodes[cond.node.0])?;
+            exclude(alloc, excluded, left, nodes[cond.other.0])?;
+            exclude(alloc, excluded, right, nodes[cond.node.0])?;
             Ok(())
         }
         _ => Ok(()),

@@ -19,16 +19,20 @@ use sf_sym::{Cond, Pool};
 use std::alloc::Global;
 use std::sync::Arc;
 
-/// What became of a piece by one instruction.
+/// What became of a piece by one instruction or one truth value.
 #[derive(Drop)]
 pub(crate) enum Turn {
+    /// The run goes on.
     On(Piece),
+    /// The facts leave both ways open: the members on which the truth value is false, and those on which it is true.
     Split(Arc<Piece>, Arc<Piece>),
+    /// The last program has returned: the whole name and the answer.
     Settled(Vec<bool>, Answer),
+    /// There is no member.
     Empty,
 }
 
-/// Where the machine stands after the entry.
+/// Where the machine stands after the truth value.
 fn after(piece: &Piece, insn: Insn, sense: bool) -> Machine
     requires standing { Standing piece.now insn }
     requires asks { Asks piece.now insn }
@@ -58,7 +62,7 @@ fn after(piece: &Piece, insn: Insn, sense: bool) -> Machine
     }
 }
 
-/// The entry is this on every member: it goes into the name alone.
+/// The truth value is this on every member: it goes into the name alone, and nothing is learnt from it.
 fn take(piece: Piece, insn: Insn, cond: Cond, sense: bool) -> Result<Piece, Fault>
     requires standing { Standing piece insn }
     requires entry { IsEntry piece insn cond }
@@ -86,7 +90,7 @@ fn take(piece: Piece, insn: Insn, cond: Cond, sense: bool) -> Result<Piece, Faul
     })
 }
 
-/// The members on which the entry is this.
+/// The members on which the truth value is this.
 fn child(
     alloc: Global,
     piece: &Piece,
@@ -101,13 +105,13 @@ fn child(
     ensures { IfOk result (λ c. IsChild piece.now cond sense (arc_value c)) }
 {
     let to = after(piece, insn, sense);
-    let mut name = Vec::from_slice(alloc, piece.name.as_slice())?;
-    name.push(sense)?;
+    let mut longer = Vec::from_slice(alloc, piece.name.as_slice())?;
+    longer.push(sense)?;
     let mut conditions = piece.conditions.fork()?;
     conditions.push(Cond { sense, ..cond })?;
     let child = Piece {
         stack: Arc::try_clone(&piece.stack)?,
-        name,
+        name: longer,
         pool: piece.pool.fork(alloc)?,
         conditions,
         machine: to,
@@ -116,7 +120,7 @@ fn child(
     Ok(Arc::new(alloc, child)?)
 }
 
-/// The piece's facts with the entry as this, or none where that contradicts.
+/// The piece's facts with the truth value as this, or none where that contradicts them.
 fn learnt(alloc: Global, piece: &Piece, cond: Cond, sense: bool) -> Result<Option<Facts>, Fault>
     requires below { IsCondBelow (length piece.now.pool) cond }
     requires plain { IsPlain piece.now.stack → IsPlainCond piece.now.pool cond }
@@ -128,7 +132,7 @@ fn learnt(alloc: Global, piece: &Piece, cond: Cond, sense: bool) -> Result<Optio
     Ok(learnt)
 }
 
-/// Learns the entry as false and as true, each from the same facts.
+/// Learns the truth value as false and as true, each from the same facts.
 fn decide(alloc: Global, piece: Piece, insn: Insn, cond: Cond) -> Result<Turn, Fault>
     requires standing { Standing piece insn }
     requires entry { IsEntry piece insn cond }
@@ -147,7 +151,7 @@ fn decide(alloc: Global, piece: Piece, insn: Insn, cond: Cond) -> Result<Turn, F
     }
 }
 
-/// One instruction or one entry.
+/// One instruction, or one truth value of it.
 pub(crate) fn work_once(alloc: Global, piece: Piece) -> Result<Turn, Fault>
     ensures { IfOk result (IsTurn piece) }
 {

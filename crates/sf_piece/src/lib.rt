@@ -1,4 +1,6 @@
-//! Pieces of the input space: named sets of inputs, and how one is worked.
+//! Symbolic execution of stacks of seccomp filters. A piece is the set of inputs whose traces begin with its name;
+//! `advance` runs it on symbolic words to the next truth value that its facts leave open, where it splits, or to the
+//! last return, where its answer is known.
 #![tactic(auto)]
 
 mod asking;

@@ -9,5 +9,5 @@ returns-then-self-clause-err c =
 pub returns-clause-ok : goal.returns-clause-ok
 returns-clause-ok c =
     let e = c.in-Some.ensures in
-    let le : c.self.inside.commits ≤ c.self.inside.budget = c.self.invariant.lawful.within in
+    let le : c.self.inside.commits ≤ c.self.inside.budget = c.self.invariant.kept.lawful.within in
     rw (← c.self.view_is) (record { same_stack = c.if-not-is_of.ensures.0 refl; entry = _; there = e.1; same_name = sym (c.if-not-has_name.ensures.0 refl) }, omega arith)

@@ -1,0 +1,92 @@
+-- What a search for a member in a question tells.
+use Rattle.std.proofs.Common.{◌≡◌, ℕ, ◌+◌, ◌<◌, ◌≤◌, ◌^◌, Bool, true, false, List, length, get_or, take, arith, refl, sym, ap, subst, inl, inr, ◌∙◌, Some, None}
+use Rattle.std.specs.Prelude.{slice_index, slice_get, ◌&&◌}
+use Rattle.std.specs.List.{list_all}
+use Rattle.std.proofs.lemmas.Bool.{cases_eq, cases_lt}
+use Rattle.std.proofs.lemmas.List.{ext_get_or}
+use Rattle.std.proofs.lemmas.List.Folds.{list_all_more, list_all_at}
+use Rattle.std.proofs.lemmas.Option.{get_or_from_slice_get, slice_get_within}
+use Rattle.sf_insn.specs.declared.input.Input.{Input}
+use Rattle.sf_insn.specs.Inputs.{IsInput}
+use Rattle.sf_sym.specs.Pool.{is_met}
+use Rattle.sf_sym.specs.declared.pool.Node.{Node}
+use Rattle.sf_sym.specs.declared.pool.Cond.{Cond}
+use Rattle.sf_dom.specs.Facts.{FactsView, Agrees, known_at}
+use Rattle.sf_run.specs.declared.action.Answer.{Answer}
+use Rattle.sf_run.specs.Machine.{returns_of}
+use Rattle.sf_run.specs.AnswerLaws.{one}
+use Rattle.sf_book.specs.Books.{BookData, RegionData, IsRightRegion}
+use Rattle.sf_ask.specs.Actions.{has_action}
+use Rattle.sf_piece.specs.Pieces.{PieceData, is_member}
+use Rattle.sf_ask.specs.Asked.{Asked}
+use Rattle.sf_ask.specs.Breaking.{IsNumberOf, IsInQuestion}
+use Rattle.sf_ask.specs.Verdicts.{IsLowInput, IsMemberAt, IsBreakAt}
+use Rattle.sf_ask.proofs.Leasts.{least-admitted, least-below, least-agrees}
+use Rattle.sf_ask.specs.Searches.{AreConfined, NonePasses, IsNumberBefore, IsLeastInput, IsExact}
+
+-- ---- conditions, one after the other
+
+pub met-more : (p : Cond → Bool) (cs : List Cond) (i : ℕ) (c : Cond) → slice_get cs i ≡ Some c → list_all p (take i cs) ≡ true → p c ≡ true → list_all p (take (i + 1) cs) ≡ true
+met-more p cs i c there before met =
+    list_all_more p cs i c (slice_get_within cs i c there) ∙ rw (before, get_or_from_slice_get cs i c c there, met) refl
+
+pub not-met : (p : Cond → Bool) (cs : List Cond) (i : ℕ) (c : Cond) → slice_get cs i ≡ Some c → p c ≡ false → list_all p cs ≡ false
+not-met p cs i c there fails = list_all_at p cs i c (slice_get_within cs i c there) (ap p (get_or_from_slice_get cs i c c there) ∙ fails)
+
+-- ---- the input of the least numbers
+
+-- all members agree with the facts of a piece
+abbrev MembersAgree : PieceData → FactsView → List Node → Type 0
+MembersAgree p f ns = (d : Input) → IsInput d → is_member p d ≡ true → Agrees f ns d
+
+-- it is in the question
+pub least-inside : (q : Asked) (f g : FactsView) (ns : List Node) (d : Input) → AreConfined f g ns (IsInQuestion q) (IsNumberBefore q 16) → IsLeastInput g d → IsInQuestion q d
+least-inside q f g ns d a h = λ word w. a.numbers word (slice_index d.words word) w (h.input.each word) (least-admitted g ns d a.covers h word w) w
+
+-- where the low input is a member, it is that
+pub low-is-least : (p : PieceData) (q : Asked) (f g : FactsView) (ns : List Node) (d low : Input) → MembersAgree p f ns
+    → AreConfined f g ns (IsInQuestion q) (IsNumberBefore q 16) → IsLeastInput g d → IsInput low → IsLowInput q low → is_member p low ≡ true → d ≡ low
+low-is-least p q f g ns d low known a h input is member =
+    let agrees = a.keeps low input (known low input member) is.inside in
+    let inside = least-inside q f g ns d a h in
+    let below = least-below g ns d low a.covers h agrees in
+    let same : (word : ℕ) → word < 16 → slice_index d.words word ≡ slice_index low.words word
+      = λ word w. let under = below word w in let over = is.least word (slice_index d.words word) w (inside word w) in omega arith in
+    ap (λ (words : List ℕ). let e : Input = record { words = words } in e) (same_words d.words low.words h.input.sixteen input.sixteen same)
+  where
+    same_words : (xs ys : List ℕ) → length xs ≡ 16 → length ys ≡ 16 → ((word : ℕ) → word < 16 → get_or xs word 0 ≡ get_or ys word 0) → xs ≡ ys
+    same_words xs ys lx ly same = ext_get_or 0 xs ys (lx ∙ sym ly) (λ i l. same i (omega arith))
+
+-- ---- what the steps of a search tell
+
+pub ruled-out : (p : PieceData) (q : Asked) (f : FactsView) (ns : List Node) → MembersAgree p f ns → NonePasses f ns (IsInQuestion q)
+    → (d : Input) → IsInput d → is_member p d ≡ true → ¬ IsInQuestion q d
+ruled-out p q f ns known none = λ d input member. none d input (known d input member)
+
+pub doubtful : (p : PieceData) (q : Asked) (f g : FactsView) (ns : List Node) (d : Input) → MembersAgree p f ns
+    → AreConfined f g ns (IsInQuestion q) (IsNumberBefore q 16) → IsLeastInput g d → is_member p d ≡ false
+    → (low : Input) → IsInput low → IsLowInput q low → ¬ (is_member p low ≡ true)
+doubtful p q f g ns d known a h none low input is member =
+    let same = low-is-least p q f g ns d low known a h input is member in
+    cc (ap (is_member p) same)
+
+pub least-hit : (p : PieceData) (q : Asked) (f g : FactsView) (ns : List Node) (d : Input) → MembersAgree p f ns
+    → AreConfined f g ns (IsInQuestion q) (IsNumberBefore q 16) → IsLeastInput g d
+    → (other : Input) → IsInput other → is_member p other ≡ true → IsInQuestion q other → (word : ℕ) → word < 16 → slice_index d.words word ≤ slice_index other.words word
+least-hit p q f g ns d known a h other input member inside = least-below g ns d other a.covers h (a.keeps other input (known other input member) inside)
+
+-- over words and constants the input of the least numbers is a member
+pub exact-hit : (p : PieceData) (q : Asked) (g : FactsView) (d : Input) → IsExact p
+    → AreConfined p.facts g p.pool (IsInQuestion q) (IsNumberBefore q 16) → IsLeastInput g d → is_member p d ≡ true
+exact-hit p q g d exact a h = exact.members d h.input (a.only d h.input (least-agrees g p.pool d a.covers exact.plain h)).0
+
+-- ---- from a piece to its region
+
+pub not-asked : (s : BookData) (place : ℕ) (q : Asked) (r : RegionData) → slice_get s.regions place ≡ Some r → IsRightRegion s.stack r → has_action q.actions r.answer.action ≡ false
+    → (d : Input) → ¬ IsBreakAt s place q d
+not-asked s place q r there right none d h =
+    let member = h.member in
+    let same : member.region ≡ r = cc (member.there, there) in
+    let answers = right.answers d member.input (subst (λ (x : RegionData). is_member x.piece d ≡ true) same member.member) in
+    let answer = one (returns_of s.stack d) h.breaks.answer r.answer h.breaks.answers answers in
+    cc (h.breaks.asked, none, ap (λ (a : Answer). has_action q.actions a.action) answer)

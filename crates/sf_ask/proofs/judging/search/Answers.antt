@@ -1,0 +1,34 @@
+use Rattle.std.proofs.Common.{◌≡◌, arith, sym, ap, ◌∙◌, true, false}
+use Rattle.sf_sym.specs.Pool.{IsPool}
+use Rattle.sf_insn.specs.Inputs.{IsInput}
+use Rattle.sf_dom.specs.Facts.{Agrees}
+use Rattle.sf_piece.specs.Pieces.{is_member}
+use Rattle.sf_ask.specs.Breaking.{IsInQuestion}
+use Rattle.sf_ask.specs.Searches.{AreConfined, NonePasses, IsNumberBefore, IsLeastInput}
+use Rattle.sf_ask.proofs.Searching.{ruled-out, doubtful, least-hit, exact-hit}
+use Rattle.sf_ask.proofs.judging.search.Goals as goal
+
+pub returns-then-rules_out-clause-right : goal.returns-then-rules_out-clause-right
+returns-then-rules_out-clause-right c =
+    let p = c.args.piece.now in
+    ruled-out p c.args.question.now p.facts p.pool c.facts-known.ensures.known (rw c.facts-known.ensures.value at (c.rules_out.ensures c.if-rules_out.true p.pool (rw c.facts-known.ensures.value c.facts-known.ensures.covers)))
+
+pub returns-then-not-branch-clause-right : goal.returns-then-not-branch-clause-right
+returns-then-not-branch-clause-right c =
+    let p = c.args.piece.now in
+    let confined = rw (c.in-Some.is, c.facts-known.ensures.value, c.pool.ensures.value) at c.in_ok-facts.ensures in
+    doubtful p c.args.question.now p.facts c.in-Some.facts p.pool c.in-Some-least_input.input c.facts-known.ensures.known confined c.in-Some-least_input.ensures
+      (sym c.in_ok-is_member_of.ensures ∙ c.if-not-branch.true)
+
+pub returns-then-not-branch-clause-decisive : goal.returns-then-not-branch-clause-decisive
+returns-then-not-branch-clause-decisive c = λ exact.
+    let p = c.args.piece.now in
+    let confined = rw (c.in-Some.is, c.facts-known.ensures.value, c.pool.ensures.value) at c.in_ok-facts.ensures in
+    let hit = exact-hit p c.args.question.now c.in-Some.facts c.in-Some-least_input.input exact confined c.in-Some-least_input.ensures in
+    cc (sym c.in_ok-is_member_of.ensures ∙ c.if-not-branch.true)
+
+pub returns-clause-least : goal.returns-clause-least
+returns-clause-least c =
+    let p = c.args.piece.now in
+    let confined = rw (c.in-Some.is, c.facts-known.ensures.value, c.pool.ensures.value) at c.in_ok-facts.ensures in
+    least-hit p c.args.question.now p.facts c.in-Some.facts p.pool c.in-Some-least_input.input c.facts-known.ensures.known confined c.in-Some-least_input.ensures

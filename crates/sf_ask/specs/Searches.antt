@@ -1,0 +1,76 @@
+-- What the search for a member in a question does, step by step: for the functions of this crate alone.
+use Rattle.std.specs.Prelude.{◌≡◌, ℕ, ◌<◌, ◌≤◌, ◌^◌, true, List, slice_index, bit_and}
+use Rattle.sf_insn.specs.declared.input.Input.{Input}
+use Rattle.sf_insn.specs.Inputs.{IsInput}
+use Rattle.sf_sym.specs.Pool.{ArePlainNodes}
+use Rattle.sf_sym.specs.declared.pool.Node.{Node}
+use Rattle.sf_dom.specs.Known.{Admits}
+use Rattle.sf_dom.specs.Facts.{FactsView, Agrees, Covers, known_at, AreNarrower, lies_in, has_masked}
+use Rattle.sf_piece.specs.Pieces.{PieceData, is_member}
+use Rattle.sf_ask.specs.declared.verdict.Verdict.{Verdict}
+use Rattle.sf_ask.specs.declared.verdict.Verdict.TheVariants.{Clear, Hit, Doubt}
+use Rattle.sf_ask.specs.Asked.{Asked, range_at, mask_at}
+use Rattle.sf_ask.specs.Breaking.{IsNumberOf, IsInQuestion}
+use Rattle.sf_ask.specs.Verdicts.{IsLowInput}
+
+-- facts are confined: of the inputs that agreed those that pass agree still, and what a word may have is kept to some numbers
+pub record AreConfined (old new : FactsView) (ns : List Node) (passes : Input → Type 0) (may_have : ℕ → ℕ → Type 0) : Type 0 where
+  pub keeps : (d : Input) → IsInput d → Agrees old ns d → passes d → Agrees new ns d
+  pub only : (d : Input) → IsInput d → Agrees new ns d → Agrees old ns d × passes d
+  pub narrower : AreNarrower old new
+  pub covers : Covers new ns
+  pub numbers : (word n : ℕ) → word < 16 → n < 2 ^ 32 → Admits (known_at new.known word) n → may_have word n
+
+-- no input that agrees passes
+abbrev pub NonePasses : FactsView → List Node → (Input → Type 0) → Type 0
+NonePasses f ns passes = (d : Input) → IsInput d → Agrees f ns d → ¬ passes d
+
+-- an input has in a word a number of its range, the bits of its mask, and both
+abbrev pub IsInRange : Asked → ℕ → Input → Type 0
+IsInRange q word d = lies_in word (range_at q word).0 (range_at q word).1 d ≡ true
+
+abbrev pub HasBits : Asked → ℕ → Input → Type 0
+HasBits q word d = has_masked word (mask_at q word).0 (mask_at q word).1 d ≡ true
+
+abbrev pub HasNumber : Asked → ℕ → Input → Type 0
+HasNumber q word d = IsNumberOf q word (slice_index d.words word)
+
+-- an input has numbers of the question in the words before a place
+abbrev pub IsInBefore : Asked → ℕ → Input → Type 0
+IsInBefore q end d = (word : ℕ) → word < end → IsNumberOf q word (slice_index d.words word)
+
+-- the numbers that a word may have, where it is this one: by its range, by its mask, by both
+abbrev pub IsRangeNumber : Asked → ℕ → ℕ → ℕ → Type 0
+IsRangeNumber q at word n = word ≡ at → ((range_at q at).0 ≤ n) × (n ≤ (range_at q at).1)
+
+abbrev pub IsMaskNumber : Asked → ℕ → ℕ → ℕ → Type 0
+IsMaskNumber q at word n = word ≡ at → bit_and n (mask_at q at).0 ≡ (mask_at q at).1
+
+abbrev pub IsWordNumber : Asked → ℕ → ℕ → ℕ → Type 0
+IsWordNumber q at word n = word ≡ at → IsNumberOf q at n
+
+-- the same for each word before a place
+abbrev pub IsNumberBefore : Asked → ℕ → ℕ → ℕ → Type 0
+IsNumberBefore q end word n = word < end → IsNumberOf q word n
+
+-- the input of the least numbers that facts leave for the words
+pub record IsLeastInput (f : FactsView) (d : Input) : Type 0 where
+  pub input : IsInput d
+  pub is : (word : ℕ) → word < 16 → slice_index d.words word ≡ (known_at f.known word).low
+
+-- what a search for a member in the question tells is right
+abbrev pub IsRightSearch : PieceData → Asked → Verdict → Type 0
+IsRightSearch p q Clear = (d : Input) → IsInput d → is_member p d ≡ true → ¬ IsInQuestion q d
+IsRightSearch p q (Hit d) = IsInput d × (is_member p d ≡ true) × IsInQuestion q d
+IsRightSearch p q Doubt = (d : Input) → IsInput d → IsLowInput q d → ¬ (is_member p d ≡ true)
+
+-- a hit has in each word the least number that any member in the question has there
+abbrev pub HitsLeast : PieceData → Asked → Verdict → Type 0
+HitsLeast p q Clear = Unit {0}
+HitsLeast p q (Hit d) = (other : Input) → IsInput other → is_member p other ≡ true → IsInQuestion q other → (word : ℕ) → word < 16 → slice_index d.words word ≤ slice_index other.words word
+HitsLeast p q Doubt = Unit {0}
+
+-- the facts of a piece over words and constants are exact
+pub record IsExact (p : PieceData) : Type 0 where
+  pub plain : ArePlainNodes p.pool
+  pub members : (d : Input) → IsInput d → Agrees p.facts p.pool d → is_member p d ≡ true

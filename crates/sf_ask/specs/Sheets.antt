@@ -1,0 +1,74 @@
+-- Sheets of verdicts: what contracts see of one, and when it is right.
+use Rattle.std.specs.Prelude.{◌≡◌, ℕ, ◌<◌, ◌/◌, ◌%◌, ◌==◌, not, Bool, true, false, List, length, Option, Some, None, slice_get, slice_index, slice_index_or}
+use Rattle.std.specs.Int.{bit_at}
+use Rattle.sf_insn.specs.declared.input.Input.{Input}
+use Rattle.sf_book.specs.Books.{BookData}
+use Rattle.sf_ask.specs.declared.verdict.Verdict.{Verdict}
+use Rattle.sf_ask.specs.declared.verdict.Verdict.TheVariants.{Clear, Hit, Doubt}
+use Rattle.sf_ask.specs.Asked.{Asked}
+use Rattle.sf_ask.specs.Verdicts.{IsBreakAt, IsRightVerdict, HitsPlainExample}
+
+-- a sheet: the regions and questions that it is of, the place of its region, and for each question a verdict or none
+pub record SheetData : Type 0 where
+  pub settled : BookData
+  pub questions : List Asked
+  pub job : ℕ
+  pub verdicts : List (Option Verdict)
+
+-- the verdict on a question; one that was skipped has none
+abbrev pub verdict_at : List (Option Verdict) → ℕ → Option Verdict
+verdict_at verdicts q = slice_index_or verdicts q None
+
+abbrev pub is_skipped : Option Verdict → Bool
+is_skipped None = true
+is_skipped (Some v) = false
+
+abbrev pub is_hit : Option Verdict → Bool
+is_hit None = false
+is_hit (Some Clear) = false
+is_hit (Some (Hit d)) = true
+is_hit (Some Doubt) = false
+
+abbrev pub is_doubt : Option Verdict → Bool
+is_doubt None = false
+is_doubt (Some Clear) = false
+is_doubt (Some (Hit d)) = false
+is_doubt (Some Doubt) = true
+
+-- a question is asked for where its bit is set: bit q % 64 of word q / 64
+abbrev pub is_wanted : List ℕ → ℕ → Bool
+is_wanted wanted q = bit_at (slice_index wanted (q / 64)) (q % 64) == 1
+
+-- a member of the region at a place breaks the question of a number
+pub record IsBreakOf (s : BookData) (questions : List Asked) (place q : ℕ) (d : Input) : Type 0 where
+  pub question : Asked
+  pub asked : slice_get questions q ≡ Some question
+  pub breaks : IsBreakAt s place question d
+
+abbrev pub HasBreak : BookData → List Asked → ℕ → ℕ → Type 0
+HasBreak s questions place q = (d : Input) × IsBreakOf s questions place q d
+
+abbrev pub HasNoBreak : BookData → List Asked → ℕ → ℕ → Type 0
+HasNoBreak s questions place q = (d : Input) → ¬ IsBreakOf s questions place q d
+
+-- a verdict on the question of a number is right, and a hit is the plain example
+pub record IsRightOn (s : BookData) (questions : List Asked) (place q : ℕ) (v : Verdict) : Type 0 where
+  pub question : Asked
+  pub asked : slice_get questions q ≡ Some question
+  pub right : IsRightVerdict s place question v
+  pub example : HitsPlainExample s place question v
+
+-- the same where there is a verdict
+abbrev pub IsRightEntry : BookData → List Asked → ℕ → ℕ → Option Verdict → Type 0
+IsRightEntry s questions place q None = Unit {0}
+IsRightEntry s questions place q (Some v) = IsRightOn s questions place q v
+
+-- a sheet is right: its region is there, and each of its verdicts is right
+pub record IsRightSheet (s : SheetData) : Type 0 where
+  pub there : s.job < length s.settled.regions
+  pub each : length s.verdicts ≡ length s.questions
+  pub right : (q : ℕ) → q < length s.questions → IsRightEntry s.settled s.questions s.job q (verdict_at s.verdicts q)
+
+-- a verdict stands exactly for each question that is asked for
+abbrev pub HasWanted : List ℕ → SheetData → Type 0
+HasWanted wanted s = (q : ℕ) → q < length s.questions → is_skipped (verdict_at s.verdicts q) ≡ not (is_wanted wanted q)

@@ -1,0 +1,102 @@
+//! Facts, confined to the numbers that a question leaves for the words.
+
+ghost use Rattle.std.specs.Prelude.{◌≡◌, ◌<◌, ◌≤◌, ℕ, true, false, Ok, List, length, IfOk, MatchBool, MatchOption, slice_index, bit_and};
+ghost use Rattle.sf_insn.specs.Inputs.{IsInput};
+ghost use Rattle.sf_insn.specs.declared.input.Input.{Input as AnInput};
+ghost use Rattle.sf_sym.specs.declared.pool.Node.{Node as ANode};
+ghost use Rattle.sf_dom.specs.Known.{Admits};
+ghost use Rattle.sf_dom.specs.Facts.{known_at, Agrees, Covers, lies_in, has_masked};
+ghost use Rattle.sf_ask.specs.Asked.{range_at, mask_at};
+ghost use Rattle.sf_ask.specs.Breaking.{IsNumberOf, IsInQuestion};
+ghost use Rattle.sf_ask.specs.Searches.{AreConfined, NonePasses, IsInRange, HasBits, HasNumber, IsRangeNumber, IsMaskNumber, IsWordNumber, IsNumberBefore};
+
+use crate::fault::Fault;
+use crate::question::Question;
+use sf_dom::Facts;
+use sf_sym::{NodeId, Pool};
+use std::alloc::Global;
+
+/// Whether what is known of a word rules out its range.
+fn misses(facts: &Facts, question: &Question, word: usize) -> bool
+    requires word { word < 16 }
+    requires known { 16 ≤ length facts.now.known }
+    ensures { result ≡ true → (pool : List ANode) → Covers facts.now pool → NonePasses facts.now pool (IsInQuestion question.now) }
+{
+    let known = facts.known(NodeId(word));
+    let (low, high) = question.range(word);
+    known.high < low || high < known.low
+}
+
+/// Whether what is known of some word rules out its range: a look before anything is copied.
+pub(crate) fn rules_out(facts: &Facts, question: &Question) -> bool
+    requires { 16 ≤ length facts.now.known }
+    ensures { result ≡ true → (pool : List ANode) → Covers facts.now pool → NonePasses facts.now pool (IsInQuestion question.now) }
+{
+    for word in 0..16 {
+        if misses(facts, question, word) {
+            return true;
+        }
+    }
+    false
+}
+
+/// Confines a word to its range. False: no input that agrees has it there.
+fn confine_range(alloc: Global, facts: &mut Facts, pool: &Pool, question: &Question, word: usize) -> Result<bool, Fault>
+    requires covers { Covers facts.old pool.now }
+    requires word { word < 16 }
+    ensures { IfOk result (λ b. MatchBool b
+        (AreConfined facts.old facts.new pool.now (IsInRange question.now word) (IsRangeNumber question.now word))
+        (NonePasses facts.old pool.now (IsInRange question.now word))) }
+{
+    let (low, high) = question.range(word);
+    if low == 0 && high == u32::MAX {
+        return Ok(true);
+    }
+    Ok(facts.confine(alloc, pool, word, low, high)?)
+}
+
+/// Confines a word to the bits of its mask. False: no input that agrees has them.
+fn confine_mask(alloc: Global, facts: &mut Facts, pool: &Pool, question: &Question, word: usize) -> Result<bool, Fault>
+    requires covers { Covers facts.old pool.now }
+    requires word { word < 16 }
+    ensures { IfOk result (λ b. MatchBool b
+        (AreConfined facts.old facts.new pool.now (HasBits question.now word) (IsMaskNumber question.now word))
+        (NonePasses facts.old pool.now (HasBits question.now word))) }
+{
+    let (mask, value) = question.mask(word);
+    if mask == 0 {
+        return Ok(true);
+    }
+    Ok(facts.confine_bits(alloc, pool, word, mask, value)?)
+}
+
+/// Confines a word to the numbers that the question leaves for it. False: no input that agrees has one.
+fn confine_word(alloc: Global, facts: &mut Facts, pool: &Pool, question: &Question, word: usize) -> Result<bool, Fault>
+    requires covers { Covers facts.old pool.now }
+    requires word { word < 16 }
+    ensures { IfOk result (λ b. MatchBool b
+        (AreConfined facts.old facts.new pool.now (HasNumber question.now word) (IsWordNumber question.now word))
+        (NonePasses facts.old pool.now (HasNumber question.now word))) }
+{
+    if !confine_range(alloc, facts, pool, question, word)? {
+        return Ok(false);
+    }
+    let kept = confine_mask(alloc, facts, pool, question, word)?;
+    Ok(kept)
+}
+
+/// The facts, confined to the question. None: no input that agrees is in it.
+pub(crate) fn confined(alloc: Global, facts: &Facts, pool: &Pool, question: &Question) -> Result<Option<Facts>, Fault>
+    requires { Covers facts.now pool.now }
+    ensures { IfOk result (λ o. MatchOption o
+        (NonePasses facts.now pool.now (IsInQuestion question.now))
+        (λ f. AreConfined facts.now f pool.now (IsInQuestion question.now) (IsNumberBefore question.now 16))) }
+{
+    let mut confined = facts.fork(alloc)?;
+    for word in 0..16 {
+        if !confine_word(alloc, &mut confined, pool, question, word)? {
+            return Ok(None);
+        }
+    }
+    Ok(Some(confined))
+}

@@ -1,0 +1,81 @@
+//! Verdicts on regions.
+
+ghost use Rattle.std.specs.Prelude.{◌≡◌, ◌<◌, ℕ, true, List, length, slice_get, slice_index, Some, IfOk, MatchOption};
+ghost use Rattle.std.specs.Arc.{arc_value};
+ghost use Rattle.sf_insn.specs.Inputs.{IsInput};
+ghost use Rattle.sf_insn.specs.declared.input.Input.{Input as AnInput};
+ghost use Rattle.sf_sym.specs.Pool.{IsPool};
+ghost use Rattle.sf_piece.specs.Pieces.{is_member};
+ghost use Rattle.sf_book.specs.Books.{IsRightRegion};
+ghost use Rattle.sf_ask.specs.Verdicts.{IsRightVerdict, HitsPlainExample, IsDecisive};
+ghost use Rattle.sf_ask.specs.Searches.{IsRightSearch, HitsLeast, IsExact, IsLeastInput};
+
+use crate::confining::{confined, rules_out};
+use crate::fault::Fault;
+use crate::question::Question;
+use crate::verdict::Verdict;
+use sf_book::Settled;
+use sf_dom::Facts;
+use sf_insn::Input;
+use sf_piece::Piece;
+use std::alloc::Global;
+
+/// The input that has in each word the least number that the facts leave for it, or none where they tell no least number.
+fn least_input(facts: &Facts) -> Option<Input>
+    ensures { MatchOption result ⊥ (λ d. IsLeastInput facts.now d) }
+{
+    let mut words = [0; 16];
+    for word in 0..16 {
+        let number = facts.least(word)?;
+        words[word] = number;
+    }
+    Some(Input { words })
+}
+
+/// Whether the input is a member of the piece: it meets every condition.
+fn is_member_of(alloc: Global, piece: &Piece, input: &Input) -> Result<bool, Fault>
+    ensures { IfOk result (λ b. b ≡ is_member piece.now input.now) }
+{
+    for i in 0..piece.cond_count() {
+        if !piece.pool().holds(alloc, &piece.cond(i), input)? {
+            return Ok(false);
+        }
+    }
+    Ok(true)
+}
+
+/// Looks for a member of the piece that is in the question. The one that is tried has in each word the least number
+/// that the piece's facts, confined to the question, leave for it.
+fn search(alloc: Global, piece: &Piece, question: &Question) -> Result<Verdict, Fault>
+    ensures right { IfOk result (IsRightSearch piece.now question.now) }
+    ensures least { IfOk result (HitsLeast piece.now question.now) }
+    ensures decisive { IsExact piece.now → IfOk result IsDecisive }
+{
+    let known = piece.facts();
+    if rules_out(known, question) {
+        return Ok(Verdict::Clear);
+    }
+    let Some(facts) = confined(alloc, known, piece.pool(), question)? else {
+        return Ok(Verdict::Clear);
+    };
+    let Some(input) = least_input(&facts) else {
+        return Ok(Verdict::Doubt);
+    };
+    if !is_member_of(alloc, piece, &input)? {
+        return Ok(Verdict::Doubt);
+    }
+    Ok(Verdict::Hit(input))
+}
+
+/// The verdict on the settled region at this place in the order of names. `Memory` where a growth is refused.
+pub fn judge(alloc: Global, settled: &Settled, region: usize, question: &Question) -> Result<Verdict, Fault>
+    requires { region < length settled.now.regions }
+    ensures right { IfOk result (IsRightVerdict settled.now region question.now) }
+    ensures example { IfOk result (HitsPlainExample settled.now region question.now) }
+{
+    let settled_region = settled.region(region);
+    if !question.actions().has(settled_region.answer().action) {
+        return Ok(Verdict::Clear);
+    }
+    search(alloc, settled_region.piece(), question)
+}

@@ -1,0 +1,6 @@
+pub mod TreeLemmas
+pub mod ActionLemmas
+pub mod EntryLemmas
+pub mod NeverSyntax
+pub mod FilterLemmas
+pub mod JoinedLemmas

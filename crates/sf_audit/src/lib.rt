@@ -1,0 +1,18 @@
+//! An audit of a stack of seccomp filters: the questions of a policy file, the filters of filter files, and the
+//! report.
+#![tactic(auto)]
+
+mod fault;
+mod filters;
+mod outcome;
+mod policy;
+mod report;
+
+pub use fault::Fault;
+pub use filters::stack_of;
+pub use outcome::Outcome;
+pub use policy::read_policy;
+pub use report::write_report;
+
+#[cfg(test)]
+mod tests;

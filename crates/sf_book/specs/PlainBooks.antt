@@ -1,0 +1,21 @@
+-- What books of plain stacks keep besides: each piece is a plain one, and has a member, and none was emptied.
+use Rattle.std.specs.Prelude.{◌≡◌, ℕ, List, [], All}
+use Rattle.sf_check.specs.Stacks.{IsPlain}
+use Rattle.sf_piece.specs.PlainPieces.{IsPlainPiece}
+use Rattle.sf_book.specs.Books.{EntryData, RegionData, BookData, IsKept, IsSettled}
+
+-- the pieces of a book of a plain stack
+pub record IsPlainBook (b : BookData) : Type 0 where
+  pub outstanding : All (λ (e : EntryData). IsPlainPiece e.piece) b.outstanding
+  pub regions : All (λ (r : RegionData). IsPlainPiece r.piece) b.regions
+  pub emptied : b.emptied ≡ []
+
+-- what the type of books keeps
+pub record IsBook (b : BookData) (next : ℕ) : Type 0 where
+  pub kept : IsKept b next
+  pub plain : IsPlain b.stack → IsPlainBook b
+
+-- what the type of ended explorations keeps
+pub record IsClosed (b : BookData) : Type 0 where
+  pub settled : IsSettled b
+  pub plain : IsPlain b.stack → IsPlainBook b
