@@ -1,16 +1,16 @@
 //! From the words of a command line to a status.
 ghost use Rattle.std.specs.Prelude.{◌≡◌, ◌≢◌, ◌≤◌, ◌⊎◌, IfOk, IfErr};
 ghost use Rattle.clap.specs.Values.{kind_of};
-ghost use Rattle.seccomp_audit.specs.Faults.{fault_number};
+ghost use Rattle.sf_audit.specs.Faults.{fault_number};
 ghost use Rattle.seccomp_audit.specs.Status.{fault_status};
 
 use crate::checking::{check, evaluate, print};
-use crate::fault::Fault;
 use crate::files::Files;
 use crate::status::status_of;
 use crate::words;
 use clap::ArgMatches;
 use clap::error::ErrorKind;
+use sf_audit::Fault;
 use std::alloc::Global;
 use std::io::Write;
 use std::sync::Wait;

@@ -3,9 +3,7 @@
 
 mod checking;
 mod command;
-mod fault;
 mod files;
-mod stacks;
 mod status;
 #[cfg(test)]
 mod tests;
@@ -13,9 +11,9 @@ mod texts;
 mod words;
 
 use crate::command::command;
-use crate::fault::Fault;
 use crate::files::Files;
 use crate::status::status_of;
+use sf_audit::Fault;
 use std::io::{ErrorKind, Write};
 use std::process::ExitCode;
 use std::rt::Files as FileSystem;

@@ -1,10 +1,10 @@
 //! The exit status of the program.
 
 ghost use Rattle.std.specs.Prelude.{◌≡◌};
-ghost use Rattle.seccomp_audit.specs.Faults.{fault_number};
+ghost use Rattle.sf_audit.specs.Faults.{fault_number};
 ghost use Rattle.seccomp_audit.specs.Status.{fault_status};
 
-use crate::fault::Fault;
+use sf_audit::Fault;
 
 /// The status of a fault: 3 where the filters, the policy or the input are refused, 5 where reading, writing or memory
 /// fails.

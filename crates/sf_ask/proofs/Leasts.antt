@@ -24,15 +24,18 @@ some-same m n e = cc
 pub lows-more : (f : FactsView) (words : List ℕ) (at n : ℕ) → at < length words → ((word : ℕ) → word < at → get_or words word 0 ≡ low f word) → n ≡ low f at
     → (word : ℕ) → word < at + 1 → get_or (set words at n) word 0 ≡ low f word
 lows-more f words at n l before e word w = elim (cases_eq word at) [
-    inl same ↦ subst (λ (i : ℕ). get_or (set words at n) i 0 ≡ low f i) (sym same) (get_or-set_same words at n 0 l ∙ e)
-  | inr other ↦ get_or-set_other words at word n 0 other ∙ before word (omega arith) ]
+  | inl same ↦ subst (λ (i : ℕ). get_or (set words at n) i 0 ≡ low f i) (sym same) (get_or-set_same words at n 0 l ∙ e)
+  | inr other ↦ get_or-set_other words at word n 0 other ∙ before word (omega arith)
+]
 
 pub small-more : (words : List ℕ) (at n : ℕ) → n < 2 ^ 32 → ((i : ℕ) → get_or words i 0 < 2 ^ 32) → (i : ℕ) → get_or (set words at n) i 0 < 2 ^ 32
 small-more words at n l small i = elim (cases_eq i at) [
-    inl same ↦ elim (cases_lt i (length words)) [
-        inl inside ↦ rw (get_or-set_at words at i n 0 same (omega arith)) l
-      | inr past ↦ rw (get_or_past (set words at n) i 0 (omega (arith, length-set words at n))) (omega arith) ]
-  | inr other ↦ rw (get_or-set_other words at i n 0 other) (small i) ]
+  | inl same ↦ elim (cases_lt i (length words)) [
+    | inl inside ↦ rw (get_or-set_at words at i n 0 same (omega arith)) l
+    | inr past ↦ rw (get_or_past (set words at n) i 0 (omega (arith, length-set words at n))) (omega arith)
+  ]
+  | inr other ↦ rw (get_or-set_other words at i n 0 other) (small i)
+]
 
 pub lows-all : (f : FactsView) (words : List ℕ) → length words ≡ 16 → ((i : ℕ) → get_or words i 0 < 2 ^ 32) → ((word : ℕ) → word < 16 → get_or words word 0 ≡ low f word)
     → IsLeastInput f (record { words = words })

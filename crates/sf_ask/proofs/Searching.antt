@@ -18,11 +18,12 @@ use Rattle.sf_run.specs.AnswerLaws.{one}
 use Rattle.sf_book.specs.Books.{BookData, RegionData, IsRightRegion}
 use Rattle.sf_ask.specs.Actions.{has_action}
 use Rattle.sf_piece.specs.Pieces.{PieceData, is_member}
+use Rattle.sf_piece.specs.PlainPieces.{IsPlainPiece}
 use Rattle.sf_ask.specs.Asked.{Asked}
 use Rattle.sf_ask.specs.Breaking.{IsNumberOf, IsInQuestion}
 use Rattle.sf_ask.specs.Verdicts.{IsLowInput, IsMemberAt, IsBreakAt}
 use Rattle.sf_ask.proofs.Leasts.{least-admitted, least-below, least-agrees}
-use Rattle.sf_ask.specs.Searches.{AreConfined, NonePasses, IsNumberBefore, IsLeastInput, IsExact}
+use Rattle.sf_ask.specs.Searches.{AreConfined, NonePasses, IsNumberBefore, IsLeastInput}
 
 -- ---- conditions, one after the other
 
@@ -51,7 +52,7 @@ low-is-least p q f g ns d low known a h input is member =
     let inside = least-inside q f g ns d a h in
     let below = least-below g ns d low a.covers h agrees in
     let same : (word : ℕ) → word < 16 → slice_index d.words word ≡ slice_index low.words word
-      = λ word w. let under = below word w in let over = is.least word (slice_index d.words word) w (inside word w) in omega arith in
+    = λ word w. let under = below word w in let over = is.least word (slice_index d.words word) w (inside word w) in omega arith in
     ap (λ (words : List ℕ). let e : Input = record { words = words } in e) (same_words d.words low.words h.input.sixteen input.sixteen same)
   where
     same_words : (xs ys : List ℕ) → length xs ≡ 16 → length ys ≡ 16 → ((word : ℕ) → word < 16 → get_or xs word 0 ≡ get_or ys word 0) → xs ≡ ys
@@ -76,9 +77,9 @@ pub least-hit : (p : PieceData) (q : Asked) (f g : FactsView) (ns : List Node) (
 least-hit p q f g ns d known a h other input member inside = least-below g ns d other a.covers h (a.keeps other input (known other input member) inside)
 
 -- over words and constants the input of the least numbers is a member
-pub exact-hit : (p : PieceData) (q : Asked) (g : FactsView) (d : Input) → IsExact p
+pub exact-hit : (p : PieceData) (q : Asked) (g : FactsView) (d : Input) → IsPlainPiece p
     → AreConfined p.facts g p.pool (IsInQuestion q) (IsNumberBefore q 16) → IsLeastInput g d → is_member p d ≡ true
-exact-hit p q g d exact a h = exact.members d h.input (a.only d h.input (least-agrees g p.pool d a.covers exact.plain h)).0
+exact-hit p q g d exact a h = exact.exact d h.input (a.only d h.input (least-agrees g p.pool d a.covers exact.nodes h)).0
 
 -- ---- from a piece to its region
 

@@ -61,8 +61,8 @@ again f g h ns one two both first second may_have of a b to_one to_two to_both j
       only = λ d i agrees. let back = b.only d i agrees in let first = a.only d i back.0 in (first.0, to_both d first.1 back.1);
       narrower = record {
         known = λ i l. let x = a.narrower.known i l in let y = b.narrower.known i (omega arith) in
-          let xl = x.low in let yl = y.low in let xh = x.high in let yh = y.high in let xz = x.zeros in let yz = y.zeros in let xo = x.ones in let yo = y.ones in
-          record { low = omega arith; high = omega arith; zeros = omega arith; ones = omega arith; numbers = λ n m. x.numbers n (y.numbers n m) };
+            let xl = x.low in let yl = y.low in let xh = x.high in let yh = y.high in let xz = x.zeros in let yz = y.zeros in let xo = x.ones in let yo = y.ones in
+            record { low = omega arith; high = omega arith; zeros = omega arith; ones = omega arith; numbers = λ n m. x.numbers n (y.numbers n m) };
         excluded = λ w m l k. b.narrower.excluded w m l (a.narrower.excluded w m l k);
       };
       covers = b.covers;
@@ -95,14 +95,14 @@ pub range-confines : (q : Asked) (at : ℕ) (r : ℕ × ℕ) (b : Bool) (old new
     → MatchBool b (AreConfined old new ns (IsInRange q at) (IsRangeNumber q at)) (NonePasses old ns (IsInRange q at))
 range-confines q at r b old new ns e sound narrower covers only within =
     confines b old new ns (lies_in at (range_at q at).0 (range_at q at).1) (IsRangeNumber q at)
-      (subst (λ (x : ℕ × ℕ). MatchBool b (KeepsInputs old new ns (lies_in at x.0 x.1)) (NoInput old ns (lies_in at x.0 x.1))) e sound)
-      narrower covers
-      (subst (λ (x : ℕ × ℕ). b ≡ true → KeepsOnly old new ns (lies_in at x.0 x.1)) e only)
-      (λ t word n w l a same.
-        let inside = subst (λ (x : ℕ × ℕ). (x.0 ≤ (known_at new.known at).low) × ((known_at new.known at).high ≤ x.1)) e (within t) in
-        let here : Admits (known_at new.known at) n = subst (λ (i : ℕ). Admits (known_at new.known i) n) same a in
-        let low = inside.0 in let high = inside.1 in let above = here.above in let below = here.below in
-        (omega arith, omega arith))
+    (subst (λ (x : ℕ × ℕ). MatchBool b (KeepsInputs old new ns (lies_in at x.0 x.1)) (NoInput old ns (lies_in at x.0 x.1))) e sound)
+    narrower covers
+    (subst (λ (x : ℕ × ℕ). b ≡ true → KeepsOnly old new ns (lies_in at x.0 x.1)) e only)
+    (λ t word n w l a same.
+    let inside = subst (λ (x : ℕ × ℕ). (x.0 ≤ (known_at new.known at).low) × ((known_at new.known at).high ≤ x.1)) e (within t) in
+    let here : Admits (known_at new.known at) n = subst (λ (i : ℕ). Admits (known_at new.known i) n) same a in
+    let low = inside.0 in let high = inside.1 in let above = here.above in let below = here.below in
+    (omega arith, omega arith))
 
 pub range-stays : (q : Asked) (at : ℕ) (r : ℕ × ℕ) (f : FactsView) (ns : List Node) → r ≡ range_at q at → r.0 ≡ 0 → r.1 ≡ 4294967295 → Covers f ns
     → AreConfined f f ns (IsInRange q at) (IsRangeNumber q at)
@@ -110,8 +110,8 @@ range-stays q at r f ns e low high of =
     let l : (range_at q at).0 ≡ 0 = ap (λ (x : ℕ × ℕ). x.0) (sym e) ∙ low in
     let h : (range_at q at).1 ≡ 4294967295 = ap (λ (x : ℕ × ℕ). x.1) (sym e) ∙ high in
     stays f ns (IsInRange q at) (IsRangeNumber q at) of
-      (λ d i. let small = i.each at in lies-from at (range_at q at).0 (range_at q at).1 d (omega arith) (omega arith))
-      (λ word n w small same. (omega arith, omega arith))
+    (λ d i. let small = i.each at in lies-from at (range_at q at).0 (range_at q at).1 d (omega arith) (omega arith))
+    (λ word n w small same. (omega arith, omega arith))
 
 pub mask-confines : (q : Asked) (at : ℕ) (m : ℕ × ℕ) (b : Bool) (old new : FactsView) (ns : List Node) → m ≡ mask_at q at
     → MatchBool b (KeepsInputs old new ns (has_masked at m.0 m.1)) (NoInput old ns (has_masked at m.0 m.1))
@@ -120,22 +120,22 @@ pub mask-confines : (q : Asked) (at : ℕ) (m : ℕ × ℕ) (b : Bool) (old new 
     → MatchBool b (AreConfined old new ns (HasBits q at) (IsMaskNumber q at)) (NonePasses old ns (HasBits q at))
 mask-confines q at m b old new ns e sound narrower covers only bits =
     confines b old new ns (has_masked at (mask_at q at).0 (mask_at q at).1) (IsMaskNumber q at)
-      (subst (λ (x : ℕ × ℕ). MatchBool b (KeepsInputs old new ns (has_masked at x.0 x.1)) (NoInput old ns (has_masked at x.0 x.1))) e sound)
-      narrower covers
-      (subst (λ (x : ℕ × ℕ). b ≡ true → KeepsOnly old new ns (has_masked at x.0 x.1)) e only)
-      (λ t word n w l a same.
-        let here : Admits (known_at new.known at) n = subst (λ (i : ℕ). Admits (known_at new.known i) n) same a in
-        subst (λ (x : ℕ × ℕ). bit_and n x.0 ≡ x.1) e (bits t n here))
+    (subst (λ (x : ℕ × ℕ). MatchBool b (KeepsInputs old new ns (has_masked at x.0 x.1)) (NoInput old ns (has_masked at x.0 x.1))) e sound)
+    narrower covers
+    (subst (λ (x : ℕ × ℕ). b ≡ true → KeepsOnly old new ns (has_masked at x.0 x.1)) e only)
+    (λ t word n w l a same.
+    let here : Admits (known_at new.known at) n = subst (λ (i : ℕ). Admits (known_at new.known i) n) same a in
+    subst (λ (x : ℕ × ℕ). bit_and n x.0 ≡ x.1) e (bits t n here))
 
 pub mask-stays : (q : Asked) (at : ℕ) (m : ℕ × ℕ) (f : FactsView) (ns : List Node) → m ≡ mask_at q at → m.0 ≡ 0 → bit_and m.1 m.0 ≡ m.1 → Covers f ns
     → AreConfined f f ns (HasBits q at) (IsMaskNumber q at)
 mask-stays q at m f ns e zero inside of =
     let value : m.1 ≡ 0 = sym inside ∙ ap (λ (x : ℕ). bit_and m.1 x) zero ∙ and_zero_r m.1 in
     let any : (n : ℕ) → bit_and n (mask_at q at).0 ≡ (mask_at q at).1
-      = λ n. subst (λ (x : ℕ × ℕ). bit_and n x.0 ≡ x.1) e (ap (λ (x : ℕ). bit_and n x) zero ∙ and_zero_r n ∙ sym value) in
+    = λ n. subst (λ (x : ℕ × ℕ). bit_and n x.0 ≡ x.1) e (ap (λ (x : ℕ). bit_and n x) zero ∙ and_zero_r n ∙ sym value) in
     stays f ns (HasBits q at) (IsMaskNumber q at) of
-      (λ d i. eq-eqb _ _ (any (slice_index d.words at)))
-      (λ word n w small same. any n)
+    (λ d i. eq-eqb _ _ (any (slice_index d.words at)))
+    (λ word n w small same. any n)
 
 number-lies : (q : Asked) (at : ℕ) (d : Input) → HasNumber q at d → IsInRange q at d
 number-lies q at d n = lies-from at (range_at q at).0 (range_at q at).1 d n.above n.below
@@ -151,8 +151,8 @@ pub word-confined : (q : Asked) (at : ℕ) (f g h : FactsView) (ns : List Node) 
 word-confined q at f g h ns of a b = again f g h ns (IsInRange q at) (HasBits q at) (HasNumber q at) (IsRangeNumber q at) (IsMaskNumber q at) (IsWordNumber q at) of a b
     (number-lies q at) (λ d n. eq-eqb _ _ n.masked) (number-from q at)
     (λ word n w l m same.
-      let r = l same in
-      record { above = r.0; below = r.1; masked = m same })
+    let r = l same in
+    record { above = r.0; below = r.1; masked = m same })
 
 pub word-none : (q : Asked) (at : ℕ) (f g : FactsView) (ns : List Node)
     → AreConfined f g ns (IsInRange q at) (IsRangeNumber q at) → NonePasses g ns (HasBits q at) → NonePasses f ns (HasNumber q at)
@@ -191,11 +191,13 @@ pub before-more : (q : Asked) (at : ℕ) (f g h : FactsView) (ns : List Node) �
 before-more q at f g h ns of a b = again f g h ns (IsInBefore q at) (HasNumber q at) (IsInBefore q (at + 1)) (IsNumberBefore q at) (IsWordNumber q at) (IsNumberBefore q (at + 1)) of a b
     (λ d all word l. all word (omega arith)) (λ d all. all at (omega arith))
     (λ d all here word l. elim (cases_eq word at) [
-        inl same ↦ subst (λ (i : ℕ). HasNumber q i d) (sym same) here
-      | inr other ↦ all word (omega arith) ])
+      | inl same ↦ subst (λ (i : ℕ). HasNumber q i d) (sym same) here
+      | inr other ↦ all word (omega arith)
+    ])
     (λ word n w early here l. elim (cases_eq word at) [
-        inl same ↦ subst (λ (i : ℕ). IsNumberOf q i n) (sym same) (here same)
-      | inr other ↦ early (omega arith) ])
+      | inl same ↦ subst (λ (i : ℕ). IsNumberOf q i n) (sym same) (here same)
+      | inr other ↦ early (omega arith)
+    ])
 
 pub before-missed : (q : Asked) (at : ℕ) (f g : FactsView) (ns : List Node) → at < 16
     → AreConfined f g ns (IsInBefore q at) (IsNumberBefore q at) → NonePasses g ns (HasNumber q at) → NonePasses f ns (IsInQuestion q)

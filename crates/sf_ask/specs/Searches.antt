@@ -2,7 +2,6 @@
 use Rattle.std.specs.Prelude.{◌≡◌, ℕ, ◌<◌, ◌≤◌, ◌^◌, true, List, slice_index, bit_and}
 use Rattle.sf_insn.specs.declared.input.Input.{Input}
 use Rattle.sf_insn.specs.Inputs.{IsInput}
-use Rattle.sf_sym.specs.Pool.{ArePlainNodes}
 use Rattle.sf_sym.specs.declared.pool.Node.{Node}
 use Rattle.sf_dom.specs.Known.{Admits}
 use Rattle.sf_dom.specs.Facts.{FactsView, Agrees, Covers, known_at, AreNarrower, lies_in, has_masked}
@@ -69,8 +68,3 @@ abbrev pub HitsLeast : PieceData → Asked → Verdict → Type 0
 HitsLeast p q Clear = Unit {0}
 HitsLeast p q (Hit d) = (other : Input) → IsInput other → is_member p other ≡ true → IsInQuestion q other → (word : ℕ) → word < 16 → slice_index d.words word ≤ slice_index other.words word
 HitsLeast p q Doubt = Unit {0}
-
--- the facts of a piece over words and constants are exact
-pub record IsExact (p : PieceData) : Type 0 where
-  pub plain : ArePlainNodes p.pool
-  pub members : (d : Input) → IsInput d → Agrees p.facts p.pool d → is_member p d ≡ true

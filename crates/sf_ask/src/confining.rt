@@ -1,6 +1,6 @@
 //! Facts, confined to the numbers that a question leaves for the words.
 
-ghost use Rattle.std.specs.Prelude.{◌≡◌, ◌<◌, ◌≤◌, ℕ, true, false, Ok, List, length, IfOk, MatchBool, MatchOption, slice_index, bit_and};
+ghost use Rattle.std.specs.Prelude.{◌≡◌, ◌<◌, ◌≤◌, ℕ, true, false, Ok, List, length, IfOk, IfErr, MatchBool, MatchOption, slice_index, bit_and};
 ghost use Rattle.sf_insn.specs.Inputs.{IsInput};
 ghost use Rattle.sf_insn.specs.declared.input.Input.{Input as AnInput};
 ghost use Rattle.sf_sym.specs.declared.pool.Node.{Node as ANode};
@@ -9,6 +9,7 @@ ghost use Rattle.sf_dom.specs.Facts.{known_at, Agrees, Covers, lies_in, has_mask
 ghost use Rattle.sf_ask.specs.Asked.{range_at, mask_at};
 ghost use Rattle.sf_ask.specs.Breaking.{IsNumberOf, IsInQuestion};
 ghost use Rattle.sf_ask.specs.Searches.{AreConfined, NonePasses, IsInRange, HasBits, HasNumber, IsRangeNumber, IsMaskNumber, IsWordNumber, IsNumberBefore};
+ghost use Rattle.sf_ask.specs.declared.fault.Fault.TheVariants.{Memory};
 
 use crate::fault::Fault;
 use crate::question::Question;
@@ -41,12 +42,19 @@ pub(crate) fn rules_out(facts: &Facts, question: &Question) -> bool
 }
 
 /// Confines a word to its range. False: no input that agrees has it there.
-fn confine_range(alloc: Global, facts: &mut Facts, pool: &Pool, question: &Question, word: usize) -> Result<bool, Fault>
+fn confine_range(
+    alloc: Global,
+    facts: &mut Facts,
+    pool: &Pool,
+    question: &Question,
+    word: usize,
+) -> Result<bool, Fault>
     requires covers { Covers facts.old pool.now }
     requires word { word < 16 }
-    ensures { IfOk result (λ b. MatchBool b
+    ensures confined { IfOk result (λ b. MatchBool b
         (AreConfined facts.old facts.new pool.now (IsInRange question.now word) (IsRangeNumber question.now word))
         (NonePasses facts.old pool.now (IsInRange question.now word))) }
+    ensures err { IfErr result (λ f. f ≡ Memory) }
 {
     let (low, high) = question.range(word);
     if low == 0 && high == u32::MAX {
@@ -56,12 +64,19 @@ fn confine_range(alloc: Global, facts: &mut Facts, pool: &Pool, question: &Quest
 }
 
 /// Confines a word to the bits of its mask. False: no input that agrees has them.
-fn confine_mask(alloc: Global, facts: &mut Facts, pool: &Pool, question: &Question, word: usize) -> Result<bool, Fault>
+fn confine_mask(
+    alloc: Global,
+    facts: &mut Facts,
+    pool: &Pool,
+    question: &Question,
+    word: usize,
+) -> Result<bool, Fault>
     requires covers { Covers facts.old pool.now }
     requires word { word < 16 }
-    ensures { IfOk result (λ b. MatchBool b
+    ensures confined { IfOk result (λ b. MatchBool b
         (AreConfined facts.old facts.new pool.now (HasBits question.now word) (IsMaskNumber question.now word))
         (NonePasses facts.old pool.now (HasBits question.now word))) }
+    ensures err { IfErr result (λ f. f ≡ Memory) }
 {
     let (mask, value) = question.mask(word);
     if mask == 0 {
@@ -71,12 +86,19 @@ fn confine_mask(alloc: Global, facts: &mut Facts, pool: &Pool, question: &Questi
 }
 
 /// Confines a word to the numbers that the question leaves for it. False: no input that agrees has one.
-fn confine_word(alloc: Global, facts: &mut Facts, pool: &Pool, question: &Question, word: usize) -> Result<bool, Fault>
+fn confine_word(
+    alloc: Global,
+    facts: &mut Facts,
+    pool: &Pool,
+    question: &Question,
+    word: usize,
+) -> Result<bool, Fault>
     requires covers { Covers facts.old pool.now }
     requires word { word < 16 }
-    ensures { IfOk result (λ b. MatchBool b
+    ensures confined { IfOk result (λ b. MatchBool b
         (AreConfined facts.old facts.new pool.now (HasNumber question.now word) (IsWordNumber question.now word))
         (NonePasses facts.old pool.now (HasNumber question.now word))) }
+    ensures err { IfErr result (λ f. f ≡ Memory) }
 {
     if !confine_range(alloc, facts, pool, question, word)? {
         return Ok(false);
@@ -86,11 +108,17 @@ fn confine_word(alloc: Global, facts: &mut Facts, pool: &Pool, question: &Questi
 }
 
 /// The facts, confined to the question. None: no input that agrees is in it.
-pub(crate) fn confined(alloc: Global, facts: &Facts, pool: &Pool, question: &Question) -> Result<Option<Facts>, Fault>
+pub(crate) fn confined(
+    alloc: Global,
+    facts: &Facts,
+    pool: &Pool,
+    question: &Question,
+) -> Result<Option<Facts>, Fault>
     requires { Covers facts.now pool.now }
-    ensures { IfOk result (λ o. MatchOption o
+    ensures confined { IfOk result (λ o. MatchOption o
         (NonePasses facts.now pool.now (IsInQuestion question.now))
         (λ f. AreConfined facts.now f pool.now (IsInQuestion question.now) (IsNumberBefore question.now 16))) }
+    ensures err { IfErr result (λ f. f ≡ Memory) }
 {
     let mut confined = facts.fork(alloc)?;
     for word in 0..16 {

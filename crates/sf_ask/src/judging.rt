@@ -1,14 +1,15 @@
 //! Verdicts on regions.
 
-ghost use Rattle.std.specs.Prelude.{◌≡◌, ◌<◌, ℕ, true, List, length, slice_get, slice_index, Some, IfOk, MatchOption};
+ghost use Rattle.std.specs.Prelude.{◌≡◌, ◌<◌, ℕ, true, List, length, slice_get, slice_index, Some, IfOk, IfErr, MatchOption};
 ghost use Rattle.std.specs.Arc.{arc_value};
 ghost use Rattle.sf_insn.specs.Inputs.{IsInput};
 ghost use Rattle.sf_insn.specs.declared.input.Input.{Input as AnInput};
-ghost use Rattle.sf_sym.specs.Pool.{IsPool};
+ghost use Rattle.sf_check.specs.Stacks.{IsPlain};
+ghost use Rattle.sf_ask.specs.declared.fault.Fault.TheVariants.{Memory};
 ghost use Rattle.sf_piece.specs.Pieces.{is_member};
 ghost use Rattle.sf_book.specs.Books.{IsRightRegion};
 ghost use Rattle.sf_ask.specs.Verdicts.{IsRightVerdict, HitsPlainExample, IsDecisive};
-ghost use Rattle.sf_ask.specs.Searches.{IsRightSearch, HitsLeast, IsExact, IsLeastInput};
+ghost use Rattle.sf_ask.specs.Searches.{IsRightSearch, HitsLeast, IsLeastInput};
 
 use crate::confining::{confined, rules_out};
 use crate::fault::Fault;
@@ -34,7 +35,8 @@ fn least_input(facts: &Facts) -> Option<Input>
 
 /// Whether the input is a member of the piece: it meets every condition.
 fn is_member_of(alloc: Global, piece: &Piece, input: &Input) -> Result<bool, Fault>
-    ensures { IfOk result (λ b. b ≡ is_member piece.now input.now) }
+    ensures tells { IfOk result (λ b. b ≡ is_member piece.now input.now) }
+    ensures err { IfErr result (λ f. f ≡ Memory) }
 {
     for i in 0..piece.cond_count() {
         if !piece.pool().holds(alloc, &piece.cond(i), input)? {
@@ -49,7 +51,8 @@ fn is_member_of(alloc: Global, piece: &Piece, input: &Input) -> Result<bool, Fau
 fn search(alloc: Global, piece: &Piece, question: &Question) -> Result<Verdict, Fault>
     ensures right { IfOk result (IsRightSearch piece.now question.now) }
     ensures least { IfOk result (HitsLeast piece.now question.now) }
-    ensures decisive { IsExact piece.now → IfOk result IsDecisive }
+    ensures decisive { IsPlain piece.now.stack → IfOk result IsDecisive }
+    ensures err { IfErr result (λ f. f ≡ Memory) }
 {
     let known = piece.facts();
     if rules_out(known, question) {
@@ -68,10 +71,17 @@ fn search(alloc: Global, piece: &Piece, question: &Question) -> Result<Verdict, 
 }
 
 /// The verdict on the settled region at this place in the order of names. `Memory` where a growth is refused.
-pub fn judge(alloc: Global, settled: &Settled, region: usize, question: &Question) -> Result<Verdict, Fault>
+pub fn judge(
+    alloc: Global,
+    settled: &Settled,
+    region: usize,
+    question: &Question,
+) -> Result<Verdict, Fault>
     requires { region < length settled.now.regions }
     ensures right { IfOk result (IsRightVerdict settled.now region question.now) }
     ensures example { IfOk result (HitsPlainExample settled.now region question.now) }
+    ensures decisive { IsPlain settled.now.stack → IfOk result IsDecisive }
+    ensures err { IfErr result (λ f. f ≡ Memory) }
 {
     let settled_region = settled.region(region);
     if !question.actions().has(settled_region.answer().action) {

@@ -18,3 +18,5 @@ pub use verdict::{Reply, Verdict};
 
 #[cfg(test)]
 mod tests;
+#[cfg(test)]
+mod verdict_tests;

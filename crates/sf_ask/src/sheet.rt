@@ -1,7 +1,8 @@
 //! Sheets of verdicts.
 
-ghost use Rattle.std.specs.Prelude.{◌≡◌, ◌<◌, ◌≤◌, ℕ, not, length, map, IfOk, Some, None, slice_get};
+ghost use Rattle.std.specs.Prelude.{◌≡◌, ◌<◌, ◌≤◌, ℕ, not, length, map, IfOk, IfErr, Some, None, slice_get};
 ghost use Rattle.sf_ask.specs.Sheets.{SheetData, verdict_at, is_skipped, is_hit, is_doubt, is_wanted, IsRightEntry, IsRightSheet, HasWanted};
+ghost use Rattle.sf_ask.specs.declared.fault.Fault.TheVariants.{Memory};
 
 use crate::fault::Fault;
 use crate::judging::judge;
@@ -35,7 +36,8 @@ impl Model for Sheet {
 
 /// A snapshot of each question; they take no bytes.
 fn snapshots(alloc: Global, questions: &[Question]) -> Result<Vec<Snapshot<Question>>, Fault>
-    ensures { IfOk result (λ v. map (λ q. q.value) v.items ≡ questions.now) }
+    ensures each { IfOk result (λ v. map (λ q. q.value) v.items ≡ questions.now) }
+    ensures err { IfErr result (λ f. f ≡ Memory) }
 {
     let mut all = Vec::new(alloc);
     for question in questions {
@@ -53,11 +55,19 @@ fn asks_for(wanted: &[u64; 4], q: usize) -> bool
 }
 
 /// The verdict on a question that is asked for, and none on another.
-fn entry(alloc: Global, settled: &Settled, job: usize, questions: &[Question], q: usize, wanted: &[u64; 4]) -> Result<Option<Verdict>, Fault>
+fn entry(
+    alloc: Global,
+    settled: &Settled,
+    job: usize,
+    questions: &[Question],
+    q: usize,
+    wanted: &[u64; 4],
+) -> Result<Option<Verdict>, Fault>
     requires job { job < length settled.now.regions }
     requires question { (q < length questions.now) × (q < 256) }
     ensures right { IfOk result (IsRightEntry settled.now questions.now job q) }
     ensures wanted { IfOk result (λ e. is_skipped e ≡ not (is_wanted wanted.now q)) }
+    ensures err { IfErr result (λ f. f ≡ Memory) }
 {
     if !asks_for(wanted, q) {
         return Ok(None);
@@ -69,13 +79,20 @@ fn entry(alloc: Global, settled: &Settled, job: usize, questions: &[Question], q
 impl Sheet {
     /// The sheet of the region at the place `job`, with a verdict on each question that `wanted` asks for: question q
     /// has bit q % 64 of word q / 64, and bits past the last question are ignored. `Memory` where a growth is refused.
-    pub fn of(alloc: Global, settled: &Settled, job: usize, questions: &[Question], wanted: [u64; 4]) -> Result<Sheet, Fault>
+    pub fn of(
+        alloc: Global,
+        settled: &Settled,
+        job: usize,
+        questions: &[Question],
+        wanted: [u64; 4],
+    ) -> Result<Sheet, Fault>
         requires job { job < length settled.now.regions }
         requires questions { length questions.now ≤ 256 }
         ensures settled { IfOk result (λ s. s.settled ≡ settled.now) }
         ensures questions { IfOk result (λ s. s.questions ≡ questions.now) }
         ensures job { IfOk result (λ s. s.job ≡ job) }
         ensures wanted { IfOk result (HasWanted wanted) }
+        ensures err { IfErr result (λ f. f ≡ Memory) }
     {
         let mut verdicts = Vec::new(alloc);
         for q in 0..questions.len() {

@@ -124,6 +124,7 @@ first_refusal files (faults.Scratch f at) few r = (few, r)
 first_refusal files faults.NoFilter few r = absurd r.refused
 first_refusal files faults.TooMany few r = absurd r.refused
 first_refusal files faults.PathLength few r = absurd r.refused
+first_refusal files faults.Foreign few r = (few, r)
 first_refusal files faults.Version few r = (few, r)
 first_refusal files faults.TopKey few r = (few, r)
 first_refusal files (faults.Key q) few r = (few, r)

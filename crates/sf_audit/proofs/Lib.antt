@@ -4,3 +4,4 @@ pub mod EntryLemmas
 pub mod NeverSyntax
 pub mod FilterLemmas
 pub mod JoinedLemmas
+pub mod RefusalLemmas

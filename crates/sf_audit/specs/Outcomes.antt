@@ -2,7 +2,7 @@
 use Rattle.std.specs.Prelude.{◌≡◌, List, length}
 use Rattle.sf_book.specs.Books.{BookData}
 use Rattle.sf_ask.specs.Asked.{Asked}
-use Rattle.sf_ask.specs.declared.reply.Reply.{Reply}
+use Rattle.sf_ask.specs.declared.verdict.Reply.{Reply}
 
 -- how the exploration ended, the questions, and a reply to each
 pub record Found : Type 0 where

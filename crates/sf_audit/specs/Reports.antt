@@ -11,8 +11,8 @@ use Rattle.sf_run.specs.declared.action.Action.TheVariants.{KillProcess, KillThr
 use Rattle.sf_book.specs.declared.book.Counts.{Counts}
 use Rattle.sf_book.specs.Books.{BookData, RegionData, counts_of}
 use Rattle.sf_ask.specs.Asked.{Asked}
-use Rattle.sf_ask.specs.declared.reply.Reply.{Reply}
-use Rattle.sf_ask.specs.declared.reply.Reply.TheVariants.{Never, Allowed, Unsettled}
+use Rattle.sf_ask.specs.declared.verdict.Reply.{Reply}
+use Rattle.sf_ask.specs.declared.verdict.Reply.TheVariants.{Never, Allowed, Unsettled}
 use Rattle.sf_audit.specs.Outcomes.{Found}
 
 -- the parts of a line one blank apart, and a line feed

@@ -44,6 +44,10 @@ pub enum Fault {
     /// The path through all filters is longer than 32768.
     #[error("27 PathLength")]
     PathLength,
+    /// The workers left the exploration of another stack. The contract of an exploration leaves this open, since what
+    /// stands behind a lock is known by its type alone; it never comes.
+    #[error("30 Foreign")]
+    Foreign,
     /// The policy's version is missing, or isn't one of the known ones.
     #[error("40 Version")]
     Version,
@@ -102,6 +106,7 @@ impl Fault {
             Fault::NoFilter => 25,
             Fault::TooMany => 26,
             Fault::PathLength => 27,
+            Fault::Foreign => 30,
             Fault::Version => 40,
             Fault::TopKey | Fault::Key { .. } => 41,
             Fault::Range { .. } => 42,

@@ -107,3 +107,6 @@ pub fn stack_of(alloc: Global, filters: &[Vec<u8>]) -> Result<Stack, Fault>
         Err(_) => Err(Fault::PathLength),
     }
 }
+
+#[cfg(test)]
+mod tests;

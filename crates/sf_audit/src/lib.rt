@@ -4,6 +4,7 @@
 
 mod fault;
 mod filters;
+pub mod laws;
 mod outcome;
 mod policy;
 mod report;

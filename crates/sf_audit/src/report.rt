@@ -49,3 +49,6 @@ pub fn write_report<W: Write>(
         Err(_) => Err(Fault::Memory),
     }
 }
+
+#[cfg(test)]
+mod tests;

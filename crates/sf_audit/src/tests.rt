@@ -94,6 +94,7 @@ fn faults_of_policies_tell_number_name_and_place(rt: HostRuntime) -> Result<(), 
 #[test]
 fn other_faults_tell_number_and_name(rt: HostRuntime) -> Result<(), Fail> {
     let alloc = rt.alloc();
+    assert!(rt; tells(alloc, Fault::Foreign, 30, "30 Foreign")?);
     assert!(rt; tells(alloc, Fault::Input, 47, "47 Input")?);
     assert!(rt; tells(alloc, Fault::Read, 50, "50 Read")?);
     assert!(rt; tells(alloc, Fault::Write, 51, "51 Write")?);

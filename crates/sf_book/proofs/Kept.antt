@@ -13,7 +13,10 @@ use Rattle.sf_book.proofs.Names.{prefix-append}
 use Rattle.sf_book.proofs.Shelves.{some_inj}
 use Rattle.sf_piece.specs.Pieces.{PieceData, WorkData, is_prefix, IsTrulyNamed, IsRightSplit, IsRightAnswer, HasNoMember, IsRoot}
 use Rattle.sf_book.specs.Books.{EntryData, BookData, IsLawful, IsKept, fresh}
-use Rattle.sf_book.specs.Changes.{entry_at, without, MayCommit, IsStale}
+use Rattle.sf_book.specs.Changes.{entry_at, without, MayCommit, IsStale, Refuses}
+use Rattle.sf_book.specs.declared.fault.Fault.{Fault}
+use Rattle.sf_book.specs.declared.fault.Fault.TheVariants.{Memory}
+use Rattle.std.specs.Prelude.{Result, Ok, Err, IfErr}
 use Rattle.sf_book.proofs.Lists.{remove_without}
 use Rattle.sf_book.proofs.Lawful.{fresh_lawful, IsReplaced, entry, after_split, after_answer, after_empty, split_lawful, answer_lawful, empty_lawful, marks_lawful}
 
@@ -183,3 +186,9 @@ kept_fresh stack r budget lawful h = record {
   below = All-cons (λ e. e.id < 1) (record { id = 0; piece = r; leased = false }) [] (omega arith) (All-nil (λ e. e.id < 1));
   few = omega arith;
 }
+
+-- want of memory refuses what may be committed
+pub memory_refuses : {A : Type 0} (r : Result A Fault) (b c : BookData) (id : ℕ) (w : WorkData) → MayCommit b id w → b.commits < b.budget
+    → IfErr r (λ f. (f ≡ Memory) × (c ≡ b)) → IfErr r (λ f. Refuses b id w f × (c ≡ b))
+memory_refuses (Ok x) b c id w m room h = tt
+memory_refuses (Err f) b c id w m room h = (subst (λ (g : Fault). Refuses b id w g) (sym h.0) (m, room), h.1)

@@ -17,11 +17,11 @@ use Rattle.sf_book.proofs.Kept.{kept_fresh, kept_marks, split_kept, answer_kept,
 pub fresh_book : (stack : List (List Insn)) (r : PieceData) (budget : ℕ) → IsLawfulStack stack → IsRoot stack r → (IsPlain r.stack → IsPlainPiece r) → IsBook (fresh stack r budget) 1
 fresh_book stack r budget lawful root plain = record {
   kept = kept_fresh stack r budget lawful root;
-  plain = λ h. plain_fresh stack r budget (plain (subst IsPlain (sym root.of) h));
+  plain = record { book = λ h. plain_fresh stack r budget (plain (subst IsPlain (sym root.of) h)) };
 }
 
 pub marks_book : (b : BookData) (next : ℕ) (g : EntryData → EntryData) → ((e : EntryData) → (g e).id ≡ e.id) → ((e : EntryData) → (g e).piece ≡ e.piece) → IsBook b next → IsBook (record b { outstanding = map g b.outstanding }) next
-marks_book b next g ids pieces h = record { kept = kept_marks b next g ids pieces h.kept; plain = λ p. plain_marks b g pieces (h.plain p) }
+marks_book b next g ids pieces h = record { kept = kept_marks b next g ids pieces h.kept; plain = record { book = λ p. plain_marks b g pieces (h.plain.book p) } }
 
 -- what a commit knows of its work
 pub record IsLawfulWork (w : WorkData) (step : StepData) : Type 0 where

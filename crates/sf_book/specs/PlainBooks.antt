@@ -10,12 +10,16 @@ pub record IsPlainBook (b : BookData) : Type 0 where
   pub regions : All (λ (r : RegionData). IsPlainPiece r.piece) b.regions
   pub emptied : b.emptied ≡ []
 
+-- where the stack is plain, the book is
+pub record IsPlainWhereStackIs (b : BookData) : Type 0 where
+  pub book : IsPlain b.stack → IsPlainBook b
+
 -- what the type of books keeps
 pub record IsBook (b : BookData) (next : ℕ) : Type 0 where
   pub kept : IsKept b next
-  pub plain : IsPlain b.stack → IsPlainBook b
+  pub plain : IsPlainWhereStackIs b
 
 -- what the type of ended explorations keeps
 pub record IsClosed (b : BookData) : Type 0 where
   pub settled : IsSettled b
-  pub plain : IsPlain b.stack → IsPlainBook b
+  pub plain : IsPlainWhereStackIs b

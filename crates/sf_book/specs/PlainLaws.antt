@@ -12,7 +12,7 @@ use Rattle.sf_piece.specs.PlainPieces.{IsPlainPiece, IsPlainWork, IsPlainStep}
 use Rattle.sf_book.specs.Books.{EntryData, RegionData, BookData, fresh}
 use Rattle.sf_book.specs.Changes.{without, MayCommit}
 use Rattle.sf_book.specs.Exact.{HasMembers}
-use Rattle.sf_book.specs.PlainBooks.{IsPlainBook}
+use Rattle.sf_book.specs.PlainBooks.{IsPlainBook, IsPlainWhereStackIs}
 
 abbrev OfPlain : EntryData → Type 0
 OfPlain e = IsPlainPiece e.piece
@@ -51,35 +51,35 @@ of_work b id w step m plain is h =
     let p = plain (subst IsPlain (sym m.same_stack) h) in
     (p.piece, subst (λ (s : StepData). IsPlainStep w.piece s w.name) is p.step)
 
--- the plain part of a book, where its stack is plain
-abbrev Keeps : BookData → Type 0
-Keeps b = IsPlain b.stack → IsPlainBook b
-
 left_plain : (b : BookData) (id : ℕ) → IsPlainBook b → All OfPlain (without id b.outstanding)
 left_plain b id h = All-filter (λ e. not (e.id == id)) OfPlain b.outstanding h.outstanding
 
-pub split_plain : (b : BookData) (id i j : ℕ) (w : WorkData) (f t : PieceData) → Keeps b → MayCommit b id w → (IsPlain w.piece.stack → IsPlainWork w) → w.step ≡ Split f t
-    → Keeps (record b { outstanding = (without id b.outstanding ++ entry i f ∷ []) ++ entry j t ∷ []; splits = b.splits + 1; commits = b.commits + 1 })
-split_plain b id i j w f t keeps m plain is h =
-    let k = keeps h in
-    let both = (of_work b id w (Split f t) m plain is h).1 in
-    record {
-      outstanding = All-push OfPlain (without id b.outstanding ++ entry i f ∷ []) (entry j t) (All-push OfPlain (without id b.outstanding) (entry i f) (left_plain b id k) both.0) both.1;
-      regions = k.regions;
-      emptied = k.emptied;
-    }
+pub split_plain : (b : BookData) (id i j : ℕ) (w : WorkData) (f t : PieceData) → IsPlainWhereStackIs b → MayCommit b id w → (IsPlain w.piece.stack → IsPlainWork w) → w.step ≡ Split f t
+    → IsPlainWhereStackIs (record b { outstanding = (without id b.outstanding ++ entry i f ∷ []) ++ entry j t ∷ []; splits = b.splits + 1; commits = b.commits + 1 })
+split_plain b id i j w f t keeps m plain is = record {
+  book = λ h.
+      let k = keeps.book h in
+      let both = (of_work b id w (Split f t) m plain is h).1 in
+      record {
+        outstanding = All-push OfPlain (without id b.outstanding ++ entry i f ∷ []) (entry j t) (All-push OfPlain (without id b.outstanding) (entry i f) (left_plain b id k) both.0) both.1;
+        regions = k.regions;
+        emptied = k.emptied;
+      };
+}
 
-pub answer_plain : (b : BookData) (id : ℕ) (w : WorkData) (a : Answer) → Keeps b → MayCommit b id w → (IsPlain w.piece.stack → IsPlainWork w) → w.step ≡ Settled a
-    → Keeps (record b { outstanding = without id b.outstanding; regions = b.regions ++ record { piece = w.piece; name = w.name; answer = a } ∷ []; commits = b.commits + 1 })
-answer_plain b id w a keeps m plain is h =
-    let k = keeps h in
-    record {
-      outstanding = left_plain b id k;
-      regions = All-push (λ (r : RegionData). IsPlainPiece r.piece) b.regions (record { piece = w.piece; name = w.name; answer = a }) k.regions (of_work b id w (Settled a) m plain is h).0;
-      emptied = k.emptied;
-    }
+pub answer_plain : (b : BookData) (id : ℕ) (w : WorkData) (a : Answer) → IsPlainWhereStackIs b → MayCommit b id w → (IsPlain w.piece.stack → IsPlainWork w) → w.step ≡ Settled a
+    → IsPlainWhereStackIs (record b { outstanding = without id b.outstanding; regions = b.regions ++ record { piece = w.piece; name = w.name; answer = a } ∷ []; commits = b.commits + 1 })
+answer_plain b id w a keeps m plain is = record {
+  book = λ h.
+      let k = keeps.book h in
+      record {
+        outstanding = left_plain b id k;
+        regions = All-push (λ (r : RegionData). IsPlainPiece r.piece) b.regions (record { piece = w.piece; name = w.name; answer = a }) k.regions (of_work b id w (Settled a) m plain is h).0;
+        emptied = k.emptied;
+      };
+}
 
 -- no work of a plain stack is empty
 pub empty_plain : (b : BookData) (id : ℕ) (w : WorkData) → MayCommit b id w → (IsPlain w.piece.stack → IsPlainWork w) → w.step ≡ Empty
-    → Keeps (record b { outstanding = without id b.outstanding; emptied = b.emptied ++ w.piece.name ∷ []; commits = b.commits + 1 })
-empty_plain b id w m plain is h = absurd (of_work b id w Empty m plain is h).1
+    → IsPlainWhereStackIs (record b { outstanding = without id b.outstanding; emptied = b.emptied ++ w.piece.name ∷ []; commits = b.commits + 1 })
+empty_plain b id w m plain is = record { book = λ h. absurd (of_work b id w Empty m plain is h).1 }

@@ -4,11 +4,10 @@ ghost use Rattle.std.specs.Prelude.{◌≡◌, ◌≢◌, ◌+◌, ◌<◌, All,
 ghost use Rattle.std.specs.Arc.{arc_value};
 ghost use Rattle.sf_insn.specs.declared.input.Input.{Input};
 ghost use Rattle.sf_insn.specs.Inputs.{IsInput};
-ghost use Rattle.sf_check.specs.Stacks.{IsPlain};
 ghost use Rattle.sf_piece.specs.Pieces.{PieceData, IsRoot};
 ghost use Rattle.sf_book.specs.Books.{IsLawful, counts_of, fresh};
 ghost use Rattle.sf_book.specs.Partition.{parts_of, names_of, LiesInOne, NoneBeginsAnother};
-ghost use Rattle.sf_book.specs.PlainBooks.{IsPlainBook};
+ghost use Rattle.sf_book.specs.PlainBooks.{IsPlainWhereStackIs};
 ghost use Rattle.sf_book.specs.Changes.{CommitsAs, Leases, Settles, Refuses, MayCommit, with_lease, with_lease_at};
 ghost use Rattle.sf_book.specs.declared.fault.Fault.TheVariants.{Memory, Foreign};
 
@@ -106,7 +105,7 @@ impl Book {
         ensures lawful { IsLawful self.now }
         ensures one { (d : Input) → IsInput d → LiesInOne (parts_of self.now) d }
         ensures apart { NoneBeginsAnother (names_of self.now) }
-        ensures plain { IsPlain self.now.stack → IsPlainBook self.now }
+        ensures plain { IsPlainWhereStackIs self.now }
     {
         Counts {
             left: self.outstanding.len(),

@@ -6,7 +6,7 @@ ghost use Rattle.sf_insn.specs.declared.input.Input.{Input};
 ghost use Rattle.sf_insn.specs.Inputs.{IsInput};
 ghost use Rattle.sf_check.specs.Stacks.{IsPlain};
 ghost use Rattle.sf_piece.specs.PlainPieces.{IsPlainPiece};
-ghost use Rattle.sf_book.specs.PlainBooks.{IsPlainBook};
+ghost use Rattle.sf_book.specs.PlainBooks.{IsPlainWhereStackIs};
 ghost use Rattle.sf_book.specs.Partition.{parts_of, names_of, LiesInOne, NoneBeginsAnother};
 ghost use Rattle.sf_book.specs.Books.{EntryData, IsSettled, IsRightRegion, counts_of};
 
@@ -46,7 +46,7 @@ impl Settled {
     pub fn stack(&self) -> &Arc<Stack>
         ensures value { arc_value result.now ≡ self.now.stack }
         ensures lawful { IsSettled self.now }
-        ensures plain { IsPlain self.now.stack → IsPlainBook self.now }
+        ensures plain { IsPlainWhereStackIs self.now }
     {
         &self.stack
     }
@@ -111,7 +111,7 @@ impl Settled {
         ensures lawful { IsSettled self.now }
         ensures one { (d : Input) → IsInput d → LiesInOne (parts_of self.now) d }
         ensures apart { NoneBeginsAnother (names_of self.now) }
-        ensures plain { IsPlain self.now.stack → IsPlainBook self.now }
+        ensures plain { IsPlainWhereStackIs self.now }
     {
         Counts {
             left: self.outstanding_count(),

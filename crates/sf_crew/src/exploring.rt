@@ -1,9 +1,10 @@
-//! How a stack is explored: pieces are leased, worked and committed until none is left or the budget is spent.
+//! Turns of one worker that has the book to itself: pieces are leased, worked and committed until none is left or the
+//! budget is spent.
 
-ghost use Rattle.std.specs.Prelude.{◌≡◌, ◌⊎◌, IfOk, IfErr, OnOk, MatchBool};
+ghost use Rattle.std.specs.Prelude.{◌≡◌, IfOk, IfErr, OnOk, MatchBool};
 ghost use Rattle.std.specs.Arc.{arc_value};
 ghost use Rattle.sf_crew.specs.Ends.{IsEnd, IsFree, IsSameExploration, GoesOn, IsEndOf};
-ghost use Rattle.sf_crew.specs.declared.fault.Fault.TheVariants.{Memory, Foreign};
+ghost use Rattle.sf_crew.specs.declared.fault.Fault.TheVariants.{Memory};
 
 use crate::fault::Fault;
 use crate::gate::Gate;
@@ -11,8 +12,7 @@ use sf_book::{Book, Settled};
 use sf_check::Stack;
 use sf_piece::advance;
 use std::alloc::Global;
-use std::sync::{Arc, Wait};
-use std::thread::Threads;
+use std::sync::Arc;
 
 /// One turn: the first piece is leased, worked and committed, and its children are given back. False where nothing
 /// is left to do.
@@ -45,7 +45,12 @@ fn turn<G: Gate>(
 
 /// Works pieces one after another until none is outstanding or the budget is spent. The calls of the worker are
 /// numbered from 1.
-fn work_off<G: Gate>(alloc: Global, book: &mut Book, gate: &G, worker: usize) -> Result<(), Fault>
+pub(crate) fn work_off<G: Gate>(
+    alloc: Global,
+    book: &mut Book,
+    gate: &G,
+    worker: usize,
+) -> Result<(), Fault>
     requires { IsFree book.old.outstanding }
     ensures same { IsSameExploration book.old book.new }
     ensures end { OnOk result (IsEnd book.new) }
@@ -62,7 +67,7 @@ fn work_off<G: Gate>(alloc: Global, book: &mut Book, gate: &G, worker: usize) ->
 }
 
 /// Explores a stack by the calling thread alone, as worker 0.
-fn explore_alone<G: Gate>(
+pub(crate) fn explore_alone<G: Gate>(
     alloc: Global,
     stack: Arc<Stack>,
     budget: u32,
@@ -74,21 +79,4 @@ fn explore_alone<G: Gate>(
     let mut book = Book::open(alloc, Arc::try_clone(&stack)?, budget)?;
     work_off(alloc, &mut book, gate, 0)?;
     Ok(book.finish(&stack)?)
-}
-
-/// Explores a stack: works at most `budget` pieces, and gives what is settled and what is left. The gate sees each
-/// work between its making and its commit. The caller's conditions: 1 to 1,000,000 as budget, 1 to 64 workers; all
-/// work is done by the calling thread, whatever their number. `Memory` where a growth is refused.
-pub fn explore<R: Threads + Wait + Sync, G: Gate>(
-    _rt: &R,
-    alloc: Global,
-    stack: Arc<Stack>,
-    budget: u32,
-    _workers: usize,
-    gate: &G,
-) -> Result<Settled, Fault>
-    ensures ok { IfOk result (λ s. IsEndOf (arc_value stack) budget s) }
-    ensures err { IfErr result (λ f. (f ≡ Memory) ⊎ (f ≡ Foreign)) }
-{
-    explore_alone(alloc, stack, budget, gate)
 }

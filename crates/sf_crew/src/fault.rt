@@ -74,3 +74,12 @@ impl From<sf_book::Fault> for Fault {
         }
     }
 }
+
+/// Making a verdict or a sheet is refused for want of memory alone.
+impl From<sf_ask::Fault> for Fault {
+    ghost from_gives = { λ _ e. e ≡ Memory };
+
+    fn from(_e: sf_ask::Fault) -> Fault {
+        Fault::Memory
+    }
+}

@@ -1,13 +1,33 @@
 //! Workers that explore a stack by the pieces of a book.
 #![tactic(auto)]
 
+mod benches;
+mod board;
+mod closing;
+mod drawing;
+mod ends;
+mod entering;
 mod exploring;
 mod fault;
 mod gate;
+mod hiring;
+mod history;
+mod opening;
+mod replying;
+mod steps;
+mod sweeping;
+mod view;
+mod workers;
 
-pub use exploring::explore;
+pub use benches::bench;
+pub use board::{Board, Seat, Tally};
+pub use ends::{Owner, Thief};
 pub use fault::Fault;
 pub use gate::{Gate, Open};
+pub use history::{End, Event};
+pub use replying::sweep;
+pub use view::{Entry, Matter, Note, View};
+pub use workers::{explore, visit};
 
 #[cfg(test)]
 mod tests;

@@ -1,23 +1,23 @@
-use Rattle.std.proofs.Common.{◌≡◌, ◌≢◌, ℕ, ◌<◌, ◌≤◌, ◌^◌, ◌-◌, ◌+◌, ◌↔◌, min, max, List, [], ◌∷◌, ◌++◌, length, get_or, set, arith, refl, sym, ap, ◌∙◌, ◌⊎◌, inl, inr}
+use Rattle.std.proofs.Common.{◌≡◌, ℕ, ◌<◌, ◌≤◌, ◌^◌, ◌-◌, ◌+◌, min, max, List, [], ◌∷◌, ◌++◌, length, set, arith, refl, sym, ap, ◌∙◌, ◌⊎◌, inl, inr}
 use Rattle.std.proofs.lemmas.Bool.{cases_lt, cases_eq}
 use Rattle.std.proofs.lemmas.Nat.{or_comm}
 use Rattle.std.proofs.lemmas.List.{get_or-set_same, get_or-set_other, length-set, get_or_append_left, get_or_push, length_push}
-use Rattle.std.specs.Prelude.{bit_and, bit_or, slice_index, Contains}
-use Rattle.sf_insn.specs.Inputs.{IsInput}
+use Rattle.std.specs.Prelude.{bit_or, Contains}
 use Rattle.sf_sym.specs.Pool.{IsPool, node_at, node_value, values_of, value_of}
 use Rattle.sf_sym.specs.declared.pool.Node.{Node}
 use Rattle.sf_insn.specs.declared.input.Input.{Input}
 use Rattle.sf_sym.specs.ValueLaws.{value-node}
 use Rattle.sf_dom.specs.declared.known.Known.{Known}
-use Rattle.sf_dom.specs.Known.{HasBits, Admits, Leaves, IsMeet, IsNarrower, IsSettled, IsForced, IsDecided, IsTight}
+use Rattle.sf_dom.specs.Known.{Admits, Leaves, IsNarrower, IsSettled, IsDecided}
 use Rattle.sf_dom.proofs.Rounds.{narrowed}
-use Rattle.sf_dom.specs.Rules.{known_of, AreSettledOperands, IsTightNode, IsPassed, AllNarrower, IsPass}
+use Rattle.sf_dom.specs.Rules.{known_of, AreSettledOperands, IsTightNode, IsPassed, AllNarrower}
 use Rattle.sf_dom.proofs.Rounds.{IsNarrower-trans, IsNarrower-refl}
 use Rattle.sf_sym.specs.Pool.{OperandsBelow}
 use Rattle.sf_sym.specs.declared.pool.Node.TheVariants.{Const, Word, Bin, Neg}
 use Rattle.sf_sym.specs.ValueLaws.{OperandsBelow-at}
-use Rattle.sf_dom.proofs.Bits.{join-bits, part-bits}
+use Rattle.sf_dom.proofs.Bits.{join-bits}
 use Rattle.sf_dom.specs.Facts.{known_at, numbers_at, excluded_of, AgreesWith, AreDecidedOperands}
+use Rattle.sf_dom.specs.Tightening.{IsForced, IsMeet}
 
 -- what both know
 pub meet-is : (a b : Known) (low high : ℕ) → low ≡ max a.low b.low → high ≡ min a.high b.high

@@ -2,7 +2,7 @@
 use Rattle.std.proofs.Common.{◌≡◌, ◌≢◌, ℕ, zero, suc, ◌<◌, ◌≤◌, ◌^◌, ◌↔◌, List, [], length, get_or, take, Bool, true, false, IsTrue, arith, refl, sym, ap, subst, ◌∙◌, inl, inr}
 use Rattle.std.proofs.lemmas.Bool.{cases_lt, false≢true}
 use Rattle.std.proofs.lemmas.List.{get_or-take, get_or_append_left}
-use Rattle.std.specs.Prelude.{slice_index, Contains, Result, Ok, Err, IfOk, MatchBool, replicate}
+use Rattle.std.specs.Prelude.{slice_index, Contains, replicate}
 use Rattle.sf_insn.specs.Inputs.{IsInput}
 use Rattle.sf_insn.specs.declared.input.Input.{Input}
 use Rattle.sf_insn.specs.declared.ops.Test.{Test}
@@ -14,7 +14,7 @@ use Rattle.sf_sym.specs.declared.pool.Node.{Node}
 use Rattle.sf_sym.specs.declared.pool.Node.TheVariants.{Const, Word, Bin, Neg}
 use Rattle.sf_dom.specs.declared.known.Known.{Known}
 use Rattle.sf_dom.specs.Known.{Admits, Leaves, IsSettled, IsDecided, IsNarrower}
-use Rattle.sf_dom.specs.Facts.{FactsView, known_at, numbers_at, excluded_of, AgreesWith, AreFacts, Covers, KeepsInputs, KeepsOnly, NoInput, SomeInput, IsPlain, IsPlainTest, IsWordOrConst}
+use Rattle.sf_dom.specs.Facts.{FactsView, known_at, numbers_at, excluded_of, AgreesWith, AreFacts, Covers, KeepsOnly, NoInput, SomeInput, IsPlain, IsPlainTest, IsWordOrConst}
 use Rattle.sf_dom.specs.FactsLaws.{sampled, words-agree, value-word, decided-admits}
 use Rattle.sf_dom.specs.Rules.{IsPassed, AllNarrower, IsGrown, IsSettle, AreBothExcluded, IsSharp, Gives, Holds}
 use Rattle.sf_dom.proofs.Gives.{differs-gives}

@@ -1,7 +1,7 @@
-use Rattle.std.proofs.Common.{◌≡◌, ◌≢◌, ℕ, ◌<◌, ◌≤◌, ◌+◌, ◌↔◌, List, [], ◌++◌, length, take, drop, set, Bool, true, false, arith, refl, sym, ap, ◌∙◌, ◌⊎◌, inl, inr}
-use Rattle.std.proofs.lemmas.Bool.{cases_lt, cases_eq, false≢true}
-use Rattle.std.proofs.lemmas.List.{get_or-set_same, get_or-set_other, length-set, drop_all, append-nil, take_all}
-use Rattle.std.specs.Prelude.{Option, Some, None, MatchOption, MatchBool, IsTrue, Contains, slice_index}
+use Rattle.std.proofs.Common.{◌≡◌, ◌≢◌, ℕ, ◌<◌, ◌↔◌, List, [], ◌++◌, length, take, drop, set, Bool, true, false, arith, refl, sym, ap, ◌∙◌, ◌⊎◌, inl, inr}
+use Rattle.std.proofs.lemmas.Bool.{cases_eq}
+use Rattle.std.proofs.lemmas.List.{get_or-set_same, get_or-set_other, drop_all, append-nil, take_all}
+use Rattle.std.specs.Prelude.{Option, Some, None, MatchOption, MatchBool, Contains, slice_index}
 use Rattle.sf_insn.specs.Inputs.{IsInput}
 use Rattle.sf_insn.specs.Words.{apply}
 use Rattle.sf_insn.specs.declared.ops.BinOp.{BinOp}
@@ -15,15 +15,16 @@ use Rattle.std.proofs.lemmas.Nat.{or_comm, and_comm, xor_comm}
 use Rattle.sf_insn.specs.declared.input.Input.{Input}
 use Rattle.sf_dom.specs.declared.known.Known.{Known}
 use Rattle.sf_dom.specs.declared.learning.Pair.{Pair}
-use Rattle.sf_dom.specs.Known.{Admits, Leaves, IsMeet, IsNarrower, IsTightWord, IsTight, IsDecided, IsSettled}
+use Rattle.sf_dom.specs.Known.{Admits, Leaves, IsNarrower, IsDecided, IsSettled}
 use Rattle.sf_dom.specs.Rules.{known_of, IsTightNode, AreExcluded, AreBothExcluded, IsSettle, IsNarrow, IsPass, IsSharp, Gives, AllNarrower, KeepsAgreeing, NoneAgreesWith, KeepsAgreeingOn, NoneAgreesOn, LeavesPair, LeavesNoPair, IsSwappable, Holds}
-use Rattle.sf_dom.proofs.Passes.{AllNarrower-trans, pass-set, word-below, operands-below}
+use Rattle.sf_dom.proofs.Passes.{AllNarrower-trans, word-below, operands-below}
 use Rattle.sf_dom.proofs.Gives.{gives-differs}
 use Rattle.sf_dom.proofs.Rounds.{IsNarrower-trans}
 use Rattle.sf_dom.specs.FactsLaws.{value-word}
 use Rattle.sf_sym.specs.declared.pool.Cond.{Cond}
 use Rattle.sf_insn.specs.declared.ops.Test.TheVariants.{Equal}
 use Rattle.sf_dom.specs.Facts.{known_at, numbers_at, excluded_of, AgreesWith}
+use Rattle.sf_dom.specs.Tightening.{IsMeet, IsTightWord}
 
 -- a test that lets fewer pairs through
 pub fewer_pairs : (o : Option Pair) (v w : Known) (P Q : ℕ → ℕ → Type 0) → ((x y : ℕ) → Q x y → P x y)

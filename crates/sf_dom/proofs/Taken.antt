@@ -1,7 +1,5 @@
 -- What a condition that is taken in leaves, and what else is known of a word.
-use Rattle.std.proofs.Common.{◌≡◌, ℕ, ◌<◌, length, List, Bool, true, false, Option, Some, None, arith, refl, ap, sym, ◌∙◌}
-use Rattle.std.proofs.lemmas.Bool.{false≢true}
-use Rattle.std.specs.Prelude.{slice_index}
+use Rattle.std.proofs.Common.{◌≡◌, ℕ, ◌<◌, length, List, Bool, true, false, arith, refl, sym, ◌∙◌}
 use Rattle.sf_insn.specs.Inputs.{IsInput}
 use Rattle.sf_insn.specs.declared.input.Input.{Input}
 use Rattle.sf_sym.specs.Pool.{IsPool, is_met, IsCondBelow}
@@ -9,9 +7,8 @@ use Rattle.sf_sym.specs.ValueLaws.{met-passes, passes-met}
 use Rattle.sf_sym.specs.declared.pool.Cond.{Cond}
 use Rattle.sf_sym.specs.declared.pool.Node.{Node}
 use Rattle.sf_dom.specs.declared.known.Known.{Known}
-use Rattle.sf_dom.specs.Known.{Admits}
-use Rattle.sf_dom.specs.Facts.{FactsView, known_at, numbers_at, AgreesWith, Agrees, Covers, AreNarrower, IsPlain, DecidesTest}
-use Rattle.sf_dom.specs.Rules.{Holds, IsTaken, IsNarrow, NoneAgreesOn, NarrowsWord}
+use Rattle.sf_dom.specs.Facts.{AgreesWith, Covers, AreNarrower, IsPlain, DecidesTest}
+use Rattle.sf_dom.specs.Rules.{IsTaken, IsNarrow, NarrowsWord}
 use Rattle.sf_dom.proofs.Sampled.{pass-facts, agrees-back, agrees-with-fewer, admits-word, decides-test, plain-gives}
 
 -- a test that is not met

@@ -4,9 +4,10 @@ ghost use Rattle.std.specs.Prelude.{◌≡◌, ℕ, ◌+◌, ◌-◌, ◌*◌, �
 ghost use Rattle.sf_insn.specs.Inputs.{IsInput};
 ghost use Rattle.sf_sym.specs.Pool.{OperandsBelow, IsPool, node_at, node_value, value_of};
 ghost use Rattle.sf_insn.specs.declared.input.Input.{Input};
-ghost use Rattle.sf_dom.specs.Known.{Admits, Leaves, IsSettled, IsForced, IsMeet};
+ghost use Rattle.sf_dom.specs.Known.{Admits, Leaves, IsSettled};
 ghost use Rattle.sf_dom.specs.Rules.{known_of, KeepsAgreeing, NoneAgreesWith, AreSettledOperands, IsTightNode, IsPass, IsGrown};
 ghost use Rattle.sf_dom.specs.Facts.{known_at, numbers_at, excluded_of, AgreesWith, AreDecidedOperands};
+ghost use Rattle.sf_dom.specs.Tightening.{IsForced, IsMeet};
 
 use crate::exclusions::Exclusions;
 use crate::fault::Fault;

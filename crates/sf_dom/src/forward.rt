@@ -2,8 +2,9 @@
 
 ghost use Rattle.std.specs.Prelude.{◌≡◌, ℕ, ◌+◌, ◌-◌, ◌*◌, ◌/◌, ◌%◌, ◌<◌, ◌≤◌, ◌^◌, if◌then◌else◌, ◌==◌, bit_and, bit_or, bit_xor};
 ghost use Rattle.sf_insn.specs.Words.{apply};
-ghost use Rattle.sf_dom.specs.Known.{Admits, IsSettled, IsDecided, IsForced};
+ghost use Rattle.sf_dom.specs.Known.{Admits, IsSettled, IsDecided};
 ghost use Rattle.sf_dom.specs.Facts.{KeepsDecided};
+ghost use Rattle.sf_dom.specs.Tightening.{IsForced};
 
 use crate::known::Known;
 use sf_insn::BinOp;

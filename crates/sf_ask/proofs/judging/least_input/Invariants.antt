@@ -6,5 +6,5 @@ abbrev pub invariant-loop-word : goal.invariant-loop-word
 invariant-loop-word l = record {
   long : length l.words ≡ 16;
   small : (i : ℕ) → get_or l.words i 0 < 2 ^ 32;
-  lows : (word : ℕ) → word < l.word → get_or l.words word 0 ≡ (known_at l.facts.known word).low
+  lows : (word : ℕ) → word < l.word → get_or l.words word 0 ≡ (known_at l.facts.known word).low;
 }

@@ -16,19 +16,19 @@ returns-then-rules_out-clause-right c =
 pub returns-then-not-branch-clause-right : goal.returns-then-not-branch-clause-right
 returns-then-not-branch-clause-right c =
     let p = c.args.piece.now in
-    let confined = rw (c.in-Some.is, c.facts-known.ensures.value, c.pool.ensures.value) at c.in_ok-facts.ensures in
+    let confined = rw (c.in-Some.is, c.facts-known.ensures.value, c.pool.ensures.value) at c.in_ok-facts.ensures.confined in
     doubtful p c.args.question.now p.facts c.in-Some.facts p.pool c.in-Some-least_input.input c.facts-known.ensures.known confined c.in-Some-least_input.ensures
-      (sym c.in_ok-is_member_of.ensures ∙ c.if-not-branch.true)
+    (sym c.in_ok-is_member_of.ensures.tells ∙ c.if-not-branch.true)
 
 pub returns-then-not-branch-clause-decisive : goal.returns-then-not-branch-clause-decisive
-returns-then-not-branch-clause-decisive c = λ exact.
+returns-then-not-branch-clause-decisive c = λ plain.
     let p = c.args.piece.now in
-    let confined = rw (c.in-Some.is, c.facts-known.ensures.value, c.pool.ensures.value) at c.in_ok-facts.ensures in
-    let hit = exact-hit p c.args.question.now c.in-Some.facts c.in-Some-least_input.input exact confined c.in-Some-least_input.ensures in
-    cc (sym c.in_ok-is_member_of.ensures ∙ c.if-not-branch.true)
+    let confined = rw (c.in-Some.is, c.facts-known.ensures.value, c.pool.ensures.value) at c.in_ok-facts.ensures.confined in
+    let hit = exact-hit p c.args.question.now c.in-Some.facts c.in-Some-least_input.input (c.facts-known.ensures.plain plain) confined c.in-Some-least_input.ensures in
+    cc (sym c.in_ok-is_member_of.ensures.tells ∙ c.if-not-branch.true)
 
 pub returns-clause-least : goal.returns-clause-least
 returns-clause-least c =
     let p = c.args.piece.now in
-    let confined = rw (c.in-Some.is, c.facts-known.ensures.value, c.pool.ensures.value) at c.in_ok-facts.ensures in
+    let confined = rw (c.in-Some.is, c.facts-known.ensures.value, c.pool.ensures.value) at c.in_ok-facts.ensures.confined in
     least-hit p c.args.question.now p.facts c.in-Some.facts p.pool c.in-Some-least_input.input c.facts-known.ensures.known confined c.in-Some-least_input.ensures

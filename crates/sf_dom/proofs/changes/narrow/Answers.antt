@@ -1,4 +1,4 @@
-use Rattle.std.proofs.Common.{arith, length, ◌≡◌}
+use Rattle.std.proofs.Common.{arith}
 use Rattle.sf_dom.proofs.Settles.{narrowed-all}
 use Rattle.sf_dom.specs.FactsLaws.{value-word}
 use Rattle.sf_dom.proofs.changes.narrow.Goals as goal

@@ -1,9 +1,8 @@
-use Rattle.std.proofs.Common.{◌≡◌, ◌<◌, ◌≤◌, length, arith, ℕ, take, ◌++◌, ◌∷◌, [], ◌∙◌, sym, ap, inl, inr}
+use Rattle.std.proofs.Common.{◌≡◌, length, arith, ◌∷◌, [], ◌∙◌, sym, ap, inl, inr}
 use Rattle.std.proofs.lemmas.Bool.{cases_lt}
 use Rattle.std.proofs.lemmas.List.{length_push, take-append-le, take_all, get_or-take}
 use Rattle.sf_sym.specs.Pool.{values_of, value_of}
 use Rattle.sf_dom.specs.Rules.{known_of}
-use Rattle.sf_dom.specs.Known.{IsSettled}
 use Rattle.sf_dom.proofs.Passes.{grown-left, agrees-push, passed-push, still-none}
 use Rattle.sf_dom.proofs.domain.append.Goals as goal
 use Rattle.sf_dom.specs.Facts.{known_at}

@@ -1,4 +1,4 @@
-use Rattle.std.proofs.Common.{◌≡◌, ◌<◌, length, arith, ℕ, ◌-◌, sym, ◌∙◌, below_more}
+use Rattle.std.proofs.Common.{◌≡◌, arith, ◌-◌, sym, ◌∙◌, below_more}
 use Rattle.sf_sym.specs.Pool.{node_at, values_of, value_of}
 use Rattle.sf_sym.specs.declared.pool.Node.TheVariants.{Const}
 use Rattle.sf_dom.specs.Rules.{known_of, IsPassed}

@@ -1,4 +1,4 @@
-use Rattle.std.proofs.Common.{◌≡◌, ℕ, ◌<◌, length}
+use Rattle.std.proofs.Common.{ℕ, ◌<◌}
 use Rattle.sf_dom.specs.Rules.{KeepsAgreeing, AllNarrower, IsPassed}
 use Rattle.sf_dom.proofs.domain.pass.Given as goal
 

@@ -1,4 +1,4 @@
-use Rattle.std.proofs.Common.{◌≡◌, ◌<◌, arith, ℕ, [], sym, refl, ◌∙◌, below_more, length}
+use Rattle.std.proofs.Common.{arith, [], sym, refl, ◌∙◌, below_more}
 use Rattle.std.proofs.lemmas.Bool.{false≢true}
 use Rattle.std.proofs.lemmas.List.{get_or_read}
 use Rattle.sf_dom.specs.Known.{AreSameNumbers}

@@ -1,4 +1,4 @@
-use Rattle.std.proofs.Common.{◌≡◌, ◌<◌, length, arith, sym, ◌∙◌, refl}
+use Rattle.std.proofs.Common.{arith, sym, ◌∙◌}
 use Rattle.sf_sym.specs.Pool.{OperandsBelow}
 use Rattle.sf_sym.specs.declared.pool.Node.TheVariants.{Bin}
 use Rattle.sf_sym.specs.ValueLaws.{number_of-is}

@@ -1,8 +1,7 @@
-use Rattle.std.proofs.Common.{arith, length, ◌≡◌, true, false, Bool}
+use Rattle.std.proofs.Common.{arith}
 use Rattle.sf_sym.specs.Pool.{value_of}
-use Rattle.sf_dom.proofs.Settles.{settle-steps, settled-all}
+use Rattle.sf_dom.proofs.Settles.{settled-all}
 use Rattle.sf_dom.proofs.settle.settle.Goals as goal
-use Rattle.sf_dom.specs.Rules.{Holds}
 
 pub returns-then-not-settle_node : goal.returns-then-not-settle_node
 returns-then-not-settle_node c = λ d p a h.

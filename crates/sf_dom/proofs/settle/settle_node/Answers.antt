@@ -1,4 +1,4 @@
-use Rattle.std.proofs.Common.{◌≡◌, ◌<◌, length, arith, set}
+use Rattle.std.proofs.Common.{arith}
 use Rattle.sf_sym.specs.Pool.{value_of}
 use Rattle.sf_dom.specs.Facts.{known_at}
 use Rattle.sf_dom.proofs.Passes.{pass-set, AllNarrower-set, AllNarrower-refl}

@@ -1,6 +1,6 @@
-use Rattle.std.proofs.Common.{ℕ, ◌<◌, ◌≤◌, arith, refl, inl, inr, true, false}
+use Rattle.std.proofs.Common.{◌<◌, true}
 use Rattle.sf_dom.specs.Rules.{Gives}
-use Rattle.sf_insn.specs.declared.ops.Test.TheVariants.{Greater, GreaterOrEqual}
+use Rattle.sf_insn.specs.declared.ops.Test.TheVariants.{Greater}
 use Rattle.sf_dom.proofs.Settles.{fewer_pairs}
 use Rattle.sf_dom.proofs.Gives.{gives-greater, gives-not_greater, gives-at_least, gives-less}
 use Rattle.sf_dom.proofs.settle.tested.Goals as goal

@@ -1,7 +1,7 @@
-use Rattle.std.proofs.Common.{◌≡◌, ◌<◌, length, arith, set}
+use Rattle.std.proofs.Common.{arith}
 use Rattle.std.proofs.lemmas.List.{length-set}
 use Rattle.sf_sym.specs.Pool.{value_of}
-use Rattle.sf_dom.proofs.Passes.{pass-set, AllNarrower-set, AllNarrower-refl, word-below}
+use Rattle.sf_dom.proofs.Passes.{pass-set, AllNarrower-set, AllNarrower-refl}
 use Rattle.sf_dom.proofs.Rounds.{IsNarrower-trans}
 use Rattle.sf_dom.specs.Facts.{known_at}
 use Rattle.sf_dom.proofs.Settles.{walked}

@@ -7,5 +7,5 @@ abbrev pub invariant-loop-q : goal.invariant-loop-q
 invariant-loop-q l = record {
   long : length l.verdicts.items ≡ l.q;
   right : (q : ℕ) → q < l.q → IsRightEntry l.settled l.questions l.job q (verdict_at l.verdicts.items q);
-  wanted : (q : ℕ) → q < l.q → is_skipped (verdict_at l.verdicts.items q) ≡ not (is_wanted l.wanted q)
+  wanted : (q : ℕ) → q < l.q → is_skipped (verdict_at l.verdicts.items q) ≡ not (is_wanted l.wanted q);
 }

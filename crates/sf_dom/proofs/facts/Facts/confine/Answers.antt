@@ -1,6 +1,5 @@
-use Rattle.std.proofs.Common.{◌≡◌, ◌<◌, ◌≤◌, ◌^◌, ℕ, length, ◌∙◌, ap, arith, refl}
-use Rattle.std.specs.Prelude.{slice_index}
-use Rattle.sf_dom.specs.Facts.{Agrees, lies_in}
+use Rattle.std.proofs.Common.{refl}
+use Rattle.sf_dom.specs.Facts.{Agrees}
 use Rattle.sf_dom.specs.FactsLaws.{some-input}
 use Rattle.sf_dom.proofs.Sampled.{exact-none, exact-some}
 use Rattle.sf_dom.proofs.Taken.{not_met}

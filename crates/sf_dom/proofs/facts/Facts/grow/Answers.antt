@@ -1,4 +1,4 @@
-use Rattle.std.proofs.Common.{◌≡◌, ◌<◌, ◌≤◌, ℕ, length, ◌∙◌, ap, arith}
+use Rattle.std.proofs.Common.{arith}
 use Rattle.sf_dom.specs.Facts.{Agrees}
 use Rattle.sf_dom.proofs.Sampled.{agrees-kept, grown-facts, grown-of, agrees-before, agrees-after}
 use Rattle.sf_dom.proofs.facts.Facts.grow.Goals as goal

@@ -1,4 +1,3 @@
-use Rattle.std.proofs.Common.{◌≡◌}
 use Rattle.sf_dom.specs.FactsLaws.{some-input}
 use Rattle.sf_dom.proofs.Sampled.{exact-some}
 use Rattle.sf_dom.proofs.facts.Facts.learn.Goals as goal

@@ -1,8 +1,6 @@
-use Rattle.std.proofs.Common.{◌≡◌, ◌<◌, ℕ, length, ◌∙◌, ap, arith, refl}
 use Rattle.sf_sym.specs.ValueLaws.{met-passes}
-use Rattle.sf_sym.specs.Pool.{is_met}
 use Rattle.sf_dom.specs.Facts.{Agrees}
-use Rattle.sf_dom.proofs.Taken.{not_met, taken-covers, taken-keeps, taken-narrower, taken-decides, taken-only}
+use Rattle.sf_dom.proofs.Taken.{not_met, taken-keeps, taken-decides, taken-only}
 use Rattle.sf_dom.proofs.facts.Facts.learnt.Goals as goal
 
 pub returns-in-None-clause-sound : goal.returns-in-None-clause-sound

@@ -1,4 +1,4 @@
-use Rattle.std.proofs.Common.{ap, ◌∙◌}
+use Rattle.std.proofs.Common.{◌∙◌}
 use Rattle.sf_dom.proofs.Taken.{narrow-word}
 use Rattle.sf_dom.proofs.facts.Facts.narrow_word.Goals as goal
 

@@ -1,8 +1,8 @@
-use Rattle.std.proofs.Common.{◌≡◌, ◌<◌, ◌+◌, ℕ, true, arith, take, length, get_or, ap, refl, sym, ◌∙◌}
+use Rattle.std.proofs.Common.{◌≡◌, ◌+◌, true, arith, take, ap, sym, ◌∙◌}
 use Rattle.std.proofs.lemmas.List.{take-take, get_or-take, length-take-le, take_all}
 use Rattle.std.proofs.lemmas.List.Elements.{All-take, All-more}
 use Rattle.std.proofs.lemmas.Bool.{false≢true}
-use Rattle.std.specs.Prelude.{Result, Ok, All}
+use Rattle.std.specs.Prelude.{Ok}
 use Rattle.sf_sym.specs.Pool.{is_met}
 use Rattle.sf_sym.specs.declared.pool.Cond.{Cond}
 use Rattle.sf_dom.specs.FactsLaws.{some-input}
