@@ -1,7 +1,7 @@
 -- What the steps of learning do to the facts of nodes, a list, and to the numbers that are excluded for words.
 use Rattle.std.specs.Prelude.{◌≡◌, ℕ, ◌-◌, ◌<◌, ◌≤◌, ◌⊎◌, List, length, slice_index, Contains, Bool, true, false, All}
 use Rattle.sf_insn.specs.Inputs.{IsInput}
-use Rattle.sf_insn.specs.Words.{passes}
+use Rattle.sf_insn.specs.Words.{IsOneBit, passes}
 use Rattle.sf_sym.specs.Pool.{node_at, value_of, is_met}
 use Rattle.sf_insn.specs.declared.input.Input.{Input}
 use Rattle.sf_sym.specs.declared.pool.Node.{Node}
@@ -13,7 +13,7 @@ use Rattle.sf_insn.specs.declared.ops.Test.{Test}
 use Rattle.sf_insn.specs.declared.ops.Test.TheVariants.{Equal, AnyBit}
 use Rattle.sf_dom.specs.declared.known.Known.{Known}
 use Rattle.sf_dom.specs.Known.{Admits, Leaves, IsNarrower, IsSettled, IsTight, IsDecided}
-use Rattle.sf_dom.specs.Facts.{known_at, numbers_at, excluded_of, AgreesWith, AreDecidedOperands, IsOneBit, FactsView, Covers, AreNarrower}
+use Rattle.sf_dom.specs.Facts.{known_at, numbers_at, excluded_of, AgreesWith, AreDecidedOperands, FactsView, Covers, AreNarrower}
 
 abbrev pub known_of : ℕ → ℕ → ℕ → ℕ → Known
 known_of low high zeros ones = record { low = low; high = high; zeros = zeros; ones = ones }

@@ -3,7 +3,7 @@
 ghost use Rattle.std.specs.Prelude.{◌≡◌, ◌≢◌, ℕ, ◌+◌, ◌-◌, ◌*◌, ◌/◌, ◌%◌, ◌<◌, ◌≤◌, ◌^◌, MatchOption, IfSome, bit_and, bit_or};
 ghost use Rattle.sf_dom.specs.Known.{HasBits, Admits, IsSettled, IsDecided};
 ghost use Rattle.sf_dom.specs.Rules.{LeavesPair, LeavesNoPair};
-ghost use Rattle.sf_dom.specs.Facts.{IsOneBit};
+ghost use Rattle.sf_insn.specs.Words.{IsOneBit};
 
 use crate::domain::meet;
 use crate::known::Known;
