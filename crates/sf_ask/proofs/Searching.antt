@@ -1,6 +1,6 @@
 -- What a search for a member in a question tells.
 use Rattle.std.proofs.Common.{◌≡◌, ℕ, ◌+◌, ◌<◌, ◌≤◌, ◌^◌, Bool, true, false, List, length, get_or, take, arith, refl, sym, ap, subst, inl, inr, ◌∙◌, Some, None}
-use Rattle.std.specs.Prelude.{slice_index, slice_get, ◌&&◌}
+use Rattle.std.specs.Prelude.{slice_index, slice_get, Result, Ok, Err, IfOk}
 use Rattle.std.specs.List.{list_all}
 use Rattle.std.proofs.lemmas.Bool.{cases_eq, cases_lt}
 use Rattle.std.proofs.lemmas.List.{ext_get_or}
@@ -16,14 +16,17 @@ use Rattle.sf_run.specs.declared.action.Answer.{Answer}
 use Rattle.sf_run.specs.Machine.{returns_of}
 use Rattle.sf_run.specs.AnswerLaws.{one}
 use Rattle.sf_book.specs.Books.{BookData, RegionData, IsRightRegion}
+use Rattle.sf_ask.specs.declared.fault.Fault.{Fault}
+use Rattle.sf_ask.specs.declared.verdict.Verdict.{Verdict}
+use Rattle.sf_ask.specs.declared.verdict.Verdict.TheVariants.{Clear, Hit, Doubt}
 use Rattle.sf_ask.specs.Actions.{has_action}
 use Rattle.sf_piece.specs.Pieces.{PieceData, is_member}
 use Rattle.sf_piece.specs.PlainPieces.{IsPlainPiece}
 use Rattle.sf_ask.specs.Asked.{Asked}
 use Rattle.sf_ask.specs.Breaking.{IsNumberOf, IsInQuestion}
-use Rattle.sf_ask.specs.Verdicts.{IsLowInput, IsMemberAt, IsBreakAt}
+use Rattle.sf_ask.specs.Verdicts.{IsLowInput, IsMemberAt, IsBreakAt, IsRightVerdict, HitsPlainExample}
 use Rattle.sf_ask.proofs.Leasts.{least-admitted, least-below, least-agrees}
-use Rattle.sf_ask.specs.Searches.{AreConfined, NonePasses, IsNumberBefore, IsLeastInput}
+use Rattle.sf_ask.specs.Searches.{AreConfined, NonePasses, IsNumberBefore, IsLeastInput, IsRightSearch, HitsLeast}
 
 -- ---- conditions, one after the other
 
@@ -91,3 +94,34 @@ not-asked s place q r there right none d h =
     let answers = right.answers d member.input (subst (λ (x : RegionData). is_member x.piece d ≡ true) same member.member) in
     let answer = one (returns_of s.stack d) h.breaks.answer r.answer h.breaks.answers answers in
     cc (h.breaks.asked, none, ap (λ (a : Answer). has_action q.actions a.action) answer)
+
+-- what is known of a member of the region at a place is known of a member of its piece
+in-piece : (s : BookData) (place : ℕ) (r : RegionData) (d : Input) → slice_get s.regions place ≡ Some r → (member : IsMemberAt s place d) → is_member r.piece d ≡ true
+in-piece s place r d there member =
+    let same : member.region ≡ r = cc (member.there, there) in
+    subst (λ (x : RegionData). is_member x.piece d ≡ true) same member.member
+
+pub region-right : (s : BookData) (place : ℕ) (q : Asked) (r : RegionData) (v : Verdict) → slice_get s.regions place ≡ Some r → IsRightRegion s.stack r → has_action q.actions r.answer.action ≡ true
+    → IsRightSearch r.piece q v → IsRightVerdict s place q v
+region-right s place q r Clear there right asked found = λ d h. found d h.member.input (in-piece s place r d there h.member) h.breaks.inside
+region-right s place q r (Hit d) there right asked found = record {
+  member = record { region = r; there = there; input = found.0; member = found.1 };
+  breaks = record { inside = found.2; answer = r.answer; answers = right.answers d found.0 found.1; asked = asked };
+}
+region-right s place q r Doubt there right asked found = λ d low h. found d h.member.input low (in-piece s place r d there h.member)
+
+pub region-example : (s : BookData) (place : ℕ) (q : Asked) (r : RegionData) (v : Verdict) → slice_get s.regions place ≡ Some r → IsRightVerdict s place q v → HitsLeast r.piece q v → HitsPlainExample s place q v
+region-example s place q r Clear there right least = tt
+region-example s place q r (Hit d) there right least = record {
+  breaks = right;
+  least = λ other member inside. least other member.input (in-piece s place r other there member) inside;
+}
+region-example s place q r Doubt there right least = tt
+
+pub if-ok : (P Q : Verdict → Type 0) (result : Result Verdict Fault) → ((v : Verdict) → P v → Q v) → IfOk result P → IfOk result Q
+if-ok P Q (Ok v) f h = f v h
+if-ok P Q (Err e) f h = tt
+
+pub if-both-ok : (P Q R : Verdict → Type 0) (result : Result Verdict Fault) → ((v : Verdict) → P v → Q v → R v) → IfOk result P → IfOk result Q → IfOk result R
+if-both-ok P Q R (Ok v) f h k = f v h k
+if-both-ok P Q R (Err e) f h k = tt

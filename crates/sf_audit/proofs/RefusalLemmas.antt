@@ -41,7 +41,7 @@ same_programs spelling program [] [] (y ∷ b) p q = absurd q
 same_programs spelling program (f ∷ files) [] b p q = absurd p
 same_programs spelling program (f ∷ files) (x ∷ a) [] p q = absurd q
 
-length_spelling : (raws : List RawInsn) → length (spelling raws) ≡ 8 * length raws
+pub length_spelling : (raws : List RawInsn) → length (spelling raws) ≡ 8 * length raws
 length_spelling [] = refl
 length_spelling (r ∷ raws) =
     let more = length_spelling raws in
@@ -62,7 +62,7 @@ faulty spelling none bytes e program f p =
     none p.raws e program (rw raws at f.first) p.read p.lawful
 
 -- A file that is refused spells no lawful program.
-refused_no_program : OneSpelling → FaultsAreNot → (number : ℕ) (bytes : List ℕ) (e : Fault) (program : List Insn) → IsRefusalOf number bytes e → SpellsProgram bytes program → ⊥
+pub refused_no_program : OneSpelling → FaultsAreNot → (number : ℕ) (bytes : List ℕ) (e : Fault) (program : List Insn) → IsRefusalOf number bytes e → SpellsProgram bytes program → ⊥
 refused_no_program spelling none number bytes (faults.Ragged f) program r p =
     let size = eight_each bytes program p in
     let rest : (8 * length program) % 8 ≡ 0 = omega arith in
@@ -83,14 +83,14 @@ refused_no_program spelling none number bytes (faults.Scratch f at) program r p 
 refused_no_program spelling none number bytes _ program r p = absurd r
 
 -- the file at a place spells a lawful program
-program_at : (files : List (List ℕ)) (programs : List (List Insn)) (place : ℕ) (file : List ℕ) → slice_get files place ≡ Some file → SpellPrograms files programs
+pub program_at : (files : List (List ℕ)) (programs : List (List Insn)) (place : ℕ) (file : List ℕ) → slice_get files place ≡ Some file → SpellPrograms files programs
     → (program : List Insn) × SpellsProgram file program
 program_at [] programs place file at p = absurd cc
 program_at (f ∷ files) [] place file at p = absurd p
 program_at (f ∷ files) (g ∷ programs) zero file at p = (g, ?)
 program_at (f ∷ files) (g ∷ programs) (suc place) file at p = program_at files programs place file at p.1
 
-file_no_stack : OneSpelling → FaultsAreNot → (files : List (List ℕ)) (e : Fault) (programs : List (List Insn)) → IsFileRefusal files e → SpellPrograms files programs → ⊥
+pub file_no_stack : OneSpelling → FaultsAreNot → (files : List (List ℕ)) (e : Fault) (programs : List (List Insn)) → IsFileRefusal files e → SpellPrograms files programs → ⊥
 file_no_stack spelling none files e programs r p =
     let (program, spelled) = program_at files programs r.place r.file r.at p in
     refused_no_program spelling none (r.place + 1) r.file e program r.refused spelled

@@ -9,3 +9,4 @@ pub mod FaultPlaces
 pub mod Filters
 pub mod Outcomes
 pub mod Reports
+pub mod Audits

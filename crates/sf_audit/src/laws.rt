@@ -5,7 +5,7 @@ ghost use Rattle.sf_check.specs.declared.insn.Insn.{Insn};
 ghost use Rattle.sf_audit.specs.declared.fault.Fault.{Fault};
 ghost use Rattle.sf_audit.specs.Filters.{SpellPrograms, SpellStack, IsFirstRefusal};
 
-use sf_check::laws::{a_fault_spells_no_lawful_program, one_program};
+use sf_check::laws::{a_fault_spells_no_lawful_program, one_first_fault, one_program};
 use sf_insn::laws::one_spelling;
 
 /// Filter files spell at most one list of lawful programs.
@@ -24,5 +24,14 @@ pub fn a_refusal_spells_no_stack()
 {
     one_stack();
     one_spelling();
+    a_fault_spells_no_lawful_program();
+}
+
+/// Filter files have at most one first refusal, so `stack_of` tells the only one.
+pub fn one_refusal()
+    ensures { (files : List (List ℕ)) (e f : Fault) → IsFirstRefusal files e → IsFirstRefusal files f → e ≡ f }
+{
+    one_spelling();
+    one_first_fault();
     a_fault_spells_no_lawful_program();
 }

@@ -2,6 +2,7 @@
 //! report.
 #![tactic(auto)]
 
+mod auditing;
 mod fault;
 mod filters;
 pub mod laws;
@@ -9,11 +10,15 @@ mod outcome;
 mod policy;
 mod report;
 
+pub use auditing::audit;
 pub use fault::Fault;
 pub use filters::stack_of;
 pub use outcome::Outcome;
 pub use policy::read_policy;
 pub use report::write_report;
+
+/// The most questions of a policy and of an audit.
+const MOST_QUESTIONS: usize = 256;
 
 #[cfg(test)]
 mod tests;

@@ -15,15 +15,13 @@ ghost use Rattle.sf_audit.specs.Encoding.{table_or_empty};
 ghost use Rattle.sf_audit.specs.Trees.{number_at, tables_of};
 ghost use Rattle.sf_audit.specs.Policies.{version_of, tables_of_value, tables_at, questions_counted, questions_where_tables, policy_of};
 
+use crate::MOST_QUESTIONS;
 use crate::fault::Fault;
 use keys::{has_top_keys, number_in, value_at};
 use questions::questions_in;
 use sf_ask::Question;
 use std::alloc::Global;
 use toml::{Table, Value};
-
-/// The most questions of a policy.
-const MOST_QUESTIONS: usize = 256;
 
 /// The version of a policy file: in the second a word's value may be a table with a mask.
 #[derive(Clone, Copy, Debug)]

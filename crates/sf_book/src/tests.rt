@@ -185,6 +185,30 @@ fn a_book_worked_off_has_its_regions_in_name_order(rt: HostRuntime) -> Result<()
 }
 
 #[test]
+fn a_piece_without_a_member_leaves_its_name(rt: HostRuntime) -> Result<(), Fail> {
+    // ld [12]; jgt 101 0 0; or #0; jge 102 0 1; jgt 104 0 0; ret 0x80010000: not above 101 and yet at least 102
+    let alloc = rt.alloc();
+    let stack = stack_of(
+        alloc,
+        &[
+            raw(0x20, 0, 0, 12),
+            raw(0x25, 0, 0, 101),
+            raw(0x44, 0, 0, 0),
+            raw(0x35, 0, 1, 102),
+            raw(0x25, 0, 0, 104),
+            raw(0x06, 0, 0, 0x80010000),
+        ],
+    )?;
+    let mut book = Book::open(alloc, Arc::try_clone(&stack)?, 9)?;
+    work_off(alloc, &mut book)?;
+    let settled = book.finish(&stack)?;
+    assert_eq!(rt; settled.counts(), counts(0, 3, 1, 3, 7));
+    assert_eq!(rt; settled.emptied_count(), 1);
+    assert_eq!(rt; settled.emptied(0), [false, true].as_slice());
+    Ok(())
+}
+
+#[test]
 fn an_ended_book_shows_what_is_left(rt: HostRuntime) -> Result<(), Fail> {
     let alloc = rt.alloc();
     let stack = execve_stack(alloc)?;
