@@ -3,3 +3,4 @@ pub mod Files
 pub mod Texts
 pub mod Outputs
 pub mod Status
+pub mod Audits

@@ -1,5 +1,5 @@
 -- The instructions that meet nothing, one by one.
-use Rattle.std.proofs.Common.{◌≡◌, ℕ, zero, suc, ◌+◌, ◌-◌, ◌<◌, ◌≤◌, Bool, true, false, List, [], ◌∷◌, ◌++◌, length, map, Option, Some, None, slice_get, refl, sym, ap, subst, ◌∙◌, ◌⊎◌, inl, inr, arith}
+use Rattle.std.proofs.Common.{◌≡◌, ℕ, zero, suc, ◌+◌, ◌<◌, List, [], ◌∷◌, length, map, Option, Some, slice_get, refl, sym, ap, subst, ◌∙◌, inl, inr}
 use Rattle.std.specs.Prelude.{option_map, slice_set}
 use Rattle.std.proofs.lemmas.Option.{same_Some}
 use Rattle.sf_insn.specs.declared.input.Input.{Input}
@@ -7,16 +7,15 @@ use Rattle.sf_insn.specs.Words.{apply}
 use Rattle.sf_insn.specs.declared.ops.BinOp.TheVariants.{Div}
 use Rattle.sf_check.specs.declared.insn.Insn.{Insn}
 use Rattle.sf_check.specs.declared.insn.Insn.TheVariants.{LoadScratch, LoadXScratch, StoreA, StoreX, Jump, Tax, Txa}
-use Rattle.sf_run.specs.Machine.{State, goes, executed, with_a, with_x, loaded}
+use Rattle.sf_run.specs.Machine.{State, goes, executed}
 use Rattle.sf_sym.specs.declared.pool.Node.{Node}
 use Rattle.sf_sym.specs.declared.pool.Node.TheVariants.{Const}
 use Rattle.sf_sym.specs.declared.pool.NodeId.{NodeId}
 use Rattle.sf_sym.specs.Pool.{value_of, values_of, node_value}
-use Rattle.sf_dom.specs.Facts.{FactsView}
 use Rattle.sf_piece.specs.declared.machine.Machine.{Machine}
-use Rattle.sf_piece.specs.Pieces.{PieceData, is_member}
+use Rattle.sf_piece.specs.Pieces.{PieceData}
 use Rattle.sf_piece.specs.SymbolicRun.{valued, AreNodesBelow}
-use Rattle.sf_piece.specs.Works.{Standing, Goes, GoesBy, SetsA, SetsX, IsPushed}
+use Rattle.sf_piece.specs.Works.{Goes, GoesBy, SetsA, SetsX, IsPushed}
 
 abbrev on_a : Machine → NodeId → Machine
 on_a m id = record m { a = id; place = m.place + 1; taken = 0; value = 0 }

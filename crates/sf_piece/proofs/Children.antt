@@ -1,5 +1,5 @@
 -- Pieces with one more truth value in their names; names are routes.
-use Rattle.std.proofs.Common.{◌≡◌, ℕ, zero, suc, ◌+◌, ◌-◌, ◌<◌, ◌≤◌, ◌&&◌, not, Bool, true, false, List, [], ◌∷◌, ◌++◌, length, Option, Some, None, refl, sym, ap, subst, ◌∙◌, ◌⊎◌, inl, inr, arith, append_assoc, append-nil, length-append}
+use Rattle.std.proofs.Common.{◌≡◌, ℕ, zero, suc, ◌+◌, ◌-◌, ◌<◌, ◌&&◌, Bool, true, false, List, [], ◌∷◌, ◌++◌, length, refl, sym, ap, subst, ◌∙◌, inl, inr, arith, append_assoc, append-nil, length-append}
 use Rattle.std.specs.List.{AllByRecursion, list_all}
 use Rattle.sf_insn.specs.declared.input.Input.{Input}
 use Rattle.sf_insn.specs.Inputs.{IsInput}
@@ -10,7 +10,7 @@ use Rattle.sf_check.specs.declared.insn.Insn.{Insn}
 use Rattle.sf_check.specs.declared.insn.Insn.TheVariants.{Alu, Branch, ReturnA}
 use Rattle.sf_check.specs.declared.insn.Operand.{Operand}
 use Rattle.sf_check.specs.declared.insn.Operand.TheVariants.{Constant, X}
-use Rattle.sf_check.specs.Programs.{IsAt, IsLawful}
+use Rattle.sf_check.specs.Programs.{IsLawful}
 use Rattle.sf_check.specs.ProgramLaws.{successors_inside}
 use Rattle.sf_run.specs.Machine.{bits, trace_of}
 use Rattle.sf_run.specs.Routes.{IsWay, returns_at, goes_on, AreWays, IsWholeRoute, IsRoute}
@@ -18,18 +18,15 @@ use Rattle.sf_run.specs.CompletionLaws.{some_way}
 use Rattle.sf_sym.specs.declared.pool.Node.{Node}
 use Rattle.sf_sym.specs.declared.pool.Cond.{Cond}
 use Rattle.sf_sym.specs.Pool.{value_of, is_met, same, IsCondBelow}
-use Rattle.sf_dom.specs.Facts.{FactsView, Covers, Agrees}
+use Rattle.sf_dom.specs.Facts.{FactsView}
 use Rattle.sf_piece.specs.declared.machine.Machine.{Machine}
-use Rattle.sf_piece.specs.Machines.{returned}
 use Rattle.sf_piece.specs.Pieces.{PieceData, is_member, is_prefix, IsTrulyNamed}
-use Rattle.sf_check.specs.Stacks.{IsPlain}
-use Rattle.sf_piece.specs.PlainPieces.{IsPlainPiece}
 use Rattle.sf_piece.specs.SymbolicRun.{IsPending, StandsAt, IsPiece, IsLawfulPiece}
-use Rattle.sf_piece.specs.Works.{Standing, IsEntry, AfterEntry, sensed, IsImplied, AreChildFacts, IsChild, IsOn, HasGone}
+use Rattle.sf_piece.specs.Works.{Standing, IsEntry, AfterEntry, sensed, IsImplied, AreChildFacts, IsChild, HasGone}
 use Rattle.sf_piece.proofs.Moves.{made}
 use Rattle.sf_piece.proofs.Kept.{assembled, returned_nodes, some_input}
 use Rattle.sf_piece.proofs.Entries.{Turned, Narrows, branch_turned, return_turned, zero_turned, nonzero_turned, entry_trace}
-use Rattle.sf_piece.proofs.Prefixes.{prefix_next, same-true, same-refl, and-true}
+use Rattle.sf_piece.proofs.Prefixes.{prefix_next, same-true, and-true}
 
 -- ---- after any entry
 

@@ -1,34 +1,31 @@
 -- Pieces that take a truth value of the trace into their names.
-use Rattle.std.proofs.Common.{◌≡◌, ℕ, zero, suc, ◌+◌, ◌-◌, ◌*◌, ◌/◌, ◌%◌, ◌^◌, ◌<◌, ◌≤◌, ◌&&◌, not, Bool, true, false, List, [], ◌∷◌, ◌++◌, length, take, drop, map, reverse, Option, Some, None, slice_get, refl, sym, ap, subst, ◌∙◌, ◌⊎◌, inl, inr, arith, append_assoc, append-nil}
+use Rattle.std.proofs.Common.{◌≡◌, ℕ, zero, suc, ◌+◌, ◌-◌, ◌*◌, ◌<◌, Bool, true, false, List, [], ◌∷◌, ◌++◌, length, take, drop, map, Option, Some, None, slice_get, refl, sym, ap, subst, ◌∙◌, inl, inr, arith, append_assoc, append-nil}
 use Rattle.std.specs.Prelude.{if◌then◌else◌, ◌==◌, Contains, IsSome}
-use Rattle.std.specs.List.{AllByRecursion, flat_map, list_all}
+use Rattle.std.specs.List.{flat_map, list_all}
 use Rattle.std.proofs.lemmas.Option.{same_Some}
 use Rattle.std.proofs.lemmas.List.{length_push}
 use Rattle.sf_insn.specs.declared.input.Input.{Input}
 use Rattle.sf_insn.specs.Inputs.{IsInput}
 use Rattle.sf_insn.specs.Words.{apply, passes}
-use Rattle.sf_insn.specs.declared.ops.BinOp.{BinOp}
 use Rattle.sf_insn.specs.declared.ops.BinOp.TheVariants.{Div}
 use Rattle.sf_insn.specs.declared.ops.Test.{Test}
 use Rattle.sf_check.specs.declared.insn.Insn.{Insn}
 use Rattle.sf_check.specs.declared.insn.Insn.TheVariants.{Alu, Branch, ReturnA}
 use Rattle.sf_check.specs.declared.insn.Operand.{Operand}
-use Rattle.sf_check.specs.declared.insn.Operand.TheVariants.{Constant, X}
-use Rattle.sf_check.specs.Programs.{IsAt, IsLawful}
+use Rattle.sf_check.specs.declared.insn.Operand.TheVariants.{X}
+use Rattle.sf_check.specs.Programs.{IsAt}
 use Rattle.sf_check.specs.MemberLaws.{contains_here, contains_there}
-use Rattle.sf_run.specs.Machine.{State, Progress, goes, returns, stuck, bits, executed, step, continued, run_for, operand_of, tested, met_by, return_of, trace_of}
-use Rattle.sf_run.specs.RunLaws.{Safe, step_is, ends_from, option_map_some, put}
+use Rattle.sf_run.specs.Machine.{State, Progress, goes, returns, stuck, executed, continued, run_for, operand_of, tested, met_by, return_of, trace_of}
+use Rattle.sf_run.specs.RunLaws.{step_is, ends_from, option_map_some, put}
 use Rattle.sf_sym.specs.declared.pool.Cond.{Cond}
-use Rattle.sf_sym.specs.Pool.{value_of, is_met, same, IsCondBelow}
-use Rattle.sf_dom.specs.Facts.{FactsView, Covers, Agrees}
-use Rattle.sf_piece.specs.declared.machine.Machine.{Machine}
+use Rattle.sf_sym.specs.Pool.{value_of, is_met}
+use Rattle.sf_dom.specs.Facts.{FactsView}
 use Rattle.sf_piece.specs.Machines.{returned}
-use Rattle.sf_piece.specs.Pieces.{PieceData, is_member, is_prefix}
+use Rattle.sf_piece.specs.Pieces.{PieceData, is_member}
 use Rattle.sf_piece.specs.SymbolicRun.{valued, met_of, number_from, IsPending, AreNodesBelow, StandsAt, IsPiece}
-use Rattle.sf_piece.specs.Works.{Standing, IsEntry, AfterEntry, Asks, NextIs, sensed, IsImplied, left}
+use Rattle.sf_piece.specs.Works.{Standing, IsEntry, NextIs, left}
 use Rattle.sf_piece.proofs.Moves.{made, stands_moved, stands_kept, stands_returned}
-use Rattle.sf_piece.proofs.Kept.{at_same, safe_moved, assembled}
-use Rattle.sf_piece.proofs.Prefixes.{prefix_next, prefix-is, same-true, same-refl}
+use Rattle.sf_piece.proofs.Kept.{at_same, safe_moved}
 
 -- ---- what the trace of a member goes on with
 
@@ -185,7 +182,7 @@ div_pending p s none = by s.stands.inside.pending
     by : IsPending s.code p.machine.place p.machine.taken s.pre → s.pre ≡ []
     by (inl q) = q.1
     by (inr (inl q)) = let clash : ReturnA ≡ Alu Div X = at_same s.code p.machine.place ReturnA (Alu Div X) q.0 s.at in absurd cc
-    by (inr (inr q)) = let clash : 0 ≡ 1 = sym none ∙ q.1 in absurd (omega arith)
+    by (inr (inr q)) = absurd (omega (arith, q.1))
 
 pub zero_turned : (p : PieceData) (cond : Cond) (cs : List Cond) (fs : FactsView) → AreNodesBelow (length p.pool) (returned p.machine 0) → IsPiece p → (s : Standing p (Alu Div X)) → IsEntry p (Alu Div X) cond → Narrows p cs cond true
     → Turned p (made p (p.name ++ true ∷ []) cs (returned p.machine 0) fs)

@@ -1,37 +1,22 @@
--- Pieces whose pools have grown, the instruction at hand, and the first piece.
-use Rattle.std.proofs.Common.{◌≡◌, ℕ, zero, suc, ◌+◌, ◌-◌, ◌<◌, ◌≤◌, ◌^◌, Bool, true, false, List, [], ◌∷◌, ◌++◌, length, take, drop, map, reverse, get_or, Option, Some, None, slice_get, refl, sym, ap, subst, ◌∙◌, ◌⊎◌, inl, inr, arith, append_assoc, append-nil, length-append}
-use Rattle.std.specs.Prelude.{option_map, replicate}
-use Rattle.std.specs.List.{AllByRecursion, list_all, flat_map}
-use Rattle.std.proofs.lemmas.Option.{same_Some, slice_get-get_or}
-use Rattle.std.proofs.lemmas.List.{get_or-reverse, length-reverse}
+-- Pieces whose pools have grown.
+use Rattle.std.proofs.Common.{◌≡◌, ℕ, ◌<◌, ◌≤◌, Bool, true, false, List, [], ◌∷◌, ◌++◌, length, refl, sym, subst, ◌∙◌, arith, length-append}
+use Rattle.std.specs.List.{AllByRecursion}
 use Rattle.sf_insn.specs.declared.input.Input.{Input}
-use Rattle.sf_insn.specs.Inputs.{IsInput}
 use Rattle.sf_check.specs.declared.insn.Insn.{Insn}
-use Rattle.sf_check.specs.declared.insn.Insn.TheVariants.{Negate}
-use Rattle.sf_check.specs.Insns.{loaded_by}
-use Rattle.sf_check.specs.Programs.{IsAt, IsLawful}
-use Rattle.sf_check.specs.Stacks.{IsLawfulStack}
-use Rattle.sf_run.specs.declared.action.Action.TheVariants.{Allow}
-use Rattle.sf_run.specs.declared.action.Answer.{Answer}
-use Rattle.sf_run.specs.Machine.{State, start, met_by, return_of, trace_of, returns_of, step}
-use Rattle.sf_run.specs.Answers.{IsAnswer}
-use Rattle.sf_run.specs.AnswerLaws.{answer_none}
-use Rattle.sf_run.specs.Routes.{IsWholeRoute}
-use Rattle.sf_run.specs.RunLaws.{Safe, safe_start, load_is_set}
-use Rattle.sf_run.specs.TraceLaws.{newest_first}
+use Rattle.sf_run.specs.Machine.{State}
+use Rattle.sf_run.specs.RunLaws.{Safe}
 use Rattle.sf_sym.specs.declared.pool.Node.{Node}
 use Rattle.sf_sym.specs.declared.pool.NodeId.{NodeId}
 use Rattle.sf_sym.specs.declared.pool.Cond.{Cond}
 use Rattle.sf_sym.specs.declared.pool.Node.TheVariants.{Const}
-use Rattle.sf_sym.specs.Pool.{node_at, IsPool, Extends, value_of, values_of, node_value, is_met, IsCondBelow}
+use Rattle.sf_sym.specs.Pool.{node_at, IsPool, value_of, values_of, node_value, IsCondBelow}
 use Rattle.sf_sym.specs.ValueLaws.{value-older}
-use Rattle.sf_dom.specs.Facts.{FactsView, Covers, Agrees, TakesIn, NoneAgrees}
+use Rattle.sf_dom.specs.Facts.{FactsView, Covers, TakesIn, NoneAgrees}
 use Rattle.sf_piece.specs.declared.machine.Machine.{Machine}
-use Rattle.sf_piece.specs.Pieces.{PieceData, is_member, is_prefix, HasNoMember, IsRightAnswer, IsRoot}
-use Rattle.sf_piece.specs.SymbolicRun.{valued, met_of, IsPending, IsIn, InProgram, HasTaken, RunsOn, Follows, AreNodesBelow, StandsAt, IsPiece}
-use Rattle.sf_piece.specs.Works.{Standing, HasGrown, IsPushed}
-use Rattle.sf_piece.proofs.Valued.{valued_grown, all_grown, below_grown}
-use Rattle.sf_piece.proofs.Children.{piece_named}
+use Rattle.sf_piece.specs.Pieces.{PieceData, is_member, HasNoMember}
+use Rattle.sf_piece.specs.SymbolicRun.{valued, InProgram, HasTaken, RunsOn, AreNodesBelow, StandsAt, IsPiece}
+use Rattle.sf_piece.specs.Works.{HasGrown, IsPushed}
+use Rattle.sf_piece.proofs.Valued.{valued_grown, all_grown}
 
 -- ---- a grown pool
 

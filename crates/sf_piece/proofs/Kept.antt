@@ -1,5 +1,5 @@
 -- Pieces that go on by an instruction.
-use Rattle.std.proofs.Common.{◌≡◌, ℕ, zero, suc, ◌+◌, ◌-◌, ◌*◌, ◌/◌, ◌%◌, ◌^◌, ◌<◌, ◌≤◌, Bool, true, false, List, [], ◌∷◌, ◌++◌, length, take, drop, map, reverse, Option, Some, None, slice_get, refl, sym, ap, subst, ◌∙◌, ◌⊎◌, inl, inr, arith, append_assoc, append-nil}
+use Rattle.std.proofs.Common.{◌≡◌, ℕ, zero, suc, ◌+◌, ◌*◌, ◌/◌, ◌%◌, ◌^◌, ◌<◌, ◌≤◌, Bool, true, false, List, [], ◌∷◌, ◌++◌, length, take, Option, Some, None, slice_get, refl, sym, ap, subst, ◌∙◌, inl, inr, arith, append-nil}
 use Rattle.std.specs.Prelude.{if◌then◌else◌, ◌==◌, Contains}
 use Rattle.std.specs.List.{AllByRecursion}
 use Rattle.std.proofs.lemmas.Option.{same_Some}
@@ -27,7 +27,7 @@ use Rattle.sf_piece.specs.declared.machine.Machine.{Machine}
 use Rattle.sf_piece.specs.Machines.{returned}
 use Rattle.sf_piece.specs.Pieces.{PieceData, is_member, is_prefix}
 use Rattle.sf_piece.specs.SymbolicRun.{valued, met_of, number_from, IsPending, AreNodesBelow, StandsAt, IsPiece}
-use Rattle.sf_piece.specs.Works.{Standing, Goes, GoesBy, ReturnsNow, HasGone, IsOn, left}
+use Rattle.sf_piece.specs.Works.{Standing, Goes, GoesBy, ReturnsNow, HasGone, IsOn}
 use Rattle.sf_piece.proofs.Moves.{made, stands_moved, stands_returned}
 
 pub at_same : (code : List Insn) (place : ℕ) (i j : Insn) → IsAt code place i → IsAt code place j → i ≡ j
@@ -144,7 +144,7 @@ go_stands p i m h s g (inr (is, taken, to)) =
     )
   where
     pending : IsPending s.code p.machine.place p.machine.taken s.pre → IsAt s.code p.machine.place (Alu Div X) → p.machine.taken ≡ 1 → s.pre ≡ false ∷ []
-    pending (inl q) at one = let clash : 0 ≡ 1 = sym q.0 ∙ one in absurd (omega arith)
+    pending (inl q) at one = absurd (omega (arith, q.0))
     pending (inr (inl q)) at one = let clash : ReturnA ≡ Alu Div X = at_same s.code p.machine.place ReturnA (Alu Div X) q.0 at in absurd cc
     pending (inr (inr q)) at one = q.2
 
@@ -216,7 +216,7 @@ return_stands p i v h s (inr (is, full, same)) =
     )
   where
     pending : IsPending s.code p.machine.place p.machine.taken s.pre → IsAt s.code p.machine.place ReturnA → p.machine.taken ≡ 32 → length s.pre ≡ 32
-    pending (inl q) at full = let clash : 0 ≡ 32 = sym q.0 ∙ full in absurd (omega arith)
+    pending (inl q) at full = absurd (omega (arith, q.0))
     pending (inr (inl q)) at full = q.2 ∙ full
     pending (inr (inr q)) at full = let clash : Alu Div X ≡ ReturnA = at_same s.code p.machine.place (Alu Div X) ReturnA q.0 at in absurd cc
 

@@ -1,20 +1,16 @@
 -- Where a piece's run stands after a step.
-use Rattle.std.proofs.Common.{◌≡◌, ℕ, zero, suc, ◌+◌, ◌-◌, ◌*◌, ◌<◌, ◌≤◌, Bool, true, false, List, [], ◌∷◌, ◌++◌, length, take, drop, map, reverse, Option, Some, None, slice_get, refl, sym, ap, subst, ◌∙◌, ◌⊎◌, inl, inr, arith, append_assoc, append-nil}
-use Rattle.std.specs.Prelude.{option_map, replicate, if◌then◌else◌, ◌==◌, IsSome}
-use Rattle.std.specs.List.{flat_map, AllByRecursion, list_all}
-use Rattle.std.proofs.lemmas.Option.{same_Some}
+use Rattle.std.proofs.Common.{◌≡◌, ℕ, zero, suc, ◌+◌, Bool, true, List, [], ◌∷◌, ◌++◌, length, take, drop, map, reverse, Some, None, refl, sym, ap, subst, ◌∙◌, inl, arith, append_assoc, append-nil}
+use Rattle.std.specs.Prelude.{IsSome}
+use Rattle.std.specs.List.{flat_map, AllByRecursion}
 use Rattle.sf_insn.specs.declared.input.Input.{Input}
 use Rattle.sf_insn.specs.Inputs.{IsInput}
-use Rattle.sf_insn.specs.declared.ops.BinOp.TheVariants.{Div}
 use Rattle.sf_check.specs.declared.insn.Insn.{Insn}
-use Rattle.sf_check.specs.declared.insn.Insn.TheVariants.{Alu, Branch, ReturnConstant, ReturnA}
-use Rattle.sf_check.specs.declared.insn.Operand.TheVariants.{X}
 use Rattle.sf_check.specs.Programs.{IsAt, IsLawful}
 use Rattle.sf_run.specs.declared.action.Answer.{Answer}
-use Rattle.sf_run.specs.Machine.{State, Progress, goes, returns, stuck, start, executed, step, Outcome, run_for, outcome_of, met_by, return_of, trace_of, returns_of}
-use Rattle.sf_run.specs.Answers.{IsAnswer, folded}
+use Rattle.sf_run.specs.Machine.{State, goes, returns, start, executed, step, Outcome, run_for, outcome_of, met_by, return_of}
+use Rattle.sf_run.specs.Answers.{IsAnswer}
 use Rattle.sf_run.specs.AnswerLaws.{answer_more}
-use Rattle.sf_run.specs.Routes.{MayMeet, IsWay, returns_at, goes_on, AreWays, IsWholeRoute}
+use Rattle.sf_run.specs.Routes.{MayMeet, returns_at, goes_on, AreWays, IsWholeRoute}
 use Rattle.sf_run.specs.RunLaws.{Safe, safe_start, run_more, run_ends, run_same, lawful_ends}
 use Rattle.sf_sym.specs.declared.pool.Cond.{Cond}
 use Rattle.sf_sym.specs.Pool.{value_of}
@@ -22,7 +18,7 @@ use Rattle.sf_dom.specs.Facts.{FactsView}
 use Rattle.sf_piece.specs.declared.machine.Machine.{Machine}
 use Rattle.sf_piece.specs.Machines.{returned}
 use Rattle.sf_piece.specs.Pieces.{PieceData, is_member}
-use Rattle.sf_piece.specs.SymbolicRun.{valued, met_of, number_from, IsPending, IsIn, InProgram, RouteFrom, RunsOn, HasTaken, Follows, StandsAt}
+use Rattle.sf_piece.specs.SymbolicRun.{valued, met_of, number_from, IsPending, InProgram, RouteFrom, RunsOn, HasTaken, StandsAt}
 
 -- a piece of the same stack and pool
 abbrev pub made : PieceData → List Bool → List Cond → Machine → FactsView → PieceData

@@ -1,7 +1,7 @@
 -- The instruction at hand, the end, and the first piece.
-use Rattle.std.proofs.Common.{◌≡◌, ℕ, zero, suc, ◌+◌, ◌-◌, ◌*◌, ◌<◌, ◌≤◌, ◌^◌, Bool, true, false, List, [], ◌∷◌, ◌++◌, length, take, drop, map, reverse, get_or, Option, Some, None, slice_get, refl, sym, ap, subst, ◌∙◌, ◌⊎◌, inl, inr, arith, append_assoc, append-nil, length-append, length-drop}
+use Rattle.std.proofs.Common.{◌≡◌, ℕ, zero, suc, ◌+◌, ◌-◌, ◌*◌, ◌<◌, ◌≤◌, ◌^◌, Bool, true, false, List, [], ◌∷◌, ◌++◌, length, drop, map, reverse, get_or, Option, Some, None, slice_get, refl, sym, ap, subst, ◌∙◌, inl, inr, arith, append-nil, length-drop}
 use Rattle.std.specs.Prelude.{option_map, replicate, if◌then◌else◌}
-use Rattle.std.specs.List.{AllByRecursion, list_all, flat_map}
+use Rattle.std.specs.List.{AllByRecursion}
 use Rattle.std.proofs.lemmas.List.{get_or-reverse, length-reverse}
 use Rattle.std.proofs.lemmas.Option.{same_Some}
 use Rattle.std.proofs.Math.Nat.{pow-le-pow_right}
@@ -9,12 +9,10 @@ use Rattle.std.proofs.lemmas.List.{get_or_default}
 use Rattle.sf_insn.specs.declared.input.Input.{Input}
 use Rattle.sf_insn.specs.Inputs.{IsInput}
 use Rattle.sf_check.specs.declared.insn.Insn.{Insn}
-use Rattle.sf_check.specs.Insns.{loaded_by}
 use Rattle.sf_check.specs.Programs.{IsAt, IsLawful}
 use Rattle.sf_check.specs.Stacks.{IsLawfulStack}
 use Rattle.sf_run.specs.declared.action.Action.TheVariants.{Allow}
-use Rattle.sf_run.specs.declared.action.Answer.{Answer}
-use Rattle.sf_run.specs.Machine.{State, start, met_by, return_of, trace_of, returns_of, step}
+use Rattle.sf_run.specs.Machine.{start}
 use Rattle.sf_run.specs.Answers.{IsAnswer}
 use Rattle.sf_run.specs.AnswerLaws.{answer_none}
 use Rattle.sf_run.specs.Routes.{IsWholeRoute, AreWays}
@@ -25,12 +23,11 @@ use Rattle.sf_sym.specs.declared.pool.NodeId.{NodeId}
 use Rattle.sf_sym.specs.Pool.{IsPool, value_of}
 use Rattle.sf_dom.specs.Facts.{FactsView, Covers, Agrees}
 use Rattle.sf_piece.specs.declared.machine.Machine.{Machine}
-use Rattle.sf_piece.specs.Pieces.{PieceData, is_member, is_prefix, IsRightAnswer, IsRoot}
-use Rattle.sf_piece.specs.SymbolicRun.{valued, met_of, number_from, IsPending, InProgram, HasTaken, RouteFrom, RunsOn, Follows, AreNodesBelow, StandsAt, IsPiece, IsLawfulPiece}
+use Rattle.sf_piece.specs.Pieces.{PieceData, is_member, IsRightAnswer, IsRoot}
+use Rattle.sf_piece.specs.SymbolicRun.{valued, number_from, IsPending, InProgram, HasTaken, RouteFrom, StandsAt, IsPiece, IsLawfulPiece}
 use Rattle.sf_piece.specs.Works.{Standing}
 use Rattle.sf_piece.proofs.Moves.{runs_whole}
 use Rattle.sf_piece.proofs.Kept.{some_input}
-use Rattle.sf_piece.proofs.Children.{piece_named}
 
 drop_first : (n : ℕ) (xs : List (List Insn)) (x : List Insn) (ys : List (List Insn)) → drop n xs ≡ x ∷ ys → x ≡ get_or xs n []
 drop_first zero [] x ys e = absurd cc

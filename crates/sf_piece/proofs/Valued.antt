@@ -1,5 +1,5 @@
 -- A machine's concrete states while its pool grows.
-use Rattle.std.proofs.Common.{◌≡◌, ℕ, zero, suc, ◌<◌, ◌&&◌, Bool, List, [], ◌∷◌, ◌++◌, length, map, Option, Some, None, refl, sym, ap, subst, ◌∙◌, arith}
+use Rattle.std.proofs.Common.{◌≡◌, ℕ, zero, suc, ◌<◌, ◌&&◌, Bool, List, [], ◌∷◌, ◌++◌, length, map, Option, Some, None, refl, ap, subst, ◌∙◌, arith}
 use Rattle.std.specs.Prelude.{option_map, slice_get}
 use Rattle.std.proofs.lemmas.Option.{same_Some}
 use Rattle.std.specs.List.{list_all, AllByRecursion}
@@ -12,7 +12,6 @@ use Rattle.sf_sym.specs.Pool.{value_of, is_met, same, IsCondBelow}
 use Rattle.sf_sym.specs.ValueLaws.{value-older}
 use Rattle.sf_insn.specs.Words.{passes}
 use Rattle.sf_piece.specs.declared.machine.Machine.{Machine}
-use Rattle.sf_piece.specs.Pieces.{PieceData, is_member}
 use Rattle.sf_piece.specs.SymbolicRun.{valued, AreNodesBelow}
 
 pub scratch_same : (ws : List (Option NodeId)) (f g : NodeId → ℕ) → ((k : ℕ) (w : NodeId) → slice_get ws k ≡ Some (Some w) → f w ≡ g w) → map (option_map f) ws ≡ map (option_map g) ws

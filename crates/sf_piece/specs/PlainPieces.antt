@@ -11,8 +11,8 @@ use Rattle.sf_dom.specs.Facts.{Agrees}
 use Rattle.sf_dom.specs.Facts.{IsPlain as IsPlainCond}
 use Rattle.sf_piece.specs.Pieces.{PieceData, StepData, Split, Settled, Empty, WorkData, is_member, IsRightWork}
 
--- Each condition sets a word or a constant against a constant by a plain test, the facts are exact (an input that
--- agrees with them is a member), and some input is a member.
+-- The pool has words of the input and constants alone; each path condition sets one of these against a constant by a plain
+-- test; the facts are exact (an input that agrees with them is a member); and some input is a member.
 pub record IsPlainPiece (p : PieceData) : Type 0 where
   pub nodes : ArePlainNodes p.pool
   pub conditions : All (IsPlainCond p.pool) p.conditions

@@ -2,7 +2,7 @@
 -- Pieces; this is what proves it. A machine's symbolic state means a concrete one on each input (`valued`), and for every
 -- member the concrete run of the stack, along the piece's name, comes to just that state: whatever the rest of the run
 -- meets and returns from there, the trace is the name so far and then that (`Follows`, `StandsAt`).
-use Rattle.std.specs.Prelude.{◌≡◌, ℕ, zero, ◌+◌, ◌-◌, ◌*◌, ◌<◌, ◌≤◌, ◌⊎◌, Bool, true, false, List, [], ◌∷◌, ◌++◌, length, take, drop, reverse, map, Some, option_map, slice_get, if◌then◌else◌}
+use Rattle.std.specs.Prelude.{◌≡◌, ℕ, ◌+◌, ◌*◌, ◌<◌, ◌≤◌, ◌⊎◌, Bool, true, false, List, [], ◌∷◌, ◌++◌, length, take, drop, reverse, map, Some, option_map, slice_get, if◌then◌else◌}
 use Rattle.std.specs.List.{flat_map, AllByRecursion}
 use Rattle.sf_insn.specs.declared.input.Input.{Input}
 use Rattle.sf_insn.specs.Inputs.{IsInput}
@@ -21,7 +21,6 @@ use Rattle.sf_sym.specs.declared.pool.NodeId.{NodeId}
 use Rattle.sf_sym.specs.Pool.{IsPool, value_of, IsCondBelow}
 use Rattle.sf_dom.specs.Facts.{Covers, Agrees}
 use Rattle.sf_piece.specs.declared.machine.Machine.{Machine}
-use Rattle.sf_piece.specs.Machines.{returned}
 use Rattle.sf_piece.specs.PlainPieces.{IsPlainPiece}
 use Rattle.sf_piece.specs.Pieces.{PieceData, is_member, is_prefix, IsTrulyNamed}
 

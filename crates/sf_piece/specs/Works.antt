@@ -1,6 +1,6 @@
 -- The parts of a step of the symbolic run: what the functions that work a piece tell each other. Nothing above this crate
 -- speaks of these.
-use Rattle.std.specs.Prelude.{◌≡◌, ℕ, zero, ◌+◌, ◌-◌, ◌*◌, ◌&&◌, ◌<◌, ◌≤◌, ◌^◌, ◌⊎◌, Bool, true, false, List, [], ◌∷◌, ◌++◌, length, Some, slice_get, if◌then◌else◌, ◌==◌}
+use Rattle.std.specs.Prelude.{◌≡◌, ℕ, ◌+◌, ◌-◌, ◌*◌, ◌&&◌, ◌<◌, ◌≤◌, ◌^◌, ◌⊎◌, Bool, true, false, List, [], ◌∷◌, ◌++◌, length, Some, slice_get, if◌then◌else◌, ◌==◌}
 use Rattle.sf_insn.specs.declared.input.Input.{Input}
 use Rattle.sf_insn.specs.Inputs.{IsInput}
 use Rattle.sf_insn.specs.declared.ops.BinOp.{BinOp}
@@ -12,7 +12,7 @@ use Rattle.sf_check.specs.Insns.{IsInRange, loaded_by}
 use Rattle.sf_check.specs.declared.insn.Operand.TheVariants.{Constant, X}
 use Rattle.sf_check.specs.Programs.{IsAt}
 use Rattle.sf_check.specs.Stacks.{IsLawfulStack, IsPlain}
-use Rattle.sf_run.specs.Machine.{Progress, goes, returns, operand_of, with_a, with_x, executed, step}
+use Rattle.sf_run.specs.Machine.{Progress, goes, operand_of, with_a, with_x, executed}
 use Rattle.sf_sym.specs.declared.pool.Node.{Node}
 use Rattle.sf_sym.specs.declared.pool.NodeId.{NodeId}
 use Rattle.sf_sym.specs.declared.pool.Node.TheVariants.{Const}
