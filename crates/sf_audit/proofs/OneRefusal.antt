@@ -1,6 +1,7 @@
 -- Files have at most one first refusal.
 use Rattle.std.proofs.Common.{◌≡◌, ◌≢◌, ◌⊎◌, inl, inr, ℕ, ◌+◌, ◌*◌, ◌%◌, ◌<◌, ◌≤◌, List, [], ◌∷◌, length, take, zero, suc, Some, slice_get, refl, ap, sym, ◌∙◌, arith}
-use Rattle.std.proofs.lemmas.Option.{same_Some, slice_get_within}
+use Rattle.std.proofs.lemmas.Bool.{cases_lt}
+use Rattle.std.proofs.lemmas.Option.{same_Some}
 use Rattle.sf_insn.specs.declared.raw.RawInsn.{RawInsn}
 use Rattle.sf_check.specs.declared.insn.Insn.{Insn}
 use Rattle.sf_check.specs.declared.fault.Fault.{Fault as CheckFault}
@@ -92,7 +93,7 @@ same_file spelling one none files e f r s =
         | inl gt ↦ absurd (not_before spelling none files f e s r gt)
         | inr le ↦
             let here : r.place ≡ s.place = omega arith in
-            let file : r.file ≡ s.file = same_Some (sym r.at ∙ ap (λ n. slice_get files n) here ∙ s.at) in
+            let file : r.file ≡ s.file = same_Some r.file s.file (sym r.at ∙ ap (λ n. slice_get files n) here ∙ s.at) in
             let refused : IsRefusalOf (s.place + 1) s.file e = rw (here, file) at r.refused in
             same_kind spelling one (s.place + 1) s.file e f (kind_of _ _ e refused) (kind_of _ _ f s.refused)
       ]

@@ -1,7 +1,7 @@
 -- Files that are refused spell no lawful stack.
-use Rattle.std.proofs.Common.{◌≡◌, ◌≢◌, ℕ, ◌+◌, ◌*◌, ◌%◌, ◌<◌, ◌≤◌, List, [], ◌∷◌, ◌++◌, length, map, Ok, Some, slice_get, zero, suc, refl, ap, sym, ◌∙◌, arith, length-append}
+use Rattle.std.proofs.Common.{◌≡◌, ◌≢◌, ℕ, ◌+◌, ◌*◌, ◌%◌, ◌<◌, ◌≤◌, List, [], ◌∷◌, ◌++◌, length, map, Ok, Some, slice_get, zero, suc, refl, ap, sym, subst, ◌∙◌, arith, length-append}
 use Rattle.std.proofs.lemmas.List.{length-map}
-use Rattle.std.proofs.lemmas.Option.{slice_get_within}
+use Rattle.std.proofs.lemmas.Option.{same_Some}
 use Rattle.sf_insn.specs.declared.raw.RawInsn.{RawInsn}
 use Rattle.sf_insn.specs.Spelling.{insn_bytes, spelling, AreInsns}
 use Rattle.sf_check.specs.declared.insn.Insn.{Insn}
@@ -87,7 +87,7 @@ pub program_at : (files : List (List ℕ)) (programs : List (List Insn)) (place 
     → (program : List Insn) × SpellsProgram file program
 program_at [] programs place file at p = absurd cc
 program_at (f ∷ files) [] place file at p = absurd p
-program_at (f ∷ files) (g ∷ programs) zero file at p = (g, ?)
+program_at (f ∷ files) (g ∷ programs) zero file at p = (g, subst (λ (x : List ℕ). SpellsProgram x g) (same_Some f file at) p.0)
 program_at (f ∷ files) (g ∷ programs) (suc place) file at p = program_at files programs place file at p.1
 
 pub file_no_stack : OneSpelling → FaultsAreNot → (files : List (List ℕ)) (e : Fault) (programs : List (List Insn)) → IsFileRefusal files e → SpellPrograms files programs → ⊥

@@ -13,9 +13,9 @@ use Rattle.sf_audit.specs.Outcomes.{Found}
 
 -- An exploration of the stack came to its end, with nothing outstanding or all of the budget spent; the questions are
 -- those that were asked, and each has a right reply.
-pub record IsFoundOn (stack : List (List Insn)) (budget : ℕ) (questions : List Asked) (o : Found) : Type 0 where
+pub record IsFoundOn (stack : List (List Insn)) (budget : ℕ) (asked : List Asked) (o : Found) : Type 0 where
   pub end : IsEndOf stack budget o.settled
-  pub questions : o.questions ≡ questions
+  pub questions : o.questions ≡ asked
   pub replies : AreRightReplies o.settled o.questions o.replies
 
 -- it was found on the stack that the files spell

@@ -102,7 +102,13 @@ fn policy_of_table(alloc: Global, table: &Table) -> Result<Vec<Question>, Fault>
     }
 }
 
-/// The questions of a policy file.
+/// The questions of a policy file, which is TOML of version 1 or 2. A question names ranges of words and, in version 2,
+/// bits of them; a word that it doesn't name may have any number. Without actions it asks about ALLOW and LOG.
+///
+/// Refusals, tried in this order: `Syntax` where the text is no TOML; `Version`; `TopKey` where a key at the top is
+/// unknown or the questions are no array of tables; `Count` where there are none or more than 256; then, question after
+/// question, `Key`, `Name`, `Range`, `Mask` and `Actions`, with the number of the question from 1. `Memory` can come
+/// anywhere.
 pub fn read_policy(alloc: Global, text: &str) -> Result<Vec<Question>, Fault>
     // Where the text is TOML, the questions or the refusal are those of its tree.
     ensures read { (tree : Members) → parse_document text.now ≡ Some tree → Gives (λ v. v.items) result (policy_of tree) }

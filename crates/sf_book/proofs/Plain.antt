@@ -1,5 +1,5 @@
 -- What the type of books keeps, through its calls.
-use Rattle.std.proofs.Common.{◌≡◌, ℕ, ◌+◌, ◌<◌, List, ◌∷◌, ◌++◌, [], map, refl}
+use Rattle.std.proofs.Common.{◌≡◌, ℕ, ◌+◌, ◌<◌, List, ◌∷◌, ◌++◌, [], map}
 use Rattle.sf_check.specs.declared.insn.Insn.{Insn}
 use Rattle.sf_check.specs.Stacks.{IsLawfulStack}
 use Rattle.sf_check.specs.Stacks.{IsPlain}
@@ -7,9 +7,9 @@ use Rattle.sf_run.specs.declared.action.Answer.{Answer}
 use Rattle.sf_piece.specs.Pieces.{PieceData, WorkData, StepData, Split, Settled, Empty, IsRightStep, IsRightWork, IsRoot}
 use Rattle.sf_piece.specs.PlainPieces.{IsPlainPiece, IsPlainWork}
 use Rattle.std.proofs.Common.{subst, sym}
-use Rattle.sf_book.specs.Books.{EntryData, RegionData, BookData, fresh}
+use Rattle.sf_book.specs.Books.{EntryData, BookData, fresh}
 use Rattle.sf_book.specs.Changes.{without, MayCommit}
-use Rattle.sf_book.specs.PlainBooks.{IsPlainBook, IsBook}
+use Rattle.sf_book.specs.PlainBooks.{IsBook}
 use Rattle.sf_book.specs.PlainLaws.{plain_fresh, plain_marks, split_plain, answer_plain, empty_plain}
 use Rattle.sf_book.proofs.Lawful.{entry, after_split, after_answer, after_empty}
 use Rattle.sf_book.proofs.Kept.{kept_fresh, kept_marks, split_kept, answer_kept, empty_kept}

@@ -1,4 +1,4 @@
--- What contracts see of a book, and when it is lawful.
+-- What contracts see of a book, and when it is lawful: a partition of all inputs among outstanding pieces and regions.
 use Rattle.std.specs.Prelude.{◌≡◌, ℕ, ◌+◌, ◌*◌, ◌<◌, ◌≤◌, Bool, true, false, List, [], ◌∷◌, length, All, count_by}
 use Rattle.std.specs.List.{AllByRecursion}
 use Rattle.std.specs.List.Sorted.{IsSortedByKey}
@@ -27,6 +27,7 @@ pub record RegionData : Type 0 where
   pub name : List Bool
   pub answer : Answer
 
+-- what contracts see of a book, and of an ended exploration
 pub record BookData : Type 0 where
   pub stack : List (List Insn)
   -- in the order of their ids
@@ -78,6 +79,7 @@ pub record IsLawful (b : BookData) : Type 0 where
   pub emptied : All (IsNoBeginning b.stack) b.emptied
   -- no two names have a common continuation, so none is a beginning of another
   pub apart : (t : List Bool) → names_before b.outstanding b.regions b.emptied t ≤ 1
+  -- a split puts two pieces in the place of one, and each other work one region or one emptied name
   pub pieces : length b.outstanding + length b.regions + length b.emptied ≡ 1 + b.splits
   pub committed : b.commits ≡ b.splits + length b.regions + length b.emptied
   pub within : b.commits ≤ b.budget
@@ -109,7 +111,7 @@ counts_of b = record { left = length b.outstanding; settled = length b.regions; 
 abbrev pub IsInNameOrder : List RegionData → Type 0
 IsInNameOrder rs = IsSortedByKey (λ r. r.name) (slice_cmp bool_cmp) rs
 
--- what an ended audit keeps
+-- how an exploration ends: a lawful book, with its regions in name order
 pub record IsSettled (b : BookData) : Type 0 where
   pub lawful : IsLawful b
   pub order : IsInNameOrder b.regions

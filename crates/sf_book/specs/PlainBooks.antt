@@ -1,5 +1,5 @@
 -- What books of plain stacks keep besides: each piece is a plain one, and has a member, and none was emptied.
-use Rattle.std.specs.Prelude.{◌≡◌, ℕ, List, [], All}
+use Rattle.std.specs.Prelude.{◌≡◌, ℕ, [], All}
 use Rattle.sf_check.specs.Stacks.{IsPlain}
 use Rattle.sf_piece.specs.PlainPieces.{IsPlainPiece}
 use Rattle.sf_book.specs.Books.{EntryData, RegionData, BookData, IsKept, IsSettled}

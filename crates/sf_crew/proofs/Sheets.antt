@@ -84,7 +84,7 @@ covers k v s ds ns f right notes marks =
           (verdict_cases s.settled s.questions s.job q (verdict_at s.verdicts q) (right.right q (omega arith))));
       doubts = λ q one. ⊎_elim (λ (x : has q [] ≡ 1). absurd (cc))
           (λ (x : IsDoubt s.verdicts q). let there = doubt_below s.verdicts q x in
-          subst (λ (y : Subject). IsRightEntry y.0 y.1 s.job q (Some Doubt)) (λ i. (f.regions i, f.questions i)) (doubt_right s.settled s.questions s.job q (verdict_at s.verdicts q) (right.right q (omega arith)) x))
+              subst (λ (y : Subject). IsRightEntry y.0 y.1 s.job q (Some Doubt)) (λ i. (f.regions i, f.questions i)) (doubt_right s.settled s.questions s.job q (verdict_at s.verdicts q) (right.right q (omega arith)) x))
           (marks.only q one);
     }
 

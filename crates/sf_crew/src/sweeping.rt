@@ -163,24 +163,10 @@ pub(crate) fn tally<R: Threads + Sync, G: Gate>(
     };
     let shared = &board;
     let parts = numbered(alloc, seats)?;
-    let worked = thread::map_vec(
-        rt,
-        parts,
-        &|part: Part| -> (Seat, bool)
-            requires { IsNewSeat shared.now part.seat × (regions_of (about shared.now) ≡ settled.now) × (asked (about shared.now) ≡ questions.now) }
-            ensures { IsWorked shared.entry.now result }
-        {
-            work(
-                alloc,
-                shared,
-                part.seat,
-                settled,
-                questions,
-                gate,
-                part.number,
-            )
-        },
-    )?;
+    let worked = thread::map_vec(rt, parts, &|part: Part| -> (Seat, bool)
+        requires { IsNewSeat shared.now part.seat × (regions_of (about shared.now) ≡ settled.now) × (asked (about shared.now) ≡ questions.now) }
+        ensures { IsWorked shared.entry.now result }
+    { work(alloc, shared, part.seat, settled, questions, gate, part.number) })?;
     let (mine, done) = work(alloc, shared, mine, settled, questions, gate, workers);
     if !done {
         return Err(Fault::Memory);

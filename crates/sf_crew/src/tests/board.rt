@@ -55,7 +55,8 @@ fn worked(
     mut second: Seat,
     settled: &Settled,
     questions: &[Question],
-) -> Option<Seat> {
+) -> Option<Seat>
+{
     if board.draw(&mut first) != Some(0) || board.draw(&mut second) != Some(1) {
         return None;
     }

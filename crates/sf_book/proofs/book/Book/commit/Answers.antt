@@ -1,4 +1,3 @@
-use Rattle.std.proofs.Common.{rules, ◌≡◌}
 use Rattle.sf_book.proofs.Kept.{memory_refuses}
 use Rattle.sf_book.proofs.book.Book.commit.Goals as goal
 

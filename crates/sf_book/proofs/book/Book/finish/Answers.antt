@@ -1,4 +1,3 @@
-use Rattle.std.proofs.Common.{rules, ◌≡◌}
 use Rattle.sf_book.specs.PlainLaws.{plain_permuted}
 use Rattle.sf_book.proofs.Lawful.{permuted_lawful}
 use Rattle.sf_book.proofs.book.Book.finish.Goals as goal

@@ -1,4 +1,3 @@
-use Rattle.std.proofs.Common.{rules, ◌≡◌}
 use Rattle.sf_book.proofs.Plain.{fresh_book}
 use Rattle.sf_book.proofs.book.Book.open.Goals as goal
 

@@ -1,4 +1,4 @@
-use Rattle.std.proofs.Common.{rules, ◌≡◌, ◌<◌, ◌≤◌, ap, sym, ◌∙◌, arith, refl}
+use Rattle.std.proofs.Common.{◌≡◌, ap, sym, ◌∙◌, arith}
 use Rattle.sf_piece.specs.Pieces.{Split, Settled, Empty}
 use Rattle.sf_piece.specs.Steps.{step_data}
 use Rattle.sf_book.proofs.Kept.{low_id, child_names}

@@ -1,4 +1,3 @@
-use Rattle.std.proofs.Common.{rules, ◌≡◌}
 use Rattle.sf_book.specs.PlainLaws.{region_plain}
 use Rattle.sf_book.proofs.settled.Settled.region.Goals as goal
 

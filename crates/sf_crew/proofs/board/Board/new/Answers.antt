@@ -1,4 +1,5 @@
 use Rattle.std.proofs.Common.{length, sym, ap, ◌∙◌}
+
 use Rattle.sf_crew.proofs.Openings.{opens_at}
 use Rattle.sf_crew.proofs.board.Board.new.Goals as goal
 
