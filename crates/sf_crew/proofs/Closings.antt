@@ -68,7 +68,7 @@ close_right k s id v t few h at unmarked doubts entered least =
       cleared = cleared_all k t s.words v.notes v.entries mine.noted least
           (λ q lt. let a = bit q lt in let b = top_at (doubt_at q) s.views id v at in omega arith) mine.covered;
       doubts = doubts_right k v.notes v.entries mine.covered;
-  counted = (let a = total_at (λ u. length u.entries) s.views id v at in let b = kept.entered_is in omega arith);
+      counted = (let a = total_at (λ u. length u.entries) s.views id v at in let b = kept.entered_is in omega arith);
       complete = λ full x.
           (let a = total_at (λ u. length (jobs u)) s.views id v at in let b = kept.drawn_count in
           let whole : total (λ u. length (jobs u)) s.views ≡ length (jobs v) = omega arith in

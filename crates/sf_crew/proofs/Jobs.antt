@@ -1,11 +1,14 @@
 -- The jobs of one view among all.
-use Rattle.std.proofs.Common.{◌≡◌, ℕ, ◌≤◌, min, List, ◌++◌, map, length, Option, sym, refl, ◌∙◌, subst, arith}
+use Rattle.std.proofs.Common.{◌≡◌, ℕ, ◌≤◌, min, List, ◌++◌, map, length, Some, Option, sym, refl, ap, ◌+◌, ◌∙◌, subst, arith}
 use mathlib.Core.Option.{some}
 use lib.ListN.{get_elem?}
 use Rattle.sf_crew.specs.declared.view.Matter.{Matter}
 use Rattle.sf_crew.specs.declared.view.View.{View}
 use Rattle.sf_crew.specs.declared.view.Entry.{Entry}
 use Rattle.sf_crew.specs.Views.{places, jobs, owed, times, once_below}
+use Rattle.sf_ask.specs.Sheets.{SheetData}
+use Rattle.sf_crew.specs.BoardSteps.{with_notes}
+use Rattle.sf_crew.specs.SheetEntries.{Enters}
 use Rattle.sf_crew.specs.BoardRule.{Sound, Kept}
 use Rattle.sf_crew.proofs.Totals.{total_at, total_only}
 
@@ -26,3 +29,11 @@ idle_count k n least u h none = let i = h.idle none in subst (λ (y : Option ℕ
 pub count_all : (k : Matter) (n e : ℕ) (d least : ℕ → ℕ) (views : List View) (port : ℕ) (v : View) → get_elem? views port ≡ some v → Kept k n e d least views → v.parts ≡ k.seats → length (jobs v) ≡ min n (places k)
 count_all k n e d least views port v at h whole =
     sym (total_only (λ u. u.parts) (λ u. length (jobs u)) views port v (λ j u there none. idle_count k n least u (h.each j u there) none) at (h.parts ∙ sym whole)) ∙ h.drawn_count
+
+-- entering the job that a seat owes leaves the number of its jobs
+pub entered_count : (v x w : View) (s : SheetData) (job : ℕ) → x ≡ with_notes v x.notes → v.owes ≡ Some job → Enters x s w → length (jobs w) ≡ length (jobs v)
+entered_count v x w s job looked owing e =
+    let now : length (jobs w) ≡ 1 + length (map (λ (y : Entry). y.job) x.entries) = ap (λ (y : View). length (jobs y)) e.3 ∙ omega arith in
+    let same : length (map (λ (y : Entry). y.job) x.entries) ≡ length (map (λ (y : Entry). y.job) v.entries) = ap (λ (y : View). length (map (λ (z : Entry). z.job) y.entries)) looked in
+    let was : length (jobs v) ≡ 1 + length (map (λ (y : Entry). y.job) v.entries) = ap (λ o. length (owed o ++ map (λ (y : Entry). y.job) v.entries)) owing ∙ omega arith in
+    omega arith

@@ -72,19 +72,19 @@ doubt_below (v ∷ vs) (suc q) is = let rest = doubt_below vs q is in omega arit
 abbrev Subject : Type 0
 Subject = BookData × List Asked
 
-pub covers : (k : Matter) (v : View) (s : SheetData) (ds : List ℕ) (ns : List Note) → IsSheetFor k v s → IsRightSheet s → NotesHits s.verdicts s.job (length s.verdicts) v.notes ns → AreDoubts s.verdicts ds → Covered k ns (entry s.job ds)
+pub covers : (k : Matter) (v : View) (s : SheetData) (ds : List ℕ) (ns : List Note) → IsSheetFor k v s → IsRightSheet s → NotesHits s.verdicts s.job (length s.questions) v.notes ns → AreDoubts s ds → Covered k ns (entry s.job ds)
 covers k v s ds ns f right notes marks =
     let same : length s.questions ≡ length (asked k) = ap (λ (y : List Asked). length y) f.questions in let long = right.each in record {
       there = subst (λ (y : BookData). s.job < length y.regions) f.regions right.there;
-      cleared = λ q lt. (let there : q < length s.verdicts = omega arith in
+      cleared = λ q lt. (let there : q < length s.questions = omega arith in
           ⊎_elim (λ (x : is_hit (verdict_at s.verdicts q) ≡ true). inl (s.job, notes.hits q there x, omega arith))
           (λ x. ⊎_elim (λ (y : is_doubt (verdict_at s.verdicts q) ≡ true). inr (inr (marks.doubts q there y)))
           (λ y. ⊎_elim (λ (z : is_skipped (verdict_at s.verdicts q) ≡ true). let low = f.skips q lt z in inl (low.0, notes.more q low.0 low.1, (let lt = low.2 in omega arith)))
           (λ (z : HasNoBreak s.settled s.questions s.job q). inr (inl (subst (λ (y : Subject). HasNoBreak y.0 y.1 s.job q) (λ i. (f.regions i, f.questions i)) z))) y) x)
-          (verdict_cases s.settled s.questions s.job q (verdict_at s.verdicts q) (right.right q (omega arith))));
+          (verdict_cases s.settled s.questions s.job q (verdict_at s.verdicts q) (right.right q there)));
       doubts = λ q one. ⊎_elim (λ (x : has q [] ≡ 1). absurd (cc))
           (λ (x : IsDoubt s.verdicts q). let there = doubt_below s.verdicts q x in
-              subst (λ (y : Subject). IsRightEntry y.0 y.1 s.job q (Some Doubt)) (λ i. (f.regions i, f.questions i)) (doubt_right s.settled s.questions s.job q (verdict_at s.verdicts q) (right.right q (omega arith)) x))
+          subst (λ (y : Subject). IsRightEntry y.0 y.1 s.job q (Some Doubt)) (λ i. (f.regions i, f.questions i)) (doubt_right s.settled s.questions s.job q (verdict_at s.verdicts q) (right.right q (omega arith)) x))
           (marks.only q one);
     }
 

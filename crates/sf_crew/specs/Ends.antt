@@ -1,7 +1,9 @@
 -- Turns of a worker, and where an exploration ends.
-use Rattle.std.specs.Prelude.{◌≡◌, ℕ, ◌+◌, List, [], All, false, ◌⊎◌}
+use Rattle.std.specs.Prelude.{◌≡◌, ℕ, ◌+◌, ◌*◌, ◌≤◌, ◌↔◌, Bool, List, [], All, length, false, ◌⊎◌}
 use Rattle.sf_book.specs.Books.{EntryData, BookData, IsSettled}
 use Rattle.sf_check.specs.declared.insn.Insn.{Insn}
+use Rattle.sf_run.specs.Feasible.{AreFeasibleTraces}
+use Rattle.sf_book.specs.Exact.{IsWorkedOff}
 
 -- nothing is outstanding, or all commits are spent
 abbrev pub IsEnd : BookData → Type 0
@@ -27,3 +29,8 @@ pub record IsEndOf (stack : List (List Insn)) (budget : ℕ) (s : BookData) : Ty
   pub of : s.stack ≡ stack
   pub with : s.budget ≡ budget
   pub end : IsEnd s
+
+-- the end of an exploration of a plain stack: nothing is outstanding exactly where the budget is enough for its feasible traces, and then these are what was found
+pub record IsExactEnd (stack : List (List Insn)) (budget : ℕ) (s : BookData) : Type 0 where
+  pub enough : (traces : List (List Bool)) → AreFeasibleTraces stack traces → (s.outstanding ≡ []) ↔ (2 * length traces ≤ budget + 1)
+  pub worked : (traces : List (List Bool)) → AreFeasibleTraces stack traces → s.outstanding ≡ [] → IsWorkedOff s traces

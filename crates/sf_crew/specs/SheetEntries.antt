@@ -24,9 +24,9 @@ pub record MarksDoubts (vs : List (Option Verdict)) (n : ℕ) (old new : List �
   pub doubts : (q : ℕ) → q < n → IsDoubt vs q → has q new ≡ 1
   pub only : (q : ℕ) → has q new ≡ 1 → (has q old ≡ 1) ⊎ IsDoubt vs q
 
--- the questions with a doubt
-abbrev pub AreDoubts : List (Option Verdict) → List ℕ → Type 0
-AreDoubts vs qs = MarksDoubts vs (length vs) [] qs
+-- the questions that a sheet has a doubt for
+abbrev pub AreDoubts : SheetData → List ℕ → Type 0
+AreDoubts s qs = MarksDoubts s.verdicts (length s.questions) [] qs
 
 -- the hits of the first n verdicts are noted at the job, and nothing else is new
 pub record NotesHits (vs : List (Option Verdict)) (job n : ℕ) (old new : List Note) : Type 0 where
@@ -43,4 +43,4 @@ pub record IsSheetFor (k : Matter) (v : View) (s : SheetData) : Type 0 where
 
 -- the seat owes nothing more, has one more entry, and has noted the hits
 abbrev pub Enters : View → SheetData → View → Type 0
-Enters v s w = (ds : List ℕ) × AreDoubts s.verdicts ds × NotesHits s.verdicts s.job (length s.verdicts) v.notes w.notes × (w ≡ view_of v.about v.parts v.nones None [] (entry s.job ds ∷ v.entries) w.notes)
+Enters v s w = (ds : List ℕ) × AreDoubts s ds × NotesHits s.verdicts s.job (length s.questions) v.notes w.notes × (w ≡ view_of v.about v.parts v.nones None [] (entry s.job ds ∷ v.entries) w.notes)

@@ -4,7 +4,9 @@ use Rattle.sf_book.specs.Books.{BookData}
 use Rattle.sf_ask.specs.Asked.{Asked}
 use Rattle.sf_insn.specs.declared.input.Input.{Input}
 use Rattle.sf_ask.specs.declared.verdict.Reply.{Reply}
-use Rattle.sf_ask.specs.Verdicts.{IsLowInput, IsBreakAt, IsRightReply}
+use Rattle.sf_ask.specs.Verdicts.{IsLowInput, IsBreakAt, IsRightReply, IsFirstBreak, IsPlainExample}
+use Rattle.sf_ask.specs.declared.verdict.Reply.TheVariants.{Never, Allowed, Unsettled}
+use Rattle.sf_check.specs.Stacks.{IsPlain}
 use Rattle.sf_ask.specs.Sheets.{HasBreak, HasNoBreak, IsRightEntry}
 use Rattle.sf_ask.specs.declared.verdict.Verdict.TheVariants.{Doubt}
 use Rattle.sf_crew.specs.Tallies.{IsBelow}
@@ -40,13 +42,24 @@ pub record IsUnbroken (s : BookData) (question : Asked) (doubt : Bool) (r : ℕ)
   pub none : doubt ≡ false → (d : Input) → ¬ IsBreakAt s r question d
   pub low : (d : Input) → IsLowInput question d → ¬ IsBreakAt s r question d
 
--- the reply to the question of a number is right
-pub record IsRightReplyAt (s : BookData) (questions : List Asked) (q : ℕ) (reply : Reply) : Type 0 where
+-- on a plain stack an example is the plain one of the first break, and a question is unsettled only where a piece is outstanding
+abbrev pub IsPlainReply : BookData → Asked → Reply → Type 0
+IsPlainReply s question Never = Unit {0}
+IsPlainReply s question (Allowed d) = (r : ℕ) × IsFirstBreak s question r × IsPlainExample s r question d
+IsPlainReply s question Unsettled = 0 < length s.outstanding
+
+-- a reply is right, and on a plain stack it is exact
+pub record IsReplyTo (s : BookData) (question : Asked) (reply : Reply) : Type 0 where
+  pub right : IsRightReply s question reply
+  pub plain : IsPlain s.stack → IsPlainReply s question reply
+
+-- the reply to the question of a number is such a one
+pub record IsReplyAt (s : BookData) (questions : List Asked) (q : ℕ) (reply : Reply) : Type 0 where
   pub question : Asked
   pub asked : slice_get questions q ≡ Some question
-  pub right : IsRightReply s question reply
+  pub replies : IsReplyTo s question reply
 
--- there is a right reply to each question
-pub record AreRightReplies (s : BookData) (questions : List Asked) (replies : List Reply) : Type 0 where
+-- there is such a reply to each question
+pub record AreReplies (s : BookData) (questions : List Asked) (replies : List Reply) : Type 0 where
   pub count : length replies ≡ length questions
-  pub each : (q : ℕ) (reply : Reply) → slice_get replies q ≡ Some reply → IsRightReplyAt s questions q reply
+  pub each : (q : ℕ) (reply : Reply) → slice_get replies q ≡ Some reply → IsReplyAt s questions q reply

@@ -22,7 +22,7 @@ pub struct Board {
     ghost few: { length (asked table.shared.key) ≤ 256 },
 }
 
-/// What one party has drawn, entered and seen.
+/// What one party has drawn, entered and seen. It is not a copy: a job that it has drawn no other seat draws.
 #[derive(Drop)]
 pub struct Seat {
     pub(crate) seat: atomic_table::Seat<u8, View>,

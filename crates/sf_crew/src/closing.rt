@@ -31,7 +31,8 @@ fn least_places(
 }
 
 impl Board {
-    /// What all words say at the end.
+    /// What the words say at the end. The caller's condition: a seat of this board. What the tally tells of all regions
+    /// it tells where all seats were joined into this one.
     pub fn close(self, seat: Seat) -> Tally
         requires { IsSeatOf self seat }
         ensures { RightTally (about self) (seat_view seat) result }

@@ -18,7 +18,7 @@ impl Board {
         ensures table { seat.new.table_id ≡ seat.old.table_id }
         ensures carried { seat.new.me.1 ≡ seat.old.me.1 }
         ensures view { seat.new.me.0 ≡ with_notes seat.old.me.0 seat.new.me.0.notes }
-        ensures notes { NotesHits sheet.now.verdicts sheet.now.job (length sheet.now.verdicts) seat.old.me.0.notes seat.new.me.0.notes }
+        ensures notes { NotesHits sheet.now.verdicts sheet.now.job (length sheet.now.questions) seat.old.me.0.notes seat.new.me.0.notes }
     {
         let job = sheet.job() as u64;
         for q in 0..sheet.question_count() {
@@ -36,7 +36,7 @@ impl Board {
         ensures table { seat.new.table_id ≡ seat.old.table_id }
         ensures carried { seat.new.me.1 ≡ seat.old.me.1 }
         ensures view { seat.new.me.0 ≡ with_marks seat.old.me.0 seat.new.me.0.marked }
-        ensures marks { MarksDoubts sheet.now.verdicts (length sheet.now.verdicts) seat.old.me.0.marked seat.new.me.0.marked }
+        ensures marks { MarksDoubts sheet.now.verdicts (length sheet.now.questions) seat.old.me.0.marked seat.new.me.0.marked }
     {
         for q in 0..sheet.question_count() {
             if sheet.is_doubt(q) {
@@ -48,7 +48,9 @@ impl Board {
         }
     }
 
-    /// Enters the sheet that the seat owes.
+    /// Enters the sheet that the seat owes. The caller's conditions: a seat of this board, and a sheet of the board's
+    /// regions and questions, for the job that the seat owes, that skips only questions for which the seat has seen a
+    /// place below the job.
     pub fn enter(&self, seat: &mut Seat, sheet: Sheet)
         requires seat { IsSeatOf self.now seat.old }
         requires sheet { IsSheetFor (about self.now) (seat_view seat.old) sheet }

@@ -1,10 +1,11 @@
 //! Turns of one worker that has the book to itself: pieces are leased, worked and committed until none is left or the
 //! budget is spent.
 
-ghost use Rattle.std.specs.Prelude.{◌≡◌, IfOk, IfErr, OnOk, MatchBool};
+ghost use Rattle.std.specs.Prelude.{◌≡◌, ◌≢◌, IfOk, IfErr, OnOk, MatchBool};
 ghost use Rattle.std.specs.Arc.{arc_value};
-ghost use Rattle.sf_crew.specs.Ends.{IsEnd, IsFree, IsSameExploration, GoesOn, IsEndOf};
-ghost use Rattle.sf_crew.specs.declared.fault.Fault.TheVariants.{Memory};
+ghost use Rattle.sf_crew.specs.Ends.{IsEnd, IsFree, IsSameExploration, GoesOn, IsEndOf, IsExactEnd};
+ghost use Rattle.sf_crew.specs.declared.fault.Fault.TheVariants.{Memory, Foreign};
+ghost use Rattle.sf_check.specs.Stacks.{IsPlain};
 
 use crate::fault::Fault;
 use crate::gate::Gate;
@@ -66,6 +67,19 @@ pub(crate) fn work_off<G: Gate>(
     Ok(())
 }
 
+/// Closes a book of this budget that was worked off. `Foreign` where it is of another stack.
+pub(crate) fn finished(book: Book, stack: &Arc<Stack>, _budget: u32) -> Result<Settled, Fault>
+    requires end { IsEnd book }
+    requires budget { book.budget ≡ _budget }
+    ensures ok { IfOk result (λ s. IsEndOf (arc_value stack.now) _budget s) }
+    ensures plain { IfOk result (λ s. IsPlain (arc_value stack.now) → IsExactEnd (arc_value stack.now) _budget s) }
+    ensures err { IfErr result (λ f. (f ≡ Foreign) × (book.stack ≢ arc_value stack.now)) }
+{
+    let settled = book.finish(stack)?;
+    let _counts = settled.counts();
+    Ok(settled)
+}
+
 /// Explores a stack by the calling thread alone, as worker 0.
 pub(crate) fn explore_alone<G: Gate>(
     alloc: Global,
@@ -74,9 +88,10 @@ pub(crate) fn explore_alone<G: Gate>(
     gate: &G,
 ) -> Result<Settled, Fault>
     ensures ok { IfOk result (λ s. IsEndOf (arc_value stack) budget s) }
+    ensures plain { IfOk result (λ s. IsPlain (arc_value stack) → IsExactEnd (arc_value stack) budget s) }
     ensures err { IfErr result (λ f. f ≡ Memory) }
 {
     let mut book = Book::open(alloc, Arc::try_clone(&stack)?, budget)?;
     work_off(alloc, &mut book, gate, 0)?;
-    Ok(book.finish(&stack)?)
+    finished(book, &stack, budget)
 }

@@ -1,4 +1,5 @@
-//! Workers that explore a stack by the pieces of a book.
+//! Workers on threads: they explore a stack by the pieces of a locked book, with benches that they steal from, and judge
+//! regions by a board of shared words, without a lock.
 #![tactic(auto)]
 
 mod benches;

@@ -56,7 +56,8 @@ impl Board {
         ensures seats { IfOk result (λ r. (vec_len r.1 ≡ seats) × All (λ s. IsNewSeat r.0 s) r.1.items) }
         ensures err { IfErr result (λ f. f ≡ Memory) }
     {
-        let regions = settled.region_count();
+        let counts = settled.counts();
+        let regions = counts.settled;
         let about = Matter {
             settled: Snapshot::of(settled),
             questions: snapshots(alloc, questions)?,

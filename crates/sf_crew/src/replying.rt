@@ -1,9 +1,9 @@
 //! Replies to questions, from the tally of all regions.
-ghost use Rattle.std.specs.Prelude.{◌≡◌, ◌==◌, ◌<◌, ◌≤◌, ℕ, Some, length, slice_get, IfOk, IfErr};
+ghost use Rattle.std.specs.Prelude.{◌≡◌, ◌==◌, ◌<◌, ◌≤◌, ℕ, Some, false, length, slice_get, IfOk, IfErr};
 ghost use Rattle.sf_ask.specs.Asked.{Asked};
-ghost use Rattle.sf_ask.specs.Verdicts.{IsRightReply};
+ghost use Rattle.sf_check.specs.Stacks.{IsPlain};
 ghost use Rattle.sf_crew.specs.Views.{bit_of};
-ghost use Rattle.sf_crew.specs.Sweeps.{IsFullTally, IsUnbroken, AreRightReplies, IsRightReplyAt};
+ghost use Rattle.sf_crew.specs.Sweeps.{IsFullTally, IsUnbroken, IsReplyTo, AreReplies, IsReplyAt};
 ghost use Rattle.sf_crew.specs.declared.fault.Fault.TheVariants.{Memory};
 
 use crate::board::Tally;
@@ -19,10 +19,15 @@ use std::thread::Threads;
 
 /// The reply where no region is known to break the question.
 fn unbroken(settled: &Settled, _question: &Question, doubt: bool) -> Reply
-    requires { (r : ℕ) → r < length settled.now.regions → IsUnbroken settled.now _question.now doubt r }
-    ensures { IsRightReply settled.now _question.now result }
+    requires unbroken { (r : ℕ) → r < length settled.now.regions → IsUnbroken settled.now _question.now doubt r }
+    requires plain { IsPlain settled.now.stack → doubt ≡ false }
+    ensures { IsReplyTo settled.now _question.now result }
 {
-    if doubt || settled.outstanding_count() > 0 {
+    let left = settled.outstanding_count();
+    if doubt {
+        return Reply::Unsettled;
+    }
+    if left > 0 {
         Reply::Unsettled
     } else {
         Reply::Never
@@ -31,7 +36,8 @@ fn unbroken(settled: &Settled, _question: &Question, doubt: bool) -> Reply
 
 /// The reply by the regions alone, one after another.
 fn reply_in_turn(alloc: Global, settled: &Settled, question: &Question) -> Result<Reply, Fault>
-    ensures { IfOk result (IsRightReply settled.now question.now) }
+    ensures ok { IfOk result (IsReplyTo settled.now question.now) }
+    ensures err { IfErr result (λ f. f ≡ Memory) }
 {
     let mut doubt = false;
     for place in 0..settled.region_count() {
@@ -63,7 +69,8 @@ fn reply_of(
 ) -> Result<Reply, Fault>
     requires question { (q < length questions.now) × (q < 256) }
     requires tally { IsFullTally settled.now questions.now tally.now }
-    ensures { IfOk result (IsRightReplyAt settled.now questions.now q) }
+    ensures ok { IfOk result (IsReplyAt settled.now questions.now q) }
+    ensures err { IfErr result (λ f. f ≡ Memory) }
 {
     let question = &questions[q];
     let Some(place) = tally.least[q] else {
@@ -88,7 +95,8 @@ pub fn sweep<R: Threads + Wait + Sync, G: Gate>(
 ) -> Result<Vec<Reply>, Fault>
     requires workers { (0 < workers) × (workers ≤ 64) }
     requires questions { length questions.now ≤ 256 }
-    ensures { IfOk result (λ v. AreRightReplies settled.now questions.now v.items) }
+    ensures ok { IfOk result (λ v. AreReplies settled.now questions.now v.items) }
+    ensures err { IfErr result (λ f. f ≡ Memory) }
 {
     let full = tally(rt, alloc, settled, questions, workers, gate)?;
     let mut replies = Vec::new(alloc);

@@ -1,5 +1,5 @@
 //! Workers that judge regions by a board.
-ghost use Rattle.std.specs.Prelude.{◌≡◌, ◌==◌, if◌then◌else◌, ℕ, ◌+◌, ◌-◌, ◌<◌, ◌≤◌, map, length, vec_len, All, IfOk, IfErr, OnOk, IfSome, IsTrue, None, Some};
+ghost use Rattle.std.specs.Prelude.{◌≡◌, ◌==◌, if◌then◌else◌, ℕ, ◌+◌, ◌-◌, ◌<◌, ◌≤◌, length, vec_len, All, IfOk, IfErr, OnOk, IfSome, IsTrue, None, Some};
 ghost use Rattle.sf_crew.specs.BoardSteps.{Knows, with_notes};
 ghost use Rattle.sf_crew.specs.Sweeps.{IsWorked, IsFullTally, SkipsOnly};
 ghost use Rattle.sf_crew.specs.Views.{asked, regions_of, places, jobs, bit_of, Noted};
@@ -72,6 +72,7 @@ pub(crate) fn enter_job<G: Gate>(
     ensures parts { (seat_view seat.new).parts ≡ (seat_view seat.old).parts }
     ensures nones { (seat_view seat.new).nones ≡ (seat_view seat.old).nones }
     ensures free { OnOk result ((seat_view seat.new).owes ≡ None) }
+    ensures count { OnOk result (length (jobs (seat_view seat.new)) ≡ length (jobs (seat_view seat.old))) }
 {
     let wanted = look_at_all(board, seat, job);
     let sheet = Sheet::of(alloc, settled, job, questions, wanted)?;
@@ -131,12 +132,15 @@ pub(crate) struct Part {
 }
 
 /// The seats, numbered from 0.
-fn numbered(alloc: Global, seats: Vec<Seat>) -> Result<Vec<Part>, Fault>
-    ensures ok { IfOk result (λ v. map (λ p. p.seat) v.items ≡ seats.items) }
+fn numbered(alloc: Global, board: &Board, mut seats: Vec<Seat>) -> Result<Vec<Part>, Fault>
+    requires { All (λ s. IsNewSeat board.now s) seats.items }
+    ensures ok { IfOk result (λ v. (vec_len v ≡ vec_len seats) × All (λ p. IsNewSeat board.now p.seat) v.items) }
     ensures err { IfErr result (λ f. f ≡ Memory) }
 {
+    let _ = board;
     let mut parts = Vec::new(alloc);
-    for (number, seat) in seats.into_iter().enumerate() {
+    while let Some(seat) = seats.pop() {
+        let number = seats.len();
         parts.push(Part { number, seat })?;
     }
     Ok(parts)
@@ -162,11 +166,25 @@ pub(crate) fn tally<R: Threads + Sync, G: Gate>(
         unreachable!()
     };
     let shared = &board;
-    let parts = numbered(alloc, seats)?;
-    let worked = thread::map_vec(rt, parts, &|part: Part| -> (Seat, bool)
-        requires { IsNewSeat shared.now part.seat × (regions_of (about shared.now) ≡ settled.now) × (asked (about shared.now) ≡ questions.now) }
-        ensures { IsWorked shared.entry.now result }
-    { work(alloc, shared, part.seat, settled, questions, gate, part.number) })?;
+    let parts = numbered(alloc, shared, seats)?;
+    let worked = thread::map_vec(
+        rt,
+        parts,
+        &|part: Part| -> (Seat, bool)
+            requires { IsNewSeat shared.now part.seat × (regions_of (about shared.now) ≡ settled.now) × (asked (about shared.now) ≡ questions.now) }
+            ensures { IsWorked shared.entry.now result }
+        {
+            work(
+                alloc,
+                shared,
+                part.seat,
+                settled,
+                questions,
+                gate,
+                part.number,
+            )
+        },
+    )?;
     let (mine, done) = work(alloc, shared, mine, settled, questions, gate, workers);
     if !done {
         return Err(Fault::Memory);

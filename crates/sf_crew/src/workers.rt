@@ -4,11 +4,12 @@ ghost use Rattle.std.specs.Prelude.{◌≡◌, ◌⊎◌, ◌<◌, ◌≤◌, �
 ghost use Rattle.std.specs.Arc.{arc_value};
 ghost use denote.Ref.{Bor};
 ghost use Rattle.sf_book.specs.Books.{BookData, IsLawful};
-ghost use Rattle.sf_crew.specs.Ends.{IsEnd, IsEndOf};
+ghost use Rattle.sf_crew.specs.Ends.{IsEnd, IsEndOf, IsExactEnd};
 ghost use Rattle.sf_crew.specs.declared.fault.Fault.TheVariants.{Memory, Foreign};
+ghost use Rattle.sf_check.specs.Stacks.{IsPlain};
 
 use crate::ends::{Owner, Thief};
-use crate::exploring::{explore_alone, work_off};
+use crate::exploring::{explore_alone, finished, work_off};
 use crate::fault::Fault;
 use crate::gate::Gate;
 use crate::hiring::workers_of;
@@ -169,6 +170,7 @@ pub fn explore<R: Threads + Wait + Sync, G: Gate>(
 ) -> Result<Settled, Fault>
     requires workers { (0 < workers) × (workers ≤ 64) }
     ensures ok { IfOk result (λ s. IsEndOf (arc_value stack) budget s) }
+    ensures plain { IfOk result (λ s. IsPlain (arc_value stack) → IsExactEnd (arc_value stack) budget s) }
     ensures err { IfErr result (λ f. (f ≡ Memory) ⊎ (f ≡ Foreign)) }
 {
     if workers == 1 {
@@ -181,7 +183,7 @@ pub fn explore<R: Threads + Wait + Sync, G: Gate>(
     }
     book.recall();
     work_off(alloc, &mut book, gate, workers)?;
-    Ok(book.finish(&stack)?)
+    finished(book, &stack, budget)
 }
 
 /// Runs a closure on a book that others share, while the lock is held. The closure may rely on no more than that the

@@ -60,7 +60,8 @@ const TURNS: usize = 100_000_000;
 
 impl Gate for Meeting {
     fn pass(&self, worker: usize, call: usize) {
-        let (Some(mine), Some(other)) = (self.come.get(worker), self.come.get(1 - worker.min(1))) else {
+        let (Some(mine), Some(other)) = (self.come.get(worker), self.come.get(1 - worker.min(1)))
+        else {
             self.failed.store(1, Ordering::SeqCst);
             return;
         };

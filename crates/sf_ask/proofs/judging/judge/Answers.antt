@@ -8,7 +8,7 @@ pub returns-then-not-has-clause-right : goal.returns-then-not-has-clause-right
 returns-then-not-has-clause-right c =
     let s = c.args.settled.now in
     not-asked s c.args.region c.args.question.now c.region-settled_region.result.now c.region-settled_region.ensures.value c.region-settled_region.ensures.right
-      (rw (c.actions.ensures, c.answer.ensures) at (sym c.has.ensures ∙ c.if-not-has.true))
+    (rw (c.actions.ensures, c.answer.ensures) at (sym c.has.ensures ∙ c.if-not-has.true))
 
 pub returns-clause-right : goal.returns-clause-right
 returns-clause-right c =
@@ -17,8 +17,8 @@ returns-clause-right c =
     let r = c.region-settled_region.result.now in
     let e = c.region-settled_region.ensures in
     if-ok (IsRightSearch r.piece q) (IsRightVerdict s c.args.region q) c.search.result
-      (λ v. region-right s c.args.region q r v e.value e.right (rw (c.actions.ensures, c.answer.ensures) at (sym c.has.ensures ∙ c.if-not-has.false)))
-      (rw (c.deref.ensures, c.piece.ensures) at c.search.ensures.right)
+    (λ v. region-right s c.args.region q r v e.value e.right (rw (c.actions.ensures, c.answer.ensures) at (sym c.has.ensures ∙ c.if-not-has.false)))
+    (rw (c.deref.ensures, c.piece.ensures) at c.search.ensures.right)
 
 pub returns-clause-example : goal.returns-clause-example
 returns-clause-example c =
@@ -26,6 +26,6 @@ returns-clause-example c =
     let q = c.args.question.now in
     let r = c.region-settled_region.result.now in
     if-both-ok (IsRightVerdict s c.args.region q) (HitsLeast r.piece q) (HitsPlainExample s c.args.region q) c.search.result
-      (λ v. region-example s c.args.region q r v c.region-settled_region.ensures.value)
-      (returns-clause-right c)
-      (rw (c.deref.ensures, c.piece.ensures) at c.search.ensures.least)
+    (λ v. region-example s c.args.region q r v c.region-settled_region.ensures.value)
+    (returns-clause-right c)
+    (rw (c.deref.ensures, c.piece.ensures) at c.search.ensures.least)

@@ -22,7 +22,7 @@ fetch_add-requires c =
     let parts : w.parts ≡ v.parts = ap (λ (y : View). y.parts) is in
     let some_part : 0 < v.parts = c.args.seat.now.present in let small = c.args.self.now.small in
     let none : c.enter_hits.new.seat.me.0.marked ≡ [] = ap (λ (y : View). y.marked) hits.view ∙ c.args.seat.now.unmarked in
-    let marks : AreDoubts c.args.sheet.verdicts w.marked = rw none at doubts.marks in
+    let marks : AreDoubts c.args.sheet w.marked = rw none at doubts.marks in
     let covered : Covered (about c.args.self.now) notes (entry c.args.sheet.job w.marked) = covers (about c.args.self.now) v c.args.sheet w.marked notes c.requires.sheet c.question_count-count.ensures.right hits.notes marks in (
       doubts.table ∙ hits.table ∙ c.requires.seat.0,
       omega arith,

@@ -33,13 +33,12 @@ loop-q-preserved c =
 
 pub fetch_or-requires : goal.fetch_or-requires
 fetch_or-requires c =
-    let right = c.question_count-q-end.ensures.right in let n : ℕ = c.loop-q.q in
-    let lt : n < length c.args.sheet.now.verdicts = omega (arith, c.loop-q-test.true, c.question_count-q-end.ensures.count) in
+    let n : ℕ = c.loop-q.q in
+    let lt : n < length c.args.sheet.now.questions = omega (arith, c.loop-q-test.true, c.question_count-q-end.ensures.count) in
     let many : length c.args.sheet.now.questions ≡ length (asked (about c.args.self.now)) = ap (λ (y : List Asked). length y) c.requires.questions in
-    let all : length c.args.sheet.now.verdicts ≡ length c.args.sheet.now.questions = right.1 in
     let few : n < 256 = (let f = c.args.self.now.few in omega arith) in
     let owing : c.loop-q.seat.me.0.owes ≡ Some c.args.sheet.now.job = ap (λ (v : View). v.owes) c.loop-q.invariant.view ∙ c.requires.owes in (
       c.loop-q.invariant.table ∙ c.requires.table,
-      omega (arith, lt, many, all),
+      omega (arith, lt, many),
       marks _ _ n _ _ _ owing few,
     )

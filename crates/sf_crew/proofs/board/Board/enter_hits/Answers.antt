@@ -9,7 +9,8 @@ use Rattle.sf_crew.specs.Views.{asked, places, note}
 use Rattle.sf_crew.specs.BoardSteps.{with_notes, noting}
 use Rattle.sf_crew.specs.SheetEntries.{NotesHits}
 use Rattle.sf_crew.specs.Boards.{about}
-use Rattle.sf_crew.proofs.Sheets.{hits_same, hits_more, hit_breaks}
+use Rattle.sf_crew.proofs.Sheets.{hits_same, hits_more}
+use Rattle.sf_ask.specs.SheetLaws.{hit-breaks}
 use Rattle.sf_crew.proofs.Moves.{hits_at}
 use Rattle.sf_crew.proofs.board.Board.enter_hits.Goals.{then-is_hit, else-is_hit}
 use Rattle.sf_crew.proofs.board.Board.enter_hits.Goals as goal
@@ -37,13 +38,12 @@ loop-q-preserved c =
 pub fetch_min-requires : goal.fetch_min-requires
 fetch_min-requires c =
     let right = c.question_count-q-end.ensures.right in let n : ℕ = c.loop-q.q in
-    let lt : n < length c.args.sheet.now.verdicts = omega (arith, c.loop-q-test.true, c.question_count-q-end.ensures.count) in
+    let lt : n < length c.args.sheet.now.questions = omega (arith, c.loop-q-test.true, c.question_count-q-end.ensures.count) in
     let many : length c.args.sheet.now.questions ≡ length (asked (about c.args.self.now)) = ap (λ (y : List Asked). length y) c.requires.matter.1 in
-    let all : length c.args.sheet.now.verdicts ≡ length c.args.sheet.now.questions = right.1 in
-    let breaks : HasBreak c.args.sheet.now.settled c.args.sheet.now.questions c.args.sheet.now.job n = hit_breaks c.args.sheet.now.settled c.args.sheet.now.questions c.args.sheet.now.job n (verdict_at c.args.sheet.now.verdicts n) (sym c.is_hit.ensures ∙ c.if-is_hit.true) (right.2 n lt) in
-    let below : c.args.sheet.now.job < places (about c.args.self.now) = subst (λ (y : BookData). c.args.sheet.now.job < length y.regions.items) c.requires.matter.0 right.0 in (
+    let breaks : HasBreak c.args.sheet.now.settled c.args.sheet.now.questions c.args.sheet.now.job n = hit-breaks c.args.sheet.now.settled c.args.sheet.now.questions c.args.sheet.now.job n (verdict_at c.args.sheet.now.verdicts n) (right.right n lt) (sym c.is_hit.ensures ∙ c.if-is_hit.true) in
+    let below : c.args.sheet.now.job < places (about c.args.self.now) = subst (λ (y : BookData). c.args.sheet.now.job < length y.regions) c.requires.matter.0 right.there in (
       c.loop-q.invariant.table ∙ c.requires.table,
-      omega (arith, lt, many, all),
-      hits_at _ _ _ n _ _ (omega (arith, lt, many, all)) (omega (arith, below, c.job-job.ensures.job))
+      omega (arith, lt, many),
+      hits_at _ _ _ n _ _ (omega (arith, lt, many)) (omega (arith, below, c.job-job.ensures.job))
           (subst (λ (y : BookData × List Asked × ℕ). HasBreak y.0 y.1 y.2 n) (λ i. (c.requires.matter.0 i, c.requires.matter.1 i, sym c.job-job.ensures.job i)) breaks),
     )
