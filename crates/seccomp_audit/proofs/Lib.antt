@@ -1,1 +1,3 @@
 pub mod Pairing
+pub mod PolicyLemmas
+pub mod ReadLemmas

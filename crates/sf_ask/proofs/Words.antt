@@ -1,13 +1,13 @@
 -- Facts confined to a question, word by word.
-use Rattle.std.proofs.Common.{◌≡◌, ℕ, ◌+◌, ◌<◌, ◌≤◌, ◌^◌, Bool, true, false, List, length, arith, refl, sym, ap, subst, inl, inr, ◌∙◌, MatchBool}
+use Rattle.std.proofs.Common.{◌≡◌, ℕ, ◌+◌, ◌<◌, ◌≤◌, ◌^◌, Bool, true, false, List, arith, refl, sym, ap, subst, inl, inr, ◌∙◌, MatchBool}
 use Rattle.std.specs.Prelude.{slice_index, bit_and, nat_le}
-use Rattle.std.proofs.lemmas.Bool.{cases_eq, cases_lt, and_parts, and_from, leb-true, le-leb, eq-eqb, eqb-true}
+use Rattle.std.proofs.lemmas.Bool.{cases_eq, and_parts, and_from, leb-true, le-leb, eq-eqb, eqb-true}
 use Rattle.std.specs.Int.Bits.{and_zero_r}
 use Rattle.sf_insn.specs.declared.input.Input.{Input}
 use Rattle.sf_insn.specs.Inputs.{IsInput}
 use Rattle.sf_sym.specs.declared.pool.Node.{Node}
-use Rattle.sf_dom.specs.Known.{Admits, IsNarrower}
-use Rattle.sf_dom.specs.Facts.{FactsView, Agrees, Covers, known_at, AreNarrower, lies_in, has_masked, KeepsInputs, KeepsOnly, NoInput}
+use Rattle.sf_dom.specs.Known.{Admits}
+use Rattle.sf_dom.specs.Facts.{FactsView, Covers, known_at, AreNarrower, lies_in, has_masked, KeepsInputs, KeepsOnly, NoInput}
 use Rattle.sf_dom.specs.FactsLaws.{agreeing-word}
 use Rattle.sf_ask.specs.Asked.{Asked, range_at, mask_at}
 use Rattle.sf_ask.specs.Breaking.{IsNumberOf, IsInQuestion}

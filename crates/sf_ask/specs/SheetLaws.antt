@@ -1,13 +1,11 @@
 -- What the verdicts of a right sheet tell.
-use Rattle.std.proofs.Common.{◌≡◌, ℕ, ◌<◌, true, false, List, Option, Some, None, length, refl, sym, subst}
-use Rattle.std.specs.Prelude.{slice_get}
-use Rattle.sf_insn.specs.declared.input.Input.{Input}
+use Rattle.std.proofs.Common.{◌≡◌, ℕ, true, false, List, Option, Some, None, subst}
 use Rattle.sf_book.specs.Books.{BookData}
 use Rattle.sf_ask.specs.declared.verdict.Verdict.{Verdict}
 use Rattle.sf_ask.specs.declared.verdict.Verdict.TheVariants.{Clear, Hit, Doubt}
 use Rattle.sf_ask.specs.Asked.{Asked}
 use Rattle.sf_ask.specs.Verdicts.{IsBreakAt}
-use Rattle.sf_ask.specs.Sheets.{SheetData, verdict_at, is_hit, is_doubt, is_skipped, IsBreakOf, HasBreak, HasNoBreak, IsRightEntry, IsRightSheet}
+use Rattle.sf_ask.specs.Sheets.{is_hit, is_doubt, is_skipped, HasBreak, HasNoBreak, IsRightEntry}
 
 -- where there is a hit, a member of the region breaks the question
 pub hit-breaks : (s : BookData) (questions : List Asked) (place q : ℕ) (entry : Option Verdict) → IsRightEntry s questions place q entry → is_hit entry ≡ true → HasBreak s questions place q

@@ -1,7 +1,7 @@
 -- `Question::of_masked` of an encoded entry gives what is due for the entry.
-use Rattle.std.proofs.Common.{◌≡◌, ℕ, ℤ, pos, negsuc, ◌+◌, ◌++◌, ◌^◌, Bool, true, false, not, ◌&&◌, ◌||◌, nat_lt, nat_le, nat_eq, length, List, [], ◌∷◌, map, refl, ap, sym, ◌∙◌, if◌then◌else◌, Option, Some, None, Result, Ok, Err, ◌⊎◌, append_assoc, ◌<◌, drop, get_or, codes, option_map}
+use Rattle.std.proofs.Common.{◌≡◌, ℕ, ℤ, pos, negsuc, ◌+◌, ◌++◌, Bool, true, false, not, ◌&&◌, ◌||◌, length, List, [], ◌∷◌, map, refl, ap, sym, ◌∙◌, if◌then◌else◌, Option, Some, None, Result, Ok, Err, ◌⊎◌, append_assoc, ◌<◌, drop, get_or, codes, option_map}
 use Rattle.std.proofs.Common.{inl, inr}
-use Rattle.std.specs.List.{list_all, list_any}
+use Rattle.std.specs.List.{list_all}
 use Rattle.sf_ask.specs.declared.fault.Fault.{Fault as AskFault}
 use Rattle.sf_ask.specs.Actions.{is_no_action}
 use Rattle.sf_ask.specs.Asked.{Asked}

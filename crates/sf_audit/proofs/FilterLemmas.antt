@@ -1,6 +1,6 @@
 -- What the bytes of filter files spell, and why they are refused.
-use Rattle.std.proofs.Common.{◌≡◌, ◌≢◌, ◌==◌, false, ◌⊎◌, inl, inr, ℕ, ◌+◌, ◌*◌, ◌%◌, ◌<◌, ◌≤◌, List, [], ◌∷◌, ◌++◌, length, take, map, suc, Vec, Global, slice_get, Some, Err, Result, get_or, ◌∙◌, refl, ap, sym, arith}
-use Rattle.std.proofs.lemmas.List.{take_more, take_all, get_or-map, length-map}
+use Rattle.std.proofs.Common.{◌≡◌, ◌≢◌, ◌==◌, false, ◌⊎◌, inl, inr, ℕ, ◌+◌, ◌*◌, ◌%◌, ◌<◌, ◌≤◌, List, [], ◌∷◌, ◌++◌, length, take, map, suc, Vec, Global, Err, Result, get_or, ◌∙◌, refl, ap, sym, arith}
+use Rattle.std.proofs.lemmas.List.{take_more, get_or-map, length-map}
 use Rattle.std.proofs.lemmas.Option.{slice_get_read}
 use Rattle.sf_check.specs.Stacks.{path_length}
 use Rattle.sf_check.specs.declared.stack.Stack.{Stack}
@@ -15,7 +15,7 @@ use Rattle.sf_check.specs.Refusals.{IsFirstFault}
 use Rattle.sf_audit.specs.declared.fault.Fault.{Fault}
 use Rattle.sf_audit.specs.declared.fault.Fault.TheVariants as faults
 use Rattle.sf_audit.specs.FaultPlaces.{decode_fault, check_fault}
-use Rattle.sf_audit.specs.Filters.{SpellsProgram, SpellPrograms, SpellsFault, IsRefusalOf, AreFew, SpellLongPath, IsFileRefusal, IsFirstRefusal}
+use Rattle.sf_audit.specs.Filters.{SpellsProgram, SpellPrograms, IsRefusalOf, AreFew, SpellLongPath, IsFileRefusal, IsFirstRefusal}
 
 pub undecodable_due : (number : ℕ) (bytes : List ℕ) (e : DecodeFault)
     → (e ≡ decode.Ragged → length bytes % 8 ≢ 0)

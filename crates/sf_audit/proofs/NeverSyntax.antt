@@ -13,7 +13,7 @@ use Rattle.sf_audit.specs.Trees.{number_at}
 use Rattle.sf_audit.specs.Words.{has_range, has_mask}
 use Rattle.sf_audit.specs.Actions.{are_actions}
 use Rattle.sf_audit.specs.Faults.{Gives}
-use Rattle.sf_audit.specs.Policies.{Entry, question_of_entry, question_where_read, entry_of_question, question_of_table, question_cons, questions_from, questions_counted, questions_where_tables, tables_at, version_of, policy_where_version, policy_of}
+use Rattle.sf_audit.specs.Policies.{Entry, question_of_entry, question_where_read, entry_of_question, question_cons, questions_from, questions_where_tables, tables_at, version_of, policy_where_version, policy_of}
 
 abbrev pub is_syntax : {X : Type 0} → Result X Fault → Bool
 is_syntax (Ok x) = false

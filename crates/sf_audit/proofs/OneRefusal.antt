@@ -1,18 +1,16 @@
 -- Files have at most one first refusal.
-use Rattle.std.proofs.Common.{◌≡◌, ◌≢◌, ◌⊎◌, inl, inr, ℕ, ◌+◌, ◌*◌, ◌%◌, ◌<◌, ◌≤◌, List, [], ◌∷◌, length, take, zero, suc, Some, slice_get, refl, ap, sym, ◌∙◌, arith}
+use Rattle.std.proofs.Common.{◌≡◌, ◌≢◌, inl, inr, ℕ, ◌+◌, ◌*◌, ◌%◌, ◌<◌, ◌≤◌, List, [], ◌∷◌, length, take, zero, suc, slice_get, refl, ap, sym, ◌∙◌, arith}
 use Rattle.std.proofs.lemmas.Bool.{cases_lt}
 use Rattle.std.proofs.lemmas.Option.{same_Some}
 use Rattle.sf_insn.specs.declared.raw.RawInsn.{RawInsn}
-use Rattle.sf_check.specs.declared.insn.Insn.{Insn}
 use Rattle.sf_check.specs.declared.fault.Fault.{Fault as CheckFault}
 use Rattle.sf_check.specs.declared.fault.Fault.TheVariants as check
 use Rattle.sf_check.specs.Refusals.{IsFirstFault}
-use Rattle.sf_check.specs.Stacks.{path_length}
 use Rattle.sf_audit.specs.declared.fault.Fault.{Fault}
 use Rattle.sf_audit.specs.declared.fault.Fault.TheVariants as faults
 use Rattle.sf_audit.specs.FaultPlaces.{check_fault}
-use Rattle.sf_audit.specs.Filters.{SpellsProgram, SpellPrograms, SpellsFault, SpellLongPath, IsRefusalOf, AreFew, IsFileRefusal, IsFirstRefusal}
-use Rattle.sf_audit.proofs.RefusalLemmas.{OneSpelling, FaultsAreNot, OneStack, length_spelling, refused_no_program, program_at, file_no_stack}
+use Rattle.sf_audit.specs.Filters.{SpellsFault, SpellLongPath, IsRefusalOf, AreFew, IsFileRefusal, IsFirstRefusal}
+use Rattle.sf_audit.proofs.RefusalLemmas.{OneSpelling, FaultsAreNot, length_spelling, refused_no_program, program_at, file_no_stack}
 
 abbrev pub OneFault : Type 0
 OneFault = (raws : List RawInsn) (e f : CheckFault) → IsFirstFault raws e → IsFirstFault raws f → e ≡ f

@@ -1,5 +1,5 @@
 -- The definitions over trees, at the lists that the code walks.
-use Rattle.std.proofs.Common.{◌≡◌, ℕ, Bool, true, false, List, [], ◌∷◌, ◌&&◌, map, refl, ap, ◌∙◌, sym, String, string_bytes, Global, is_some, Option, Some, None, length, get_or, take, drop, set, ◌<◌, ◌≤◌, ◌+◌, ◌++◌, append_assoc, arith, Bor, unwrap_or}
+use Rattle.std.proofs.Common.{◌≡◌, ℕ, true, false, List, [], ◌∷◌, ◌&&◌, map, refl, ap, ◌∙◌, sym, String, string_bytes, Global, is_some, Option, Some, None, length, get_or, take, drop, set, ◌<◌, ◌≤◌, ◌+◌, ◌++◌, append_assoc, arith, Bor, unwrap_or}
 use Rattle.std.proofs.lemmas.List.{get_or-map, drop_more, length-map}
 use Rattle.std.proofs.lemmas.Grind.{take-set_at}
 use Rattle.std.specs.List.{list_any, list_all}

@@ -1,8 +1,8 @@
 -- The set of actions that names stand for.
-use Rattle.std.specs.Prelude.{ℕ, Bool, true, false, List, [], ◌∷◌, codes, Option, Some, None}
+use Rattle.std.specs.Prelude.{ℕ, Bool, false, List, [], ◌∷◌, codes, Option, Some, None}
 use Rattle.std.specs.List.{list_any, list_all}
 use Rattle.std.specs.Str.{bytes_eq}
-use Rattle.toml.specs.Data.{Data, string, integer, float, boolean, datetime, array, table}
+use Rattle.toml.specs.Data.{Data, array}
 use Rattle.sf_ask.specs.declared.actions.ActionSet.{ActionSet}
 use Rattle.sf_audit.specs.Trees.{texts_of}
 

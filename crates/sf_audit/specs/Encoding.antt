@@ -1,6 +1,6 @@
 -- How an entry is handed to `Question::of_masked`, so that it is refused there in its turn: a number outside 32 bits by
 -- a range without a number, an unknown action by the empty set.
-use Rattle.std.specs.Prelude.{ℕ, ℤ, pos, negsuc, ◌^◌, Bool, false, Option, Some, None, nat_lt, if◌then◌else◌, List, [], unwrap_or, Result, Ok, Err}
+use Rattle.std.specs.Prelude.{ℕ, ℤ, pos, negsuc, ◌^◌, false, Option, Some, None, nat_lt, if◌then◌else◌, List, [], unwrap_or, Result, Ok, Err}
 use Rattle.toml.specs.Data.{Data, as_str, as_table, Members, no_members}
 use Rattle.sf_ask.specs.declared.fault.Fault.{Fault as AskFault}
 use Rattle.sf_ask.specs.declared.fault.Fault.TheVariants as ask

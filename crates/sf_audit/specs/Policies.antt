@@ -1,7 +1,7 @@
 -- What a TOML tree means as a policy: its questions, or the first refusal.
-use Rattle.std.specs.Prelude.{ℕ, ℤ, pos, negsuc, ◌+◌, Bool, List, [], ◌∷◌, map, length, codes, ◌&&◌, not, nat_le, nat_eq, if◌then◌else◌, Option, Some, None, Result, Ok, Err}
+use Rattle.std.specs.Prelude.{ℕ, ℤ, pos, ◌+◌, List, [], ◌∷◌, map, length, codes, ◌&&◌, not, nat_le, nat_eq, if◌then◌else◌, Option, Some, None, Result, Ok, Err}
 use Rattle.std.specs.List.{list_all}
-use Rattle.toml.specs.Data.{Data, string, integer, float, boolean, datetime, array, table, Members, get_member}
+use Rattle.toml.specs.Data.{Data, array, Members, get_member}
 use Rattle.sf_ask.specs.Asked.{Asked}
 use Rattle.sf_ask.specs.Questions.{is_name}
 use Rattle.sf_audit.specs.declared.fault.Fault.{Fault}
@@ -10,7 +10,7 @@ use Rattle.sf_audit.specs.declared.policy.Version.{Version}
 use Rattle.sf_audit.specs.declared.policy.Version.TheVariants.{One, Two}
 use Rattle.sf_audit.specs.declared.policy.words.WordEntry.{WordEntry}
 use Rattle.sf_audit.specs.Keys.{word_keys, question_keys, top_keys, has_only}
-use Rattle.sf_audit.specs.Trees.{option_cons, each_of, tables_of, number_at, text_at}
+use Rattle.sf_audit.specs.Trees.{each_of, tables_of, number_at, text_at}
 use Rattle.sf_audit.specs.Words.{entry_at, has_range, has_mask, range_of, mask_of}
 use Rattle.sf_audit.specs.Actions.{names_at, are_actions, set_of}
 

@@ -7,13 +7,13 @@ mod words;
 
 ghost use Rattle.std.specs.Prelude.{◌≡◌, ◌⊎◌, Some, None, Err, is_some, codes, map};
 ghost use Rattle.std.specs.List.{list_all};
-ghost use Rattle.toml.specs.Data.{Members, as_table, get_member};
+ghost use Rattle.toml.specs.Data.{Members, as_table};
 ghost use Rattle.toml.specs.Parse.{parse_document};
 ghost use Rattle.toml.specs.View.{view, items_view, table_view};
 ghost use Rattle.sf_audit.specs.Faults.{Gives};
 ghost use Rattle.sf_audit.specs.Encoding.{table_or_empty};
 ghost use Rattle.sf_audit.specs.Trees.{number_at, tables_of};
-ghost use Rattle.sf_audit.specs.Policies.{version_of, tables_of_value, tables_at, questions_counted, questions_where_tables, policy_of};
+ghost use Rattle.sf_audit.specs.Policies.{version_of, tables_of_value, questions_counted, questions_where_tables, policy_of};
 
 use crate::MOST_QUESTIONS;
 use crate::fault::Fault;

@@ -6,7 +6,7 @@ ghost use Rattle.std.specs.Str.{bytes_eq};
 ghost use Rattle.toml.specs.Data.{get_member, as_str};
 ghost use Rattle.toml.specs.View.{view, items_view, table_view};
 ghost use Rattle.sf_audit.specs.Trees.{texts_of};
-ghost use Rattle.sf_audit.specs.Actions.{is_action, are_actions, is_named, set_of, texts_of_value, names_at};
+ghost use Rattle.sf_audit.specs.Actions.{is_action, are_actions, texts_of_value, names_at};
 ghost use Rattle.sf_audit.specs.Encoding.{encoded_set, text_or_empty};
 
 use super::keys::{is_among, value_at};

@@ -5,7 +5,7 @@ ghost use Rattle.toml.specs.Data.{get_member};
 ghost use Rattle.toml.specs.View.{view, items_view, table_view};
 ghost use Rattle.sf_audit.specs.Keys.{word_keys};
 ghost use Rattle.sf_audit.specs.Trees.{each_of};
-ghost use Rattle.sf_audit.specs.Words.{between, any_number, entry_of_array, entry_of_table, entry_of_versioned, entry_of, entry_at};
+ghost use Rattle.sf_audit.specs.Words.{between, entry_of_array, entry_of_table, entry_of_versioned, entry_of, entry_at};
 ghost use Rattle.sf_audit.specs.Encoding.{word_in, encoded, encoded_range, encoded_mask};
 
 use super::Version;

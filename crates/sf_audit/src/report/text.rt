@@ -2,7 +2,7 @@
 
 ghost use Rattle.std.specs.Prelude.{◌≡◌, ◌++◌, IfOk, OnOk, length, count_by, string_bytes};
 ghost use Rattle.sf_check.specs.Stacks.{path_length};
-ghost use Rattle.sf_audit.specs.Reports.{title_line, size_line, counts_line, hex_text, question_line, question_lines, trace_text, action_text, region_line, region_lines, shown_lines, is_never, is_allowed, is_unsettled, total_line, totals_line, head_text, report_text};
+ghost use Rattle.sf_audit.specs.Reports.{size_line, counts_line, hex_text, question_line, question_lines, trace_text, action_text, region_line, region_lines, shown_lines, is_never, is_allowed, is_unsettled, total_line, totals_line, head_text, report_text};
 
 use crate::outcome::Outcome;
 use sf_ask::{Question, Reply};

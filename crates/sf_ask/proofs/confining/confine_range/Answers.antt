@@ -1,5 +1,5 @@
 use Rattle.std.proofs.Common.{ap, Ok}
-use Rattle.sf_ask.proofs.Words.{range-confines, range-stays}
+use Rattle.sf_ask.proofs.Words.{range-confines}
 use Rattle.sf_ask.proofs.confining.confine_range.Goals as goal
 
 pub returns-clause-confined : goal.returns-clause-confined

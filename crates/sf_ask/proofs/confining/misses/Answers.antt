@@ -1,4 +1,3 @@
-use Rattle.std.proofs.Common.{◌≡◌, true}
 use Rattle.std.proofs.lemmas.Bool.{ltb-true}
 use Rattle.sf_ask.proofs.Words.{below-range, above-range}
 use Rattle.sf_ask.proofs.confining.misses.Goals as goal

@@ -1,6 +1,5 @@
-use Rattle.std.proofs.Common.{◌≡◌, arith, sym, ap, subst, ◌∙◌, take, length, true, false}
+use Rattle.std.proofs.Common.{◌≡◌, arith, sym, ◌∙◌}
 use Rattle.std.proofs.lemmas.List.{take_all}
-use Rattle.std.specs.List.{list_all}
 use Rattle.sf_sym.specs.Pool.{is_met}
 use Rattle.sf_piece.specs.Pieces.{is_member}
 use Rattle.sf_ask.proofs.Searching.{met-more, not-met}

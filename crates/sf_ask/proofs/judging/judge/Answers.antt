@@ -1,4 +1,4 @@
-use Rattle.std.proofs.Common.{◌≡◌, sym, ◌∙◌, ap, true, false}
+use Rattle.std.proofs.Common.{sym, ◌∙◌}
 use Rattle.sf_ask.specs.Verdicts.{IsRightVerdict, HitsPlainExample}
 use Rattle.sf_ask.specs.Searches.{IsRightSearch, HitsLeast}
 use Rattle.sf_ask.proofs.Searching.{not-asked, region-right, region-example, if-ok, if-both-ok}

@@ -1,4 +1,4 @@
-use Rattle.std.proofs.Common.{◌≡◌, arith, ◌∙◌}
+use Rattle.std.proofs.Common.{arith, ◌∙◌}
 use Rattle.std.proofs.lemmas.List.{length-set}
 use Rattle.sf_ask.proofs.Leasts.{some-same, small-more, lows-more, lows-all}
 use Rattle.sf_ask.proofs.judging.least_input.Goals as goal

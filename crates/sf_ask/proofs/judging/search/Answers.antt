@@ -1,10 +1,4 @@
-use Rattle.std.proofs.Common.{◌≡◌, arith, sym, ap, ◌∙◌, true, false}
-use Rattle.sf_sym.specs.Pool.{IsPool}
-use Rattle.sf_insn.specs.Inputs.{IsInput}
-use Rattle.sf_dom.specs.Facts.{Agrees}
-use Rattle.sf_piece.specs.Pieces.{is_member}
-use Rattle.sf_ask.specs.Breaking.{IsInQuestion}
-use Rattle.sf_ask.specs.Searches.{AreConfined, NonePasses, IsNumberBefore, IsLeastInput}
+use Rattle.std.proofs.Common.{sym, ◌∙◌}
 use Rattle.sf_ask.proofs.Searching.{ruled-out, doubtful, least-hit, exact-hit}
 use Rattle.sf_ask.proofs.judging.search.Goals as goal
 

@@ -1,5 +1,4 @@
-use Rattle.std.proofs.Common.{rules}
-use Rattle.sf_audit.proofs.FilterLemmas.{undecodable_due, unlawful_due}
+use Rattle.sf_audit.proofs.FilterLemmas.{unlawful_due}
 use Rattle.sf_audit.proofs.filters.program_of.Goals as goal
 
 pub returns-in-Ok-check-clause-accepted : goal.returns-in-Ok-check-clause-accepted

@@ -1,4 +1,3 @@
-use Rattle.std.proofs.Common.{rules}
 use Rattle.sf_audit.proofs.FilterLemmas.{one_more_file, one_file_refused}
 use Rattle.sf_audit.proofs.filters.programs_of.Goals as goal
 

@@ -1,7 +1,5 @@
-use Rattle.std.proofs.Common.{arith, rules, inr, length}
-use Rattle.std.proofs.lemmas.List.{length-map}
-use Rattle.sf_audit.specs.Filters.{AreFew}
-use Rattle.sf_audit.proofs.FilterLemmas.{bytes_of, path_too_long, refused_or_memory, few_files}
+use Rattle.std.proofs.Common.{arith, rules, inr}
+use Rattle.sf_audit.proofs.FilterLemmas.{path_too_long, refused_or_memory, few_files}
 use Rattle.sf_audit.proofs.filters.stack_of.Goals as goal
 
 pub returns-in-Err-of-clause-refused : goal.returns-in-Err-of-clause-refused
