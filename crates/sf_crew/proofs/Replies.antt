@@ -21,7 +21,7 @@ use Rattle.sf_check.specs.Stacks.{IsPlain}
 use Rattle.sf_ask.specs.Sheets.{IsBreakOf, HasNoBreak, IsRightEntry}
 use Rattle.sf_crew.specs.declared.board.Tally.{Tally}
 use Rattle.sf_crew.specs.Views.{bit_of}
-use Rattle.sf_crew.specs.Sweeps.{IsUnbroken, IsReplyTo, IsReplyAt, IsFullTally}
+use Rattle.sf_crew.specs.Sweeps.{IsUnbroken, IsReplyTo, IsRightReplyAt, IsFullTally}
 use Rattle.sf_crew.specs.declared.fault.Fault.{Fault}
 
 -- what stands at a place of the pieces of all regions is a region's piece
@@ -132,6 +132,6 @@ place_there [] q x e = absurd (cc (e))
 place_there (y ∷ l) zero x e = ap (λ (z : Option ℕ). Some z) e
 place_there (y ∷ l) (suc q) x e = place_there l q x e
 
-pub ok_replies : (s : BookData) (qs : List Asked) (q : ℕ) (question : Asked) (r : Result Reply Fault) → slice_get qs q ≡ Some question → IfOk r (IsReplyTo s question) → IfOk r (IsReplyAt s qs q)
+pub ok_replies : (s : BookData) (qs : List Asked) (q : ℕ) (question : Asked) (r : Result Reply Fault) → slice_get qs q ≡ Some question → IfOk r (IsReplyTo s question) → IfOk r (IsRightReplyAt s qs q)
 ok_replies s qs q question (Ok x) asked h = record { question = question; asked = asked; replies = h }
 ok_replies s qs q question (Err f) asked h = tt

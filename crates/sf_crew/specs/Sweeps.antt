@@ -54,12 +54,12 @@ pub record IsReplyTo (s : BookData) (question : Asked) (reply : Reply) : Type 0 
   pub plain : IsPlain s.stack → IsPlainReply s question reply
 
 -- the reply to the question of a number is such a one
-pub record IsReplyAt (s : BookData) (questions : List Asked) (q : ℕ) (reply : Reply) : Type 0 where
+pub record IsRightReplyAt (s : BookData) (questions : List Asked) (q : ℕ) (reply : Reply) : Type 0 where
   pub question : Asked
   pub asked : slice_get questions q ≡ Some question
   pub replies : IsReplyTo s question reply
 
 -- there is such a reply to each question
-pub record AreReplies (s : BookData) (questions : List Asked) (replies : List Reply) : Type 0 where
+pub record AreRightReplies (s : BookData) (questions : List Asked) (replies : List Reply) : Type 0 where
   pub count : length replies ≡ length questions
-  pub each : (q : ℕ) (reply : Reply) → slice_get replies q ≡ Some reply → IsReplyAt s questions q reply
+  pub each : (q : ℕ) (reply : Reply) → slice_get replies q ≡ Some reply → IsRightReplyAt s questions q reply

@@ -3,7 +3,7 @@ ghost use Rattle.std.specs.Prelude.{◌≡◌, ◌==◌, ◌<◌, ◌≤◌, ℕ
 ghost use Rattle.sf_ask.specs.Asked.{Asked};
 ghost use Rattle.sf_check.specs.Stacks.{IsPlain};
 ghost use Rattle.sf_crew.specs.Views.{bit_of};
-ghost use Rattle.sf_crew.specs.Sweeps.{IsFullTally, IsUnbroken, IsReplyTo, AreReplies, IsReplyAt};
+ghost use Rattle.sf_crew.specs.Sweeps.{IsFullTally, IsUnbroken, IsReplyTo, AreRightReplies, IsRightReplyAt};
 ghost use Rattle.sf_crew.specs.declared.fault.Fault.TheVariants.{Memory};
 
 use crate::board::Tally;
@@ -69,7 +69,7 @@ fn reply_of(
 ) -> Result<Reply, Fault>
     requires question { (q < length questions.now) × (q < 256) }
     requires tally { IsFullTally settled.now questions.now tally.now }
-    ensures ok { IfOk result (IsReplyAt settled.now questions.now q) }
+    ensures ok { IfOk result (IsRightReplyAt settled.now questions.now q) }
     ensures err { IfErr result (λ f. f ≡ Memory) }
 {
     let question = &questions[q];
@@ -95,7 +95,7 @@ pub fn sweep<R: Threads + Wait + Sync, G: Gate>(
 ) -> Result<Vec<Reply>, Fault>
     requires workers { (0 < workers) × (workers ≤ 64) }
     requires questions { length questions.now ≤ 256 }
-    ensures ok { IfOk result (λ v. AreReplies settled.now questions.now v.items) }
+    ensures ok { IfOk result (λ v. AreRightReplies settled.now questions.now v.items) }
     ensures err { IfErr result (λ f. f ≡ Memory) }
 {
     let full = tally(rt, alloc, settled, questions, workers, gate)?;
