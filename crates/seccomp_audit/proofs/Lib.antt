@@ -1,3 +1,2 @@
 pub mod Pairing
-pub mod PolicyLemmas
-pub mod ReadLemmas
+pub mod Spelled

@@ -1,6 +1,7 @@
+pub mod Faults
 pub mod Pairs
 pub mod Files
+pub mod Filters
 pub mod Texts
-pub mod Outputs
 pub mod Status
-pub mod Audits
+pub mod Outputs

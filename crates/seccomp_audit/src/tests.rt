@@ -1,7 +1,5 @@
-mod audits;
 mod evaluates;
 mod kit;
-mod policies;
 mod refuses;
 mod usage;
 mod writers;
