@@ -1,13 +1,18 @@
-//! Checks and evaluates real filters: lines such as `check A.bpf B.bpf` and `eval HEX A.bpf B.bpf` come on standard
-//! input, and the files lie where the program runs.
+//! Checks, evaluates and audits real filters: lines such as `check A.bpf B.bpf`, `eval HEX A.bpf B.bpf` and
+//! `audit POLICY A.bpf B.bpf` come on standard input, and the files lie where the program runs.
 #![tactic(auto)]
 
+mod auditing;
+
+use crate::auditing::show_audit;
 use hex::FromHex;
 use sf_check::{Program, Stack, check};
 use sf_insn::{decode, input_of_bytes};
 use sf_run::answer;
 use std::rt::Files;
 use std::test::Fail;
+use std::sync::Wait;
+use std::thread::Threads;
 use std::{fs, io};
 
 /// The program in a filter file.
@@ -43,12 +48,28 @@ fn show_answer<R: Print>(rt: &R, stack: &Stack, digits: &str) -> Result<(), Fail
     Ok(())
 }
 
+/// Shows what an audit of the filter files by the policy file finds.
+fn show_audit_of<R: Files + Print + Threads + Wait + Sync + AllocGlobal>(
+    rt: &R,
+    policy: &str,
+    paths: &[&str],
+) -> Result<(), Fail> {
+    let policy = fs::read_to_string(rt, policy)?;
+    let mut filters = Vec::new(rt.alloc());
+    for path in paths {
+        let bytes = fs::read(rt, path)?;
+        filters.push(bytes)?;
+    }
+    show_audit(rt, rt.alloc(), policy.as_str(), &filters)
+}
+
 /// Does what one line says.
-fn show<R: Files + Print + AllocGlobal>(rt: &R, line: &str) -> Result<(), Fail> {
+fn show<R: Files + Print + Threads + Wait + Sync + AllocGlobal>(rt: &R, line: &str) -> Result<(), Fail> {
     let words: Vec<&str> = line.split_whitespace().collect(rt.alloc())?;
     match words.as_slice() {
         ["check", paths @ ..] => show_check(rt, &stack_in(rt, paths)?)?,
         ["eval", digits, paths @ ..] => show_answer(rt, &stack_in(rt, paths)?, digits)?,
+        ["audit", policy, paths @ ..] => show_audit_of(rt, policy, paths)?,
         _ => println!(rt; "unknown line")?,
     }
     Ok(())

@@ -1,2 +1,3 @@
 pub mod Pairing
-pub mod Spelled
+pub mod PolicyLemmas
+pub mod ReadLemmas

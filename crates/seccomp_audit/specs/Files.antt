@@ -1,8 +1,6 @@
 -- Files by their paths.
 use Rattle.std.specs.Prelude.{◌≡◌, ℕ, List, Option, Some, None}
 use Rattle.std.specs.Borrow.{Bor}
-use Rattle.std.specs.declared.vec.Vec.{Vec}
-use Rattle.std.specs.declared.alloc.Global.{Global}
 use Rattle.seccomp_audit.specs.Pairs.{Pairwise}
 
 -- bytes that were read are those that are known
@@ -11,5 +9,5 @@ AgreesWith None bytes = Unit {0}
 AgreesWith (Some known) bytes = bytes ≡ known
 
 -- the bytes are those of the files at the paths, path by path
-abbrev pub AreRead : (List ℕ → Option (List ℕ)) → List (Bor (List ℕ)) → List (Vec ℕ Global) → Type 0
-AreRead holds paths files = Pairwise (λ path file. AgreesWith (holds path.now) file.items) paths files
+abbrev pub AreRead : (List ℕ → Option (List ℕ)) → List (Bor (List ℕ)) → List (List ℕ) → Type 0
+AreRead holds paths files = Pairwise (λ path file. AgreesWith (holds path.now) file) paths files

@@ -3,43 +3,40 @@ use Rattle.std.specs.Prelude.{◌≡◌, ◌⊎◌, ℕ, List, Option, Ok}
 use Rattle.std.specs.Borrow.{Bor}
 use Rattle.hex.specs.Hex.{decode_sized}
 use Rattle.std.specs.Io.KnownBytes.{Appends}
-use Rattle.std.specs.declared.vec.Vec.{Vec}
-use Rattle.std.specs.declared.alloc.Global.{Global}
 use Rattle.sf_insn.specs.declared.input.Input.{Input}
 use Rattle.sf_insn.specs.Inputs.{input_bytes}
 use Rattle.sf_check.specs.declared.insn.Insn.{Insn}
-use Rattle.sf_check.specs.Stacks.{IsLawfulStack}
 use Rattle.sf_run.specs.declared.action.Answer.{Answer}
 use Rattle.sf_run.specs.Answers.{Answers}
-use Rattle.seccomp_audit.specs.declared.fault.Fault.{Fault}
-use Rattle.seccomp_audit.specs.declared.fault.Fault.TheVariants.{Memory, Read}
+use Rattle.sf_audit.specs.declared.fault.Fault.{Fault}
+use Rattle.sf_audit.specs.declared.fault.Fault.TheVariants.{Memory, Read}
+use Rattle.sf_audit.specs.Filters.{IsFirstRefusal, SpellStack}
 use Rattle.seccomp_audit.specs.Files.{AreRead}
-use Rattle.seccomp_audit.specs.Filters.{AreSpelled, Refuses}
 use Rattle.seccomp_audit.specs.Texts.{answer_text, check_text}
 
 -- the files spell a lawful stack, and known bytes grow by the text about it
-abbrev pub WritesCheck : List (Vec ℕ Global) → Option (List ℕ) → Option (List ℕ) → Type 0
+abbrev pub WritesCheck : List (List ℕ) → Option (List ℕ) → Option (List ℕ) → Type 0
 WritesCheck files old new =
-    (programs : List (List Insn)) × AreSpelled files programs × IsLawfulStack programs × Appends old new (check_text programs)
+    (programs : List (List Insn)) × SpellStack files programs × Appends old new (check_text programs)
 
 -- the files spell a lawful stack, and known bytes grow by the line of what it answers to the input
-abbrev pub WritesAnswer : List (Vec ℕ Global) → Input → Option (List ℕ) → Option (List ℕ) → Type 0
+abbrev pub WritesAnswer : List (List ℕ) → Input → Option (List ℕ) → Option (List ℕ) → Type 0
 WritesAnswer files input old new =
-    (programs : List (List Insn)) × (answer : Answer) × AreSpelled files programs × IsLawfulStack programs
+    (programs : List (List Insn)) × (answer : Answer) × SpellStack files programs
     × Answers programs input answer × Appends old new (answer_text answer)
 
 -- `check`: the files at the paths are read, and what they spell is written
 abbrev pub ChecksFiles : (List ℕ → Option (List ℕ)) → List (Bor (List ℕ)) → Option (List ℕ) → Option (List ℕ) → Type 0
-ChecksFiles holds paths old new = (files : List (Vec ℕ Global)) × AreRead holds paths files × WritesCheck files old new
+ChecksFiles holds paths old new = (files : List (List ℕ)) × AreRead holds paths files × WritesCheck files old new
 
 -- `eval`: the digits spell an input, the files at the paths are read, and what they answer to it is written
 abbrev pub EvaluatesFiles : List ℕ → (List ℕ → Option (List ℕ)) → List (Bor (List ℕ)) → Option (List ℕ) → Option (List ℕ) → Type 0
 EvaluatesFiles digits holds paths old new =
-    (input : Input) × (files : List (Vec ℕ Global)) × (decode_sized digits 64 ≡ Ok (input_bytes input))
+    (input : Input) × (files : List (List ℕ)) × (decode_sized digits 64 ≡ Ok (input_bytes input))
     × AreRead holds paths files × WritesAnswer files input old new
 
 -- Why the files at the paths are refused: one can't be read, or else all were read and make no lawful stack. Want of
 -- memory can come at any time.
 abbrev pub RefusesFiles : (List ℕ → Option (List ℕ)) → List (Bor (List ℕ)) → Fault → Type 0
 RefusesFiles holds paths fault =
-    (fault ≡ Read) ⊎ (fault ≡ Memory) ⊎ ((files : List (Vec ℕ Global)) × AreRead holds paths files × Refuses files fault)
+    (fault ≡ Read) ⊎ (fault ≡ Memory) ⊎ ((files : List (List ℕ)) × AreRead holds paths files × IsFirstRefusal files fault)

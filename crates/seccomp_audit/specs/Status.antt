@@ -1,6 +1,15 @@
 -- Exit statuses of the program.
-use Rattle.std.specs.Prelude.{ℕ, nat_lt, if◌then◌else◌}
+use Rattle.std.specs.Prelude.{ℕ, List, nat_lt, count_by, if◌then◌else◌}
+use Rattle.sf_ask.specs.declared.verdict.Reply.{Reply}
+use Rattle.sf_audit.specs.Reports.{is_allowed, is_unsettled}
 
 -- the status of a fault by its number: 3 where what was given is refused, 5 where reading, writing or memory fails
 abbrev pub fault_status : ℕ → ℕ
 fault_status number = if nat_lt number 50 then 3 else 5
+
+-- the status of replies: 1 where some question is allowed, 2 where none is and some is unsettled, 0 where all are never
+abbrev pub replies_status : List Reply → ℕ
+replies_status replies =
+    if nat_lt 0 (count_by is_allowed replies) then 1 else
+    if nat_lt 0 (count_by is_unsettled replies) then 2 else
+    0

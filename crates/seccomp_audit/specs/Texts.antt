@@ -1,29 +1,10 @@
 -- The text that `check` and `eval` write.
-use Rattle.std.specs.Prelude.{ℕ, List, [], ◌∷◌, ◌++◌, ◌+◌, ◌-◌, ◌^◌, false, codes, length}
-use Rattle.std.specs.Fmt.{decimal, digits, padded_integral, format_spec}
+use Rattle.std.specs.Prelude.{ℕ, List, [], ◌∷◌, ◌++◌, ◌+◌, codes, length}
+use Rattle.std.specs.Fmt.{decimal}
 use Rattle.sf_check.specs.declared.insn.Insn.{Insn}
 use Rattle.sf_check.specs.Stacks.{path_length}
-use Rattle.sf_run.specs.declared.action.Action.{Action}
-use Rattle.sf_run.specs.declared.action.Action.TheVariants.{KillProcess, KillThread, Trap, Errno, UserNotif, Trace, Log, Allow, Other}
 use Rattle.sf_run.specs.declared.action.Answer.{Answer}
-
--- the parts of a line one space apart, and a line feed
-abbrev pub line : List (List ℕ) → List ℕ
-line [] = 10 ∷ []
-line (part ∷ []) = part ++ 10 ∷ []
-line (part ∷ next ∷ parts) = part ++ 32 ∷ line (next ∷ parts)
-
--- the name of an action, as seccomp(2) has it without its prefix; an action without a name by eight digits
-abbrev pub action_text : Action → List ℕ
-action_text KillProcess = codes "KILL_PROCESS"
-action_text KillThread = codes "KILL_THREAD"
-action_text Trap = codes "TRAP"
-action_text Errno = codes "ERRNO"
-action_text UserNotif = codes "USER_NOTIF"
-action_text Trace = codes "TRACE"
-action_text Log = codes "LOG"
-action_text Allow = codes "ALLOW"
-action_text (Other value) = codes "OTHER:0x" ++ padded_integral (format_spec 32 0 4 8 (2 ^ 64 - 1)) false [] (digits 16 false value)
+use Rattle.sf_audit.specs.Reports.{action_text, line}
 
 -- the line of `eval`: an action and its data
 abbrev pub answer_text : Answer → List ℕ

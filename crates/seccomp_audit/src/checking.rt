@@ -1,18 +1,17 @@
 //! What `check` and `eval` do with the bytes that they were given.
 
-ghost use Rattle.std.specs.Prelude.{◌≡◌, ◌⊎◌, Err, Ok, IfOk, IfErr, OnOk, IsOk};
+ghost use Rattle.std.specs.Prelude.{◌≡◌, ◌⊎◌, map, Err, Ok, IfOk, IfErr, OnOk, IsOk};
 ghost use Rattle.std.specs.Io.KnownBytes.{Appends};
 ghost use Rattle.hex.specs.Hex.{decode_sized};
 ghost use Rattle.sf_insn.specs.Inputs.{input_bytes};
 ghost use Rattle.seccomp_audit.specs.Outputs.{ChecksFiles, EvaluatesFiles, RefusesFiles, WritesAnswer, WritesCheck};
-ghost use Rattle.seccomp_audit.specs.Filters.{Refuses};
-ghost use Rattle.seccomp_audit.specs.declared.fault.Fault.TheVariants.{Input as InputFault, Write as WriteFault};
+ghost use Rattle.sf_audit.specs.Filters.{IsFirstRefusal};
+ghost use Rattle.sf_audit.specs.declared.fault.Fault.TheVariants.{Memory as MemoryFault, Input as InputFault, Write as WriteFault};
 
-use crate::fault::Fault;
 use crate::files::{Files, read_all};
-use crate::stacks::stack_of;
 use crate::texts::{answer_text, check_text};
 use hex::FromHex;
+use sf_audit::{Fault, stack_of};
 use sf_insn::{Input, input_of_bytes};
 use sf_run::answer;
 use std::alloc::Global;
@@ -43,8 +42,8 @@ pub fn input_of(text: &str) -> Result<Input, Fault>
 
 /// Writes the number of instructions of each filter and the path length of their stack.
 fn check_filters<O: Write>(alloc: Global, filters: &[Vec<u8>], out: &mut O) -> Result<(), Fault>
-    ensures written { OnOk result (WritesCheck filters.now (O.contents out.old) (O.contents out.new)) }
-    ensures refused { IfErr result (λ e. (e ≡ WriteFault) ⊎ (Refuses filters.now e × (out.new ≡ out.old))) }
+    ensures written { OnOk result (WritesCheck (map (λ f. f.items) filters.now) (O.contents out.old) (O.contents out.new)) }
+    ensures refused { IfErr result (λ e. (e ≡ WriteFault) ⊎ (((e ≡ MemoryFault) ⊎ IsFirstRefusal (map (λ f. f.items) filters.now) e) × (out.new ≡ out.old))) }
 {
     let stack = stack_of(alloc, filters)?;
     let text = check_text(alloc, &stack)?;
@@ -58,8 +57,8 @@ fn evaluate_filters<O: Write>(
     filters: &[Vec<u8>],
     out: &mut O,
 ) -> Result<(), Fault>
-    ensures written { OnOk result (WritesAnswer filters.now input.now (O.contents out.old) (O.contents out.new)) }
-    ensures refused { IfErr result (λ e. (e ≡ WriteFault) ⊎ (Refuses filters.now e × (out.new ≡ out.old))) }
+    ensures written { OnOk result (WritesAnswer (map (λ f. f.items) filters.now) input.now (O.contents out.old) (O.contents out.new)) }
+    ensures refused { IfErr result (λ e. (e ≡ WriteFault) ⊎ (((e ≡ MemoryFault) ⊎ IsFirstRefusal (map (λ f. f.items) filters.now) e) × (out.new ≡ out.old))) }
 {
     let stack = stack_of(alloc, filters)?;
     let text = answer_text(alloc, answer(&stack, input))?;

@@ -1,24 +1,37 @@
 //! From the words of a command line to a status.
-ghost use Rattle.std.specs.Prelude.{◌≡◌, ◌≢◌, ◌≤◌, ◌⊎◌, IfOk, IfErr};
+ghost use Rattle.std.specs.Prelude.{◌≡◌, ◌≢◌, ◌<◌, ◌≤◌, ◌⊎◌, ℕ, Some, None, IfOk, IfErr};
 ghost use Rattle.clap.specs.Values.{kind_of};
-ghost use Rattle.seccomp_audit.specs.Faults.{fault_number};
+ghost use Rattle.sf_audit.specs.Faults.{fault_number};
 ghost use Rattle.seccomp_audit.specs.Status.{fault_status};
 
+use crate::auditing::{Options, audit};
 use crate::checking::{check, evaluate, print};
-use crate::fault::Fault;
 use crate::files::Files;
 use crate::status::status_of;
 use crate::words;
 use clap::ArgMatches;
 use clap::error::ErrorKind;
+use sf_audit::Fault;
 use std::alloc::Global;
 use std::io::Write;
 use std::sync::Wait;
 use std::thread::Threads;
 
+/// The number of workers that the command line asks for; it lets no other than 1 to 64 through.
+fn workers_of(asked: Option<u8>) -> u8
+    ensures few { (0 < result) × (result ≤ 64) }
+    ensures asked { (n : ℕ) → asked ≡ Some n → 0 < n → n ≤ 64 → result ≡ n }
+    ensures default { asked ≡ None → result ≡ 4 }
+{
+    match asked {
+        Some(workers) if 0 < workers && workers <= 64 => workers,
+        _ => 4,
+    }
+}
+
 /// Runs the subcommand that the command line names.
 fn run<R: Threads + Wait + Sync, F: Files, O: Write>(
-    _rt: &R,
+    rt: &R,
     alloc: Global,
     matches: &ArgMatches<'_>,
     files: &mut F,
@@ -33,6 +46,15 @@ fn run<R: Threads + Wait + Sync, F: Files, O: Write>(
     };
     let paths = found.get_strs("filters").unwrap_or(&[]);
     match name {
+        "audit" => {
+            let policy = found.get_str("policy").unwrap_or("");
+            let options = Options {
+                budget: found.get_one::<u32>("budget").unwrap_or(100_000),
+                workers: workers_of(found.get_one::<u8>("workers")),
+                regions: found.get_flag("regions"),
+            };
+            return audit(rt, alloc, policy, paths, options, files, out);
+        }
         "check" => check(alloc, paths, files, out)?,
         "eval" => {
             let digits = found.get_str("input").unwrap_or("");
@@ -86,7 +108,8 @@ fn reply<R: Threads + Wait + Sync, F: Files, O: Write, E: Write>(
 
 /// Does what the words after the program's name say, and gives the exit status.
 ///
-/// 0: done. 3: the filters or the input are refused; standard output is left as it was. 4: the command line is refused; no
+/// 0: done, and of an audit each question is never. 1: some question is allowed. 2: none is allowed and some is unsettled.
+/// 3: the filters, the policy or the input are refused; standard output is left as it was. 4: the command line is refused; no
 /// file was read, standard output is left as it was, and standard error has the text of `clap`. 5: reading, writing or
 /// memory failed. At 3 and 5 one line on standard error says what: `error`, the number, the name and the place of the
 /// fault.

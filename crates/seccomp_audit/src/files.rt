@@ -1,10 +1,10 @@
 //! Where files come from.
 
-ghost use Rattle.std.specs.Prelude.{◌≡◌, ◌⊎◌, ℕ, List, IfOk, IfErr};
+ghost use Rattle.std.specs.Prelude.{◌≡◌, ◌⊎◌, ℕ, List, map, IfOk, IfErr};
 ghost use Rattle.seccomp_audit.specs.Files.{AgreesWith, AreRead};
-ghost use Rattle.seccomp_audit.specs.declared.fault.Fault.TheVariants.{Memory, Read};
+ghost use Rattle.sf_audit.specs.declared.fault.Fault.TheVariants.{Memory, Read};
 
-use crate::fault::Fault;
+use sf_audit::Fault;
 use std::alloc::Global;
 
 /// Files by their paths.
@@ -27,7 +27,7 @@ pub fn read_all<F: Files>(
     paths: &[&str],
     files: &mut F,
 ) -> Result<Vec<Vec<u8>>, Fault>
-    ensures read { IfOk result (λ v. AreRead (F.holds files.old) paths.now v.items) }
+    ensures read { IfOk result (λ v. AreRead (F.holds files.old) paths.now (map (λ f. f.items) v.items)) }
     ensures refused { IfErr result (λ e. (e ≡ Read) ⊎ (e ≡ Memory)) }
 {
     let mut read = Vec::new(alloc);

@@ -1,11 +1,10 @@
 //! Audits a stack of seccomp filters.
 #![tactic(auto)]
 
+mod auditing;
 mod checking;
 mod command;
-mod fault;
 mod files;
-mod stacks;
 mod status;
 #[cfg(test)]
 mod tests;
@@ -13,9 +12,9 @@ mod texts;
 mod words;
 
 use crate::command::command;
-use crate::fault::Fault;
 use crate::files::Files;
 use crate::status::status_of;
+use sf_audit::Fault;
 use std::io::{ErrorKind, Write};
 use std::process::ExitCode;
 use std::rt::Files as FileSystem;

@@ -1,6 +1,7 @@
 //! The text that `check` and `eval` write.
 ghost use Rattle.std.specs.Prelude.{◌≡◌, ◌++◌, IfOk, OnOk, length, string_bytes};
-ghost use Rattle.seccomp_audit.specs.Texts.{action_text, answer_text, check_text, filter_lines, filter_line, path_line};
+ghost use Rattle.sf_audit.specs.Reports.{action_text};
+ghost use Rattle.seccomp_audit.specs.Texts.{answer_text, check_text, filter_lines, filter_line, path_line};
 
 use sf_check::{Program, Stack};
 use sf_run::{Action, Answer};

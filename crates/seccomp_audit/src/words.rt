@@ -1,5 +1,5 @@
 //! The words of the command line.
-use clap::{Arg, ArgAction, Command};
+use clap::{Arg, ArgAction, Command, value_parser};
 use std::alloc::{AllocError, Global};
 
 fn filters<'a>(alloc: Global) -> Arg<'a> {
@@ -9,6 +9,37 @@ fn filters<'a>(alloc: Global) -> Arg<'a> {
         .num_args(1..)
         .action(ArgAction::Append)
         .help("Filter files, in order of installation")
+}
+
+fn audit<'a>(alloc: Global) -> Result<Command<'a>, AllocError> {
+    let policy = Arg::new(alloc, "policy")
+        .long("policy")
+        .value_name("FILE")
+        .required(true)
+        .help("The policy file, which asks the questions");
+    let budget = Arg::new(alloc, "budget")
+        .long("budget")
+        .value_name("N")
+        .value_parser(value_parser!(u32).range(1..=1_000_000))
+        .default_value("100000")
+        .help("The most pieces that are worked on");
+    let workers = Arg::new(alloc, "workers")
+        .long("workers")
+        .value_name("N")
+        .value_parser(value_parser!(u8).range(1..=64))
+        .default_value("4")
+        .help("The number of workers, 1 to 64");
+    let regions = Arg::new(alloc, "regions")
+        .long("regions")
+        .action(ArgAction::SetTrue)
+        .help("List the settled regions too");
+    Command::new(alloc, "audit")
+        .about("Answer the questions of a policy about a stack of filters")
+        .arg(policy)?
+        .arg(budget)?
+        .arg(workers)?
+        .arg(regions)?
+        .arg(filters(alloc))
 }
 
 fn check<'a>(alloc: Global) -> Result<Command<'a>, AllocError> {
@@ -37,6 +68,7 @@ pub(crate) fn form<'a>(alloc: Global) -> Result<Command<'a>, AllocError> {
         .no_binary_name(true)
         .subcommand_required(true)
         .disable_help_subcommand(true)
+        .subcommand(audit(alloc)?)?
         .subcommand(check(alloc)?)?
         .subcommand(eval(alloc)?)
 }

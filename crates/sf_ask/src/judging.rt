@@ -38,8 +38,9 @@ fn is_member_of(alloc: Global, piece: &Piece, input: &Input) -> Result<bool, Fau
     ensures tells { IfOk result (λ b. b ≡ is_member piece.now input.now) }
     ensures err { IfErr result (λ f. f ≡ Memory) }
 {
+    let values = piece.pool().values(alloc, input)?;
     for i in 0..piece.cond_count() {
-        if !piece.pool().holds(alloc, &piece.cond(i), input)? {
+        if !piece.cond(i).is_met(values.as_slice()) {
             return Ok(false);
         }
     }

@@ -1,7 +1,7 @@
 //! Files in memory, and what a command line does with them.
 use crate::command::command;
-use crate::fault::Fault;
 use crate::files::Files;
+use sf_audit::Fault;
 use std::alloc::{AllocError, Global};
 use std::process::Abort;
 use std::sync::Wait;

@@ -7,6 +7,7 @@ Audit a stack of seccomp filters
 Usage: seccomp_audit <COMMAND>
 
 Commands:
+  audit  Answer the questions of a policy about a stack of filters
   check  Check whether files are lawful filters that make a lawful stack
   eval   Show what a stack of filters answers to one input
 
@@ -16,7 +17,7 @@ Options:
 
 const NO_COMMAND: &str = "\
 error: 'seccomp_audit' requires a subcommand but one was not provided
-  [subcommands: check, eval]
+  [subcommands: audit, check, eval]
 
 Usage: seccomp_audit <COMMAND>
 
@@ -76,6 +77,27 @@ Usage: seccomp_audit <COMMAND>
 For more information, try '--help'.
 ";
 
+const NO_POLICY: &str = "\
+error: the following required arguments were not provided:
+  --policy <FILE>
+
+Usage: seccomp_audit audit --policy <FILE> <FILTER>...
+
+For more information, try '--help'.
+";
+
+const NO_BUDGET: &str = "\
+error: invalid value '0' for '--budget <N>': 0 is not in 1..=1000000
+
+For more information, try '--help'.
+";
+
+const MANY_WORKERS: &str = "\
+error: invalid value '65' for '--workers <N>': 65 is not in 1..=64
+
+For more information, try '--help'.
+";
+
 #[test]
 fn prints_help(rt: HostRuntime) -> Result<(), Fail> {
     let mut shelf = Shelf::of(rt.alloc(), &[("allow", ALLOW)])?;
@@ -89,6 +111,14 @@ fn refuses_other_command_lines(rt: HostRuntime) -> Result<(), Fail> {
     let rows = [
         ("", 4, "", NO_COMMAND),
         ("help", 4, "", UNKNOWN_COMMAND),
+        ("audit allow", 4, "", NO_POLICY),
+        ("audit --policy missing --budget 0 allow", 4, "", NO_BUDGET),
+        (
+            "audit --policy missing --workers 65 allow",
+            4,
+            "",
+            MANY_WORKERS,
+        ),
         ("check", 4, "", NO_FILTER),
         ("check --other allow", 4, "", UNKNOWN_OPTION),
         ("eval allow", 4, "", NO_INPUT),

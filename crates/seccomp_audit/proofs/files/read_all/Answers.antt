@@ -1,7 +1,7 @@
 use Rattle.std.proofs.Common.{◌≡◌, List, [], ℕ, ◌∙◌, Bor, subst}
 use Rattle.std.proofs.lemmas.Option.{slice_get-get_or}
 use Rattle.seccomp_audit.specs.Files.{AgreesWith}
-use Rattle.seccomp_audit.proofs.Pairing.{paired_more, paired_all}
+use Rattle.seccomp_audit.proofs.Pairing.{paired_more, paired_all, paired_mapped}
 use Rattle.seccomp_audit.proofs.files.read_all.Goals as goal
 
 no_path : Bor (List ℕ)
@@ -20,4 +20,5 @@ loop-path-preserved g c =
 
 pub returns-clause-read : goal.returns-clause-read
 returns-clause-read g c =
-    paired_all _ _ _ _ _ (λ path file h. h) c.loop-path.invariant.paired c.loop-path-test.false c.loop-path.auto.path-index-end
+    let all = paired_all _ _ _ _ _ (λ path file h. h) c.loop-path.invariant.paired c.loop-path-test.false c.loop-path.auto.path-index-end in
+    paired_mapped _ (λ file. file.items) _ _ all

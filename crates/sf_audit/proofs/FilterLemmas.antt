@@ -1,0 +1,150 @@
+-- What the bytes of filter files spell, and why they are refused.
+use Rattle.std.proofs.Common.{◌≡◌, ◌≢◌, ◌==◌, false, ◌⊎◌, inl, inr, ℕ, ◌+◌, ◌*◌, ◌%◌, ◌<◌, ◌≤◌, List, [], ◌∷◌, ◌++◌, length, take, map, suc, Vec, Global, Err, Result, get_or, ◌∙◌, refl, ap, sym, arith}
+use Rattle.std.proofs.lemmas.List.{take_more, get_or-map, length-map}
+use Rattle.std.proofs.lemmas.Option.{slice_get_read}
+use Rattle.sf_check.specs.Stacks.{path_length}
+use Rattle.sf_check.specs.declared.stack.Stack.{Stack}
+use Rattle.sf_insn.specs.declared.raw.RawInsn.{RawInsn}
+use Rattle.sf_insn.specs.declared.fault.Fault.{Fault as DecodeFault}
+use Rattle.sf_insn.specs.declared.fault.Fault.TheVariants as decode
+use Rattle.sf_insn.specs.Spelling.{spelling, AreInsns}
+use Rattle.sf_check.specs.declared.insn.Insn.{Insn}
+use Rattle.sf_check.specs.declared.fault.Fault.{Fault as CheckFault}
+use Rattle.sf_check.specs.declared.fault.Fault.TheVariants as check
+use Rattle.sf_check.specs.Refusals.{IsFirstFault}
+use Rattle.sf_audit.specs.declared.fault.Fault.{Fault}
+use Rattle.sf_audit.specs.declared.fault.Fault.TheVariants as faults
+use Rattle.sf_audit.specs.FaultPlaces.{decode_fault, check_fault}
+use Rattle.sf_audit.specs.Filters.{SpellsProgram, SpellPrograms, IsRefusalOf, AreFew, SpellLongPath, IsFileRefusal, IsFirstRefusal}
+
+pub undecodable_due : (number : ℕ) (bytes : List ℕ) (e : DecodeFault)
+    → (e ≡ decode.Ragged → length bytes % 8 ≢ 0)
+    → (e ≡ decode.Empty → length bytes ≡ 0)
+    → (e ≡ decode.TooLong → (length bytes % 8 ≡ 0) × (8 * 4096 < length bytes))
+    → (decode_fault number e ≡ faults.Memory) ⊎ IsRefusalOf number bytes (decode_fault number e)
+undecodable_due number bytes decode.Ragged ragged empty long = inr (refl, ragged refl)
+undecodable_due number bytes decode.Empty ragged empty long = inr (refl, empty refl)
+undecodable_due number bytes decode.TooLong ragged empty long = inr (refl, (long refl).0, (long refl).1)
+undecodable_due number bytes decode.Memory ragged empty long = inl refl
+
+pub unlawful_due : (number : ℕ) (bytes : List ℕ) (raws : List RawInsn) (e : CheckFault)
+    → AreInsns raws → bytes ≡ spelling raws → 0 < length raws → length raws ≤ 4096
+    → (e ≡ check.Memory) ⊎ IsFirstFault raws e
+    → (check_fault number e ≡ faults.Memory) ⊎ IsRefusalOf number bytes (check_fault number e)
+unlawful_due number bytes raws e fields spelled some short (inl memory) = inl (ap (check_fault number) memory)
+unlawful_due number bytes raws check.Empty fields spelled some short (inr h) = absurd (omega arith)
+unlawful_due number bytes raws check.TooLong fields spelled some short (inr h) = absurd (omega arith)
+unlawful_due number bytes raws (check.Code at) fields spelled some short (inr h) = inr (refl, record { raws = raws; fields = fields; spelled = spelled; first = h })
+unlawful_due number bytes raws (check.Field at) fields spelled some short (inr h) = inr (refl, record { raws = raws; fields = fields; spelled = spelled; first = h })
+unlawful_due number bytes raws (check.Jump at) fields spelled some short (inr h) = inr (refl, record { raws = raws; fields = fields; spelled = spelled; first = h })
+unlawful_due number bytes raws check.Last fields spelled some short (inr h) = inr (refl, record { raws = raws; fields = fields; spelled = spelled; first = h })
+unlawful_due number bytes raws (check.Scratch at) fields spelled some short (inr h) = inr (refl, record { raws = raws; fields = fields; spelled = spelled; first = h })
+unlawful_due number bytes raws check.NoFilter fields spelled some short (inr h) = absurd h
+unlawful_due number bytes raws check.TooMany fields spelled some short (inr h) = absurd h
+unlawful_due number bytes raws check.PathLength fields spelled some short (inr h) = absurd h
+unlawful_due number bytes raws check.Memory fields spelled some short (inr h) = absurd h
+
+pub one_more_program : (files : List (List ℕ)) (programs : List (List Insn)) (file : List ℕ) (program : List Insn)
+    → SpellPrograms files programs → SpellsProgram file program → SpellPrograms (files ++ file ∷ []) (programs ++ program ∷ [])
+one_more_program [] [] file program h p = (p, tt)
+one_more_program (f ∷ files) (g ∷ programs) file program h p = (h.0, one_more_program files programs file program h.1 p)
+one_more_program [] (g ∷ programs) file program h p = absurd h
+one_more_program (f ∷ files) [] file program h p = absurd h
+
+pub as_many : (files : List (List ℕ)) (programs : List (List Insn)) → SpellPrograms files programs → length programs ≡ length files
+as_many [] [] h = refl
+as_many (f ∷ files) (g ∷ programs) h = ap suc (as_many files programs h.1)
+as_many [] (g ∷ programs) h = absurd h
+as_many (f ∷ files) [] h = absurd h
+
+-- the bytes of files
+abbrev pub bytes_of : List (Vec ℕ Global) → List (List ℕ)
+bytes_of files = map (λ f. f.items) files
+
+file_at : (files : List (Vec ℕ Global)) (i : ℕ) (file : Vec ℕ Global) → i < length files → file ≡ get_or files i file → get_or (bytes_of files) i [] ≡ file.items
+file_at files i file h is = get_or-map (λ f. f.items) files i file [] h ∙ ap (λ (f : Vec ℕ Global). f.items) (sym is)
+
+-- One more file spells a lawful program.
+pub one_more_file : (files : List (Vec ℕ Global)) (programs : List (List Insn)) (i : ℕ) (file : Vec ℕ Global) (program : List Insn)
+    → i < length files → file ≡ get_or files i file
+    → SpellPrograms (take i (bytes_of files)) programs → SpellsProgram file.items program
+    → SpellPrograms (take (i + 1) (bytes_of files)) (programs ++ program ∷ [])
+one_more_file files programs i file program h is before spelled =
+    let below : i < length (bytes_of files) = rw length-map h in
+    rw (take_more (bytes_of files) i [] below, file_at files i file h is) (one_more_program _ programs file.items program before spelled)
+
+-- A file is refused, after files that spell lawful programs.
+pub one_file_refused : (files : List (Vec ℕ Global)) (programs : List (List Insn)) (i : ℕ) (file : Vec ℕ Global) (e : Fault)
+    → i < length files → file ≡ get_or files i file
+    → SpellPrograms (take i (bytes_of files)) programs
+    → (e ≡ faults.Memory) ⊎ IsRefusalOf (i + 1) file.items e
+    → (e ≡ faults.Memory) ⊎ IsFileRefusal (bytes_of files) e
+one_file_refused files programs i file e h is before (inl memory) = inl memory
+one_file_refused files programs i file e h is before (inr refused) =
+    let below : i < length (bytes_of files) = rw length-map h in
+    inr (record {
+      place = i;
+      file = file.items;
+      at = slice_get_read (bytes_of files) (length (bytes_of files)) i file.items refl below (sym (get_or-map (λ f. f.items) files i file file.items h ∙ ap (λ (f : Vec ℕ Global). f.items) (sym is)));
+      programs = programs;
+      before = before;
+      refused = refused;
+    })
+
+-- Files whose programs make no stack, though they are few.
+pub path_too_long : (files : List (List ℕ)) (programs : List (List Insn)) (r : Result Stack CheckFault) (e : CheckFault)
+    → AreFew files → SpellPrograms files programs → r ≡ Err e
+    → (e ≡ check.NoFilter) ⊎ ((e ≡ check.TooMany) ⊎ (e ≡ check.PathLength))
+    → (r ≡ Err check.NoFilter → length programs ≡ 0)
+    → (r ≡ Err check.TooMany → 64 < length programs)
+    → (r ≡ Err check.PathLength → (length programs ≤ 64) × (32768 < path_length programs))
+    → SpellLongPath files
+path_too_long files programs r e few spelled is only none many long =
+    let count = as_many files programs spelled in
+    let some = few.some in
+    let most = few.few in
+    elim only [
+      | inl empty ↦ let zero : length programs ≡ 0 = none (is ∙ ap (λ f. Err f) empty) in absurd (omega arith)
+      | inr other ↦ elim other [
+        | inl too ↦ let above : 64 < length programs = many (is ∙ ap (λ f. Err f) too) in absurd (omega arith)
+        | inr path ↦ record { programs = programs; spelled = spelled; long = (long (is ∙ ap (λ f. Err f) path)).1 }
+      ]
+    ]
+
+-- a file's refusal is the first one
+pub first_refusal : (files : List (List ℕ)) (e : Fault) → AreFew files → IsFileRefusal files e → IsFirstRefusal files e
+first_refusal files (faults.Ragged f) few r = (few, r)
+first_refusal files (faults.Empty f) few r = (few, r)
+first_refusal files (faults.TooLong f) few r = (few, r)
+first_refusal files (faults.Code f at) few r = (few, r)
+first_refusal files (faults.Field f at) few r = (few, r)
+first_refusal files (faults.Jump f at) few r = (few, r)
+first_refusal files (faults.Last f) few r = (few, r)
+first_refusal files (faults.Scratch f at) few r = (few, r)
+first_refusal files faults.NoFilter few r = absurd r.refused
+first_refusal files faults.TooMany few r = absurd r.refused
+first_refusal files faults.PathLength few r = absurd r.refused
+first_refusal files faults.Foreign few r = (few, r)
+first_refusal files faults.Version few r = (few, r)
+first_refusal files faults.TopKey few r = (few, r)
+first_refusal files (faults.Key q) few r = (few, r)
+first_refusal files (faults.Range q) few r = (few, r)
+first_refusal files (faults.Actions q) few r = (few, r)
+first_refusal files (faults.Name q) few r = (few, r)
+first_refusal files faults.Count few r = (few, r)
+first_refusal files faults.Syntax few r = (few, r)
+first_refusal files faults.Input few r = (few, r)
+first_refusal files (faults.Mask q) few r = (few, r)
+first_refusal files faults.Read few r = (few, r)
+first_refusal files faults.Write few r = (few, r)
+first_refusal files faults.Memory few r = (few, r)
+
+pub refused_or_memory : (files : List (List ℕ)) (e : Fault) → AreFew files → (e ≡ faults.Memory) ⊎ IsFileRefusal files e → (e ≡ faults.Memory) ⊎ IsFirstRefusal files e
+refused_or_memory files e few (inl memory) = inl memory
+refused_or_memory files e few (inr refused) = inr (first_refusal files e few refused)
+
+pub few_files : (files : List (Vec ℕ Global)) → (length files == 0) ≡ false → length files ≤ 64 → AreFew (bytes_of files)
+few_files [] none few = cc
+few_files (file ∷ files) none few =
+    let count : length (bytes_of (file ∷ files)) ≡ length (file ∷ files) = length-map (file ∷ files) (λ (f : Vec ℕ Global). f.items) in
+    record { some = omega arith; few = omega arith }

@@ -1,0 +1,5 @@
+use Rattle.sf_audit.proofs.RefusalLemmas.{same_programs}
+use Rattle.sf_audit.proofs.laws.one_stack.Goals as goal
+
+pub returns : goal.returns
+returns c = same_programs c.one_spelling.ensures c.one_program.ensures

@@ -1,0 +1,40 @@
+-- What an audit finds, and why it is refused.
+use Rattle.std.specs.Prelude.{◌≡◌, ℕ, ◌<◌, ◌⊎◌, List, length}
+use Rattle.sf_check.specs.declared.insn.Insn.{Insn}
+use Rattle.sf_ask.specs.Asked.{Asked}
+use Rattle.sf_crew.specs.Ends.{IsEndOf}
+use Rattle.sf_crew.specs.Sweeps.{AreRightReplies}
+use Rattle.sf_crew.specs.declared.fault.Fault.{Fault as CrewFault}
+use Rattle.sf_crew.specs.declared.fault.Fault.TheVariants as crew
+use Rattle.sf_audit.specs.declared.fault.Fault.{Fault}
+use Rattle.sf_audit.specs.declared.fault.Fault.TheVariants as faults
+use Rattle.sf_audit.specs.Filters.{SpellStack, IsFirstRefusal}
+use Rattle.sf_audit.specs.Outcomes.{Found}
+
+-- An exploration of the stack came to its end, with nothing outstanding or all of the budget spent; the questions are
+-- those that were asked, and each has a right reply.
+pub record IsFoundOn (stack : List (List Insn)) (budget : ℕ) (asked : List Asked) (o : Found) : Type 0 where
+  pub end : IsEndOf stack budget o.settled
+  pub questions : o.questions ≡ asked
+  pub replies : AreRightReplies o.settled o.questions o.replies
+
+-- it was found on the stack that the files spell
+pub record IsAudit (files : List (List ℕ)) (questions : List Asked) (budget : ℕ) (o : Found) : Type 0 where
+  pub stack : SpellStack files o.settled.stack
+  pub found : IsFoundOn o.settled.stack budget questions o
+
+-- the files spell a stack, but there is no question or there are too many
+pub record IsMiscounted (files : List (List ℕ)) (questions : List Asked) : Type 0 where
+  pub stack : List (List Insn)
+  pub spelled : SpellStack files stack
+  pub count : (length questions ≡ 0) ⊎ (256 < length questions)
+
+-- the first refusal: of the files, then of the questions by their number
+abbrev pub IsAuditRefusal : List (List ℕ) → List Asked → Fault → Type 0
+IsAuditRefusal files questions faults.Count = IsMiscounted files questions
+IsAuditRefusal files questions fault = IsFirstRefusal files fault
+
+-- a fault of the workers
+abbrev pub crew_fault : CrewFault → Fault
+crew_fault crew.Memory = faults.Memory
+crew_fault _ = faults.Foreign

@@ -1,0 +1,57 @@
+-- How an entry is handed to `Question::of_masked`, so that it is refused there in its turn: a number outside 32 bits by
+-- a range without a number, an unknown action by the empty set.
+use Rattle.std.specs.Prelude.{ℕ, ℤ, pos, negsuc, ◌^◌, false, Option, Some, None, nat_lt, if◌then◌else◌, List, [], unwrap_or, Result, Ok, Err}
+use Rattle.toml.specs.Data.{Data, as_str, as_table, Members, no_members}
+use Rattle.sf_ask.specs.declared.fault.Fault.{Fault as AskFault}
+use Rattle.sf_ask.specs.declared.fault.Fault.TheVariants as ask
+use Rattle.sf_audit.specs.declared.fault.Fault.{Fault}
+use Rattle.sf_audit.specs.declared.fault.Fault.TheVariants as faults
+use Rattle.sf_ask.specs.declared.actions.ActionSet.{ActionSet}
+use Rattle.sf_audit.specs.declared.policy.words.WordEntry.{WordEntry}
+use Rattle.sf_audit.specs.Actions.{are_actions, set_of}
+
+-- the number, where it is one of 32 bits
+abbrev pub word_in : ℤ → Option ℕ
+word_in (pos n) = if nat_lt n (2 ^ 32) then Some n else None
+word_in (negsuc n) = None
+
+-- the words of an entry: the ends of its range, its mask and its value
+abbrev pub four_of : Option ℕ → Option ℕ → Option ℕ → Option ℕ → (ℕ × ℕ) × (ℕ × ℕ)
+four_of (Some low) (Some high) (Some mask) (Some value) = ((low, high), (mask, value))
+four_of _ _ _ _ = ((1, 0), (0, 0))
+
+abbrev pub encoded : WordEntry → (ℕ × ℕ) × (ℕ × ℕ)
+encoded w = four_of (word_in w.low) (word_in w.high) (word_in w.mask) (word_in w.value)
+
+abbrev pub encoded_range : WordEntry → ℕ × ℕ
+encoded_range w = (encoded w).0
+
+abbrev pub encoded_mask : WordEntry → ℕ × ℕ
+encoded_mask w = (encoded w).1
+
+-- the set without an action
+abbrev pub no_actions : ActionSet
+no_actions = record { kill_process = false; kill_thread = false; trap = false; errno = false; user_notif = false; trace = false; log = false; allow = false; other = false }
+
+abbrev pub encoded_set : List (List ℕ) → ActionSet
+encoded_set texts = if are_actions texts then set_of texts else no_actions
+
+-- the text of a value, empty where it is none
+abbrev pub text_or_empty : Data → List ℕ
+text_or_empty d = unwrap_or (as_str d) []
+
+-- the table of a value, empty where it is none
+abbrev pub table_or_empty : Data → Members
+table_or_empty d = unwrap_or (as_table d) no_members
+
+-- a fault of a question, with the question's number
+abbrev pub numbered : ℕ → AskFault → Fault
+numbered number ask.Name = faults.Name number
+numbered number ask.Range = faults.Range number
+numbered number ask.Mask = faults.Mask number
+numbered number ask.Actions = faults.Actions number
+numbered number ask.Memory = faults.Memory
+
+abbrev pub with_number : {X : Type 0} → ℕ → Result X AskFault → Result X Fault
+with_number number (Ok x) = Ok x
+with_number number (Err fault) = Err (numbered number fault)

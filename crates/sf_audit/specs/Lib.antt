@@ -1,0 +1,12 @@
+pub mod Faults
+pub mod Keys
+pub mod Trees
+pub mod Words
+pub mod Actions
+pub mod Policies
+pub mod Encoding
+pub mod FaultPlaces
+pub mod Filters
+pub mod Outcomes
+pub mod Reports
+pub mod Audits

@@ -1,0 +1,91 @@
+//! The audit of a stack of filters.
+
+ghost use Rattle.std.specs.Prelude.{◌≡◌, ◌⊎◌, ◌<◌, ◌≤◌, length, map, IfOk, IfErr};
+ghost use Rattle.sf_audit.specs.Audits.{IsFoundOn, IsAudit, IsAuditRefusal, crew_fault};
+
+use crate::MOST_QUESTIONS;
+use crate::fault::Fault;
+use crate::filters::stack_of;
+use crate::outcome::Outcome;
+use sf_ask::Question;
+use sf_check::Stack;
+use sf_crew::{Gate, explore, sweep};
+use std::alloc::Global;
+use std::sync::{Arc, Wait};
+use std::thread::Threads;
+
+fn crew_fault(fault: sf_crew::Fault) -> Fault
+    ensures { result ≡ crew_fault fault }
+{
+    match fault {
+        sf_crew::Fault::Memory => Fault::Memory,
+        _ => Fault::Foreign,
+    }
+}
+
+// The outcome for a stack and up to 256 questions.
+fn outcome_of<R: Threads + Wait + Sync, G: Gate>(
+    rt: &R,
+    alloc: Global,
+    stack: Stack,
+    questions: Vec<Question>,
+    budget: u32,
+    workers: usize,
+    gate: &G,
+) -> Result<Outcome, Fault>
+    requires workers { (0 < workers) × (workers ≤ 64) }
+    requires few { length questions.items ≤ 256 }
+    ensures found { IfOk result (IsFoundOn stack budget questions.items) }
+    ensures refused { IfErr result (λ e. (e ≡ Fault.Memory) ⊎ (e ≡ Fault.Foreign)) }
+{
+    let stack = Arc::new(alloc, stack)?;
+    let settled = match explore(rt, alloc, stack, budget, workers, gate) {
+        Ok(settled) => settled,
+        Err(fault) => return Err(crew_fault(fault)),
+    };
+    match sweep(rt, alloc, &settled, &questions, workers, gate) {
+        Ok(replies) => Ok(Outcome {
+            settled,
+            questions,
+            replies,
+        }),
+        Err(fault) => Err(crew_fault(fault)),
+    }
+}
+
+/// Audits the stack of these filter files, which stand in order of installation, the newest last: explores it by at
+/// most `budget` works, and replies to each question. The gate sees each work before it is committed, and each sheet of
+/// verdicts before it is entered.
+///
+/// The caller's conditions: a budget from 1 to 1,000,000 and 1 to 64 workers, each a thread of its own where there
+/// are more than one. Refusals, tried in this order: those of `stack_of`; `Count` where there are no questions or more
+/// than 256. `Memory` can come anywhere. Waits for the workers.
+pub fn audit<R: Threads + Wait + Sync, G: Gate>(
+    rt: &R,
+    alloc: Global,
+    filters: &[Vec<u8>],
+    questions: Vec<Question>,
+    budget: u32,
+    workers: usize,
+    gate: &G,
+) -> Result<Outcome, Fault>
+    requires workers { (0 < workers) × (workers ≤ 64) }
+
+    // Right replies to the questions, on the stack that the files spell.
+    ensures found { IfOk result (IsAudit (map (λ f. f.items) filters.now) questions.items budget) }
+
+    // Anything else is the first refusal, but for want of memory; the book of another stack never comes.
+    ensures refused { IfErr result (λ e. (e ≡ Fault.Memory) ⊎ ((e ≡ Fault.Foreign) ⊎ IsAuditRefusal (map (λ f. f.items) filters.now) questions.items e)) }
+{
+    let stack = match stack_of(alloc, filters) {
+        Ok(stack) => stack,
+        Err(fault) => return Err(fault),
+    };
+    if questions.is_empty() || questions.len() > MOST_QUESTIONS {
+        return Err(Fault::Count);
+    }
+    outcome_of(rt, alloc, stack, questions, budget, workers, gate)
+}
+
+#[cfg(test)]
+mod tests;

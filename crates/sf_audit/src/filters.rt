@@ -1,0 +1,112 @@
+//! The stack of the filters of filter files.
+
+ghost use Rattle.std.specs.Prelude.{◌≡◌, ◌⊎◌, ◌≤◌, length, map, IfOk, IfErr};
+ghost use Rattle.sf_audit.specs.FaultPlaces.{decode_fault, check_fault};
+ghost use Rattle.sf_audit.specs.Filters.{SpellsProgram, SpellPrograms, SpellStack, IsRefusalOf, IsFileRefusal, IsFirstRefusal};
+
+use crate::fault::Fault;
+use sf_check::{Program, Stack, check};
+use sf_insn::decode;
+use std::alloc::Global;
+
+/// The most filters of a stack.
+const MOST_FILTERS: usize = 64;
+
+fn undecodable(filter: usize, fault: sf_insn::Fault) -> Fault
+    ensures { result ≡ decode_fault filter fault }
+{
+    match fault {
+        sf_insn::Fault::Ragged => Fault::Ragged { filter },
+        sf_insn::Fault::Empty => Fault::Empty { filter },
+        sf_insn::Fault::TooLong => Fault::TooLong { filter },
+        sf_insn::Fault::Memory => Fault::Memory,
+    }
+}
+
+fn unlawful(filter: usize, fault: sf_check::Fault) -> Fault
+    ensures { result ≡ check_fault filter fault }
+{
+    match fault {
+        sf_check::Fault::Empty => Fault::Empty { filter },
+        sf_check::Fault::TooLong => Fault::TooLong { filter },
+        sf_check::Fault::Code(instruction) => Fault::Code {
+            filter,
+            instruction,
+        },
+        sf_check::Fault::Field(instruction) => Fault::Field {
+            filter,
+            instruction,
+        },
+        sf_check::Fault::Jump(instruction) => Fault::Jump {
+            filter,
+            instruction,
+        },
+        sf_check::Fault::Last => Fault::Last { filter },
+        sf_check::Fault::Scratch(instruction) => Fault::Scratch {
+            filter,
+            instruction,
+        },
+        sf_check::Fault::NoFilter => Fault::NoFilter,
+        sf_check::Fault::TooMany => Fault::TooMany,
+        sf_check::Fault::PathLength => Fault::PathLength,
+        sf_check::Fault::Memory => Fault::Memory,
+    }
+}
+
+// The program that the bytes of the filter with this number spell.
+fn program_of(alloc: Global, filter: usize, bytes: &[u8]) -> Result<Program, Fault>
+    ensures accepted { IfOk result (SpellsProgram bytes.now) }
+    ensures refused { IfErr result (λ e. (e ≡ Fault.Memory) ⊎ IsRefusalOf filter bytes.now e) }
+{
+    let raws = match decode(alloc, bytes) {
+        Ok(raws) => raws,
+        Err(fault) => return Err(undecodable(filter, fault)),
+    };
+    match check(alloc, &raws) {
+        Ok(program) => Ok(program),
+        Err(fault) => Err(unlawful(filter, fault)),
+    }
+}
+
+fn programs_of(alloc: Global, filters: &[Vec<u8>]) -> Result<Vec<Program>, Fault>
+    requires { length filters.now ≤ 64 }
+    ensures accepted { IfOk result (λ v. SpellPrograms (map (λ f. f.items) filters.now) v.items) }
+    ensures refused { IfErr result (λ e. (e ≡ Fault.Memory) ⊎ IsFileRefusal (map (λ f. f.items) filters.now) e) }
+{
+    let mut programs = Vec::new(alloc);
+    for (i, bytes) in filters.iter().enumerate() {
+        match program_of(alloc, i + 1, bytes) {
+            Ok(program) => programs.push(program)?,
+            Err(fault) => return Err(fault),
+        }
+    }
+    Ok(programs)
+}
+
+/// The stack of these filter files, which stand in order of installation, the newest last.
+///
+/// Tried in this order: `NoFilter` where there is no file, `TooMany` where there are more than 64; then for each file
+/// in order `Ragged`, `Empty` and `TooLong`, then the first fault of its instructions; then `PathLength` where the
+/// path through all programs is longer than 32768. `Memory` can come anywhere.
+pub fn stack_of(alloc: Global, filters: &[Vec<u8>]) -> Result<Stack, Fault>
+    ensures accepted { IfOk result (SpellStack (map (λ f. f.items) filters.now)) }
+    ensures refused { IfErr result (λ e. (e ≡ Fault.Memory) ⊎ IsFirstRefusal (map (λ f. f.items) filters.now) e) }
+{
+    if filters.is_empty() {
+        return Err(Fault::NoFilter);
+    }
+    if filters.len() > MOST_FILTERS {
+        return Err(Fault::TooMany);
+    }
+    let programs = match programs_of(alloc, filters) {
+        Ok(programs) => programs,
+        Err(fault) => return Err(fault),
+    };
+    match Stack::of(programs) {
+        Ok(stack) => Ok(stack),
+        Err(_) => Err(Fault::PathLength),
+    }
+}
+
+#[cfg(test)]
+mod tests;

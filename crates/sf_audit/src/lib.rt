@@ -1,0 +1,24 @@
+//! An audit of a stack of seccomp filters: the questions of a policy file, the filters of filter files, and the
+//! report.
+#![tactic(auto)]
+
+mod auditing;
+mod fault;
+mod filters;
+pub mod laws;
+mod outcome;
+mod policy;
+mod report;
+
+pub use auditing::audit;
+pub use fault::Fault;
+pub use filters::stack_of;
+pub use outcome::Outcome;
+pub use policy::read_policy;
+pub use report::write_report;
+
+/// The most questions of a policy and of an audit.
+const MOST_QUESTIONS: usize = 256;
+
+#[cfg(test)]
+mod tests;

@@ -1,0 +1,116 @@
+//! The actions that a question names.
+
+ghost use Rattle.std.specs.Prelude.{◌≡◌, option_map, is_some, codes, map};
+ghost use Rattle.std.specs.List.{list_any, list_all};
+ghost use Rattle.std.specs.Str.{bytes_eq};
+ghost use Rattle.toml.specs.Data.{get_member, as_str};
+ghost use Rattle.toml.specs.View.{view, items_view, table_view};
+ghost use Rattle.sf_audit.specs.Trees.{texts_of};
+ghost use Rattle.sf_audit.specs.Actions.{is_action, are_actions, texts_of_value, names_at};
+ghost use Rattle.sf_audit.specs.Encoding.{encoded_set, text_or_empty};
+
+use super::keys::{is_among, value_at};
+use sf_ask::ActionSet;
+use toml::{Table, Value};
+
+const ACTION_NAMES: [&str; 9] = [
+    "KILL_PROCESS",
+    "KILL_THREAD",
+    "TRAP",
+    "ERRNO",
+    "USER_NOTIF",
+    "TRACE",
+    "LOG",
+    "ALLOW",
+    "OTHER",
+];
+
+fn text_of(value: &Value) -> &str
+    ensures { result.now ≡ text_or_empty (view value.now) }
+{
+    match value.as_str() {
+        Some(text) => text,
+        None => "",
+    }
+}
+
+fn is_action(value: &Value) -> bool
+    ensures { result ≡ is_action (text_or_empty (view value.now)) }
+{
+    is_among(text_of(value), ACTION_NAMES.as_slice())
+}
+
+fn are_texts(items: &[Value]) -> bool
+    ensures { result ≡ list_all (λ v. is_some (as_str (view v))) items.now }
+{
+    items.iter().all(|value| value.is_str())
+}
+
+fn are_all_actions(items: &[Value]) -> bool
+    ensures { result ≡ list_all (λ v. is_action (text_or_empty (view v))) items.now }
+{
+    items.iter().all(|value| is_action(value))
+}
+
+fn has_text(items: &[Value], name: &str) -> bool
+    ensures { result ≡ list_any (λ v. bytes_eq (text_or_empty (view v)) name.now) items.now }
+{
+    items.iter().any(|value| text_of(value) == name)
+}
+
+#[tactic(auto, using(crate::proofs::ActionLemmas::are_actions_view))]
+fn are_actions(items: &[Value]) -> bool
+    ensures { result ≡ are_actions (map (λ v. text_or_empty (view v)) items.now) }
+{
+    !items.is_empty() && are_all_actions(items)
+}
+
+#[tactic(auto, using(crate::proofs::ActionLemmas::is_named_view))]
+fn set_from(items: &[Value]) -> ActionSet
+    ensures { result ≡ encoded_set (map (λ v. text_or_empty (view v)) items.now) }
+{
+    if !are_actions(items) {
+        return ActionSet::EMPTY;
+    }
+    ActionSet {
+        kill_process: has_text(items, "KILL_PROCESS"),
+        kill_thread: has_text(items, "KILL_THREAD"),
+        trap: has_text(items, "TRAP"),
+        errno: has_text(items, "ERRNO"),
+        user_notif: has_text(items, "USER_NOTIF"),
+        trace: has_text(items, "TRACE"),
+        log: has_text(items, "LOG"),
+        allow: has_text(items, "ALLOW"),
+        other: has_text(items, "OTHER"),
+    }
+}
+
+#[tactic(auto, using(crate::proofs::TreeLemmas::texts_view, crate::proofs::TreeLemmas::no_texts_view))]
+fn set_in_items(items: &[Value]) -> Option<ActionSet>
+    ensures { result ≡ option_map encoded_set (texts_of (items_view items.now)) }
+{
+    if are_texts(items) {
+        Some(set_from(items))
+    } else {
+        None
+    }
+}
+
+fn set_in(value: &Value) -> Option<ActionSet>
+    ensures { result ≡ option_map encoded_set (texts_of_value (view value.now)) }
+{
+    match value {
+        Value::Array(items) => set_in_items(items),
+        _ => None,
+    }
+}
+
+/// The set of the actions that a question names, without one where a name isn't that of an action.
+pub(super) fn actions_in(table: &Table) -> Option<ActionSet>
+    ensures { result ≡ option_map encoded_set (names_at (get_member (codes "actions") (table_view table.now))) }
+{
+    match value_at(table, "actions") {
+        None => Some(ActionSet::LET_THROUGH),
+        Some(value) => set_in(value),
+    }
+}

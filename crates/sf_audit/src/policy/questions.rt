@@ -1,0 +1,103 @@
+//! The questions of a policy file.
+
+ghost use Rattle.std.specs.Prelude.{◌≡◌, ◌≤◌, length, map};
+ghost use Rattle.toml.specs.View.{view, table_view};
+ghost use Rattle.sf_ask.specs.Questions.{question_of};
+ghost use Rattle.sf_audit.specs.Faults.{Gives};
+ghost use Rattle.sf_audit.specs.Encoding.{encoded_range, encoded_mask, table_or_empty, numbered, with_number};
+ghost use Rattle.sf_audit.specs.Policies.{question_of_table, questions_from};
+
+use super::Version;
+use super::actions::actions_in;
+use super::keys::{has_question_keys, text_in};
+use super::words::{WordEntry, entries_in, masks_of, ranges_of};
+use crate::fault::Fault;
+use sf_ask::{ActionSet, Question};
+use std::alloc::Global;
+use toml::{Table, Value};
+
+fn numbered(question: usize, fault: sf_ask::Fault) -> Fault
+    ensures { result ≡ numbered question fault }
+{
+    match fault {
+        sf_ask::Fault::Name => Fault::Name { question },
+        sf_ask::Fault::Range => Fault::Range { question },
+        sf_ask::Fault::Mask => Fault::Mask { question },
+        sf_ask::Fault::Actions => Fault::Actions { question },
+        sf_ask::Fault::Memory => Fault::Memory,
+    }
+}
+
+fn question_of_parts(
+    alloc: Global,
+    number: usize,
+    name: &str,
+    entries: &[WordEntry; 16],
+    actions: ActionSet,
+) -> Result<Question, Fault>
+    ensures { Gives (λ q. q) result (with_number number (question_of name.now (map encoded_range entries.now) (map encoded_mask entries.now) actions)) }
+{
+    match Question::of_masked(alloc, name, ranges_of(entries), masks_of(entries), actions) {
+        Ok(question) => Ok(question),
+        Err(fault) => Err(numbered(number, fault)),
+    }
+}
+
+fn question_of_table(
+    alloc: Global,
+    version: Version,
+    number: usize,
+    table: &Table,
+) -> Result<Question, Fault>
+    ensures { Gives (λ q. q) result (question_of_table version number (table_view table.now)) }
+{
+    if !has_question_keys(table) {
+        return Err(Fault::Key { question: number });
+    }
+    let Some(name) = text_in(table, "name") else {
+        return Err(Fault::Key { question: number });
+    };
+    let Some(entries) = entries_in(version, table) else {
+        return Err(Fault::Key { question: number });
+    };
+    let Some(actions) = actions_in(table) else {
+        return Err(Fault::Key { question: number });
+    };
+    question_of_parts(alloc, number, name, &entries, actions)
+}
+
+fn question_of_value(
+    alloc: Global,
+    version: Version,
+    number: usize,
+    value: &Value,
+) -> Result<Question, Fault>
+    ensures { Gives (λ q. q) result (question_of_table version number (table_or_empty (view value.now))) }
+{
+    match value {
+        Value::Table(table) => question_of_table(alloc, version, number, table),
+        _ => Err(Fault::Key { question: number }),
+    }
+}
+
+/// The questions of an array's tables.
+pub(super) fn questions_in(
+    alloc: Global,
+    version: Version,
+    items: &[Value],
+) -> Result<Vec<Question>, Fault>
+    requires { length items.now ≤ 256 }
+    ensures { Gives (λ v. v.items) result (questions_from version 1 (map (λ v. table_or_empty (view v)) items.now)) }
+{
+    let mut questions = Vec::new(alloc);
+    for (i, value) in items.iter().enumerate() {
+        match question_of_value(alloc, version, i + 1, value) {
+            Ok(question) => match questions.push(question) {
+                Ok(()) => {}
+                Err(_) => return Err(Fault::Memory),
+            },
+            Err(fault) => return Err(fault),
+        }
+    }
+    Ok(questions)
+}

@@ -1,0 +1,54 @@
+//! Writes a report.
+
+mod text;
+
+ghost use Rattle.std.specs.Prelude.{OnOk, OnErr};
+ghost use Rattle.std.specs.Io.KnownBytes.{Appends};
+ghost use Rattle.sf_audit.specs.Reports.{AppendsFront, report_text};
+
+use crate::fault::Fault;
+use crate::outcome::Outcome;
+use std::alloc::Global;
+use std::io::Write;
+use text::report_of;
+
+/// Writes all the bytes, by as many writes as it takes.
+fn write_bytes<W: Write>(bytes: &[u8], out: &mut W) -> Result<(), Fault>
+    ensures ok { OnOk result (Appends (W.contents out.old) (W.contents out.new) bytes.now) }
+    ensures err { OnErr result (AppendsFront (W.contents out.old) (W.contents out.new) bytes.now) }
+{
+    let mut rest = bytes;
+    while !rest.is_empty() {
+        match out.write(rest) {
+            Ok(0) => return Err(Fault::Write),
+            Ok(count) => rest = &rest[count..],
+            Err(_) => return Err(Fault::Write),
+        }
+    }
+    Ok(())
+}
+
+/// Writes the report of an outcome, with a line for each settled region where `regions` asks for them.
+///
+/// `Write` where a write fails or takes no byte, `Memory` where the text can't be built. After either a beginning of
+/// the text was written, after `Memory` nothing.
+pub fn write_report<W: Write>(
+    alloc: Global,
+    outcome: &Outcome,
+    regions: bool,
+    out: &mut W,
+) -> Result<(), Fault>
+    // The text is written, to a writer that tells its bytes.
+    ensures written { OnOk result (Appends (W.contents out.old) (W.contents out.new) (report_text outcome.now regions)) }
+
+    // Otherwise a beginning of it is.
+    ensures begun { OnErr result (AppendsFront (W.contents out.old) (W.contents out.new) (report_text outcome.now regions)) }
+{
+    match report_of(alloc, outcome, regions) {
+        Ok(text) => write_bytes(text.as_bytes(), out),
+        Err(_) => Err(Fault::Memory),
+    }
+}
+
+#[cfg(test)]
+mod tests;

@@ -1,0 +1,222 @@
+//! The text of a report, part by part.
+
+ghost use Rattle.std.specs.Prelude.{◌≡◌, ◌++◌, IfOk, OnOk, length, count_by, string_bytes};
+ghost use Rattle.sf_check.specs.Stacks.{path_length};
+ghost use Rattle.sf_audit.specs.Reports.{size_line, counts_line, hex_text, question_line, question_lines, trace_text, action_text, region_line, region_lines, shown_lines, is_never, is_allowed, is_unsettled, total_line, totals_line, head_text, report_text};
+
+use crate::outcome::Outcome;
+use sf_ask::{Question, Reply};
+use sf_book::{Counts, Region, Settled};
+use sf_insn::{Input, bytes_of_input};
+use sf_run::Action;
+use std::alloc::{AllocError, Global};
+
+fn push_trace(text: &mut String, name: &[bool]) -> Result<(), AllocError>
+    ensures { OnOk result (string_bytes text.new ≡ string_bytes text.old ++ trace_text name.now) }
+{
+    if name.is_empty() {
+        return text.push_str("-");
+    }
+    for direction in name {
+        text.push_str(if *direction { "T" } else { "F" })?;
+    }
+    Ok(())
+}
+
+fn push_action(text: &mut String, action: Action) -> Result<(), AllocError>
+    ensures { OnOk result (string_bytes text.new ≡ string_bytes text.old ++ action_text action) }
+{
+    match action {
+        Action::KillProcess => text.push_str("KILL_PROCESS"),
+        Action::KillThread => text.push_str("KILL_THREAD"),
+        Action::Trap => text.push_str("TRAP"),
+        Action::Errno => text.push_str("ERRNO"),
+        Action::UserNotif => text.push_str("USER_NOTIF"),
+        Action::Trace => text.push_str("TRACE"),
+        Action::Log => text.push_str("LOG"),
+        Action::Allow => text.push_str("ALLOW"),
+        Action::Other(value) => write!(text, "OTHER:0x{value:08x}"),
+    }
+}
+
+fn push_region(text: &mut String, number: usize, region: &Region) -> Result<(), AllocError>
+    ensures { OnOk result (string_bytes text.new ≡ string_bytes text.old ++ region_line number region.now) }
+{
+    write!(text, "region {number} ")?;
+    push_trace(text, region.name())?;
+    text.push_str(" ")?;
+    let answer = region.answer();
+    push_action(text, answer.action)?;
+    let info = answer.info;
+    write!(text, " {info}\n")
+}
+
+fn push_regions(text: &mut String, settled: &Settled) -> Result<(), AllocError>
+    ensures { OnOk result (string_bytes text.new ≡ string_bytes text.old ++ region_lines 1 settled.now.regions) }
+{
+    for i in 0..settled.region_count() {
+        push_region(text, i + 1, settled.region(i))?;
+    }
+    Ok(())
+}
+
+fn push_shown_regions(text: &mut String, shown: bool, settled: &Settled) -> Result<(), AllocError>
+    ensures { OnOk result (string_bytes text.new ≡ string_bytes text.old ++ shown_lines shown settled.now.regions) }
+{
+    if shown {
+        push_regions(text, settled)?;
+    }
+    Ok(())
+}
+
+fn hex_of(alloc: Global, input: &Input) -> Result<String, AllocError>
+    ensures { IfOk result (λ digits. string_bytes digits ≡ hex_text input.now) }
+{
+    let bytes = bytes_of_input(input);
+    hex::encode(alloc, &bytes)
+}
+
+fn push_question(
+    alloc: Global,
+    text: &mut String,
+    number: usize,
+    name: &str,
+    reply: Reply,
+) -> Result<(), AllocError>
+    ensures { OnOk result (string_bytes text.new ≡ string_bytes text.old ++ question_line number name.now reply) }
+{
+    match reply {
+        Reply::Never => write!(text, "question {number} {name} never\n"),
+        Reply::Unsettled => write!(text, "question {number} {name} unsettled\n"),
+        Reply::Allowed(input) => {
+            let digits = hex_of(alloc, &input)?;
+            write!(text, "question {number} {name} allowed {digits}\n")
+        }
+    }
+}
+
+fn push_questions(
+    alloc: Global,
+    text: &mut String,
+    questions: &[Question],
+    replies: &[Reply],
+) -> Result<(), AllocError>
+    requires { length questions.now ≡ length replies.now }
+    ensures { OnOk result (string_bytes text.new ≡ string_bytes text.old ++ question_lines 1 questions.now replies.now) }
+{
+    for (i, question) in questions.iter().enumerate() {
+        push_question(alloc, text, i + 1, question.name(), replies[i])?;
+    }
+    Ok(())
+}
+
+fn push_size(
+    text: &mut String,
+    filters: usize,
+    path: usize,
+    questions: usize,
+) -> Result<(), AllocError>
+    ensures { OnOk result (string_bytes text.new ≡ string_bytes text.old ++ size_line filters path questions) }
+{
+    write!(
+        text,
+        "filters {filters} path {path} questions {questions}\n"
+    )
+}
+
+fn push_counts(text: &mut String, counts: Counts) -> Result<(), AllocError>
+    ensures { OnOk result (string_bytes text.new ≡ string_bytes text.old ++ counts_line counts) }
+{
+    let regions = counts.settled;
+    let open = counts.left;
+    let emptied = counts.emptied;
+    let splits = counts.splits;
+    let commits = counts.commits;
+    write!(
+        text,
+        "regions {regions} open {open} emptied {emptied} splits {splits} commits {commits}\n"
+    )
+}
+
+fn push_stack(text: &mut String, settled: &Settled, questions: usize) -> Result<(), AllocError>
+    ensures { OnOk result (string_bytes text.new ≡ string_bytes text.old ++ size_line (length settled.now.stack) (path_length settled.now.stack) questions) }
+{
+    let stack = settled.stack();
+    push_size(text, stack.programs().len(), stack.path_length(), questions)
+}
+
+fn push_head(text: &mut String, settled: &Settled, questions: usize) -> Result<(), AllocError>
+    ensures { OnOk result (string_bytes text.new ≡ string_bytes text.old ++ head_text settled.now questions) }
+{
+    text.push_str("seccomp_audit report 2\n")?;
+    push_stack(text, settled, questions)?;
+    push_counts(text, settled.counts())
+}
+
+fn count_never(replies: &[Reply]) -> usize
+    ensures { result ≡ count_by is_never replies.now }
+{
+    replies
+        .iter()
+        .filter(|reply| matches!(reply, Reply::Never))
+        .count()
+}
+
+fn count_allowed(replies: &[Reply]) -> usize
+    ensures { result ≡ count_by is_allowed replies.now }
+{
+    replies
+        .iter()
+        .filter(|reply| matches!(reply, Reply::Allowed(_)))
+        .count()
+}
+
+fn count_unsettled(replies: &[Reply]) -> usize
+    ensures { result ≡ count_by is_unsettled replies.now }
+{
+    replies
+        .iter()
+        .filter(|reply| matches!(reply, Reply::Unsettled))
+        .count()
+}
+
+fn push_total(
+    text: &mut String,
+    never: usize,
+    allowed: usize,
+    unsettled: usize,
+) -> Result<(), AllocError>
+    ensures { OnOk result (string_bytes text.new ≡ string_bytes text.old ++ total_line never allowed unsettled) }
+{
+    write!(
+        text,
+        "total never {never} allowed {allowed} unsettled {unsettled}\n"
+    )
+}
+
+fn push_totals(text: &mut String, replies: &[Reply]) -> Result<(), AllocError>
+    ensures { OnOk result (string_bytes text.new ≡ string_bytes text.old ++ totals_line replies.now) }
+{
+    push_total(
+        text,
+        count_never(replies),
+        count_allowed(replies),
+        count_unsettled(replies),
+    )
+}
+
+/// The whole text.
+pub(super) fn report_of(
+    alloc: Global,
+    outcome: &Outcome,
+    regions: bool,
+) -> Result<String, AllocError>
+    ensures { IfOk result (λ text. string_bytes text ≡ report_text outcome.now regions) }
+{
+    let mut text = String::new(alloc);
+    push_head(&mut text, outcome.settled(), outcome.questions().len())?;
+    push_questions(alloc, &mut text, outcome.questions(), outcome.replies())?;
+    push_shown_regions(&mut text, regions, outcome.settled())?;
+    push_totals(&mut text, outcome.replies())?;
+    Ok(text)
+}

@@ -1,0 +1,59 @@
+-- A new board keeps its rule.
+use Rattle.std.proofs.Common.{◌≡◌, ℕ, zero, suc, ◌+◌, ◌/◌, ◌%◌, ◌<◌, List, [], ◌∷◌, ◌++◌, length, slice_index, sym, refl, ap, ◌∙◌, subst, inl, min, arith}
+use Rattle.std.specs.Int.{bit_at}
+use Rattle.std.proofs.lemmas.Nat.Bits.{bit_at-zero}
+use Rattle.std.proofs.lemmas.Bool.Decides.{nat_tests}
+use Rattle.std.proofs.lemmas.List.{get_or-append-add, get_or-replicate}
+use mathlib.Core.Option.{some, some-injective, some-ne-none}
+use lib.ListN.{get_elem?, replicate, length-replicate}
+use Rattle.sf_crew.specs.declared.view.Matter.{Matter}
+use Rattle.sf_crew.specs.Views.{asked, places, once_below}
+use Rattle.sf_crew.specs.BoardRule.{Sound, Kept, BoardKept, least_in, doubts_in}
+use Rattle.sf_crew.specs.BoardSteps.{first_view}
+
+abbrev pub first_words : ℕ → ℕ → List ℕ
+first_words n regions = (0 ∷ 0 ∷ 0 ∷ 0 ∷ 0 ∷ 0 ∷ []) ++ replicate n regions
+
+first_doubts : (n regions w : ℕ) → w < 4 → doubts_in (first_words n regions) w ≡ 0
+first_doubts n regions zero lt = refl
+first_doubts n regions (suc zero) lt = refl
+first_doubts n regions (suc (suc zero)) lt = refl
+first_doubts n regions (suc (suc (suc zero))) lt = refl
+first_doubts n regions (suc (suc (suc (suc w)))) lt = absurd (omega arith)
+
+first_least : (n regions q : ℕ) → q < n → least_in (first_words n regions) q ≡ regions
+first_least n regions q lt =
+    let turn : slice_index (first_words n regions) (6 + q) ≡ slice_index (replicate n regions) q = get_or-append-add (0 ∷ 0 ∷ 0 ∷ 0 ∷ 0 ∷ 0 ∷ []) (replicate n regions) q 0 in
+    ap (slice_index (first_words n regions)) (omega arith) ∙ turn ∙ get_or-replicate n q regions 0 lt
+
+only_view : {X : Type 0} (x y : X) (port : ℕ) → get_elem? (x ∷ []) port ≡ some y → x ≡ y
+only_view x y zero e = some-injective x y e
+only_view x y (suc port) e = absurd (some-ne-none y (sym e))
+
+opened : (k : Matter) → Sound k 0 (least_in (first_words (length (asked k)) (places k))) (first_view k)
+opened k = record {
+  about = λ _. refl;
+  idle = λ _. (refl, refl);
+  few = omega arith;
+  past = λ some_none. absurd (omega arith);
+  marks = λ _. refl;
+  noted = λ q r x. absurd x;
+  covered = tt;
+}
+
+pub opens : (k : Matter) → Kept k 0 0 (doubts_in (first_words (length (asked k)) (places k))) (least_in (first_words (length (asked k)) (places k))) (first_view k ∷ [])
+opens k = let words : List ℕ = first_words (length (asked k)) (places k) in record {
+  parts = omega arith;
+  drawn = λ x. (let none : once_below x (min 0 (places k)) ≡ 0 = grind (arith, nat_tests) in omega arith);
+  drawn_count = omega arith;
+  past_end = omega arith;
+  entered_is = refl;
+  marked = λ q few. ap (λ x. bit_at x (q % 64)) (first_doubts (length (asked k)) (places k) (q / 64) (omega arith)) ∙ bit_at-zero (q % 64);
+  right = λ q there. inl (first_least (length (asked k)) (places k) q there);
+  each = λ port v at. subst (Sound k 0 (least_in words)) (only_view (first_view k) v port at) (opened k);
+}
+
+-- the same of any words that are these
+pub opens_at : (k : Matter) (words : List ℕ) (n regions : ℕ) → words ≡ first_words n regions → n ≡ length (asked k) → regions ≡ places k → BoardKept {S = ℕ} k (record { words = words; homes = []; views = first_view k ∷ [] })
+opens_at k words n regions is same small = subst (λ (y : List ℕ). BoardKept {S = ℕ} k (record { words = y; homes = []; views = first_view k ∷ [] }))
+    (sym (is ∙ (λ i. first_words (same i) (small i)))) (omega (arith, length-replicate (length (asked k)) (places k)), opens k)

@@ -1,0 +1,17 @@
+use Rattle.std.proofs.Common.{◌≡◌, ◌+◌, ◌<◌, vec_len, None, All}
+use Rattle.sf_crew.specs.BoardSteps.{Knows}
+use Rattle.sf_crew.specs.Boards.{seat_view, IsSeatOf}
+use Rattle.sf_crew.specs.Sweeps.{IsWorked}
+use Rattle.sf_crew.proofs.sweeping.join_all.Given as goal
+
+abbrev pub invariant-loop-seat : goal.invariant-loop-seat
+invariant-loop-seat l = record {
+  seat : IsSeatOf l.board l.all;
+  free : (seat_view l.all).owes ≡ None;
+  parts : (seat_view l.all).parts + vec_len l.others ≡ (seat_view l.initial.all).parts + vec_len l.initial.others;
+  others : All (λ s. IsWorked l.board s) l.others.items;
+  knows : vec_len l.others < vec_len l.initial.others → (0 < (seat_view l.all).nones) × Knows (seat_view l.all);
+}
+
+abbrev pub decreases-loop-seat : goal.decreases-loop-seat
+decreases-loop-seat l = vec_len l.others

@@ -1,0 +1,26 @@
+-- A board and its seats, as contracts see them.
+use Rattle.std.specs.Prelude.{◌≡◌, Some, None, []}
+use Rattle.atomic_table.specs.Seated.{TableId}
+use Rattle.sf_crew.specs.declared.view.Matter.{Matter}
+use Rattle.sf_crew.specs.declared.view.View.{View}
+use Rattle.sf_crew.specs.BoardSteps.{view_of}
+use Rattle.sf_crew.specs.declared.board.Board.{Board}
+use Rattle.sf_crew.specs.declared.board.Seat.{Seat}
+
+-- the regions and questions that a board is of
+abbrev pub about : Board → Matter
+about b = b.table.shared.key
+
+abbrev pub board_id : Board → TableId
+board_id b = b.table.shared.table_id
+
+-- what a seat has drawn, entered and seen
+abbrev pub seat_view : Seat → View
+seat_view s = s.seat.me.0
+
+abbrev pub IsSeatOf : Board → Seat → Type 0
+IsSeatOf b s = (s.seat.table_id ≡ board_id b) × ((seat_view s).about ≡ Some (about b))
+
+-- a seat that has drawn, entered and seen nothing
+abbrev pub IsNewSeat : Board → Seat → Type 0
+IsNewSeat b s = IsSeatOf b s × (seat_view s ≡ view_of (Some (about b)) 1 0 None [] [] [])

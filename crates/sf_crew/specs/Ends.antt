@@ -1,0 +1,36 @@
+-- Turns of a worker, and where an exploration ends.
+use Rattle.std.specs.Prelude.{◌≡◌, ℕ, ◌+◌, ◌*◌, ◌≤◌, ◌↔◌, Bool, List, [], All, length, false, ◌⊎◌}
+use Rattle.sf_book.specs.Books.{EntryData, BookData, IsSettled}
+use Rattle.sf_check.specs.declared.insn.Insn.{Insn}
+use Rattle.sf_run.specs.Feasible.{AreFeasibleTraces}
+use Rattle.sf_book.specs.Exact.{IsWorkedOff}
+
+-- nothing is outstanding, or all commits are spent
+abbrev pub IsEnd : BookData → Type 0
+IsEnd b = (b.outstanding ≡ []) ⊎ (b.commits ≡ b.budget)
+
+-- no piece is on lease
+abbrev pub IsFree : List EntryData → Type 0
+IsFree es = All (λ e. e.leased ≡ false) es
+
+-- of the same stack and budget
+pub record IsSameExploration (b c : BookData) : Type 0 where
+  pub stack : c.stack ≡ b.stack
+  pub budget : c.budget ≡ b.budget
+
+-- one commit more, and no piece on lease
+pub record GoesOn (b c : BookData) : Type 0 where
+  pub commits : c.commits ≡ b.commits + 1
+  pub free : IsFree c.outstanding
+
+-- the end of an exploration of the stack with the budget
+pub record IsEndOf (stack : List (List Insn)) (budget : ℕ) (s : BookData) : Type 0 where
+  pub settled : IsSettled s
+  pub of : s.stack ≡ stack
+  pub with : s.budget ≡ budget
+  pub end : IsEnd s
+
+-- the end of an exploration of a plain stack: nothing is outstanding exactly where the budget is enough for its feasible traces, and then these are what was found
+pub record IsExactEnd (stack : List (List Insn)) (budget : ℕ) (s : BookData) : Type 0 where
+  pub enough : (traces : List (List Bool)) → AreFeasibleTraces stack traces → (s.outstanding ≡ []) ↔ (2 * length traces ≤ budget + 1)
+  pub worked : (traces : List (List Bool)) → AreFeasibleTraces stack traces → s.outstanding ≡ [] → IsWorkedOff s traces

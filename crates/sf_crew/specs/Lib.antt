@@ -1,0 +1,13 @@
+pub mod Numbers
+pub mod Ends
+pub mod History
+pub mod Benches
+pub mod BenchRule
+pub mod Views
+pub mod Boards
+pub mod BoardSteps
+pub mod SheetEntries
+pub mod Tallies
+pub mod BoardRule
+pub mod LeastWords
+pub mod Sweeps

@@ -1,0 +1,65 @@
+-- What a sweep does: the jobs of each worker, and the tally of all regions.
+use Rattle.std.specs.Prelude.{◌≡◌, ℕ, ◌<◌, ◌⊎◌, Bool, false, IsTrue, List, length, Some, None, slice_get}
+use Rattle.sf_book.specs.Books.{BookData}
+use Rattle.sf_ask.specs.Asked.{Asked}
+use Rattle.sf_insn.specs.declared.input.Input.{Input}
+use Rattle.sf_ask.specs.declared.verdict.Reply.{Reply}
+use Rattle.sf_ask.specs.Verdicts.{IsLowInput, IsBreakAt, IsRightReply, IsFirstBreak, IsPlainExample}
+use Rattle.sf_ask.specs.declared.verdict.Reply.TheVariants.{Never, Allowed, Unsettled}
+use Rattle.sf_check.specs.Stacks.{IsPlain}
+use Rattle.sf_ask.specs.Sheets.{HasBreak, HasNoBreak, IsRightEntry}
+use Rattle.sf_ask.specs.declared.verdict.Verdict.TheVariants.{Doubt}
+use Rattle.sf_crew.specs.Tallies.{IsBelow}
+use Rattle.sf_crew.specs.declared.board.Board.{Board}
+use Rattle.sf_crew.specs.declared.board.Seat.{Seat}
+use Rattle.sf_crew.specs.declared.board.Tally.{Tally}
+use Rattle.sf_crew.specs.Views.{bit_of, Noted}
+use Rattle.sf_crew.specs.declared.view.View.{View}
+use Rattle.sf_crew.specs.BoardSteps.{with_notes}
+use Rattle.sf_crew.specs.Boards.{IsSeatOf, seat_view}
+
+-- looking adds notes alone, and each question below the last that isn't wanted has a noted place below the job
+pub record SkipsOnly (questions : List Asked) (job : ℕ) (v w : View) (wanted : List ℕ) : Type 0 where
+  pub same : w ≡ with_notes v w.notes
+  pub skips : (q : ℕ) → q < length questions → bit_of wanted q ≡ 0 → (r : ℕ) × Noted w.notes q r × (r < job)
+
+-- a worker's seat, and whether it found the end
+abbrev pub IsWorked : Board → Seat × Bool → Type 0
+IsWorked b s = IsSeatOf b s.0 × ((seat_view s.0).parts ≡ 1) × (IsTrue s.1 → ((seat_view s.0).owes ≡ None) × (0 < (seat_view s.0).nones))
+
+-- the tally of all regions
+pub record IsFullTally (s : BookData) (qs : List Asked) (t : Tally) : Type 0 where
+  -- a least place is a region with a member that breaks the question
+  pub breaks : (q r : ℕ) → slice_get t.least q ≡ Some (Some r) → (r < length s.regions) × HasBreak s qs r q
+  -- below it no region has such a member, but one in doubt, and then the question's bit is set
+  pub cleared : (q r : ℕ) → q < length qs → r < length s.regions → IsBelow t q r → HasNoBreak s qs r q ⊎ ((bit_of t.doubts q ≡ 1) × IsRightEntry s qs r q (Some Doubt))
+  -- a bit is set only where some region is in doubt
+  pub doubts : (q : ℕ) → q < length qs → bit_of t.doubts q ≡ 1 → (r : ℕ) × (r < length s.regions) × IsRightEntry s qs r q (Some Doubt)
+  pub counted : t.entered ≡ length s.regions
+
+-- no member of region r breaks the question where there is no doubt, and in any case the low input isn't such a member
+pub record IsUnbroken (s : BookData) (question : Asked) (doubt : Bool) (r : ℕ) : Type 0 where
+  pub none : doubt ≡ false → (d : Input) → ¬ IsBreakAt s r question d
+  pub low : (d : Input) → IsLowInput question d → ¬ IsBreakAt s r question d
+
+-- on a plain stack an example is the plain one of the first break, and a question is unsettled only where a piece is outstanding
+abbrev pub IsPlainReply : BookData → Asked → Reply → Type 0
+IsPlainReply s question Never = Unit {0}
+IsPlainReply s question (Allowed d) = (r : ℕ) × IsFirstBreak s question r × IsPlainExample s r question d
+IsPlainReply s question Unsettled = 0 < length s.outstanding
+
+-- a reply is right, and on a plain stack it is exact
+pub record IsReplyTo (s : BookData) (question : Asked) (reply : Reply) : Type 0 where
+  pub right : IsRightReply s question reply
+  pub plain : IsPlain s.stack → IsPlainReply s question reply
+
+-- the reply to the question of a number is such a one
+pub record IsRightReplyAt (s : BookData) (questions : List Asked) (q : ℕ) (reply : Reply) : Type 0 where
+  pub question : Asked
+  pub asked : slice_get questions q ≡ Some question
+  pub replies : IsReplyTo s question reply
+
+-- there is such a reply to each question
+pub record AreRightReplies (s : BookData) (questions : List Asked) (replies : List Reply) : Type 0 where
+  pub count : length replies ≡ length questions
+  pub each : (q : ℕ) (reply : Reply) → slice_get replies q ≡ Some reply → IsRightReplyAt s questions q reply

@@ -1,0 +1,100 @@
+-- What a seat of a board knows, and words on it.
+use Rattle.std.specs.Prelude.{◌≡◌, ℕ, ◌+◌, ◌<◌, ◌≤◌, ◌⊎◌, ◌==◌, nat_lt, if◌then◌else◌, max, ◌/◌, ◌%◌, slice_index, List, [], ◌∷◌, ◌++◌, map, length, Option, Some, None}
+use Rattle.std.specs.Int.{bit_at}
+use Rattle.sf_book.specs.Books.{BookData}
+use Rattle.sf_ask.specs.Asked.{Asked}
+use Rattle.sf_ask.specs.Sheets.{HasBreak, HasNoBreak, IsRightEntry}
+use Rattle.sf_ask.specs.declared.verdict.Verdict.TheVariants.{Doubt}
+use Rattle.sf_crew.specs.declared.view.Matter.{Matter}
+use Rattle.sf_crew.specs.declared.view.Entry.{Entry}
+use Rattle.sf_crew.specs.declared.view.Note.{Note}
+use Rattle.sf_crew.specs.declared.view.View.{View}
+
+-- the regions and the questions that a board is about
+abbrev pub regions_of : Matter → BookData
+regions_of k = k.settled.value
+
+abbrev pub asked : Matter → List Asked
+asked k = map (λ q. q.value) k.questions.items
+
+-- the number of regions. In a word of a least place it stands for none
+abbrev pub places : Matter → ℕ
+places k = length (regions_of k).regions
+
+-- an entered sheet of a job, with doubts for these questions
+abbrev pub entry : ℕ → List ℕ → Entry
+entry j ds = record { job = j; doubts = ds }
+
+-- a note that the least place of question q was r or less
+abbrev pub note : ℕ → ℕ → Note
+note q r = record { question = q; place = r }
+
+-- the job that a seat owes a sheet for
+abbrev pub owed : Option ℕ → List ℕ
+owed None = []
+owed (Some j) = j ∷ []
+
+-- the jobs that a seat has drawn: it owes one of them at most, and has entered the others
+abbrev pub jobs : View → List ℕ
+jobs v = owed v.owes ++ map (λ e. e.job) v.entries
+
+-- 1 where x stands in the list, else 0
+abbrev pub has : ℕ → List ℕ → ℕ
+has x [] = 0
+has x (y ∷ ys) = max (if x == y then 1 else 0) (has x ys)
+
+-- 1 where one of the sheets has a Doubt for question q, else 0
+abbrev pub has_doubt : ℕ → List Entry → ℕ
+has_doubt q [] = 0
+has_doubt q (e ∷ es) = max (has q e.doubts) (has_doubt q es)
+
+-- the bit of question q in four words of 64 bits: bit q modulo 64 of word q / 64
+abbrev pub bit_of : List ℕ → ℕ → ℕ
+bit_of words q = bit_at (slice_index words (q / 64)) (q % 64)
+
+-- a place was noted for the question
+abbrev pub Noted : List Note → ℕ → ℕ → Type 0
+Noted [] q r = ⊥
+Noted (n ∷ ns) q r = ((n.question ≡ q) × (n.place ≡ r)) ⊎ Noted ns q r
+
+-- region r has a member that breaks question q, or r stands for "none"
+abbrev pub RightPlace : Matter → ℕ → ℕ → Type 0
+RightPlace k q r = (r ≡ places k) ⊎ ((r < places k) × HasBreak (regions_of k) (asked k) r q)
+
+-- a sheet may leave region r in doubt for question q
+abbrev pub IsInDoubt : Matter → ℕ → ℕ → Type 0
+IsInDoubt k r q = IsRightEntry (regions_of k) (asked k) r q (Some Doubt)
+
+-- an entered sheet is of a region, which breaks no question but where a place at or below it was noted, or the sheet has a doubt; and its doubts are right
+pub record Covered (k : Matter) (notes : List Note) (e : Entry) : Type 0 where
+  pub there : e.job < places k
+  pub cleared : (q : ℕ) → q < length (asked k) → ((r : ℕ) × Noted notes q r × (r ≤ e.job)) ⊎ HasNoBreak (regions_of k) (asked k) e.job q ⊎ (has q e.doubts ≡ 1)
+  pub doubts : (q : ℕ) → has q e.doubts ≡ 1 → IsInDoubt k e.job q
+
+-- a fact of each element
+abbrev pub Each : {X : Type 0} → (X → Type 0) → List X → Type 0
+Each P [] = Unit {0}
+Each P (x ∷ xs) = P x × Each P xs
+
+-- how often x stands in the list
+abbrev pub times : ℕ → List ℕ → ℕ
+times x [] = 0
+times x (y ∷ ys) = (if x == y then 1 else 0) + times x ys
+
+-- how often each number below n stands in a list of all of them
+abbrev pub once_below : ℕ → ℕ → ℕ
+once_below x n = if nat_lt x n then 1 else 0
+
+-- f of all views, added up
+abbrev pub total : (View → ℕ) → List View → ℕ
+total f [] = 0
+total f (v ∷ vs) = f v + total f vs
+
+-- the greatest f of a view
+abbrev pub top : (View → ℕ) → List View → ℕ
+top f [] = 0
+top f (v ∷ vs) = max (f v) (top f vs)
+
+-- 1 where a seat has marked question q, now or on an entered sheet, else 0
+abbrev pub doubt_at : ℕ → View → ℕ
+doubt_at q v = max (has q v.marked) (has_doubt q v.entries)

@@ -1,0 +1,34 @@
+//! Workers on threads: they explore a stack by the pieces of a locked book, with benches that they steal from, and judge
+//! regions by a board of shared words, without a lock.
+#![tactic(auto)]
+
+mod benches;
+mod board;
+mod closing;
+mod drawing;
+mod ends;
+mod entering;
+mod exploring;
+mod fault;
+mod gate;
+mod hiring;
+mod history;
+mod opening;
+mod replying;
+mod steps;
+mod sweeping;
+mod view;
+mod workers;
+
+pub use benches::bench;
+pub use board::{Board, Seat, Tally};
+pub use ends::{Owner, Thief};
+pub use fault::Fault;
+pub use gate::{Gate, Open};
+pub use history::{End, Event};
+pub use replying::sweep;
+pub use view::{Entry, Matter, Note, View};
+pub use workers::{explore, visit};
+
+#[cfg(test)]
+mod tests;

@@ -1,0 +1,196 @@
+//! Workers that judge regions by a board.
+ghost use Rattle.std.specs.Prelude.{◌≡◌, ◌==◌, if◌then◌else◌, ℕ, ◌+◌, ◌-◌, ◌<◌, ◌≤◌, length, vec_len, All, IfOk, IfErr, OnOk, IfSome, IsTrue, None, Some};
+ghost use Rattle.sf_crew.specs.BoardSteps.{Knows, with_notes};
+ghost use Rattle.sf_crew.specs.Sweeps.{IsWorked, IsFullTally, SkipsOnly};
+ghost use Rattle.sf_crew.specs.Views.{asked, regions_of, places, jobs, bit_of, Noted};
+ghost use Rattle.sf_crew.specs.Boards.{about, seat_view, IsSeatOf, IsNewSeat};
+ghost use Rattle.sf_crew.specs.declared.fault.Fault.TheVariants.{Memory};
+
+use crate::board::{Board, Seat, Tally};
+use crate::fault::Fault;
+use crate::gate::Gate;
+use crate::steps::BITS;
+use sf_ask::{Question, Sheet};
+use sf_book::Settled;
+use std::alloc::Global;
+use std::thread;
+use std::thread::Threads;
+
+/// Sets the bit of this question.
+fn want(wanted: &mut [u64; 4], q: usize)
+    requires { q < 256 }
+    ensures { (p : ℕ) → bit_of wanted.new p ≡ (if p == q then 1 else bit_of wanted.old p) }
+{
+    wanted[q / BITS] |= 1 << (q % BITS);
+}
+
+/// Whether a place below the job is seen for the question.
+fn is_beaten(board: &Board, seat: &mut Seat, job: usize, q: usize) -> bool
+    requires seat { IsSeatOf board.now seat.old }
+    requires there { q < length (asked (about board.now)) }
+    ensures same { IsSeatOf board.now seat.new }
+    ensures view { seat_view seat.new ≡ with_notes (seat_view seat.old) (seat_view seat.new).notes }
+    ensures more { (p r : ℕ) → Noted (seat_view seat.old).notes p r → Noted (seat_view seat.new).notes p r }
+    ensures beaten { IsTrue result → (r : ℕ) × Noted (seat_view seat.new).notes q r × (r < job) }
+{
+    match board.look(seat, q) {
+        Some(place) => place < job,
+        None => false,
+    }
+}
+
+/// Looks at each question: the bits of those for which no place below the job was seen.
+fn look_at_all(board: &Board, seat: &mut Seat, job: usize) -> [u64; 4]
+    requires seat { IsSeatOf board.now seat.old }
+    ensures same { IsSeatOf board.now seat.new }
+    ensures wanted { SkipsOnly (asked (about board.now)) job (seat_view seat.old) (seat_view seat.new) result }
+{
+    let mut wanted = [0u64; 4];
+    for q in 0..board.questions {
+        if !is_beaten(board, seat, job, q) {
+            want(&mut wanted, q);
+        }
+    }
+    wanted
+}
+
+/// Judges the job that the seat owes and enters the sheet. Questions with a lower place seen are skipped.
+pub(crate) fn enter_job<G: Gate>(
+    alloc: Global,
+    board: &Board,
+    seat: &mut Seat,
+    settled: &Settled,
+    questions: &[Question],
+    job: usize,
+    gate: &G,
+    pass: (usize, usize),
+) -> Result<(), Fault>
+    requires seat { IsSeatOf board.now seat.old }
+    requires owes { ((seat_view seat.old).owes ≡ Some job) × (job < places (about board.now)) }
+    requires matter { (regions_of (about board.now) ≡ settled.now) × (asked (about board.now) ≡ questions.now) }
+    ensures same { IsSeatOf board.now seat.new }
+    ensures parts { (seat_view seat.new).parts ≡ (seat_view seat.old).parts }
+    ensures nones { (seat_view seat.new).nones ≡ (seat_view seat.old).nones }
+    ensures free { OnOk result ((seat_view seat.new).owes ≡ None) }
+    ensures count { OnOk result (length (jobs (seat_view seat.new)) ≡ length (jobs (seat_view seat.old))) }
+{
+    let wanted = look_at_all(board, seat, job);
+    let sheet = Sheet::of(alloc, settled, job, questions, wanted)?;
+    gate.pass(pass.0, pass.1);
+    board.enter(seat, sheet);
+    Ok(())
+}
+
+/// Draws and enters until all jobs are drawn. False where memory ran out.
+fn work<G: Gate>(
+    alloc: Global,
+    board: &Board,
+    mut seat: Seat,
+    settled: &Settled,
+    questions: &[Question],
+    gate: &G,
+    worker: usize,
+) -> (Seat, bool)
+    requires seat { IsSeatOf board.now seat × ((seat_view seat).owes ≡ None) }
+    requires matter { (regions_of (about board.now) ≡ settled.now) × (asked (about board.now) ≡ questions.now) }
+    ensures seat { IsSeatOf board.now result.0 }
+    ensures parts { (seat_view result.0).parts ≡ (seat_view seat).parts }
+    ensures done { IsTrue result.1 → ((seat_view result.0).owes ≡ None) × (0 < (seat_view result.0).nones) }
+{
+    let mut call: usize = 0;
+    while let Some(job) = board.draw(&mut seat) {
+        call = call.wrapping_add(1);
+        let pass = (worker, call);
+        if enter_job(alloc, board, &mut seat, settled, questions, job, gate, pass).is_err() {
+            return (seat, false);
+        }
+    }
+    (seat, true)
+}
+
+/// Joins every seat of the list into the first. None where one of their workers ran out of memory.
+fn join_all(board: &Board, first: Seat, mut others: Vec<(Seat, bool)>) -> Option<Seat>
+    requires first { IsSeatOf board.now first × ((seat_view first).owes ≡ None) }
+    requires others { All (λ s. IsWorked board.now s) others.items }
+    ensures { IfSome result (λ s. IsSeatOf board.now s × ((seat_view s).owes ≡ None) × ((seat_view s).parts ≡ (seat_view first).parts + vec_len others) × (0 < vec_len others → (0 < (seat_view s).nones) × Knows (seat_view s))) }
+{
+    let mut all = first;
+    while let Some((seat, done)) = others.pop() {
+        if !done {
+            return None;
+        }
+        all = board.join(all, seat);
+    }
+    Some(all)
+}
+
+/// A worker's number, and its seat.
+#[derive(Drop)]
+pub(crate) struct Part {
+    number: usize,
+    seat: Seat,
+}
+
+/// The seats, numbered from 0.
+fn numbered(alloc: Global, board: &Board, mut seats: Vec<Seat>) -> Result<Vec<Part>, Fault>
+    requires { All (λ s. IsNewSeat board.now s) seats.items }
+    ensures ok { IfOk result (λ v. (vec_len v ≡ vec_len seats) × All (λ p. IsNewSeat board.now p.seat) v.items) }
+    ensures err { IfErr result (λ f. f ≡ Memory) }
+{
+    let _ = board;
+    let mut parts = Vec::new(alloc);
+    while let Some(seat) = seats.pop() {
+        let number = seats.len();
+        parts.push(Part { number, seat })?;
+    }
+    Ok(parts)
+}
+
+/// The tally of all regions, by as many workers, each of which has a seat. Then the calling thread draws with a seat
+/// of its own, under the next number.
+pub(crate) fn tally<R: Threads + Sync, G: Gate>(
+    rt: &R,
+    alloc: Global,
+    settled: &Settled,
+    questions: &[Question],
+    workers: usize,
+    gate: &G,
+) -> Result<Tally, Fault>
+    requires workers { (0 < workers) × (workers ≤ 64) }
+    requires questions { length questions.now ≤ 256 }
+    ensures ok { IfOk result (λ t. IsFullTally settled.now questions.now t) }
+    ensures err { IfErr result (λ f. f ≡ Memory) }
+{
+    let (board, mut seats) = Board::new(alloc, settled, questions, workers + 1)?;
+    let Some(mine) = seats.pop() else {
+        unreachable!()
+    };
+    let shared = &board;
+    let parts = numbered(alloc, shared, seats)?;
+    let worked = thread::map_vec(
+        rt,
+        parts,
+        &|part: Part| -> (Seat, bool)
+            requires { IsNewSeat shared.now part.seat × (regions_of (about shared.now) ≡ settled.now) × (asked (about shared.now) ≡ questions.now) }
+            ensures { IsWorked shared.entry.now result }
+        {
+            work(
+                alloc,
+                shared,
+                part.seat,
+                settled,
+                questions,
+                gate,
+                part.number,
+            )
+        },
+    )?;
+    let (mine, done) = work(alloc, shared, mine, settled, questions, gate, workers);
+    if !done {
+        return Err(Fault::Memory);
+    }
+    let Some(all) = join_all(&board, mine, worked) else {
+        return Err(Fault::Memory);
+    };
+    Ok(board.close(all))
+}
