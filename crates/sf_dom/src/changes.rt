@@ -9,7 +9,7 @@ use crate::domain::pass;
 use crate::exclusions::{Exclusions, copy_all};
 use crate::fault::Fault;
 use crate::known::Known;
-use crate::settle::{exclude_both, settle, settle_node};
+use crate::settle::{exclude_both, is_ruled_out, settle, settle_node};
 use sf_sym::{Cond, Pool};
 use std::alloc::Global;
 
@@ -29,6 +29,9 @@ pub fn taken(
         (λ r. IsTaken nodes.now excluded.now r.0.items r.1.items pool.now cond.now)) }
 {
     let _count = pool.len();
+    if is_ruled_out(nodes, excluded, pool, cond) {
+        return Ok(None);
+    }
     let mut left = Vec::from_slice(alloc, nodes)?;
     let mut lists = copy_all(alloc, excluded)?;
     exclude_both(alloc, lists.as_mut_slice(), nodes, pool, cond)?;

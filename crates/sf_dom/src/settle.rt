@@ -1,6 +1,6 @@
 //! A condition taken into what is known of the nodes of a pool.
 
-ghost use Rattle.std.specs.Prelude.{◌≡◌, ◌≢◌, ℕ, ◌+◌, ◌-◌, ◌*◌, ◌/◌, ◌%◌, ◌<◌, ◌≤◌, ◌^◌, ◌⊎◌, List, length, Contains, MatchOption, MatchBool, IfSome, IfOk, OnErr, bit_and, bit_or, bit_xor, true, false};
+ghost use Rattle.std.specs.Prelude.{◌≡◌, ◌≢◌, ℕ, ◌+◌, ◌-◌, ◌*◌, ◌/◌, ◌%◌, ◌<◌, ◌≤◌, ◌^◌, ◌⊎◌, List, length, Contains, MatchOption, MatchBool, IfSome, IfOk, OnErr, IsTrue, bit_and, bit_or, bit_xor, true, false};
 ghost use Rattle.sf_insn.specs.Inputs.{IsInput};
 ghost use Rattle.sf_insn.specs.Words.{apply};
 ghost use Rattle.sf_sym.specs.Pool.{OperandsBelow, IsPool, node_at, node_value, values_of, value_of};
@@ -169,6 +169,41 @@ pub fn settle_node(
         Some(next) => {
             nodes[at] = next;
             true
+        }
+    }
+}
+
+/// Whether a node has no number left, by what is known of it and what is told besides.
+fn has_none(nodes: &[Known], excluded: &[Exclusions], pool: &Pool, at: usize, more: Known) -> bool
+    requires covers { length nodes.now ≡ length pool.now }
+    requires words { length excluded.now ≡ 16 }
+    requires place { at < length pool.now }
+    ensures { IsTrue result → NoneAgreesOn nodes.now excluded.now pool.now (λ d. Admits more (value_of pool.now d at)) }
+{
+    let node = pool.node(NodeId(at));
+    match tightened(meet(nodes[at], more), node, excluded) {
+        None => true,
+        Some(_) => false,
+    }
+}
+
+/// Whether what is known of its two nodes rules a condition out. It is asked before facts are copied.
+pub fn is_ruled_out(nodes: &[Known], excluded: &[Exclusions], pool: &Pool, cond: &Cond) -> bool
+    requires covers { length nodes.now ≡ length pool.now }
+    requires words { length excluded.now ≡ 16 }
+    requires node { cond.now.node.0 < length pool.now }
+    requires other { cond.now.other.0 < length pool.now }
+    ensures { IsTrue result → NoneAgreesOn nodes.now excluded.now pool.now (Holds pool.now cond.now) }
+{
+    let v = cond.node.0;
+    let w = cond.other.0;
+    match tested(nodes[v], nodes[w], cond.test, cond.sense) {
+        None => true,
+        Some(pair) => {
+            if has_none(nodes, excluded, pool, v, pair.node) {
+                return true;
+            }
+            has_none(nodes, excluded, pool, w, pair.other)
         }
     }
 }
