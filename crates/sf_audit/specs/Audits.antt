@@ -2,7 +2,8 @@
 use Rattle.std.specs.Prelude.{◌≡◌, ℕ, ◌<◌, ◌⊎◌, List, length}
 use Rattle.sf_check.specs.declared.insn.Insn.{Insn}
 use Rattle.sf_ask.specs.Asked.{Asked}
-use Rattle.sf_crew.specs.Ends.{IsEndOf}
+use Rattle.sf_check.specs.Stacks.{IsPlain}
+use Rattle.sf_crew.specs.Ends.{IsEndOf, IsExactEnd}
 use Rattle.sf_crew.specs.Sweeps.{AreRightReplies}
 use Rattle.sf_crew.specs.declared.fault.Fault.{Fault as CrewFault}
 use Rattle.sf_crew.specs.declared.fault.Fault.TheVariants as crew
@@ -12,9 +13,10 @@ use Rattle.sf_audit.specs.Filters.{SpellStack, IsFirstRefusal}
 use Rattle.sf_audit.specs.Outcomes.{Found}
 
 -- An exploration of the stack came to its end, with nothing outstanding or all of the budget spent; the questions are
--- those that were asked, and each has a right reply.
+-- those that were asked, and each has a right reply. On a plain stack the end is the exact one, whoever worked.
 pub record IsFoundOn (stack : List (List Insn)) (budget : ℕ) (asked : List Asked) (o : Found) : Type 0 where
   pub end : IsEndOf stack budget o.settled
+  pub plain : IsPlain stack → IsExactEnd stack budget o.settled
   pub questions : o.questions ≡ asked
   pub replies : AreRightReplies o.settled o.questions o.replies
 

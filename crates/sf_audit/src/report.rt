@@ -2,9 +2,10 @@
 
 mod text;
 
-ghost use Rattle.std.specs.Prelude.{OnOk, OnErr};
+ghost use Rattle.std.specs.Prelude.{◌≡◌, ◌⊎◌, OnOk, OnErr, IfErr};
 ghost use Rattle.std.specs.Io.KnownBytes.{Appends};
 ghost use Rattle.sf_audit.specs.Reports.{AppendsFront, report_text};
+ghost use Rattle.sf_audit.specs.declared.fault.Fault.TheVariants.{Memory as MemoryFault, Write as WriteFault};
 
 use crate::fault::Fault;
 use crate::outcome::Outcome;
@@ -16,6 +17,7 @@ use text::report_of;
 fn write_bytes<W: Write>(bytes: &[u8], out: &mut W) -> Result<(), Fault>
     ensures ok { OnOk result (Appends (W.contents out.old) (W.contents out.new) bytes.now) }
     ensures err { OnErr result (AppendsFront (W.contents out.old) (W.contents out.new) bytes.now) }
+    ensures fault { IfErr result (λ e. e ≡ WriteFault) }
 {
     let mut rest = bytes;
     while !rest.is_empty() {
@@ -43,6 +45,9 @@ pub fn write_report<W: Write>(
 
     // Otherwise a beginning of it is.
     ensures begun { OnErr result (AppendsFront (W.contents out.old) (W.contents out.new) (report_text outcome.now regions)) }
+
+    // Nothing else is told than that writing failed or memory ran out, and then nothing was written.
+    ensures refused { IfErr result (λ e. (e ≡ WriteFault) ⊎ ((e ≡ MemoryFault) × (out.new ≡ out.old))) }
 {
     match report_of(alloc, outcome, regions) {
         Ok(text) => write_bytes(text.as_bytes(), out),
