@@ -5,10 +5,10 @@ ghost use Rattle.std.specs.Prelude.{◌<◌, ◌≤◌};
 use sf_audit::{audit, read_policy, write_report};
 use sf_crew::Open;
 use std::alloc::Global;
+use std::io;
 use std::sync::Wait;
 use std::test::Fail;
 use std::thread::Threads;
-use std::io;
 
 /// More than any of these stacks needs.
 const BUDGET: u32 = 100_000;

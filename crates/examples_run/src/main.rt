@@ -10,8 +10,8 @@ use sf_check::{Program, Stack, check};
 use sf_insn::{decode, input_of_bytes};
 use sf_run::answer;
 use std::rt::Files;
-use std::test::Fail;
 use std::sync::Wait;
+use std::test::Fail;
 use std::thread::Threads;
 use std::{fs, io};
 
@@ -64,7 +64,10 @@ fn show_audit_of<R: Files + Print + Threads + Wait + Sync + AllocGlobal>(
 }
 
 /// Does what one line says.
-fn show<R: Files + Print + Threads + Wait + Sync + AllocGlobal>(rt: &R, line: &str) -> Result<(), Fail> {
+fn show<R: Files + Print + Threads + Wait + Sync + AllocGlobal>(
+    rt: &R,
+    line: &str,
+) -> Result<(), Fail> {
     let words: Vec<&str> = line.split_whitespace().collect(rt.alloc())?;
     match words.as_slice() {
         ["check", paths @ ..] => show_check(rt, &stack_in(rt, paths)?)?,

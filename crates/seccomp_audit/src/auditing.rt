@@ -1,10 +1,8 @@
 //! What `audit` does.
 
-ghost use Rattle.std.specs.Prelude.{◌≡◌, ◌<◌, ◌≤◌, ◌⊎◌, ℕ, List, IfOk, IfErr, OnOk};
-ghost use Rattle.std.specs.Io.KnownBytes.{Appends};
-ghost use Rattle.sf_audit.specs.Reports.{report_text};
+ghost use Rattle.std.specs.Prelude.{◌≡◌, ◌<◌, ◌≤◌, ◌⊎◌, ℕ, List, IfOk, IfErr};
 ghost use Rattle.sf_audit.specs.Faults.{fault_number};
-ghost use Rattle.sf_audit.specs.declared.fault.Fault.TheVariants.{Memory as MemoryFault, Read as ReadFault, Write as WriteFault};
+ghost use Rattle.sf_audit.specs.declared.fault.Fault.TheVariants.{Memory as MemoryFault, Read as ReadFault};
 ghost use Rattle.seccomp_audit.specs.Audits.{AuditsFiles, IsPolicyFile, RefusesPolicyFile};
 ghost use Rattle.seccomp_audit.specs.Status.{fault_status};
 
@@ -43,18 +41,6 @@ fn questions_in<F: Files>(alloc: Global, path: &str, files: &mut F) -> Result<Ve
     }
 }
 
-/// Writes the report to standard output. `Write` where that fails.
-fn show<O: Write>(alloc: Global, outcome: &Outcome, regions: bool, out: &mut O) -> Result<(), Fault>
-    ensures written { OnOk result (Appends (O.contents out.old) (O.contents out.new) (report_text outcome.now regions)) }
-    ensures failed { IfErr result (λ e. (e ≡ WriteFault) ⊎ (e ≡ MemoryFault)) }
-{
-    match write_report(alloc, outcome, regions, out) {
-        Ok(()) => Ok(()),
-        Err(Fault::Memory) => Err(Fault::Memory),
-        Err(_) => Err(Fault::Write),
-    }
-}
-
 /// Reads the policy file and then the filter files, in order of installation, audits the stack of the filters, writes
 /// the report, and gives the status of the replies. `Read`, `Syntax` or what `read_policy` refuses for the policy file;
 /// `Read` where a filter file can't be read; then what `audit` of the library refuses; `Write` where standard output
@@ -85,6 +71,6 @@ pub fn audit<R: Threads + Wait + Sync, F: Files, O: Write>(
         workers,
         &Open,
     )?;
-    show(alloc, &outcome, options.regions, out)?;
+    write_report(alloc, &outcome, options.regions, out)?;
     Ok(status_of_replies(outcome.replies()))
 }

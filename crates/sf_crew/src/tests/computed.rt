@@ -33,7 +33,10 @@ fn quotients_of_eight_are_ten_regions(rt: HostRuntime) -> Result<(), Fail> {
     }
     wanted.push_str(" T 00000000 0;")?;
     for workers in [1, 2, 8] {
-        assert_eq!(rt; text_by(&rt, alloc, &stack, workers)?.as_str(), wanted.as_str());
+        assert_eq!(rt;
+            text_by(&rt, alloc, &stack, workers)?.as_str(),
+            wanted.as_str()
+        );
     }
     Ok(())
 }
@@ -44,10 +47,17 @@ fn two_bits_are_four_regions(rt: HostRuntime) -> Result<(), Fail> {
     let stack = low_bits_stack(alloc, 3)?;
     let mut wanted = String::from_str(alloc, "4/0/0/3/7")?;
     for (bits, end) in ["FF", "FT", "TF", "TT"].iter().enumerate() {
-        write!(&mut wanted, " {:F<13}TFT{:F<14}{end} 00050000 {bits};", "", "")?;
+        write!(
+            &mut wanted,
+            " {:F<13}TFT{:F<14}{end} 00050000 {bits};",
+            "", ""
+        )?;
     }
     for workers in [1, 2, 8] {
-        assert_eq!(rt; text_by(&rt, alloc, &stack, workers)?.as_str(), wanted.as_str());
+        assert_eq!(rt;
+            text_by(&rt, alloc, &stack, workers)?.as_str(),
+            wanted.as_str()
+        );
     }
     Ok(())
 }
@@ -59,11 +69,17 @@ fn sixteen_bits_are_65536_regions(rt: HostRuntime) -> Result<(), Fail> {
     for workers in [1, 2, 8] {
         let settled = explore(&rt, alloc, Arc::try_clone(&stack)?, 131071, workers, &Open)?;
         let counts = settled.counts();
-        assert_eq!(rt; (counts.settled, counts.left, counts.emptied), (65536, 0, 0));
+        assert_eq!(rt;
+            (counts.settled, counts.left, counts.emptied),
+            (65536, 0, 0)
+        );
         assert_eq!(rt; (counts.splits, counts.commits), (65535, 131071));
         for place in 0..settled.region_count() {
             let answer = settled.region(place).answer();
-            assert_eq!(rt; (answer.action, usize::from(answer.info)), (Action::Errno, place));
+            assert_eq!(rt;
+                (answer.action, usize::from(answer.info)),
+                (Action::Errno, place)
+            );
         }
     }
     Ok(())

@@ -10,6 +10,6 @@ returns-clause-written g c = record {
   read = read_same _ _ _ _ c.in_ok-questions.ensures.same c.in_ok-filters.ensures.read;
   found = c.in_ok-outcome.outcome;
   audit = rw c.deref.ensures.value at c.in_ok-outcome.ensures.found;
-  written = c.in_ok-show.ensures.written;
+  written = c.in_ok-write_report.ensures.written;
   told = search rules;
 }
