@@ -5,7 +5,6 @@ ghost use Rattle.std.specs.Prelude.{◌<◌, ◌≤◌};
 use sf_audit::{audit, read_policy, write_report};
 use sf_crew::Open;
 use std::alloc::Global;
-use std::io;
 use std::sync::Wait;
 use std::test::Fail;
 use std::thread::Threads;

@@ -1,12 +1,11 @@
 //! The exit statuses of the program.
 
-ghost use Rattle.std.specs.Prelude.{◌≡◌, count_by};
+ghost use Rattle.std.specs.Prelude.{◌≡◌};
 ghost use Rattle.sf_audit.specs.Faults.{fault_number};
-ghost use Rattle.sf_audit.specs.Reports.{is_allowed, is_unsettled};
 ghost use Rattle.seccomp_audit.specs.Status.{fault_status, replies_status};
 
 use sf_ask::Reply;
-use sf_audit::Fault;
+use sf_audit::{Fault, count_allowed, count_unsettled};
 
 /// The status of a fault: 3 where the filters, the policy or the input are refused, 5 where reading, writing or memory
 /// fails.
@@ -14,24 +13,6 @@ pub fn status_of(fault: &Fault) -> u8
     ensures { result ≡ fault_status (fault_number fault.now) }
 {
     if fault.number() < 50 { 3 } else { 5 }
-}
-
-fn count_allowed(replies: &[Reply]) -> usize
-    ensures { result ≡ count_by is_allowed replies.now }
-{
-    replies
-        .iter()
-        .filter(|reply| matches!(reply, Reply::Allowed(_)))
-        .count()
-}
-
-fn count_unsettled(replies: &[Reply]) -> usize
-    ensures { result ≡ count_by is_unsettled replies.now }
-{
-    replies
-        .iter()
-        .filter(|reply| matches!(reply, Reply::Unsettled))
-        .count()
 }
 
 /// The status of an audit: 1 where some question is allowed, 2 where none is and some is unsettled, 0 where all are

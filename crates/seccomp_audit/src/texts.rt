@@ -1,27 +1,11 @@
 //! The text that `check` and `eval` write.
 ghost use Rattle.std.specs.Prelude.{◌≡◌, ◌++◌, IfOk, OnOk, length, string_bytes};
-ghost use Rattle.sf_audit.specs.Reports.{action_text};
 ghost use Rattle.seccomp_audit.specs.Texts.{answer_text, check_text, filter_lines, filter_line, path_line};
 
+use sf_audit::push_action;
 use sf_check::{Program, Stack};
-use sf_run::{Action, Answer};
+use sf_run::Answer;
 use std::alloc::{AllocError, Global};
-
-fn push_action(text: &mut String, action: Action) -> Result<(), AllocError>
-    ensures { OnOk result (string_bytes text.new ≡ string_bytes text.old ++ action_text action) }
-{
-    match action {
-        Action::KillProcess => text.push_str("KILL_PROCESS"),
-        Action::KillThread => text.push_str("KILL_THREAD"),
-        Action::Trap => text.push_str("TRAP"),
-        Action::Errno => text.push_str("ERRNO"),
-        Action::UserNotif => text.push_str("USER_NOTIF"),
-        Action::Trace => text.push_str("TRACE"),
-        Action::Log => text.push_str("LOG"),
-        Action::Allow => text.push_str("ALLOW"),
-        Action::Other(value) => write!(text, "OTHER:0x{value:08x}"),
-    }
-}
 
 /// The line of an answer: its action and its data.
 pub fn answer_text(alloc: Global, answer: Answer) -> Result<String, AllocError>

@@ -2,7 +2,9 @@
 //! report.
 #![tactic(auto)]
 
+mod action;
 mod auditing;
+mod counting;
 mod fault;
 mod filters;
 pub mod laws;
@@ -10,7 +12,9 @@ mod outcome;
 mod policy;
 mod report;
 
+pub use action::push_action;
 pub use auditing::audit;
+pub use counting::{count_allowed, count_never, count_unsettled};
 pub use fault::Fault;
 pub use filters::stack_of;
 pub use outcome::Outcome;

@@ -1,14 +1,15 @@
 //! The text of a report, part by part.
 
-ghost use Rattle.std.specs.Prelude.{◌≡◌, ◌++◌, IfOk, OnOk, length, count_by, string_bytes};
+ghost use Rattle.std.specs.Prelude.{◌≡◌, ◌++◌, IfOk, OnOk, length, string_bytes};
 ghost use Rattle.sf_check.specs.Stacks.{path_length};
-ghost use Rattle.sf_audit.specs.Reports.{size_line, counts_line, hex_text, question_line, question_lines, trace_text, action_text, region_line, region_lines, shown_lines, is_never, is_allowed, is_unsettled, total_line, totals_line, head_text, report_text};
+ghost use Rattle.sf_audit.specs.Reports.{size_line, counts_line, hex_text, question_line, question_lines, trace_text, region_line, region_lines, shown_lines, total_line, totals_line, head_text, report_text};
 
+use crate::action::push_action;
+use crate::counting::{count_allowed, count_never, count_unsettled};
 use crate::outcome::Outcome;
 use sf_ask::{Question, Reply};
 use sf_book::{Counts, Region, Settled};
 use sf_insn::{Input, bytes_of_input};
-use sf_run::Action;
 use std::alloc::{AllocError, Global};
 
 fn push_trace(text: &mut String, name: &[bool]) -> Result<(), AllocError>
@@ -21,22 +22,6 @@ fn push_trace(text: &mut String, name: &[bool]) -> Result<(), AllocError>
         text.push_str(if *direction { "T" } else { "F" })?;
     }
     Ok(())
-}
-
-fn push_action(text: &mut String, action: Action) -> Result<(), AllocError>
-    ensures { OnOk result (string_bytes text.new ≡ string_bytes text.old ++ action_text action) }
-{
-    match action {
-        Action::KillProcess => text.push_str("KILL_PROCESS"),
-        Action::KillThread => text.push_str("KILL_THREAD"),
-        Action::Trap => text.push_str("TRAP"),
-        Action::Errno => text.push_str("ERRNO"),
-        Action::UserNotif => text.push_str("USER_NOTIF"),
-        Action::Trace => text.push_str("TRACE"),
-        Action::Log => text.push_str("LOG"),
-        Action::Allow => text.push_str("ALLOW"),
-        Action::Other(value) => write!(text, "OTHER:0x{value:08x}"),
-    }
 }
 
 fn push_region(text: &mut String, number: usize, region: &Region) -> Result<(), AllocError>
@@ -151,33 +136,6 @@ fn push_head(text: &mut String, settled: &Settled, questions: usize) -> Result<(
     text.push_str("seccomp_audit report 2\n")?;
     push_stack(text, settled, questions)?;
     push_counts(text, settled.counts())
-}
-
-fn count_never(replies: &[Reply]) -> usize
-    ensures { result ≡ count_by is_never replies.now }
-{
-    replies
-        .iter()
-        .filter(|reply| matches!(reply, Reply::Never))
-        .count()
-}
-
-fn count_allowed(replies: &[Reply]) -> usize
-    ensures { result ≡ count_by is_allowed replies.now }
-{
-    replies
-        .iter()
-        .filter(|reply| matches!(reply, Reply::Allowed(_)))
-        .count()
-}
-
-fn count_unsettled(replies: &[Reply]) -> usize
-    ensures { result ≡ count_by is_unsettled replies.now }
-{
-    replies
-        .iter()
-        .filter(|reply| matches!(reply, Reply::Unsettled))
-        .count()
 }
 
 fn push_total(

@@ -1,0 +1,36 @@
+//! Replies, counted.
+
+ghost use Rattle.std.specs.Prelude.{◌≡◌, count_by};
+ghost use Rattle.sf_audit.specs.Reports.{is_never, is_allowed, is_unsettled};
+
+use sf_ask::Reply;
+
+/// How many questions are never answered so.
+pub fn count_never(replies: &[Reply]) -> usize
+    ensures { result ≡ count_by is_never replies.now }
+{
+    replies
+        .iter()
+        .filter(|reply| matches!(reply, Reply::Never))
+        .count()
+}
+
+/// How many questions have an example.
+pub fn count_allowed(replies: &[Reply]) -> usize
+    ensures { result ≡ count_by is_allowed replies.now }
+{
+    replies
+        .iter()
+        .filter(|reply| matches!(reply, Reply::Allowed(_)))
+        .count()
+}
+
+/// How many questions are unsettled.
+pub fn count_unsettled(replies: &[Reply]) -> usize
+    ensures { result ≡ count_by is_unsettled replies.now }
+{
+    replies
+        .iter()
+        .filter(|reply| matches!(reply, Reply::Unsettled))
+        .count()
+}
