@@ -1,5 +1,5 @@
 use Rattle.std.proofs.Common.{◌∙◌, refl}
-use Rattle.sf_book.proofs.Shelves.{is_added, added_ids, added_shelf, added_view, put_back}
+use Rattle.sf_book.proofs.ShelfEntries.{is_added, added_ids, added_shelf, added_view, put_back}
 use Rattle.sf_book.proofs.shelf.Shelf.add.Goals as goal
 
 pub invariant_of-self-in-Ok : goal.invariant_of-self-in-Ok

@@ -1,4 +1,4 @@
-use Rattle.sf_book.proofs.Shelves.{piece_place}
+use Rattle.sf_book.proofs.ShelfEntries.{piece_place}
 use Rattle.sf_book.proofs.shelf.Shelf.at.Goals as goal
 
 pub returns : goal.returns

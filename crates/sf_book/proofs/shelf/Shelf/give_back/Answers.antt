@@ -1,5 +1,6 @@
 use Rattle.std.proofs.Common.{◌≡◌, false, sym, ◌∙◌, refl, Some}
-use Rattle.sf_book.proofs.Shelves.{marked_shelf, marked_view, entry_at_is, same_none}
+use Rattle.sf_book.proofs.Shelves.{marked_shelf, marked_view, entry_at_is}
+use Rattle.sf_book.proofs.ShelfEntries.{same_none}
 use Rattle.sf_book.specs.Shelves.{piece_at}
 use Rattle.sf_book.proofs.shelf.Shelf.give_back.Goals as goal
 

@@ -1,6 +1,7 @@
 use Rattle.std.proofs.Common.{◌≡◌, sym, ◌∙◌, refl, true}
 use Rattle.sf_book.specs.Shelves.{piece_at}
-use Rattle.sf_book.proofs.Shelves.{first_piece, leases_entry, all_leased, marked_shelf, some_inj, none_some}
+use Rattle.sf_book.proofs.Shelves.{marked_shelf, some_inj}
+use Rattle.sf_book.proofs.ShelfLeases.{first_piece, leases_entry, all_leased, none_some}
 use Rattle.sf_book.proofs.shelf.Shelf.lease.Goals as goal
 
 pub returns-in_default-clause-ok : goal.returns-in_default-clause-ok

@@ -1,4 +1,4 @@
-use Rattle.sf_book.proofs.Shelves.{without_last}
+use Rattle.sf_book.proofs.ShelfEntries.{without_last}
 use Rattle.sf_book.proofs.shelf.Shelf.split.Goals as goal
 
 pub returns-in-Err-clause-err : goal.returns-in-Err-clause-err

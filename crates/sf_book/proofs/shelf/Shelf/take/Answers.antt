@@ -1,6 +1,7 @@
 use Rattle.std.proofs.Common.{sym, ◌∙◌, ap}
 use Rattle.std.specs.Option.{option_map}
-use Rattle.sf_book.proofs.Shelves.{entry_at_is, taken_shelf, taken_view, without_none}
+use Rattle.sf_book.proofs.Shelves.{entry_at_is}
+use Rattle.sf_book.proofs.ShelfEntries.{taken_shelf, taken_view, without_none}
 use Rattle.sf_book.specs.Shelves.{entry_of}
 use Rattle.sf_piece.specs.Pieces.{PieceData}
 use Rattle.sf_book.proofs.shelf.Shelf.take.Goals as goal
