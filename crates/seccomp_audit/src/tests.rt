@@ -1,5 +1,7 @@
 mod audits;
+mod cases;
 mod evaluates;
+mod exact;
 mod kit;
 mod policies;
 mod refuses;

@@ -1,5 +1,6 @@
 mod alone;
 mod board;
+mod chains;
 mod computed;
 mod kit;
 mod shared;

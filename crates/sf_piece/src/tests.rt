@@ -1,14 +1,11 @@
 //! Small stacks explored to the end: regions, answers and counts worked by hand.
 
-ghost use Rattle.std.specs.Prelude.{length, IfOk, All};
-ghost use Rattle.sf_sym.specs.Pool.{IsCondBelow};
+mod facts;
 
 use super::*;
 use sf_check::{Stack, check};
-use sf_dom::Facts;
 use sf_insn::{Input, RawInsn};
 use sf_run::{Answer, answer, trace};
-use sf_sym::Cond;
 use std::alloc::Global;
 use std::sync::Arc;
 use std::test::Fail;
@@ -396,68 +393,6 @@ fn a_trace_is_the_name_of_one_region_with_the_answer(rt: HostRuntime) -> Result<
             assert_eq!(rt; named, 1);
         }
     }
-    Ok(())
-}
-
-/// The conditions of a piece, the oldest first.
-fn conds_of(alloc: Global, piece: &Piece) -> Result<Vec<Cond>, Fail>
-    ensures { IfOk result (λ v. All (IsCondBelow (length piece.now.pool)) v.items) }
-{
-    let mut conds = Vec::new(alloc);
-    for i in 0..piece.cond_count() {
-        conds.push(piece.cond(i))?;
-    }
-    Ok(conds)
-}
-
-/// Whether the facts that the piece carries are those that its conditions give afresh.
-fn carries_its_facts(alloc: Global, piece: &Piece) -> Result<bool, Fail> {
-    let conds = conds_of(alloc, piece)?;
-    match Facts::of(alloc, piece.pool(), conds.as_slice())? {
-        Some(afresh) => Ok(afresh.equals(piece.facts())),
-        None => Ok(false),
-    }
-}
-
-/// How many pieces of the stack carry other facts than their conditions give.
-fn strays(alloc: Global, stack: &Arc<Stack>) -> Result<u64, Fail> {
-    let mut strays = 0u64;
-    let mut open: Vec<Arc<Piece>> = Vec::new(alloc);
-    open.push(root(alloc, stack)?)?;
-    for _ in 0..1000 {
-        let Some(piece) = open.pop() else {
-            break;
-        };
-        if !carries_its_facts(alloc, &piece)? {
-            strays = strays.wrapping_add(1);
-        }
-        let (_piece, step, _name) = advance(alloc, &piece)?.into_parts();
-        if let Step::Split(on_false, on_true) = step {
-            open.push(on_true)?;
-            open.push(on_false)?;
-        }
-    }
-    Ok(strays)
-}
-
-#[test]
-fn carried_facts_are_those_built_afresh(rt: HostRuntime) -> Result<(), Fail> {
-    let alloc = rt.alloc();
-    let both = stack_of(alloc, &[&one_call_refused(), &x32_refused()])?;
-    assert_eq!(rt; strays(alloc, &both)?, 0);
-    let divided = stack_of(alloc, &[&eight_divided()])?;
-    assert_eq!(rt; strays(alloc, &divided)?, 0);
-    // ld [16]; and #3; or #0x50000; ret a
-    let masked = [op(0x20, 16), op(0x54, 3), op(0x44, 0x50000), op(0x16, 0)];
-    assert_eq!(rt; strays(alloc, &stack_of(alloc, &[&masked])?)?, 0);
-    // ld [0]; jset 5 0 1; ret 0x7fff0000; ret 0x80000000
-    let bits = [
-        op(0x20, 0),
-        raw(0x45, 0, 1, 5),
-        op(0x06, 0x7fff0000),
-        op(0x06, 0x80000000),
-    ];
-    assert_eq!(rt; strays(alloc, &stack_of(alloc, &[&bits])?)?, 0);
     Ok(())
 }
 

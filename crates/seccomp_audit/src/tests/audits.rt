@@ -1,9 +1,7 @@
-use super::kit::{ALLOW, LOGIN, Shelf, expect};
-use std::alloc::{AllocError, Global};
-use std::process::Abort;
-use std::sync::Wait;
+//! Audits of small stacks, worked by hand.
+use super::cases::{ANY, Case, EXECVE, X32, expect_case, expect_report};
+use super::kit::{ALLOW, LOGIN};
 use std::test::Fail;
-use std::thread::Threads;
 
 /// Refuses the calls of the x32 range with ENOSYS, and lets the rest pass:
 /// `ld [0]; jge 0x40000000 0 1; ret 0x00050026; ret 0x7fff0000`.
@@ -43,119 +41,26 @@ const ONE_BIT: &str = "20000000000000004500000100000040\
     060000000000ff7f0600000000000080";
 
 /// The files of the audits.
-fn files(alloc: Global) -> Result<Shelf, Fail> {
-    let table = [
-        ("login", LOGIN),
-        ("no_x32", NO_X32),
-        ("divides", DIVIDES),
-        ("low_bits", LOW_BITS),
-        ("low_half", LOW_HALF),
-        ("shifts", SHIFTS),
-        ("nested", NESTED),
-        ("chain", CHAIN),
-        ("two_bits", TWO_BITS),
-        ("one_bit", ONE_BIT),
-        ("allow", ALLOW),
-        ("allow_5", "060000000500ff7f"),
-        ("errno_1", "0600000001000500"),
-        ("errno_2", "0600000002000500"),
-        ("kill_thread", "0600000000000000"),
-        ("kill_process", "0600000000000080"),
-        ("odd", "0600000000000100"),
-        ("low_odd", "0600000005000180"),
-    ];
-    Shelf::of(alloc, &table)
-}
-
-/// An audit of one question.
-struct Case<'a> {
-    /// The lines of the question after its name.
-    question: &'a str,
-    /// The rest of the command line.
-    line: &'a str,
-    /// `filters N path L`.
-    size: &'a str,
-    /// The third line of the report, as numbers.
-    counts: (u32, u32, u32, u32, u32),
-    /// What follows the name of the question, in which `HEX` stands before zeros that make 128 digits.
-    reply: &'a str,
-    /// The parts of the lines of the regions after their numbers.
-    regions: &'a [&'a str],
-}
-
-const ANY: &str = "";
-
-const EXECVE: &str = "arch = 0xC000003E\nnr = 59\n";
-
-const X32: &str = "arch = 0xC000003E\nnr = [0x40000000, 0x7fffffff]\n";
-
-/// The reply with its digits, the status, and the last line of the report.
-fn shown(alloc: Global, reply: &str) -> Result<(String, u8, &'static str), AllocError> {
-    match reply {
-        "never" => Ok((
-            String::from_str(alloc, reply)?,
-            0,
-            "total never 1 allowed 0 unsettled 0\n",
-        )),
-        "unsettled" => Ok((
-            String::from_str(alloc, reply)?,
-            2,
-            "total never 0 allowed 0 unsettled 1\n",
-        )),
-        digits => Ok((
-            format!(in alloc; "allowed {digits:0<128}")?,
-            1,
-            "total never 0 allowed 1 unsettled 0\n",
-        )),
-    }
-}
-
-/// The lines of the regions.
-fn region_lines(alloc: Global, regions: &[&str]) -> Result<String, AllocError> {
-    let mut lines = String::new(alloc);
-    for (i, region) in regions.iter().enumerate() {
-        write!(lines, "region {} {region}\n", i + 1)?;
-    }
-    Ok(lines)
-}
-
-/// The files of the case, its policy among them.
-fn files_of(alloc: Global, case: &Case<'_>) -> Result<Shelf, Fail> {
-    let mut shelf = files(alloc)?;
-    let question = case.question;
-    let policy = format!(in alloc; "version = 1\n[[question]]\nname = \"asked\"\n{question}")?;
-    shelf.put("policy", policy.into_bytes())?;
-    Ok(shelf)
-}
-
-/// Runs the case, with its regions or without, and compares.
-fn expect_report<R: Threads + Wait + Sync + Abort + AllocGlobal>(
-    rt: &R,
-    case: &Case<'_>,
-    option: &str,
-    lines: &str,
-) -> Result<(), Fail> {
-    let alloc = rt.alloc();
-    let mut shelf = files_of(alloc, case)?;
-    let (reply, status, total) = shown(alloc, case.reply)?;
-    let (regions, open, emptied, splits, commits) = case.counts;
-    let (size, rest) = (case.size, case.line);
-    let text = format!(in alloc;
-        "seccomp_audit report 2\n{size} questions 1\nregions {regions} open {open} emptied {emptied} splits {splits} commits {commits}\nquestion 1 asked {reply}\n{lines}{total}"
-    )?;
-    let line = format!(in alloc; "audit {option}--policy policy {rest}")?;
-    expect(rt, &mut shelf, (line.as_str(), status, text.as_str(), ""))
-}
-
-/// Runs the case with and without its regions, and compares.
-fn expect_case<R: Threads + Wait + Sync + Abort + AllocGlobal>(
-    rt: &R,
-    case: &Case<'_>,
-) -> Result<(), Fail> {
-    expect_report(rt, case, "", "")?;
-    let lines = region_lines(rt.alloc(), case.regions)?;
-    expect_report(rt, case, "--regions ", &lines)
-}
+const FILES: [(&str, &str); 18] = [
+    ("login", LOGIN),
+    ("no_x32", NO_X32),
+    ("divides", DIVIDES),
+    ("low_bits", LOW_BITS),
+    ("low_half", LOW_HALF),
+    ("shifts", SHIFTS),
+    ("nested", NESTED),
+    ("chain", CHAIN),
+    ("two_bits", TWO_BITS),
+    ("one_bit", ONE_BIT),
+    ("allow", ALLOW),
+    ("allow_5", "060000000500ff7f"),
+    ("errno_1", "0600000001000500"),
+    ("errno_2", "0600000002000500"),
+    ("kill_thread", "0600000000000000"),
+    ("kill_process", "0600000000000080"),
+    ("odd", "0600000000000100"),
+    ("low_odd", "0600000005000180"),
+];
 
 const AUDITS_OF_ONE_FILTER: [Case<'static>; 5] = [
     Case {
@@ -203,7 +108,7 @@ const AUDITS_OF_ONE_FILTER: [Case<'static>; 5] = [
 #[test]
 fn audits_of_one_filter(rt: HostRuntime) -> Result<(), Fail> {
     for case in &AUDITS_OF_ONE_FILTER {
-        expect_case(&rt, case)?;
+        expect_case(&rt, &FILES, case)?;
     }
     Ok(())
 }
@@ -268,7 +173,7 @@ const AUDITS_OF_TWO_FILTERS: [Case<'static>; 6] = [
 #[test]
 fn audits_of_two_filters(rt: HostRuntime) -> Result<(), Fail> {
     for case in &AUDITS_OF_TWO_FILTERS {
-        expect_case(&rt, case)?;
+        expect_case(&rt, &FILES, case)?;
     }
     Ok(())
 }
@@ -319,7 +224,7 @@ const AUDITS_OF_COMPUTED_ANSWERS: [Case<'static>; 3] = [
 #[test]
 fn audits_of_computed_answers(rt: HostRuntime) -> Result<(), Fail> {
     for case in &AUDITS_OF_COMPUTED_ANSWERS {
-        expect_case(&rt, case)?;
+        expect_case(&rt, &FILES, case)?;
     }
     Ok(())
 }
@@ -362,7 +267,7 @@ const AUDITS_OF_COMPARISONS: [Case<'static>; 4] = [
 #[test]
 fn audits_of_comparisons(rt: HostRuntime) -> Result<(), Fail> {
     for case in &AUDITS_OF_COMPARISONS {
-        expect_case(&rt, case)?;
+        expect_case(&rt, &FILES, case)?;
     }
     Ok(())
 }
@@ -389,7 +294,7 @@ const AUDITS_OF_MANY_REGIONS: [Case<'static>; 2] = [
 #[test]
 fn audits_of_many_regions(rt: HostRuntime) -> Result<(), Fail> {
     for case in &AUDITS_OF_MANY_REGIONS {
-        expect_report(&rt, case, "", "")?;
+        expect_report(&rt, &FILES, case, "", "")?;
     }
     Ok(())
 }

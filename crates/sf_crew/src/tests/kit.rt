@@ -7,6 +7,14 @@ use std::alloc::Global;
 use std::sync::Arc;
 use std::test::Fail;
 
+/// Returns SECCOMP_RET_ALLOW.
+pub const ALLOW: RawInsn = RawInsn {
+    code: 0x06,
+    jt: 0,
+    jf: 0,
+    k: 0x7fff0000,
+};
+
 pub fn raw(code: u16, jt: u8, jf: u8, k: u32) -> RawInsn {
     RawInsn { code, jt, jf, k }
 }
@@ -33,10 +41,10 @@ pub fn execve_stack(alloc: Global) -> Result<Arc<Stack>, Fail> {
     )
 }
 
-/// Each of ten words is tested against 0, whatever comes of it: 1,024 regions.
-pub fn wide_stack(alloc: Global) -> Result<Arc<Stack>, Fail> {
+/// Each of the first words is tested against 0, whatever comes of it: each word doubles the regions.
+pub fn wide_stack(alloc: Global, words: u32) -> Result<Arc<Stack>, Fail> {
     let mut raws = Vec::new(alloc);
-    for word in 0..10u32 {
+    for word in 0..words.min(16) {
         raws.push(raw(0x20, 0, 0, word * 4))?;
         raws.push(raw(0x15, 0, 0, 0))?;
     }
@@ -92,6 +100,13 @@ pub fn calls(alloc: Global, name: &str, low: u32, high: u32) -> Result<Question,
     let mut ranges = [(0, u32::MAX); 16];
     ranges[0] = (low, high);
     ranges[1] = X86_64;
+    Ok(Question::of(alloc, name, ranges, ActionSet::LET_THROUGH)?)
+}
+
+/// Whether a call with a number in the range is let through, whatever its architecture.
+pub fn numbers(alloc: Global, name: &str, low: u32, high: u32) -> Result<Question, Fail> {
+    let mut ranges = [(0, u32::MAX); 16];
+    ranges[0] = (low, high);
     Ok(Question::of(alloc, name, ranges, ActionSet::LET_THROUGH)?)
 }
 

@@ -88,7 +88,7 @@ fn the_gate_sees_each_commit_of_all_workers(rt: HostRuntime) -> Result<(), Fail>
 fn a_spent_budget_is_spent_exactly(rt: HostRuntime) -> Result<(), Fail> {
     let alloc = rt.alloc();
     for workers in [2, 8, 64] {
-        let settled = explore(&rt, alloc, wide_stack(alloc)?, 1000, workers, &Open)?;
+        let settled = explore(&rt, alloc, wide_stack(alloc, 10)?, 1000, workers, &Open)?;
         assert_eq!(rt; settled.counts().commits, 1000);
         assert!(rt; settled.counts().left > 0);
     }
