@@ -1,10 +1,13 @@
 #!/usr/bin/env python3
-"""Cost of an audit as filters grow, as ratios within one run (never as seconds).
+"""Cost of audits, as ratios within one run (never as seconds).
 
-Usage: bench/ratios.py PROGRAM [WORKERS]
+Usage: bench/ratios.py PROGRAM families [WORKERS]   filters that grow: time a commit to that of the family's shortest, whole run
+                                                    and peak memory to those of the smallest filter of all
+       bench/ratios.py PROGRAM workers              65,536 regions by 1, 2 and 4 workers: whole run to that of one worker
+       bench/ratios.py PROGRAM stacks FOLDER..      the filters NN.bpf of each folder: whole run to the shortest
 
-PROGRAM is the built seccomp_audit. Each line tells the commits of an exploration, its time for each commit as a ratio to that of the
-shortest filter of its family, and the peak memory as a ratio to that of the program on the smallest filter of all.
+PROGRAM is the built seccomp_audit. Each time is the least of a few runs; a time a commit, and the runs of workers, are told less what a
+run of the smallest filter takes.
 """
 
 import os
@@ -62,17 +65,24 @@ FAMILIES = [
 POLICY = 'version = 1\n[[question]]\nname = "any-call"\nnr = 0xffffffff\n'
 
 
-def measured(program, workers, folder, data):
+def low_half():
+    """Returns 16 bits of a word: as many regions as they have values."""
+    return insn(0x20, k=16) + insn(0x54, k=0xFFFF) + insn(0x44, k=0x50000) + insn(0x16)
+
+
+def measured(program, workers, folder, filters):
     """The least seconds of a few runs, the peak memory in kilobytes, and the commits."""
-    path = os.path.join(folder, "filter.bpf")
+    paths = []
+    for number, data in enumerate(filters, 1):
+        paths.append(os.path.join(folder, f"{number:02}.bpf"))
+        with open(paths[-1], "wb") as file:
+            file.write(data)
     policy = os.path.join(folder, "policy.toml")
-    with open(path, "wb") as file:
-        file.write(data)
     with open(policy, "w") as file:
         file.write(POLICY)
     best, peak, commits = None, 0, 0
     for _ in range(REPEATS):
-        words = [program, "audit", "--policy", policy, "--budget", "1000000", "--workers", str(workers), path]
+        words = [program, "audit", "--policy", policy, "--budget", "1000000", "--workers", str(workers), *paths]
         start = time.perf_counter()
         child = subprocess.Popen(words, stdout=subprocess.PIPE)
         text = child.stdout.read().decode()
@@ -84,18 +94,54 @@ def measured(program, workers, folder, data):
     return best, peak, commits
 
 
+def show_families(program, workers, folder):
+    idle, least_memory, _ = measured(program, workers, folder, [ALLOW])
+    for name, make, sizes in FAMILIES:
+        first = None
+        for size in sizes:
+            seconds, peak, commits = measured(program, workers, folder, [make(size)])
+            each = max(seconds - idle, 1e-6) / commits
+            first = first or each
+            print(f"{name:16} size {size:5} commits {commits:6} time a commit {each / first:8.2f} run {seconds / idle:8.2f} memory {peak / least_memory:6.2f}")
+
+
+def show_workers(program, folder):
+    idle, _, _ = measured(program, 1, folder, [ALLOW])
+    first = None
+    for workers in (1, 2, 4):
+        seconds, peak, commits = measured(program, workers, folder, [low_half()])
+        first = first or (seconds - idle, peak)
+        print(f"workers {workers} commits {commits} run {(seconds - idle) / first[0]:6.2f} memory {peak / first[1]:6.2f}")
+
+
+def filters_in(folder):
+    names = sorted(name for name in os.listdir(folder) if name.endswith(".bpf"))
+    return [open(os.path.join(folder, name), "rb").read() for name in names]
+
+
+def show_stacks(program, folders, folder):
+    found = []
+    for stack in folders:
+        seconds, _, commits = measured(program, 1, folder, filters_in(stack))
+        found.append((seconds, commits, os.path.basename(os.path.normpath(stack))))
+    least = min(found)[0]
+    for seconds, commits, name in sorted(found):
+        print(f"{name:28} commits {commits:6} run {seconds / least:6.2f}")
+
+
 def main():
-    program = os.path.abspath(sys.argv[1])
-    workers = int(sys.argv[2]) if len(sys.argv) > 2 else 1
+    if len(sys.argv) < 3:
+        sys.exit(__doc__)
+    program, what, rest = os.path.abspath(sys.argv[1]), sys.argv[2], sys.argv[3:]
     with tempfile.TemporaryDirectory() as folder:
-        idle, least_memory, _ = measured(program, workers, folder, ALLOW)
-        for name, make, sizes in FAMILIES:
-            first = None
-            for size in sizes:
-                seconds, peak, commits = measured(program, workers, folder, make(size))
-                each = max(seconds - idle, 1e-6) / commits
-                first = first or each
-                print(f"{name:16} size {size:5} commits {commits:6} time a commit {each / first:8.2f} run {seconds / idle:8.2f} memory {peak / least_memory:6.2f}")
+        if what == "families":
+            show_families(program, int(rest[0]) if rest else 1, folder)
+        elif what == "workers":
+            show_workers(program, folder)
+        elif what == "stacks":
+            show_stacks(program, rest, folder)
+        else:
+            sys.exit(__doc__)
 
 
 if __name__ == "__main__":
