@@ -1,6 +1,7 @@
 pub mod Bits
 pub mod Rounds
 pub mod ForwardLemmas
+pub mod Slots
 pub mod Passes
 pub mod Halves
 pub mod CommonBits

@@ -5,8 +5,7 @@ use Rattle.sf_insn.specs.declared.input.Input.{Input}
 use Rattle.sf_dom.specs.Facts.{lies_in}
 use Rattle.std.specs.Int.{bit_at, w32}
 use Rattle.std.proofs.lemmas.Nat.Bits.{bit_at_and, bit_at_not, bit_at-lt, bit_at_above, same_from_bits}
-use Rattle.sf_dom.specs.Known.{HasBits, Admits}
-use Rattle.sf_dom.specs.Rules.{known_of}
+use Rattle.sf_dom.specs.Known.{HasBits, Admits, known_of}
 use Rattle.sf_dom.proofs.Halves.{HasBits-none}
 
 -- a word that lies in a range has a number of the interval, with no bit known

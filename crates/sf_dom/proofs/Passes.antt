@@ -1,16 +1,17 @@
-use Rattle.std.proofs.Common.{◌≡◌, ℕ, ◌<◌, ◌≤◌, ◌^◌, ◌-◌, ◌+◌, min, max, List, [], ◌∷◌, ◌++◌, length, set, arith, refl, sym, ap, ◌∙◌, ◌⊎◌, inl, inr}
+use Rattle.std.proofs.Common.{◌≡◌, ◌≢◌, ℕ, ◌<◌, ◌≤◌, ◌-◌, ◌+◌, min, max, List, [], ◌∷◌, ◌++◌, length, set, arith, refl, sym, ap, ◌∙◌, ◌⊎◌, inl, inr}
 use Rattle.std.proofs.lemmas.Bool.{cases_lt, cases_eq}
 use Rattle.std.proofs.lemmas.Nat.{or_comm}
 use Rattle.std.proofs.lemmas.List.{get_or-set_same, get_or-set_other, length-set, get_or_append_left, get_or_push, length_push}
-use Rattle.std.specs.Prelude.{bit_or, Contains}
+use Rattle.std.specs.Prelude.{bit_or, Contains, slice_index}
 use Rattle.sf_sym.specs.Pool.{IsPool, node_at, node_value, values_of, value_of}
 use Rattle.sf_sym.specs.declared.pool.Node.{Node}
 use Rattle.sf_insn.specs.declared.input.Input.{Input}
 use Rattle.sf_sym.specs.ValueLaws.{value-node}
 use Rattle.sf_dom.specs.declared.known.Known.{Known}
-use Rattle.sf_dom.specs.Known.{Admits, Leaves, IsNarrower, IsSettled, IsDecided}
+use Rattle.sf_dom.specs.Known.{Admits, Leaves, IsNarrower, IsSettled, IsDecided, known_of}
 use Rattle.sf_dom.proofs.Rounds.{narrowed}
-use Rattle.sf_dom.specs.Rules.{known_of, AreSettledOperands, IsTightNode, IsPassed, AllNarrower}
+use Rattle.sf_dom.specs.Nodes.{NodesView, IsLaidOut}
+use Rattle.sf_dom.specs.Rules.{AreSettledOperands, IsTightNode, IsReady, IsPassed, AllNarrower}
 use Rattle.sf_dom.proofs.Rounds.{IsNarrower-trans, IsNarrower-refl}
 use Rattle.sf_sym.specs.Pool.{OperandsBelow}
 use Rattle.sf_sym.specs.declared.pool.Node.TheVariants.{Const, Word, Bin, Neg}
@@ -85,7 +86,7 @@ IsPassed-same ks js ex ns k p l e h =
     let lower = operands-below ns k p l in
     record {
       settled = rw here at h.settled;
-      tight = λ w n. rw here at (h.tight w n);
+      tight = λ b. rw here at (h.tight b);
       decided = λ o. rw here at (h.decided (AreDecidedOperands-same js ks k (node_at ns k) lower (λ j b. sym (e j (omega arith))) o));
       constant = λ c n. rw here at (h.constant c n);
     }
@@ -98,12 +99,12 @@ forced-decided r met next ex n h t f =
     elim f [ inl l ↦ omega arith | inr l ↦ omega arith ]
 
 -- a node that a pass has just gone over
-pub IsPassed-new : (ks : List Known) (ex : List (List ℕ)) (ns : List Node) (i : ℕ) (r met next : Known) → known_at ks i ≡ next
+pub IsPassed-new : (ks : List Known) (ex : List (List ℕ)) (ns : List Node) (i : ℕ) (r met next : Known) → IsPool ns → known_at ks i ≡ next
     → (AreDecidedOperands ks (node_at ns i) → IsForced r) → ((c : ℕ) → node_at ns i ≡ Const c → (r.low ≡ c) × (r.high ≡ c))
     → IsNarrower r met → IsTightNode met next ex (node_at ns i) → IsPassed ks ex ns i
-IsPassed-new ks ex ns i r met next e forced constant h t = record {
+IsPassed-new ks ex ns i r met next p e forced constant h t = record {
   settled = rw e t.settled;
-  tight = λ w n. rw e (t.tight w n);
+  tight = λ b. rw e (t.tight i (p.word i b));
   decided = λ o. rw e (forced-decided r met next ex (node_at ns i) h t (forced o));
   constant = λ c n.
       let k = constant c n in
@@ -126,7 +127,7 @@ passed-set ks ex ns i r met next p len l older forced constant h t k lk =
     elim (cases_lt k i) [
       | inl b ↦ IsPassed-same ks (set ks i next) ex ns k p (omega arith) (λ j c. same j (omega arith)) (older k b)
       | inr g ↦ (let e : k ≡ i = omega arith in
-          rw e (IsPassed-new (set ks i next) ex ns i r met next (get_or-set_same ks i next (known_of 0 0 0 0) l)
+          rw e (IsPassed-new (set ks i next) ex ns i r met next p (get_or-set_same ks i next (known_of 0 0 0 0) l)
           (λ o. forced (settled-operands ks i (node_at ns i) lower (λ j b. (older j b).settled)) (AreDecidedOperands-same (set ks i next) ks i (node_at ns i) lower (λ j b. sym (same j b)) o))
           constant h t))
     ]
@@ -157,7 +158,7 @@ passed-push ks ex ns from i r next p len l fl settled older forced constant t k 
     elim (cases_lt k i) [
       | inl b ↦ IsPassed-same ks (ks ++ next ∷ []) ex ns k p (omega arith) (λ j c. same j (omega arith)) (older k fk b)
       | inr g ↦ (let e : k ≡ i = omega arith in
-          rw e (IsPassed-new (ks ++ next ∷ []) ex ns i r r next (get_or_push ks next (known_of 0 0 0 0) i len)
+          rw e (IsPassed-new (ks ++ next ∷ []) ex ns i r r next p (get_or_push ks next (known_of 0 0 0 0) i len)
           (λ o. forced (settled-operands ks i (node_at ns i) lower settled) (AreDecidedOperands-same (ks ++ next ∷ []) ks i (node_at ns i) lower (λ j b. sym (same j b)) o))
           constant (IsNarrower-refl r) t))
     ]
@@ -197,11 +198,65 @@ pub still-none : (old ks : List Known) (ex : List (List ℕ)) → length old ≤
 still-none old ks ex l (inl a) = inl (omega arith)
 still-none old ks ex l (inr n) = inr n
 
--- a constant whose number is known in full needs no step of a pass
-pub constant-passed : (ks : List Known) (ex : List (List ℕ)) (ns : List Node) (i c : ℕ) → c < 2 ^ 32 → node_at ns i ≡ Const c → known_at ks i ≡ known_of c c (4294967295 - c) c → IsPassed ks ex ns i
-constant-passed ks ex ns i c l e k = record {
-  settled = rw k (record { ordered = omega arith; fits = l; zeros = λ _. refl; ones = λ _. refl });
-  tight = λ w h. absurd (let clash : Const c ≡ Word w = sym e ∙ h in cc);
-  decided = rw e (λ d. absurd d);
-  constant = λ m h. (let same : Const c ≡ Const m = sym e ∙ h in let n : c ≡ m = cc in (rw k n, rw k n));
+-- a node that has one number from the start needs no step of a pass
+pub unlisted-passed : (n : NodesView) (ex : List (List ℕ)) (ns : List Node) (k : ℕ) → IsReady n.known ns → IsLaidOut n → k < length n.known
+    → ((j : ℕ) → j < length n.variables → slice_index n.variables j ≢ k) → IsPassed n.known ex ns k
+unlisted-passed n ex ns k ready laid l none = elim (laid.rest k l) [
+  | inl o ↦ absurd (none o.0 o.1 o.2)
+  | inr o ↦ (let past = o.0 in record {
+    settled = ready.settled k l;
+    tight = λ b. absurd (omega arith);
+    decided = λ d. o.1;
+    constant = λ c e. ready.constants k c l e;
+  })
+]
+
+-- the variable at hand stands before those to come
+pub variable-before : (n : NodesView) (r j k : ℕ) → IsLaidOut n → r ≤ j → j < length n.variables → k < slice_index n.variables r → k < slice_index n.variables j
+variable-before n r j k laid b l h = elim (cases_eq j r) [
+  | inl e ↦ rw e h
+  | inr ne ↦ omega (arith, laid.rising r j (omega arith) l)
+]
+
+-- what was gone over, and the node at hand, and those up to the next variable
+pub passed-up_to : (n m : NodesView) (ex : List (List ℕ)) (ns : List Node) (rank i : ℕ) → IsReady m.known ns → IsLaidOut n → IsLaidOut m → m.variables ≡ n.variables → rank < length n.variables → slice_index n.variables rank ≡ i
+    → ((k : ℕ) → k < i + 1 → IsPassed m.known ex ns k)
+    → (k : ℕ) → k < length m.known → ((j : ℕ) → rank + 1 ≤ j → j < length m.variables → k < slice_index m.variables j) → IsPassed m.known ex ns k
+passed-up_to n m ex ns rank i ready ln lm same l at up k lk before = elim (cases_lt k (i + 1)) [
+  | inl b ↦ up k b
+  | inr g ↦ unlisted-passed m ex ns k ready lm lk (λ j lj e. elim (cases_lt rank j) [
+    | inl a ↦ (let x = before j (omega arith) lj in absurd (omega arith))
+    | inr a ↦ (let y : slice_index m.variables j ≡ slice_index n.variables j = ap (λ os. slice_index os j) same in
+        elim (cases_eq j rank) [
+          | inl z ↦ absurd (omega (arith, ap (slice_index n.variables) z, y))
+          | inr z ↦ absurd (omega (arith, ln.rising j rank (omega arith) l, y))
+        ])
+  ])
+]
+
+-- what is ready stays so where a node is narrowed
+pub IsReady-set : (ks : List Known) (ns : List Node) (i : ℕ) (next : Known) → i < length ks → IsReady ks ns → IsNarrower (known_at ks i) next → IsSettled next → IsReady (set ks i next) ns
+IsReady-set ks ns i next l h n s = record {
+  count = length-set ks i next ∙ h.count;
+  settled = λ j b. elim (cases_eq j i) [
+    | inl e ↦ rw (e, get_or-set_same ks i next (known_of 0 0 0 0) l) s
+    | inr ne ↦ rw (get_or-set_other ks i j next (known_of 0 0 0 0) ne) (h.settled j (omega (arith, length-set ks i next)))
+  ];
+  constants = λ j c b e. elim (cases_eq j i) [
+    | inl f ↦ (let k = h.constants i c l (rw f at e) in let a = n.low in let z = n.high in let o = s.ordered in
+        rw (f, get_or-set_same ks i next (known_of 0 0 0 0) l) (omega (arith, k.0, k.1), omega (arith, k.0, k.1)))
+    | inr ne ↦ rw (get_or-set_other ks i j next (known_of 0 0 0 0) ne) (h.constants j c (omega (arith, length-set ks i next)) e)
+  ];
 }
+
+-- what has one number keeps it
+pub decided-kept : (k next : Known) → IsSettled k → IsNarrower k next → IsSettled next → IsDecided k → next ≡ k
+decided-kept k next s n t d =
+    let a = n.low in let b = n.high in let o = t.ordered in
+    let low : next.low ≡ k.low = omega arith in
+    let high : next.high ≡ k.high = omega arith in
+    let one : next.low ≡ next.high = omega arith in
+    let zeros : next.zeros ≡ k.zeros = t.zeros one ∙ ap (λ x. 4294967295 - x) low ∙ sym (s.zeros d) in
+    let ones : next.ones ≡ k.ones = t.ones one ∙ low ∙ sym (s.ones d) in
+    let whole : known_of next.low next.high next.zeros next.ones ≡ known_of k.low k.high k.zeros k.ones = rw (low, high, zeros, ones) refl in
+    whole

@@ -53,7 +53,7 @@ pass-facts ks ex ns p len lex passed =
         count = omega arith;
         words = lex;
         settled = λ i l. (passed i (omega arith)).settled;
-        tight = λ w l. (passed w (omega arith)).tight w (p.word w l);
+        tight = λ w l. (passed w (omega arith)).tight l;
       };
       count = len;
       constants = λ i c l e. (passed i (omega arith)).constant c e;
@@ -92,10 +92,11 @@ agrees-kept old new ex ns d kept le a i l =
 
 -- what is known after growth, where something was before
 pub grown-facts : (old new : List Known) (ex : List (List ℕ)) (ns : List Node) → IsPool ns → AreFacts (record { known = old; excluded = ex })
-    → take (length old) new ≡ old → length old ≤ length ns → IsGrown old new ex ns
+    → length old ≤ length ns → IsGrown old new ex ns
     → AreFacts (record { known = new; excluded = ex }) × ((i : ℕ) → i < length old → known_at old i ≡ known_at new i)
-grown-facts old new ex ns p h kept le g =
+grown-facts old new ex ns p h le g =
     let covers = g.covers in
+    let kept = g.kept in
     let count = h.count in
     let same : (i : ℕ) → i < length old → known_at old i ≡ known_at new i
     = λ i l. ap (λ xs. known_at xs i) (sym kept) ∙ get_or-take (length old) new i (record { low = 0; high = 0; zeros = 0; ones = 0 }) l in (
@@ -112,11 +113,11 @@ grown-facts old new ex ns p h kept le g =
     )
 
 pub grown-of : (old new : List Known) (ex : List (List ℕ)) (before ns : List Node) → IsPool ns → Covers (record { known = old; excluded = ex }) before → Extends before ns
-    → take (length old) new ≡ old → length old ≤ length ns → IsGrown old new ex ns → Covers (record { known = new; excluded = ex }) ns
-grown-of old new ex before ns p h more kept le g =
+    → length old ≤ length ns → IsGrown old new ex ns → Covers (record { known = new; excluded = ex }) ns
+grown-of old new ex before ns p h more le g =
     let covers = g.covers in
     let count = h.count in
-    let facts = grown-facts old new ex ns p h.lawful kept le g in
+    let facts = grown-facts old new ex ns p h.lawful le g in
     let same = facts.1 in
     let older : (i : ℕ) → i < length old → node_at ns i ≡ node_at before i = λ i l. node-older before ns i more (omega arith) in
     record {

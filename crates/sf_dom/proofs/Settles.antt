@@ -15,8 +15,8 @@ use Rattle.std.proofs.lemmas.Nat.{or_comm, and_comm, xor_comm}
 use Rattle.sf_insn.specs.declared.input.Input.{Input}
 use Rattle.sf_dom.specs.declared.known.Known.{Known}
 use Rattle.sf_dom.specs.declared.learning.Pair.{Pair}
-use Rattle.sf_dom.specs.Known.{Admits, Leaves, IsNarrower, IsDecided, IsSettled}
-use Rattle.sf_dom.specs.Rules.{known_of, IsTightNode, AreExcluded, AreBothExcluded, IsSettle, IsNarrow, IsPass, IsSharp, Gives, AllNarrower, KeepsAgreeing, NoneAgreesWith, KeepsAgreeingOn, NoneAgreesOn, LeavesPair, LeavesNoPair, IsSwappable, Holds}
+use Rattle.sf_dom.specs.Known.{Admits, Leaves, IsNarrower, IsDecided, IsSettled, known_of}
+use Rattle.sf_dom.specs.Rules.{IsTightNode, IsLeft, AreExcluded, AreBothExcluded, IsSettle, IsNarrow, IsPass, IsSharp, Gives, AllNarrower, KeepsAgreeing, NoneAgreesWith, KeepsAgreeingOn, NoneAgreesOn, LeavesPair, LeavesNoPair, IsSwappable, Holds}
 use Rattle.sf_dom.proofs.Passes.{AllNarrower-trans, word-below, operands-below}
 use Rattle.sf_dom.proofs.Gives.{gives-differs}
 use Rattle.sf_dom.proofs.Rounds.{IsNarrower-trans}
@@ -57,6 +57,24 @@ word-node (Some r) k ex i h = record {
   high_zeros = h.high_zeros;
   tight = λ j e. let same : i ≡ j = cc in rw same at h.tight;
 }
+
+-- what is left of a node whose facts are met with what is told
+pub left-of : (o : Option Known) (ks : List Known) (ex : List (List ℕ)) (ns : List Node) (i : ℕ) (more met : Known) → i < length ks → IsMeet (known_at ks i) more met
+    → MatchOption o ((n : ℕ) → ¬ Leaves met (excluded_of ex (node_at ns i)) n) (λ r. IsTightNode met r ex (node_at ns i))
+    → MatchOption o (NoneAgreesOn ks ex ns (λ d. Admits more (value_of ns d i))) (λ next. IsLeft ks ex ns i more next)
+left-of None ks ex ns i more met l m h = λ d p a t. h (value_of ns d i) (met-left ks ex ns d i more met l a t m)
+left-of (Some r) ks ex ns i more met l m h = record {
+  kept = λ d p a t. h.same (value_of ns d i) (met-left ks ex ns d i more met l a t m);
+  narrower = IsNarrower-trans (known_at ks i) met r m.left h.narrower;
+  told = IsNarrower-trans more met r m.right h.narrower;
+  settled = h.settled;
+}
+
+-- the values of a condition's nodes are left by its test
+pub values-left : (ks : List Known) (ex : List (List ℕ)) (ns : List Node) (cond : Cond) (v' w' : Known) → cond.node.0 < length ks → cond.other.0 < length ks
+    → LeavesPair (known_at ks cond.node.0) (known_at ks cond.other.0) v' w' (λ x y. Gives cond.test x y cond.sense)
+    → (d : Input) → IsInput d → AgreesWith ks ex ns d → Holds ns cond d → Admits v' (value_of ns d cond.node.0) × Admits w' (value_of ns d cond.other.0)
+values-left ks ex ns cond v' w' lv lw pair d p a h = pair (value_of ns d cond.node.0) (value_of ns d cond.other.0) (a cond.node.0 lv).admitted (a cond.other.0 lw).admitted h
 
 -- a vector whose items were all written through a slice
 pub written_back : {X : Type 0} (xs ys : List X) (n : ℕ) → length xs ≡ length ys → n ≡ length ys → take n (xs ++ drop (length xs) ys) ≡ xs
@@ -181,6 +199,7 @@ pub settled-all : (r : Bool) (o a b c e n : List Known) (ex : List (List ℕ)) (
 settled-all true o a b c e n ex ns cond v' w' lo la lb lc le lv lw pair s1 s2 w1 w2 sharp decided pass =
     let k = settle-steps o a b c e ex ns cond v' w' lo la lb lc le lv lw pair s1 s2 w1 w2 n pass in
     record {
+      count = pass.count;
       keeps = k.0;
       narrower = k.1;
       passed = pass.passed;
@@ -198,6 +217,7 @@ pub narrowed-all : (r : Bool) (o a n : List Known) (ex : List (List ℕ)) (ns : 
 narrowed-all true o a n ex ns w more p lw lo la s pass =
     let words = p.words in
     record {
+      count = pass.count;
       keeps = λ d i agrees h. pass.keeps d i (s.0 d i agrees (rw (value-word ns d w p lw) h));
       narrower = AllNarrower-trans o a n (omega arith) s.1 pass.narrower;
       word = IsNarrower-trans more (known_at a w) (known_at n w) s.2 (pass.narrower w (omega arith));

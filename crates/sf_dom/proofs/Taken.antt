@@ -1,5 +1,5 @@
 -- What a condition that is taken in leaves, and what else is known of a word.
-use Rattle.std.proofs.Common.{◌≡◌, ℕ, ◌<◌, length, List, Bool, true, false, arith, refl, sym, ◌∙◌}
+use Rattle.std.proofs.Common.{◌≡◌, ℕ, ◌<◌, length, List, Bool, true, false, arith, refl}
 use Rattle.sf_insn.specs.Inputs.{IsInput}
 use Rattle.sf_insn.specs.declared.input.Input.{Input}
 use Rattle.sf_sym.specs.Pool.{IsPool, is_met, IsCondBelow}
@@ -7,9 +7,13 @@ use Rattle.sf_sym.specs.ValueLaws.{met-passes, passes-met}
 use Rattle.sf_sym.specs.declared.pool.Cond.{Cond}
 use Rattle.sf_sym.specs.declared.pool.Node.{Node}
 use Rattle.sf_dom.specs.declared.known.Known.{Known}
-use Rattle.sf_dom.specs.Facts.{AgreesWith, Covers, AreNarrower, IsPlain, DecidesTest}
-use Rattle.sf_dom.specs.Rules.{IsTaken, IsNarrow, NarrowsWord}
+use Rattle.sf_dom.specs.Facts.{FactsView, AgreesWith, Covers, AreNarrower, IsPlain, DecidesTest}
+use Rattle.sf_dom.specs.Rules.{IsReady, IsTaken, IsNarrow, NarrowsWord}
 use Rattle.sf_dom.proofs.Sampled.{pass-facts, agrees-back, agrees-with-fewer, admits-word, decides-test, plain-gives}
+
+-- facts of a pool's nodes are ready for a condition
+pub covers-ready : (f : FactsView) (ns : List Node) → Covers f ns → IsReady f.known ns
+covers-ready f ns h = record { count = h.count; settled = h.lawful.settled; constants = h.constants }
 
 -- a test that is not met
 pub not_met : (b : Bool) → (b ≡ true → ⊥) → b ≡ false
@@ -17,7 +21,7 @@ not_met true h = absurd (h refl)
 not_met false h = refl
 
 pub taken-covers : (old new : List Known) (ex ex' : List (List ℕ)) (ns : List Node) (cond : Cond) → IsPool ns → IsTaken old ex new ex' ns cond → Covers (record { known = new; excluded = ex' }) ns
-taken-covers old new ex ex' ns cond p t = pass-facts new ex' ns p t.covers t.words t.settled.passed
+taken-covers old new ex ex' ns cond p t = pass-facts new ex' ns p t.settled.count t.words t.settled.passed
 
 pub taken-keeps : (old new : List Known) (ex ex' : List (List ℕ)) (ns : List Node) (cond : Cond) → IsTaken old ex new ex' ns cond
     → (d : Input) → IsInput d → AgreesWith old ex ns d → is_met ns d cond ≡ true → AgreesWith new ex' ns d
@@ -39,20 +43,21 @@ pub taken-only : (old new : List Known) (ex ex' : List (List ℕ)) (ns : List No
     → IsTaken old ex new ex' ns cond → IsPlain ns cond → (d : Input) → AgreesWith new ex' ns d → AgreesWith old ex ns d × (is_met ns d cond ≡ true)
 taken-only old new ex ex' ns cond h below t plain d a =
     let count = h.count in
-    let covers = t.covers in
+    let covers = t.settled.count in
     let settled = h.lawful.settled cond.node.0 (omega (arith, below.0)) in (
       agrees-with-fewer old ex ex' ns d h.pool count t.both.more (agrees-back old new ex' ns d (omega arith) t.settled.narrower a),
       passes-met ns d cond (plain-gives old new ex ex' ns cond d h.pool count covers below.0 below.1 settled t.settled t.both plain h.constants a),
     )
 
-pub narrow-word : (old new : List Known) (ex : List (List ℕ)) (ns : List Node) (w : ℕ) (more : Known) → Covers (record { known = old; excluded = ex }) ns → w < 16 → length new ≡ length old
+pub narrow-word : (old new : List Known) (ex : List (List ℕ)) (ns : List Node) (w : ℕ) (more : Known) → Covers (record { known = old; excluded = ex }) ns → w < 16
     → IsNarrow old new ex ns w more → NarrowsWord (record { known = old; excluded = ex }) (record { known = new; excluded = ex }) ns w more
-narrow-word old new ex ns w more h l len n =
+narrow-word old new ex ns w more h l n =
     let count = h.count in
+    let after = n.count in
     record {
-      covers = pass-facts new ex ns h.pool (len ∙ count) h.lawful.words n.passed;
+      covers = pass-facts new ex ns h.pool after h.lawful.words n.passed;
       keeps = n.keeps;
-      only = λ d i a. (agrees-back old new ex ns d (sym len) n.narrower a, admits-word new ex ns d w more h.pool l (len ∙ count) n.word a);
+      only = λ d i a. (agrees-back old new ex ns d (omega arith) n.narrower a, admits-word new ex ns d w more h.pool l after n.word a);
       narrower = record { known = n.narrower; excluded = λ v m k c. c };
       word = n.word;
     }

@@ -1,5 +1,5 @@
 -- What the steps of learning do to the facts of nodes, a list, and to the numbers that are excluded for words.
-use Rattle.std.specs.Prelude.{◌≡◌, ℕ, ◌-◌, ◌<◌, ◌≤◌, ◌⊎◌, List, length, slice_index, Contains, Bool, true, false, All}
+use Rattle.std.specs.Prelude.{◌≡◌, ℕ, ◌-◌, ◌<◌, ◌≤◌, ◌⊎◌, List, length, take, slice_index, Contains, Bool, true, false, All}
 use Rattle.sf_insn.specs.Inputs.{IsInput}
 use Rattle.sf_insn.specs.Words.{IsOneBit, passes}
 use Rattle.sf_sym.specs.Pool.{node_at, value_of, is_met}
@@ -14,9 +14,6 @@ use Rattle.sf_insn.specs.declared.ops.Test.TheVariants.{Equal, AnyBit}
 use Rattle.sf_dom.specs.declared.known.Known.{Known}
 use Rattle.sf_dom.specs.Known.{Admits, Leaves, IsNarrower, IsSettled, IsTight, IsDecided}
 use Rattle.sf_dom.specs.Facts.{known_at, numbers_at, excluded_of, AgreesWith, AreDecidedOperands, FactsView, Covers, AreNarrower}
-
-abbrev pub known_of : ℕ → ℕ → ℕ → ℕ → Known
-known_of low high zeros ones = record { low = low; high = high; zeros = zeros; ones = ones }
 
 -- every input that agreed agrees still
 abbrev pub KeepsAgreeing : List Known → List Known → List (List ℕ) → List Node → Type 0
@@ -40,10 +37,16 @@ pub record IsTightNode (old new : Known) (ex : List (List ℕ)) (n : Node) : Typ
   pub high_zeros : new.high ≤ 4294967295 - new.zeros
   pub tight : (i : ℕ) → n ≡ Word i → IsTight new (numbers_at ex i)
 
+-- each node of the pool is told, every interval holds a number, and a constant's is its number
+pub record IsReady (ks : List Known) (ns : List Node) : Type 0 where
+  pub count : length ks ≡ length ns
+  pub settled : (i : ℕ) → i < length ks → IsSettled (known_at ks i)
+  pub constants : (i c : ℕ) → i < length ks → node_at ns i ≡ Const c → ((known_at ks i).low ≡ c) × ((known_at ks i).high ≡ c)
+
 -- what holds of a node that a forward pass has gone over
 pub record IsPassed (ks : List Known) (ex : List (List ℕ)) (ns : List Node) (i : ℕ) : Type 0 where
   pub settled : IsSettled (known_at ks i)
-  pub tight : (w : ℕ) → node_at ns i ≡ Word w → IsTight (known_at ks i) (numbers_at ex w)
+  pub tight : i < 16 → IsTight (known_at ks i) (numbers_at ex i)
   pub decided : AreDecidedOperands ks (node_at ns i) → IsDecided (known_at ks i)
   pub constant : (c : ℕ) → node_at ns i ≡ Const c → ((known_at ks i).low ≡ c) × ((known_at ks i).high ≡ c)
 
@@ -52,6 +55,7 @@ AllNarrower old new = (i : ℕ) → i < length old → IsNarrower (known_at old 
 
 -- a forward pass
 pub record IsPass (old new : List Known) (ex : List (List ℕ)) (ns : List Node) : Type 0 where
+  pub count : length new ≡ length ns
   pub keeps : KeepsAgreeing old new ex ns
   pub narrower : AllNarrower old new
   pub passed : (i : ℕ) → i < length ns → IsPassed new ex ns i
@@ -59,6 +63,7 @@ pub record IsPass (old new : List Known) (ex : List (List ℕ)) (ns : List Node)
 -- the new nodes are taken in
 pub record IsGrown (old new : List Known) (ex : List (List ℕ)) (ns : List Node) : Type 0 where
   pub covers : length new ≡ length ns
+  pub kept : take (length old) new ≡ old
   pub keeps : KeepsAgreeing old new ex ns
   pub passed : ((i : ℕ) → i < length old → IsSettled (known_at old i)) → (i : ℕ) → length old ≤ i → i < length ns → IsPassed new ex ns i
 
@@ -69,6 +74,13 @@ Gives test a b sense = passes test a b ≡ sense
 -- the test of a condition's nodes has its sense
 abbrev pub Holds : List Node → Cond → Input → Type 0
 Holds ns c d = Gives c.test (value_of ns d c.node.0) (value_of ns d c.other.0) c.sense
+
+-- what is left of a node, by what is known of it and what is told besides
+pub record IsLeft (ks : List Known) (ex : List (List ℕ)) (ns : List Node) (at : ℕ) (more next : Known) : Type 0 where
+  pub kept : (d : Input) → IsInput d → AgreesWith ks ex ns d → Admits more (value_of ns d at) → Leaves next (excluded_of ex (node_at ns at)) (value_of ns d at)
+  pub narrower : IsNarrower (known_at ks at) next
+  pub told : IsNarrower more next
+  pub settled : IsSettled next
 
 -- what a test of two words with this result leaves of both
 abbrev pub LeavesPair : Known → Known → Known → Known → (ℕ → ℕ → Type 0) → Type 0
@@ -100,6 +112,7 @@ IsSharp _ _ c = Unit {0}
 
 -- a condition is taken into what is known
 pub record IsSettle (old new : List Known) (ex : List (List ℕ)) (ns : List Node) (cond : Cond) : Type 0 where
+  pub count : length new ≡ length ns
   pub keeps : KeepsAgreeingOn old new ex ns (Holds ns cond)
   pub narrower : AllNarrower old new
   pub passed : (i : ℕ) → i < length ns → IsPassed new ex ns i
@@ -124,12 +137,12 @@ pub record AreBothExcluded (ks : List Known) (old new : List (List ℕ)) (ns : L
 -- a condition is taken into the facts of a pool
 pub record IsTaken (old : List Known) (ex : List (List ℕ)) (new : List Known) (ex' : List (List ℕ)) (ns : List Node) (cond : Cond) : Type 0 where
   pub words : length ex' ≡ 16
-  pub covers : length new ≡ length ns
   pub both : AreBothExcluded old ex ex' ns cond
   pub settled : IsSettle old new ex' ns cond
 
 -- what else is known of a word is taken in
 pub record IsNarrow (old new : List Known) (ex : List (List ℕ)) (ns : List Node) (w : ℕ) (more : Known) : Type 0 where
+  pub count : length new ≡ length ns
   pub keeps : KeepsAgreeingOn old new ex ns (λ d. Admits more (slice_index d.words w))
   pub narrower : AllNarrower old new
   pub word : IsNarrower more (known_at new w)

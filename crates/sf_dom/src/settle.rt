@@ -6,7 +6,7 @@ ghost use Rattle.sf_insn.specs.Words.{apply};
 ghost use Rattle.sf_sym.specs.Pool.{OperandsBelow, IsPool, node_at, node_value, values_of, value_of};
 ghost use Rattle.sf_insn.specs.declared.input.Input.{Input};
 ghost use Rattle.sf_dom.specs.Known.{HasBits, Admits, Leaves, IsNarrower, IsSettled, IsDecided};
-ghost use Rattle.sf_dom.specs.Rules.{KeepsAgreeing, NoneAgreesWith, KeepsAgreeingOn, NoneAgreesOn, LeavesPair, LeavesNoPair, IsSwappable, IsSharp, Gives, IsPass, AllNarrower, IsTightNode, IsSettle, AreExcluded, AreBothExcluded, Holds};
+ghost use Rattle.sf_dom.specs.Rules.{KeepsAgreeing, NoneAgreesWith, KeepsAgreeingOn, NoneAgreesOn, LeavesPair, LeavesNoPair, IsSwappable, IsSharp, Gives, AllNarrower, IsReady, IsLeft, IsSettle, AreExcluded, AreBothExcluded, Holds};
 ghost use Rattle.sf_dom.specs.Facts.{known_at, numbers_at, excluded_of, AgreesWith};
 
 use crate::domain::{meet, pass, tightened};
@@ -14,6 +14,7 @@ use crate::exclusions::Exclusions;
 use crate::fault::Fault;
 use crate::known::Known;
 use crate::learning::{Pair, at_least, common_bit, differs, equal, greater, no_common_bit};
+use crate::nodes::Nodes;
 use sf_insn::{BinOp, Test};
 use sf_sym::{Cond, Node, NodeId, Pool, constant_of};
 use std::alloc::Global;
@@ -65,24 +66,23 @@ fn constant_operand(pool: &Pool, at: usize) -> Option<(BinOp, usize, u32)>
 }
 
 /// Takes known bits back from a node through constants. False: no input agrees.
-fn walk(nodes: &mut [Known], excluded: &[Exclusions], pool: &Pool, from: usize) -> bool
-    requires covers { length nodes.old ≡ length pool.now }
+fn walk(nodes: &mut Nodes, excluded: &[Exclusions], pool: &Pool, from: usize) -> bool
+    requires ready { IsReady nodes.old.known pool.now }
     requires words { length excluded.now ≡ 16 }
     requires start { from < length pool.now }
-    ensures { MatchBool result
-        (KeepsAgreeing nodes.old nodes.new excluded.now pool.now × AllNarrower nodes.old nodes.new)
-        (NoneAgreesWith nodes.old excluded.now pool.now) }
+    ensures kept { MatchBool result
+        (KeepsAgreeing nodes.old.known nodes.new.known excluded.now pool.now × AllNarrower nodes.old.known nodes.new.known)
+        (NoneAgreesWith nodes.old.known excluded.now pool.now) }
+    ensures ready { IsReady nodes.new.known pool.now }
 {
     let mut at = from;
     while let Some((op, x, c)) = constant_operand(pool, at) {
         let node = pool.node(NodeId(x));
-        match back(op, nodes[at], c, nodes[x]) {
+        match back(op, nodes.get(at), c, nodes.get(x)) {
             None => return true,
             Some(gained) => match tightened(gained, node, excluded) {
                 None => return false,
-                Some(next) => {
-                    nodes[x] = next;
-                }
+                Some(next) => nodes.set(x, next),
             },
         }
         at = x;
@@ -147,80 +147,83 @@ fn tested(v: Known, w: Known, test: Test, sense: bool) -> Option<Pair>
     }
 }
 
-/// Tightens what is known of a node where it stands. False: no input agrees.
+/// What is left of a node, by what is known of it and what is told besides, or none where no input agrees.
+fn left_of(
+    nodes: &Nodes,
+    excluded: &[Exclusions],
+    pool: &Pool,
+    at: usize,
+    more: Known,
+) -> Option<Known>
+    requires covers { length nodes.now.known ≡ length pool.now }
+    requires words { length excluded.now ≡ 16 }
+    requires place { at < length pool.now }
+    ensures { MatchOption result
+        (NoneAgreesOn nodes.now.known excluded.now pool.now (λ d. Admits more (value_of pool.now d at)))
+        (λ next. IsLeft nodes.now.known excluded.now pool.now at more next) }
+{
+    let node = pool.node(NodeId(at));
+    tightened(meet(nodes.get(at), more), node, excluded)
+}
+
+/// Takes in what is told of a node besides. False: no input agrees.
 pub fn settle_node(
-    nodes: &mut [Known],
+    nodes: &mut Nodes,
     excluded: &[Exclusions],
     pool: &Pool,
     at: usize,
     more: Known,
 ) -> bool
-    requires covers { length nodes.old ≡ length pool.now }
+    requires ready { IsReady nodes.old.known pool.now }
     requires words { length excluded.now ≡ 16 }
     requires place { at < length pool.now }
-    ensures { MatchBool result
-        (KeepsAgreeingOn nodes.old nodes.new excluded.now pool.now (λ d. Admits more (value_of pool.now d at))
-        × AllNarrower nodes.old nodes.new × IsNarrower more (known_at nodes.new at))
-        (NoneAgreesOn nodes.old excluded.now pool.now (λ d. Admits more (value_of pool.now d at))) }
+    ensures kept { MatchBool result
+        (KeepsAgreeingOn nodes.old.known nodes.new.known excluded.now pool.now (λ d. Admits more (value_of pool.now d at))
+        × AllNarrower nodes.old.known nodes.new.known × IsNarrower more (known_at nodes.new.known at))
+        (NoneAgreesOn nodes.old.known excluded.now pool.now (λ d. Admits more (value_of pool.now d at))) }
+    ensures ready { IsReady nodes.new.known pool.now }
 {
-    let node = pool.node(NodeId(at));
-    match tightened(meet(nodes[at], more), node, excluded) {
+    match left_of(nodes, excluded, pool, at, more) {
         None => false,
         Some(next) => {
-            nodes[at] = next;
+            nodes.set(at, next);
             true
         }
     }
 }
 
-/// Whether a node has no number left, by what is known of it and what is told besides.
-fn has_none(nodes: &[Known], excluded: &[Exclusions], pool: &Pool, at: usize, more: Known) -> bool
-    requires covers { length nodes.now ≡ length pool.now }
-    requires words { length excluded.now ≡ 16 }
-    requires place { at < length pool.now }
-    ensures { IsTrue result → NoneAgreesOn nodes.now excluded.now pool.now (λ d. Admits more (value_of pool.now d at)) }
-{
-    let node = pool.node(NodeId(at));
-    match tightened(meet(nodes[at], more), node, excluded) {
-        None => true,
-        Some(_) => false,
-    }
-}
-
 /// Whether what is known of its two nodes rules a condition out. It is asked before facts are copied.
-pub fn is_ruled_out(nodes: &[Known], excluded: &[Exclusions], pool: &Pool, cond: &Cond) -> bool
-    requires covers { length nodes.now ≡ length pool.now }
+pub fn is_ruled_out(nodes: &Nodes, excluded: &[Exclusions], pool: &Pool, cond: &Cond) -> bool
+    requires covers { length nodes.now.known ≡ length pool.now }
     requires words { length excluded.now ≡ 16 }
     requires node { cond.now.node.0 < length pool.now }
     requires other { cond.now.other.0 < length pool.now }
-    ensures { IsTrue result → NoneAgreesOn nodes.now excluded.now pool.now (Holds pool.now cond.now) }
+    ensures { IsTrue result → NoneAgreesOn nodes.now.known excluded.now pool.now (Holds pool.now cond.now) }
 {
     let v = cond.node.0;
     let w = cond.other.0;
-    match tested(nodes[v], nodes[w], cond.test, cond.sense) {
+    match tested(nodes.get(v), nodes.get(w), cond.test, cond.sense) {
         None => true,
         Some(pair) => {
-            if has_none(nodes, excluded, pool, v, pair.node) {
-                return true;
-            }
-            has_none(nodes, excluded, pool, w, pair.other)
+            left_of(nodes, excluded, pool, v, pair.node).is_none()
+                || left_of(nodes, excluded, pool, w, pair.other).is_none()
         }
     }
 }
 
 /// Takes a condition into what is known. False: no input that agrees meets it.
-pub fn settle(nodes: &mut [Known], excluded: &[Exclusions], pool: &Pool, cond: &Cond) -> bool
-    requires covers { length nodes.old ≡ length pool.now }
+pub fn settle(nodes: &mut Nodes, excluded: &[Exclusions], pool: &Pool, cond: &Cond) -> bool
+    requires ready { IsReady nodes.old.known pool.now }
     requires words { length excluded.now ≡ 16 }
     requires node { cond.now.node.0 < length pool.now }
     requires other { cond.now.other.0 < length pool.now }
     ensures { MatchBool result
-        (IsSettle nodes.old nodes.new excluded.now pool.now cond.now)
-        (NoneAgreesOn nodes.old excluded.now pool.now (Holds pool.now cond.now)) }
+        (IsSettle nodes.old.known nodes.new.known excluded.now pool.now cond.now)
+        (NoneAgreesOn nodes.old.known excluded.now pool.now (Holds pool.now cond.now)) }
 {
     let v = cond.node.0;
     let w = cond.other.0;
-    match tested(nodes[v], nodes[w], cond.test, cond.sense) {
+    match tested(nodes.get(v), nodes.get(w), cond.test, cond.sense) {
         None => false,
         Some(pair) => {
             if !settle_node(nodes, excluded, pool, v, pair.node) {
@@ -263,22 +266,22 @@ pub fn exclude(
 pub fn exclude_both(
     alloc: Global,
     excluded: &mut [Exclusions],
-    nodes: &[Known],
+    nodes: &Nodes,
     pool: &Pool,
     cond: &Cond,
 ) -> Result<(), Fault>
-    requires covers { length nodes.now ≡ length pool.now }
+    requires covers { length nodes.now.known ≡ length pool.now }
     requires words { length excluded.old ≡ 16 }
     requires node { cond.now.node.0 < length pool.now }
     requires other { cond.now.other.0 < length pool.now }
-    ensures { IfOk result (λ _. AreBothExcluded nodes.now excluded.old excluded.new pool.now cond.now) }
+    ensures { IfOk result (λ _. AreBothExcluded nodes.now.known excluded.old excluded.new pool.now cond.now) }
 {
     let left = pool.node(cond.node);
     let right = pool.node(cond.other);
     match (cond.test, cond.sense) {
         (Test::Equal, false) => {
-            exclude(alloc, excluded, left, nodes[cond.other.0])?;
-            exclude(alloc, excluded, right, nodes[cond.node.0])?;
+            exclude(alloc, excluded, left, nodes.get(cond.other.0))?;
+            exclude(alloc, excluded, right, nodes.get(cond.node.0))?;
             Ok(())
         }
         _ => Ok(()),

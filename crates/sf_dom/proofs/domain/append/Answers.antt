@@ -2,7 +2,7 @@ use Rattle.std.proofs.Common.{◌≡◌, length, arith, ◌∷◌, [], ◌∙◌
 use Rattle.std.proofs.lemmas.Bool.{cases_lt}
 use Rattle.std.proofs.lemmas.List.{length_push, take-append-le, take_all, get_or-take}
 use Rattle.sf_sym.specs.Pool.{values_of, value_of}
-use Rattle.sf_dom.specs.Rules.{known_of}
+use Rattle.sf_dom.specs.Known.{known_of}
 use Rattle.sf_dom.proofs.Passes.{grown-left, agrees-push, passed-push, still-none}
 use Rattle.sf_dom.proofs.domain.append.Goals as goal
 use Rattle.sf_dom.specs.Facts.{known_at}
@@ -10,15 +10,15 @@ use Rattle.sf_dom.specs.Facts.{known_at}
 pub loop-i-init : goal.loop-i-init
 loop-i-init c = record {
   count = omega arith;
-  kept = take_all (length c.args.nodes.now.items) c.args.nodes.now.items (omega arith);
+  kept = take_all (length c.args.nodes.now.known) c.args.nodes.now.known (omega arith);
   longer = omega arith;
   keeps = λ d p a. a;
   passed = λ s k a b. absurd (omega arith);
 }
 
-pub returns-in-None-clause-grown : goal.returns-in-None-clause-grown
-returns-in-None-clause-grown c = λ d p a.
-    let ks = c.loop-i.nodes.items in
+pub returns-in-None : goal.returns-in-None
+returns-in-None c = λ d p a.
+    let ks = c.loop-i.nodes.known in
     let ns = c.args.pool.now in
     let ex = c.args.excluded.now in
     let i = c.loop-i.i in
@@ -26,14 +26,14 @@ returns-in-None-clause-grown c = λ d p a.
     let count = inv.count in
     let longer = inv.longer in
     let agrees = inv.keeps d p a in
-    let by_rule = rw (c.as_slice.ensures.value, c.node-node.ensures.node) at (c.rule-known.ensures.value d (values_of ns d) p) in
-    let left = grown-left ks ex ns d i c.rule-known.result c.node-node.ensures.lawful (omega arith) (still-none c.args.nodes.now.items ks ex longer c.requires.none) agrees (by_rule (λ j l. (agrees j l).admitted)) in
+    let by_rule = rw c.node-node.ensures.node at (c.rule-known.ensures.value d (values_of ns d) p) in
+    let left = grown-left ks ex ns d i c.rule-known.result c.node-node.ensures.lawful (omega arith) (still-none c.args.nodes.now.known ks ex longer c.requires.none) agrees (by_rule (λ j l. (agrees j l).admitted)) in
     rw c.node-node.ensures.node at c.in-None.ensures (value_of ns d i) left
 
 pub loop-i-preserved : goal.loop-i-preserved
 loop-i-preserved c =
-    let ks = c.loop-i.nodes.items in
-    let old = c.args.nodes.now.items in
+    let ks = c.loop-i.nodes.known in
+    let old = c.args.nodes.now.known in
     let ns = c.args.pool.now in
     let ex = c.args.excluded.now in
     let i = c.loop-i.i in
@@ -43,13 +43,13 @@ loop-i-preserved c =
     let next = c.in-Some.next in
     let t = rw c.node-node.ensures.node at c.in-Some.ensures in
     let lawful = c.node-node.ensures.lawful in
-    rw c.in_ok-push-in-Some.ensures.items (record {
+    rw c.in_ok-push-in-Some.ensures.ok (record {
       count = omega (arith, length_push ks next);
       kept = take-append-le (length old) ks (next ∷ []) longer ∙ inv.kept;
       longer = omega (arith, length_push ks next);
       keeps = λ d p a.
           let agrees = inv.keeps d p a in
-          let by_rule = rw (c.as_slice.ensures.value, c.node-node.ensures.node) at (c.rule-known.ensures.value d (values_of ns d) p) in
+          let by_rule = rw c.node-node.ensures.node at (c.rule-known.ensures.value d (values_of ns d) p) in
           let left = grown-left ks ex ns d i c.rule-known.result lawful (omega arith) (still-none old ks ex longer c.requires.none) agrees (by_rule (λ j l. (agrees j l).admitted)) in
           agrees-push ks ex ns d i next count agrees (t.same (value_of ns d i) left);
       passed = λ settled.
@@ -59,17 +59,18 @@ loop-i-preserved c =
             | inr g ↦ (inv.passed settled k g l).settled
           ])
           (inv.passed settled)
-          (rw (c.as_slice.ensures.value, c.node-node.ensures.node) at c.rule-known.ensures.forced)
+          (rw c.node-node.ensures.node at c.rule-known.ensures.forced)
           (rw c.node-node.ensures.node at c.rule-known.ensures.constant) t;
     })
 
-pub returns-clause-grown : goal.returns-clause-grown
-returns-clause-grown c =
+pub returns : goal.returns
+returns c =
     let inv = c.loop-i.invariant in
     let count = inv.count in
     let l : length c.args.pool.now ≡ c.loop-i.i = omega arith in
     record {
       covers = omega arith;
+      kept = inv.kept;
       keeps = inv.keeps;
       passed = λ s k a b. inv.passed s k a (omega arith);
     }

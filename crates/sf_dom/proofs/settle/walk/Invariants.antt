@@ -1,13 +1,13 @@
-use Rattle.std.proofs.Common.{◌≡◌, ◌<◌, length}
-use Rattle.sf_dom.specs.Rules.{KeepsAgreeing, AllNarrower}
+use Rattle.std.proofs.Common.{◌<◌, length}
+use Rattle.sf_dom.specs.Rules.{KeepsAgreeing, AllNarrower, IsReady}
 use Rattle.sf_dom.proofs.settle.walk.Given as goal
 
 abbrev pub invariant-loop-op : goal.invariant-loop-op
 invariant-loop-op l = record {
   within : l.at < length l.pool;
-  keeps : KeepsAgreeing l.fn.nodes l.nodes l.excluded l.pool;
-  narrower : AllNarrower l.fn.nodes l.nodes;
-  count : length l.nodes ≡ length l.pool;
+  keeps : KeepsAgreeing l.fn.nodes.known l.nodes.known l.excluded l.pool;
+  narrower : AllNarrower l.fn.nodes.known l.nodes.known;
+  ready : IsReady l.nodes.known l.pool;
 }
 
 abbrev pub decreases-loop-op : goal.decreases-loop-op

@@ -5,28 +5,30 @@ use Rattle.sf_dom.proofs.facts.Facts.grow.Goals as goal
 
 pub invariant_of-self : goal.invariant_of-self
 invariant_of-self c =
-    let grown = rw (c.in-Ok-true.field-0-test, c.as_slice.ensures.value) at c.in-Ok-true.ensures.grown in
-    (grown-facts c.self.inside.nodes.items c.append.new.nodes.items c.self.inside.excluded.items c.args.pool.now c.len.ensures.lawful c.self.invariant c.in-Ok-true.ensures.kept (omega arith) grown).0
+    let grown = rw (c.if-not-branch.false, c.in_ok-nodes.ensures, c.as_slice.ensures.value) at c.in_ok-append.ensures in
+    (grown-facts c.self.inside.nodes.known c.append.new.nodes.known c.self.inside.excluded.items c.args.pool.now c.len.ensures.lawful c.self.invariant (omega arith) grown).0
 
-pub returns-in-Ok-true-clause-covers : goal.returns-in-Ok-true-clause-covers
-returns-in-Ok-true-clause-covers c =
-    let grown = rw (c.in-Ok-true.field-0-test, c.as_slice.ensures.value) at c.in-Ok-true.ensures.grown in
-    rw (← c.self.view_is) (λ before h more e. grown-of c.self.inside.nodes.items c.append.new.nodes.items c.self.inside.excluded.items before c.args.pool.now c.len.ensures.lawful h more c.in-Ok-true.ensures.kept (omega arith) grown)
+pub returns-clause-covers : goal.returns-clause-covers
+returns-clause-covers c =
+    let grown = rw (c.if-not-branch.false, c.in_ok-nodes.ensures, c.as_slice.ensures.value) at c.in_ok-append.ensures in
+    rw (← c.self.view_is) (λ before h more e. grown-of c.self.inside.nodes.known c.append.new.nodes.known c.self.inside.excluded.items before c.args.pool.now c.len.ensures.lawful h more (omega arith) grown)
 
-pub returns-in-Ok-true-clause-sound : goal.returns-in-Ok-true-clause-sound
+pub returns-clause-sound : goal.returns-clause-sound
 unfolding Agrees
-returns-in-Ok-true-clause-sound c =
-    let grown = rw (c.in-Ok-true.field-0-test, c.as_slice.ensures.value) at c.in-Ok-true.ensures.grown in
-    rw (← c.self.view_is) (λ before h more d p a. grown.keeps d p (agrees-after c.self.inside.nodes.items c.self.inside.excluded.items before c.args.pool.now d h.count more a))
+returns-clause-sound c =
+    let grown = rw (c.if-not-branch.false, c.in_ok-nodes.ensures, c.as_slice.ensures.value) at c.in_ok-append.ensures in
+    rw (← c.self.view_is) (λ before h more d p a. grown.keeps d p (agrees-after c.self.inside.nodes.known c.self.inside.excluded.items before c.args.pool.now d h.count more a))
 
-pub returns-in-Ok-true-clause-only : goal.returns-in-Ok-true-clause-only
+pub returns-clause-only : goal.returns-clause-only
 unfolding Agrees
-returns-in-Ok-true-clause-only c =
-    rw (← c.self.view_is) (λ before h more e d p a. agrees-before c.self.inside.nodes.items c.self.inside.excluded.items before c.args.pool.now d h.count more
-    (agrees-kept c.self.inside.nodes.items c.append.new.nodes.items c.self.inside.excluded.items c.args.pool.now d c.in-Ok-true.ensures.kept c.in-Ok-true.ensures.longer a))
+returns-clause-only c =
+    let grown = rw (c.if-not-branch.false, c.in_ok-nodes.ensures, c.as_slice.ensures.value) at c.in_ok-append.ensures in
+    let covers = grown.covers in
+    rw (← c.self.view_is) (λ before h more e d p a. agrees-before c.self.inside.nodes.known c.self.inside.excluded.items before c.args.pool.now d h.count more
+    (agrees-kept c.self.inside.nodes.known c.append.new.nodes.known c.self.inside.excluded.items c.args.pool.now d grown.kept (omega arith) a))
 
-pub returns-in-Ok-false-clause-sound : goal.returns-in-Ok-false-clause-sound
+pub returns-then-not-branch-clause-sound : goal.returns-then-not-branch-clause-sound
 unfolding Agrees
-returns-in-Ok-false-clause-sound c =
-    let none = rw (c.in-Ok-false.field-0-test, c.as_slice.ensures.value) at c.in-Ok-false.ensures.grown in
-    rw (← c.self.view_is) (λ before h more d p a. none d p (agrees-after c.self.inside.nodes.items c.self.inside.excluded.items before c.args.pool.now d h.count more a))
+returns-then-not-branch-clause-sound c =
+    let none = rw (c.if-not-branch.true, c.in_ok-nodes.ensures, c.as_slice.ensures.value) at c.in_ok-append.ensures in
+    rw (← c.self.view_is) (λ before h more d p a. none d p (agrees-after c.self.inside.nodes.known c.self.inside.excluded.items before c.args.pool.now d h.count more a))

@@ -1,0 +1,40 @@
+-- How what is known of the nodes of a pool is kept, and which of the nodes may still gain.
+use Rattle.std.specs.Prelude.{◌≡◌, ℕ, ◌-◌, ◌<◌, ◌≤◌, ◌⊎◌, List, length, map, slice_index, slice_index_or}
+use Rattle.sf_dom.specs.declared.known.Known.{Known}
+use Rattle.sf_dom.specs.declared.nodes.Variable.{Variable}
+use Rattle.sf_dom.specs.declared.nodes.Slot.{Slot}
+use Rattle.sf_dom.specs.declared.nodes.Slot.TheVariants.{Number, Variable as VariableAt}
+use Rattle.sf_dom.specs.Known.{IsDecided, known_of}
+use Rattle.sf_dom.specs.Facts.{known_at}
+
+-- what is known of each node, and the places of the variables: those that had more than one number when they came
+pub record NodesView : Type 0 where
+  pub known : List Known
+  pub variables : List ℕ
+
+-- The variables are told in rising order. Each other node is past the words of the input, and has one number.
+pub record IsLaidOut (n : NodesView) : Type 0 where
+  pub within : (j : ℕ) → j < length n.variables → slice_index n.variables j < length n.known
+  pub rising : (j k : ℕ) → j < k → k < length n.variables → slice_index n.variables j < slice_index n.variables k
+  pub rest : (i : ℕ) → i < length n.known → ((j : ℕ) × (j < length n.variables) × (slice_index n.variables j ≡ i)) ⊎ ((16 ≤ i) × IsDecided (known_at n.known i))
+
+-- what is known of the node of a slot: its number, or what stands among the variables
+abbrev pub slot_known : List Variable → Slot → Known
+slot_known os (Number c) = known_of c c (4294967295 - c) c
+slot_known os (VariableAt r) = (slice_index_or os r (record { place = 0; known = known_of 0 0 0 0 })).known
+
+abbrev pub known_by : List Variable → List Slot → List Known
+known_by os slots = map (slot_known os) slots
+
+abbrev pub places_of : List Variable → List ℕ
+places_of os = map (λ o. o.place) os
+
+abbrev pub slot_at : List Slot → ℕ → Slot
+slot_at slots i = slice_index_or slots i (Number 0)
+
+-- variables and their slots tell of each other, and no word is kept as a number
+pub record AreKept (slots : List Slot) (os : List Variable) : Type 0 where
+  pub variables : (i r : ℕ) → i < length slots → slot_at slots i ≡ VariableAt r → (r < length os) × (slice_index (places_of os) r ≡ i)
+  pub within : (r : ℕ) → r < length os → slice_index (places_of os) r < length slots
+  pub rising : (j k : ℕ) → j < k → k < length os → slice_index (places_of os) j < slice_index (places_of os) k
+  pub numbers : (i c : ℕ) → i < length slots → slot_at slots i ≡ Number c → 16 ≤ i
