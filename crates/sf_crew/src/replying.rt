@@ -101,7 +101,8 @@ pub fn sweep<R: Threads + Wait + Sync, G: Gate>(
     let full = tally(rt, alloc, settled, questions, workers, gate)?;
     let mut replies = Vec::new(alloc);
     for q in 0..questions.len() {
-        replies.push(reply_of(alloc, settled, questions, q, &full)?)?;
+        let reply = reply_of(alloc, settled, questions, q, &full)?;
+        replies.push(reply)?;
     }
     Ok(replies)
 }

@@ -159,7 +159,8 @@ fn run_all<R: Threads + Wait + Sync, G: Gate>(
 /// work between its making and its commit. With 1 worker no thread is started. With more, each has a thread, with the
 /// numbers from 0; when they have ended, the calling thread takes what is left on lease back and works it off, under
 /// the next number. The caller's condition besides: a budget from 1 to 1,000,000. `Memory` where a growth is refused
-/// to the calling thread.
+/// to the calling thread. `Foreign`, with 2 or more workers alone, where they left the book of another stack or budget
+/// behind the lock: its type tells no more than that it is lawful, so it is compared; they never do.
 pub fn explore<R: Threads + Wait + Sync, G: Gate>(
     rt: &R,
     alloc: Global,
@@ -172,6 +173,7 @@ pub fn explore<R: Threads + Wait + Sync, G: Gate>(
     ensures ok { IfOk result (λ s. IsEndOf (arc_value stack) budget s) }
     ensures plain { IfOk result (λ s. IsPlain (arc_value stack) → IsExactEnd (arc_value stack) budget s) }
     ensures err { IfErr result (λ f. (f ≡ Memory) ⊎ (f ≡ Foreign)) }
+    ensures alone { workers ≡ 1 → IfErr result (λ f. f ≡ Memory) }
 {
     if workers == 1 {
         return explore_alone(alloc, stack, budget, gate);
