@@ -60,8 +60,8 @@ fn outcome_of<R: Threads + Wait + Sync, G: Gate>(
 ///
 /// The caller's conditions: a budget from 1 to 1,000,000 and 1 to 64 workers, each a thread of its own where there
 /// are more than one. Refusals, tried in this order: those of `stack_of`; `Count` where there are no questions or more
-/// than 256. `Memory` can come anywhere. `Foreign`, with 2 or more workers alone, would say that they left the book of
-/// another stack or budget; they never do. Waits for the workers.
+/// than 256. `Memory` can come anywhere. `Foreign`, with 2 or more workers alone, where they left the book of another
+/// stack or budget; no test sees that. Waits for the workers.
 pub fn audit<R: Threads + Wait + Sync, G: Gate>(
     rt: &R,
     alloc: Global,
