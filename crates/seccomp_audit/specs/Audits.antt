@@ -7,10 +7,10 @@ use Rattle.toml.specs.Data.{Members}
 use Rattle.toml.specs.Parse.{parse_document}
 use Rattle.sf_ask.specs.Asked.{Asked}
 use Rattle.sf_audit.specs.declared.fault.Fault.{Fault}
-use Rattle.sf_audit.specs.declared.fault.Fault.TheVariants.{Syntax}
+use Rattle.sf_audit.specs.declared.fault.Fault.TheVariants.{Foreign, Memory, Read, Syntax, Write}
 use Rattle.sf_audit.specs.Policies.{policy_of}
 use Rattle.sf_audit.specs.Outcomes.{Found}
-use Rattle.sf_audit.specs.Audits.{IsAudit}
+use Rattle.sf_audit.specs.Audits.{IsAudit, IsAuditRefusal}
 use Rattle.sf_audit.specs.Reports.{report_text}
 use Rattle.seccomp_audit.specs.Files.{AgreesWith, AreRead}
 use Rattle.seccomp_audit.specs.Status.{replies_status}
@@ -44,3 +44,12 @@ pub record AuditsFiles (holds : List ℕ → Option (List ℕ)) (policy : List �
   pub audit : IsAudit files questions budget found
   pub written : Appends old new (report_text found regions)
   pub told : status ≡ replies_status found.replies
+
+-- Why an audit is refused, after the file of the policy and then those of the filters were read: reading, writing or
+-- memory failed, or the workers left another exploration's book; the policy file is no policy; or the audit of what the
+-- files hold is refused.
+abbrev pub RefusesAudit : (List ℕ → Option (List ℕ)) → List ℕ → List (Bor (List ℕ)) → Fault → Type 0
+RefusesAudit holds policy paths fault =
+    (fault ≡ Read) ⊎ (fault ≡ Write) ⊎ (fault ≡ Memory) ⊎ (fault ≡ Foreign) ⊎ RefusesPolicyFile (holds policy) fault
+    ⊎ ((questions : List Asked) × (files : List (List ℕ)) × IsPolicyFile (holds policy) questions × AreRead holds paths files
+    × IsAuditRefusal files questions fault)

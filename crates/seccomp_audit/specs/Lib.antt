@@ -4,3 +4,5 @@ pub mod Texts
 pub mod Outputs
 pub mod Status
 pub mod Audits
+pub mod CommandLine
+pub mod Runs

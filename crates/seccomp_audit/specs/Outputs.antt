@@ -1,5 +1,5 @@
 -- What `check` and `eval` write of filter files.
-use Rattle.std.specs.Prelude.{◌≡◌, ◌⊎◌, ℕ, List, Option, Ok}
+use Rattle.std.specs.Prelude.{◌≡◌, ◌⊎◌, ℕ, List, Option, Ok, IsOk}
 use Rattle.std.specs.Borrow.{Bor}
 use Rattle.hex.specs.Hex.{decode_sized}
 use Rattle.std.specs.Io.KnownBytes.{Appends}
@@ -9,7 +9,7 @@ use Rattle.sf_check.specs.declared.insn.Insn.{Insn}
 use Rattle.sf_run.specs.declared.action.Answer.{Answer}
 use Rattle.sf_run.specs.Answers.{Answers}
 use Rattle.sf_audit.specs.declared.fault.Fault.{Fault}
-use Rattle.sf_audit.specs.declared.fault.Fault.TheVariants.{Memory, Read}
+use Rattle.sf_audit.specs.declared.fault.Fault.TheVariants.{Input as InputFault, Memory, Read, Write}
 use Rattle.sf_audit.specs.Filters.{IsFirstRefusal, SpellStack}
 use Rattle.seccomp_audit.specs.Files.{AreRead}
 use Rattle.seccomp_audit.specs.Texts.{answer_text, check_text}
@@ -40,3 +40,12 @@ EvaluatesFiles digits holds paths old new =
 abbrev pub RefusesFiles : (List ℕ → Option (List ℕ)) → List (Bor (List ℕ)) → Fault → Type 0
 RefusesFiles holds paths fault =
     (fault ≡ Read) ⊎ (fault ≡ Memory) ⊎ ((files : List (List ℕ)) × AreRead holds paths files × IsFirstRefusal files fault)
+
+-- why `check` is refused
+abbrev pub RefusesCheck : (List ℕ → Option (List ℕ)) → List (Bor (List ℕ)) → Fault → Type 0
+RefusesCheck holds paths fault = (fault ≡ Write) ⊎ RefusesFiles holds paths fault
+
+-- why `eval` is refused: the digits spell no input, or else as `check`
+abbrev pub RefusesEval : List ℕ → (List ℕ → Option (List ℕ)) → List (Bor (List ℕ)) → Fault → Type 0
+RefusesEval digits holds paths fault =
+    ((fault ≡ InputFault) × ¬ IsOk (decode_sized digits 64)) ⊎ (IsOk (decode_sized digits 64) × RefusesCheck holds paths fault)

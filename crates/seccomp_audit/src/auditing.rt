@@ -3,7 +3,7 @@
 ghost use Rattle.std.specs.Prelude.{◌≡◌, ◌<◌, ◌≤◌, ◌⊎◌, ℕ, List, IfOk, IfErr};
 ghost use Rattle.sf_audit.specs.Faults.{fault_number};
 ghost use Rattle.sf_audit.specs.declared.fault.Fault.TheVariants.{Memory as MemoryFault, Read as ReadFault};
-ghost use Rattle.seccomp_audit.specs.Audits.{AuditsFiles, IsPolicyFile, RefusesPolicyFile};
+ghost use Rattle.seccomp_audit.specs.Audits.{AuditsFiles, IsPolicyFile, RefusesAudit, RefusesPolicyFile};
 ghost use Rattle.seccomp_audit.specs.Status.{fault_status};
 
 use crate::files::{Files, read_all};
@@ -57,6 +57,7 @@ pub fn audit<R: Threads + Wait + Sync, F: Files, O: Write>(
     requires workers { (0 < options.workers) × (options.workers ≤ 64) }
     ensures written { IfOk result (λ s. AuditsFiles (F.holds files.old) policy.now paths.now options.budget options.regions s (O.contents out.old) (O.contents out.new)) }
     ensures status { IfOk result (λ s. s ≤ 2) }
+    ensures refused { IfErr result (RefusesAudit (F.holds files.old) policy.now paths.now) }
     ensures quiet { IfErr result (λ e. (fault_status (fault_number e) ≡ 5) ⊎ (out.new ≡ out.old)) }
 {
     let questions = questions_in(alloc, policy, files)?;

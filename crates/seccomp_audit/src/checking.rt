@@ -4,7 +4,7 @@ ghost use Rattle.std.specs.Prelude.{◌≡◌, ◌⊎◌, map, Err, Ok, IfOk, If
 ghost use Rattle.std.specs.Io.KnownBytes.{Appends};
 ghost use Rattle.hex.specs.Hex.{decode_sized};
 ghost use Rattle.sf_insn.specs.Inputs.{input_bytes};
-ghost use Rattle.seccomp_audit.specs.Outputs.{ChecksFiles, EvaluatesFiles, RefusesFiles, WritesAnswer, WritesCheck};
+ghost use Rattle.seccomp_audit.specs.Outputs.{ChecksFiles, EvaluatesFiles, RefusesEval, RefusesFiles, WritesAnswer, WritesCheck};
 ghost use Rattle.sf_audit.specs.Filters.{IsFirstRefusal};
 ghost use Rattle.sf_audit.specs.declared.fault.Fault.TheVariants.{Memory as MemoryFault, Input as InputFault, Write as WriteFault};
 
@@ -93,6 +93,7 @@ pub fn evaluate<F: Files, O: Write>(
     ensures written { OnOk result (EvaluatesFiles digits.now (F.holds files.old) paths.now (O.contents out.old) (O.contents out.new)) }
     ensures unspelled { (IsOk (decode_sized digits.now 64) → ⊥) → (result ≡ Err InputFault) × (files.new ≡ files.old) × (out.new ≡ out.old) }
     ensures refused { IsOk (decode_sized digits.now 64) → IfErr result (λ e. (e ≡ WriteFault) ⊎ (RefusesFiles (F.holds files.old) paths.now e × (out.new ≡ out.old))) }
+    ensures explained { IfErr result (RefusesEval digits.now (F.holds files.old) paths.now) }
 {
     let input = input_of(digits)?;
     let filters = read_all(alloc, paths, files)?;

@@ -1,9 +1,14 @@
 //! From the words of a command line to a status.
-ghost use Rattle.std.specs.Prelude.{◌≡◌, ◌≢◌, ◌<◌, ◌≤◌, ◌⊎◌, ℕ, Some, None, IfOk, IfErr};
-ghost use Rattle.clap.specs.Values.{kind_of};
+ghost use Rattle.std.specs.Prelude.{◌≡◌, ◌≢◌, ◌≤◌, ◌⊎◌, [], codes, map, string_bytes, IfOk, IfErr};
+ghost use Rattle.clap.specs.Words.{found_of, kind_of, rows_of, subcommand_rows_of};
 ghost use Rattle.sf_audit.specs.Faults.{fault_number};
+ghost use Rattle.sf_audit.specs.declared.fault.Fault.TheVariants.{Memory as MemoryFault, Write as WriteFault};
+ghost use Rattle.seccomp_audit.specs.Audits.{RefusesAudit};
+ghost use Rattle.seccomp_audit.specs.Outputs.{RefusesCheck, RefusesEval};
+ghost use Rattle.seccomp_audit.specs.Runs.{Audits, Checks, Evaluates, RunsAs, IsKnown, IsHelp, DoesAsTold, OnPaths, RefusesAs, RefusesAsTold, WritesText, errors_at, text_of};
 ghost use Rattle.seccomp_audit.specs.Status.{fault_status};
 
+use crate::asked::{budget_of, regions_of, text_of, workers_of};
 use crate::auditing::{Options, audit};
 use crate::checking::{check, evaluate, print};
 use crate::files::Files;
@@ -17,16 +22,60 @@ use std::io::Write;
 use std::sync::Wait;
 use std::thread::Threads;
 
-/// The number of workers that the command line asks for; it lets no other than 1 to 64 through.
-fn workers_of(asked: Option<u8>) -> u8
-    ensures few { (0 < result) × (result ≤ 64) }
-    ensures asked { (n : ℕ) → asked ≡ Some n → 0 < n → n ≤ 64 → result ≡ n }
-    ensures default { asked ≡ None → result ≡ 4 }
+/// Audits as the matches of the subcommand say.
+fn run_audit<R: Threads + Wait + Sync, F: Files, O: Write>(
+    rt: &R,
+    alloc: Global,
+    found: &ArgMatches<'_>,
+    files: &mut F,
+    out: &mut O,
+) -> Result<u8, Fault>
+    ensures done { IfOk result (λ s. Audits (F.holds files.old) (rows_of (found_of found.now)) s (O.contents out.old) (O.contents out.new)) }
+    ensures status { IfOk result (λ s. s ≤ 2) }
+    ensures quiet { IfErr result (λ e. (fault_status (fault_number e) ≡ 5) ⊎ (out.new ≡ out.old)) }
+    ensures refused { IfErr result (λ e. OnPaths (rows_of (found_of found.now)) (λ paths. RefusesAudit (F.holds files.old) (text_of (codes "policy") (rows_of (found_of found.now))) paths e)) }
 {
-    match asked {
-        Some(workers) if 0 < workers && workers <= 64 => workers,
-        _ => 4,
-    }
+    let paths = found.get_strs("filters").unwrap_or(&[]);
+    let options = Options {
+        budget: budget_of(found),
+        workers: workers_of(found),
+        regions: regions_of(found),
+    };
+    let policy = text_of(found, "policy");
+    audit(rt, alloc, policy, paths, options, files, out)
+}
+
+/// Checks the filters that the matches of the subcommand name.
+fn run_check<F: Files, O: Write>(
+    alloc: Global,
+    found: &ArgMatches<'_>,
+    files: &mut F,
+    out: &mut O,
+) -> Result<u8, Fault>
+    ensures done { IfOk result (λ s. Checks (F.holds files.old) (rows_of (found_of found.now)) s (O.contents out.old) (O.contents out.new)) }
+    ensures quiet { IfErr result (λ e. (fault_status (fault_number e) ≡ 5) ⊎ (out.new ≡ out.old)) }
+    ensures refused { IfErr result (λ e. OnPaths (rows_of (found_of found.now)) (λ paths. RefusesCheck (F.holds files.old) paths e)) }
+{
+    let paths = found.get_strs("filters").unwrap_or(&[]);
+    check(alloc, paths, files, out)?;
+    Ok(0)
+}
+
+/// Evaluates the input by the filters that the matches of the subcommand name.
+fn run_eval<F: Files, O: Write>(
+    alloc: Global,
+    found: &ArgMatches<'_>,
+    files: &mut F,
+    out: &mut O,
+) -> Result<u8, Fault>
+    ensures done { IfOk result (λ s. Evaluates (F.holds files.old) (rows_of (found_of found.now)) s (O.contents out.old) (O.contents out.new)) }
+    ensures quiet { IfErr result (λ e. (fault_status (fault_number e) ≡ 5) ⊎ (out.new ≡ out.old)) }
+    ensures refused { IfErr result (λ e. OnPaths (rows_of (found_of found.now)) (λ paths. RefusesEval (text_of (codes "input") (rows_of (found_of found.now))) (F.holds files.old) paths e)) }
+{
+    let paths = found.get_strs("filters").unwrap_or(&[]);
+    let digits = text_of(found, "input");
+    evaluate(alloc, digits, paths, files, out)?;
+    Ok(0)
 }
 
 /// Runs the subcommand that the command line names.
@@ -38,31 +87,20 @@ fn run<R: Threads + Wait + Sync, F: Files, O: Write>(
     out: &mut O,
 ) -> Result<u8, Fault>
     ensures status { IfOk result (λ s. (s ≤ 2) ⊎ (s ≡ 4)) }
-    ensures usage { IfOk result (λ s. s ≡ 4 → (files.new ≡ files.old) × (out.new ≡ out.old)) }
+    ensures done { IfOk result (λ s. s ≤ 2 → RunsAs (F.holds files.old) (subcommand_rows_of matches.now) s (O.contents out.old) (O.contents out.new)) }
+    ensures usage { IfOk result (λ s. s ≡ 4 → ¬ IsKnown (subcommand_rows_of matches.now) × (files.new ≡ files.old) × (out.new ≡ out.old)) }
     ensures quiet { IfErr result (λ e. (fault_status (fault_number e) ≡ 5) ⊎ (out.new ≡ out.old)) }
+    ensures refused { IfErr result (RefusesAs (F.holds files.old) (subcommand_rows_of matches.now)) }
 {
     let Some((name, found)) = matches.subcommand() else {
         return Ok(4);
     };
-    let paths = found.get_strs("filters").unwrap_or(&[]);
     match name {
-        "audit" => {
-            let policy = found.get_str("policy").unwrap_or("");
-            let options = Options {
-                budget: found.get_one::<u32>("budget").unwrap_or(100_000),
-                workers: workers_of(found.get_one::<u8>("workers")),
-                regions: found.get_flag("regions"),
-            };
-            return audit(rt, alloc, policy, paths, options, files, out);
-        }
-        "check" => check(alloc, paths, files, out)?,
-        "eval" => {
-            let digits = found.get_str("input").unwrap_or("");
-            evaluate(alloc, digits, paths, files, out)?;
-        }
-        _ => return Ok(4),
+        "audit" => run_audit(rt, alloc, found, files, out),
+        "check" => run_check(alloc, found, files, out),
+        "eval" => run_eval(alloc, found, files, out),
+        _ => Ok(4),
     }
-    Ok(0)
 }
 
 /// Shows the help that was asked for, or why the command line is refused.
@@ -72,20 +110,28 @@ fn explain<O: Write, E: Write>(
     out: &mut O,
     err: &mut E,
 ) -> Result<u8, Fault>
-    ensures help { (kind_of error.now ≡ ErrorKind.DisplayHelp) ⊎ (kind_of error.now ≡ ErrorKind.DisplayVersion) → IfOk result (λ s. s ≡ 0) }
-    ensures usage { (kind_of error.now ≢ ErrorKind.DisplayHelp) → (kind_of error.now ≢ ErrorKind.DisplayVersion) → IfOk result (λ s. (s ≡ 4) × (out.new ≡ out.old)) }
+    ensures status { IfOk result (λ s. (s ≤ 2) ⊎ (s ≡ 4)) }
+    ensures help { IsHelp (kind_of error.now) → IfOk result (λ s. s ≡ 0) }
+    ensures done { IfOk result (λ s. s ≤ 2 → IsHelp (kind_of error.now) × (s ≡ 0) × WritesText (O.contents out.old) (O.contents out.new)) }
+    ensures refused { ¬ IsHelp (kind_of error.now) → IfOk result (λ s. s ≡ 4) }
+    ensures usage { IfOk result (λ s. s ≡ 4 → (kind_of error.now ≢ ErrorKind.OutOfMemory) × (out.new ≡ out.old)) }
     ensures failed { IfErr result (λ e. fault_status (fault_number e) ≡ 5) }
+    ensures explained { IfErr result (λ e. (e ≡ MemoryFault) ⊎ (e ≡ WriteFault)) }
 {
     if error.kind() == ErrorKind::OutOfMemory {
         return Err(Fault::Memory);
     }
     let text = error.to_string(alloc)?;
-    if error.use_stderr() {
-        let _ = err.write_all(text.as_bytes());
-        return Ok(4);
+    match error.kind() {
+        ErrorKind::DisplayHelp | ErrorKind::DisplayVersion => {
+            print(&text, out)?;
+            Ok(0)
+        }
+        _ => {
+            let _ = err.write_all(text.as_bytes());
+            Ok(4)
+        }
     }
-    print(&text, out)?;
-    Ok(0)
 }
 
 fn reply<R: Threads + Wait + Sync, F: Files, O: Write, E: Write>(
@@ -97,8 +143,10 @@ fn reply<R: Threads + Wait + Sync, F: Files, O: Write, E: Write>(
     err: &mut E,
 ) -> Result<u8, Fault>
     ensures status { IfOk result (λ s. (s ≤ 2) ⊎ (s ≡ 4)) }
-    ensures usage { IfOk result (λ s. s ≡ 4 → (files.new ≡ files.old) × (out.new ≡ out.old)) }
+    ensures done { IfOk result (λ s. s ≤ 2 → DoesAsTold (F.holds files.old) (map string_bytes words.now) s (O.contents out.old) (O.contents out.new)) }
+    ensures usage { IfOk result (λ s. s ≡ 4 → ¬ (errors_at (map string_bytes words.now) ≡ []) × (files.new ≡ files.old) × (out.new ≡ out.old)) }
     ensures quiet { IfErr result (λ e. (fault_status (fault_number e) ≡ 5) ⊎ (out.new ≡ out.old)) }
+    ensures refused { IfErr result (RefusesAsTold (F.holds files.old) (map string_bytes words.now)) }
 {
     match words::form(alloc)?.try_get_matches_from(words) {
         Ok(matches) => run(rt, alloc, &matches, files, out),
@@ -122,8 +170,9 @@ pub fn command<R: Threads + Wait + Sync, F: Files, O: Write, E: Write>(
     err: &mut E,
 ) -> u8
     ensures status { result ≤ 5 }
-    ensures usage { result ≡ 4 → (files.new ≡ files.old) × (out.new ≡ out.old) }
-    ensures refused { result ≡ 3 → out.new ≡ out.old }
+    ensures done { result ≤ 2 → DoesAsTold (F.holds files.old) (map string_bytes words.now) result (O.contents out.old) (O.contents out.new) }
+    ensures usage { result ≡ 4 → ¬ (errors_at (map string_bytes words.now) ≡ []) × (files.new ≡ files.old) × (out.new ≡ out.old) }
+    ensures refused { result ≡ 3 → (out.new ≡ out.old) × ((e : Fault) × (fault_status (fault_number e) ≡ 3) × RefusesAsTold (F.holds files.old) (map string_bytes words.now) e) }
 {
     match reply(rt, alloc, words, files, out, err) {
         Ok(status) => status,

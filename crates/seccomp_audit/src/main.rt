@@ -1,6 +1,7 @@
 //! Audits a stack of seccomp filters.
 #![tactic(auto)]
 
+mod asked;
 mod auditing;
 mod checking;
 mod command;

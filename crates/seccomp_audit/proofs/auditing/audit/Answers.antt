@@ -1,5 +1,6 @@
-use Rattle.std.proofs.Common.{◌≡◌, map, rules}
+use Rattle.std.proofs.Common.{map, rules}
 use Rattle.seccomp_audit.proofs.ReadLemmas.{read_same}
+use Rattle.seccomp_audit.proofs.RefusalLemmas.{audit_why, handed_on, policy_why}
 use Rattle.seccomp_audit.proofs.auditing.audit.Goals as goal
 
 pub returns-clause-written : goal.returns-clause-written
@@ -13,3 +14,13 @@ returns-clause-written g c = record {
   written = c.in_ok-write_report.ensures.written;
   told = search rules;
 }
+
+pub returns-in_err-questions-clause-refused : goal.returns-in_err-questions-clause-refused
+returns-in_err-questions-clause-refused g c =
+    handed_on _ c.from_residual.result c.in_err-questions.field-0.0 c.from_residual.ensures.1 (policy_why _ _ _ _ c.in_err-questions.ensures.refused)
+
+pub returns-in_err-outcome-clause-refused : goal.returns-in_err-outcome-clause-refused
+returns-in_err-outcome-clause-refused g c =
+    let read = read_same _ _ _ _ c.in_ok-questions.ensures.same c.in_ok-filters.ensures.read in
+    let why = audit_why _ _ _ _ _ _ c.in_ok-questions.ensures.asked read (rw c.deref.ensures.value at c.in_err-outcome.ensures.refused) in
+    handed_on _ c.from_residual-in_err-outcome.result c.in_err-outcome.field-0.0 c.from_residual-in_err-outcome.ensures.1 why

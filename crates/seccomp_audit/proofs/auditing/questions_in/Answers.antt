@@ -1,5 +1,4 @@
-use Rattle.std.proofs.Common.{◌≡◌, ◌∙◌, ◌⊎◌, inl, inr, refl, ℕ, List, sym}
-use Rattle.seccomp_audit.specs.Files.{AgreesWith}
+use Rattle.std.proofs.Common.{◌≡◌, ◌∙◌, inl, inr, refl, sym}
 use Rattle.seccomp_audit.proofs.PolicyLemmas.{policy_asked, policy_refused}
 use Rattle.seccomp_audit.proofs.auditing.questions_in.Goals as goal
 

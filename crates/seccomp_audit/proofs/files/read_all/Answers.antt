@@ -1,4 +1,4 @@
-use Rattle.std.proofs.Common.{◌≡◌, List, [], ℕ, ◌∙◌, Bor, subst}
+use Rattle.std.proofs.Common.{List, [], ℕ, ◌∙◌, Bor, subst}
 use Rattle.std.proofs.lemmas.Option.{slice_get-get_or}
 use Rattle.seccomp_audit.specs.Files.{AgreesWith}
 use Rattle.seccomp_audit.proofs.Pairing.{paired_more, paired_all, paired_mapped}

@@ -1,0 +1,61 @@
+-- The form of the command line, as `clap` reads it.
+use Rattle.std.specs.Prelude.{ℕ, true, [], ◌∷◌, Some, codes, pos}
+use Rattle.clap.specs.Words.{App, Rule, Text, new_app, new_rule, with_rule, with_subcommand}
+use Rattle.clap.specs.Lexer.{usize_max}
+use Rattle.clap.specs.declared.builder.action.ArgAction.TheVariants.{Append, SetTrue}
+use Rattle.clap.specs.declared.builder.value_parser.ValueParser.TheVariants.{Signed}
+
+-- an option `--name VALUE`
+abbrev pub option_rule : Text → Rule
+option_rule name = record (new_rule name) { long = Some name; value_names = 1 }
+
+-- such an option that must be given
+abbrev pub needed_rule : Text → Rule
+needed_rule name = record (option_rule name) { required = true }
+
+-- such an option with a number from 1 to the greatest, and this text where it is left out
+abbrev pub number_rule : Text → ℕ → Text → Rule
+number_rule name greatest usual = record (option_rule name) {
+  parser = Some (Signed (pos 1) (pos greatest));
+  defaults = usual ∷ [];
+}
+
+-- a switch `--name`
+abbrev pub switch_rule : Text → Rule
+switch_rule name = record (new_rule name) { long = Some name; action = Some SetTrue }
+
+-- the filter files: one word or more that belong to no option
+abbrev pub filters_rule : Rule
+filters_rule = record (new_rule (codes "filters")) {
+  value_names = 1;
+  required = true;
+  range = Some (record { start_inclusive = 1; end_inclusive = usize_max });
+  action = Some Append;
+}
+
+-- `audit --policy FILE [--budget N] [--workers N] [--regions] FILTER..`
+abbrev pub audit_line : App
+audit_line = with_rule (with_rule (with_rule (with_rule (with_rule (new_app (codes "audit"))
+    (needed_rule (codes "policy")))
+    (number_rule (codes "budget") 1000000 (codes "100000")))
+    (number_rule (codes "workers") 64 (codes "4")))
+    (switch_rule (codes "regions")))
+    filters_rule
+
+-- `check FILTER..`
+abbrev pub check_line : App
+check_line = with_rule (new_app (codes "check")) filters_rule
+
+-- `eval --input HEX FILTER..`
+abbrev pub eval_line : App
+eval_line = with_rule (with_rule (new_app (codes "eval")) (needed_rule (codes "input"))) filters_rule
+
+-- the program without its name: a subcommand that must be given, and none for help
+abbrev pub program_line : App
+program_line = let new = new_app (codes "seccomp_audit") in record new {
+  top = record new.top { no_binary_name = true; subcommand_required = true; disable_help_subcommand = true };
+}
+
+-- one of the three subcommands
+unfoldable pub command_line : App
+command_line = with_subcommand (with_subcommand (with_subcommand program_line audit_line.top) check_line.top) eval_line.top
