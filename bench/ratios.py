@@ -7,10 +7,12 @@ Usage: bench/ratios.py PROGRAM families [WORKERS]   filters that grow: time a co
        bench/ratios.py PROGRAM stacks FOLDER..      the filters NN.bpf of each folder: whole run to the shortest
 
 PROGRAM is the built seccomp_audit. Each time is the least of a few runs; a time a commit, and the runs of workers, are told less what a
-run of the smallest filter takes.
+run of the smallest filter takes. With --instructions before PROGRAM the instructions of one run stand for its time, as valgrind counts
+them: slower, but the same in each run, where the times of a few milliseconds are noise.
 """
 
 import os
+import re
 import struct
 import subprocess
 import sys
@@ -18,6 +20,9 @@ import tempfile
 import time
 
 REPEATS = 3
+
+# Whether instructions stand for time.
+COUNTS = "--instructions" in sys.argv
 
 
 def insn(code, jt=0, jf=0, k=0):
@@ -70,8 +75,24 @@ def low_half():
     return insn(0x20, k=16) + insn(0x54, k=0xFFFF) + insn(0x44, k=0x50000) + insn(0x16)
 
 
+def timed(words):
+    """The seconds of a run, its peak memory in kilobytes, and what it prints."""
+    start = time.perf_counter()
+    child = subprocess.Popen(words, stdout=subprocess.PIPE)
+    text = child.stdout.read().decode()
+    _, _, usage = os.wait4(child.pid, 0)
+    return time.perf_counter() - start, usage.ru_maxrss, text
+
+
+def instructions(words):
+    """The instructions of a run."""
+    counter = ["valgrind", "--tool=callgrind", "--callgrind-out-file=/dev/null"]
+    said = subprocess.run(counter + words, stdout=subprocess.DEVNULL, stderr=subprocess.PIPE, text=True).stderr
+    return int(re.search(r"Collected : (\d+)", said).group(1))
+
+
 def measured(program, workers, folder, filters):
-    """The least seconds of a few runs, the peak memory in kilobytes, and the commits."""
+    """The cost of a run, its peak memory in kilobytes, and the commits."""
     paths = []
     for number, data in enumerate(filters, 1):
         paths.append(os.path.join(folder, f"{number:02}.bpf"))
@@ -80,18 +101,11 @@ def measured(program, workers, folder, filters):
     policy = os.path.join(folder, "policy.toml")
     with open(policy, "w") as file:
         file.write(POLICY)
-    best, peak, commits = None, 0, 0
-    for _ in range(REPEATS):
-        words = [program, "audit", "--policy", policy, "--budget", "1000000", "--workers", str(workers), *paths]
-        start = time.perf_counter()
-        child = subprocess.Popen(words, stdout=subprocess.PIPE)
-        text = child.stdout.read().decode()
-        _, _, usage = os.wait4(child.pid, 0)
-        seconds = time.perf_counter() - start
-        best = seconds if best is None else min(best, seconds)
-        peak = max(peak, usage.ru_maxrss)
-        commits = int(text.splitlines()[2].split()[-1])
-    return best, peak, commits
+    words = [program, "audit", "--policy", policy, "--budget", "1000000", "--workers", str(workers), *paths]
+    runs = [timed(words) for _ in range(1 if COUNTS else REPEATS)]
+    cost = instructions(words) if COUNTS else min(seconds for seconds, _, _ in runs)
+    commits = int(runs[0][2].splitlines()[2].split()[-1])
+    return cost, max(peak for _, peak, _ in runs), commits
 
 
 def show_families(program, workers, folder):
@@ -99,19 +113,19 @@ def show_families(program, workers, folder):
     for name, make, sizes in FAMILIES:
         first = None
         for size in sizes:
-            seconds, peak, commits = measured(program, workers, folder, [make(size)])
-            each = max(seconds - idle, 1e-6) / commits
+            cost, peak, commits = measured(program, workers, folder, [make(size)])
+            each = max(cost - idle, 1e-6) / commits
             first = first or each
-            print(f"{name:16} size {size:5} commits {commits:6} time a commit {each / first:8.2f} run {seconds / idle:8.2f} memory {peak / least_memory:6.2f}")
+            print(f"{name:16} size {size:5} commits {commits:6} time a commit {each / first:8.2f} run {cost / idle:8.2f} memory {peak / least_memory:6.2f}")
 
 
 def show_workers(program, folder):
     idle, _, _ = measured(program, 1, folder, [ALLOW])
     first = None
     for workers in (1, 2, 4):
-        seconds, peak, commits = measured(program, workers, folder, [low_half()])
-        first = first or (seconds - idle, peak)
-        print(f"workers {workers} commits {commits} run {(seconds - idle) / first[0]:6.2f} memory {peak / first[1]:6.2f}")
+        cost, peak, commits = measured(program, workers, folder, [low_half()])
+        first = first or (cost - idle, peak)
+        print(f"workers {workers} commits {commits} run {(cost - idle) / first[0]:6.2f} memory {peak / first[1]:6.2f}")
 
 
 def filters_in(folder):
@@ -122,17 +136,18 @@ def filters_in(folder):
 def show_stacks(program, folders, folder):
     found = []
     for stack in folders:
-        seconds, _, commits = measured(program, 1, folder, filters_in(stack))
-        found.append((seconds, commits, os.path.basename(os.path.normpath(stack))))
+        cost, _, commits = measured(program, 1, folder, filters_in(stack))
+        found.append((cost, commits, os.path.basename(os.path.normpath(stack))))
     least = min(found)[0]
-    for seconds, commits, name in sorted(found):
-        print(f"{name:28} commits {commits:6} run {seconds / least:6.2f}")
+    for cost, commits, name in sorted(found):
+        print(f"{name:28} commits {commits:6} run {cost / least:6.2f}")
 
 
 def main():
-    if len(sys.argv) < 3:
+    words = [word for word in sys.argv[1:] if word != "--instructions"]
+    if len(words) < 2:
         sys.exit(__doc__)
-    program, what, rest = os.path.abspath(sys.argv[1]), sys.argv[2], sys.argv[3:]
+    program, what, rest = os.path.abspath(words[0]), words[1], words[2:]
     with tempfile.TemporaryDirectory() as folder:
         if what == "families":
             show_families(program, int(rest[0]) if rest else 1, folder)
