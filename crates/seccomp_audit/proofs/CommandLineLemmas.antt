@@ -10,11 +10,8 @@ use Rattle.clap.specs.declared.parser.matches.ArgMatches.{ArgMatches}
 use Rattle.clap.specs.declared.parser.matches.Found.{Found}
 use Rattle.clap.proofs.OnLiterals.{clap_on_literals}
 use Rattle.clap.proofs.WalkLemmas.{one_text-rows, raw_values-rows}
-use Rattle.sf_audit.specs.declared.fault.Fault.{Fault}
-use Rattle.seccomp_audit.specs.Audits.{RefusesAudit}
 use Rattle.seccomp_audit.specs.CommandLine.{command_line}
-use Rattle.seccomp_audit.specs.Outputs.{RefusesCheck, RefusesEval}
-use Rattle.seccomp_audit.specs.Runs.{ArePaths, Audits, Checks, Evaluates, Helps, IsHelp, IsNumberOf, OnPaths, RefusesAs, RunsAs, WritesText, errors_at, subcommand_at, text_of}
+use Rattle.seccomp_audit.specs.Runs.{ArePaths, Helps, IsHelp, IsNumberOf, WritesText, errors_at, subcommand_at}
 
 -- the third of tests that all hold says that a setting is off
 pub third_is_off : (a b c rest : Bool) → (a && (not b && (not c && rest))) ≡ true → c ≡ false
@@ -78,24 +75,6 @@ pub joined : {X A B : Type 0} (f : X → A) (g : X → B) (o : Option X) (a : A)
 joined f g None a b is_a is_b = cc
 joined f g (Some x) a b is_a is_b = cc
 
--- each of the three subcommands, run as it is named
-pub runs_audit : (holds : Text → Option Text) (o : Option (Text × List Row)) (name : Text) (rows : List Row) (status : ℕ) (old new : Option Text)
-    → o ≡ Some (name, rows) → name ≡ codes "audit" → Audits holds rows status old new → RunsAs holds o status old new
-runs_audit holds o name rows status old new is named done = rw is (inl (named, done))
-
-pub runs_check : (holds : Text → Option Text) (o : Option (Text × List Row)) (name : Text) (rows : List Row) (status : ℕ) (old new : Option Text)
-    → o ≡ Some (name, rows) → name ≡ codes "check" → Checks holds rows status old new → RunsAs holds o status old new
-runs_check holds o name rows status old new is named done = rw is (inr (inl (named, done)))
-
-pub runs_eval : (holds : Text → Option Text) (o : Option (Text × List Row)) (name : Text) (rows : List Row) (status : ℕ) (old new : Option Text)
-    → o ≡ Some (name, rows) → name ≡ codes "eval" → Evaluates holds rows status old new → RunsAs holds o status old new
-runs_eval holds o name rows status old new is named done = rw is (inr (inr (named, done)))
-
--- the same of the subcommand, however it is told
-pub runs_told : (holds : Text → Option Text) (o p : Option (Text × List Row)) (status : ℕ) (old new : Option Text) → o ≡ p → RunsAs holds o status old new
-    → RunsAs holds p status old new
-runs_told holds o p status old new is runs = rw (← is) runs
-
 -- what a parse by the form reads of the words
 pub told_subcommand : (a : App) (words : List Text) (m : ArgMatches) → a ≡ command_line → HasMatchesOf a words m → subcommand_rows_of m ≡ subcommand_at words
 unfolding subcommand_at
@@ -122,20 +101,3 @@ some_error words e (inr among) other none = subst (λ (ks : Kinds). IsAmong (kin
 pub without_third : {P Q R : Type 0} → P ⊎ (Q × R) → P ⊎ Q
 without_third (inl p) = inl p
 without_third (inr (q, r)) = inr q
-
--- why each of the three subcommands is refused, as it is named
-pub refuses_audit : (holds : Text → Option Text) (o : Option (Text × List Row)) (name : Text) (rows : List Row) (e : Fault)
-    → o ≡ Some (name, rows) → name ≡ codes "audit" → OnPaths rows (λ paths. RefusesAudit holds (text_of (codes "policy") rows) paths e) → RefusesAs holds o e
-refuses_audit holds o name rows e is named why = rw is (inl (named, why))
-
-pub refuses_check : (holds : Text → Option Text) (o : Option (Text × List Row)) (name : Text) (rows : List Row) (e : Fault)
-    → o ≡ Some (name, rows) → name ≡ codes "check" → OnPaths rows (λ paths. RefusesCheck holds paths e) → RefusesAs holds o e
-refuses_check holds o name rows e is named why = rw is (inr (inl (named, why)))
-
-pub refuses_eval : (holds : Text → Option Text) (o : Option (Text × List Row)) (name : Text) (rows : List Row) (e : Fault)
-    → o ≡ Some (name, rows) → name ≡ codes "eval" → OnPaths rows (λ paths. RefusesEval (text_of (codes "input") rows) holds paths e) → RefusesAs holds o e
-refuses_eval holds o name rows e is named why = rw is (inr (inr (named, why)))
-
--- the same reason, however the subcommand is told
-pub refuses_told : (holds : Text → Option Text) (o p : Option (Text × List Row)) (e : Fault) → o ≡ p → RefusesAs holds o e → RefusesAs holds p e
-refuses_told holds o p e is why = rw (← is) why

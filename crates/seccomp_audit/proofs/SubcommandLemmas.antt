@@ -85,7 +85,3 @@ unknown_name o name rows is no_audit no_check no_eval (found, met, inr (inr eval
 pub no_name : {X : Type 0} (f : X → Text) (g : X → List Row) (o : Option X) → None ≡ option_map f o → ¬ IsKnown (option_map {U = Text × List Row} (λ x. (f x, g x)) o)
 no_name f g None none (found, met, name) = cc
 no_name f g (Some x) none known = cc
-
--- the same, however it is told
-pub known_told : (o p : Option (Text × List Row)) → o ≡ p → IsKnown p → IsKnown o
-known_told o p is known = rw is known

@@ -75,13 +75,19 @@ IsKnown named =
     (found : Text × List Row) × (named ≡ Some found)
     × ((found.0 ≡ codes "audit") ⊎ (found.0 ≡ codes "check") ⊎ (found.0 ≡ codes "eval"))
 
--- what the subcommand of this name asks for was done
+-- one of the three subcommands is named, and this holds of the values of its arguments, by its name
+abbrev pub ByName : (audit check eval : List Row → Type 0) → Option (Text × List Row) → Type 0
+ByName audit check eval named =
+    (found : Text × List Row) × (named ≡ Some found)
+    × (((found.0 ≡ codes "audit") × audit found.1) ⊎ ((found.0 ≡ codes "check") × check found.1) ⊎ ((found.0 ≡ codes "eval") × eval found.1))
+
+-- what the subcommand that is named asks for was done
 abbrev pub RunsAs : (Text → Option Text) → Option (Text × List Row) → ℕ → Option Text → Option Text → Type 0
-RunsAs holds None status old new = ⊥
-RunsAs holds (Some (name, rows)) status old new =
-    ((name ≡ codes "audit") × Audits holds rows status old new)
-    ⊎ ((name ≡ codes "check") × Checks holds rows status old new)
-    ⊎ ((name ≡ codes "eval") × Evaluates holds rows status old new)
+RunsAs holds named status old new = ByName
+    (λ rows. Audits holds rows status old new)
+    (λ rows. Checks holds rows status old new)
+    (λ rows. Evaluates holds rows status old new)
+    named
 
 -- some text was written
 abbrev pub WritesText : Option Text → Option Text → Type 0
@@ -109,13 +115,13 @@ DoesAsTold holds words status old new =
 abbrev pub OnPaths : List Row → (List (Bor Text) → Type 0) → Type 0
 OnPaths rows P = (paths : List (Bor Text)) × ArePaths rows paths × P paths
 
--- why what a subcommand of this name asks for is refused
+-- why what the subcommand that is named asks for is refused
 abbrev pub RefusesAs : (Text → Option Text) → Option (Text × List Row) → Fault → Type 0
-RefusesAs holds None fault = ⊥
-RefusesAs holds (Some (name, rows)) fault =
-    ((name ≡ codes "audit") × OnPaths rows (λ paths. RefusesAudit holds (text_of (codes "policy") rows) paths fault))
-    ⊎ ((name ≡ codes "check") × OnPaths rows (λ paths. RefusesCheck holds paths fault))
-    ⊎ ((name ≡ codes "eval") × OnPaths rows (λ paths. RefusesEval (text_of (codes "input") rows) holds paths fault))
+RefusesAs holds named fault = ByName
+    (λ rows. OnPaths rows (λ paths. RefusesAudit holds (text_of (codes "policy") rows) paths fault))
+    (λ rows. OnPaths rows (λ paths. RefusesCheck holds paths fault))
+    (λ rows. OnPaths rows (λ paths. RefusesEval (text_of (codes "input") rows) holds paths fault))
+    named
 
 -- Why what words that fit the form ask for is refused. Want of memory can come at any time, and help may not be written.
 abbrev pub RefusesAsTold : (Text → Option Text) → List Text → Fault → Type 0

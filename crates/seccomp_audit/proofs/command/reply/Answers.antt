@@ -1,15 +1,15 @@
-use Rattle.std.proofs.Common.{◌≡◌, [], inl, inr, refl}
+use Rattle.std.proofs.Common.{◌≡◌, ◌∙◌, [], inl, inr, refl, sym}
 use Rattle.std.proofs.lemmas.Result.{IfErr-weaker, IfOk-weaker}
 use Rattle.clap.specs.Words.{HasKind, Kinds}
-use Rattle.seccomp_audit.proofs.CommandLineLemmas.{helps, refuses_told, runs_told, some_error, told_errors, told_subcommand}
-use Rattle.seccomp_audit.proofs.SubcommandLemmas.{known_subcommand, known_told}
+use Rattle.seccomp_audit.proofs.CommandLineLemmas.{helps, some_error, told_errors, told_subcommand}
+use Rattle.seccomp_audit.proofs.SubcommandLemmas.{known_subcommand}
 use Rattle.seccomp_audit.proofs.command.reply.Goals as goal
 
 pub returns-in-Ok-clause-done : goal.returns-in-Ok-clause-done
 returns-in-Ok-clause-done g c =
     let fits = told_errors (λ (ks : Kinds). ks ≡ []) _ _ c.in_ok-form.ensures c.in-Ok.ensures.kinds in
     let entered = told_subcommand _ _ c.in-Ok.matches c.in_ok-form.ensures c.in-Ok.ensures.matches in
-    IfOk-weaker c.run.result _ _ (λ s done small. inl (fits, runs_told _ _ _ s _ _ entered (done small))) c.run.ensures.done
+    IfOk-weaker c.run.result _ _ (λ s done small. let (found, named, does) = done small in inl (fits, (found, sym entered ∙ named, does))) c.run.ensures.done
 
 pub returns-in-Err-clause-done : goal.returns-in-Err-clause-done
 returns-in-Err-clause-done g c =
@@ -19,7 +19,7 @@ returns-in-Err-clause-done g c =
 pub returns-in-Ok-clause-usage : goal.returns-in-Ok-clause-usage
 returns-in-Ok-clause-usage g c =
     let entered = told_subcommand _ _ c.in-Ok.matches c.in_ok-form.ensures c.in-Ok.ensures.matches in
-    IfOk-weaker c.run.result _ _ (λ s usage four. ((λ fits. (usage four).0 (known_told _ _ entered (known_subcommand _ fits))), (usage four).1, (usage four).2)) c.run.ensures.usage
+    IfOk-weaker c.run.result _ _ (λ s usage four. ((λ fits. let (found, named, known) = known_subcommand _ fits in (usage four).0 (found, entered ∙ named, known)), (usage four).1, (usage four).2)) c.run.ensures.usage
 
 pub returns-in-Err-clause-usage : goal.returns-in-Err-clause-usage
 returns-in-Err-clause-usage g c =
@@ -30,4 +30,4 @@ pub returns-in-Ok-clause-refused : goal.returns-in-Ok-clause-refused
 returns-in-Ok-clause-refused g c =
     let fits = told_errors (λ (ks : Kinds). ks ≡ []) _ _ c.in_ok-form.ensures c.in-Ok.ensures.kinds in
     let entered = told_subcommand _ _ c.in-Ok.matches c.in_ok-form.ensures c.in-Ok.ensures.matches in
-    IfErr-weaker c.run.result _ _ (λ e why. inr (inr (fits, refuses_told (g.F.Files.holds c.args.files.now) _ _ e entered why))) c.run.ensures.refused
+    IfErr-weaker c.run.result _ _ (λ e why. let (found, named, refuses) = why in inr (inr (fits, (found, sym entered ∙ named, refuses)))) c.run.ensures.refused
