@@ -11,11 +11,12 @@ use Rattle.sf_insn.specs.Spelling.{spelling, AreInsns}
 use Rattle.sf_check.specs.declared.insn.Insn.{Insn}
 use Rattle.sf_check.specs.declared.fault.Fault.{Fault as CheckFault}
 use Rattle.sf_check.specs.declared.fault.Fault.TheVariants as check
+use Rattle.sf_check.specs.Programs.{SpellsProgram}
 use Rattle.sf_check.specs.Refusals.{IsFirstFault}
 use Rattle.sf_audit.specs.declared.fault.Fault.{Fault}
 use Rattle.sf_audit.specs.declared.fault.Fault.TheVariants as faults
 use Rattle.sf_audit.specs.FaultPlaces.{decode_fault, check_fault}
-use Rattle.sf_audit.specs.Filters.{SpellsProgram, SpellPrograms, IsRefusalOf, AreFew, SpellLongPath, IsFileRefusal, IsFirstRefusal}
+use Rattle.sf_audit.specs.Filters.{SpellPrograms, IsRefusalOf, AreFew, SpellLongPath, IsFileRefusal, IsFirstRefusal}
 
 pub undecodable_due : (number : ℕ) (bytes : List ℕ) (e : DecodeFault)
     → (e ≡ decode.Ragged → length bytes % 8 ≢ 0)

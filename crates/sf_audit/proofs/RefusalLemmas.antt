@@ -7,19 +7,19 @@ use Rattle.sf_insn.specs.Spelling.{insn_bytes, spelling, AreInsns}
 use Rattle.sf_check.specs.declared.insn.Insn.{Insn}
 use Rattle.sf_check.specs.declared.fault.Fault.{Fault as CheckFault}
 use Rattle.sf_check.specs.Codes.{insn_of}
-use Rattle.sf_check.specs.Programs.{IsLawful, Spells}
+use Rattle.sf_check.specs.Programs.{IsLawful, Spells, SpellsProgram}
 use Rattle.sf_check.specs.Refusals.{IsFirstFault}
 use Rattle.sf_check.specs.Stacks.{path_length}
 use Rattle.sf_audit.specs.declared.fault.Fault.{Fault}
 use Rattle.sf_audit.specs.declared.fault.Fault.TheVariants as faults
-use Rattle.sf_audit.specs.Filters.{SpellsProgram, SpellPrograms, SpellStack, SpellsFault, IsRefusalOf, IsFileRefusal, IsFirstRefusal}
+use Rattle.sf_audit.specs.Filters.{SpellPrograms, SpellStack, SpellsFault, IsRefusalOf, IsFileRefusal, IsFirstRefusal}
 use Rattle.sf_audit.proofs.FilterLemmas.{as_many}
 
 abbrev pub OneSpelling : Type 0
 OneSpelling = (a b : List RawInsn) → AreInsns a → AreInsns b → spelling a ≡ spelling b → a ≡ b
 
 abbrev pub OneProgram : Type 0
-OneProgram = (raws : List RawInsn) (a b : List Insn) → Spells raws a → Spells raws b → a ≡ b
+OneProgram = (bytes : List ℕ) (a b : List Insn) → SpellsProgram bytes a → SpellsProgram bytes b → a ≡ b
 
 abbrev pub FaultsAreNot : Type 0
 FaultsAreNot = (raws : List RawInsn) (e : CheckFault) (code : List Insn) → IsFirstFault raws e → Spells raws code → IsLawful code → ⊥
@@ -27,19 +27,13 @@ FaultsAreNot = (raws : List RawInsn) (e : CheckFault) (code : List Insn) → IsF
 abbrev pub OneStack : Type 0
 OneStack = (files : List (List ℕ)) (a b : List (List Insn)) → SpellPrograms files a → SpellPrograms files b → a ≡ b
 
-same_program : OneSpelling → OneProgram → (bytes : List ℕ) (a b : List Insn) → SpellsProgram bytes a → SpellsProgram bytes b → a ≡ b
-same_program spelling program bytes a b p q =
-    let raws = spelling p.raws q.raws p.fields q.fields (sym p.spelled ∙ q.spelled) in
-    program q.raws a b (rw raws at p.read) q.read
-
-pub same_programs : OneSpelling → OneProgram → OneStack
-same_programs spelling program [] [] [] p q = refl
-same_programs spelling program (f ∷ files) (x ∷ a) (y ∷ b) p q =
-    rw (same_program spelling program f x y p.0 q.0, same_programs spelling program files a b p.1 q.1) refl
-same_programs spelling program [] (x ∷ a) b p q = absurd p
-same_programs spelling program [] [] (y ∷ b) p q = absurd q
-same_programs spelling program (f ∷ files) [] b p q = absurd p
-same_programs spelling program (f ∷ files) (x ∷ a) [] p q = absurd q
+pub same_programs : OneProgram → OneStack
+same_programs one [] [] [] p q = refl
+same_programs one (f ∷ files) (x ∷ a) (y ∷ b) p q = rw (one f x y p.0 q.0, same_programs one files a b p.1 q.1) refl
+same_programs one [] (x ∷ a) b p q = absurd p
+same_programs one [] [] (y ∷ b) p q = absurd q
+same_programs one (f ∷ files) [] b p q = absurd p
+same_programs one (f ∷ files) (x ∷ a) [] p q = absurd q
 
 pub length_spelling : (raws : List RawInsn) → length (spelling raws) ≡ 8 * length raws
 length_spelling [] = refl

@@ -5,19 +5,11 @@ use Rattle.sf_insn.specs.Spelling.{spelling, AreInsns}
 use Rattle.sf_check.specs.declared.insn.Insn.{Insn}
 use Rattle.sf_check.specs.declared.fault.Fault.{Fault as CheckFault}
 use Rattle.sf_check.specs.declared.fault.Fault.TheVariants as check
-use Rattle.sf_check.specs.Programs.{IsLawful, Spells}
+use Rattle.sf_check.specs.Programs.{SpellsProgram}
 use Rattle.sf_check.specs.Refusals.{IsFirstFault}
 use Rattle.sf_check.specs.Stacks.{path_length, IsLawfulStack}
 use Rattle.sf_audit.specs.declared.fault.Fault.{Fault}
 use Rattle.sf_audit.specs.declared.fault.Fault.TheVariants as faults
-
--- the bytes of a filter file spell a lawful program
-pub record SpellsProgram (bytes : List ℕ) (program : List Insn) : Type 0 where
-  pub raws : List RawInsn
-  pub fields : AreInsns raws
-  pub spelled : bytes ≡ spelling raws
-  pub read : Spells raws program
-  pub lawful : IsLawful program
 
 -- files spell lawful programs, each file one
 abbrev pub SpellPrograms : List (List ℕ) → List (List Insn) → Type 0

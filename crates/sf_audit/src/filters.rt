@@ -2,7 +2,8 @@
 
 ghost use Rattle.std.specs.Prelude.{◌≡◌, ◌⊎◌, ◌≤◌, length, map, IfOk, IfErr};
 ghost use Rattle.sf_audit.specs.FaultPlaces.{decode_fault, check_fault};
-ghost use Rattle.sf_audit.specs.Filters.{SpellsProgram, SpellPrograms, SpellStack, IsRefusalOf, IsFileRefusal, IsFirstRefusal};
+ghost use Rattle.sf_check.specs.Programs.{SpellsProgram};
+ghost use Rattle.sf_audit.specs.Filters.{SpellPrograms, SpellStack, IsRefusalOf, IsFileRefusal, IsFirstRefusal};
 
 use crate::fault::Fault;
 use sf_check::{Program, Stack, check};

@@ -5,7 +5,7 @@ ghost use Rattle.sf_check.specs.declared.insn.Insn.{Insn};
 ghost use Rattle.sf_audit.specs.declared.fault.Fault.{Fault};
 ghost use Rattle.sf_audit.specs.Filters.{SpellPrograms, SpellStack, IsFirstRefusal};
 
-use sf_check::laws::{a_fault_spells_no_lawful_program, one_first_fault, one_program};
+use sf_check::laws::{a_fault_spells_no_lawful_program, one_first_fault, one_program_of_a_file};
 use sf_insn::laws::one_spelling;
 
 /// Filter files spell at most one list of lawful programs.
@@ -13,8 +13,7 @@ pub fn one_stack()
     ensures { (files : List (List ℕ)) (a b : List (List Insn)) →
         SpellPrograms files a → SpellPrograms files b → a ≡ b }
 {
-    one_spelling();
-    one_program();
+    one_program_of_a_file();
 }
 
 /// Filter files with a first refusal spell no lawful stack, so `stack_of` accepts exactly those that spell one.

@@ -91,7 +91,13 @@ invariant_of-result c =
     let ends : EndsInReturn code = subst EndsInReturn c.deref.ensures.value (c.ends_in_return.ensures.0 c.if-not-ends_in_return.false) in
     let none : (at : ℕ) → IsSetAt c.deref-2.result.now at = rw c.in_default.is at c.in_ok-place.ensures.none in
     let set : (at : ℕ) → IsSetAt code at = subst (λ (p : List Insn). (at : ℕ) → IsSetAt p at) c.deref-2.ensures.value none in
-    lawful raws code place c.loop-place.invariant (omega arith) (omega arith) some (omega arith) ends set
+    record {
+      raws = raws;
+      fields = c.in_ok-file_of.ensures.fields;
+      spelled = c.in_ok-file_of.ensures.spelled;
+      read = all_spelled raws code place c.loop-place.invariant (omega arith) (omega arith);
+      lawful = lawful raws code place c.loop-place.invariant (omega arith) (omega arith) some (omega arith) ends set;
+    }
 
 pub returns-clause-accepted : goal.returns-clause-accepted
 returns-clause-accepted c =
