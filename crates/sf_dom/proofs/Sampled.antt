@@ -16,7 +16,7 @@ use Rattle.sf_dom.specs.declared.known.Known.{Known}
 use Rattle.sf_dom.specs.Known.{Admits, Leaves, IsSettled, IsDecided, IsNarrower}
 use Rattle.sf_dom.specs.Facts.{FactsView, known_at, numbers_at, excluded_of, AgreesWith, AreFacts, Covers, KeepsOnly, NoInput, SomeInput, IsPlain, IsPlainTest, IsWordOrConst}
 use Rattle.sf_dom.specs.FactsLaws.{sampled, words-agree, value-word, decided-admits}
-use Rattle.sf_dom.specs.Rules.{IsPassed, AllNarrower, IsGrown, IsSettle, AreBothExcluded, IsSharp, Gives, Holds}
+use Rattle.sf_dom.specs.Rules.{IsPassed, AllNarrower, IsGrown, NoneAgreesWith, IsSettle, AreBothExcluded, IsSharp, Gives, Holds}
 use Rattle.sf_dom.proofs.Gives.{differs-gives}
 use Rattle.sf_dom.proofs.Passes.{AreDecidedOperands-same, operands-below, word-below}
 
@@ -74,21 +74,35 @@ pub node-older : (before ns : List Node) (i : ℕ) → Extends before ns → i <
 node-older before ns i more l = ap (λ xs. node_at xs i) more.1 ∙ get_or_append_left before more.0 (Const 0) i l
 
 -- an input agrees on a pool where it agrees on the beginning that the facts speak of
-pub agrees-before : (ks : List Known) (ex : List (List ℕ)) (before ns : List Node) (d : Input) → length ks ≡ length before → Extends before ns → AgreesWith ks ex ns d → AgreesWith ks ex before d
+agrees-before : (ks : List Known) (ex : List (List ℕ)) (before ns : List Node) (d : Input) → length ks ≡ length before → Extends before ns → AgreesWith ks ex ns d → AgreesWith ks ex before d
 agrees-before ks ex before ns d len more a i l =
     let value : value_of ns d i ≡ value_of before d i = ap (λ xs. value_of xs d i) more.1 ∙ value-older before more.0 d i (omega arith) in
     rw (node-older before ns i more (omega arith), value) at (a i l)
 
-pub agrees-after : (ks : List Known) (ex : List (List ℕ)) (before ns : List Node) (d : Input) → length ks ≡ length before → Extends before ns → AgreesWith ks ex before d → AgreesWith ks ex ns d
+agrees-after : (ks : List Known) (ex : List (List ℕ)) (before ns : List Node) (d : Input) → length ks ≡ length before → Extends before ns → AgreesWith ks ex before d → AgreesWith ks ex ns d
 agrees-after ks ex before ns d len more a i l =
     let value : value_of ns d i ≡ value_of before d i = ap (λ xs. value_of xs d i) more.1 ∙ value-older before more.0 d i (omega arith) in
     rw (node-older before ns i more (omega arith), value) (a i l)
 
 -- what agrees after growth agreed before
-pub agrees-kept : (old new : List Known) (ex : List (List ℕ)) (ns : List Node) (d : Input) → take (length old) new ≡ old → length old ≤ length new → AgreesWith new ex ns d → AgreesWith old ex ns d
+agrees-kept : (old new : List Known) (ex : List (List ℕ)) (ns : List Node) (d : Input) → take (length old) new ≡ old → length old ≤ length new → AgreesWith new ex ns d → AgreesWith old ex ns d
 agrees-kept old new ex ns d kept le a i l =
     let same : known_at old i ≡ known_at new i = ap (λ xs. known_at xs i) (sym kept) ∙ get_or-take (length old) new i (record { low = 0; high = 0; zeros = 0; ones = 0 }) l in
     rw same (a i (omega arith))
+
+-- Growth over a longer pool takes in the inputs that agreed on its beginning, and no others; where no input agrees on
+-- the longer pool, none did on its beginning.
+module _ (old : List Known) (ex : List (List ℕ)) (before ns : List Node) (count : length old ≡ length before) (more : Extends before ns) where
+  pub grown-takes_in : (new : List Known) → IsGrown old new ex ns → (d : Input) → IsInput d → AgreesWith old ex before d → AgreesWith new ex ns d
+  grown-takes_in new g d p a = g.keeps d p (agrees-after old ex before ns d count more a)
+
+  pub grown-took_in : (new : List Known) → IsGrown old new ex ns → length old ≤ length ns → (d : Input) → AgreesWith new ex ns d → AgreesWith old ex before d
+  grown-took_in new g le d a =
+      let covers = g.covers in
+      agrees-before old ex before ns d count more (agrees-kept old new ex ns d g.kept (omega arith) a)
+
+  pub none-agreed : NoneAgreesWith old ex ns → (d : Input) → IsInput d → ¬ AgreesWith old ex before d
+  none-agreed none d p a = none d p (agrees-after old ex before ns d count more a)
 
 -- what is known after growth, where something was before
 pub grown-facts : (old new : List Known) (ex : List (List ℕ)) (ns : List Node) → IsPool ns → AreFacts (record { known = old; excluded = ex })

@@ -1,6 +1,6 @@
 //! A forward pass: what is known of each node, met with what follows from its operands.
 
-ghost use Rattle.std.specs.Prelude.{◌≡◌, ℕ, ◌+◌, ◌-◌, ◌*◌, ◌/◌, ◌%◌, ◌<◌, ◌≤◌, ◌↔◌, ◌⊎◌, ◌^◌, List, [], ◌∷◌, ◌++◌, length, slice_index, MatchBool, MatchOption, true, false, bit_or, max, min, IfOk, IsTrue, take};
+ghost use Rattle.std.specs.Prelude.{◌≡◌, ℕ, ◌+◌, ◌-◌, ◌*◌, ◌/◌, ◌%◌, ◌<◌, ◌≤◌, ◌↔◌, ◌⊎◌, ◌^◌, List, [], ◌∷◌, ◌++◌, length, slice_index, MatchBool, MatchOption, true, false, bit_or, max, min, IfOk, OnErr, IsTrue, Ok, take};
 ghost use Rattle.sf_insn.specs.Inputs.{IsInput};
 ghost use Rattle.sf_sym.specs.Pool.{OperandsBelow, IsPool, node_at, node_value, value_of};
 ghost use Rattle.sf_insn.specs.declared.input.Input.{Input};
@@ -79,14 +79,17 @@ pub fn pass(nodes: &mut Nodes, excluded: &[Exclusions], pool: &Pool) -> bool
     true
 }
 
-/// Takes in the nodes of a pool that are new. False: no input agrees.
+/// Takes in the nodes of a pool that are new. False: no input agrees. A single new node that isn't taken in, for that
+/// or for want of memory, leaves what is known as it was.
 pub fn append(nodes: &mut Nodes, excluded: &[Exclusions], pool: &Pool) -> Result<bool, Fault>
     requires covers { length nodes.old.known ≤ length pool.now }
     requires words { length excluded.now ≡ 16 }
     requires none { (16 ≤ length nodes.old.known) ⊎ ((w : ℕ) → numbers_at excluded.now w ≡ []) }
-    ensures { IfOk result (λ b. MatchBool b
+    ensures grown { IfOk result (λ b. MatchBool b
         (IsGrown nodes.old.known nodes.new.known excluded.now pool.now)
         (NoneAgreesWith nodes.old.known excluded.now pool.now)) }
+    ensures false_unchanged { length pool.now ≤ length nodes.old.known + 1 → result ≡ Ok false → nodes.new ≡ nodes.old }
+    ensures err { length pool.now ≤ length nodes.old.known + 1 → OnErr result (nodes.new ≡ nodes.old) }
 {
     for i in nodes.len()..pool.len() {
         let node = pool.node(NodeId(i));

@@ -1,4 +1,4 @@
-use Rattle.std.proofs.Common.{◌≡◌, length, arith, ◌∷◌, [], ◌∙◌, sym, ap, inl, inr}
+use Rattle.std.proofs.Common.{◌≡◌, length, arith, ◌∷◌, [], ◌∙◌, refl, sym, ap, inl, inr}
 use Rattle.std.proofs.lemmas.Bool.{cases_lt}
 use Rattle.std.proofs.lemmas.List.{length_push, take-append-le, take_all, get_or-take}
 use Rattle.sf_sym.specs.Pool.{values_of, value_of}
@@ -12,12 +12,13 @@ loop-i-init c = record {
   count = omega arith;
   kept = take_all (length c.args.nodes.now.known) c.args.nodes.now.known (omega arith);
   longer = omega arith;
+  untouched = λ same. refl;
   keeps = λ d p a. a;
   passed = λ s k a b. absurd (omega arith);
 }
 
-pub returns-in-None : goal.returns-in-None
-returns-in-None c = λ d p a.
+pub returns-in-None-clause-grown : goal.returns-in-None-clause-grown
+returns-in-None-clause-grown c = λ d p a.
     let ks = c.loop-i.nodes.known in
     let ns = c.args.pool.now in
     let ex = c.args.excluded.now in
@@ -47,6 +48,7 @@ loop-i-preserved c =
       count = omega (arith, length_push ks next);
       kept = take-append-le (length old) ks (next ∷ []) longer ∙ inv.kept;
       longer = omega (arith, length_push ks next);
+      untouched = λ same. absurd (omega arith);
       keeps = λ d p a.
           let agrees = inv.keeps d p a in
           let by_rule = rw c.node-node.ensures.node at (c.rule-known.ensures.value d (values_of ns d) p) in
@@ -63,8 +65,8 @@ loop-i-preserved c =
           (rw c.node-node.ensures.node at c.rule-known.ensures.constant) t;
     })
 
-pub returns : goal.returns
-returns c =
+pub returns-clause-grown : goal.returns-clause-grown
+returns-clause-grown c =
     let inv = c.loop-i.invariant in
     let count = inv.count in
     let l : length c.args.pool.now ≡ c.loop-i.i = omega arith in
