@@ -1,15 +1,17 @@
 -- Pieces stay lawful: the symbolic run stands where it should, and on a plain stack nothing is lost.
-use Rattle.std.proofs.Common.{◌≡◌, ℕ, zero, suc, ◌^◌, ◌<◌, Bool, List, [], ◌∷◌, ◌++◌, length, replicate, refl, arith}
+use Rattle.std.proofs.Common.{◌≡◌, ℕ, zero, suc, ◌^◌, ◌<◌, Bool, List, [], ◌∷◌, ◌++◌, length, replicate, refl, sym, arith}
 use Rattle.std.specs.Prelude.{slice_index, Option, Some, None, IfSome, MatchOption}
 use Rattle.std.proofs.lemmas.List.Elements.{All-nil}
 use Rattle.sf_insn.specs.declared.input.Input.{Input}
 use Rattle.sf_insn.specs.Inputs.{IsInput}
+use Rattle.sf_insn.specs.Words.{passes}
 use Rattle.sf_check.specs.declared.insn.Insn.{Insn}
 use Rattle.sf_check.specs.Stacks.{IsLawfulStack, IsPlain}
 use Rattle.sf_sym.specs.declared.pool.Node.{Node}
 use Rattle.sf_sym.specs.declared.pool.NodeId.{NodeId}
 use Rattle.sf_sym.specs.declared.pool.Cond.{Cond}
 use Rattle.sf_sym.specs.Pool.{IsPool, ArePlainNodes, value_of, is_met}
+use Rattle.sf_sym.specs.ValueLaws.{passes-met}
 use Rattle.sf_dom.specs.Facts.{FactsView, Covers, Agrees, KeepsInputs, KeepsOnly, NoInput, TakesIn}
 use Rattle.sf_dom.specs.Facts.{IsPlain as IsPlainCond}
 use Rattle.sf_piece.specs.declared.machine.Machine.{Machine}
@@ -39,6 +41,15 @@ lawful_taken p i cond b m h s e imp after = lawful (taken_on p b m) (take_piece 
 pub lawful_child : (p : PieceData) (i : Insn) (cond : Cond) (b : Bool) (m : Machine) (fs : FactsView) → IsLawfulPiece p → Standing p i → IsEntry p i cond → AreChildFacts p cond b fs → AfterEntry p i b m → IsLawfulPiece (child_of p cond b m fs)
 lawful_child p i cond b m fs h s e facts after =
     lawful (child_of p cond b m fs) (child_piece p i cond b m fs h.run s e facts after) (λ is. plain_child p cond b m fs (h.plain is) (e.plain is) facts (facts.plain is))
+
+-- where two words have one number each on every member, every member has the entry as their test says
+pub implied_by_numbers : (p : PieceData) (cond : Cond) (m n : ℕ) (b : Bool) → IsPiece p
+    → ((d : Input) → IsInput d → Agrees p.facts p.pool d → value_of p.pool d cond.node.0 ≡ m)
+    → ((d : Input) → IsInput d → Agrees p.facts p.pool d → value_of p.pool d cond.other.0 ≡ n)
+    → b ≡ passes cond.test m n → IsImplied p cond b
+implied_by_numbers p cond m n b h left right is d inp member =
+    let known = h.known d inp member in
+    passes-met p.pool d (sensed cond b) (rw (left d inp known, right d inp known) (sym is))
 
 -- what is learnt from the piece's facts
 pub learnt_child : (p : PieceData) (cond : Cond) (b : Bool) (o : Option FactsView) → IsPiece p → (IsPlain p.stack → IsPlainCond p.pool cond) → IfSome o (λ fs. Covers fs p.pool)

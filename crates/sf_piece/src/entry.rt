@@ -1,6 +1,6 @@
 //! A truth value of the trace, taken as true, as false or as both.
 
-ghost use Rattle.std.specs.Prelude.{◌≡◌, IfOk, length, MatchOption};
+ghost use Rattle.std.specs.Prelude.{◌≡◌, IfOk, IfSome, length, MatchOption};
 ghost use Rattle.std.specs.Arc.{arc_value};
 ghost use Rattle.sf_check.specs.Stacks.{IsPlain};
 ghost use Rattle.sf_sym.specs.Pool.{IsCondBelow};
@@ -132,12 +132,30 @@ fn learnt(alloc: Global, piece: &Piece, cond: Cond, sense: bool) -> Result<Optio
     Ok(learnt)
 }
 
-/// Learns the truth value as false and as true, each from the same facts.
+/// The truth value, where each of the two words has one number on every member.
+fn decided(piece: &Piece, cond: Cond) -> Option<bool>
+    requires { IsCondBelow (length piece.now.pool) cond }
+    ensures { IfSome result (IsImplied piece.now cond) }
+{
+    let Some(left) = piece.facts.decided(&piece.pool, cond.node) else {
+        return None;
+    };
+    let Some(right) = piece.facts.decided(&piece.pool, cond.other) else {
+        return None;
+    };
+    Some(cond.test.passes(left, right))
+}
+
+/// Learns the truth value as false and as true, each from the same facts. Where these leave one number for each of its
+/// words, there is nothing to learn.
 fn decide(alloc: Global, piece: Piece, insn: Insn, cond: Cond) -> Result<Turn, Fault>
     requires standing { Standing piece insn }
     requires entry { IsEntry piece insn cond }
     ensures { IfOk result (IsTurn piece) }
 {
+    if let Some(sense) = decided(&piece, cond) {
+        return Ok(Turn::On(take(piece, insn, cond, sense)?));
+    }
     let on_false = learnt(alloc, &piece, cond, false)?;
     let on_true = learnt(alloc, &piece, cond, true)?;
     match (on_false, on_true) {
