@@ -15,6 +15,7 @@ use crate::forward::{forward, full, negated};
 use crate::known::{Known, number, tighten, tighten_word};
 use crate::nodes::Nodes;
 use sf_sym::{Node, NodeId, Pool};
+use std::alloc::Global;
 
 /// What is known of a node, tightened, or none where no number is left.
 pub fn tightened(known: Known, node: Node, excluded: &[Exclusions]) -> Option<Known>
@@ -99,5 +100,28 @@ pub fn append(nodes: &mut Nodes, excluded: &[Exclusions], pool: &Pool) -> Result
             Some(next) => nodes.push(next)?,
         }
     }
+    Ok(true)
+}
+
+/// Takes in the nodes of a pool that are new. False: no input agrees. Where they aren't taken in, for that or for want of
+/// memory, what is known is as it was: a copy to go back to is made only where several came at once.
+pub fn extend(alloc: Global, nodes: &mut Nodes, excluded: &[Exclusions], pool: &Pool) -> Result<bool, Fault>
+    requires covers { length nodes.old.known ≤ length pool.now }
+    requires words { length excluded.now ≡ 16 }
+    requires none { (16 ≤ length nodes.old.known) ⊎ ((w : ℕ) → numbers_at excluded.now w ≡ []) }
+    ensures grown { IfOk result (λ b. MatchBool b
+        (IsGrown nodes.old.known nodes.new.known excluded.now pool.now)
+        (NoneAgreesWith nodes.old.known excluded.now pool.now)) }
+    ensures false_unchanged { result ≡ Ok false → nodes.new ≡ nodes.old }
+    ensures err { OnErr result (nodes.new ≡ nodes.old) }
+{
+    if pool.len() - nodes.len() <= 1 {
+        return append(nodes, excluded, pool);
+    }
+    let mut next = nodes.fork(alloc)?;
+    if !append(&mut next, excluded, pool)? {
+        return Ok(false);
+    }
+    *nodes = next;
     Ok(true)
 }
