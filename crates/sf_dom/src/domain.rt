@@ -105,7 +105,12 @@ pub fn append(nodes: &mut Nodes, excluded: &[Exclusions], pool: &Pool) -> Result
 
 /// Takes in the nodes of a pool that are new. False: no input agrees. Where they aren't taken in, for that or for want of
 /// memory, what is known is as it was: a copy to go back to is made only where several came at once.
-pub fn extend(alloc: Global, nodes: &mut Nodes, excluded: &[Exclusions], pool: &Pool) -> Result<bool, Fault>
+pub fn extend(
+    alloc: Global,
+    nodes: &mut Nodes,
+    excluded: &[Exclusions],
+    pool: &Pool,
+) -> Result<bool, Fault>
     requires covers { length nodes.old.known ≤ length pool.now }
     requires words { length excluded.now ≡ 16 }
     requires none { (16 ≤ length nodes.old.known) ⊎ ((w : ℕ) → numbers_at excluded.now w ≡ []) }
