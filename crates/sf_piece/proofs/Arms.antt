@@ -1,6 +1,7 @@
 -- The instructions that meet nothing, one by one.
 use Rattle.std.proofs.Common.{◌≡◌, ℕ, zero, suc, ◌+◌, ◌<◌, List, [], ◌∷◌, length, map, Option, Some, slice_get, refl, sym, ap, subst, ◌∙◌, inl, inr}
 use Rattle.std.specs.Prelude.{option_map, slice_set}
+use Rattle.std.proofs.lemmas.List.{length-map}
 use Rattle.std.proofs.lemmas.Option.{same_Some}
 use Rattle.sf_insn.specs.declared.input.Input.{Input}
 use Rattle.sf_insn.specs.Words.{apply}
@@ -15,7 +16,8 @@ use Rattle.sf_sym.specs.Pool.{value_of, values_of, node_value}
 use Rattle.sf_piece.specs.declared.machine.Machine.{Machine}
 use Rattle.sf_piece.specs.Pieces.{PieceData}
 use Rattle.sf_piece.specs.SymbolicRun.{valued, AreNodesBelow}
-use Rattle.sf_piece.specs.Works.{Goes, GoesBy, SetsA, SetsX, IsPushed}
+use Rattle.sf_piece.specs.Works.{Goes, GoesBy, SetsA, SetsX, IsPushed, Standing}
+use Rattle.sf_piece.proofs.Kept.{some_input}
 
 abbrev on_a : Machine → NodeId → Machine
 on_a m id = record m { a = id; place = m.place + 1; taken = 0; value = 0 }
@@ -67,6 +69,10 @@ set_x_goes p i k q id h sets = subst (λ (r : PieceData). Goes r i (on_x r.machi
         ∙ ap (λ (n : ℕ). record (valued p.pool p.machine d) { place = p.machine.place + 1; x = n }) e
 
 -- ---- moves
+
+pub sixteen_scratch_words : (p : PieceData) (i : Insn) → Standing p i → length p.machine.scratch ≡ 16
+sixteen_scratch_words p i s =
+    sym (length-map p.machine.scratch (option_map (λ (n : NodeId). value_of p.pool some_input n.0))) ∙ (s.stands.inside.safe some_input).sixteen
 
 map_at : (f : NodeId → ℕ) (ws : List (Option NodeId)) (k : ℕ) (w : NodeId) → slice_get ws k ≡ Some (Some w) → slice_get (map (option_map f) ws) k ≡ Some (Some (f w))
 map_at f [] k w e = absurd cc

@@ -14,7 +14,7 @@ use Rattle.sf_sym.specs.ValueLaws.{value-older}
 use Rattle.sf_dom.specs.Facts.{FactsView, Covers, TakesIn, NoneAgrees}
 use Rattle.sf_piece.specs.declared.machine.Machine.{Machine}
 use Rattle.sf_piece.specs.Pieces.{PieceData, is_member, HasNoMember}
-use Rattle.sf_piece.specs.SymbolicRun.{valued, InProgram, HasTaken, RunsOn, AreNodesBelow, StandsAt, IsPiece}
+use Rattle.sf_piece.specs.SymbolicRun.{valued, InProgram, HasTaken, RunsOn, AreNodesBelow, StandsAt, IsPiece, IsLawfulPiece}
 use Rattle.sf_piece.specs.Works.{HasGrown, IsPushed}
 use Rattle.sf_piece.proofs.Valued.{valued_grown, all_grown}
 
@@ -99,8 +99,8 @@ has_grown p added fs h = record {
   nodes = nodes_le (length p.pool) (length (p.pool ++ added)) p.machine (length_le p added) h.nodes;
 }
 
-pub pushed : (p : PieceData) (added : List Node) (fs : FactsView) (node : Node) (id : NodeId) → IsPiece p → id.0 < length (p.pool ++ added) → ((d : Input) → value_of (p.pool ++ added) d id.0 ≡ node_value d (values_of p.pool d) node) → ((c : ℕ) → node ≡ Const c → node_at (p.pool ++ added) id.0 ≡ Const c) → IsPushed p node (grown p added fs) id
-pushed p added fs node id h within value constant = record { grown = has_grown p added fs h; within = within; value = value; constant = constant }
+pub pushed : (p : PieceData) (added : List Node) (fs : FactsView) (node : Node) (id : NodeId) → IsPiece p → IsLawfulPiece (grown p added fs) → id.0 < length (p.pool ++ added) → ((d : Input) → value_of (p.pool ++ added) d id.0 ≡ node_value d (values_of p.pool d) node) → ((c : ℕ) → node ≡ Const c → node_at (p.pool ++ added) id.0 ≡ Const c) → IsPushed p node (grown p added fs) id
+pushed p added fs node id h lawful within value constant = record { grown = has_grown p added fs h; lawful = lawful; within = within; value = value; constant = constant }
 
 bool_false : (b : Bool) → (b ≡ true → ⊥) → b ≡ false
 bool_false true h = absurd (h refl)

@@ -1,10 +1,11 @@
 -- The parts of a step of the symbolic run: what the functions that work a piece tell each other. Nothing above this crate
 -- speaks of these.
-use Rattle.std.specs.Prelude.{◌≡◌, ℕ, ◌+◌, ◌-◌, ◌*◌, ◌&&◌, ◌<◌, ◌≤◌, ◌^◌, ◌⊎◌, Bool, true, false, List, [], ◌∷◌, ◌++◌, length, Some, slice_get, if◌then◌else◌, ◌==◌}
+use Rattle.std.specs.Prelude.{◌≡◌, ℕ, ◌+◌, ◌-◌, ◌*◌, ◌&&◌, not, ◌<◌, ◌≤◌, ◌^◌, ◌⊎◌, Bool, true, false, List, [], ◌∷◌, ◌++◌, length, Option, Some, None, slice_get, if◌then◌else◌, ◌==◌}
 use Rattle.sf_insn.specs.declared.input.Input.{Input}
 use Rattle.sf_insn.specs.Inputs.{IsInput}
 use Rattle.sf_insn.specs.declared.ops.BinOp.{BinOp}
-use Rattle.sf_insn.specs.declared.ops.BinOp.TheVariants.{Div}
+use Rattle.sf_insn.specs.declared.ops.BinOp.TheVariants.{Div, And, Or, Xor}
+use Rattle.sf_insn.specs.declared.ops.Test.{Test}
 use Rattle.sf_check.specs.declared.insn.Insn.{Insn}
 use Rattle.sf_check.specs.declared.insn.Insn.TheVariants.{LoadScratch, LoadXScratch, StoreA, StoreX, Alu, Jump, Branch, ReturnConstant, ReturnA, Tax, Txa}
 use Rattle.sf_check.specs.declared.insn.Operand.{Operand}
@@ -15,17 +16,17 @@ use Rattle.sf_check.specs.Stacks.{IsLawfulStack, IsPlain}
 use Rattle.sf_run.specs.Machine.{Progress, goes, operand_of, with_a, with_x, executed}
 use Rattle.sf_sym.specs.declared.pool.Node.{Node}
 use Rattle.sf_sym.specs.declared.pool.NodeId.{NodeId}
-use Rattle.sf_sym.specs.declared.pool.Node.TheVariants.{Const}
-use Rattle.sf_sym.specs.Pool.{node_at, value_of, values_of, node_value, is_met, IsCondBelow}
+use Rattle.sf_sym.specs.declared.pool.Node.TheVariants.{Const, Bin}
+use Rattle.sf_sym.specs.Pool.{node_at, number_of, value_of, values_of, node_value, is_met, IsCondBelow}
 use Rattle.sf_sym.specs.declared.pool.Cond.{Cond}
-use Rattle.sf_insn.specs.Words.{apply}
-use Rattle.sf_dom.specs.Facts.{FactsView, Covers, Agrees, KeepsOnly}
+use Rattle.sf_insn.specs.Words.{apply, passes}
+use Rattle.sf_dom.specs.Facts.{FactsView, Covers, Agrees, KeepsOnly, known_at}
 use Rattle.sf_dom.specs.Facts.{IsPlain as IsPlainCond}
 use Rattle.sf_piece.specs.declared.machine.Machine.{Machine}
 use Rattle.sf_piece.specs.Machines.{returned}
 use Rattle.sf_piece.specs.Pieces.{PieceData, is_member, IsTrulyNamed}
 use Rattle.sf_piece.specs.PlainPieces.{IsPlainPiece}
-use Rattle.sf_piece.specs.SymbolicRun.{AreNodesBelow, StandsAt, met_of, valued}
+use Rattle.sf_piece.specs.SymbolicRun.{AreNodesBelow, IsLawfulPiece, StandsAt, met_of, valued}
 
 -- what is left to do at most
 abbrev pub left : PieceData → ℕ
@@ -71,6 +72,7 @@ pub record HasGrown (p q : PieceData) : Type 0 where
 -- the pool has this node too
 pub record IsPushed (p : PieceData) (node : Node) (q : PieceData) (id : NodeId) : Type 0 where
   pub grown : HasGrown p q
+  pub lawful : IsLawfulPiece q
   pub within : id.0 < length q.pool
   pub value : (d : Input) → value_of q.pool d id.0 ≡ node_value d (values_of p.pool d) node
   pub constant : (c : ℕ) → node ≡ Const c → node_at q.pool id.0 ≡ Const c
@@ -78,6 +80,7 @@ pub record IsPushed (p : PieceData) (node : Node) (q : PieceData) (id : NodeId) 
 -- the second word of an operation or a test has a node
 pub record IsOperand (p : PieceData) (other : Operand) (q : PieceData) (id : NodeId) : Type 0 where
   pub grown : HasGrown p q
+  pub lawful : IsLawfulPiece q
   pub within : id.0 < length q.pool
   pub value : (d : Input) → value_of q.pool d id.0 ≡ operand_of (valued p.pool p.machine d) other
   pub constant : (k : ℕ) → other ≡ Constant k → node_at q.pool id.0 ≡ Const k
@@ -160,15 +163,50 @@ IsNever p cond b = (d : Input) → IsInput d → is_member p d ≡ true → is_m
 abbrev pub IsImplied : PieceData → Cond → Bool → Type 0
 IsImplied p cond b = (d : Input) → IsInput d → is_member p d ≡ true → is_met p.pool d (sensed cond b) ≡ true
 
+-- the facts leave one number for a node
+abbrev pub has_one_number : PieceData → NodeId → Bool
+has_one_number p n = (known_at p.facts.known n.0).low == (known_at p.facts.known n.0).high
+
+-- a node has this value on every input that agrees with the facts
+abbrev pub HasOneValue : PieceData → NodeId → ℕ → Type 0
+HasOneValue p node n = (d : Input) → IsInput d → Agrees p.facts p.pool d → value_of p.pool d node.0 ≡ n
+
+-- of two operands, one alone is a constant
+abbrev pub is_one_constant : Option ℕ → Option ℕ → Bool
+is_one_constant (Some x) None = true
+is_one_constant None (Some y) = true
+is_one_constant _ _ = false
+
+-- known bits go back from a node to an operand: it is an AND, an OR or an XOR, and its other operand alone is a constant
+abbrev pub is_walked_back : List Node → Node → Bool
+is_walked_back ns (Bin And a b) = is_one_constant (number_of (node_at ns a.0)) (number_of (node_at ns b.0))
+is_walked_back ns (Bin Or a b) = is_one_constant (number_of (node_at ns a.0)) (number_of (node_at ns b.0))
+is_walked_back ns (Bin Xor a b) = is_one_constant (number_of (node_at ns a.0)) (number_of (node_at ns b.0))
+is_walked_back ns _ = false
+
+-- the number of a node, where the facts leave one and a condition on it would tell nothing of another node
+abbrev pub settled_number_of : PieceData → NodeId → Option ℕ
+settled_number_of p n =
+    if has_one_number p n && not (is_walked_back p.pool (node_at p.pool n.0))
+    then Some (known_at p.facts.known n.0).low
+    else None
+
+-- the truth value of a test of two numbers, where both are there
+abbrev pub passed_by : Test → Option ℕ → Option ℕ → Option Bool
+passed_by test None n = None
+passed_by test (Some m) None = None
+passed_by test (Some m) (Some n) = Some (passes test m n)
+
+-- the entry as numbers tell it: each of the two nodes has one, and no known bits go back from either
+abbrev pub told_by_numbers : PieceData → Cond → Option Bool
+told_by_numbers p cond = passed_by cond.test (settled_number_of p cond.node) (settled_number_of p cond.other)
+
 -- Facts of the members that have the entry so. On a plain stack these are exact: what agrees with them agreed before, and
 -- has the entry so.
 pub record AreChildFacts (p : PieceData) (cond : Cond) (b : Bool) (facts : FactsView) : Type 0 where
   pub covers : Covers facts p.pool
   pub known : (d : Input) → IsInput d → is_member p d ≡ true → is_met p.pool d (sensed cond b) ≡ true → Agrees facts p.pool d
   pub plain : IsPlain p.stack → KeepsOnly p.facts facts p.pool (λ d. is_met p.pool d (sensed cond b))
-
-abbrev pub IsTurned : PieceData → PieceData → Type 0
-IsTurned p q = HasGone p q
 
 -- the members that have the entry so
 pub record IsChild (p : PieceData) (cond : Cond) (b : Bool) (c : PieceData) : Type 0 where

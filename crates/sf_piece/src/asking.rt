@@ -1,12 +1,13 @@
 //! The instructions that may ask for a truth value of the trace.
 
 ghost use Rattle.std.specs.Prelude.{◌≡◌, ℕ, IfOk};
+ghost use Rattle.sf_piece.specs.SymbolicRun.{IsLawfulPiece};
 ghost use Rattle.sf_piece.specs.Works.{Standing, divides_at};
 ghost use Rattle.sf_piece.specs.Turns.{IsMet};
 
 use crate::fault::Fault;
 use crate::nodes::{operand, push};
-use crate::piece::Piece;
+use crate::run::Run;
 use crate::walking::{Met, give_back, set_a};
 use sf_check::{Insn, Operand};
 use sf_insn::{BinOp, Test};
@@ -25,29 +26,29 @@ fn asks_zero(op: BinOp, other: Operand, taken: usize) -> bool
 
 pub(crate) fn alu(
     alloc: Global,
-    piece: Piece,
+    run: &mut Run,
     insn: Insn,
     op: BinOp,
     other: Operand,
 ) -> Result<Met, Fault>
-    requires standing { Standing piece insn }
+    requires lawful { IsLawfulPiece run.old }
+    requires standing { Standing run.old insn }
     requires is { insn ≡ Insn.Alu op other }
-    ensures { IfOk result (IsMet piece) }
+    ensures { IfOk result (IsMet run.old run.new) }
 {
-    let m = piece.machine;
-    if asks_zero(op, other, m.taken) {
+    if asks_zero(op, other, run.machine.taken) {
         let cond = Cond {
-            node: m.x,
+            node: run.machine.x,
             test: Test::Equal,
-            other: m.zero,
+            other: run.machine.zero,
             sense: true,
         };
-        return Ok(Met::Entry(piece, insn, cond));
+        return Ok(Met::Entry(insn, cond));
     }
-    match operand(alloc, piece, other)? {
-        Some((piece, right)) => {
-            let node = Node::Bin(op, piece.machine.a, right);
-            set_a(alloc, piece, insn, node)
+    match operand(alloc, run, other)? {
+        Some(right) => {
+            let node = Node::Bin(op, run.machine.a, right);
+            set_a(alloc, run, insn, node)
         }
         None => Ok(Met::Contradiction),
     }
@@ -55,48 +56,47 @@ pub(crate) fn alu(
 
 pub(crate) fn branch(
     alloc: Global,
-    piece: Piece,
+    run: &mut Run,
     insn: Insn,
     test: Test,
     other: Operand,
 ) -> Result<Met, Fault>
-    requires standing { Standing piece insn }
+    requires lawful { IsLawfulPiece run.old }
+    requires standing { Standing run.old insn }
     requires is { (t : ℕ) × (f : ℕ) × (insn ≡ Insn.Branch test other t f) }
-    ensures { IfOk result (IsMet piece) }
+    ensures { IfOk result (IsMet run.old run.new) }
 {
-    match operand(alloc, piece, other)? {
-        Some((piece, right)) => {
-            let cond = Cond {
-                node: piece.machine.a,
-                test,
-                other: right,
-                sense: true,
-            };
-            Ok(Met::Entry(piece, insn, cond))
-        }
-        None => Ok(Met::Contradiction),
-    }
+    let Some(right) = operand(alloc, run, other)? else {
+        return Ok(Met::Contradiction);
+    };
+    let cond = Cond {
+        node: run.machine.a,
+        test,
+        other: right,
+        sense: true,
+    };
+    Ok(Met::Entry(insn, cond))
 }
 
-pub(crate) fn return_a(alloc: Global, piece: Piece) -> Result<Met, Fault>
-    requires { Standing piece Insn.ReturnA }
-    ensures { IfOk result (IsMet piece) }
+pub(crate) fn return_a(alloc: Global, run: &mut Run) -> Result<Met, Fault>
+    requires lawful { IsLawfulPiece run.old }
+    requires standing { Standing run.old Insn.ReturnA }
+    ensures { IfOk result (IsMet run.old run.new) }
 {
-    let m = piece.machine;
-    if m.taken < 32 {
-        match push(alloc, piece, Node::Const(1 << (31 - m.taken as u32)))? {
-            Some((piece, bit)) => {
-                let cond = Cond {
-                    node: piece.machine.a,
-                    test: Test::AnyBit,
-                    other: bit,
-                    sense: true,
-                };
-                Ok(Met::Entry(piece, Insn::ReturnA, cond))
-            }
-            None => Ok(Met::Contradiction),
-        }
-    } else {
-        Ok(Met::Done(give_back(piece, Insn::ReturnA, m.value)))
+    let taken = run.machine.taken;
+    if taken == 32 {
+        let value = run.machine.value;
+        give_back(run, Insn::ReturnA, value);
+        return Ok(Met::Done);
     }
+    let Some(bit) = push(alloc, run, Node::Const(1 << (31 - taken as u32)))? else {
+        return Ok(Met::Contradiction);
+    };
+    let cond = Cond {
+        node: run.machine.a,
+        test: Test::AnyBit,
+        other: bit,
+        sense: true,
+    };
+    Ok(Met::Entry(Insn::ReturnA, cond))
 }

@@ -1,21 +1,23 @@
 //! A truth value of the trace, taken as true, as false or as both.
 
-ghost use Rattle.std.specs.Prelude.{◌≡◌, IfOk, IfSome, length, MatchOption};
+ghost use Rattle.std.specs.Prelude.{◌≡◌, ◌<◌, IfOk, IfSome, length, MatchOption};
 ghost use Rattle.std.specs.Arc.{arc_value};
 ghost use Rattle.sf_check.specs.Stacks.{IsPlain};
-ghost use Rattle.sf_sym.specs.Pool.{IsCondBelow};
+ghost use Rattle.sf_sym.specs.Pool.{IsCondBelow, node_at};
 ghost use Rattle.sf_dom.specs.Facts.{IsPlain as IsPlainCond};
-ghost use Rattle.sf_piece.specs.Works.{Standing, IsEntry, AfterEntry, IsTurned, IsChild, Asks, IsImplied, AreChildFacts, IsNever};
+ghost use Rattle.sf_piece.specs.SymbolicRun.{IsLawfulPiece};
+ghost use Rattle.sf_piece.specs.Works.{Standing, IsEntry, AfterEntry, IsChild, Asks, IsImplied, AreChildFacts, IsNever, HasOneValue, is_walked_back, settled_number_of, told_by_numbers};
 ghost use Rattle.sf_piece.specs.Turns.{IsTurn};
 
 use crate::fault::Fault;
 use crate::machine::Machine;
 use crate::piece::Piece;
+use crate::run::Run;
 use crate::walking::{Met, step};
 use sf_check::Insn;
 use sf_dom::Facts;
-use sf_run::Answer;
-use sf_sym::{Cond, Pool};
+use sf_insn::BinOp;
+use sf_sym::{Cond, Node, NodeId, Pool, constant_of};
 use std::alloc::Global;
 use std::sync::Arc;
 
@@ -23,22 +25,22 @@ use std::sync::Arc;
 #[derive(Drop)]
 pub(crate) enum Turn {
     /// The run goes on.
-    On(Piece),
+    On,
     /// The facts leave both ways open: the members on which the truth value is false, and those on which it is true.
     Split(Arc<Piece>, Arc<Piece>),
-    /// The last program has returned: the whole name and the answer.
-    Settled(Vec<bool>, Answer),
+    /// The last program has returned: the name is whole, and the answer is that of all programs.
+    Settled,
     /// There is no member.
     Empty,
 }
 
 /// Where the machine stands after the truth value.
-fn after(piece: &Piece, insn: Insn, sense: bool) -> Machine
-    requires standing { Standing piece.now insn }
-    requires asks { Asks piece.now insn }
-    ensures { AfterEntry piece.now insn sense result }
+fn after(run: &Run, insn: Insn, sense: bool) -> Machine
+    requires standing { Standing run.now insn }
+    requires asks { Asks run.now insn }
+    ensures { AfterEntry run.now insn sense result }
 {
-    let m = piece.machine;
+    let m = run.machine;
     match insn {
         Insn::Branch(_, _, on_true, on_false) => {
             let skipped = if sense { on_true } else { on_false };
@@ -63,120 +65,139 @@ fn after(piece: &Piece, insn: Insn, sense: bool) -> Machine
 }
 
 /// The truth value is this on every member: it goes into the name alone, and nothing is learnt from it.
-fn take(piece: Piece, insn: Insn, cond: Cond, sense: bool) -> Result<Piece, Fault>
-    requires standing { Standing piece insn }
-    requires entry { IsEntry piece insn cond }
-    requires implied { IsImplied piece cond sense }
-    ensures { IfOk result (IsTurned piece) }
+fn take(run: &mut Run, insn: Insn, cond: Cond, sense: bool) -> Result<Turn, Fault>
+    requires lawful { IsLawfulPiece run.old }
+    requires standing { Standing run.old insn }
+    requires entry { IsEntry run.old insn cond }
+    requires implied { IsImplied run.old cond sense }
+    ensures { IfOk result (IsTurn run.old run.new) }
 {
     let _cond = cond;
-    let to = after(&piece, insn, sense);
-    let Piece {
-        stack,
-        mut name,
-        pool,
-        conditions,
-        machine: _,
-        facts,
-    } = piece;
-    name.push(sense)?;
-    Ok(Piece {
-        stack,
-        name,
-        pool,
-        conditions,
-        machine: to,
-        facts,
-    })
+    let to = after(run, insn, sense);
+    run.name.push(sense)?;
+    run.machine = to;
+    Ok(Turn::On)
 }
 
 /// The members on which the truth value is this.
 fn child(
     alloc: Global,
-    piece: &Piece,
+    run: &Run,
     insn: Insn,
     cond: Cond,
     sense: bool,
     facts: Facts,
 ) -> Result<Arc<Piece>, Fault>
-    requires standing { Standing piece.now insn }
-    requires entry { IsEntry piece.now insn cond }
-    requires facts { AreChildFacts piece.now cond sense facts }
-    ensures { IfOk result (λ c. IsChild piece.now cond sense (arc_value c)) }
+    requires lawful { IsLawfulPiece run.now }
+    requires standing { Standing run.now insn }
+    requires entry { IsEntry run.now insn cond }
+    requires facts { AreChildFacts run.now cond sense facts }
+    ensures { IfOk result (λ c. IsChild run.now cond sense (arc_value c)) }
 {
-    let to = after(piece, insn, sense);
-    let mut longer = Vec::from_slice(alloc, piece.name.as_slice())?;
+    let to = after(run, insn, sense);
+    let mut longer = Vec::from_slice(alloc, run.name.as_slice())?;
     longer.push(sense)?;
-    let mut conditions = piece.conditions.fork()?;
+    let mut conditions = run.conditions.fork()?;
     conditions.push(Cond { sense, ..cond })?;
-    let child = Piece {
-        stack: Arc::try_clone(&piece.stack)?,
+    let next = Run {
+        stack: Arc::try_clone(&run.stack)?,
         name: longer,
-        pool: piece.pool.fork(alloc)?,
+        pool: run.pool.fork(alloc)?,
         conditions,
         machine: to,
         facts,
     };
-    Ok(Arc::new(alloc, child)?)
+    Ok(Arc::new(alloc, Piece { run: next })?)
 }
 
 /// The piece's facts with the truth value as this, or none where that contradicts them.
-fn learnt(alloc: Global, piece: &Piece, cond: Cond, sense: bool) -> Result<Option<Facts>, Fault>
-    requires below { IsCondBelow (length piece.now.pool) cond }
-    requires plain { IsPlain piece.now.stack → IsPlainCond piece.now.pool cond }
-    ensures { IfOk result (λ o. MatchOption o (IsNever piece.now cond sense) (λ fs. AreChildFacts piece.now cond sense fs)) }
+fn learnt(alloc: Global, run: &Run, cond: Cond, sense: bool) -> Result<Option<Facts>, Fault>
+    requires lawful { IsLawfulPiece run.now }
+    requires below { IsCondBelow (length run.now.pool) cond }
+    requires plain { IsPlain run.now.stack → IsPlainCond run.now.pool cond }
+    ensures { IfOk result (λ o. MatchOption o (IsNever run.now cond sense) (λ fs. AreChildFacts run.now cond sense fs)) }
 {
-    let learnt = piece
-        .facts
-        .learnt(alloc, &piece.pool, &Cond { sense, ..cond })?;
+    let learnt = run.facts.learnt(alloc, &run.pool, &Cond { sense, ..cond })?;
     Ok(learnt)
 }
 
-/// The truth value, where each of the two words has one number on every member.
-fn decided(piece: &Piece, cond: Cond) -> Option<bool>
-    requires { IsCondBelow (length piece.now.pool) cond }
-    ensures { IfSome result (IsImplied piece.now cond) }
+/// Whether known bits go back from a node to an operand: it is an AND, an OR or an XOR, and its other operand alone is a
+/// constant.
+fn walks_back(pool: &Pool, node: NodeId) -> bool
+    requires { node.0 < length pool.now }
+    ensures { result ≡ is_walked_back pool.now (node_at pool.now node.0) }
 {
-    let Some(left) = piece.facts.decided(&piece.pool, cond.node) else {
+    match pool.node(node) {
+        Node::Bin(BinOp::And | BinOp::Or | BinOp::Xor, a, b) => {
+            constant_of(pool.node(a)).is_some() != constant_of(pool.node(b)).is_some()
+        }
+        _ => false,
+    }
+}
+
+/// The number of a word, where it has one on every member and a condition on it would tell nothing of another word.
+fn settled_number(run: &Run, node: NodeId) -> Option<u32>
+    requires lawful { IsLawfulPiece run.now }
+    requires below { node.0 < length run.now.pool }
+    ensures told { result ≡ settled_number_of run.now node }
+    ensures value { IfSome result (λ n. HasOneValue run.now node n) }
+{
+    let number = run.facts.decided(&run.pool, node)?;
+    if walks_back(&run.pool, node) {
         return None;
-    };
-    let Some(right) = piece.facts.decided(&piece.pool, cond.other) else {
-        return None;
-    };
+    }
+    Some(number)
+}
+
+/// The truth value, where numbers tell it and there is nothing to learn from it.
+fn decided(run: &Run, cond: Cond) -> Option<bool>
+    requires lawful { IsLawfulPiece run.now }
+    requires below { IsCondBelow (length run.now.pool) cond }
+    ensures told { result ≡ told_by_numbers run.now cond }
+    ensures implied { IfSome result (IsImplied run.now cond) }
+{
+    let left = settled_number(run, cond.node)?;
+    let right = settled_number(run, cond.other)?;
     Some(cond.test.passes(left, right))
 }
 
-/// Learns the truth value as false and as true, each from the same facts. Where these leave one number for each of its
-/// words, there is nothing to learn.
-fn decide(alloc: Global, piece: Piece, insn: Insn, cond: Cond) -> Result<Turn, Fault>
-    requires standing { Standing piece insn }
-    requires entry { IsEntry piece insn cond }
-    ensures { IfOk result (IsTurn piece) }
+/// Learns the truth value as false and as true, each from the same facts, unless numbers tell it. Where they do, one way
+/// contradicts and the other changes no fact: a word that has one number has all its bits known, the test moves no bound
+/// past it, and no bits go back from it. An AND, an OR or an XOR with a constant is different: its bits may go back to an
+/// operand that lacks them, and contradict there, so it is learnt from even where it has one number.
+fn decide(alloc: Global, run: &mut Run, insn: Insn, cond: Cond) -> Result<Turn, Fault>
+    requires lawful { IsLawfulPiece run.old }
+    requires standing { Standing run.old insn }
+    requires entry { IsEntry run.old insn cond }
+    ensures { IfOk result (IsTurn run.old run.new) }
 {
-    if let Some(sense) = decided(&piece, cond) {
-        return Ok(Turn::On(take(piece, insn, cond, sense)?));
+    if let Some(sense) = decided(run, cond) {
+        return take(run, insn, cond, sense);
     }
-    let on_false = learnt(alloc, &piece, cond, false)?;
-    let on_true = learnt(alloc, &piece, cond, true)?;
-    match (on_false, on_true) {
-        (Some(f), Some(t)) => Ok(Turn::Split(
-            child(alloc, &piece, insn, cond, false, f)?,
-            child(alloc, &piece, insn, cond, true, t)?,
-        )),
-        (Some(_), None) => Ok(Turn::On(take(piece, insn, cond, false)?)),
-        (None, Some(_)) => Ok(Turn::On(take(piece, insn, cond, true)?)),
-        (None, None) => Ok(Turn::Empty),
-    }
+    let Some(on_false) = learnt(alloc, run, cond, false)? else {
+        let Some(_on_true) = learnt(alloc, run, cond, true)? else {
+            return Ok(Turn::Empty);
+        };
+        return take(run, insn, cond, true);
+    };
+    let Some(on_true) = learnt(alloc, run, cond, true)? else {
+        return take(run, insn, cond, false);
+    };
+    Ok(Turn::Split(
+        child(alloc, run, insn, cond, false, on_false)?,
+        child(alloc, run, insn, cond, true, on_true)?,
+    ))
 }
 
 /// One instruction, or one truth value of it.
-pub(crate) fn work_once(alloc: Global, piece: Piece) -> Result<Turn, Fault>
-    ensures { IfOk result (IsTurn piece) }
+pub(crate) fn work_once(alloc: Global, run: &mut Run) -> Result<Turn, Fault>
+    requires { IsLawfulPiece run.old }
+    ensures { IfOk result (IsTurn run.old run.new) }
 {
-    match step(alloc, piece)? {
-        Met::Done(piece) => Ok(Turn::On(piece)),
-        Met::Entry(piece, insn, cond) => decide(alloc, piece, insn, cond),
-        Met::End(name, answer) => Ok(Turn::Settled(name, answer)),
+    match step(alloc, run)? {
+        Met::Done => Ok(Turn::On),
+        Met::Entry(insn, cond) => decide(alloc, run, insn, cond),
+        Met::End => Ok(Turn::Settled),
         Met::Contradiction => Ok(Turn::Empty),
     }
 }

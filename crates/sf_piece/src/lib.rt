@@ -10,6 +10,7 @@ mod first;
 mod machine;
 mod nodes;
 mod piece;
+mod run;
 mod walking;
 mod work;
 

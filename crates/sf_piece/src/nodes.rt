@@ -5,61 +5,36 @@ ghost use Rattle.sf_check.specs.Stacks.{IsPlain};
 ghost use Rattle.sf_sym.specs.Pool.{OperandsBelow};
 ghost use Rattle.sf_dom.specs.Facts.{IsWordOrConst};
 ghost use Rattle.sf_piece.specs.Pieces.{HasNoMember};
+ghost use Rattle.sf_piece.specs.SymbolicRun.{IsLawfulPiece};
 ghost use Rattle.sf_piece.specs.Works.{IsPushed, IsOperand};
 
 use crate::fault::Fault;
-use crate::piece::Piece;
+use crate::run::Run;
 use sf_check::Operand;
 use sf_sym::{Node, NodeId};
 use std::alloc::Global;
 
-/// The piece with one more node, or none where the node's facts contradict.
-pub(crate) fn push(
-    alloc: Global,
-    piece: Piece,
-    node: Node,
-) -> Result<Option<(Piece, NodeId)>, Fault>
-    requires below { OperandsBelow (length piece.pool) node }
-    requires plain { IsPlain piece.stack → IsWordOrConst node }
-    ensures { IfOk result (λ o. MatchOption o (HasNoMember piece) (λ r. IsPushed piece node r.0 r.1)) }
+/// Puts a node in the pool, or answers none where its facts contradict: there is no member then.
+pub(crate) fn push(alloc: Global, run: &mut Run, node: Node) -> Result<Option<NodeId>, Fault>
+    requires lawful { IsLawfulPiece run.old }
+    requires below { OperandsBelow (length run.old.pool) node }
+    requires plain { IsPlain run.old.stack → IsWordOrConst node }
+    ensures { IfOk result (λ o. MatchOption o (HasNoMember run.old) (λ id. IsPushed run.old node run.new id)) }
 {
-    let Piece {
-        stack,
-        name,
-        mut pool,
-        conditions,
-        machine,
-        mut facts,
-    } = piece;
-    let id = pool.push(node)?;
-    if facts.grow(alloc, &pool)? {
-        let grown = Piece {
-            stack,
-            name,
-            pool,
-            conditions,
-            machine,
-            facts,
-        };
-        Ok(Some((grown, id)))
-    } else {
-        Ok(None)
+    let id = run.pool.push(node)?;
+    if !run.facts.grow(alloc, &run.pool)? {
+        return Ok(None);
     }
+    Ok(Some(id))
 }
 
 /// The second word of an operation or a test.
-pub(crate) fn operand(
-    alloc: Global,
-    piece: Piece,
-    other: Operand,
-) -> Result<Option<(Piece, NodeId)>, Fault>
-    ensures { IfOk result (λ o. MatchOption o (HasNoMember piece) (λ r. IsOperand piece other r.0 r.1)) }
+pub(crate) fn operand(alloc: Global, run: &mut Run, other: Operand) -> Result<Option<NodeId>, Fault>
+    requires { IsLawfulPiece run.old }
+    ensures { IfOk result (λ o. MatchOption o (HasNoMember run.old) (λ id. IsOperand run.old other run.new id)) }
 {
     match other {
-        Operand::Constant(k) => push(alloc, piece, Node::Const(k)),
-        Operand::X => {
-            let x = piece.machine.x;
-            Ok(Some((piece, x)))
-        }
+        Operand::Constant(k) => push(alloc, run, Node::Const(k)),
+        Operand::X => Ok(Some(run.machine.x)),
     }
 }

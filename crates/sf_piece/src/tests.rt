@@ -309,6 +309,32 @@ fn a_piece_is_emptied_where_its_facts_contradict_later(rt: HostRuntime) -> Resul
     Ok(())
 }
 
+#[test]
+fn a_masked_word_that_has_one_number_is_learnt_from(rt: HostRuntime) -> Result<(), Fail> {
+    // ld [0]; or #2; st M[0]; and #12; st M[1]; jge 4 0 5; ld M[0]; jgt 4 3 0; ld M[1]; jeq 4 0 1; ret 0x7fff0000;
+    // ret 0x80000000. Where the first word is at most 4 and the second at least 4, the second is 4; its bits say that
+    // the first has the bits 4 and 2, and so is more than 4.
+    let text = told(
+        rt.alloc(),
+        &[&[
+            op(0x20, 0),
+            op(0x44, 2),
+            op(0x02, 0),
+            op(0x54, 12),
+            op(0x02, 1),
+            raw(0x35, 0, 5, 4),
+            op(0x60, 0),
+            raw(0x25, 3, 0, 4),
+            op(0x60, 1),
+            raw(0x15, 0, 1, 4),
+            op(0x06, 0x7fff0000),
+            op(0x06, 0x80000000),
+        ]],
+    )?;
+    assert_eq!(rt; text.as_str(), "F 80000000 0;TT 80000000 0;2/1/2");
+    Ok(())
+}
+
 /// The filter that begins so, goes on with a pair so many times, and ends so.
 fn long_filter(
     alloc: Global,

@@ -5,6 +5,7 @@ ghost use Rattle.sf_sym.specs.declared.pool.NodeId.{NodeId as ANodeId};
 ghost use Rattle.sf_check.specs.Stacks.{IsPlain};
 ghost use Rattle.sf_sym.specs.Pool.{OperandsBelow};
 ghost use Rattle.sf_dom.specs.Facts.{IsWordOrConst};
+ghost use Rattle.sf_piece.specs.SymbolicRun.{IsLawfulPiece};
 ghost use Rattle.sf_piece.specs.Works.{Standing, SetsA, SetsX, Goes, HasGone, ReturnsNow, IsMove};
 ghost use Rattle.sf_piece.specs.Turns.{IsMet};
 
@@ -12,108 +13,113 @@ use crate::asking::{alu, branch, return_a};
 use crate::fault::Fault;
 use crate::machine::Machine;
 use crate::nodes::push;
-use crate::piece::Piece;
+use crate::run::Run;
 use sf_check::Insn;
-use sf_run::Answer;
 use sf_sym::{Cond, Node, NodeId};
 use std::alloc::Global;
 
 /// What one instruction led to.
-#[derive(Drop)]
+#[derive(Clone, Copy)]
 pub(crate) enum Met {
     /// It is done.
-    Done(Piece),
+    Done,
     /// It asks for a truth value: whether the condition is met.
-    Entry(Piece, Insn, Cond),
-    /// The last program has returned: the whole name and the answer.
-    End(Vec<bool>, Answer),
+    Entry(Insn, Cond),
+    /// The last program has returned: the name is whole, and the answer is that of all programs.
+    End,
     /// No input agrees with the facts of a new node.
     Contradiction,
 }
 
 /// One instruction, or the question that it asks first.
-pub(crate) fn step(alloc: Global, piece: Piece) -> Result<Met, Fault>
-    ensures { IfOk result (IsMet piece) }
+pub(crate) fn step(alloc: Global, run: &mut Run) -> Result<Met, Fault>
+    requires { IsLawfulPiece run.old }
+    ensures { IfOk result (IsMet run.old run.new) }
 {
-    let Some(insn) = piece.insn() else {
-        let so_far = piece.machine.so_far;
-        let Piece {
-            stack: _,
-            name,
-            pool: _,
-            conditions: _,
-            machine: _,
-            facts: _,
-        } = piece;
-        return Ok(Met::End(name, so_far));
+    let Some(insn) = run.insn() else {
+        return Ok(Met::End);
     };
-    let m = piece.machine;
     match insn {
-        Insn::LoadWord(i) => set_a(alloc, piece, insn, Node::Word(i)),
-        Insn::LoadConstant(k) => set_a(alloc, piece, insn, Node::Const(k)),
-        Insn::LoadLength => set_a(alloc, piece, insn, Node::Const(64)),
-        Insn::LoadXConstant(k) => set_x(alloc, piece, insn, k),
-        Insn::LoadXLength => set_x(alloc, piece, insn, 64),
-        Insn::Negate => set_a(alloc, piece, insn, Node::Neg(m.a)),
-        Insn::Alu(op, other) => alu(alloc, piece, insn, op, other),
-        Insn::Branch(test, other, _, _) => branch(alloc, piece, insn, test, other),
-        Insn::ReturnConstant(k) => Ok(Met::Done(give_back(piece, insn, k))),
-        Insn::ReturnA => return_a(alloc, piece),
-        _ => Ok(Met::Done(move_on(piece, insn))),
+        Insn::LoadWord(i) => set_a(alloc, run, insn, Node::Word(i)),
+        Insn::LoadConstant(k) => set_a(alloc, run, insn, Node::Const(k)),
+        Insn::LoadLength => set_a(alloc, run, insn, Node::Const(64)),
+        Insn::LoadXConstant(k) => set_x(alloc, run, insn, k),
+        Insn::LoadXLength => set_x(alloc, run, insn, 64),
+        Insn::Negate => {
+            let a = run.machine.a;
+            set_a(alloc, run, insn, Node::Neg(a))
+        }
+        Insn::Alu(op, other) => alu(alloc, run, insn, op, other),
+        Insn::Branch(test, other, _, _) => branch(alloc, run, insn, test, other),
+        Insn::ReturnConstant(k) => {
+            give_back(run, insn, k);
+            Ok(Met::Done)
+        }
+        Insn::ReturnA => return_a(alloc, run),
+        _ => {
+            move_on(run, insn);
+            Ok(Met::Done)
+        }
     }
 }
 
 /// On by an instruction that puts a node in A.
-pub(crate) fn set_a(alloc: Global, piece: Piece, insn: Insn, node: Node) -> Result<Met, Fault>
-    requires standing { Standing piece insn }
-    requires below { OperandsBelow (length piece.pool) node }
-    requires sets { SetsA piece insn node }
-    requires plain { IsPlain piece.stack → IsWordOrConst node }
-    ensures { IfOk result (IsMet piece) }
+pub(crate) fn set_a(alloc: Global, run: &mut Run, insn: Insn, node: Node) -> Result<Met, Fault>
+    requires lawful { IsLawfulPiece run.old }
+    requires standing { Standing run.old insn }
+    requires below { OperandsBelow (length run.old.pool) node }
+    requires sets { SetsA run.old insn node }
+    requires plain { IsPlain run.old.stack → IsWordOrConst node }
+    ensures { IfOk result (IsMet run.old run.new) }
 {
-    match push(alloc, piece, node)? {
-        Some((piece, id)) => {
+    match push(alloc, run, node)? {
+        Some(id) => {
             let to = Machine {
                 a: id,
-                place: piece.machine.place + 1,
+                place: run.machine.place + 1,
                 taken: 0,
                 value: 0,
-                ..piece.machine
+                ..run.machine
             };
-            Ok(Met::Done(go(piece, insn, to)))
+            go(run, insn, to);
+            Ok(Met::Done)
         }
         None => Ok(Met::Contradiction),
     }
 }
 
 /// On by an instruction that puts a constant in X.
-fn set_x(alloc: Global, piece: Piece, insn: Insn, k: u32) -> Result<Met, Fault>
-    requires standing { Standing piece insn }
-    requires sets { SetsX piece insn k }
-    ensures { IfOk result (IsMet piece) }
+fn set_x(alloc: Global, run: &mut Run, insn: Insn, k: u32) -> Result<Met, Fault>
+    requires lawful { IsLawfulPiece run.old }
+    requires standing { Standing run.old insn }
+    requires sets { SetsX run.old insn k }
+    ensures { IfOk result (IsMet run.old run.new) }
 {
-    match push(alloc, piece, Node::Const(k))? {
-        Some((piece, id)) => {
+    match push(alloc, run, Node::Const(k))? {
+        Some(id) => {
             let to = Machine {
                 x: id,
-                place: piece.machine.place + 1,
+                place: run.machine.place + 1,
                 taken: 0,
                 value: 0,
-                ..piece.machine
+                ..run.machine
             };
-            Ok(Met::Done(go(piece, insn, to)))
+            go(run, insn, to);
+            Ok(Met::Done)
         }
         None => Ok(Met::Contradiction),
     }
 }
 
 /// On by an instruction that moves words about, or jumps.
-fn move_on(piece: Piece, insn: Insn) -> Piece
-    requires standing { Standing piece insn }
+fn move_on(run: &mut Run, insn: Insn)
+    requires lawful { IsLawfulPiece run.old }
+    requires standing { Standing run.old insn }
     requires moves { IsMove insn }
-    ensures { HasGone piece result }
+    ensures gone { HasGone run.old run.new }
+    ensures lawful { IsLawfulPiece run.new }
 {
-    let m = piece.machine;
+    let m = run.machine;
     let to = Machine {
         place: m.place + 1,
         taken: 0,
@@ -123,22 +129,22 @@ fn move_on(piece: Piece, insn: Insn) -> Piece
     match insn {
         Insn::LoadScratch(k) => {
             let w = scratch(&m, k);
-            go(piece, insn, Machine { a: w, ..to })
+            go(run, insn, Machine { a: w, ..to });
         }
         Insn::LoadXScratch(k) => {
             let w = scratch(&m, k);
-            go(piece, insn, Machine { x: w, ..to })
+            go(run, insn, Machine { x: w, ..to });
         }
-        Insn::StoreA(k) => go(piece, insn, stored(&to, k, m.a)),
-        Insn::StoreX(k) => go(piece, insn, stored(&to, k, m.x)),
-        Insn::Tax => go(piece, insn, Machine { x: m.a, ..to }),
-        Insn::Txa => go(piece, insn, Machine { a: m.x, ..to }),
+        Insn::StoreA(k) => go(run, insn, stored(&to, k, m.a)),
+        Insn::StoreX(k) => go(run, insn, stored(&to, k, m.x)),
+        Insn::Tax => go(run, insn, Machine { x: m.a, ..to }),
+        Insn::Txa => go(run, insn, Machine { a: m.x, ..to }),
         Insn::Jump(k) => {
             let to = Machine {
                 place: m.place + 1 + k as usize,
                 ..to
             };
-            go(piece, insn, to)
+            go(run, insn, to);
         }
         _ => unreachable!(),
     }
@@ -166,51 +172,25 @@ fn scratch(m: &Machine, k: u8) -> NodeId
 }
 
 /// On by an instruction that meets no truth value.
-fn go(piece: Piece, insn: Insn, to: Machine) -> Piece
-    requires standing { Standing piece insn }
-    requires goes { Goes piece insn to }
-    ensures { HasGone piece result }
+fn go(run: &mut Run, insn: Insn, to: Machine)
+    requires lawful { IsLawfulPiece run.old }
+    requires standing { Standing run.old insn }
+    requires goes { Goes run.old insn to }
+    ensures gone { HasGone run.old run.new }
+    ensures lawful { IsLawfulPiece run.new }
 {
     let _insn = insn;
-    let Piece {
-        stack,
-        name,
-        pool,
-        conditions,
-        machine: _,
-        facts,
-    } = piece;
-    Piece {
-        stack,
-        name,
-        pool,
-        conditions,
-        machine: to,
-        facts,
-    }
+    run.machine = to;
 }
 
 /// On to the next program.
-pub(crate) fn give_back(piece: Piece, insn: Insn, value: u32) -> Piece
-    requires standing { Standing piece insn }
-    requires returns { ReturnsNow piece insn value }
-    ensures { HasGone piece result }
+pub(crate) fn give_back(run: &mut Run, insn: Insn, value: u32)
+    requires lawful { IsLawfulPiece run.old }
+    requires standing { Standing run.old insn }
+    requires returns { ReturnsNow run.old insn value }
+    ensures gone { HasGone run.old run.new }
+    ensures lawful { IsLawfulPiece run.new }
 {
     let _insn = insn;
-    let Piece {
-        stack,
-        name,
-        pool,
-        conditions,
-        machine,
-        facts,
-    } = piece;
-    Piece {
-        stack,
-        name,
-        pool,
-        conditions,
-        machine: machine.returned(value),
-        facts,
-    }
+    run.machine = run.machine.returned(value);
 }

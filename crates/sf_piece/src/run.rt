@@ -1,0 +1,87 @@
+//! The symbolic run of a piece.
+
+ghost use Rattle.std.specs.Prelude.{◌≡◌, ◌<◌, IfOk, MatchOption, length};
+
+use crate::fault::Fault;
+use crate::machine::Machine;
+use sf_blocks::shared::SharedList;
+use sf_check::{Insn, Stack};
+use sf_dom::Facts;
+use sf_run::Answer;
+use sf_sym::{Cond, Pool};
+use std::alloc::Global;
+use std::marker::Model;
+use std::sync::Arc;
+
+/// Path conditions, the oldest first; full blocks of 64 are shared with the pieces below.
+pub(crate) type Conditions = SharedList<Cond, 8>;
+
+/// The run behind a piece: what is in its name and its conditions so far, where the machine stands, and what is known of
+/// its words. It is worked where it stands, and between its steps it needn't be lawful; a piece keeps a lawful one.
+#[derive(Drop)]
+pub struct Run {
+    pub(crate) stack: Arc<Stack>,
+    pub(crate) name: Vec<bool>,
+    pub(crate) pool: Pool,
+    pub(crate) conditions: Conditions,
+    pub(crate) machine: Machine,
+    pub(crate) facts: Facts,
+}
+
+impl Model for Run {
+    ghost use Rattle.sf_piece.specs.Pieces.{PieceData};
+
+    ghost Value = { PieceData };
+
+    ghost view = { λ r. record { stack = r.stack.value; name = r.name.items; pool = r.pool; conditions = r.conditions; machine = r.machine; facts = r.facts } };
+}
+
+impl Run {
+    ghost use Rattle.sf_piece.specs.Pieces.{IsRightAnswer};
+    ghost use Rattle.sf_piece.specs.SymbolicRun.{IsLawfulPiece};
+    ghost use Rattle.sf_piece.specs.Works.{Standing};
+
+    /// The same run again. `Memory` where there is none.
+    pub(crate) fn fork(&self, alloc: Global) -> Result<Run, Fault>
+        ensures { IfOk result (λ r. r ≡ self.now) }
+    {
+        Ok(Run {
+            stack: Arc::try_clone(&self.stack)?,
+            name: Vec::from_slice(alloc, &self.name)?,
+            pool: self.pool.fork(alloc)?,
+            conditions: self.conditions.fork()?,
+            machine: self.machine,
+            facts: self.facts.fork(alloc)?,
+        })
+    }
+
+    /// The instruction at hand, or none where the last program has returned.
+    pub(crate) fn insn(&self) -> Option<Insn>
+        requires { IsLawfulPiece self.now }
+        ensures { MatchOption result (IsRightAnswer self.now self.now.name self.now.machine.so_far) (λ i. Standing self.now i) }
+    {
+        let programs = self.stack.programs();
+        if self.machine.program < programs.len() {
+            let program = &programs[programs.len() - 1 - self.machine.program];
+            Some(program.insns()[self.machine.place])
+        } else {
+            None
+        }
+    }
+
+    /// The name, and the answer of the programs that have returned.
+    pub(crate) fn ended(self) -> (Vec<bool>, Answer)
+        ensures name { result.0.items ≡ self.name }
+        ensures answer { result.1 ≡ self.machine.so_far }
+    {
+        let Run {
+            stack: _,
+            name,
+            pool: _,
+            conditions: _,
+            machine,
+            facts: _,
+        } = self;
+        (name, machine.so_far)
+    }
+}
