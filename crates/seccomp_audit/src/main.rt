@@ -1,21 +1,8 @@
-//! Audits a stack of seccomp filters.
+//! Audits a stack of seccomp filters: hands the system's files and streams to the command line.
 #![tactic(auto)]
 
-mod asked;
-mod auditing;
-mod checking;
-mod command;
-mod files;
-mod status;
-#[cfg(test)]
-mod tests;
-mod texts;
-mod words;
-
-use crate::command::command;
-use crate::files::Files;
-use crate::status::status_of;
 use sf_audit::Fault;
+use sf_command::{Files, command, status_of};
 use std::io::{ErrorKind, Write};
 use std::process::ExitCode;
 use std::rt::Files as FileSystem;

@@ -1,9 +1,0 @@
-mod audits;
-mod cases;
-mod evaluates;
-mod exact;
-mod kit;
-mod policies;
-mod refuses;
-mod usage;
-mod writers;

@@ -1,0 +1,57 @@
+-- A list that grows beside another, place by place.
+use Rattle.std.proofs.Common.{◌≡◌, ℕ, zero, suc, ◌+◌, ◌<◌, ◌≤◌, List, [], ◌∷◌, ◌++◌, length, map, Some, slice_get, refl, sym, ◌∙◌, ap, inl, inr, arith}
+use Rattle.std.proofs.lemmas.Bool.{cases_eq}
+use Rattle.std.proofs.lemmas.Option.{same_Some, slice_get_within, slice_get-map}
+use Rattle.std.proofs.lemmas.List.{length_push, length-map}
+use Rattle.sf_command.specs.Pairs.{Pairwise}
+
+get_front : {X : Type 0} (xs ys : List X) (n : ℕ) (x : X) → slice_get xs n ≡ Some x → slice_get (xs ++ ys) n ≡ Some x
+get_front [] ys n x h = absurd cc
+get_front (a ∷ xs) ys zero x h = h
+get_front (a ∷ xs) ys (suc n) x h = get_front xs ys n x h
+
+get_last : {X : Type 0} (xs : List X) (x : X) → slice_get (xs ++ x ∷ []) (length xs) ≡ Some x
+get_last [] x = refl
+get_last (a ∷ xs) x = get_last xs x
+
+-- the relation holds at each of the first places
+pub record PairedSoFar {X Y : Type 0} (Holds : X → Y → Type 0) (xs : List X) (ys : List Y) (place : ℕ) : Type 0 where
+  pub count : length ys ≡ place
+  pub each : (n : ℕ) (x : X) → n < place → slice_get xs n ≡ Some x → (y : Y) × (slice_get ys n ≡ Some y) × Holds x y
+
+pub paired_none : {X Y : Type 0} (Holds : X → Y → Type 0) (xs : List X) → PairedSoFar Holds xs [] 0
+paired_none Holds xs = record { count = refl; each = λ n x lt. absurd (omega arith) }
+
+pub paired_more : {X Y : Type 0} (Holds : X → Y → Type 0) (xs : List X) (ys ys' : List Y) (place : ℕ) (x : X) (y : Y) → PairedSoFar Holds xs ys place → slice_get xs place ≡ Some x → Holds x y → ys' ≡ ys ++ y ∷ [] → PairedSoFar Holds xs ys' (place + 1)
+paired_more {X} {Y} Holds xs ys ys' place x y so_far here holds pushed = rw pushed (record {
+  count = length_push ys y ∙ ap (λ (n : ℕ). n + 1) so_far.count;
+  each = each;
+})
+  where
+    each : (n : ℕ) (a : X) → n < place + 1 → slice_get xs n ≡ Some a → (b : Y) × (slice_get (ys ++ y ∷ []) n ≡ Some b) × Holds a b
+    each n a lt h = elim (cases_eq n place) [
+      | inl e ↦
+          let same : a ≡ x = same_Some a x (sym h ∙ ap (λ (k : ℕ). slice_get xs k) e ∙ here) in
+          (y, rw (e, sym so_far.count) (get_last ys y), rw same holds)
+      | inr ne ↦
+          let (b, at, old) = so_far.each n a (omega arith) h in
+          (b, get_front ys (y ∷ []) n b at, old)
+    ]
+
+pub paired_all : {X Y : Type 0} (Holds Weaker : X → Y → Type 0) (xs : List X) (ys : List Y) (place : ℕ) → ((x : X) (y : Y) → Holds x y → Weaker x y) → PairedSoFar Holds xs ys place → length xs ≤ place → place ≤ length xs → Pairwise Weaker xs ys
+paired_all Holds Weaker xs ys place weaker so_far over under = record {
+  same = omega (arith, so_far.count);
+  each = λ n x h.
+      let within = slice_get_within xs n x h in
+      let (y, at, holds) = so_far.each n x (omega arith) h in
+      (y, at, weaker x y holds);
+}
+
+-- the second list, seen through a function
+pub paired_mapped : {X Y Z : Type 0} (Holds : X → Z → Type 0) (view : Y → Z) (xs : List X) (ys : List Y) → Pairwise (λ x y. Holds x (view y)) xs ys → Pairwise Holds xs (map view ys)
+paired_mapped {X} {Y} {Z} Holds view xs ys paired = record {
+  same = length-map ys view ∙ paired.same;
+  each = λ n x h.
+      let (y, at, holds) = paired.each n x h in
+      (view y, rw (slice_get-map view ys n, at) refl, holds);
+}

@@ -1,0 +1,26 @@
+use Rattle.std.proofs.Common.{map, rules}
+use Rattle.sf_command.proofs.ReadLemmas.{read_same}
+use Rattle.sf_command.proofs.RefusalLemmas.{audit_why, handed_on, policy_why}
+use Rattle.sf_command.proofs.auditing.audit.Goals as goal
+
+pub returns-clause-written : goal.returns-clause-written
+returns-clause-written g c = record {
+  questions = c.in_ok-questions.questions.items;
+  asked = c.in_ok-questions.ensures.asked;
+  files = map (λ f. f.items) c.in_ok-filters.filters.items;
+  read = read_same _ _ _ _ c.in_ok-questions.ensures.same c.in_ok-filters.ensures.read;
+  found = c.in_ok-outcome.outcome;
+  audit = rw c.deref.ensures.value at c.in_ok-outcome.ensures.found;
+  written = c.in_ok-write_report.ensures.written;
+  told = search rules;
+}
+
+pub returns-in_err-questions-clause-refused : goal.returns-in_err-questions-clause-refused
+returns-in_err-questions-clause-refused g c =
+    handed_on _ c.from_residual.result c.in_err-questions.field-0.0 c.from_residual.ensures.1 (policy_why _ _ _ _ c.in_err-questions.ensures.refused)
+
+pub returns-in_err-outcome-clause-refused : goal.returns-in_err-outcome-clause-refused
+returns-in_err-outcome-clause-refused g c =
+    let read = read_same _ _ _ _ c.in_ok-questions.ensures.same c.in_ok-filters.ensures.read in
+    let why = audit_why _ _ _ _ _ _ c.in_ok-questions.ensures.asked read (rw c.deref.ensures.value at c.in_err-outcome.ensures.refused) in
+    handed_on _ c.from_residual-in_err-outcome.result c.in_err-outcome.field-0.0 c.from_residual-in_err-outcome.ensures.1 why

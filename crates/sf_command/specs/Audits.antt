@@ -1,0 +1,55 @@
+-- What `audit` reads and writes.
+use Rattle.std.specs.Prelude.{◌≡◌, ◌⊎◌, ℕ, Bool, List, Option, Some, None, Ok, Err}
+use Rattle.std.specs.Borrow.{Bor}
+use Rattle.std.specs.Io.KnownBytes.{Appends}
+use Rattle.std.specs.Str.{IsUtf8}
+use Rattle.toml.specs.Data.{Members}
+use Rattle.toml.specs.Parse.{parse_document}
+use Rattle.sf_ask.specs.Asked.{Asked}
+use Rattle.sf_audit.specs.declared.fault.Fault.{Fault}
+use Rattle.sf_audit.specs.declared.fault.Fault.TheVariants.{Foreign, Memory, Read, Syntax, Write}
+use Rattle.sf_audit.specs.Policies.{policy_of}
+use Rattle.sf_audit.specs.Outcomes.{Found}
+use Rattle.sf_audit.specs.Audits.{IsAudit, IsAuditRefusal}
+use Rattle.sf_audit.specs.Reports.{report_text}
+use Rattle.sf_command.specs.Files.{AgreesWith, AreRead}
+use Rattle.sf_command.specs.Status.{replies_status}
+
+-- the bytes are a policy with these questions
+abbrev pub IsPolicy : List ℕ → List Asked → Type 0
+IsPolicy bytes asked = (tree : Members) × (parse_document bytes ≡ Some tree) × (policy_of tree ≡ Ok asked)
+
+-- the file, whose bytes may be known, is a policy with these questions
+abbrev pub IsPolicyFile : Option (List ℕ) → List Asked → Type 0
+IsPolicyFile known asked = (bytes : List ℕ) × AgreesWith known bytes × IsPolicy bytes asked
+
+-- Why the bytes are no policy: they are no UTF-8 or no TOML, or they break the rules of a policy.
+abbrev pub RefusesPolicy : List ℕ → Fault → Type 0
+RefusesPolicy bytes fault =
+    ((fault ≡ Syntax) × ((IsUtf8 bytes → ⊥) ⊎ (parse_document bytes ≡ None)))
+    ⊎ ((tree : Members) × (parse_document bytes ≡ Some tree) × (policy_of tree ≡ Err fault))
+
+-- the file, whose bytes may be known, is no policy for this reason
+abbrev pub RefusesPolicyFile : Option (List ℕ) → Fault → Type 0
+RefusesPolicyFile known fault = (bytes : List ℕ) × AgreesWith known bytes × RefusesPolicy bytes fault
+
+-- `audit`: the files at the paths are read and audited by the questions of the policy file; the report is written, and
+-- the status tells the replies
+pub record AuditsFiles (holds : List ℕ → Option (List ℕ)) (policy : List ℕ) (paths : List (Bor (List ℕ))) (budget : ℕ) (regions : Bool) (status : ℕ) (old new : Option (List ℕ)) : Type 0 where
+  pub questions : List Asked
+  pub asked : IsPolicyFile (holds policy) questions
+  pub files : List (List ℕ)
+  pub read : AreRead holds paths files
+  pub found : Found
+  pub audit : IsAudit files questions budget found
+  pub written : Appends old new (report_text found regions)
+  pub told : status ≡ replies_status found.replies
+
+-- Why an audit is refused, after the file of the policy and then those of the filters were read: reading, writing or
+-- memory failed, or the workers left another exploration's book; the policy file is no policy; or the audit of what the
+-- files hold is refused.
+abbrev pub RefusesAudit : (List ℕ → Option (List ℕ)) → List ℕ → List (Bor (List ℕ)) → Fault → Type 0
+RefusesAudit holds policy paths fault =
+    (fault ≡ Read) ⊎ (fault ≡ Write) ⊎ (fault ≡ Memory) ⊎ (fault ≡ Foreign) ⊎ RefusesPolicyFile (holds policy) fault
+    ⊎ ((questions : List Asked) × (files : List (List ℕ)) × IsPolicyFile (holds policy) questions × AreRead holds paths files
+    × IsAuditRefusal files questions fault)

@@ -1,0 +1,13 @@
+-- Files by their paths.
+use Rattle.std.specs.Prelude.{◌≡◌, ℕ, List, Option, Some, None}
+use Rattle.std.specs.Borrow.{Bor}
+use Rattle.sf_command.specs.Pairs.{Pairwise}
+
+-- bytes that were read are those that are known
+abbrev pub AgreesWith : Option (List ℕ) → List ℕ → Type 0
+AgreesWith None bytes = Unit {0}
+AgreesWith (Some known) bytes = bytes ≡ known
+
+-- the bytes are those of the files at the paths, path by path
+abbrev pub AreRead : (List ℕ → Option (List ℕ)) → List (Bor (List ℕ)) → List (List ℕ) → Type 0
+AreRead holds paths files = Pairwise (λ path file. AgreesWith (holds path.now) file) paths files

@@ -1,0 +1,129 @@
+-- What the program does as its command line says.
+use Rattle.std.specs.Prelude.{◌≡◌, ◌⊎◌, ◌<◌, ◌≤◌, ℕ, Bool, true, false, List, [], Option, Some, None, codes, map, unwrap_or}
+use Rattle.std.specs.Borrow.{Bor}
+use Rattle.std.specs.Io.KnownBytes.{Appends}
+use Rattle.std.specs.Str.Parse.{IsNumeral, digits_value, without_leading_plus}
+use Rattle.clap.specs.Words.{IsAmong, Kinds, Row, Text, all_of, fault_of, first_of, one_of, subcommand_of}
+use Rattle.clap.specs.declared.error.kind.ErrorKind.{ErrorKind}
+use Rattle.clap.specs.declared.error.kind.ErrorKind.TheVariants.{DisplayHelp, DisplayVersion}
+use Rattle.sf_audit.specs.declared.fault.Fault.{Fault}
+use Rattle.sf_audit.specs.declared.fault.Fault.TheVariants.{Memory, Write}
+use Rattle.sf_command.specs.Audits.{AuditsFiles, RefusesAudit}
+use Rattle.sf_command.specs.CommandLine.{command_line}
+use Rattle.sf_command.specs.Outputs.{ChecksFiles, EvaluatesFiles, RefusesCheck, RefusesEval}
+
+-- the errors that `clap` may give at the words; there are none where they fit the form
+unfoldable pub errors_at : List Text → Kinds
+errors_at words = fault_of command_line words
+
+-- the subcommand that the words name, and the values of its arguments
+unfoldable pub subcommand_at : List Text → Option (Text × List Row)
+subcommand_at words = subcommand_of command_line words
+
+-- the text of an option
+abbrev pub text_of : Text → List Row → Text
+text_of name rows = unwrap_or (first_of name rows) []
+
+-- the paths of the filter files
+abbrev pub paths_of : List Row → List Text
+paths_of rows = unwrap_or (all_of (codes "filters") rows) []
+
+-- The number that the text of an option spells, or this one where there is no text. The form lets through no text but
+-- of a number from 1 to the greatest.
+abbrev pub IsNumberOf : Option Text → ℕ → ℕ → ℕ → Type 0
+IsNumberOf None greatest usual n = n ≡ usual
+IsNumberOf (Some text) greatest usual n =
+    let digits = without_leading_plus text in
+    IsNumeral 10 digits → 0 < digits_value 10 digits → digits_value 10 digits ≤ greatest → n ≡ digits_value 10 digits
+
+-- whether a switch is given
+abbrev pub IsSwitch : Option Text → Bool → Type 0
+IsSwitch text on = (text ≡ Some (codes "true") → on ≡ true) × (text ≡ Some (codes "false") → on ≡ false)
+
+-- these are the paths
+abbrev pub ArePaths : List Row → List (Bor Text) → Type 0
+ArePaths rows paths = map (λ p. p.now) paths ≡ paths_of rows
+
+module _ (holds : Text → Option Text) (rows : List Row) (status : ℕ) (old new : Option Text) where
+  -- the files that are named were audited by the policy file that is named
+  pub record Audits : Type 0 where
+    pub paths : List (Bor Text)
+    pub named : ArePaths rows paths
+    pub budget : ℕ
+    pub counted : IsNumberOf (one_of (codes "budget") rows) 1000000 100000 budget
+    pub regions : Bool
+    pub listed : IsSwitch (one_of (codes "regions") rows) regions
+    pub audited : AuditsFiles holds (text_of (codes "policy") rows) paths budget regions status old new
+
+  -- the files that are named were checked
+  pub record Checks : Type 0 where
+    pub paths : List (Bor Text)
+    pub named : ArePaths rows paths
+    pub checked : ChecksFiles holds paths old new
+    pub told : status ≡ 0
+
+  -- the input that is given was evaluated by the files that are named
+  pub record Evaluates : Type 0 where
+    pub paths : List (Bor Text)
+    pub named : ArePaths rows paths
+    pub evaluated : EvaluatesFiles (text_of (codes "input") rows) holds paths old new
+    pub told : status ≡ 0
+
+-- one of the three subcommands is named
+abbrev pub IsKnown : Option (Text × List Row) → Type 0
+IsKnown named =
+    (found : Text × List Row) × (named ≡ Some found)
+    × ((found.0 ≡ codes "audit") ⊎ (found.0 ≡ codes "check") ⊎ (found.0 ≡ codes "eval"))
+
+-- one of the three subcommands is named, and this holds of the values of its arguments, by its name
+abbrev pub ByName : (audit check eval : List Row → Type 0) → Option (Text × List Row) → Type 0
+ByName audit check eval named =
+    (found : Text × List Row) × (named ≡ Some found)
+    × (((found.0 ≡ codes "audit") × audit found.1) ⊎ ((found.0 ≡ codes "check") × check found.1) ⊎ ((found.0 ≡ codes "eval") × eval found.1))
+
+-- what the subcommand that is named asks for was done
+abbrev pub RunsAs : (Text → Option Text) → Option (Text × List Row) → ℕ → Option Text → Option Text → Type 0
+RunsAs holds named status old new = ByName
+    (λ rows. Audits holds rows status old new)
+    (λ rows. Checks holds rows status old new)
+    (λ rows. Evaluates holds rows status old new)
+    named
+
+-- some text was written
+abbrev pub WritesText : Option Text → Option Text → Type 0
+WritesText old new = (text : Text) × Appends old new text
+
+-- the error is the answer to a call for help, or for the version, of which `clap` knows and the form does not
+abbrev pub IsHelp : ErrorKind → Type 0
+IsHelp kind = (kind ≡ DisplayHelp) ⊎ (kind ≡ DisplayVersion)
+
+-- some text was written, at the words' call for help
+pub record Helps (words : List Text) (status : ℕ) (old new : Option Text) : Type 0 where
+  pub kind : ErrorKind
+  pub error : IsAmong kind (errors_at words)
+  pub help : IsHelp kind
+  pub told : status ≡ 0
+  pub written : WritesText old new
+
+-- What the words ask for was done: what their subcommand says, where they fit the form, or else the help that they
+-- call for.
+abbrev pub DoesAsTold : (Text → Option Text) → List Text → ℕ → Option Text → Option Text → Type 0
+DoesAsTold holds words status old new =
+    ((errors_at words ≡ []) × RunsAs holds (subcommand_at words) status old new) ⊎ Helps words status old new
+
+-- with the paths that are named
+abbrev pub OnPaths : List Row → (List (Bor Text) → Type 0) → Type 0
+OnPaths rows P = (paths : List (Bor Text)) × ArePaths rows paths × P paths
+
+-- why what the subcommand that is named asks for is refused
+abbrev pub RefusesAs : (Text → Option Text) → Option (Text × List Row) → Fault → Type 0
+RefusesAs holds named fault = ByName
+    (λ rows. OnPaths rows (λ paths. RefusesAudit holds (text_of (codes "policy") rows) paths fault))
+    (λ rows. OnPaths rows (λ paths. RefusesCheck holds paths fault))
+    (λ rows. OnPaths rows (λ paths. RefusesEval (text_of (codes "input") rows) holds paths fault))
+    named
+
+-- Why what words that fit the form ask for is refused. Want of memory can come at any time, and help may not be written.
+abbrev pub RefusesAsTold : (Text → Option Text) → List Text → Fault → Type 0
+RefusesAsTold holds words fault =
+    (fault ≡ Memory) ⊎ (fault ≡ Write) ⊎ ((errors_at words ≡ []) × RefusesAs holds (subcommand_at words) fault)

@@ -1,0 +1,77 @@
+//! What `audit` does.
+
+ghost use Rattle.std.specs.Prelude.{◌≡◌, ◌<◌, ◌≤◌, ◌⊎◌, ℕ, List, IfOk, IfErr};
+ghost use Rattle.sf_audit.specs.Faults.{fault_number};
+ghost use Rattle.sf_audit.specs.declared.fault.Fault.TheVariants.{Memory as MemoryFault, Read as ReadFault};
+ghost use Rattle.sf_command.specs.Audits.{AuditsFiles, IsPolicyFile, RefusesAudit, RefusesPolicyFile};
+ghost use Rattle.sf_command.specs.Status.{fault_status};
+
+use crate::files::{Files, read_all};
+use crate::status::status_of_replies;
+use sf_ask::Question;
+use sf_audit::{Fault, Outcome, read_policy, write_report};
+use sf_crew::Open;
+use std::alloc::Global;
+use std::io::Write;
+use std::sync::Wait;
+use std::thread::Threads;
+
+/// How an audit is done and shown.
+#[derive(Clone, Copy)]
+pub struct Options {
+    /// The most works that are committed.
+    pub budget: u32,
+    /// How many workers there are, 1 to 64.
+    pub workers: u8,
+    /// Whether the settled regions are listed.
+    pub regions: bool,
+}
+
+/// The questions of the policy file at a path. `Read` where it can't be read, `Syntax` where it isn't UTF-8, and then
+/// what `read_policy` refuses.
+fn questions_in<F: Files>(alloc: Global, path: &str, files: &mut F) -> Result<Vec<Question>, Fault>
+    ensures asked { IfOk result (λ v. IsPolicyFile (F.holds files.old path.now) v.items) }
+    ensures refused { IfErr result (λ e. (e ≡ ReadFault) ⊎ (e ≡ MemoryFault) ⊎ RefusesPolicyFile (F.holds files.old path.now) e) }
+    ensures same { (p : List ℕ) → F.holds files.new p ≡ F.holds files.old p }
+{
+    let bytes = files.read(path)?;
+    match std::str::from_utf8(&bytes) {
+        Ok(text) => read_policy(alloc, text),
+        Err(_) => Err(Fault::Syntax),
+    }
+}
+
+/// Reads the policy file and then the filter files, in order of installation, audits the stack of the filters, writes
+/// the report, and gives the status of the replies. `Read`, `Syntax` or what `read_policy` refuses for the policy file;
+/// `Read` where a filter file can't be read; then what `audit` of the library refuses; `Write` where standard output
+/// can't be written; `Memory` at any time. Before `Write` and `Memory` nothing is written.
+pub fn audit<R: Threads + Wait + Sync, F: Files, O: Write>(
+    rt: &R,
+    alloc: Global,
+    policy: &str,
+    paths: &[&str],
+    options: Options,
+    files: &mut F,
+    out: &mut O,
+) -> Result<u8, Fault>
+    requires workers { (0 < options.workers) × (options.workers ≤ 64) }
+    ensures written { IfOk result (λ s. AuditsFiles (F.holds files.old) policy.now paths.now options.budget options.regions s (O.contents out.old) (O.contents out.new)) }
+    ensures status { IfOk result (λ s. s ≤ 2) }
+    ensures refused { IfErr result (RefusesAudit (F.holds files.old) policy.now paths.now) }
+    ensures quiet { IfErr result (λ e. (fault_status (fault_number e) ≡ 5) ⊎ (out.new ≡ out.old)) }
+{
+    let questions = questions_in(alloc, policy, files)?;
+    let filters = read_all(alloc, paths, files)?;
+    let workers = usize::from(options.workers);
+    let outcome = sf_audit::audit(
+        rt,
+        alloc,
+        &filters,
+        questions,
+        options.budget,
+        workers,
+        &Open,
+    )?;
+    write_report(alloc, &outcome, options.regions, out)?;
+    Ok(status_of_replies(outcome.replies()))
+}

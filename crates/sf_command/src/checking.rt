@@ -1,0 +1,101 @@
+//! What `check` and `eval` do with the bytes that they were given.
+
+ghost use Rattle.std.specs.Prelude.{◌≡◌, ◌⊎◌, map, Err, Ok, IfOk, IfErr, OnOk, IsOk};
+ghost use Rattle.std.specs.Io.KnownBytes.{Appends};
+ghost use Rattle.hex.specs.Hex.{decode_sized};
+ghost use Rattle.sf_insn.specs.Inputs.{input_bytes};
+ghost use Rattle.sf_command.specs.Outputs.{ChecksFiles, EvaluatesFiles, RefusesEval, RefusesFiles, WritesAnswer, WritesCheck};
+ghost use Rattle.sf_audit.specs.Filters.{IsFirstRefusal};
+ghost use Rattle.sf_audit.specs.declared.fault.Fault.TheVariants.{Memory as MemoryFault, Input as InputFault, Write as WriteFault};
+
+use crate::files::{Files, read_all};
+use crate::texts::{answer_text, check_text};
+use hex::FromHex;
+use sf_audit::{Fault, stack_of};
+use sf_insn::{Input, input_of_bytes};
+use sf_run::answer;
+use std::alloc::Global;
+use std::io::Write;
+
+/// Writes a text to standard output. `Write` where that fails.
+pub fn print<O: Write>(text: &str, out: &mut O) -> Result<(), Fault>
+    ensures written { OnOk result (Appends (O.contents out.old) (O.contents out.new) text.now) }
+    ensures refused { IfErr result (λ e. e ≡ WriteFault) }
+{
+    match out.write_all(text.as_bytes()) {
+        Ok(()) => Ok(()),
+        Err(_) => Err(Fault::Write),
+    }
+}
+
+/// The input that 128 hexadecimal digits spell, in lower or upper case: the 64 bytes of `struct seccomp_data`, as
+/// seccomp(2) has it. `Input` where the text is anything else.
+pub fn input_of(text: &str) -> Result<Input, Fault>
+    ensures spelled { IfOk result (λ d. decode_sized text.now 64 ≡ Ok (input_bytes d)) }
+    ensures refused { IfErr result (λ e. (e ≡ InputFault) × (IsOk (decode_sized text.now 64) → ⊥)) }
+{
+    match <[u8; 64] as FromHex>::from_hex(text) {
+        Ok(bytes) => Ok(input_of_bytes(&bytes)),
+        Err(_) => Err(Fault::Input),
+    }
+}
+
+/// Writes the number of instructions of each filter and the path length of their stack.
+fn check_filters<O: Write>(alloc: Global, filters: &[Vec<u8>], out: &mut O) -> Result<(), Fault>
+    ensures written { OnOk result (WritesCheck (map (λ f. f.items) filters.now) (O.contents out.old) (O.contents out.new)) }
+    ensures refused { IfErr result (λ e. (e ≡ WriteFault) ⊎ (((e ≡ MemoryFault) ⊎ IsFirstRefusal (map (λ f. f.items) filters.now) e) × (out.new ≡ out.old))) }
+{
+    let stack = stack_of(alloc, filters)?;
+    let text = check_text(alloc, &stack)?;
+    print(&text, out)
+}
+
+/// Writes what the stack of the filters answers to the input.
+fn evaluate_filters<O: Write>(
+    alloc: Global,
+    input: &Input,
+    filters: &[Vec<u8>],
+    out: &mut O,
+) -> Result<(), Fault>
+    ensures written { OnOk result (WritesAnswer (map (λ f. f.items) filters.now) input.now (O.contents out.old) (O.contents out.new)) }
+    ensures refused { IfErr result (λ e. (e ≡ WriteFault) ⊎ (((e ≡ MemoryFault) ⊎ IsFirstRefusal (map (λ f. f.items) filters.now) e) × (out.new ≡ out.old))) }
+{
+    let stack = stack_of(alloc, filters)?;
+    let text = answer_text(alloc, answer(&stack, input))?;
+    print(&text, out)
+}
+
+/// Reads the filter files, in order of installation, and writes the number of instructions of each and the path length
+/// of their stack. `Read` where a file can't be read; then what the files are refused for; `Write` where standard output
+/// can't be written; `Memory` at any time. Before `Write` nothing is written.
+pub fn check<F: Files, O: Write>(
+    alloc: Global,
+    paths: &[&str],
+    files: &mut F,
+    out: &mut O,
+) -> Result<(), Fault>
+    ensures written { OnOk result (ChecksFiles (F.holds files.old) paths.now (O.contents out.old) (O.contents out.new)) }
+    ensures refused { IfErr result (λ e. (e ≡ WriteFault) ⊎ (RefusesFiles (F.holds files.old) paths.now e × (out.new ≡ out.old))) }
+{
+    let filters = read_all(alloc, paths, files)?;
+    check_filters(alloc, &filters, out)
+}
+
+/// Reads the input from its hexadecimal digits and the filter files, in order of installation, and writes what the stack
+/// of the filters answers to the input. `Input` where the digits spell no input, before a file is read; else as `check`.
+pub fn evaluate<F: Files, O: Write>(
+    alloc: Global,
+    digits: &str,
+    paths: &[&str],
+    files: &mut F,
+    out: &mut O,
+) -> Result<(), Fault>
+    ensures written { OnOk result (EvaluatesFiles digits.now (F.holds files.old) paths.now (O.contents out.old) (O.contents out.new)) }
+    ensures unspelled { (IsOk (decode_sized digits.now 64) → ⊥) → (result ≡ Err InputFault) × (files.new ≡ files.old) × (out.new ≡ out.old) }
+    ensures refused { IsOk (decode_sized digits.now 64) → IfErr result (λ e. (e ≡ WriteFault) ⊎ (RefusesFiles (F.holds files.old) paths.now e × (out.new ≡ out.old))) }
+    ensures explained { IfErr result (RefusesEval digits.now (F.holds files.old) paths.now) }
+{
+    let input = input_of(digits)?;
+    let filters = read_all(alloc, paths, files)?;
+    evaluate_filters(alloc, &input, &filters, out)
+}

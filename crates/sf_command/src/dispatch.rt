@@ -1,0 +1,184 @@
+//! From the words of a command line to a status.
+ghost use Rattle.std.specs.Prelude.{◌≡◌, ◌≢◌, ◌≤◌, ◌⊎◌, [], codes, map, string_bytes, IfOk, IfErr};
+ghost use Rattle.clap.specs.Words.{found_of, kind_of, rows_of, subcommand_rows_of};
+ghost use Rattle.sf_audit.specs.Faults.{fault_number};
+ghost use Rattle.sf_audit.specs.declared.fault.Fault.TheVariants.{Memory as MemoryFault, Write as WriteFault};
+ghost use Rattle.sf_command.specs.Audits.{RefusesAudit};
+ghost use Rattle.sf_command.specs.Outputs.{RefusesCheck, RefusesEval};
+ghost use Rattle.sf_command.specs.Runs.{Audits, Checks, Evaluates, RunsAs, IsKnown, IsHelp, DoesAsTold, OnPaths, RefusesAs, RefusesAsTold, WritesText, errors_at, text_of};
+ghost use Rattle.sf_command.specs.Status.{fault_status};
+
+use crate::asked::{budget_of, regions_of, text_of, workers_of};
+use crate::auditing::{Options, audit};
+use crate::checking::{check, evaluate, print};
+use crate::files::Files;
+use crate::status::status_of;
+use crate::words;
+use clap::ArgMatches;
+use clap::error::ErrorKind;
+use sf_audit::Fault;
+use std::alloc::Global;
+use std::io::Write;
+use std::sync::Wait;
+use std::thread::Threads;
+
+/// Audits as the matches of the subcommand say.
+fn run_audit<R: Threads + Wait + Sync, F: Files, O: Write>(
+    rt: &R,
+    alloc: Global,
+    found: &ArgMatches<'_>,
+    files: &mut F,
+    out: &mut O,
+) -> Result<u8, Fault>
+    ensures done { IfOk result (λ s. Audits (F.holds files.old) (rows_of (found_of found.now)) s (O.contents out.old) (O.contents out.new)) }
+    ensures status { IfOk result (λ s. s ≤ 2) }
+    ensures quiet { IfErr result (λ e. (fault_status (fault_number e) ≡ 5) ⊎ (out.new ≡ out.old)) }
+    ensures refused { IfErr result (λ e. OnPaths (rows_of (found_of found.now)) (λ paths. RefusesAudit (F.holds files.old) (text_of (codes "policy") (rows_of (found_of found.now))) paths e)) }
+{
+    let paths = found.get_strs("filters").unwrap_or(&[]);
+    let options = Options {
+        budget: budget_of(found),
+        workers: workers_of(found),
+        regions: regions_of(found),
+    };
+    let policy = text_of(found, "policy");
+    audit(rt, alloc, policy, paths, options, files, out)
+}
+
+/// Checks the filters that the matches of the subcommand name.
+fn run_check<F: Files, O: Write>(
+    alloc: Global,
+    found: &ArgMatches<'_>,
+    files: &mut F,
+    out: &mut O,
+) -> Result<u8, Fault>
+    ensures done { IfOk result (λ s. Checks (F.holds files.old) (rows_of (found_of found.now)) s (O.contents out.old) (O.contents out.new)) }
+    ensures quiet { IfErr result (λ e. (fault_status (fault_number e) ≡ 5) ⊎ (out.new ≡ out.old)) }
+    ensures refused { IfErr result (λ e. OnPaths (rows_of (found_of found.now)) (λ paths. RefusesCheck (F.holds files.old) paths e)) }
+{
+    let paths = found.get_strs("filters").unwrap_or(&[]);
+    check(alloc, paths, files, out)?;
+    Ok(0)
+}
+
+/// Evaluates the input by the filters that the matches of the subcommand name.
+fn run_eval<F: Files, O: Write>(
+    alloc: Global,
+    found: &ArgMatches<'_>,
+    files: &mut F,
+    out: &mut O,
+) -> Result<u8, Fault>
+    ensures done { IfOk result (λ s. Evaluates (F.holds files.old) (rows_of (found_of found.now)) s (O.contents out.old) (O.contents out.new)) }
+    ensures quiet { IfErr result (λ e. (fault_status (fault_number e) ≡ 5) ⊎ (out.new ≡ out.old)) }
+    ensures refused { IfErr result (λ e. OnPaths (rows_of (found_of found.now)) (λ paths. RefusesEval (text_of (codes "input") (rows_of (found_of found.now))) (F.holds files.old) paths e)) }
+{
+    let paths = found.get_strs("filters").unwrap_or(&[]);
+    let digits = text_of(found, "input");
+    evaluate(alloc, digits, paths, files, out)?;
+    Ok(0)
+}
+
+/// Runs the subcommand that the command line names.
+fn run<R: Threads + Wait + Sync, F: Files, O: Write>(
+    rt: &R,
+    alloc: Global,
+    matches: &ArgMatches<'_>,
+    files: &mut F,
+    out: &mut O,
+) -> Result<u8, Fault>
+    ensures status { IfOk result (λ s. (s ≤ 2) ⊎ (s ≡ 4)) }
+    ensures done { IfOk result (λ s. s ≤ 2 → RunsAs (F.holds files.old) (subcommand_rows_of matches.now) s (O.contents out.old) (O.contents out.new)) }
+    ensures usage { IfOk result (λ s. s ≡ 4 → ¬ IsKnown (subcommand_rows_of matches.now) × (files.new ≡ files.old) × (out.new ≡ out.old)) }
+    ensures quiet { IfErr result (λ e. (fault_status (fault_number e) ≡ 5) ⊎ (out.new ≡ out.old)) }
+    ensures refused { IfErr result (RefusesAs (F.holds files.old) (subcommand_rows_of matches.now)) }
+{
+    let Some((name, found)) = matches.subcommand() else {
+        return Ok(4);
+    };
+    match name {
+        "audit" => run_audit(rt, alloc, found, files, out),
+        "check" => run_check(alloc, found, files, out),
+        "eval" => run_eval(alloc, found, files, out),
+        _ => Ok(4),
+    }
+}
+
+/// Shows the help that was asked for, or why the command line is refused.
+fn explain<O: Write, E: Write>(
+    alloc: Global,
+    error: &clap::Error,
+    out: &mut O,
+    err: &mut E,
+) -> Result<u8, Fault>
+    ensures status { IfOk result (λ s. (s ≤ 2) ⊎ (s ≡ 4)) }
+    ensures help { IsHelp (kind_of error.now) → IfOk result (λ s. s ≡ 0) }
+    ensures done { IfOk result (λ s. s ≤ 2 → IsHelp (kind_of error.now) × (s ≡ 0) × WritesText (O.contents out.old) (O.contents out.new)) }
+    ensures refused { ¬ IsHelp (kind_of error.now) → IfOk result (λ s. s ≡ 4) }
+    ensures usage { IfOk result (λ s. s ≡ 4 → (kind_of error.now ≢ ErrorKind.OutOfMemory) × (out.new ≡ out.old)) }
+    ensures failed { IfErr result (λ e. fault_status (fault_number e) ≡ 5) }
+    ensures explained { IfErr result (λ e. (e ≡ MemoryFault) ⊎ (e ≡ WriteFault)) }
+{
+    if error.kind() == ErrorKind::OutOfMemory {
+        return Err(Fault::Memory);
+    }
+    let text = error.to_string(alloc)?;
+    match error.kind() {
+        ErrorKind::DisplayHelp | ErrorKind::DisplayVersion => {
+            print(&text, out)?;
+            Ok(0)
+        }
+        _ => {
+            let _ = err.write_all(text.as_bytes());
+            Ok(4)
+        }
+    }
+}
+
+fn reply<R: Threads + Wait + Sync, F: Files, O: Write, E: Write>(
+    rt: &R,
+    alloc: Global,
+    words: &[String],
+    files: &mut F,
+    out: &mut O,
+    err: &mut E,
+) -> Result<u8, Fault>
+    ensures status { IfOk result (λ s. (s ≤ 2) ⊎ (s ≡ 4)) }
+    ensures done { IfOk result (λ s. s ≤ 2 → DoesAsTold (F.holds files.old) (map string_bytes words.now) s (O.contents out.old) (O.contents out.new)) }
+    ensures usage { IfOk result (λ s. s ≡ 4 → ¬ (errors_at (map string_bytes words.now) ≡ []) × (files.new ≡ files.old) × (out.new ≡ out.old)) }
+    ensures quiet { IfErr result (λ e. (fault_status (fault_number e) ≡ 5) ⊎ (out.new ≡ out.old)) }
+    ensures refused { IfErr result (RefusesAsTold (F.holds files.old) (map string_bytes words.now)) }
+{
+    match words::form(alloc)?.try_get_matches_from(words) {
+        Ok(matches) => run(rt, alloc, &matches, files, out),
+        Err(error) => explain(alloc, &error, out, err),
+    }
+}
+
+/// Does what the words after the program's name say, and gives the exit status.
+///
+/// 0: done, and of an audit each question is never. 1: some question is allowed. 2: none is allowed and some is unsettled.
+/// 3: the filters, the policy or the input are refused; standard output is left as it was. 4: the command line is refused; no
+/// file was read, standard output is left as it was, and standard error has the text of `clap`. 5: reading, writing or
+/// memory failed. At 3 and 5 one line on standard error says what: `error`, the number, the name and the place of the
+/// fault.
+pub fn command<R: Threads + Wait + Sync, F: Files, O: Write, E: Write>(
+    rt: &R,
+    alloc: Global,
+    words: &[String],
+    files: &mut F,
+    out: &mut O,
+    err: &mut E,
+) -> u8
+    ensures status { result ≤ 5 }
+    ensures done { result ≤ 2 → DoesAsTold (F.holds files.old) (map string_bytes words.now) result (O.contents out.old) (O.contents out.new) }
+    ensures usage { result ≡ 4 → ¬ (errors_at (map string_bytes words.now) ≡ []) × (files.new ≡ files.old) × (out.new ≡ out.old) }
+    ensures refused { result ≡ 3 → (out.new ≡ out.old) × ((e : Fault) × (fault_status (fault_number e) ≡ 3) × RefusesAsTold (F.holds files.old) (map string_bytes words.now) e) }
+{
+    match reply(rt, alloc, words, files, out, err) {
+        Ok(status) => status,
+        Err(fault) => {
+            let _ = write!(err, "error {fault}\n");
+            status_of(&fault)
+        }
+    }
+}

@@ -1,0 +1,39 @@
+//! Where files come from.
+
+ghost use Rattle.std.specs.Prelude.{◌≡◌, ◌⊎◌, ℕ, List, map, IfOk, IfErr};
+ghost use Rattle.sf_command.specs.Files.{AgreesWith, AreRead};
+ghost use Rattle.sf_audit.specs.declared.fault.Fault.TheVariants.{Memory, Read};
+
+use sf_audit::Fault;
+use std::alloc::Global;
+
+/// Files by their paths.
+pub trait Files {
+    ghost use Rattle.std.specs.Prelude.{List, ℕ, Option, None};
+
+    // The bytes of the file at a path, where they are known.
+    ghost holds: { Self → List ℕ → Option (List ℕ) } = { λ _ _. None };
+
+    /// The bytes of the file at a path. `Read` where it can't be read, `Memory` where memory ran out.
+    fn read(&mut self, path: &str) -> Result<Vec<u8>, Fault>
+        ensures bytes { IfOk result (λ v. AgreesWith (holds self.old path.now) v.items) }
+        ensures refused { IfErr result (λ e. (e ≡ Read) ⊎ (e ≡ Memory)) }
+        ensures same { (p : List ℕ) → holds self.new p ≡ holds self.old p };
+}
+
+/// The bytes of the files at these paths, in their order. A refusal is that of the first file that can't be read.
+pub fn read_all<F: Files>(
+    alloc: Global,
+    paths: &[&str],
+    files: &mut F,
+) -> Result<Vec<Vec<u8>>, Fault>
+    ensures read { IfOk result (λ v. AreRead (F.holds files.old) paths.now (map (λ f. f.items) v.items)) }
+    ensures refused { IfErr result (λ e. (e ≡ Read) ⊎ (e ≡ Memory)) }
+{
+    let mut read = Vec::new(alloc);
+    for path in paths {
+        let bytes = files.read(path)?;
+        read.push(bytes)?;
+    }
+    Ok(read)
+}

@@ -1,0 +1,30 @@
+//! The exit statuses of the program.
+
+ghost use Rattle.std.specs.Prelude.{◌≡◌};
+ghost use Rattle.sf_audit.specs.Faults.{fault_number};
+ghost use Rattle.sf_command.specs.Status.{fault_status, replies_status};
+
+use sf_ask::Reply;
+use sf_audit::{Fault, count_allowed, count_unsettled};
+
+/// The status of a fault: 3 where the filters, the policy or the input are refused, 5 where reading, writing or memory
+/// fails.
+pub fn status_of(fault: &Fault) -> u8
+    ensures { result ≡ fault_status (fault_number fault.now) }
+{
+    if fault.number() < 50 { 3 } else { 5 }
+}
+
+/// The status of an audit: 1 where some question is allowed, 2 where none is and some is unsettled, 0 where all are
+/// never.
+pub fn status_of_replies(replies: &[Reply]) -> u8
+    ensures { result ≡ replies_status replies.now }
+{
+    if 0 < count_allowed(replies) {
+        1
+    } else if 0 < count_unsettled(replies) {
+        2
+    } else {
+        0
+    }
+}

@@ -1,0 +1,107 @@
+//! The words of the command line.
+ghost use Rattle.std.specs.Prelude.{◌≡◌, ℕ, IfOk, codes, false};
+ghost use Rattle.clap.specs.Words.{app_of, rule_of};
+ghost use Rattle.sf_command.specs.CommandLine.{command_line, filters_rule, needed_rule, number_rule, option_rule, switch_rule};
+
+use clap::{Arg, ArgAction, Command, value_parser};
+use std::alloc::{AllocError, Global};
+
+/// An option with a value.
+fn option<'a>(alloc: Global, name: &'a str, value: &'a str) -> Arg<'a>
+    ensures rule { rule_of result ≡ option_rule name.entry.now }
+    ensures own { result.global ≡ false }
+{
+    Arg::new(alloc, name).long(name).value_name(value)
+}
+
+fn policy<'a>(alloc: Global) -> Arg<'a>
+    ensures rule { rule_of result ≡ needed_rule (codes "policy") }
+    ensures own { result.global ≡ false }
+{
+    option(alloc, "policy", "FILE")
+        .required(true)
+        .help("The policy file, which asks the questions")
+}
+
+fn budget<'a>(alloc: Global) -> Arg<'a>
+    ensures rule { rule_of result ≡ number_rule (codes "budget") 1000000 (codes "100000") }
+    ensures own { result.global ≡ false }
+{
+    let numbers = value_parser!(u32).range(1..=1_000_000);
+    option(alloc, "budget", "N")
+        .value_parser(numbers)
+        .default_value("100000")
+        .help("The most pieces that are worked on")
+}
+
+fn workers<'a>(alloc: Global) -> Arg<'a>
+    ensures rule { rule_of result ≡ number_rule (codes "workers") 64 (codes "4") }
+    ensures own { result.global ≡ false }
+{
+    let numbers = value_parser!(u8).range(1..=64);
+    option(alloc, "workers", "N")
+        .value_parser(numbers)
+        .default_value("4")
+        .help("The number of workers, 1 to 64")
+}
+
+fn regions<'a>(alloc: Global) -> Arg<'a>
+    ensures rule { rule_of result ≡ switch_rule (codes "regions") }
+    ensures own { result.global ≡ false }
+{
+    Arg::new(alloc, "regions")
+        .long("regions")
+        .action(ArgAction::SetTrue)
+        .help("List the settled regions too")
+}
+
+fn input<'a>(alloc: Global) -> Arg<'a>
+    ensures rule { rule_of result ≡ needed_rule (codes "input") }
+    ensures own { result.global ≡ false }
+{
+    option(alloc, "input", "HEX").required(true).help(
+        "The 64 bytes of struct seccomp_data as 128 hexadecimal digits",
+    )
+}
+
+fn filters<'a>(alloc: Global) -> Arg<'a>
+    ensures rule { rule_of result ≡ filters_rule }
+    ensures own { result.global ≡ false }
+{
+    Arg::new(alloc, "filters")
+        .value_name("FILTER")
+        .required(true)
+        .num_args(1..)
+        .action(ArgAction::Append)
+        .help("Filter files, in order of installation")
+}
+
+/// The form of the command line: its subcommands and what each takes.
+pub(crate) fn form<'a>(alloc: Global) -> Result<Command<'a>, AllocError>
+    ensures { IfOk result (λ c. app_of c ≡ command_line) }
+{
+    let audit = Command::new(alloc, "audit")
+        .about("Answer the questions of a policy about a stack of filters")
+        .arg(policy(alloc))?
+        .arg(budget(alloc))?
+        .arg(workers(alloc))?
+        .arg(regions(alloc))?
+        .arg(filters(alloc))?;
+    let check = Command::new(alloc, "check")
+        .about("Check whether files are lawful filters that make a lawful stack")
+        .arg(filters(alloc))?;
+    let eval = Command::new(alloc, "eval")
+        .about("Show what a stack of filters answers to one input")
+        .arg(input(alloc))?
+        .arg(filters(alloc))?;
+    let program = Command::new(alloc, "seccomp_audit")
+        .about("Audit a stack of seccomp filters")
+        .bin_name("seccomp_audit")?
+        .no_binary_name(true)
+        .subcommand_required(true)
+        .disable_help_subcommand(true);
+    program
+        .subcommand(audit)?
+        .subcommand(check)?
+        .subcommand(eval)
+}
