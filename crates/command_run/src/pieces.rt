@@ -1,0 +1,52 @@
+//! What a script writes short: `00*64` stands for `00` sixty-four times.
+
+use std::alloc::{AllocError, Global};
+
+/// The text of a piece, and how often it stands there.
+fn parts_of(piece: &str) -> (&str, usize) {
+    match piece.split_once('*') {
+        Some((text, count)) => (text, count.parse::<usize>().unwrap_or(1)),
+        None => (piece, 1),
+    }
+}
+
+/// Adds what a piece stands for.
+pub fn push_piece(text: &mut String, piece: &str) -> Result<(), AllocError> {
+    let (part, count) = parts_of(piece);
+    for _ in 0..count {
+        text.push_str(part)?;
+    }
+    Ok(())
+}
+
+/// What pieces stand for that commas part.
+fn joined(alloc: Global, pieces: &str) -> Result<String, AllocError> {
+    let mut text = String::new(alloc);
+    for piece in pieces.split(',') {
+        push_piece(&mut text, piece)?;
+    }
+    Ok(text)
+}
+
+/// Adds the words that one stands for: `allow*64` is sixty-four words, and `@00*63,02` is one.
+fn push_words(alloc: Global, words: &mut Vec<String>, word: &str) -> Result<(), AllocError> {
+    if let Some(pieces) = word.strip_prefix('@') {
+        let text = joined(alloc, pieces)?;
+        words.push(text)?;
+        return Ok(());
+    }
+    let (text, count) = parts_of(word);
+    for _ in 0..count {
+        words.push(String::from_str(alloc, text)?)?;
+    }
+    Ok(())
+}
+
+/// The words of a command line.
+pub fn words_of(alloc: Global, line: &str) -> Result<Vec<String>, AllocError> {
+    let mut words = Vec::new(alloc);
+    for word in line.split_whitespace() {
+        push_words(alloc, &mut words, word)?;
+    }
+    Ok(words)
+}

@@ -1,0 +1,75 @@
+//! Command lines, and what they write.
+
+use crate::limited::{Full, Limited};
+use crate::pieces::words_of;
+use crate::shelf::Shelf;
+use sf_command::command;
+use std::sync::Wait;
+use std::test::Fail;
+use std::thread::Threads;
+
+/// Shows what stands on standard error, and the status.
+fn show_end<R: Print>(rt: &R, err: &[u8], status: u8) -> Result<(), Fail> {
+    for line in std::str::from_utf8(err)?.lines() {
+        println!(rt; "! {line}")?;
+    }
+    println!(rt; "= {status}")?;
+    Ok(())
+}
+
+/// Runs a command line and shows what it writes.
+pub fn run<R: Print + Threads + Wait + Sync + AllocGlobal>(
+    rt: &R,
+    shelf: &mut Shelf,
+    line: &str,
+) -> Result<(), Fail> {
+    let alloc = rt.alloc();
+    let words = words_of(alloc, line)?;
+    let mut out = Vec::new(alloc);
+    let mut err = Vec::new(alloc);
+    let status = command(rt, alloc, &words, shelf, &mut out, &mut err);
+    println!(rt; "$ {line}")?;
+    print!(rt; "{}", std::str::from_utf8(&out)?)?;
+    show_end(rt, &err, status)
+}
+
+/// Runs a command line over a writer that takes so many bytes, and shows what it took. False: it wasn't enough.
+fn run_limited<R: Print + Threads + Wait + Sync + AllocGlobal>(
+    rt: &R,
+    shelf: &mut Shelf,
+    words: &[String],
+    limit: usize,
+    full: Full,
+) -> Result<bool, Fail> {
+    let alloc = rt.alloc();
+    let mut out = Limited {
+        held: Vec::new(alloc),
+        limit,
+        full,
+    };
+    let mut err = Vec::new(alloc);
+    let status = command(rt, alloc, words, shelf, &mut out, &mut err);
+    let held = std::str::from_utf8(&out.held)?;
+    println!(rt; "{limit} bytes, {full:?}: {held:?}")?;
+    show_end(rt, &err, status)?;
+    Ok(status < 5)
+}
+
+/// Runs a command line over a writer that takes no byte, over one that takes one, and on, until one takes all; each
+/// once where it then takes nothing more, and once where it then fails.
+pub fn limit<R: Print + Threads + Wait + Sync + AllocGlobal>(
+    rt: &R,
+    shelf: &mut Shelf,
+    line: &str,
+) -> Result<(), Fail> {
+    let words = words_of(rt.alloc(), line)?;
+    println!(rt; "$ {line}")?;
+    for most in 0..1000 {
+        let one = run_limited(rt, shelf, &words, most, Full::TakesNothing)?;
+        let other = run_limited(rt, shelf, &words, most, Full::Fails)?;
+        if one && other {
+            break;
+        }
+    }
+    Ok(())
+}

@@ -1,0 +1,64 @@
+//! Files in memory.
+
+use crate::pieces::push_piece;
+use sf_audit::Fault;
+use sf_command::Files;
+use std::alloc::{AllocError, Global};
+use std::test::Fail;
+
+/// Files by name, the newest last.
+#[derive(Drop)]
+pub struct Shelf {
+    alloc: Global,
+    files: Vec<(String, Vec<u8>)>,
+}
+
+impl Shelf {
+    pub fn new(alloc: Global) -> Shelf {
+        Shelf {
+            alloc,
+            files: Vec::new(alloc),
+        }
+    }
+
+    fn put(&mut self, name: &str, bytes: Vec<u8>) -> Result<(), AllocError> {
+        let name = String::from_str(self.alloc, name)?;
+        self.files.push((name, bytes))?;
+        Ok(())
+    }
+
+    /// A file from its name and pieces of hexadecimal digits.
+    pub fn put_digits(&mut self, line: &str) -> Result<(), Fail> {
+        let (name, pieces) = line.split_once(' ').unwrap_or((line, ""));
+        let mut digits = String::new(self.alloc);
+        for piece in pieces.split_whitespace() {
+            push_piece(&mut digits, piece)?;
+        }
+        let bytes = hex::decode(self.alloc, digits.as_str())?;
+        self.put(name, bytes)?;
+        Ok(())
+    }
+
+    /// A file from its name and lines, which bars part.
+    pub fn put_lines(&mut self, line: &str) -> Result<(), Fail> {
+        let (name, lines) = line.split_once(' ').unwrap_or((line, ""));
+        let mut text = String::new(self.alloc);
+        for part in lines.split('|') {
+            text.push_str(part)?;
+            text.push_str("\n")?;
+        }
+        self.put(name, text.into_bytes())?;
+        Ok(())
+    }
+}
+
+impl Files for Shelf {
+    fn read(&mut self, path: &str) -> Result<Vec<u8>, Fault> {
+        for (name, bytes) in self.files.iter().rev() {
+            if name.as_str() == path {
+                return Ok(bytes.clone()?);
+            }
+        }
+        Err(Fault::Read)
+    }
+}

@@ -1,0 +1,149 @@
+//! What cases leave.
+
+ghost use Rattle.std.specs.Prelude.{◌≡◌, IsTrue, IfOk, length};
+ghost use Rattle.sf_sym.specs.Pool.{OperandsBelow};
+ghost use Rattle.sf_dom.specs.Facts.{Covers};
+
+use crate::cases::{Case, Step};
+use sf_dom::Facts;
+use sf_insn::Test;
+use sf_sym::{Cond, Node, NodeId, Pool};
+use std::alloc::Global;
+use std::test::Fail;
+
+fn is_lawful(pool: &Pool, node: Node) -> bool
+    ensures { IsTrue result → OperandsBelow (length pool.now) node }
+{
+    let count = pool.len();
+    match node {
+        Node::Const(_) => true,
+        Node::Word(i) => i < 16,
+        Node::Bin(_, a, b) => a.0 < count && b.0 < count,
+        Node::Neg(a) => a.0 < count,
+    }
+}
+
+fn pool_of(alloc: Global, nodes: &[Node]) -> Result<Pool, Fail> {
+    let mut pool = Pool::new(alloc)?;
+    for node in nodes {
+        if !is_lawful(&pool, *node) {
+            return Err(Fail::from("a node whose operands aren't older"));
+        }
+        pool.push(*node)?;
+    }
+    Ok(pool)
+}
+
+/// Takes in a condition. What it leaves of a copy has to be the same.
+fn learn(
+    alloc: Global,
+    facts: &mut Facts,
+    pool: &Pool,
+    node: usize,
+    test: Test,
+    other: usize,
+    sense: bool,
+) -> Result<bool, Fail>
+    requires { Covers facts.old pool.now }
+    ensures { Covers facts.new pool.now }
+{
+    if node >= pool.len() || other >= pool.len() {
+        return Err(Fail::from("a condition on no node"));
+    }
+    let cond = Cond {
+        node: NodeId(node),
+        test,
+        other: NodeId(other),
+        sense,
+    };
+    let copy = facts.learnt(alloc, pool, &cond)?;
+    let taken = facts.learn(alloc, pool, &cond)?;
+    match copy {
+        Some(left) if taken && left.equals(facts) => Ok(true),
+        None if !taken => Ok(false),
+        _ => Err(Fail::from("a copy learns something else")),
+    }
+}
+
+fn take(alloc: Global, facts: &mut Facts, pool: &Pool, step: Step) -> Result<bool, Fail>
+    requires { Covers facts.old pool.now }
+    ensures { Covers facts.new pool.now }
+{
+    match step {
+        Step::Learn(node, test, other, sense) => {
+            learn(alloc, facts, pool, node, test, other, sense)
+        }
+        Step::Confine(word, low, high) => {
+            if word >= 16 {
+                return Err(Fail::from("no word"));
+            }
+            Ok(facts.confine(alloc, pool, word, low, high)?)
+        }
+        Step::ConfineBits(word, mask, value) => {
+            if word >= 16 || value & mask != value {
+                return Err(Fail::from("no word, or a value outside the mask"));
+            }
+            Ok(facts.confine_bits(alloc, pool, word, mask, value)?)
+        }
+    }
+}
+
+/// Takes steps until one contradicts. False: one did.
+fn take_all(
+    alloc: Global,
+    facts: &mut Facts,
+    pool: &Pool,
+    steps: &[Step],
+) -> Result<bool, Fail>
+    requires { Covers facts.old pool.now }
+    ensures { Covers facts.new pool.now }
+{
+    for step in steps {
+        if !take(alloc, facts, pool, *step)? {
+            return Ok(false);
+        }
+    }
+    Ok(true)
+}
+
+/// Facts of the pool, which have to be those that facts of the words alone grow to, and those of a fork.
+fn facts_of(alloc: Global, pool: &Pool) -> Result<Facts, Fail>
+    ensures { IfOk result (λ facts. Covers facts pool.now) }
+{
+    let facts = Facts::new(alloc, pool)?;
+    let words = Pool::new(alloc)?;
+    let mut grown = Facts::new(alloc, &words)?;
+    if !grown.grow(alloc, pool)? || !facts.equals(&grown) {
+        return Err(Fail::from("grown facts are others"));
+    }
+    if !facts.equals(&facts.fork(alloc)?) {
+        return Err(Fail::from("a fork has other facts"));
+    }
+    Ok(facts)
+}
+
+/// What is known of the node at the place, as text.
+fn told(alloc: Global, facts: &Facts, pool: &Pool, at: usize, taken: bool) -> Result<String, Fail>
+    requires { Covers facts.now pool.now }
+{
+    if at >= pool.len() {
+        return Err(Fail::from("no node is shown"));
+    }
+    let known = facts.known(NodeId(at));
+    let (low, high, zeros, ones) = (known.low, known.high, known.zeros, known.ones);
+    let mut text = String::new(alloc);
+    text.push_str(if taken { "taken" } else { "contradicts" })?;
+    write!(&mut text, ", from {low} to {high}, zeros {zeros:08x}, ones {ones:08x}")?;
+    if let Some(number) = facts.decided(pool, NodeId(at)) {
+        write!(&mut text, ", decided {number}")?;
+    }
+    Ok(text)
+}
+
+/// What the case leaves of the node that it shows. Steps after one that contradicts are left out.
+pub fn look(alloc: Global, case: &Case) -> Result<String, Fail> {
+    let pool = pool_of(alloc, &case.nodes)?;
+    let mut facts = facts_of(alloc, &pool)?;
+    let taken = take_all(alloc, &mut facts, &pool, &case.steps)?;
+    told(alloc, &facts, &pool, case.at, taken)
+}
