@@ -47,8 +47,8 @@ fn is_member_of(alloc: Global, piece: &Piece, input: &Input) -> Result<bool, Fau
     Ok(true)
 }
 
-/// Looks for a member of the piece that is in the question. The one that is tried has in each word the least number
-/// that the piece's facts, confined to the question, leave for it.
+/// Looks for a member of the piece that is in the question. One input is tried: it has in each word the least number
+/// that the piece's facts, confined to the question, leave for it, and it may be no member.
 fn search(alloc: Global, piece: &Piece, question: &Question) -> Result<Verdict, Fault>
     ensures right { IfOk result (IsRightSearch piece.now question.now) }
     ensures least { IfOk result (HitsLeast piece.now question.now) }
@@ -71,7 +71,13 @@ fn search(alloc: Global, piece: &Piece, question: &Question) -> Result<Verdict, 
     Ok(Verdict::Hit(input))
 }
 
-/// The verdict on the settled region at this place in the order of names. `Memory` where a growth is refused.
+/// The verdict on the settled region at this place in the order of names. The caller's condition: there is a region at
+/// the place.
+///
+/// `Clear` where the region's action isn't asked about, or its facts, confined to the question, contradict. Else one
+/// input is tried: it has in each word the least number that these facts leave. `Hit` where it is a member of the
+/// region, and then no member in the question has a lesser number in any word; `Doubt` where it is none, which on a
+/// plain stack doesn't come. `Memory` where a growth is refused.
 pub fn judge(
     alloc: Global,
     settled: &Settled,

@@ -62,7 +62,7 @@ impl Question {
     /// The question with this name, these ranges and no masks.
     ///
     /// Refusals, tried in this order: `Name` where the name isn't 1 to 64 bytes from 0x21 to 0x7e, `Range` where a
-    /// low end is above its high end, `Actions` where the set is empty, `Memory` where the name can't be copied.
+    /// low end is above its high end, `Actions` where the set is empty, `Memory` where a growth is refused.
     pub fn of(
         alloc: Global,
         name: &str,
@@ -78,7 +78,7 @@ impl Question {
     ///
     /// Refusals, tried in this order: `Name` where the name isn't 1 to 64 bytes from 0x21 to 0x7e, `Range` where a
     /// low end is above its high end, `Mask` where a value has a bit outside its mask, `Actions` where the set is
-    /// empty, `Memory` where the name can't be copied.
+    /// empty, `Memory` where a growth is refused.
     pub fn of_masked(
         alloc: Global,
         name: &str,
@@ -115,7 +115,7 @@ impl Question {
         self.name.as_str()
     }
 
-    /// The range of a word: its low and its high end, both among it.
+    /// The range of a word, 0 to 15: its low and its high end, both among it.
     pub fn range(&self, word: usize) -> (u32, u32)
         requires { word < 16 }
         ensures { result ≡ range_at self.now word }
@@ -123,7 +123,7 @@ impl Question {
         self.ranges[word]
     }
 
-    /// The mask of a word, and the value that the word has on the mask's bits.
+    /// The mask of a word, 0 to 15, and the value that the word has on the mask's bits, with no bit outside the mask.
     pub fn mask(&self, word: usize) -> (u32, u32)
         requires { word < 16 }
         ensures value { result ≡ mask_at self.now word }

@@ -78,7 +78,8 @@ fn entry(
 
 impl Sheet {
     /// The sheet of the region at the place `job`, with a verdict on each question that `wanted` asks for: question q
-    /// has bit q % 64 of word q / 64, and bits past the last question are ignored. `Memory` where a growth is refused.
+    /// has bit q % 64 of word q / 64, and bits past the last question are ignored. The caller's conditions: there is a
+    /// region at the place, and there are at most 256 questions. `Memory` where a growth is refused.
     pub fn of(
         alloc: Global,
         settled: &Settled,

@@ -9,7 +9,7 @@ pub enum Verdict {
     Clear,
     /// This member breaks it.
     Hit(Input),
-    /// The one member that was tried doesn't break it; others may.
+    /// The one input that was tried is no member of the region. Whether a member breaks the question isn't known.
     Doubt,
 }
 

@@ -44,8 +44,9 @@ pub enum Fault {
     /// The path through all filters is longer than 32768.
     #[error("27 PathLength")]
     PathLength,
-    /// The workers left the exploration of another stack. The contract of an exploration leaves this open, since what
-    /// stands behind a lock is known by its type alone; it never comes.
+    /// The workers left the exploration of another stack or budget. With 1 worker it can't come; with more, the
+    /// contract of an exploration leaves it open, since what stands behind a lock is known by its type alone. No test
+    /// sees it.
     #[error("30 Foreign")]
     Foreign,
     /// The policy's version is missing, or isn't one of the known ones.

@@ -32,7 +32,7 @@ pub record BookData : Type 0 where
   pub stack : List (List Insn)
   -- in the order of their ids
   pub outstanding : List EntryData
-  -- in the order in which they settled
+  -- of a book in the order in which they settled, of an ended exploration in name order
   pub regions : List RegionData
   -- names of pieces that turned out to have no member
   pub emptied : List (List Bool)

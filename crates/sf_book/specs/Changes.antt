@@ -32,7 +32,7 @@ IsBefore m n = slice_cmp bool_cmp m n ≡ Less
 abbrev pub IsFirstFree : List Bool → List EntryData → Type 0
 IsFirstFree n es = All (λ e. e.leased ≡ false → ¬ IsBefore e.piece.name n) es
 
--- the work is of the book's stack, for the piece under the id, and the budget isn't spent
+-- the work is of the book's stack, and for the outstanding piece under the id
 pub record MayCommit (b : BookData) (id : ℕ) (w : WorkData) : Type 0 where
   pub same_stack : w.piece.stack ≡ b.stack
   pub entry : EntryData
@@ -81,7 +81,7 @@ pub record Leases (b : BookData) (id : ℕ) (p : PieceData) (c : BookData) : Typ
   pub first : IsFirstFree p.name b.outstanding
   pub after : c ≡ record b { outstanding = map (with_lease_at id true) b.outstanding }
 
--- the book's parts with the regions in name order
+-- the book's parts, with the regions in some order
 pub record Settles (b s : BookData) : Type 0 where
   pub stack : s.stack ≡ b.stack
   pub outstanding : s.outstanding ≡ b.outstanding

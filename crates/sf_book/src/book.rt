@@ -68,8 +68,8 @@ impl Model for Book {
 }
 
 impl Book {
-    /// A new book of the stack, with the piece of all inputs outstanding, that takes so many works. `Memory` where
-    /// a growth is refused.
+    /// A new book of the stack, with the piece of all inputs outstanding, that takes so many works in all, 0 to
+    /// 2^32 - 1. `Memory` where a growth is refused.
     pub fn open(alloc: Global, stack: Arc<Stack>, budget: u32) -> Result<Book, Fault>
         ensures ok { IfOk result (λ b. (r : PieceData) × IsRoot (arc_value stack) r × (b ≡ fresh (arc_value stack) r budget)) }
         ensures err { IfErr result (λ f. f ≡ Memory) }

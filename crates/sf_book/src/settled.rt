@@ -78,7 +78,7 @@ impl Settled {
         self.outstanding.len()
     }
 
-    /// The piece that is left at this place in the order of ids. It is come to from the first one.
+    /// The piece that is left at this place in the order of ids.
     pub fn outstanding(&self, i: usize) -> &Arc<Piece>
         requires { i < length self.now.outstanding }
         ensures value { slice_get (map (λ (e : EntryData). e.piece) self.now.outstanding) i ≡ Some (arc_value result.now) }

@@ -26,7 +26,7 @@ pub(crate) struct Mark {
     pub(crate) leased: bool,
 }
 
-/// Outstanding pieces under their ids, with the first free name at hand.
+/// Outstanding pieces under their ids, and their ids by their names, with a mark where a piece is on lease.
 #[derive(Drop)]
 pub(crate) struct Shelf {
     by_id: BTreeMap<u64, Named>,

@@ -14,7 +14,7 @@ pub trait Files {
     // The bytes of the file at a path, where they are known.
     ghost holds: { Self → List ℕ → Option (List ℕ) } = { λ _ _. None };
 
-    /// The bytes of the file at a path. `Read` where it can't be read, `Memory` where memory ran out.
+    /// The bytes of the file at a path. `Read` where it can't be read, `Memory` where a growth is refused.
     fn read(&mut self, path: &str) -> Result<Vec<u8>, Fault>
         ensures bytes { IfOk result (λ v. AgreesWith (holds self.old path.now) v.items) }
         ensures refused { IfErr result (λ e. (e ≡ Read) ⊎ (e ≡ Memory)) }

@@ -15,7 +15,7 @@ use std::alloc::{AllocError, Global};
 /// How many leases a new bench has room for. It grows as it needs.
 const ROOM: usize = 64;
 
-/// An owner and so many thieves over an empty list. `Memory` where a growth is refused.
+/// An owner and so many thieves, 0 to 63, over an empty list. `Memory` where a growth is refused.
 pub fn bench(alloc: Global, thieves: usize) -> Result<(Owner, Vec<Thief>), Fault>
     requires { thieves < 64 }
     ensures owner { IfOk result (λ b. owner_end b.0 ≡ end 0 (thieves + 1) []) }

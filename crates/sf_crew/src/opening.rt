@@ -42,8 +42,8 @@ fn first_words(alloc: Global, regions: usize, questions: usize) -> Result<Vec<u6
 }
 
 impl Board {
-    /// A board about these regions and questions, with so many seats, 1 to 65. No job is drawn and no sheet entered.
-    /// `Memory` where a growth is refused.
+    /// A board about these regions and at most 256 questions, with so many seats, 1 to 65. No job is drawn and no sheet
+    /// entered. `Memory` where a growth is refused.
     pub fn new(
         alloc: Global,
         settled: &Settled,

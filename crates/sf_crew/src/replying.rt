@@ -84,7 +84,8 @@ fn reply_of(
 }
 
 /// A reply to each question, by so many workers, which judge the regions by a board. The gate sees each sheet between
-/// its making and its entering. `Memory` where a growth is refused.
+/// its making and its entering. The caller's conditions: 1 to 64 workers, and at most 256 questions. `Memory` where a
+/// growth is refused.
 pub fn sweep<R: Threads + Wait + Sync, G: Gate>(
     rt: &R,
     alloc: Global,

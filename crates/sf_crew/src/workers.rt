@@ -158,9 +158,10 @@ fn run_all<R: Threads + Wait + Sync, G: Gate>(
 /// Explores a stack: works at most `budget` pieces, and gives what is settled and what is left. The gate sees each
 /// work between its making and its commit. With 1 worker no thread is started. With more, each has a thread, with the
 /// numbers from 0; when they have ended, the calling thread takes what is left on lease back and works it off, under
-/// the next number. The caller's condition besides: a budget from 1 to 1,000,000. `Memory` where a growth is refused
-/// to the calling thread. `Foreign`, with 2 or more workers alone, where they left the book of another stack or budget
-/// behind the lock: its type tells no more than that it is lawful, so it is compared. No test sees that.
+/// the next number. The caller's conditions: 1 to 64 workers, and a budget from 1 to 1,000,000, though the contract
+/// holds for any. `Memory` where a growth is refused to the calling thread. `Foreign`, with 2 or more workers alone,
+/// where they left the book of another stack or budget behind the lock: its type tells no more than that it is lawful,
+/// so it is compared. No test sees that.
 pub fn explore<R: Threads + Wait + Sync, G: Gate>(
     rt: &R,
     alloc: Global,

@@ -77,7 +77,7 @@ fn all_stand_in(numbers: &[u32], list: &[u32]) -> bool
 }
 
 impl Exclusions {
-    /// No numbers. `Memory` where there is none.
+    /// No numbers. `Memory` where a growth is refused.
     pub fn new(alloc: Global) -> Result<Exclusions, Fault>
         ensures { IfOk result (λ e. e ≡ []) }
     {
@@ -93,7 +93,7 @@ impl Exclusions {
         stands_in(slice_of(&self.numbers), number)
     }
 
-    /// The same numbers, shared. `Memory` where there is none.
+    /// The same numbers, shared. `Memory` where a growth is refused.
     pub fn copy(&self) -> Result<Exclusions, Fault>
         ensures { IfOk result (λ e. e ≡ self.now) }
     {
@@ -102,7 +102,7 @@ impl Exclusions {
         })
     }
 
-    /// Adds a number, if it is not there. Where there is no memory, `Memory`, and the numbers are as they were.
+    /// Adds a number, if it is not there. `Memory` where a growth is refused: the numbers are as they were then.
     pub fn add(&mut self, alloc: Global, number: u32) -> Result<(), Fault>
         ensures ok { IfOk result (λ _. (n : ℕ) → Contains self.new n ↔ (Contains self.old n ⊎ (n ≡ number))) }
         ensures err { OnErr result (self.new ≡ self.old) }

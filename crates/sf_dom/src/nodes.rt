@@ -62,7 +62,7 @@ fn is_number(known: Known) -> bool
 }
 
 impl Nodes {
-    /// No nodes. `Memory` where there is none.
+    /// No nodes. `Memory` where a growth is refused.
     pub fn new(alloc: Global) -> Result<Nodes, Fault>
         ensures { IfOk result (λ n. n.known ≡ []) }
     {
@@ -119,7 +119,7 @@ impl Nodes {
         }
     }
 
-    /// Adds what is known of the next node. Where there is no memory, `Memory`, and what is known is as it was.
+    /// Adds what is known of the next node. `Memory` where a growth is refused: what is known is as it was then.
     pub fn push(&mut self, known: Known) -> Result<(), Fault>
         ensures ok { IfOk result (λ _. self.new.known ≡ self.old.known ++ known ∷ []) }
         ensures err { OnErr result (self.new ≡ self.old) }
@@ -138,7 +138,7 @@ impl Nodes {
         Ok(())
     }
 
-    /// The same again, with the shared blocks. `Memory` where there is none.
+    /// The same again, with the shared blocks. `Memory` where a growth is refused.
     pub fn fork(&self, alloc: Global) -> Result<Nodes, Fault>
         ensures { IfOk result (λ n. n ≡ self.now) }
     {

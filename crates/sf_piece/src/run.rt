@@ -41,7 +41,7 @@ impl Run {
     ghost use Rattle.sf_piece.specs.SymbolicRun.{IsLawfulPiece};
     ghost use Rattle.sf_piece.specs.Works.{Standing};
 
-    /// The same run again. `Memory` where there is none.
+    /// The same run again. `Memory` where a growth is refused.
     pub(crate) fn fork(&self, alloc: Global) -> Result<Run, Fault>
         ensures { IfOk result (λ r. r ≡ self.now) }
     {
