@@ -10,7 +10,7 @@ use Rattle.sf_sym.specs.declared.pool.Node.{Node}
 use Rattle.sf_dom.specs.Known.{Admits}
 use Rattle.sf_dom.specs.Facts.{FactsView, Agrees, Covers, known_at}
 use Rattle.sf_dom.specs.FactsLaws.{agreeing-word, low-left, words-agree}
-use Rattle.sf_ask.specs.Searches.{IsLeastInput}
+use Rattle.sf_ask.specs.Trying.{IsLeastInput}
 
 abbrev pub low : FactsView → ℕ → ℕ
 low f word = (known_at f.known word).low

@@ -22,9 +22,10 @@ use Rattle.sf_piece.specs.Pieces.{PieceData, is_member}
 use Rattle.sf_piece.specs.PlainPieces.{IsPlainPiece}
 use Rattle.sf_ask.specs.Asked.{Asked}
 use Rattle.sf_ask.specs.Breaking.{IsInQuestion}
-use Rattle.sf_ask.specs.Verdicts.{IsLowInput, IsMemberAt, IsBreakAt, IsRightVerdict, HitsPlainExample}
+use Rattle.sf_ask.specs.Verdicts.{IsLowInput, IsMemberAt, IsBreakAt, IsRightVerdict, TellsTriedAt}
 use Rattle.sf_ask.proofs.Leasts.{least-admitted, least-below, least-agrees}
-use Rattle.sf_ask.specs.Searches.{AreConfined, NonePasses, IsNumberBefore, IsLeastInput, IsRightSearch, HitsLeast}
+use Rattle.sf_ask.specs.Trying.{AreConfined, IsNumberBefore, IsLeastInput}
+use Rattle.sf_ask.specs.Searches.{NonePasses, IsRightSearch, TellsTried}
 
 -- ---- conditions, one after the other
 
@@ -108,13 +109,13 @@ region-right s place q r (Hit d) there right asked found = record {
 }
 region-right s place q r Doubt there right asked found = λ d low h. found d h.member.input low (in-piece s place r d there h.member)
 
-pub region-example : (s : BookData) (place : ℕ) (q : Asked) (r : RegionData) (v : Verdict) → slice_get s.regions place ≡ Some r → IsRightVerdict s place q v → HitsLeast r.piece q v → HitsPlainExample s place q v
-region-example s place q r Clear there right least = tt
-region-example s place q r (Hit d) there right least = record {
+pub region-tried : (s : BookData) (place : ℕ) (q : Asked) (r : RegionData) (v : Verdict) → slice_get s.regions place ≡ Some r → IsRightVerdict s place q v → TellsTried r.piece q v → TellsTriedAt s place q v
+region-tried s place q r Clear there right least = tt
+region-tried s place q r (Hit d) there right least = record {
   breaks = right;
   least = λ other member inside. least other member.input (in-piece s place r other there member) inside;
 }
-region-example s place q r Doubt there right least = tt
+region-tried s place q r Doubt there right doubt = record { region = r; there = there; tried = doubt.0; is = doubt.1; outside = doubt.2 }
 
 pub if-ok : (P Q : Verdict → Type 0) (result : Result Verdict Fault) → ((v : Verdict) → P v → Q v) → IfOk result P → IfOk result Q
 if-ok P Q (Ok v) f h = f v h

@@ -11,7 +11,8 @@ use Rattle.sf_dom.specs.Facts.{FactsView, Covers, known_at, AreNarrower, lies_in
 use Rattle.sf_dom.specs.FactsLaws.{agreeing-word}
 use Rattle.sf_ask.specs.Asked.{Asked, range_at, mask_at}
 use Rattle.sf_ask.specs.Breaking.{IsNumberOf, IsInQuestion}
-use Rattle.sf_ask.specs.Searches.{AreConfined, NonePasses, IsInRange, HasBits, HasNumber, IsInBefore, IsRangeNumber, IsMaskNumber, IsWordNumber, IsNumberBefore}
+use Rattle.sf_ask.specs.Searches.{NonePasses, IsInRange, HasBits, HasNumber, IsInBefore, IsRangeNumber, IsMaskNumber, IsWordNumber}
+use Rattle.sf_ask.specs.Trying.{AreConfined, IsNumberBefore}
 
 -- what a call on the facts answers
 pub confines : (b : Bool) (old new : FactsView) (ns : List Node) (met : Input → Bool) (may_have : ℕ → ℕ → Type 0)

@@ -3,6 +3,7 @@ pub mod Actions
 pub mod Asked
 pub mod Questions
 pub mod Breaking
+pub mod Trying
 pub mod Verdicts
 pub mod Searches
 pub mod Sheets

@@ -1,5 +1,5 @@
 -- Which parts make a question, and what is refused.
-use Rattle.std.specs.Prelude.{◌≡◌, ℕ, Bool, List, length, ◌&&◌, ◌==◌, nat_le, bit_and, if◌then◌else◌, not, Result, Ok, Err}
+use Rattle.std.specs.Prelude.{◌≡◌, ℕ, Bool, List, length, ◌&&◌, ◌==◌, nat_le, bit_and, if◌then◌else◌, not, Result, Ok, Err, IsOk}
 use Rattle.std.specs.List.{list_all}
 use Rattle.sf_ask.specs.declared.actions.ActionSet.{ActionSet}
 use Rattle.sf_ask.specs.declared.fault.Fault.{Fault}
@@ -36,9 +36,9 @@ question_of name ranges masks actions =
 abbrev pub IsQuestion : Asked → Type 0
 IsQuestion q = (length q.ranges ≡ 16) × (length q.masks ≡ 16) × (question_of q.name q.ranges q.masks q.actions ≡ Ok q)
 
--- a fault other than want of memory is the one that is due
+-- a fault is the one that is due; want of memory comes only where no other is
 abbrev pub Fails : {X : Type 0} → Fault → Result X Fault → Type 0
-Fails faults.Memory due = Unit {0}
+Fails faults.Memory due = IsOk due
 Fails faults.Name due = due ≡ Err faults.Name
 Fails faults.Range due = due ≡ Err faults.Range
 Fails faults.Mask due = due ≡ Err faults.Mask

@@ -1,24 +1,16 @@
 -- What the search for a member in a question does, step by step: for the functions of this crate alone.
-use Rattle.std.specs.Prelude.{◌≡◌, ℕ, ◌<◌, ◌≤◌, ◌^◌, true, List, slice_index, bit_and}
+use Rattle.std.specs.Prelude.{◌≡◌, ℕ, ◌<◌, ◌≤◌, true, false, List, slice_index, bit_and}
 use Rattle.sf_insn.specs.declared.input.Input.{Input}
 use Rattle.sf_insn.specs.Inputs.{IsInput}
 use Rattle.sf_sym.specs.declared.pool.Node.{Node}
-use Rattle.sf_dom.specs.Known.{Admits}
-use Rattle.sf_dom.specs.Facts.{FactsView, Agrees, Covers, known_at, AreNarrower, lies_in, has_masked}
+use Rattle.sf_dom.specs.Facts.{FactsView, Agrees, lies_in, has_masked}
 use Rattle.sf_piece.specs.Pieces.{PieceData, is_member}
 use Rattle.sf_ask.specs.declared.verdict.Verdict.{Verdict}
 use Rattle.sf_ask.specs.declared.verdict.Verdict.TheVariants.{Clear, Hit, Doubt}
 use Rattle.sf_ask.specs.Asked.{Asked, range_at, mask_at}
 use Rattle.sf_ask.specs.Breaking.{IsNumberOf, IsInQuestion}
+use Rattle.sf_ask.specs.Trying.{IsTried}
 use Rattle.sf_ask.specs.Verdicts.{IsLowInput}
-
--- facts are confined: of the inputs that agreed those that pass agree still, and what a word may have is kept to some numbers
-pub record AreConfined (old new : FactsView) (ns : List Node) (passes : Input → Type 0) (may_have : ℕ → ℕ → Type 0) : Type 0 where
-  pub keeps : (d : Input) → IsInput d → Agrees old ns d → passes d → Agrees new ns d
-  pub only : (d : Input) → IsInput d → Agrees new ns d → Agrees old ns d × passes d
-  pub narrower : AreNarrower old new
-  pub covers : Covers new ns
-  pub numbers : (word n : ℕ) → word < 16 → n < 2 ^ 32 → Admits (known_at new.known word) n → may_have word n
 
 -- no input that agrees passes
 abbrev pub NonePasses : FactsView → List Node → (Input → Type 0) → Type 0
@@ -48,23 +40,17 @@ IsMaskNumber q at word n = word ≡ at → bit_and n (mask_at q at).0 ≡ (mask_
 abbrev pub IsWordNumber : Asked → ℕ → ℕ → ℕ → Type 0
 IsWordNumber q at word n = word ≡ at → IsNumberOf q at n
 
--- the same for each word before a place
-abbrev pub IsNumberBefore : Asked → ℕ → ℕ → ℕ → Type 0
-IsNumberBefore q end word n = word < end → IsNumberOf q word n
-
--- the input of the least numbers that facts leave for the words
-pub record IsLeastInput (f : FactsView) (d : Input) : Type 0 where
-  pub input : IsInput d
-  pub is : (word : ℕ) → word < 16 → slice_index d.words word ≡ (known_at f.known word).low
-
 -- what a search for a member in the question tells is right
 abbrev pub IsRightSearch : PieceData → Asked → Verdict → Type 0
 IsRightSearch p q Clear = (d : Input) → IsInput d → is_member p d ≡ true → ¬ IsInQuestion q d
 IsRightSearch p q (Hit d) = IsInput d × (is_member p d ≡ true) × IsInQuestion q d
 IsRightSearch p q Doubt = (d : Input) → IsInput d → IsLowInput q d → ¬ (is_member p d ≡ true)
 
--- a hit has in each word the least number that any member in the question has there
-abbrev pub HitsLeast : PieceData → Asked → Verdict → Type 0
-HitsLeast p q Clear = Unit {0}
-HitsLeast p q (Hit d) = (other : Input) → IsInput other → is_member p other ≡ true → IsInQuestion q other → (word : ℕ) → word < 16 → slice_index d.words word ≤ slice_index other.words word
-HitsLeast p q Doubt = Unit {0}
+-- A hit has in each word the least number that any member in the question has there; a doubt is of an input that was tried
+-- and isn't a member.
+abbrev pub TellsTried : PieceData → Asked → Verdict → Type 0
+TellsTried p q Clear = Unit {0}
+TellsTried p q (Hit d) =
+    (other : Input) → IsInput other → is_member p other ≡ true → IsInQuestion q other → (word : ℕ) → word < 16
+    → slice_index d.words word ≤ slice_index other.words word
+TellsTried p q Doubt = (d : Input) × IsTried p q d × (is_member p d ≡ false)

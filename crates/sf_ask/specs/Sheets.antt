@@ -7,7 +7,7 @@ use Rattle.sf_book.specs.Books.{BookData}
 use Rattle.sf_ask.specs.declared.verdict.Verdict.{Verdict}
 use Rattle.sf_ask.specs.declared.verdict.Verdict.TheVariants.{Clear, Hit, Doubt}
 use Rattle.sf_ask.specs.Asked.{Asked}
-use Rattle.sf_ask.specs.Verdicts.{IsBreakAt, IsRightVerdict, HitsPlainExample, IsDecisive}
+use Rattle.sf_ask.specs.Verdicts.{IsBreakAt, IsRightVerdict, TellsTriedAt, IsDecisive}
 
 -- a sheet: the regions and questions that it is of, the place of its region, and for each question a verdict or none
 pub record SheetData : Type 0 where
@@ -52,12 +52,12 @@ HasBreak s questions place q = (d : Input) × IsBreakOf s questions place q d
 abbrev pub HasNoBreak : BookData → List Asked → ℕ → ℕ → Type 0
 HasNoBreak s questions place q = (d : Input) → ¬ IsBreakOf s questions place q d
 
--- a verdict on the question of a number is right, and a hit is the plain example; on a plain stack there is no doubt
+-- a verdict on the question of a number is right, and tells what was tried; on a plain stack there is no doubt
 pub record IsRightOn (s : BookData) (questions : List Asked) (place q : ℕ) (v : Verdict) : Type 0 where
   pub question : Asked
   pub asked : slice_get questions q ≡ Some question
   pub right : IsRightVerdict s place question v
-  pub example : HitsPlainExample s place question v
+  pub tried : TellsTriedAt s place question v
   pub decisive : IsPlain s.stack → IsDecisive v
 
 -- the same where there is a verdict

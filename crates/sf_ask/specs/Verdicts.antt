@@ -1,5 +1,5 @@
 -- When a verdict on a region, and a reply to a question, are right.
-use Rattle.std.specs.Prelude.{◌≡◌, ℕ, ◌<◌, ◌≤◌, true, [], Some, slice_get, slice_index}
+use Rattle.std.specs.Prelude.{◌≡◌, ℕ, ◌<◌, ◌≤◌, true, false, [], Some, slice_get, slice_index}
 use Rattle.sf_insn.specs.declared.input.Input.{Input}
 use Rattle.sf_insn.specs.Inputs.{IsInput}
 use Rattle.sf_piece.specs.Pieces.{is_member}
@@ -10,6 +10,7 @@ use Rattle.sf_ask.specs.declared.verdict.Reply.{Reply}
 use Rattle.sf_ask.specs.declared.verdict.Reply.TheVariants.{Never, Allowed, Unsettled}
 use Rattle.sf_ask.specs.Asked.{Asked}
 use Rattle.sf_ask.specs.Breaking.{IsNumberOf, IsInQuestion, Breaks}
+use Rattle.sf_ask.specs.Trying.{IsTried}
 
 -- the input of the least numbers that the question leaves for each word
 pub record IsLowInput (q : Asked) (d : Input) : Type 0 where
@@ -52,11 +53,19 @@ pub record IsPlainExample (s : BookData) (place : ℕ) (q : Asked) (d : Input) :
   pub breaks : IsBreakAt s place q d
   pub least : (other : Input) → IsMemberAt s place other → IsInQuestion q other → (word : ℕ) → word < 16 → slice_index d.words word ≤ slice_index other.words word
 
--- a hit is the plain example of its region
-abbrev pub HitsPlainExample : BookData → ℕ → Asked → Verdict → Type 0
-HitsPlainExample s place q Clear = Unit {0}
-HitsPlainExample s place q (Hit d) = IsPlainExample s place q d
-HitsPlainExample s place q Doubt = Unit {0}
+-- the region at a place is in doubt: an input that was tried isn't a member of it
+pub record IsDoubtful (s : BookData) (place : ℕ) (q : Asked) : Type 0 where
+  pub region : RegionData
+  pub there : slice_get s.regions place ≡ Some region
+  pub tried : Input
+  pub is : IsTried region.piece q tried
+  pub outside : is_member region.piece tried ≡ false
+
+-- a hit is the plain example of its region, and there is a doubt only where the region is in doubt
+abbrev pub TellsTriedAt : BookData → ℕ → Asked → Verdict → Type 0
+TellsTriedAt s place q Clear = Unit {0}
+TellsTriedAt s place q (Hit d) = IsPlainExample s place q d
+TellsTriedAt s place q Doubt = IsDoubtful s place q
 
 -- a verdict that leaves no doubt
 abbrev pub IsDecisive : Verdict → Type 0

@@ -8,7 +8,8 @@ ghost use Rattle.sf_dom.specs.Known.{Admits};
 ghost use Rattle.sf_dom.specs.Facts.{known_at, Agrees, Covers, lies_in, has_masked};
 ghost use Rattle.sf_ask.specs.Asked.{range_at, mask_at};
 ghost use Rattle.sf_ask.specs.Breaking.{IsNumberOf, IsInQuestion};
-ghost use Rattle.sf_ask.specs.Searches.{AreConfined, NonePasses, IsInRange, HasBits, HasNumber, IsRangeNumber, IsMaskNumber, IsWordNumber, IsNumberBefore};
+ghost use Rattle.sf_ask.specs.Searches.{NonePasses, IsInRange, HasBits, HasNumber, IsRangeNumber, IsMaskNumber, IsWordNumber};
+ghost use Rattle.sf_ask.specs.Trying.{AreConfined, IsNumberBefore};
 ghost use Rattle.sf_ask.specs.declared.fault.Fault.TheVariants.{Memory};
 
 use crate::fault::Fault;

@@ -8,8 +8,9 @@ ghost use Rattle.sf_check.specs.Stacks.{IsPlain};
 ghost use Rattle.sf_ask.specs.declared.fault.Fault.TheVariants.{Memory};
 ghost use Rattle.sf_piece.specs.Pieces.{is_member};
 ghost use Rattle.sf_book.specs.Books.{IsRightRegion};
-ghost use Rattle.sf_ask.specs.Verdicts.{IsRightVerdict, HitsPlainExample, IsDecisive};
-ghost use Rattle.sf_ask.specs.Searches.{IsRightSearch, HitsLeast, IsLeastInput};
+ghost use Rattle.sf_ask.specs.Verdicts.{IsRightVerdict, TellsTriedAt, IsDecisive};
+ghost use Rattle.sf_ask.specs.Searches.{IsRightSearch, TellsTried};
+ghost use Rattle.sf_ask.specs.Trying.{IsLeastInput};
 
 use crate::confining::{confined, rules_out};
 use crate::fault::Fault;
@@ -51,7 +52,7 @@ fn is_member_of(alloc: Global, piece: &Piece, input: &Input) -> Result<bool, Fau
 /// that the piece's facts, confined to the question, leave for it, and it may be no member.
 fn search(alloc: Global, piece: &Piece, question: &Question) -> Result<Verdict, Fault>
     ensures right { IfOk result (IsRightSearch piece.now question.now) }
-    ensures least { IfOk result (HitsLeast piece.now question.now) }
+    ensures tried { IfOk result (TellsTried piece.now question.now) }
     ensures decisive { IsPlain piece.now.stack → IfOk result IsDecisive }
     ensures err { IfErr result (λ f. f ≡ Memory) }
 {
@@ -86,7 +87,7 @@ pub fn judge(
 ) -> Result<Verdict, Fault>
     requires { region < length settled.now.regions }
     ensures right { IfOk result (IsRightVerdict settled.now region question.now) }
-    ensures example { IfOk result (HitsPlainExample settled.now region question.now) }
+    ensures tried { IfOk result (TellsTriedAt settled.now region question.now) }
     ensures decisive { IsPlain settled.now.stack → IfOk result IsDecisive }
     ensures err { IfErr result (λ f. f ≡ Memory) }
 {

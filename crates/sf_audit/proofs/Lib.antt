@@ -6,3 +6,4 @@ pub mod FilterLemmas
 pub mod JoinedLemmas
 pub mod RefusalLemmas
 pub mod OneRefusal
+pub mod Exclusive

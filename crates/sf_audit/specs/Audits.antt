@@ -1,5 +1,5 @@
 -- What an audit finds, and why it is refused.
-use Rattle.std.specs.Prelude.{◌≡◌, ℕ, ◌<◌, ◌⊎◌, List, length}
+use Rattle.std.specs.Prelude.{◌≡◌, ℕ, ◌<◌, ◌≤◌, ◌⊎◌, List, length}
 use Rattle.sf_check.specs.declared.insn.Insn.{Insn}
 use Rattle.sf_ask.specs.Asked.{Asked}
 use Rattle.sf_check.specs.Stacks.{IsPlain}
@@ -20,9 +20,10 @@ pub record IsFoundOn (stack : List (List Insn)) (budget : ℕ) (asked : List Ask
   pub questions : o.questions ≡ asked
   pub replies : AreRightReplies o.settled o.questions o.replies
 
--- it was found on the stack that the files spell
+-- it was found on the stack that the files spell, and there are 1 to 256 questions
 pub record IsAudit (files : List (List ℕ)) (questions : List Asked) (budget : ℕ) (o : Found) : Type 0 where
   pub stack : SpellStack files o.settled.stack
+  pub counted : (0 < length questions) × (length questions ≤ 256)
   pub found : IsFoundOn o.settled.stack budget questions o
 
 -- the files spell a stack, but there is no question or there are too many

@@ -3,7 +3,10 @@
 ghost use Rattle.std.specs.Prelude.{◌≡◌, ℕ, List};
 ghost use Rattle.sf_check.specs.declared.insn.Insn.{Insn};
 ghost use Rattle.sf_audit.specs.declared.fault.Fault.{Fault};
+ghost use Rattle.sf_ask.specs.Asked.{Asked};
 ghost use Rattle.sf_audit.specs.Filters.{SpellPrograms, SpellStack, IsFirstRefusal};
+ghost use Rattle.sf_audit.specs.Outcomes.{Found};
+ghost use Rattle.sf_audit.specs.Audits.{IsAudit, IsAuditRefusal};
 
 use sf_check::laws::{a_fault_spells_no_lawful_program, one_first_fault, one_program_of_a_file};
 use sf_insn::laws::one_spelling;
@@ -33,4 +36,13 @@ pub fn one_refusal()
     one_spelling();
     one_first_fault();
     a_fault_spells_no_lawful_program();
+}
+
+/// What is audited is not refused: its files have no refusal, and there are 1 to 256 questions. So `audit` refuses exactly
+/// what its definition says, but for want of memory.
+pub fn an_audit_is_not_refused()
+    ensures { (files : List (List ℕ)) (questions : List Asked) (budget : ℕ) (o : Found) (e : Fault) →
+        IsAudit files questions budget o → IsAuditRefusal files questions e → ⊥ }
+{
+    a_refusal_spells_no_stack();
 }

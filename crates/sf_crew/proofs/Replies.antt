@@ -1,5 +1,5 @@
 -- Why replies are right.
-use Rattle.std.proofs.Common.{◌≡◌, ℕ, zero, suc, ◌+◌, ◌-◌, ◌<◌, ◌≤◌, Bool, true, false, true≢false, List, [], ◌∷◌, ◌++◌, map, length, Option, Some, None, Result, Ok, Err, IfOk, slice_get, get_or, ◌==◌, ◌⊎◌, sym, refl, ap, ◌∙◌, subst, ⊎_elim, arith}
+use Rattle.std.proofs.Common.{◌≡◌, ℕ, zero, suc, ◌+◌, ◌-◌, ◌<◌, ◌≤◌, Bool, true, false, true≢false, List, [], ◌∷◌, ◌++◌, map, length, Option, Some, None, Result, Ok, Err, IfOk, slice_get, get_or, ◌==◌, ◌⊎◌, sym, refl, ap, ◌∙◌, subst, inl, inr, ⊎_elim, arith}
 use Rattle.std.proofs.lemmas.Bool.Decides.{nat_tests}
 use Rattle.std.proofs.lemmas.Option.{slice_get_within, slice_get-get_or, same_Some, get_or_from_slice_get}
 use mathlib.Core.Logic.{dite}
@@ -16,12 +16,12 @@ use Rattle.sf_ask.specs.declared.verdict.Verdict.TheVariants.{Clear, Hit, Doubt}
 use Rattle.sf_ask.specs.declared.verdict.Reply.TheVariants.{Never, Allowed, Unsettled}
 use Rattle.sf_ask.specs.Asked.{Asked}
 use Rattle.sf_ask.specs.Breaking.{Breaks}
-use Rattle.sf_ask.specs.Verdicts.{IsLowInput, IsMemberAt, IsBreakAt, IsRightVerdict, IsRightReply, HitsPlainExample, IsFirstBreak, IsPlainExample}
+use Rattle.sf_ask.specs.Verdicts.{IsLowInput, IsMemberAt, IsBreakAt, IsRightVerdict, IsRightReply, TellsTriedAt, IsDoubtful, IsFirstBreak, IsPlainExample}
 use Rattle.sf_check.specs.Stacks.{IsPlain}
 use Rattle.sf_ask.specs.Sheets.{IsBreakOf, HasNoBreak, IsRightEntry}
 use Rattle.sf_crew.specs.declared.board.Tally.{Tally}
 use Rattle.sf_crew.specs.Views.{bit_of}
-use Rattle.sf_crew.specs.Sweeps.{IsUnbroken, IsReplyTo, IsRightReplyAt, IsFullTally}
+use Rattle.sf_crew.specs.Sweeps.{IsPassedBy, HasDoubt, IsUnbroken, IsReplyTo, IsRightReplyAt, IsFullTally}
 use Rattle.sf_crew.specs.declared.fault.Fault.{Fault}
 
 -- what stands at a place of the pieces of all regions is a region's piece
@@ -50,38 +50,43 @@ never_right s q h none all = (none, λ d input breaks. let m = in_some_region s 
 pub reply_never : (s : BookData) (q : Asked) (doubt : Bool) → IsSettled s → length s.outstanding ≡ 0 → doubt ≡ false → ((r : ℕ) → r < length s.regions → IsUnbroken s q doubt r) → IsReplyTo s q Never
 reply_never s q doubt h none certain all = record {
   right = never_right s q h (none_left s.outstanding none) (subst (λ b. (r : ℕ) → r < length s.regions → IsUnbroken s q b r) certain all);
+  found = tt;
   plain = λ _. tt;
 }
 
-pub reply_unsettled : (s : BookData) (q : Asked) (doubt : Bool) → IsSettled s → ((r : ℕ) → r < length s.regions → IsUnbroken s q doubt r) → (IsPlain s.stack → 0 < length s.outstanding) → IsReplyTo s q Unsettled
-reply_unsettled s q doubt h all left = record {
+pub reply_unsettled : (s : BookData) (q : Asked) (doubt : Bool) → IsSettled s → ((r : ℕ) → r < length s.regions → IsUnbroken s q doubt r)
+    → (0 < length s.outstanding) ⊎ HasDoubt s q → (IsPlain s.stack → 0 < length s.outstanding) → IsReplyTo s q Unsettled
+reply_unsettled s q doubt h all why left = record {
+  found = (λ r l. (all r l).passed, why);
   right = λ none d input low breaks. let m = in_some_region s h none d input in (all m.0 m.1).low d low (record { member = m.2; breaks = breaks });
   plain = left;
 }
 
 -- a hit at a place below which no region is broken
-pub reply_allowed : (s : BookData) (q : Asked) (r : ℕ) (d : Input) → IsRightVerdict s r q (Hit d) → HitsPlainExample s r q (Hit d) → (IsPlain s.stack → (e : ℕ) → e < r → (x : Input) → ¬ IsBreakAt s e q x) → IsReplyTo s q (Allowed d)
-reply_allowed s q r d hit example first = record {
+pub reply_allowed : (s : BookData) (q : Asked) (r : ℕ) (d : Input) → IsRightVerdict s r q (Hit d) → TellsTriedAt s r q (Hit d)
+    → ((e : ℕ) → e < r → IsPassedBy s q e) → (IsPlain s.stack → (e : ℕ) → e < r → (x : Input) → ¬ IsBreakAt s e q x) → IsReplyTo s q (Allowed d)
+reply_allowed s q r d hit example passed first = record {
   right = (hit.member.input, hit.breaks);
+  found = (r, example, passed);
   plain = λ h. (r, record { here = (d, hit); none_earlier = first h }, example);
 }
 
 -- what a verdict that is no hit tells of its region
 pub clear_unbroken : (s : BookData) (q : Asked) (doubt : Bool) (r : ℕ) → IsRightVerdict s r q Clear → IsUnbroken s q doubt r
-clear_unbroken s q doubt r h = record { none = λ _ d. h d; low = λ d _. h d }
+clear_unbroken s q doubt r h = record { passed = inl h; none = λ _ d. h d; low = λ d _. h d }
 
-pub doubt_unbroken : (s : BookData) (q : Asked) (r : ℕ) → IsRightVerdict s r q Doubt → IsUnbroken s q true r
-doubt_unbroken s q r h = record { none = λ e. absurd (true≢false e); low = h }
+pub doubt_unbroken : (s : BookData) (q : Asked) (r : ℕ) → IsRightVerdict s r q Doubt → IsDoubtful s r q → IsUnbroken s q true r
+doubt_unbroken s q r h tried = record { passed = inr tried; none = λ e. absurd (true≢false e); low = h }
 
 pub still_unbroken : (s : BookData) (q : Asked) (doubt : Bool) (r : ℕ) → IsUnbroken s q doubt r → IsUnbroken s q true r
-still_unbroken s q doubt r h = record { none = λ e. absurd (true≢false e); low = h.low }
+still_unbroken s q doubt r h = record { passed = h.passed; none = λ e. absurd (true≢false e); low = h.low }
 
 -- the same of the question of a number
 pub none_unbroken : (s : BookData) (qs : List Asked) (q : ℕ) (question : Asked) (doubt : Bool) (r : ℕ) → slice_get qs q ≡ Some question → HasNoBreak s qs r q → IsUnbroken s question doubt r
-none_unbroken s qs q question doubt r asked h = let none : (d : Input) → ¬ IsBreakAt s r question d = λ d b. h d (record { question = question; asked = asked; breaks = b }) in record { none = λ _. none; low = λ d _. none d }
+none_unbroken s qs q question doubt r asked h = let none : (d : Input) → ¬ IsBreakAt s r question d = λ d b. h d (record { question = question; asked = asked; breaks = b }) in record { passed = inl none; none = λ _. none; low = λ d _. none d }
 
 pub entry_unbroken : (s : BookData) (qs : List Asked) (q : ℕ) (question : Asked) (r : ℕ) → slice_get qs q ≡ Some question → IsRightEntry s qs r q (Some Doubt) → IsUnbroken s question true r
-entry_unbroken s qs q question r asked h = let same : h.question ≡ question = cc (h.asked, asked) in doubt_unbroken s question r (subst (λ (x : Asked). IsRightVerdict s r x Doubt) same h.right)
+entry_unbroken s qs q question r asked h = let same : h.question ≡ question = cc (h.asked, asked) in doubt_unbroken s question r (subst (λ (x : Asked). IsRightVerdict s r x Doubt) same h.right) (subst (IsDoubtful s r) same h.tried)
 
 abbrev none_place : Option ℕ
 none_place = None
@@ -111,6 +116,27 @@ tally_first s qs t q place question h lt asked least plain e earlier x breaks =
     (λ (y : HasNoBreak s qs e q). y x (record { question = question; asked = asked; breaks = breaks }))
     (λ (y : (bit_of t.doubts q ≡ 1) × IsRightEntry s qs e q (Some Doubt)). no_doubt_plain s qs e q plain y.1)
     (h.cleared q e lt (omega (arith, earlier, b.0)) (λ p found. let same : p ≡ place = cc (found, least) in omega (arith, same, earlier)))
+
+-- below the least place each region is passed by
+pub tally_passed : (s : BookData) (qs : List Asked) (t : Tally) (q place : ℕ) (question : Asked) → IsFullTally s qs t → q < length qs → slice_get qs q ≡ Some question
+    → slice_get t.least q ≡ Some (Some place) → (e : ℕ) → e < place → IsPassedBy s question e
+tally_passed s qs t q place question h lt asked least e earlier =
+    let b = h.breaks q place least in ⊎_elim
+    (λ (y : HasNoBreak s qs e q). (none_unbroken s qs q question true e asked y).passed)
+    (λ (y : (bit_of t.doubts q ≡ 1) × IsRightEntry s qs e q (Some Doubt)). (entry_unbroken s qs q question e asked y.1).passed)
+    (h.cleared q e lt (omega (arith, earlier, b.0)) (λ p found. let same : p ≡ place = cc (found, least) in omega (arith, same, earlier)))
+
+-- a bit that is set tells of a region in doubt
+pub tally_doubtful : (s : BookData) (qs : List Asked) (t : Tally) (q : ℕ) (question : Asked) (doubt : Bool) → IsFullTally s qs t → q < length qs → slice_get qs q ≡ Some question
+    → doubt ≡ (bit_of t.doubts q == 1) → doubt ≡ true → HasDoubt s question
+tally_doubtful s qs t q question doubt h lt asked is set =
+    let one : bit_of t.doubts q ≡ 1 = marked (bit_of t.doubts q) (sym is ∙ set) in
+    let d = h.doubts q lt one in
+    let same : d.2.question ≡ question = cc (d.2.asked, asked) in
+    (d.0, d.1, subst (IsDoubtful s d.0) same d.2.tried)
+  where
+    marked : (n : ℕ) → (n == 1) ≡ true → n ≡ 1
+    marked n e = grind (arith, nat_tests, e)
 
 pub question_there : (qs : List Asked) (q : ℕ) (x : Asked) → q < length qs → x ≡ get_or qs q x → slice_get qs q ≡ Some x
 question_there qs q x lt is = slice_get-get_or qs q x lt ∙ ap (λ (y : Asked). Some y) (sym is)

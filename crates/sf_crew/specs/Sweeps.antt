@@ -4,7 +4,7 @@ use Rattle.sf_book.specs.Books.{BookData}
 use Rattle.sf_ask.specs.Asked.{Asked}
 use Rattle.sf_insn.specs.declared.input.Input.{Input}
 use Rattle.sf_ask.specs.declared.verdict.Reply.{Reply}
-use Rattle.sf_ask.specs.Verdicts.{IsLowInput, IsBreakAt, IsRightReply, IsFirstBreak, IsPlainExample}
+use Rattle.sf_ask.specs.Verdicts.{IsLowInput, IsBreakAt, IsRightReply, IsFirstBreak, IsPlainExample, IsDoubtful}
 use Rattle.sf_ask.specs.declared.verdict.Reply.TheVariants.{Never, Allowed, Unsettled}
 use Rattle.sf_check.specs.Stacks.{IsPlain}
 use Rattle.sf_ask.specs.Sheets.{HasBreak, HasNoBreak, IsRightEntry}
@@ -37,8 +37,17 @@ pub record IsFullTally (s : BookData) (qs : List Asked) (t : Tally) : Type 0 whe
   pub doubts : (q : ℕ) → q < length qs → bit_of t.doubts q ≡ 1 → (r : ℕ) × (r < length s.regions) × IsRightEntry s qs r q (Some Doubt)
   pub counted : t.entered ≡ length s.regions
 
+-- no member of the region breaks the question, or the region is in doubt
+abbrev pub IsPassedBy : BookData → Asked → ℕ → Type 0
+IsPassedBy s question r = ((d : Input) → ¬ IsBreakAt s r question d) ⊎ IsDoubtful s r question
+
+-- some region is in doubt
+abbrev pub HasDoubt : BookData → Asked → Type 0
+HasDoubt s question = (r : ℕ) × (r < length s.regions) × IsDoubtful s r question
+
 -- no member of region r breaks the question where there is no doubt, and in any case the low input isn't such a member
 pub record IsUnbroken (s : BookData) (question : Asked) (doubt : Bool) (r : ℕ) : Type 0 where
+  pub passed : IsPassedBy s question r
   pub none : doubt ≡ false → (d : Input) → ¬ IsBreakAt s r question d
   pub low : (d : Input) → IsLowInput question d → ¬ IsBreakAt s r question d
 
@@ -48,9 +57,18 @@ IsPlainReply s question Never = Unit {0}
 IsPlainReply s question (Allowed d) = (r : ℕ) × IsFirstBreak s question r × IsPlainExample s r question d
 IsPlainReply s question Unsettled = 0 < length s.outstanding
 
--- a reply is right, and on a plain stack it is exact
+-- What a reply rests on. An example is the plain one of its region, and each earlier region was passed by. A question is
+-- unsettled only where every region was, and a piece is outstanding or some region is in doubt.
+abbrev pub RestsOn : BookData → Asked → Reply → Type 0
+RestsOn s question Never = Unit {0}
+RestsOn s question (Allowed d) = (r : ℕ) × IsPlainExample s r question d × ((e : ℕ) → e < r → IsPassedBy s question e)
+RestsOn s question Unsettled =
+    ((r : ℕ) → r < length s.regions → IsPassedBy s question r) × ((0 < length s.outstanding) ⊎ HasDoubt s question)
+
+-- a reply is right and rests on what was found, and on a plain stack it is exact
 pub record IsReplyTo (s : BookData) (question : Asked) (reply : Reply) : Type 0 where
   pub right : IsRightReply s question reply
+  pub found : RestsOn s question reply
   pub plain : IsPlain s.stack → IsPlainReply s question reply
 
 -- the reply to the question of a number is such a one

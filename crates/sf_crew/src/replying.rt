@@ -1,9 +1,9 @@
 //! Replies to questions, from the tally of all regions.
-ghost use Rattle.std.specs.Prelude.{◌≡◌, ◌==◌, ◌<◌, ◌≤◌, ℕ, Some, false, length, slice_get, IfOk, IfErr};
+ghost use Rattle.std.specs.Prelude.{◌≡◌, ◌==◌, ◌<◌, ◌≤◌, ℕ, Some, true, false, length, slice_get, IfOk, IfErr};
 ghost use Rattle.sf_ask.specs.Asked.{Asked};
 ghost use Rattle.sf_check.specs.Stacks.{IsPlain};
 ghost use Rattle.sf_crew.specs.Views.{bit_of};
-ghost use Rattle.sf_crew.specs.Sweeps.{IsFullTally, IsUnbroken, IsReplyTo, AreRightReplies, IsRightReplyAt};
+ghost use Rattle.sf_crew.specs.Sweeps.{IsFullTally, IsUnbroken, HasDoubt, IsReplyTo, AreRightReplies, IsRightReplyAt};
 ghost use Rattle.sf_crew.specs.declared.fault.Fault.TheVariants.{Memory};
 
 use crate::board::Tally;
@@ -20,6 +20,7 @@ use std::thread::Threads;
 /// The reply where no region is known to break the question.
 fn unbroken(settled: &Settled, _question: &Question, doubt: bool) -> Reply
     requires unbroken { (r : ℕ) → r < length settled.now.regions → IsUnbroken settled.now _question.now doubt r }
+    requires doubtful { doubt ≡ true → HasDoubt settled.now _question.now }
     requires plain { IsPlain settled.now.stack → doubt ≡ false }
     ensures { IsReplyTo settled.now _question.now result }
 {

@@ -1,4 +1,5 @@
-use Rattle.sf_ask.specs.Searches.{AreConfined, IsInBefore, IsNumberBefore}
+use Rattle.sf_ask.specs.Searches.{IsInBefore}
+use Rattle.sf_ask.specs.Trying.{AreConfined, IsNumberBefore}
 use Rattle.sf_ask.proofs.confining.confined.Given as goal
 
 abbrev pub invariant-loop-word : goal.invariant-loop-word

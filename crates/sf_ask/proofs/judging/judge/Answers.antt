@@ -1,7 +1,7 @@
 use Rattle.std.proofs.Common.{sym, ◌∙◌}
-use Rattle.sf_ask.specs.Verdicts.{IsRightVerdict, HitsPlainExample}
-use Rattle.sf_ask.specs.Searches.{IsRightSearch, HitsLeast}
-use Rattle.sf_ask.proofs.Searching.{not-asked, region-right, region-example, if-ok, if-both-ok}
+use Rattle.sf_ask.specs.Verdicts.{IsRightVerdict, TellsTriedAt}
+use Rattle.sf_ask.specs.Searches.{IsRightSearch, TellsTried}
+use Rattle.sf_ask.proofs.Searching.{not-asked, region-right, region-tried, if-ok, if-both-ok}
 use Rattle.sf_ask.proofs.judging.judge.Goals as goal
 
 pub returns-then-not-has-clause-right : goal.returns-then-not-has-clause-right
@@ -20,12 +20,12 @@ returns-clause-right c =
     (λ v. region-right s c.args.region q r v e.value e.right (rw (c.actions.ensures, c.answer.ensures) at (sym c.has.ensures ∙ c.if-not-has.false)))
     (rw (c.deref.ensures, c.piece.ensures) at c.search.ensures.right)
 
-pub returns-clause-example : goal.returns-clause-example
-returns-clause-example c =
+pub returns-clause-tried : goal.returns-clause-tried
+returns-clause-tried c =
     let s = c.args.settled.now in
     let q = c.args.question.now in
     let r = c.region-settled_region.result.now in
-    if-both-ok (IsRightVerdict s c.args.region q) (HitsLeast r.piece q) (HitsPlainExample s c.args.region q) c.search.result
-    (λ v. region-example s c.args.region q r v c.region-settled_region.ensures.value)
+    if-both-ok (IsRightVerdict s c.args.region q) (TellsTried r.piece q) (TellsTriedAt s c.args.region q) c.search.result
+    (λ v. region-tried s c.args.region q r v c.region-settled_region.ensures.value)
     (returns-clause-right c)
-    (rw (c.deref.ensures, c.piece.ensures) at c.search.ensures.least)
+    (rw (c.deref.ensures, c.piece.ensures) at c.search.ensures.tried)

@@ -1,0 +1,31 @@
+-- An audit and a refusal exclude each other.
+use Rattle.std.proofs.Common.{◌≡◌, ℕ, ◌<◌, ◌≤◌, ◌⊎◌, List, length, inl, inr, ⊎_elim, arith}
+use Rattle.sf_check.specs.declared.insn.Insn.{Insn}
+use Rattle.sf_ask.specs.Asked.{Asked}
+use Rattle.sf_audit.specs.declared.fault.Fault.{Fault}
+use Rattle.sf_audit.specs.declared.fault.Fault.TheVariants as faults
+use Rattle.sf_audit.specs.Filters.{SpellStack, IsFirstRefusal}
+use Rattle.sf_audit.specs.Outcomes.{Found}
+use Rattle.sf_audit.specs.Audits.{IsAudit, IsMiscounted, IsAuditRefusal}
+
+-- files with a refusal spell no lawful stack
+abbrev pub NoStack : Type 0
+NoStack = (files : List (List ℕ)) (e : Fault) (programs : List (List Insn)) → IsFirstRefusal files e → SpellStack files programs → ⊥
+
+-- a refusal is of the number of questions, or of the files
+by_kind : (files : List (List ℕ)) (questions : List Asked) (e : Fault) → IsAuditRefusal files questions e
+    → IsMiscounted files questions ⊎ IsFirstRefusal files e
+by_kind files questions faults.Count r = inl r
+by_kind files questions e r = inr r
+
+-- no number is right and wrong
+never_both : (n : ℕ) → (0 < n) × (n ≤ 256) → (n ≡ 0) ⊎ (256 < n) → ⊥
+never_both n h (inl none) = let some = h.0 in omega arith
+never_both n h (inr many) = let few = h.1 in omega arith
+
+pub audited_not_refused : NoStack → (files : List (List ℕ)) (questions : List Asked) (budget : ℕ) (o : Found) (e : Fault)
+    → IsAudit files questions budget o → IsAuditRefusal files questions e → ⊥
+audited_not_refused none files questions budget o e audit refused = ⊎_elim
+    (λ (m : IsMiscounted files questions). never_both (length questions) audit.counted m.count)
+    (λ (r : IsFirstRefusal files e). none files e o.settled.stack r audit.stack)
+    (by_kind files questions e refused)
