@@ -89,6 +89,3 @@ pub fn audit<R: Threads + Wait + Sync, G: Gate>(
     }
     outcome_of(rt, alloc, stack, questions, budget, workers, gate)
 }
-
-#[cfg(test)]
-mod tests;

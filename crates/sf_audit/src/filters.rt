@@ -108,6 +108,3 @@ pub fn stack_of(alloc: Global, filters: &[Vec<u8>]) -> Result<Stack, Fault>
         Err(_) => Err(Fault::PathLength),
     }
 }
-
-#[cfg(test)]
-mod tests;

@@ -23,6 +23,3 @@ pub use report::write_report;
 
 /// The most questions of a policy and of an audit.
 const MOST_QUESTIONS: usize = 256;
-
-#[cfg(test)]
-mod tests;

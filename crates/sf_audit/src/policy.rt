@@ -128,6 +128,3 @@ pub fn read_policy(alloc: Global, text: &str) -> Result<Vec<Question>, Fault>
         }
     }
 }
-
-#[cfg(test)]
-mod tests;

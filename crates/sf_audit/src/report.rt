@@ -54,6 +54,3 @@ pub fn write_report<W: Write>(
         Err(_) => Err(Fault::Memory),
     }
 }
-
-#[cfg(test)]
-mod tests;
