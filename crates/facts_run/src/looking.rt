@@ -89,12 +89,7 @@ fn take(alloc: Global, facts: &mut Facts, pool: &Pool, step: Step) -> Result<boo
 }
 
 /// Takes steps until one contradicts. False: one did.
-fn take_all(
-    alloc: Global,
-    facts: &mut Facts,
-    pool: &Pool,
-    steps: &[Step],
-) -> Result<bool, Fail>
+fn take_all(alloc: Global, facts: &mut Facts, pool: &Pool, steps: &[Step]) -> Result<bool, Fail>
     requires { Covers facts.old pool.now }
     ensures { Covers facts.new pool.now }
 {
@@ -133,7 +128,10 @@ fn told(alloc: Global, facts: &Facts, pool: &Pool, at: usize, taken: bool) -> Re
     let (low, high, zeros, ones) = (known.low, known.high, known.zeros, known.ones);
     let mut text = String::new(alloc);
     text.push_str(if taken { "taken" } else { "contradicts" })?;
-    write!(&mut text, ", from {low} to {high}, zeros {zeros:08x}, ones {ones:08x}")?;
+    write!(
+        &mut text,
+        ", from {low} to {high}, zeros {zeros:08x}, ones {ones:08x}"
+    )?;
     if let Some(number) = facts.decided(pool, NodeId(at)) {
         write!(&mut text, ", decided {number}")?;
     }

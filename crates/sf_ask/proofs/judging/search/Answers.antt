@@ -16,10 +16,10 @@ returns-then-not-branch-clause-right c =
 
 pub returns-then-not-branch-clause-tried : goal.returns-then-not-branch-clause-tried
 returns-then-not-branch-clause-tried c =
-    let confined = rw (c.in-Some.is, c.facts-known.ensures.value, c.pool.ensures.value) at c.in_ok-facts.ensures.confined in
-    ( c.in-Some-least_input.input
-    , record { facts = c.in-Some.facts; confined = confined; least = c.in-Some-least_input.ensures }
-    , sym c.in_ok-is_member_of.ensures.tells ∙ c.if-not-branch.true
+    let confined = rw (c.in-Some.is, c.facts-known.ensures.value, c.pool.ensures.value) at c.in_ok-facts.ensures.confined in (
+      c.in-Some-least_input.input,
+      record { facts = c.in-Some.facts; confined = confined; least = c.in-Some-least_input.ensures },
+      sym c.in_ok-is_member_of.ensures.tells ∙ c.if-not-branch.true,
     )
 
 pub returns-then-not-branch-clause-decisive : goal.returns-then-not-branch-clause-decisive
