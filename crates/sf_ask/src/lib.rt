@@ -15,8 +15,3 @@ pub use judging::judge;
 pub use question::Question;
 pub use sheet::Sheet;
 pub use verdict::{Reply, Verdict};
-
-#[cfg(test)]
-mod tests;
-#[cfg(test)]
-mod verdict_tests;

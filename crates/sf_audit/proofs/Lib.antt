@@ -7,3 +7,4 @@ pub mod JoinedLemmas
 pub mod RefusalLemmas
 pub mod OneRefusal
 pub mod Exclusive
+pub mod OneReport

@@ -1,12 +1,14 @@
 //! Laws of the definitions, each the contract of a function that does nothing.
 
-ghost use Rattle.std.specs.Prelude.{◌≡◌, ℕ, List};
+ghost use Rattle.std.specs.Prelude.{◌≡◌, ℕ, Bool, List, []};
 ghost use Rattle.sf_check.specs.declared.insn.Insn.{Insn};
-ghost use Rattle.sf_audit.specs.declared.fault.Fault.{Fault};
+ghost use Rattle.sf_check.specs.Stacks.{IsPlain};
 ghost use Rattle.sf_ask.specs.Asked.{Asked};
+ghost use Rattle.sf_audit.specs.declared.fault.Fault.{Fault};
+ghost use Rattle.sf_audit.specs.Audits.{IsAudit, IsAuditRefusal};
 ghost use Rattle.sf_audit.specs.Filters.{SpellPrograms, SpellStack, IsFirstRefusal};
 ghost use Rattle.sf_audit.specs.Outcomes.{Found};
-ghost use Rattle.sf_audit.specs.Audits.{IsAudit, IsAuditRefusal};
+ghost use Rattle.sf_audit.specs.Reports.{report_text};
 
 use sf_check::laws::{a_fault_spells_no_lawful_program, one_first_fault, one_program_of_a_file};
 use sf_insn::laws::one_spelling;
@@ -45,4 +47,15 @@ pub fn an_audit_is_not_refused()
         IsAudit files questions budget o → IsAuditRefusal files questions e → ⊥ }
 {
     a_refusal_spells_no_stack();
+}
+
+/// Two audits of one plain stack with the same questions that leave nothing outstanding have the same report, whatever
+/// their budgets, and whoever worked.
+pub fn one_report()
+    ensures { (files : List (List ℕ)) (questions : List Asked) (b c : ℕ) (o p : Found) →
+        IsAudit files questions b o → IsAudit files questions c p → IsPlain o.settled.stack →
+        o.settled.outstanding ≡ [] → p.settled.outstanding ≡ [] →
+        (shown : Bool) → report_text o shown ≡ report_text p shown }
+{
+    one_stack();
 }

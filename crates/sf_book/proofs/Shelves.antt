@@ -16,11 +16,11 @@ use Rattle.std.proofs.lemmas.Map.Keys.{IsDistinct-from_sorted}
 use Rattle.std.proofs.lemmas.Map.Made.{lookup-map_values}
 use Rattle.std.proofs.lemmas.Option.{slice_get-get_or}
 use Rattle.std.proofs.lemmas.List.Elements.{All-head, All-tail}
+use Rattle.sf_run.specs.FeasibleLaws.{names_exact}
 use Rattle.sf_piece.specs.Pieces.{PieceData}
 use Rattle.sf_book.specs.Books.{EntryData}
 use Rattle.sf_book.specs.Changes.{entry_at, with_lease, with_lease_at}
 use Rattle.sf_book.specs.Shelves.{name_cmp, name_total, piece_at, mark_of, entry_of, entries_of, IsShelf}
-use Rattle.sf_book.specs.NameOrderLaws.{names_exact}
 use Rattle.sf_book.specs.declared.shelf.Mark.{Mark}
 
 abbrev pub Ids : Type 0

@@ -15,8 +15,8 @@ use Rattle.sf_check.specs.MemberLaws.{contains_cons, contains_here, contains_the
 use Rattle.sf_run.specs.Machine.{trace_of}
 use Rattle.sf_run.specs.RouteLaws.{one_whole}
 use Rattle.sf_run.specs.TraceLaws.{trace_is_whole_route}
-use Rattle.sf_run.specs.Feasible.{AreFeasibleTraces}
-use Rattle.sf_run.specs.FeasibleLaws.{one_order}
+use Rattle.sf_run.specs.Feasible.{AreFeasibleTraces, feasible_traces}
+use Rattle.sf_run.specs.FeasibleLaws.{one_order, feasible_are}
 use Rattle.sf_piece.specs.Pieces.{is_member, is_prefix}
 use Rattle.sf_book.specs.Books.{EntryData, RegionData, BookData, IsOutstanding, IsRightRegion, IsLawful, IsSettled, members_of}
 use Rattle.sf_book.specs.Exact.{HasMember, HasMembers, IsWorkedOff}
@@ -88,8 +88,10 @@ regions_hit b ts h m f = λ k d less.
     let some : HasMember r.piece = m.regions k d less in
     some_hit r.name ts (trace_of b.stack some.0) ((f.exactly (trace_of b.stack some.0)).1 (some.0, some.1, refl)) (sym (right.members some.0 some.1) ∙ some.2)
 
-pub one_for_each_trace : (b : BookData) (ts : List (List Bool)) → IsLawful b → HasMembers b → AreFeasibleTraces b.stack ts → length b.outstanding + length b.regions ≤ length ts
-one_for_each_trace b ts h m f =
+pub one_for_each_trace : (b : BookData) → IsLawful b → HasMembers b → length b.outstanding + length b.regions ≤ length (feasible_traces b.stack)
+one_for_each_trace b h m =
+    let ts = feasible_traces b.stack in
+    let f = feasible_are b.stack in
     let es : length b.outstanding ≤ sum_by (λ (e : EntryData). sum_by (λ t. hits e.piece.name t) ts) b.outstanding = at_least_one_each (λ (e : EntryData). sum_by (λ t. hits e.piece.name t) ts) b.outstanding (outstanding_hit b ts h m f) in
     let rs : length b.regions ≤ sum_by (λ (r : RegionData). sum_by (λ t. hits r.name t) ts) b.regions = at_least_one_each (λ (r : RegionData). sum_by (λ t. hits r.name t) ts) b.regions (regions_hit b ts h m f) in
     let ec = sum_of_sums (λ (e : EntryData) t. hits e.piece.name t) b.outstanding ts in
@@ -149,39 +151,45 @@ trace_named b ts h f none n c =
     let right : IsRightRegion b.stack r.1 = at_place (IsRightRegion b.stack) b.regions r.0 r.1 h.regions r.2 in
     contains_map (λ (r : RegionData). r.name) b.regions r.0 r.1 n r.2 (member_trace b.stack r.1 d.0 h.stack right d.1 r.3 ∙ d.2)
 
-pub worked_off : (b : BookData) (ts : List (List Bool)) → IsSettled b → HasMembers b → AreFeasibleTraces b.stack ts → b.outstanding ≡ [] → IsWorkedOff b ts
-worked_off b ts s m f none =
+pub worked_off : (b : BookData) → IsSettled b → HasMembers b → b.outstanding ≡ [] → IsWorkedOff b (feasible_traces b.stack)
+worked_off b s m none =
+    let ts = feasible_traces b.stack in
+    let f = feasible_are b.stack in
     let h = s.lawful in
     let names = map (λ (r : RegionData). r.name) b.regions in
     let few : (t : List Bool) → sum_by (λ (r : RegionData). hits r.name t) b.regions ≤ 1 = λ t. let a = h.apart t in omega arith in
-    let same : names ≡ ts = one_order names ts (strictly_in_order b.regions s.order few) f.order (name_feasible b ts h m f) (trace_named b ts h f none) in
+    let order = strictly_in_order b.regions s.order few in
+    let same : names ≡ ts = one_order names ts order f.order (name_feasible b ts h m f) (trace_named b ts h f none) in
     let len : length b.regions ≡ length ts = sym (length-map b.regions (λ (r : RegionData). r.name)) ∙ ap length same in
     let pieces = h.pieces in
     let committed = h.committed in
     let left : length b.outstanding ≡ 0 = ap length none in
     let emptied : length b.emptied ≡ 0 = ap length m.emptied in
-    record { names = same; splits = omega arith; commits = omega arith }
+    record { names = same; splits = omega arith; commits = omega arith; emptied = m.emptied }
 
 -- while something is outstanding the commits are too few
-pub left_unworked : (b : BookData) (ts : List (List Bool)) → IsLawful b → HasMembers b → AreFeasibleTraces b.stack ts → 0 < length b.outstanding → b.commits + 1 < 2 * length ts
-left_unworked b ts h m f some =
-    let room = one_for_each_trace b ts h m f in
+pub left_unworked : (b : BookData) → IsLawful b → HasMembers b → 0 < length b.outstanding → b.commits + 1 < 2 * length (feasible_traces b.stack)
+left_unworked b h m some =
+    let room = one_for_each_trace b h m in
     let pieces = h.pieces in
     let committed = h.committed in
     let emptied : length b.emptied ≡ 0 = ap length m.emptied in
     omega arith
 
 -- an ended exploration has nothing outstanding exactly where the budget is enough
-pub enough : (b : BookData) (ts : List (List Bool)) → IsSettled b → HasMembers b → AreFeasibleTraces b.stack ts → (b.outstanding ≡ []) ⊎ (b.commits ≡ b.budget) → (b.outstanding ≡ []) ↔ (2 * length ts ≤ b.budget + 1)
-enough b ts s m f end = (to, from end)
+pub enough : (b : BookData) → IsSettled b → HasMembers b → (b.outstanding ≡ []) ⊎ (b.commits ≡ b.budget) → (b.outstanding ≡ []) ↔ (2 * length (feasible_traces b.stack) ≤ b.budget + 1)
+enough b s m end = (to, from end)
   where
-    to : b.outstanding ≡ [] → 2 * length ts ≤ b.budget + 1
-    to none = let w = worked_off b ts s m f none in let c = w.commits in let within = s.lawful.within in omega arith
+    to : b.outstanding ≡ [] → 2 * length (feasible_traces b.stack) ≤ b.budget + 1
+    to none = let w = worked_off b s m none in let c = w.commits in let within = s.lawful.within in omega arith
 
-    from : (b.outstanding ≡ []) ⊎ (b.commits ≡ b.budget) → 2 * length ts ≤ b.budget + 1 → b.outstanding ≡ []
+    from : (b.outstanding ≡ []) ⊎ (b.commits ≡ b.budget) → 2 * length (feasible_traces b.stack) ≤ b.budget + 1 → b.outstanding ≡ []
     from (inl none) room = none
     from (inr spent) room = by b.outstanding refl
       where
         by : (es : List EntryData) → b.outstanding ≡ es → b.outstanding ≡ []
         by [] is = is
-        by (e ∷ es) is = let len : length b.outstanding ≡ length es + 1 = ap length is ∙ omega arith in let few = left_unworked b ts s.lawful m f (omega arith) in absurd (omega arith)
+        by (e ∷ es) is =
+            let len : length b.outstanding ≡ length es + 1 = ap length is ∙ omega arith in
+            let few = left_unworked b s.lawful m (omega arith) in
+            absurd (omega arith)

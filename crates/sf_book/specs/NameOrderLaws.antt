@@ -1,6 +1,6 @@
 -- Lists of names in order.
-use Rattle.std.proofs.Common.{◌≡◌, suc, ◌+◌, ◌≤◌, Bool, true, false, List, [], ◌∷◌, map, refl, sym, ◌∙◌, ap, arith}
-use Rattle.std.specs.List.{AllByRecursion, sum_by}
+use Rattle.std.proofs.Common.{◌≡◌, suc, ◌+◌, ◌≤◌, Bool, false, List, [], ◌∷◌, map, refl, sym, ◌∙◌, ap, arith}
+use Rattle.std.specs.List.{sum_by}
 use Rattle.std.specs.List.Sorted.{IsStrictlySortedBy}
 use Rattle.std.specs.Ordering.{bool_cmp, is_eq, is_lt, ordering_reverse}
 use Rattle.std.specs.declared.cmp.Ordering.{Ordering}
@@ -8,22 +8,12 @@ use Rattle.std.specs.declared.cmp.Ordering.TheVariants.{Less, Equal, Greater}
 use Rattle.std.specs.Cmp.Lexicographic.{slice_cmp}
 use Rattle.std.proofs.lemmas.List.Sums.{sum_by-cons}
 use Rattle.sf_run.specs.Feasible.{AreInNameOrder}
+use Rattle.sf_run.specs.FeasibleLaws.{names_total, names_exact, before_all}
 use Rattle.sf_book.specs.Books.{RegionData, IsInNameOrder}
 use Rattle.sf_book.specs.PartitionLaws.{bit, hits, prefix-refl}
-use Rattle.sf_book.specs.Shelves.{names_total}
 
 abbrev cmp : List Bool → List Bool → Ordering
 cmp m n = slice_cmp bool_cmp m n
-
--- names that compare equal are equal
-pub names_exact : (a b : List Bool) → is_eq (cmp a b) ≡ true → a ≡ b
-names_exact [] [] h = refl
-names_exact [] (y ∷ b) h = absurd cc
-names_exact (x ∷ a) [] h = absurd cc
-names_exact (true ∷ a) (true ∷ b) h = ap (λ l. true ∷ l) (names_exact a b h)
-names_exact (true ∷ a) (false ∷ b) h = absurd cc
-names_exact (false ∷ a) (true ∷ b) h = absurd cc
-names_exact (false ∷ a) (false ∷ b) h = ap (λ l. false ∷ l) (names_exact a b h)
 
 -- of two names of which the second is not before the first, and that differ, the first is before the second
 before : (m n : List Bool) → is_lt (cmp n m) ≡ false → (m ≡ n → ⊥) → cmp m n ≡ Less
@@ -53,8 +43,4 @@ strictly_in_order (r ∷ q ∷ rs) order few =
     let two : hits q.name r.name ≡ 1 = ap (λ k. hits k r.name) (sym e) ∙ one in
     omega arith in
     let first : cmp r.name q.name ≡ Less = before r.name q.name (order 0 r (omega arith) (omega arith)) other in
-    ((first, later (map (λ (r : RegionData). r.name) rs) first rest.0), rest)
-  where
-    later : (ns : List (List Bool)) → cmp r.name q.name ≡ Less → AllByRecursion (λ n. cmp q.name n ≡ Less) ns → AllByRecursion (λ n. cmp r.name n ≡ Less) ns
-    later [] h a = tt
-    later (n ∷ ns) h a = (names_total.trans r.name q.name n h a.0, later ns h a.1)
+    ((first, before_all r.name q.name (map (λ (r : RegionData). r.name) rs) first rest.0), rest)

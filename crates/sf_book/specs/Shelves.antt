@@ -2,12 +2,13 @@
 use Rattle.std.specs.Prelude.{◌≡◌, ℕ, true, false, List, map, Option, Some, refl}
 use Rattle.std.specs.Ordering.{bool_cmp, is_eq, nat_cmp, eq_by_cmp}
 use Rattle.std.specs.declared.cmp.Ordering.{Ordering}
-use Rattle.std.specs.Cmp.{IsTotalOrder, on_total, bool_cmp_total}
-use Rattle.std.specs.Cmp.Lexicographic.{slice_cmp, lists_total}
+use Rattle.std.specs.Cmp.{IsTotalOrder, on_total}
+use Rattle.std.specs.Cmp.Lexicographic.{slice_cmp}
 use Rattle.std.specs.BTreeMap.{is_at}
 use Rattle.std.specs.Map.{lookup, keys_of}
 use Rattle.std.specs.List.Sorted.{IsStrictlySortedBy}
 use Rattle.std.specs.Option.{option_map_or}
+use Rattle.sf_run.specs.FeasibleLaws.{names_total}
 use Rattle.sf_piece.specs.Pieces.{PieceData}
 use Rattle.sf_book.specs.Books.{EntryData}
 use Rattle.sf_book.specs.Changes.{entry_at, with_lease_at, IsFirstFree}
@@ -16,9 +17,6 @@ use Rattle.sf_book.specs.declared.shelf.Mark.{Mark}
 -- pieces in the order of their names
 abbrev pub name_cmp : PieceData → PieceData → Ordering
 name_cmp p q = slice_cmp bool_cmp p.name q.name
-
-pub names_total : IsTotalOrder (slice_cmp bool_cmp)
-names_total = lists_total bool_cmp_total
 
 pub name_total : IsTotalOrder name_cmp
 name_total = on_total (λ (p : PieceData). p.name) names_total

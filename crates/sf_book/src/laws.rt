@@ -1,9 +1,9 @@
 //! Laws of lawful books, for the reader and the crates above.
 
-ghost use Rattle.std.specs.Prelude.{◌≡◌, ◌+◌, ◌*◌, ◌<◌, ◌≤◌, ◌↔◌, ◌⊎◌, Bool, List, [], length};
+ghost use Rattle.std.specs.Prelude.{◌≡◌, ◌+◌, ◌*◌, ◌<◌, ◌≤◌, ◌↔◌, ◌⊎◌, [], length};
 ghost use Rattle.sf_insn.specs.declared.input.Input.{Input};
 ghost use Rattle.sf_insn.specs.Inputs.{IsInput};
-ghost use Rattle.sf_run.specs.Feasible.{AreFeasibleTraces};
+ghost use Rattle.sf_run.specs.Feasible.{feasible_traces};
 ghost use Rattle.sf_book.specs.Books.{BookData, IsLawful, IsSettled};
 ghost use Rattle.sf_book.specs.Exact.{HasMembers, IsWorkedOff};
 ghost use Rattle.sf_book.specs.Partition.{parts_of, names_of, LiesInOne, NoneBeginsAnother};
@@ -24,22 +24,26 @@ pub fn no_name_begins_another()
 /// its stack.
 #[tactic(auto, using(crate::specs::ExactLaws::one_for_each_trace))]
 pub fn at_most_one_for_each_trace()
-    ensures { (b : BookData) (ts : List (List Bool)) → IsLawful b → HasMembers b → AreFeasibleTraces b.stack ts → length b.outstanding + length b.regions ≤ length ts }
+    ensures { (b : BookData) → IsLawful b → HasMembers b →
+        length b.outstanding + length b.regions ≤ length (feasible_traces b.stack) }
 {}
 
 /// With nothing outstanding, the names of its regions are exactly the feasible traces, in order.
 pub fn what_is_worked_off_names_each_trace()
-    ensures { (b : BookData) (ts : List (List Bool)) → IsSettled b → HasMembers b → AreFeasibleTraces b.stack ts → b.outstanding ≡ [] → IsWorkedOff b ts }
+    ensures { (b : BookData) → IsSettled b → HasMembers b → b.outstanding ≡ [] →
+        IsWorkedOff b (feasible_traces b.stack) }
 {}
 
 /// While something is outstanding, fewer works were committed than make all regions.
 #[tactic(auto, using(crate::specs::ExactLaws::left_unworked))]
 pub fn what_is_left_took_fewer_works()
-    ensures { (b : BookData) (ts : List (List Bool)) → IsLawful b → HasMembers b → AreFeasibleTraces b.stack ts → 0 < length b.outstanding → b.commits + 1 < 2 * length ts }
+    ensures { (b : BookData) → IsLawful b → HasMembers b → 0 < length b.outstanding →
+        b.commits + 1 < 2 * length (feasible_traces b.stack) }
 {}
 
 /// An ended exploration has nothing outstanding exactly where its budget was enough.
 #[tactic(auto, using(crate::specs::ExactLaws::enough))]
 pub fn a_budget_is_enough_or_not()
-    ensures { (b : BookData) (ts : List (List Bool)) → IsSettled b → HasMembers b → AreFeasibleTraces b.stack ts → (b.outstanding ≡ []) ⊎ (b.commits ≡ b.budget) → (b.outstanding ≡ []) ↔ (2 * length ts ≤ b.budget + 1) }
+    ensures { (b : BookData) → IsSettled b → HasMembers b → (b.outstanding ≡ []) ⊎ (b.commits ≡ b.budget) →
+        (b.outstanding ≡ []) ↔ (2 * length (feasible_traces b.stack) ≤ b.budget + 1) }
 {}

@@ -15,6 +15,3 @@ pub use entries::Region;
 pub use fault::Fault;
 pub use laws::{each_input_lies_in_one, no_name_begins_another};
 pub use settled::Settled;
-
-#[cfg(test)]
-mod tests;

@@ -1,8 +1,8 @@
 -- Turns of a worker, and where an exploration ends.
-use Rattle.std.specs.Prelude.{◌≡◌, ℕ, ◌+◌, ◌*◌, ◌≤◌, ◌↔◌, Bool, List, [], All, length, false, ◌⊎◌}
+use Rattle.std.specs.Prelude.{◌≡◌, ℕ, ◌+◌, ◌*◌, ◌≤◌, ◌↔◌, List, [], All, length, false, ◌⊎◌}
 use Rattle.sf_book.specs.Books.{EntryData, BookData, IsSettled}
 use Rattle.sf_check.specs.declared.insn.Insn.{Insn}
-use Rattle.sf_run.specs.Feasible.{AreFeasibleTraces}
+use Rattle.sf_run.specs.Feasible.{feasible_traces}
 use Rattle.sf_book.specs.Exact.{IsWorkedOff}
 
 -- nothing is outstanding, or all commits are spent
@@ -30,7 +30,8 @@ pub record IsEndOf (stack : List (List Insn)) (budget : ℕ) (s : BookData) : Ty
   pub with : s.budget ≡ budget
   pub end : IsEnd s
 
--- the end of an exploration of a plain stack: nothing is outstanding exactly where the budget is enough for its feasible traces, and then these are what was found
+-- The end of an exploration of a plain stack: nothing is outstanding exactly where the budget is enough for its feasible
+-- traces, and then these are what was found.
 pub record IsExactEnd (stack : List (List Insn)) (budget : ℕ) (s : BookData) : Type 0 where
-  pub enough : (traces : List (List Bool)) → AreFeasibleTraces stack traces → (s.outstanding ≡ []) ↔ (2 * length traces ≤ budget + 1)
-  pub worked : (traces : List (List Bool)) → AreFeasibleTraces stack traces → s.outstanding ≡ [] → IsWorkedOff s traces
+  pub enough : (s.outstanding ≡ []) ↔ (2 * length (feasible_traces stack) ≤ budget + 1)
+  pub worked : s.outstanding ≡ [] → IsWorkedOff s (feasible_traces stack)

@@ -29,6 +29,3 @@ pub use history::{End, Event};
 pub use replying::sweep;
 pub use view::{Entry, Matter, Note, View};
 pub use workers::{explore, visit};
-
-#[cfg(test)]
-mod tests;

@@ -19,6 +19,3 @@ pub use first::root;
 pub use machine::Machine;
 pub use piece::Piece;
 pub use work::{Step, Work, advance};
-
-#[cfg(test)]
-mod tests;

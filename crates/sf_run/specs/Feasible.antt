@@ -1,6 +1,7 @@
 -- The feasible traces of a stack: those that some input has.
-use Rattle.std.specs.Prelude.{◌≡◌, ◌↔◌, Bool, List, Contains}
-use Rattle.std.specs.Ordering.{bool_cmp}
+use Rattle.std.specs.Prelude.{◌≡◌, ◌↔◌, ℕ, zero, suc, ◌^◌, Bool, List, [], ◌∷◌, map, Contains}
+use Rattle.std.specs.List.{flat_map, range_with_len}
+use Rattle.std.specs.Ordering.{bool_cmp, match_ordering}
 use Rattle.std.specs.Cmp.Lexicographic.{slice_cmp}
 use Rattle.std.specs.List.Sorted.{IsStrictlySortedBy}
 use Rattle.sf_insn.specs.declared.input.Input.{Input}
@@ -20,3 +21,32 @@ AreInNameOrder ts = IsStrictlySortedBy (slice_cmp bool_cmp) ts
 pub record AreFeasibleTraces (programs : List (List Insn)) (ts : List (List Bool)) : Type 0 where
   pub order : AreInNameOrder ts
   pub exactly : (t : List Bool) → Contains ts t ↔ IsFeasible programs t
+
+-- ---- that list: the traces of all inputs, sorted, each once
+
+-- all lists of n numbers below m
+unfoldable pub lists_below : ℕ → ℕ → List (List ℕ)
+lists_below zero m = [] ∷ []
+lists_below (suc n) m = flat_map (λ ns. map (λ k. k ∷ ns) (range_with_len 0 m)) (lists_below n m)
+
+-- the input of these words
+abbrev pub input_of : List ℕ → Input
+input_of words = record { words = words }
+
+-- all inputs
+unfoldable pub all_inputs : List Input
+all_inputs = map input_of (lists_below 16 (2 ^ 32))
+
+-- a trace put at its place among traces in name order, unless it is there
+abbrev pub put_in : List Bool → List (List Bool) → List (List Bool)
+put_in t [] = t ∷ []
+put_in t (u ∷ us) = match_ordering (slice_cmp bool_cmp t u) (t ∷ u ∷ us) (u ∷ us) (u ∷ put_in t us)
+
+-- traces in name order, each once
+abbrev pub in_name_order : List (List Bool) → List (List Bool)
+in_name_order [] = []
+in_name_order (t ∷ ts) = put_in t (in_name_order ts)
+
+-- the feasible traces of a stack, in name order
+unfoldable pub feasible_traces : List (List Insn) → List (List Bool)
+feasible_traces programs = in_name_order (map (trace_of programs) all_inputs)

@@ -2,6 +2,7 @@ pub mod Machine
 pub mod Answers
 pub mod Code
 pub mod Feasible
+pub mod InputLaws
 pub mod FeasibleLaws
 pub mod Numbers
 pub mod RunLaws

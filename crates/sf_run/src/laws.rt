@@ -1,7 +1,8 @@
 //! Laws of the definitions, each the contract of a function that does nothing.
 
-ghost use Rattle.std.specs.Prelude.{◌≡◌, ◌+◌, ◌*◌, ◌≤◌, ℕ, Bool, List, ◌++◌, length, IsSome};
+ghost use Rattle.std.specs.Prelude.{◌≡◌, ◌↔◌, ◌+◌, ◌*◌, ◌≤◌, ℕ, Bool, List, ◌++◌, length, IsSome, Contains};
 ghost use Rattle.sf_insn.specs.declared.input.Input.{Input};
+ghost use Rattle.sf_insn.specs.Inputs.{IsInput};
 ghost use Rattle.sf_check.specs.declared.insn.Insn.{Insn};
 ghost use Rattle.sf_check.specs.Programs.{IsLawful};
 ghost use Rattle.sf_check.specs.Stacks.{IsLawfulStack};
@@ -9,7 +10,7 @@ ghost use Rattle.sf_run.specs.declared.action.Answer.{Answer};
 ghost use Rattle.sf_run.specs.Machine.{outcome_of, trace_of};
 ghost use Rattle.sf_run.specs.Answers.{IsAnswer};
 ghost use Rattle.sf_run.specs.Routes.{IsWholeRoute};
-ghost use Rattle.sf_run.specs.Feasible.{AreFeasibleTraces};
+ghost use Rattle.sf_run.specs.Feasible.{AreFeasibleTraces, all_inputs, feasible_traces};
 
 /// The machine is never stuck in a lawful program, and comes to a return.
 pub fn lawful_programs_return()
@@ -37,6 +38,16 @@ pub fn no_whole_route_begins_another()
 pub fn traces_are_short()
     ensures { (programs : List (List Insn)) (d : Input) →
         IsLawfulStack programs → length (trace_of programs d) ≤ 32768 + 32 * 64 }
+{}
+
+/// The list of all inputs has each input, and nothing else.
+pub fn all_inputs_are_listed()
+    ensures { (d : Input) → Contains all_inputs d ↔ IsInput d }
+{}
+
+/// Each stack has its list of feasible traces.
+pub fn each_stack_has_its_feasible_traces()
+    ensures { (programs : List (List Insn)) → AreFeasibleTraces programs (feasible_traces programs) }
 {}
 
 /// A stack has at most one list of feasible traces.

@@ -1,0 +1,35 @@
+//! Lists with shared blocks.
+use sf_blocks::shared::SharedList;
+use std::alloc::{AllocError, Global};
+use std::test::Fail;
+
+fn counted(alloc: Global, n: u32) -> Result<SharedList<u32, 4>, AllocError> {
+    let mut list = SharedList::new(alloc)?;
+    for i in 0..n {
+        list.push(i)?;
+    }
+    Ok(list)
+}
+
+/// A fork that grows leaves the list alone, and both have what they had.
+fn forks_at(alloc: Global, n: u32) -> Result<bool, AllocError> {
+    let list = counted(alloc, n)?;
+    let mut copy = list.fork()?;
+    copy.push(7)?;
+    let mut good = list.len() == n as usize && copy.len() == n as usize + 1;
+    for i in 0..n {
+        if (i as usize) < list.len() && (i as usize) < copy.len() {
+            good = good && list.get(i as usize) == i && copy.get(i as usize) == i;
+        }
+    }
+    Ok(good)
+}
+
+#[test]
+fn forks(rt: HostRuntime) -> Result<(), Fail> {
+    for n in [0u32, 1, 63, 64, 65, 128, 129] {
+        let good = forks_at(rt.alloc(), n)?;
+        assert!(rt; good, "{n}");
+    }
+    Ok(())
+}

@@ -1,0 +1,13 @@
+//! Tests of the libraries of one exploration without threads: pieces, books, and what is asked of regions.
+#![tactic(auto)]
+
+#[cfg(test)]
+mod books;
+#[cfg(test)]
+mod facts;
+#[cfg(test)]
+mod questions;
+#[cfg(test)]
+mod regions;
+#[cfg(test)]
+mod verdicts;

@@ -1,0 +1,103 @@
+//! Small filters, whose runs are worked by hand.
+use crate::insns::{ALLOW, op, raw};
+use sf_insn::RawInsn;
+
+/// Kills a call that does not come from x86-64, refuses `execve`, and allows the others:
+/// `ld [4]; jeq 0xC000003E 1 0; ret 0x80000000; ld [0]; jeq 59 0 1; ret 0x00050001; ret 0x7fff0000`.
+pub fn execve_refused() -> [RawInsn; 7] {
+    [
+        op(0x20, 4),
+        raw(0x15, 1, 0, 0xC000003E),
+        op(0x06, 0x80000000),
+        op(0x20, 0),
+        raw(0x15, 0, 1, 59),
+        op(0x06, 0x00050001),
+        ALLOW,
+    ]
+}
+
+/// Refuses the x32 calls: `ld [0]; jge 0x40000000 0 1; ret 0x00050026; ret 0x7fff0000`.
+pub fn x32_refused() -> [RawInsn; 4] {
+    [
+        op(0x20, 0),
+        raw(0x35, 0, 1, 0x40000000),
+        op(0x06, 0x00050026),
+        ALLOW,
+    ]
+}
+
+/// Returns 8 divided by word 4: `ld [16]; tax; ld #8; div x; ret a`. A region for each quotient, and one for the word 0.
+pub fn eight_divided() -> [RawInsn; 5] {
+    [
+        op(0x20, 16),
+        op(0x07, 0),
+        op(0x00, 8),
+        op(0x3c, 0),
+        op(0x16, 0),
+    ]
+}
+
+/// Returns 1 shifted by 40, which is by 8: `ld #1; ldx #40; lsh x; ret a`.
+pub fn shifted() -> [RawInsn; 4] {
+    [op(0x00, 1), op(0x01, 40), op(0x6c, 0), op(0x16, 0)]
+}
+
+/// Returns the bits of word 4 that the mask has, of its low half, as the data of ERRNO:
+/// `ld [16]; and #mask; or #0x50000; ret a`.
+pub fn low_bits(mask: u32) -> [RawInsn; 4] {
+    [op(0x20, 16), op(0x54, mask), op(0x44, 0x50000), op(0x16, 0)]
+}
+
+/// Returns the first word: `ld [0]; ret a`. One region for each of its 2^32 values.
+pub fn echo() -> [RawInsn; 2] {
+    [op(0x20, 0), op(0x16, 0)]
+}
+
+/// Allows inputs whose first word has one of these bits, and kills on others:
+/// `ld [0]; jset bits 0 1; ret 0x7fff0000; ret 0x80000000`. With two bits or more it isn't plain.
+pub fn any_bit(bits: u32) -> [RawInsn; 4] {
+    [
+        op(0x20, 0),
+        raw(0x45, 0, 1, bits),
+        ALLOW,
+        op(0x06, 0x80000000),
+    ]
+}
+
+/// The last of four tests has one way left, since a word below 3 is 0, 1 or 2:
+/// `ld [0]; jgt 2 4 0; jeq 0 3 0; jeq 1 2 0; jeq 2 1 0; ret 0x80000000; ret 0x7fff0000`.
+pub fn four_tests() -> [RawInsn; 7] {
+    [
+        op(0x20, 0),
+        raw(0x25, 4, 0, 2),
+        raw(0x15, 3, 0, 0),
+        raw(0x15, 2, 0, 1),
+        raw(0x15, 1, 0, 2),
+        op(0x06, 0x80000000),
+        ALLOW,
+    ]
+}
+
+/// One way of its tests has no input, being not above 101 and yet at least 102, which `or #0` hides at first:
+/// `ld [12]; jgt 101 0 0; or #0; jge 102 0 1; jgt 104 0 0; ret 0x80010000`.
+pub fn emptied_late() -> [RawInsn; 6] {
+    [
+        op(0x20, 12),
+        raw(0x25, 0, 0, 101),
+        op(0x44, 0),
+        raw(0x35, 0, 1, 102),
+        raw(0x25, 0, 0, 104),
+        op(0x06, 0x80010000),
+    ]
+}
+
+/// Is refused, since one path doesn't store what it loads: `ld [0]; jeq 1 0 1; st M[0]; ld M[0]; ret a`.
+pub fn unset_scratch() -> [RawInsn; 5] {
+    [
+        op(0x20, 0),
+        raw(0x15, 0, 1, 1),
+        op(0x02, 0),
+        op(0x60, 0),
+        op(0x16, 0),
+    ]
+}

@@ -1,0 +1,19 @@
+//! Instructions by their fields.
+use sf_insn::RawInsn;
+
+/// Returns SECCOMP_RET_ALLOW.
+pub const ALLOW: RawInsn = RawInsn {
+    code: 0x06,
+    jt: 0,
+    jf: 0,
+    k: 0x7fff0000,
+};
+
+pub fn raw(code: u16, jt: u8, jf: u8, k: u32) -> RawInsn {
+    RawInsn { code, jt, jf, k }
+}
+
+/// An instruction with nothing in its two fields for jumps.
+pub fn op(code: u16, k: u32) -> RawInsn {
+    raw(code, 0, 0, k)
+}

@@ -1,0 +1,14 @@
+//! Filters and stacks that the tests of several crates share.
+#![tactic(auto)]
+
+mod filters;
+mod insns;
+mod lengths;
+mod stacks;
+
+pub use filters::{
+    any_bit, echo, eight_divided, emptied_late, execve_refused, four_tests, low_bits, shifted, unset_scratch, x32_refused,
+};
+pub use insns::{ALLOW, op, raw};
+pub use lengths::negating;
+pub use stacks::{chain_stack, echo_stack, execve_stack, stack_of, wide_stack};

@@ -1,9 +1,0 @@
-mod alone;
-mod board;
-mod chains;
-mod computed;
-mod kit;
-mod shared;
-mod stealing;
-mod sweeps;
-mod together;

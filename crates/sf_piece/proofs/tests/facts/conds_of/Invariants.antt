@@ -1,7 +1,0 @@
-use Rattle.std.proofs.Common.{length}
-use Rattle.std.specs.Prelude.{All}
-use Rattle.sf_sym.specs.Pool.{IsCondBelow}
-use Rattle.sf_piece.proofs.tests.facts.conds_of.Given as goal
-
-abbrev pub invariant-loop-i : goal.invariant-loop-i
-invariant-loop-i l = All (IsCondBelow (length l.piece.pool)) l.conds.items
