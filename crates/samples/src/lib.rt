@@ -7,7 +7,8 @@ mod lengths;
 mod stacks;
 
 pub use filters::{
-    any_bit, echo, eight_divided, emptied_late, execve_refused, four_tests, low_bits, shifted, unset_scratch, x32_refused,
+    any_bit, echo, eight_divided, emptied_late, execve_refused, four_tests, low_bits, shifted,
+    unset_scratch, x32_refused,
 };
 pub use insns::{ALLOW, op, raw};
 pub use lengths::negating;
