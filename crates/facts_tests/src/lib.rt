@@ -1,7 +1,8 @@
-//! Tests of the libraries below symbolic execution: instructions, programs, runs, lists and symbolic words. Facts are
-//! tried by the cases of `facts_run`.
+//! Tests of the libraries below symbolic execution: instructions, programs, runs, lists, symbolic words and facts.
 #![tactic(auto)]
 
+#[cfg(test)]
+mod facts;
 #[cfg(test)]
 mod instructions;
 #[cfg(test)]
