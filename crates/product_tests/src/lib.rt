@@ -1,5 +1,5 @@
-//! Tests of the product as a library: the texts of its faults, what an audit refuses, a wide audit, and reports over
-//! writers that take little at a time.
+//! Tests of the product as a library: the texts of its faults, what an audit refuses, and reports over writers that take
+//! little at a time.
 #![tactic(auto)]
 
 #[cfg(test)]
