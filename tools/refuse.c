@@ -1,53 +1,71 @@
-/* Refuses growths and threads of a program, which is started with this library before its others (LD_PRELOAD).
+/* Refuses growths of memory and starts of threads to a program that is started with this library before its others (LD_PRELOAD).
  *
- * REFUSE_AT=N      the Nth growth is refused (a call of malloc, calloc, realloc, posix_memalign or aligned_alloc)
- * REFUSE_FROM=N    each growth from the Nth on is refused
- * THREADS_FROM=N   each thread from the Nth on can't be started
- * REFUSE_COUNT=F   at the end the file F has how many growths were asked for, how many of them were refused, and how many threads were
+ * REFUSE_GROWTH=N        the Nth growth is refused, a call of malloc, calloc, realloc, memalign, aligned_alloc or posix_memalign
+ * REFUSE_GROWTHS_FROM=N  each growth from the Nth on is refused
+ * REFUSE_THREAD=N        the Nth thread can't be started
+ * REFUSE_THREADS_FROM=N  each thread from the Nth on can't be started
+ * REFUSE_COUNTS=FILE     FILE, 32 bytes, gets four 64-bit numbers: growths asked for and refused, threads asked for and refused
  *
- * Built by tools/memory_sweep: cc -O2 -shared -fPIC -o refuse.so tools/refuse.c -ldl
+ * The file is mapped, so the counts stand even where the program is killed. A program that is linked with a malloc of its own, as one
+ * with an address sanitizer is, isn't reached: its counts stay 0. tools/memory_sweep builds and uses this.
  */
 #define _GNU_SOURCE
 #include <dlfcn.h>
 #include <errno.h>
+#include <fcntl.h>
 #include <pthread.h>
 #include <stdatomic.h>
-#include <stdio.h>
 #include <stdlib.h>
+#include <sys/mman.h>
+#include <unistd.h>
 
-static atomic_long asked, refused, threads;
-static long at = -1, from = -1, threads_from = -1;
+struct Counts {
+    atomic_long growths, refused_growths, threads, refused_threads;
+};
 
+static struct Counts own;
+static struct Counts *counts = &own;
+static long growth, growths_from, thread, threads_from;
+
+/* The number in a variable of the environment; 0 where there is none. */
 static long number(const char *name) {
     const char *text = getenv(name);
-    return text ? atol(text) : -1;
+    return text ? atol(text) : 0;
 }
 
+/* What the loader asked for before isn't counted. */
 __attribute__((constructor)) static void start(void) {
-    at = number("REFUSE_AT");
-    from = number("REFUSE_FROM");
-    threads_from = number("THREADS_FROM");
-    atomic_store(&asked, 0);
+    const char *path = getenv("REFUSE_COUNTS");
+    int file = path ? open(path, O_RDWR | O_CLOEXEC) : -1;
+    if (file >= 0) {
+        void *map = mmap(NULL, sizeof own, PROT_READ | PROT_WRITE, MAP_SHARED, file, 0);
+        if (map != MAP_FAILED) {
+            counts = map;
+        }
+        close(file);
+    }
+    growth = number("REFUSE_GROWTH");
+    growths_from = number("REFUSE_GROWTHS_FROM");
+    thread = number("REFUSE_THREAD");
+    threads_from = number("REFUSE_THREADS_FROM");
 }
 
-__attribute__((destructor)) static void end(void) {
-    at = from = -1;
-    const char *path = getenv("REFUSE_COUNT");
-    FILE *file = path ? fopen(path, "w") : NULL;
-    if (file) {
-        fprintf(file, "%ld %ld %ld\n", atomic_load(&asked), atomic_load(&refused), atomic_load(&threads));
-        fclose(file);
+/* Counts one more, and whether it is to be refused: the one alone, or each from the other on. */
+static int is_refused(atomic_long *asked, atomic_long *refused, long alone, long from) {
+    long n = atomic_fetch_add(asked, 1) + 1;
+    if (n != alone && (from == 0 || n < from)) {
+        return 0;
     }
+    atomic_fetch_add(refused, 1);
+    return 1;
 }
 
-static int refuses(void) {
-    long n = atomic_fetch_add(&asked, 1) + 1;
-    if (n == at || (from > 0 && n >= from)) {
-        atomic_fetch_add(&refused, 1);
-        errno = ENOMEM;
-        return 1;
+static int is_growth_refused(void) {
+    if (!is_refused(&counts->growths, &counts->refused_growths, growth, growths_from)) {
+        return 0;
     }
-    return 0;
+    errno = ENOMEM;
+    return 1;
 }
 
 extern void *__libc_malloc(size_t);
@@ -55,28 +73,30 @@ extern void *__libc_calloc(size_t, size_t);
 extern void *__libc_realloc(void *, size_t);
 extern void *__libc_memalign(size_t, size_t);
 
-void *malloc(size_t size) { return refuses() ? NULL : __libc_malloc(size); }
+void *malloc(size_t size) { return is_growth_refused() ? NULL : __libc_malloc(size); }
 
-void *calloc(size_t count, size_t size) { return refuses() ? NULL : __libc_calloc(count, size); }
+void *calloc(size_t count, size_t size) { return is_growth_refused() ? NULL : __libc_calloc(count, size); }
 
-void *realloc(void *old, size_t size) { return refuses() ? NULL : __libc_realloc(old, size); }
+void *realloc(void *old, size_t size) { return is_growth_refused() ? NULL : __libc_realloc(old, size); }
 
-void *aligned_alloc(size_t align, size_t size) { return refuses() ? NULL : __libc_memalign(align, size); }
+void *memalign(size_t align, size_t size) { return is_growth_refused() ? NULL : __libc_memalign(align, size); }
+
+void *aligned_alloc(size_t align, size_t size) { return memalign(align, size); }
 
 int posix_memalign(void **out, size_t align, size_t size) {
-    if (refuses()) {
+    void *got = memalign(align, size);
+    if (!got) {
         return ENOMEM;
     }
-    *out = __libc_memalign(align, size);
-    return *out ? 0 : ENOMEM;
+    *out = got;
+    return 0;
 }
 
-int pthread_create(pthread_t *thread, const pthread_attr_t *attributes, void *(*run)(void *), void *argument) {
+int pthread_create(pthread_t *made, const pthread_attr_t *attributes, void *(*run)(void *), void *argument) {
     typedef int Create(pthread_t *, const pthread_attr_t *, void *(*)(void *), void *);
-    Create *create = (Create *)dlsym(RTLD_NEXT, "pthread_create");
-    long n = atomic_fetch_add(&threads, 1) + 1;
-    if (threads_from > 0 && n >= threads_from) {
+    if (is_refused(&counts->threads, &counts->refused_threads, thread, threads_from)) {
         return EAGAIN;
     }
-    return create(thread, attributes, run, argument);
+    Create *create = (Create *)dlsym(RTLD_NEXT, "pthread_create");
+    return create ? create(made, attributes, run, argument) : EAGAIN;
 }
