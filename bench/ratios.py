@@ -12,52 +12,16 @@ them: slower, but the same in each run, where the times of a few milliseconds ar
 """
 
 import os
-import re
-import struct
-import subprocess
 import sys
 import tempfile
-import time
+
+from filters import ALLOW, chain, doublings, filters_in, low_half, negations, repeated_tests, tree
+from runs import audit_of, commits_of, instructions, run
 
 REPEATS = 3
 
 # Whether instructions stand for time.
 COUNTS = "--instructions" in sys.argv
-
-
-def insn(code, jt=0, jf=0, k=0):
-    return struct.pack("<HBBI", code, jt, jf, k)
-
-
-ALLOW = insn(0x06, k=0x7FFF0000)
-KILL = insn(0x06, k=0x80000000)
-LOAD_NR = insn(0x20, k=0)
-
-
-def chain(length):
-    """A list of allowed calls, one test each: as many regions as tests and one more."""
-    return LOAD_NR + b"".join(insn(0x15, 0, 1, i) + ALLOW for i in range(length)) + KILL
-
-
-def tree(bits):
-    """A test of each of so many bits, one after the other: every combination is a region."""
-    return LOAD_NR + b"".join(insn(0x45, 0, 0, 1 << i) for i in range(bits)) + ALLOW
-
-
-def negations(count):
-    """One region, and as many new symbolic words as there are instructions."""
-    return LOAD_NR + insn(0x84) * count + ALLOW
-
-
-def doublings(count):
-    """Sums of a word with itself, and one test at the end."""
-    return LOAD_NR + (insn(0x07) + insn(0x0C)) * count + insn(0x15, 0, 1, 0) + ALLOW + KILL
-
-
-def repeated_tests(count):
-    """One test over and over: all but the first are implied."""
-    return LOAD_NR + insn(0x15, 0, 0, 0) * count + ALLOW
-
 
 FAMILIES = [
     ("chain of tests", chain, [63, 127, 255, 511, 1023, 2046]),
@@ -70,42 +34,12 @@ FAMILIES = [
 POLICY = 'version = 1\n[[question]]\nname = "any-call"\nnr = 0xffffffff\n'
 
 
-def low_half():
-    """Returns 16 bits of a word: as many regions as they have values."""
-    return insn(0x20, k=16) + insn(0x54, k=0xFFFF) + insn(0x44, k=0x50000) + insn(0x16)
-
-
-def timed(words):
-    """The seconds of a run, its peak memory in kilobytes, and what it prints."""
-    start = time.perf_counter()
-    child = subprocess.Popen(words, stdout=subprocess.PIPE)
-    text = child.stdout.read().decode()
-    _, _, usage = os.wait4(child.pid, 0)
-    return time.perf_counter() - start, usage.ru_maxrss, text
-
-
-def instructions(words):
-    """The instructions of a run."""
-    counter = ["valgrind", "--tool=callgrind", "--callgrind-out-file=/dev/null"]
-    said = subprocess.run(counter + words, stdout=subprocess.DEVNULL, stderr=subprocess.PIPE, text=True).stderr
-    return int(re.search(r"Collected : (\d+)", said).group(1))
-
-
 def measured(program, workers, folder, filters):
     """The cost of a run, its peak memory in kilobytes, and the commits."""
-    paths = []
-    for number, data in enumerate(filters, 1):
-        paths.append(os.path.join(folder, f"{number:02}.bpf"))
-        with open(paths[-1], "wb") as file:
-            file.write(data)
-    policy = os.path.join(folder, "policy.toml")
-    with open(policy, "w") as file:
-        file.write(POLICY)
-    words = [program, "audit", "--policy", policy, "--budget", "1000000", "--workers", str(workers), *paths]
-    runs = [timed(words) for _ in range(1 if COUNTS else REPEATS)]
-    cost = instructions(words) if COUNTS else min(seconds for seconds, _, _ in runs)
-    commits = int(runs[0][2].splitlines()[2].split()[-1])
-    return cost, max(peak for _, peak, _ in runs), commits
+    command = [program, *audit_of(folder, POLICY, filters, workers=workers)]
+    runs = [run(command) for _ in range(1 if COUNTS else REPEATS)]
+    cost = instructions(command) if COUNTS else min(one.seconds for one in runs)
+    return cost, max(one.peak for one in runs), commits_of(runs[0].output)
 
 
 def show_families(program, workers, folder):
@@ -126,11 +60,6 @@ def show_workers(program, folder):
         cost, peak, commits = measured(program, workers, folder, [low_half()])
         first = first or (cost - idle, peak)
         print(f"workers {workers} commits {commits} run {(cost - idle) / first[0]:6.2f} memory {peak / first[1]:6.2f}")
-
-
-def filters_in(folder):
-    names = sorted(name for name in os.listdir(folder) if name.endswith(".bpf"))
-    return [open(os.path.join(folder, name), "rb").read() for name in names]
 
 
 def show_stacks(program, folders, folder):

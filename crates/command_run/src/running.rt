@@ -1,17 +1,29 @@
 //! Command lines, and what they write.
 
-use crate::limited::{Full, Limited};
+use crate::limited::{Counted, Full, Limited};
 use crate::pieces::words_of;
 use crate::shelf::Shelf;
 use sf_command::command;
+use std::alloc::Global;
 use std::sync::Wait;
 use std::test::Fail;
 use std::thread::Threads;
 
-/// Shows what stands on standard error, and the status.
-fn show_end<R: Print>(rt: &R, err: &[u8], status: u8) -> Result<(), Fail> {
-    for line in std::str::from_utf8(err)?.lines() {
+/// Standard error, with nothing on it.
+fn no_errors(alloc: Global) -> Counted {
+    Counted {
+        held: Vec::new(alloc),
+        writes: 0,
+    }
+}
+
+/// Shows what stands on standard error, which is to be one write, and the status.
+fn show_end<R: Print>(rt: &R, err: &Counted, status: u8) -> Result<(), Fail> {
+    for line in std::str::from_utf8(&err.held)?.lines() {
         println!(rt; "! {line}")?;
+    }
+    if 1 < err.writes {
+        println!(rt; "standard error was written by several writes")?;
     }
     println!(rt; "= {status}")?;
     Ok(())
@@ -26,7 +38,7 @@ pub fn run<R: Print + Threads + Wait + Sync + AllocGlobal>(
     let alloc = rt.alloc();
     let words = words_of(alloc, line)?;
     let mut out = Vec::new(alloc);
-    let mut err = Vec::new(alloc);
+    let mut err = no_errors(alloc);
     let status = command(rt, alloc, &words, shelf, &mut out, &mut err);
     println!(rt; "$ {line}")?;
     print!(rt; "{}", std::str::from_utf8(&out)?)?;
@@ -47,12 +59,24 @@ fn run_limited<R: Print + Threads + Wait + Sync + AllocGlobal>(
         limit,
         full,
     };
-    let mut err = Vec::new(alloc);
+    let mut err = no_errors(alloc);
     let status = command(rt, alloc, words, shelf, &mut out, &mut err);
     let held = std::str::from_utf8(&out.held)?;
     println!(rt; "{limit} bytes, {full:?}: {held:?}")?;
     show_end(rt, &err, status)?;
     Ok(status < 5)
+}
+
+/// Runs a command line over a writer that takes five bytes, is interrupted by a signal, and then would take all.
+pub fn interrupt<R: Print + Threads + Wait + Sync + AllocGlobal>(
+    rt: &R,
+    shelf: &mut Shelf,
+    line: &str,
+) -> Result<(), Fail> {
+    let words = words_of(rt.alloc(), line)?;
+    println!(rt; "$ {line}")?;
+    run_limited(rt, shelf, &words, 5, Full::Interrupted)?;
+    Ok(())
 }
 
 /// Runs a command line over a writer that takes no byte, over one that takes one, and on, until one takes all; each

@@ -2,7 +2,7 @@
 
 use crate::pieces::push_piece;
 use sf_audit::Fault;
-use sf_command::Files;
+use sf_command::{Files, MOST_BYTES};
 use std::alloc::{AllocError, Global};
 use std::test::Fail;
 
@@ -56,7 +56,12 @@ impl Files for Shelf {
     fn read(&mut self, path: &str) -> Result<Vec<u8>, Fault> {
         for (name, bytes) in self.files.iter().rev() {
             if name.as_str() == path {
-                return Ok(bytes.clone()?);
+                let bytes = bytes.clone()?;
+                return if bytes.len() <= MOST_BYTES {
+                    Ok(bytes)
+                } else {
+                    Err(Fault::Read)
+                };
             }
         }
         Err(Fault::Read)

@@ -1,52 +1,12 @@
 //! One worker, with no thread.
-use crate::kit::counts;
-use samples::{execve_stack, op, stack_of};
-use sf_book::Settled;
+use samples::execve_stack;
 use sf_check::Stack;
-use sf_crew::{Fault, Gate, Open, explore};
-use sf_run::{Action, Answer};
+use sf_crew::{Fault, Gate, explore};
 use std::alloc::Global;
 use std::sync::atomic::{AtomicUsize, Ordering};
 use std::sync::{Arc, Wait};
 use std::test::Fail;
 use std::thread::Threads;
-
-fn is_region(settled: &Settled, i: usize, name: &[bool], action: Action, info: u16) -> bool {
-    if i >= settled.region_count() {
-        return false;
-    }
-    let region = settled.region(i);
-    region.name() == name && region.answer() == Answer { action, info }
-}
-
-#[test]
-fn each_path_settles_with_its_answer(rt: HostRuntime) -> Result<(), Fail> {
-    let alloc = rt.alloc();
-    let settled = explore(&rt, alloc, execve_stack(alloc)?, 100, 1, &Open)?;
-    assert_eq!(rt; settled.counts(), counts(0, 3, 0, 2, 5));
-    assert!(rt; is_region(&settled, 0, &[false], Action::KillProcess, 0));
-    assert!(rt; is_region(&settled, 1, &[true, false], Action::Allow, 0));
-    assert!(rt; is_region(&settled, 2, &[true, true], Action::Errno, 1));
-    Ok(())
-}
-
-#[test]
-fn a_spent_budget_leaves_pieces(rt: HostRuntime) -> Result<(), Fail> {
-    let alloc = rt.alloc();
-    let settled = explore(&rt, alloc, execve_stack(alloc)?, 1, 1, &Open)?;
-    assert_eq!(rt; settled.counts(), counts(2, 0, 0, 1, 1));
-    Ok(())
-}
-
-#[test]
-fn a_stack_without_tests_is_one_region(rt: HostRuntime) -> Result<(), Fail> {
-    let alloc = rt.alloc();
-    let stack = stack_of(alloc, &[&[op(0x06, 0x7fff0005)]])?;
-    let settled = explore(&rt, alloc, stack, 1, 1, &Open)?;
-    assert_eq!(rt; settled.counts(), counts(0, 1, 0, 0, 1));
-    assert!(rt; is_region(&settled, 0, &[], Action::Allow, 0));
-    Ok(())
-}
 
 /// Counts the calls, and those that come under another number than the next of worker 0.
 #[derive(Drop)]

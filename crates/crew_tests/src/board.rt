@@ -36,7 +36,8 @@ fn two_questions(alloc: Global) -> Result<[Question; 2], Fail> {
 
 /// Whether the sheet has a verdict on each question.
 fn is_whole(sheet: &Sheet) -> bool
-    ensures { IsTrue result → (q : ℕ) → q < length sheet.now.questions → is_skipped (verdict_at sheet.now.verdicts q) ≡ false }
+    ensures { IsTrue result → (q : ℕ) → q < length sheet.now.questions
+        → is_skipped (verdict_at sheet.now.verdicts q) ≡ false }
 {
     for q in 0..sheet.question_count() {
         if sheet.is_skipped(q) {
@@ -57,7 +58,8 @@ fn enter(
 ) -> Option<()>
     requires seat { IsSeatOf board.now seat.old }
     requires owes { (seat_view seat.old).owes ≡ Some job }
-    requires matter { (regions_of (about board.now) ≡ settled.now) × (asked (about board.now) ≡ questions.now) }
+    requires matter { (regions_of (about board.now) ≡ settled.now)
+        × (asked (about board.now) ≡ questions.now) }
     ensures same { IsSeatOf board.now seat.new }
     ensures free { IfSome result (λ _. (seat_view seat.new).owes ≡ None) }
 {
@@ -91,7 +93,8 @@ fn worked(
     questions: &[Question],
 ) -> Option<Joined>
     requires seats { IsNewSeat board.now first × IsNewSeat board.now second }
-    requires matter { (regions_of (about board.now) ≡ settled.now) × (asked (about board.now) ≡ questions.now) × (length questions.now ≡ 2) }
+    requires matter { (regions_of (about board.now) ≡ settled.now)
+        × (asked (about board.now) ≡ questions.now) × (length questions.now ≡ 2) }
     ensures { IfSome result (λ w. IsSeatOf board.now w.all) }
 {
     let a = board.draw(&mut first)?;
@@ -118,7 +121,8 @@ fn draw_all(
     questions: &[Question],
 ) -> Option<Vec<usize>>
     requires seat { IsSeatOf board.now seat × ((seat_view seat).owes ≡ None) }
-    requires matter { (regions_of (about board.now) ≡ settled.now) × (asked (about board.now) ≡ questions.now) }
+    requires matter { (regions_of (about board.now) ≡ settled.now)
+        × (asked (about board.now) ≡ questions.now) }
 {
     let mut jobs = Vec::new(alloc);
     for _turn in 0..5 {
@@ -142,7 +146,8 @@ fn eight_seats_draw_four_jobs_once_each(rt: HostRuntime) -> Result<(), Fail> {
         &rt,
         seats,
         &|seat: Seat| -> Option<Vec<usize>>
-            requires { IsNewSeat shared.now seat × (regions_of (about shared.now) ≡ of.now) × (asked (about shared.now) ≡ about_them.now) }
+            requires { IsNewSeat shared.now seat × (regions_of (about shared.now) ≡ of.now)
+                × (asked (about shared.now) ≡ about_them.now) }
         { draw_all(alloc, shared, seat, of, about_them) },
     )?;
     let mut all = Vec::new(alloc);
@@ -181,7 +186,8 @@ fn one_each(
     questions: &[Question],
 ) -> Option<Seat>
     requires seats { IsNewSeat board.now first × IsNewSeat board.now second }
-    requires matter { (regions_of (about board.now) ≡ settled.now) × (asked (about board.now) ≡ questions.now) }
+    requires matter { (regions_of (about board.now) ≡ settled.now)
+        × (asked (about board.now) ≡ questions.now) }
     ensures { IfSome result (λ s. IsSeatOf board.now s) }
 {
     let a = board.draw(&mut first)?;

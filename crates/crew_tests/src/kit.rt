@@ -14,7 +14,8 @@ pub fn counts(left: usize, settled: usize, emptied: usize, splits: u32, commits:
     }
 }
 
-fn write_name(text: &mut String, name: &[bool]) -> Result<(), Fail> {
+/// Adds a name, `T` for true and `F` for false.
+pub fn write_name(text: &mut String, name: &[bool]) -> Result<(), Fail> {
     for entry in name {
         text.push_str(if *entry { "T" } else { "F" })?;
     }
@@ -47,13 +48,6 @@ pub fn calls(alloc: Global, name: &str, low: u32, high: u32) -> Result<Question,
     let mut ranges = [(0, u32::MAX); 16];
     ranges[0] = (low, high);
     ranges[1] = X86_64;
-    Ok(Question::of(alloc, name, ranges, ActionSet::LET_THROUGH)?)
-}
-
-/// Whether a call with a number in the range is let through, whatever its architecture.
-pub fn numbers(alloc: Global, name: &str, low: u32, high: u32) -> Result<Question, Fail> {
-    let mut ranges = [(0, u32::MAX); 16];
-    ranges[0] = (low, high);
     Ok(Question::of(alloc, name, ranges, ActionSet::LET_THROUGH)?)
 }
 

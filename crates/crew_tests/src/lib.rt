@@ -6,10 +6,6 @@ mod alone;
 #[cfg(test)]
 mod board;
 #[cfg(test)]
-mod chains;
-#[cfg(test)]
-mod computed;
-#[cfg(test)]
 mod kit;
 #[cfg(test)]
 mod shared;
@@ -19,3 +15,5 @@ mod stealing;
 mod sweeps;
 #[cfg(test)]
 mod together;
+#[cfg(test)]
+mod workers;

@@ -1,7 +1,8 @@
 //! One locked book, and threads that call it.
-use crate::kit::counts;
+use crate::kit::{counts, found, write_name};
 use samples::{execve_stack, op, stack_of};
 use sf_book::{Book, Fault};
+use sf_check::Stack;
 use sf_crew::visit;
 use sf_piece::{Piece, advance, root};
 use std::alloc::Global;
@@ -42,10 +43,47 @@ fn times(outcomes: &[u16], wanted: u16) -> usize {
     count
 }
 
+/// Adds what is free, and leases it: each piece with its id, its name, and how many conditions and nodes it has.
+fn write_leases(text: &mut String, book: &mut Book) -> Result<(), Fail> {
+    for _ in 0..100 {
+        let Some(lease) = book.lease()? else {
+            return Ok(());
+        };
+        let (id, piece) = (lease.id, lease.piece);
+        let (conds, nodes) = (piece.cond_count(), piece.pool().len());
+        write!(&mut *text, " {id} {conds} {nodes} ")?;
+        write_name(&mut *text, piece.name())?;
+    }
+    Ok(())
+}
+
+/// All that a book tells: its budget, the pieces that are free, all its pieces, and what it ends with.
+fn told(alloc: Global, mut book: Book, stack: &Stack) -> Result<String, Fail> {
+    let mut text = String::new(alloc);
+    let budget = book.budget();
+    write!(&mut text, "{budget}, free")?;
+    write_leases(&mut text, &mut book)?;
+    book.recall();
+    text.push_str(", all")?;
+    write_leases(&mut text, &mut book)?;
+    let ended = found(alloc, &book.finish(stack)?)?;
+    write!(&mut text, ", at the end {ended}")?;
+    Ok(text)
+}
+
+/// What a book tells in which one work was committed, that of the root.
+fn told_of_one(alloc: Global, stack: &Arc<Stack>) -> Result<String, Fail> {
+    let mut book = Book::open(alloc, Arc::try_clone(stack)?, 100)?;
+    let lease = book.lease()?.ok_or("nothing to lease")?;
+    let _ids = book.commit(lease.id, advance(alloc, &lease.piece)?)?;
+    told(alloc, book, stack)
+}
+
 #[test]
 fn of_eight_threads_with_the_same_work_one_commits(rt: HostRuntime) -> Result<(), Fail> {
     let alloc = rt.alloc();
-    let mut book = Book::open(alloc, execve_stack(alloc)?, 100)?;
+    let stack = execve_stack(alloc)?;
+    let mut book = Book::open(alloc, Arc::try_clone(&stack)?, 100)?;
     let lease = book.lease()?.ok_or("nothing to lease")?;
     let book = Mutex::new(book);
     let (shared, host) = (&book, &rt);
@@ -56,14 +94,18 @@ fn of_eight_threads_with_the_same_work_one_commits(rt: HostRuntime) -> Result<()
         &|_i| -> u16 { commit_once(host, alloc, shared, &lease.piece, lease.id) },
     )?;
     assert_eq!(rt; (times(&outcomes, 2), times(&outcomes, 31)), (1, 7));
-    assert_eq!(rt; book.into_inner().counts(), counts(2, 0, 0, 1, 1));
+    let book = book.into_inner();
+    assert_eq!(rt; book.counts(), counts(2, 0, 0, 1, 1));
+    assert_eq!(rt; told(alloc, book, &stack)?, told_of_one(alloc, &stack)?);
     Ok(())
 }
 
 #[test]
 fn works_of_another_stack_leave_the_book_as_it_was(rt: HostRuntime) -> Result<(), Fail> {
     let alloc = rt.alloc();
-    let book = Mutex::new(Book::open(alloc, execve_stack(alloc)?, 100)?);
+    let stack = execve_stack(alloc)?;
+    let book = Mutex::new(Book::open(alloc, Arc::try_clone(&stack)?, 100)?);
+    let untouched = Book::open(alloc, Arc::try_clone(&stack)?, 100)?;
     let stranger = root(alloc, &stack_of(alloc, &[&[op(0x06, 0)]])?)?;
     let (shared, host) = (&book, &rt);
     let outcomes = thread::map_indices(
@@ -73,7 +115,9 @@ fn works_of_another_stack_leave_the_book_as_it_was(rt: HostRuntime) -> Result<()
         &|_i| -> u16 { commit_once(host, alloc, shared, &stranger, 0) },
     )?;
     assert_eq!(rt; times(&outcomes, 30), 8);
-    assert_eq!(rt; book.into_inner().counts(), counts(1, 0, 0, 0, 0));
+    let book = book.into_inner();
+    assert_eq!(rt; book.counts(), counts(1, 0, 0, 0, 0));
+    assert_eq!(rt; told(alloc, book, &stack)?, told(alloc, untouched, &stack)?);
     Ok(())
 }
 

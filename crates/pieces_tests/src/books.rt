@@ -121,7 +121,7 @@ fn an_unknown_id_given_back_changes_nothing(rt: HostRuntime) -> Result<(), Fail>
 }
 
 /// Works a book off, one piece after the other.
-pub fn work_off(alloc: Global, book: &mut Book) -> Result<(), Fail> {
+fn work_off(alloc: Global, book: &mut Book) -> Result<(), Fail> {
     for _ in 0..100 {
         let Some(lease) = book.lease()? else {
             return Ok(());

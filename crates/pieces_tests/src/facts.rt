@@ -4,12 +4,10 @@ ghost use Rattle.std.specs.Prelude.{length, IfOk, All};
 ghost use Rattle.sf_sym.specs.Pool.{IsCondBelow};
 
 use samples::{
-    ALLOW, any_bit, eight_divided, execve_refused, four_tests, low_bits, op, raw, stack_of,
-    x32_refused,
+    any_bit, eight_divided, execve_refused, four_tests, low_bits, nested, stack_of, x32_refused,
 };
 use sf_check::Stack;
 use sf_dom::Facts;
-use sf_insn::RawInsn;
 use sf_piece::{Piece, Step, advance, root};
 use sf_sym::{Cond, NodeId};
 use std::alloc::Global;
@@ -55,18 +53,6 @@ fn strays(alloc: Global, stack: &Arc<Stack>) -> Result<u64, Fail> {
         }
     }
     Ok(strays)
-}
-
-/// The second test has one way left after the first: `ld [0]; jge 100 0 3; jge 50 1 0; ret 0; ret 0x7fff0000; ret 0x00050001`.
-fn nested() -> [RawInsn; 6] {
-    [
-        op(0x20, 0),
-        raw(0x35, 0, 3, 100),
-        raw(0x35, 1, 0, 50),
-        op(0x06, 0),
-        ALLOW,
-        op(0x06, 0x00050001),
-    ]
 }
 
 #[test]

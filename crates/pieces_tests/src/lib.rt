@@ -1,4 +1,4 @@
-//! Tests of the libraries of one exploration without threads: pieces, books, and what is asked of regions.
+//! Tests of the libraries of one exploration without threads: pieces, books, and what is asked.
 #![tactic(auto)]
 
 #[cfg(test)]
@@ -9,5 +9,3 @@ mod facts;
 mod questions;
 #[cfg(test)]
 mod regions;
-#[cfg(test)]
-mod verdicts;

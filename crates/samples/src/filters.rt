@@ -64,6 +64,19 @@ pub fn any_bit(bits: u32) -> [RawInsn; 4] {
     ]
 }
 
+/// The second test has one way left after the first:
+/// `ld [0]; jge 100 0 3; jge 50 1 0; ret 0; ret 0x7fff0000; ret 0x00050001`.
+pub fn nested() -> [RawInsn; 6] {
+    [
+        op(0x20, 0),
+        raw(0x35, 0, 3, 100),
+        raw(0x35, 1, 0, 50),
+        op(0x06, 0),
+        ALLOW,
+        op(0x06, 0x00050001),
+    ]
+}
+
 /// The last of four tests has one way left, since a word below 3 is 0, 1 or 2:
 /// `ld [0]; jgt 2 4 0; jeq 0 3 0; jeq 1 2 0; jeq 2 1 0; ret 0x80000000; ret 0x7fff0000`.
 pub fn four_tests() -> [RawInsn; 7] {

@@ -7,9 +7,9 @@ mod lengths;
 mod stacks;
 
 pub use filters::{
-    any_bit, echo, eight_divided, emptied_late, execve_refused, four_tests, low_bits, shifted,
-    unset_scratch, x32_refused,
+    any_bit, echo, eight_divided, emptied_late, execve_refused, four_tests, low_bits, nested,
+    shifted, unset_scratch, x32_refused,
 };
 pub use insns::{ALLOW, op, raw};
 pub use lengths::negating;
-pub use stacks::{chain_stack, echo_stack, execve_stack, stack_of, wide_stack};
+pub use stacks::{echo_stack, execve_stack, stack_of};

@@ -1,6 +1,5 @@
 //! Stacks of filters.
 use crate::filters::{echo, execve_refused};
-use crate::lengths::{chain, wide};
 use sf_check::{Fault, Stack, check};
 use sf_insn::RawInsn;
 use std::alloc::Global;
@@ -23,16 +22,4 @@ pub fn execve_stack(alloc: Global) -> Result<Arc<Stack>, Fault> {
 /// The stack of `echo` alone.
 pub fn echo_stack(alloc: Global) -> Result<Arc<Stack>, Fault> {
     stack_of(alloc, &[&echo()])
-}
-
-/// The stack of `wide` alone.
-pub fn wide_stack(alloc: Global, words: u32) -> Result<Arc<Stack>, Fault> {
-    let raws = wide(alloc, words)?;
-    stack_of(alloc, &[raws.as_slice()])
-}
-
-/// The stack of `chain` alone.
-pub fn chain_stack(alloc: Global, calls: u32) -> Result<Arc<Stack>, Fault> {
-    let raws = chain(alloc, calls)?;
-    stack_of(alloc, &[raws.as_slice()])
 }

@@ -2,21 +2,37 @@
 #![tactic(auto)]
 
 use sf_audit::Fault;
-use sf_command::{Files, command, status_of};
-use std::io::{ErrorKind, Write};
+use sf_command::{Files, MOST_BYTES, command, tell_fault};
+use std::env::{Env, FillError};
+use std::fs::File;
+use std::io::{ErrorKind, Read, Write};
 use std::process::ExitCode;
 use std::rt::Files as FileSystem;
-use std::{env, fs, io};
+use std::{env, io};
 
 /// The files of the system.
 struct Disk<'a, R> {
     rt: &'a R,
 }
 
+/// The bytes of a file, and of one that is too long so many that this is seen.
+fn bytes_of<R: FileSystem + AllocGlobal>(rt: &R, path: &str) -> io::Result<Vec<u8>> {
+    let mut bytes = Vec::new(rt.alloc());
+    let file = File::open(rt, path)?;
+    file.take(MOST_BYTES as u64 + 1).read_to_end(&mut bytes)?;
+    Ok(bytes)
+}
+
 impl<R: FileSystem + AllocGlobal> Files for Disk<'_, R> {
     fn read(&mut self, path: &str) -> Result<Vec<u8>, Fault> {
-        match fs::read(self.rt, path) {
-            Ok(bytes) => Ok(bytes),
+        match bytes_of(self.rt, path) {
+            Ok(bytes) => {
+                if bytes.len() <= MOST_BYTES {
+                    Ok(bytes)
+                } else {
+                    Err(Fault::Read)
+                }
+            }
             Err(error) => {
                 if error.kind() == ErrorKind::OutOfMemory {
                     Err(Fault::Memory)
@@ -28,17 +44,39 @@ impl<R: FileSystem + AllocGlobal> Files for Disk<'_, R> {
     }
 }
 
+/// The arguments after the program's name, which needn't be UTF-8 and isn't read.
+#[derive(Drop)]
+struct AfterName<'a, R> {
+    rt: &'a R,
+}
+
+impl<R: Env> Env for AfterName<'_, R> {
+    fn arg(&self, i: usize, buf: &mut [u8]) -> Result<usize, FillError> {
+        match i.checked_add(1) {
+            Some(next) => self.rt.arg(next, buf),
+            None => Err(FillError::NotPresent),
+        }
+    }
+
+    fn var(&self, name: &str, buf: &mut [u8]) -> Result<usize, FillError> {
+        self.rt.var(name, buf)
+    }
+
+    fn var_at(&self, i: usize, buf: &mut [u8]) -> Result<usize, FillError> {
+        self.rt.var_at(i, buf)
+    }
+}
+
 /// The words after the program's name.
 fn words_of(rt: &HostRuntime) -> io::Result<Vec<String>> {
-    let words = env::args(rt)?.skip(1).collect(rt.alloc())?;
-    Ok(words)
+    let words = env::args(&(AfterName { rt }, rt.alloc()))?;
+    Ok(words.collect(rt.alloc())?)
 }
 
 /// Says why there are no words, and gives the exit status: a word is no UTF-8, or memory ran out.
 fn no_words<E: Write>(error: &io::Error, err: &mut E) -> u8 {
     if error.kind() == ErrorKind::OutOfMemory {
-        let _ = write!(err, "error {}\n", Fault::Memory);
-        return status_of(&Fault::Memory);
+        return tell_fault(&Fault::Memory, err);
     }
     let _ = err.write_all(
         "error: invalid UTF-8 was detected in one or more arguments\n".as_bytes(),

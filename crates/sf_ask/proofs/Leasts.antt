@@ -20,14 +20,16 @@ low f word = (known_at f.known word).low
 pub some-same : (m n : ℕ) → Some m ≡ Some n → m ≡ n
 some-same m n e = cc
 
-pub lows-more : (f : FactsView) (words : List ℕ) (at n : ℕ) → at < length words → ((word : ℕ) → word < at → get_or words word 0 ≡ low f word) → n ≡ low f at
+pub lows-more : (f : FactsView) (words : List ℕ) (at n : ℕ) → at < length words
+    → ((word : ℕ) → word < at → get_or words word 0 ≡ low f word) → n ≡ low f at
     → (word : ℕ) → word < at + 1 → get_or (set words at n) word 0 ≡ low f word
 lows-more f words at n l before e word w = elim (cases_eq word at) [
   | inl same ↦ subst (λ (i : ℕ). get_or (set words at n) i 0 ≡ low f i) (sym same) (get_or-set_same words at n 0 l ∙ e)
   | inr other ↦ get_or-set_other words at word n 0 other ∙ before word (omega arith)
 ]
 
-pub small-more : (words : List ℕ) (at n : ℕ) → n < 2 ^ 32 → ((i : ℕ) → get_or words i 0 < 2 ^ 32) → (i : ℕ) → get_or (set words at n) i 0 < 2 ^ 32
+pub small-more : (words : List ℕ) (at n : ℕ) → n < 2 ^ 32 → ((i : ℕ) → get_or words i 0 < 2 ^ 32) → (i : ℕ)
+    → get_or (set words at n) i 0 < 2 ^ 32
 small-more words at n l small i = elim (cases_eq i at) [
   | inl same ↦ elim (cases_lt i (length words)) [
     | inl inside ↦ rw (get_or-set_at words at i n 0 same (omega arith)) l
@@ -36,21 +38,27 @@ small-more words at n l small i = elim (cases_eq i at) [
   | inr other ↦ rw (get_or-set_other words at i n 0 other) (small i)
 ]
 
-pub lows-all : (f : FactsView) (words : List ℕ) → length words ≡ 16 → ((i : ℕ) → get_or words i 0 < 2 ^ 32) → ((word : ℕ) → word < 16 → get_or words word 0 ≡ low f word)
+pub lows-all : (f : FactsView) (words : List ℕ) → length words ≡ 16 → ((i : ℕ) → get_or words i 0 < 2 ^ 32)
+    → ((word : ℕ) → word < 16 → get_or words word 0 ≡ low f word)
     → IsLeastInput f (record { words = words })
 lows-all f words long small is = record { input = record { sixteen = long; each = small }; is = is }
 
 -- ---- what it is
 
 -- its numbers may be those of the words
-pub least-admitted : (f : FactsView) (ns : List Node) (d : Input) → Covers f ns → IsLeastInput f d → (word : ℕ) → word < 16 → Admits (known_at f.known word) (slice_index d.words word)
+pub least-admitted : (f : FactsView) (ns : List Node) (d : Input) → Covers f ns → IsLeastInput f d → (word : ℕ)
+    → word < 16 → Admits (known_at f.known word) (slice_index d.words word)
 least-admitted f ns d covers h word w = rw (h.is word w) (low-left f ns word covers w).admitted
 
 -- no input that agrees has less
-pub least-below : (f : FactsView) (ns : List Node) (d other : Input) → Covers f ns → IsLeastInput f d → Agrees f ns other → (word : ℕ) → word < 16 → slice_index d.words word ≤ slice_index other.words word
-least-below f ns d other covers h agrees word w = rw (h.is word w) (agreeing-word f ns other word covers w agrees).admitted.above
+pub least-below : (f : FactsView) (ns : List Node) (d other : Input) → Covers f ns → IsLeastInput f d
+    → Agrees f ns other → (word : ℕ) → word < 16 → slice_index d.words word ≤ slice_index other.words word
+least-below f ns d other covers h agrees word w =
+    rw (h.is word w) (agreeing-word f ns other word covers w agrees).admitted.above
 
 -- over words and constants it agrees
-pub least-agrees : (f : FactsView) (ns : List Node) (d : Input) → Covers f ns → ArePlainNodes ns → IsLeastInput f d → Agrees f ns d
+pub least-agrees : (f : FactsView) (ns : List Node) (d : Input) → Covers f ns → ArePlainNodes ns
+    → IsLeastInput f d → Agrees f ns d
 unfolding Agrees
-least-agrees f ns d covers plain h = words-agree f ns d covers plain (λ word w. rw (h.is word w) (low-left f ns word covers w))
+least-agrees f ns d covers plain h = words-agree f ns d covers plain
+    (λ word w. rw (h.is word w) (low-left f ns word covers w))

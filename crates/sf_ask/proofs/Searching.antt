@@ -29,12 +29,15 @@ use Rattle.sf_ask.specs.Searches.{NonePasses, IsRightSearch, TellsTried}
 
 -- ---- conditions, one after the other
 
-pub met-more : (p : Cond → Bool) (cs : List Cond) (i : ℕ) (c : Cond) → slice_get cs i ≡ Some c → list_all p (take i cs) ≡ true → p c ≡ true → list_all p (take (i + 1) cs) ≡ true
+pub met-more : (p : Cond → Bool) (cs : List Cond) (i : ℕ) (c : Cond) → slice_get cs i ≡ Some c
+    → list_all p (take i cs) ≡ true → p c ≡ true → list_all p (take (i + 1) cs) ≡ true
 met-more p cs i c there before met =
     list_all_more p cs i c (slice_get_within cs i c there) ∙ rw (before, get_or_from_slice_get cs i c c there, met) refl
 
-pub not-met : (p : Cond → Bool) (cs : List Cond) (i : ℕ) (c : Cond) → slice_get cs i ≡ Some c → p c ≡ false → list_all p cs ≡ false
-not-met p cs i c there fails = list_all_at p cs i c (slice_get_within cs i c there) (ap p (get_or_from_slice_get cs i c c there) ∙ fails)
+pub not-met : (p : Cond → Bool) (cs : List Cond) (i : ℕ) (c : Cond) → slice_get cs i ≡ Some c → p c ≡ false
+    → list_all p cs ≡ false
+not-met p cs i c there fails = list_all_at p cs i c (slice_get_within cs i c there)
+    (ap p (get_or_from_slice_get cs i c c there) ∙ fails)
 
 -- ---- the input of the least numbers
 
@@ -43,26 +46,33 @@ abbrev MembersAgree : PieceData → FactsView → List Node → Type 0
 MembersAgree p f ns = (d : Input) → IsInput d → is_member p d ≡ true → Agrees f ns d
 
 -- it is in the question
-pub least-inside : (q : Asked) (f g : FactsView) (ns : List Node) (d : Input) → AreConfined f g ns (IsInQuestion q) (IsNumberBefore q 16) → IsLeastInput g d → IsInQuestion q d
-least-inside q f g ns d a h = λ word w. a.numbers word (slice_index d.words word) w (h.input.each word) (least-admitted g ns d a.covers h word w) w
+pub least-inside : (q : Asked) (f g : FactsView) (ns : List Node) (d : Input)
+    → AreConfined f g ns (IsInQuestion q) (IsNumberBefore q 16) → IsLeastInput g d → IsInQuestion q d
+least-inside q f g ns d a h = λ word w. a.numbers word (slice_index d.words word) w (h.input.each word)
+    (least-admitted g ns d a.covers h word w) w
 
 -- where the low input is a member, it is that
 pub low-is-least : (p : PieceData) (q : Asked) (f g : FactsView) (ns : List Node) (d low : Input) → MembersAgree p f ns
-    → AreConfined f g ns (IsInQuestion q) (IsNumberBefore q 16) → IsLeastInput g d → IsInput low → IsLowInput q low → is_member p low ≡ true → d ≡ low
+    → AreConfined f g ns (IsInQuestion q) (IsNumberBefore q 16) → IsLeastInput g d → IsInput low → IsLowInput q low
+    → is_member p low ≡ true → d ≡ low
 low-is-least p q f g ns d low known a h input is member =
     let agrees = a.keeps low input (known low input member) is.inside in
     let inside = least-inside q f g ns d a h in
     let below = least-below g ns d low a.covers h agrees in
     let same : (word : ℕ) → word < 16 → slice_index d.words word ≡ slice_index low.words word
-    = λ word w. let under = below word w in let over = is.least word (slice_index d.words word) w (inside word w) in omega arith in
-    ap (λ (words : List ℕ). let e : Input = record { words = words } in e) (same_words d.words low.words h.input.sixteen input.sixteen same)
+    = λ word w. let under = below word w in let over =
+    is.least word (slice_index d.words word) w (inside word w) in omega arith in
+    ap (λ (words : List ℕ). let e : Input = record { words = words } in
+    e) (same_words d.words low.words h.input.sixteen input.sixteen same)
   where
-    same_words : (xs ys : List ℕ) → length xs ≡ 16 → length ys ≡ 16 → ((word : ℕ) → word < 16 → get_or xs word 0 ≡ get_or ys word 0) → xs ≡ ys
+    same_words : (xs ys : List ℕ) → length xs ≡ 16 → length ys ≡ 16
+        → ((word : ℕ) → word < 16 → get_or xs word 0 ≡ get_or ys word 0) → xs ≡ ys
     same_words xs ys lx ly same = ext_get_or 0 xs ys (lx ∙ sym ly) (λ i l. same i (omega arith))
 
 -- ---- what the steps of a search tell
 
-pub ruled-out : (p : PieceData) (q : Asked) (f : FactsView) (ns : List Node) → MembersAgree p f ns → NonePasses f ns (IsInQuestion q)
+pub ruled-out : (p : PieceData) (q : Asked) (f : FactsView) (ns : List Node) → MembersAgree p f ns
+    → NonePasses f ns (IsInQuestion q)
     → (d : Input) → IsInput d → is_member p d ≡ true → ¬ IsInQuestion q d
 ruled-out p q f ns known none = λ d input member. none d input (known d input member)
 
@@ -75,52 +85,66 @@ doubtful p q f g ns d known a h none low input is member =
 
 pub least-hit : (p : PieceData) (q : Asked) (f g : FactsView) (ns : List Node) (d : Input) → MembersAgree p f ns
     → AreConfined f g ns (IsInQuestion q) (IsNumberBefore q 16) → IsLeastInput g d
-    → (other : Input) → IsInput other → is_member p other ≡ true → IsInQuestion q other → (word : ℕ) → word < 16 → slice_index d.words word ≤ slice_index other.words word
-least-hit p q f g ns d known a h other input member inside = least-below g ns d other a.covers h (a.keeps other input (known other input member) inside)
+    → (other : Input) → IsInput other → is_member p other ≡ true → IsInQuestion q other → (word : ℕ) → word < 16
+    → slice_index d.words word ≤ slice_index other.words word
+least-hit p q f g ns d known a h other input member inside =
+    least-below g ns d other a.covers h (a.keeps other input (known other input member) inside)
 
 -- over words and constants the input of the least numbers is a member
 pub exact-hit : (p : PieceData) (q : Asked) (g : FactsView) (d : Input) → IsPlainPiece p
     → AreConfined p.facts g p.pool (IsInQuestion q) (IsNumberBefore q 16) → IsLeastInput g d → is_member p d ≡ true
-exact-hit p q g d exact a h = exact.exact d h.input (a.only d h.input (least-agrees g p.pool d a.covers exact.nodes h)).0
+exact-hit p q g d exact a h = exact.exact d h.input
+    (a.only d h.input (least-agrees g p.pool d a.covers exact.nodes h)).0
 
 -- ---- from a piece to its region
 
-pub not-asked : (s : BookData) (place : ℕ) (q : Asked) (r : RegionData) → slice_get s.regions place ≡ Some r → IsRightRegion s.stack r → has_action q.actions r.answer.action ≡ false
+pub not-asked : (s : BookData) (place : ℕ) (q : Asked) (r : RegionData) → slice_get s.regions place ≡ Some r
+    → IsRightRegion s.stack r → has_action q.actions r.answer.action ≡ false
     → (d : Input) → ¬ IsBreakAt s place q d
 not-asked s place q r there right none d h =
     let member = h.member in
     let same : member.region ≡ r = cc (member.there, there) in
-    let answers = right.answers d member.input (subst (λ (x : RegionData). is_member x.piece d ≡ true) same member.member) in
+    let answers = right.answers d member.input
+    (subst (λ (x : RegionData). is_member x.piece d ≡ true) same member.member) in
     let answer = one (returns_of s.stack d) h.breaks.answer r.answer h.breaks.answers answers in
     cc (h.breaks.asked, none, ap (λ (a : Answer). has_action q.actions a.action) answer)
 
 -- what is known of a member of the region at a place is known of a member of its piece
-in-piece : (s : BookData) (place : ℕ) (r : RegionData) (d : Input) → slice_get s.regions place ≡ Some r → (member : IsMemberAt s place d) → is_member r.piece d ≡ true
+in-piece : (s : BookData) (place : ℕ) (r : RegionData) (d : Input) → slice_get s.regions place ≡ Some r
+    → (member : IsMemberAt s place d) → is_member r.piece d ≡ true
 in-piece s place r d there member =
     let same : member.region ≡ r = cc (member.there, there) in
     subst (λ (x : RegionData). is_member x.piece d ≡ true) same member.member
 
-pub region-right : (s : BookData) (place : ℕ) (q : Asked) (r : RegionData) (v : Verdict) → slice_get s.regions place ≡ Some r → IsRightRegion s.stack r → has_action q.actions r.answer.action ≡ true
+pub region-right : (s : BookData) (place : ℕ) (q : Asked) (r : RegionData) (v : Verdict)
+    → slice_get s.regions place ≡ Some r → IsRightRegion s.stack r → has_action q.actions r.answer.action ≡ true
     → IsRightSearch r.piece q v → IsRightVerdict s place q v
-region-right s place q r Clear there right asked found = λ d h. found d h.member.input (in-piece s place r d there h.member) h.breaks.inside
+region-right s place q r Clear there right asked found =
+    λ d h. found d h.member.input (in-piece s place r d there h.member) h.breaks.inside
 region-right s place q r (Hit d) there right asked found = record {
   member = record { region = r; there = there; input = found.0; member = found.1 };
   breaks = record { inside = found.2; answer = r.answer; answers = right.answers d found.0 found.1; asked = asked };
 }
-region-right s place q r Doubt there right asked found = λ d low h. found d h.member.input low (in-piece s place r d there h.member)
+region-right s place q r Doubt there right asked found =
+    λ d low h. found d h.member.input low (in-piece s place r d there h.member)
 
-pub region-tried : (s : BookData) (place : ℕ) (q : Asked) (r : RegionData) (v : Verdict) → slice_get s.regions place ≡ Some r → IsRightVerdict s place q v → TellsTried r.piece q v → TellsTriedAt s place q v
+pub region-tried : (s : BookData) (place : ℕ) (q : Asked) (r : RegionData) (v : Verdict)
+    → slice_get s.regions place ≡ Some r → IsRightVerdict s place q v → TellsTried r.piece q v
+    → TellsTriedAt s place q v
 region-tried s place q r Clear there right least = tt
 region-tried s place q r (Hit d) there right least = record {
   breaks = right;
   least = λ other member inside. least other member.input (in-piece s place r other there member) inside;
 }
-region-tried s place q r Doubt there right doubt = record { region = r; there = there; tried = doubt.0; is = doubt.1; outside = doubt.2 }
+region-tried s place q r Doubt there right doubt =
+    record { region = r; there = there; tried = doubt.0; is = doubt.1; outside = doubt.2 }
 
-pub if-ok : (P Q : Verdict → Type 0) (result : Result Verdict Fault) → ((v : Verdict) → P v → Q v) → IfOk result P → IfOk result Q
+pub if-ok : (P Q : Verdict → Type 0) (result : Result Verdict Fault) → ((v : Verdict) → P v → Q v)
+    → IfOk result P → IfOk result Q
 if-ok P Q (Ok v) f h = f v h
 if-ok P Q (Err e) f h = tt
 
-pub if-both-ok : (P Q R : Verdict → Type 0) (result : Result Verdict Fault) → ((v : Verdict) → P v → Q v → R v) → IfOk result P → IfOk result Q → IfOk result R
+pub if-both-ok : (P Q R : Verdict → Type 0) (result : Result Verdict Fault) → ((v : Verdict) → P v → Q v → R v)
+    → IfOk result P → IfOk result Q → IfOk result R
 if-both-ok P Q R (Ok v) f h k = f v h k
 if-both-ok P Q R (Err e) f h k = tt

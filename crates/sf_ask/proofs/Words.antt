@@ -31,13 +31,20 @@ of-true B false e h = cc
 -- nothing is lost where nothing changes
 pub narrower-refl : (f : FactsView) → AreNarrower f f
 narrower-refl f = record {
-  known = λ i l. record { low = omega arith; high = omega arith; zeros = omega arith; ones = omega arith; numbers = λ n a. a };
+  known = λ i l. record {
+    low = omega arith;
+    high = omega arith;
+    zeros = λ j. omega arith;
+    ones = λ j. omega arith;
+    numbers = λ n a. a;
+  };
   excluded = λ w m l k. k;
 }
 
 -- facts that stay, where every input passes
 pub stays : (f : FactsView) (ns : List Node) (passes : Input → Type 0) (may_have : ℕ → ℕ → Type 0) → Covers f ns
-    → ((d : Input) → IsInput d → passes d) → ((word n : ℕ) → word < 16 → n < 2 ^ 32 → may_have word n) → AreConfined f f ns passes may_have
+    → ((d : Input) → IsInput d → passes d) → ((word n : ℕ) → word < 16 → n < 2 ^ 32 → may_have word n)
+    → AreConfined f f ns passes may_have
 stays f ns passes may_have of all any = record {
   keeps = λ d p a h. a;
   only = λ d p a. (a, all d p);
@@ -47,7 +54,8 @@ stays f ns passes may_have of all any = record {
 }
 
 -- facts that are confined again
-pub again : (f g h : FactsView) (ns : List Node) (one two both : Input → Type 0) (first second may_have : ℕ → ℕ → Type 0)
+pub again : (f g h : FactsView) (ns : List Node) (one two both : Input → Type 0)
+    (first second may_have : ℕ → ℕ → Type 0)
     → Covers f ns
     → AreConfined f g ns one first → AreConfined g h ns two second
     → ((d : Input) → both d → one d) → ((d : Input) → both d → two d) → ((d : Input) → one d → two d → both d)
@@ -59,53 +67,69 @@ again f g h ns one two both first second may_have of a b to_one to_two to_both j
     let same = a.covers.count in
     record {
       keeps = λ d i agrees passes. b.keeps d i (a.keeps d i agrees (to_one d passes)) (to_two d passes);
-      only = λ d i agrees. let back = b.only d i agrees in let first = a.only d i back.0 in (first.0, to_both d first.1 back.1);
+      only = λ d i agrees. let back = b.only d i agrees in let first = a.only d i back.0 in
+          (first.0, to_both d first.1 back.1);
       narrower = record {
         known = λ i l. let x = a.narrower.known i l in let y = b.narrower.known i (omega arith) in
-            let xl = x.low in let yl = y.low in let xh = x.high in let yh = y.high in let xz = x.zeros in let yz = y.zeros in let xo = x.ones in let yo = y.ones in
-            record { low = omega arith; high = omega arith; zeros = omega arith; ones = omega arith; numbers = λ n m. x.numbers n (y.numbers n m) };
+            let xl = x.low in let yl = y.low in let xh = x.high in let yh = y.high in
+            record {
+              low = omega arith;
+              high = omega arith;
+              zeros = λ j. omega (arith, x.zeros j, y.zeros j);
+              ones = λ j. omega (arith, x.ones j, y.ones j);
+              numbers = λ n m. x.numbers n (y.numbers n m);
+            };
         excluded = λ w m l k. b.narrower.excluded w m l (a.narrower.excluded w m l k);
       };
       covers = b.covers;
-      numbers = λ word n w l m. joins word n w (a.numbers word n w l ((b.narrower.known word (omega arith)).numbers n m)) (b.numbers word n w l m);
+      numbers = λ word n w l m. joins word n w
+          (a.numbers word n w l ((b.narrower.known word (omega arith)).numbers n m)) (b.numbers word n w l m);
     }
 
 -- no input passes both, where none that is left passes the second
 pub none-again : (f g : FactsView) (ns : List Node) (one two both : Input → Type 0) (first : ℕ → ℕ → Type 0)
-    → AreConfined f g ns one first → NonePasses g ns two → ((d : Input) → both d → one d) → ((d : Input) → both d → two d) → NonePasses f ns both
-none-again f g ns one two both first a none to_one to_two = λ d i agrees passes. none d i (a.keeps d i agrees (to_one d passes)) (to_two d passes)
+    → AreConfined f g ns one first → NonePasses g ns two → ((d : Input) → both d → one d)
+    → ((d : Input) → both d → two d) → NonePasses f ns both
+none-again f g ns one two both first a none to_one to_two =
+    λ d i agrees passes. none d i (a.keeps d i agrees (to_one d passes)) (to_two d passes)
 
 -- ---- one word
 
 -- a word lies in a range, as a test and as a fact
-pub lies : (word low high : ℕ) (d : Input) → lies_in word low high d ≡ true → (low ≤ slice_index d.words word) × (slice_index d.words word ≤ high)
+pub lies : (word low high : ℕ) (d : Input) → lies_in word low high d ≡ true → (low ≤ slice_index d.words word)
+    × (slice_index d.words word ≤ high)
 lies word low high d h =
     let n = slice_index d.words word in
     let parts = and_parts (nat_le low n) (nat_le n high) h in
     (leb-true low n parts.0, leb-true n high parts.1)
 
-pub lies-from : (word low high : ℕ) (d : Input) → low ≤ slice_index d.words word → slice_index d.words word ≤ high → lies_in word low high d ≡ true
+pub lies-from : (word low high : ℕ) (d : Input) → low ≤ slice_index d.words word → slice_index d.words word ≤ high
+    → lies_in word low high d ≡ true
 lies-from word low high d above below =
     let n = slice_index d.words word in
     and_from (nat_le low n) (nat_le n high) (le-leb low n above) (le-leb n high below)
 
-pub range-confines : (q : Asked) (at : ℕ) (r : ℕ × ℕ) (b : Bool) (old new : FactsView) (ns : List Node) → r ≡ range_at q at
+pub range-confines : (q : Asked) (at : ℕ) (r : ℕ × ℕ) (b : Bool) (old new : FactsView) (ns : List Node)
+    → r ≡ range_at q at
     → MatchBool b (KeepsInputs old new ns (lies_in at r.0 r.1)) (NoInput old ns (lies_in at r.0 r.1))
     → (b ≡ true → AreNarrower old new) → Covers new ns → (b ≡ true → KeepsOnly old new ns (lies_in at r.0 r.1))
     → (b ≡ true → (r.0 ≤ (known_at new.known at).low) × ((known_at new.known at).high ≤ r.1))
     → MatchBool b (AreConfined old new ns (IsInRange q at) (IsRangeNumber q at)) (NonePasses old ns (IsInRange q at))
 range-confines q at r b old new ns e sound narrower covers only within =
     confines b old new ns (lies_in at (range_at q at).0 (range_at q at).1) (IsRangeNumber q at)
-    (subst (λ (x : ℕ × ℕ). MatchBool b (KeepsInputs old new ns (lies_in at x.0 x.1)) (NoInput old ns (lies_in at x.0 x.1))) e sound)
+    (subst (λ (x : ℕ × ℕ). MatchBool b (KeepsInputs old new ns (lies_in at x.0 x.1))
+    (NoInput old ns (lies_in at x.0 x.1))) e sound)
     narrower covers
     (subst (λ (x : ℕ × ℕ). b ≡ true → KeepsOnly old new ns (lies_in at x.0 x.1)) e only)
     (λ t word n w l a same.
-    let inside = subst (λ (x : ℕ × ℕ). (x.0 ≤ (known_at new.known at).low) × ((known_at new.known at).high ≤ x.1)) e (within t) in
+    let inside = subst (λ (x : ℕ × ℕ). (x.0 ≤ (known_at new.known at).low)
+    × ((known_at new.known at).high ≤ x.1)) e (within t) in
     let here : Admits (known_at new.known at) n = subst (λ (i : ℕ). Admits (known_at new.known i) n) same a in
     let low = inside.0 in let high = inside.1 in let above = here.above in let below = here.below in
     (omega arith, omega arith))
 
-pub range-stays : (q : Asked) (at : ℕ) (r : ℕ × ℕ) (f : FactsView) (ns : List Node) → r ≡ range_at q at → r.0 ≡ 0 → r.1 ≡ 4294967295 → Covers f ns
+pub range-stays : (q : Asked) (at : ℕ) (r : ℕ × ℕ) (f : FactsView) (ns : List Node) → r ≡ range_at q at → r.0 ≡ 0
+    → r.1 ≡ 4294967295 → Covers f ns
     → AreConfined f f ns (IsInRange q at) (IsRangeNumber q at)
 range-stays q at r f ns e low high of =
     let l : (range_at q at).0 ≡ 0 = ap (λ (x : ℕ × ℕ). x.0) (sym e) ∙ low in
@@ -114,21 +138,24 @@ range-stays q at r f ns e low high of =
     (λ d i. let small = i.each at in lies-from at (range_at q at).0 (range_at q at).1 d (omega arith) (omega arith))
     (λ word n w small same. (omega arith, omega arith))
 
-pub mask-confines : (q : Asked) (at : ℕ) (m : ℕ × ℕ) (b : Bool) (old new : FactsView) (ns : List Node) → m ≡ mask_at q at
+pub mask-confines : (q : Asked) (at : ℕ) (m : ℕ × ℕ) (b : Bool) (old new : FactsView) (ns : List Node)
+    → m ≡ mask_at q at
     → MatchBool b (KeepsInputs old new ns (has_masked at m.0 m.1)) (NoInput old ns (has_masked at m.0 m.1))
     → (b ≡ true → AreNarrower old new) → Covers new ns → (b ≡ true → KeepsOnly old new ns (has_masked at m.0 m.1))
     → (b ≡ true → (n : ℕ) → Admits (known_at new.known at) n → bit_and n m.0 ≡ m.1)
     → MatchBool b (AreConfined old new ns (HasBits q at) (IsMaskNumber q at)) (NonePasses old ns (HasBits q at))
 mask-confines q at m b old new ns e sound narrower covers only bits =
     confines b old new ns (has_masked at (mask_at q at).0 (mask_at q at).1) (IsMaskNumber q at)
-    (subst (λ (x : ℕ × ℕ). MatchBool b (KeepsInputs old new ns (has_masked at x.0 x.1)) (NoInput old ns (has_masked at x.0 x.1))) e sound)
+    (subst (λ (x : ℕ × ℕ). MatchBool b (KeepsInputs old new ns (has_masked at x.0 x.1))
+    (NoInput old ns (has_masked at x.0 x.1))) e sound)
     narrower covers
     (subst (λ (x : ℕ × ℕ). b ≡ true → KeepsOnly old new ns (has_masked at x.0 x.1)) e only)
     (λ t word n w l a same.
     let here : Admits (known_at new.known at) n = subst (λ (i : ℕ). Admits (known_at new.known i) n) same a in
     subst (λ (x : ℕ × ℕ). bit_and n x.0 ≡ x.1) e (bits t n here))
 
-pub mask-stays : (q : Asked) (at : ℕ) (m : ℕ × ℕ) (f : FactsView) (ns : List Node) → m ≡ mask_at q at → m.0 ≡ 0 → bit_and m.1 m.0 ≡ m.1 → Covers f ns
+pub mask-stays : (q : Asked) (at : ℕ) (m : ℕ × ℕ) (f : FactsView) (ns : List Node) → m ≡ mask_at q at → m.0 ≡ 0
+    → bit_and m.1 m.0 ≡ m.1 → Covers f ns
     → AreConfined f f ns (HasBits q at) (IsMaskNumber q at)
 mask-stays q at m f ns e zero inside of =
     let value : m.1 ≡ 0 = sym inside ∙ ap (λ (x : ℕ). bit_and m.1 x) zero ∙ and_zero_r m.1 in
@@ -149,33 +176,40 @@ number-from q at d l m =
 pub word-confined : (q : Asked) (at : ℕ) (f g h : FactsView) (ns : List Node) → Covers f ns
     → AreConfined f g ns (IsInRange q at) (IsRangeNumber q at) → AreConfined g h ns (HasBits q at) (IsMaskNumber q at)
     → AreConfined f h ns (HasNumber q at) (IsWordNumber q at)
-word-confined q at f g h ns of a b = again f g h ns (IsInRange q at) (HasBits q at) (HasNumber q at) (IsRangeNumber q at) (IsMaskNumber q at) (IsWordNumber q at) of a b
+word-confined q at f g h ns of a b = again f g h ns (IsInRange q at) (HasBits q at) (HasNumber q at)
+    (IsRangeNumber q at) (IsMaskNumber q at) (IsWordNumber q at) of a b
     (number-lies q at) (λ d n. eq-eqb _ _ n.masked) (number-from q at)
     (λ word n w l m same.
     let r = l same in
     record { above = r.0; below = r.1; masked = m same })
 
 pub word-none : (q : Asked) (at : ℕ) (f g : FactsView) (ns : List Node)
-    → AreConfined f g ns (IsInRange q at) (IsRangeNumber q at) → NonePasses g ns (HasBits q at) → NonePasses f ns (HasNumber q at)
-word-none q at f g ns a none = none-again f g ns (IsInRange q at) (HasBits q at) (HasNumber q at) (IsRangeNumber q at) a none (number-lies q at) (λ d n. eq-eqb _ _ n.masked)
+    → AreConfined f g ns (IsInRange q at) (IsRangeNumber q at) → NonePasses g ns (HasBits q at)
+    → NonePasses f ns (HasNumber q at)
+word-none q at f g ns a none = none-again f g ns (IsInRange q at) (HasBits q at) (HasNumber q at)
+    (IsRangeNumber q at) a none (number-lies q at) (λ d n. eq-eqb _ _ n.masked)
 
 pub word-confines : (b : Bool) (q : Asked) (at : ℕ) (f g h : FactsView) (ns : List Node) → Covers f ns
-    → AreConfined f g ns (IsInRange q at) (IsRangeNumber q at) → MatchBool b (AreConfined g h ns (HasBits q at) (IsMaskNumber q at)) (NonePasses g ns (HasBits q at))
+    → AreConfined f g ns (IsInRange q at) (IsRangeNumber q at)
+    → MatchBool b (AreConfined g h ns (HasBits q at) (IsMaskNumber q at)) (NonePasses g ns (HasBits q at))
     → MatchBool b (AreConfined f h ns (HasNumber q at) (IsWordNumber q at)) (NonePasses f ns (HasNumber q at))
 word-confines true q at f g h ns of a b = word-confined q at f g h ns of a b
 word-confines false q at f g h ns of a none = word-none q at f g ns a none
 
-pub word-missed : (q : Asked) (at : ℕ) (f : FactsView) (ns : List Node) → NonePasses f ns (IsInRange q at) → NonePasses f ns (HasNumber q at)
+pub word-missed : (q : Asked) (at : ℕ) (f : FactsView) (ns : List Node) → NonePasses f ns (IsInRange q at)
+    → NonePasses f ns (HasNumber q at)
 word-missed q at f ns none = λ d i agrees n. none d i agrees (number-lies q at d n)
 
 -- what is known of a word rules out its range
-pub below-range : (q : Asked) (at : ℕ) (f : FactsView) (ns : List Node) → at < 16 → (known_at f.known at).high < (range_at q at).0 → Covers f ns → NonePasses f ns (IsInQuestion q)
+pub below-range : (q : Asked) (at : ℕ) (f : FactsView) (ns : List Node) → at < 16
+    → (known_at f.known at).high < (range_at q at).0 → Covers f ns → NonePasses f ns (IsInQuestion q)
 below-range q at f ns l below covers = λ d i agrees inside.
     let left = (agreeing-word f ns d at covers l agrees).admitted.below in
     let above = (inside at l).above in
     omega arith
 
-pub above-range : (q : Asked) (at : ℕ) (f : FactsView) (ns : List Node) → at < 16 → (range_at q at).1 < (known_at f.known at).low → Covers f ns → NonePasses f ns (IsInQuestion q)
+pub above-range : (q : Asked) (at : ℕ) (f : FactsView) (ns : List Node) → at < 16
+    → (range_at q at).1 < (known_at f.known at).low → Covers f ns → NonePasses f ns (IsInQuestion q)
 above-range q at f ns l over covers = λ d i agrees inside.
     let left = (agreeing-word f ns d at covers l agrees).admitted.above in
     let below = (inside at l).below in
@@ -183,13 +217,17 @@ above-range q at f ns l over covers = λ d i agrees inside.
 
 -- ---- one word after the other
 
-pub before-none : (q : Asked) (f : FactsView) (ns : List Node) → Covers f ns → AreConfined f f ns (IsInBefore q 0) (IsNumberBefore q 0)
-before-none q f ns of = stays f ns (IsInBefore q 0) (IsNumberBefore q 0) of (λ d i word l. absurd (omega arith)) (λ word n w small l. absurd (omega arith))
+pub before-none : (q : Asked) (f : FactsView) (ns : List Node) → Covers f ns
+    → AreConfined f f ns (IsInBefore q 0) (IsNumberBefore q 0)
+before-none q f ns of = stays f ns (IsInBefore q 0) (IsNumberBefore q 0) of (λ d i word l. absurd (omega arith))
+    (λ word n w small l. absurd (omega arith))
 
 pub before-more : (q : Asked) (at : ℕ) (f g h : FactsView) (ns : List Node) → Covers f ns
-    → AreConfined f g ns (IsInBefore q at) (IsNumberBefore q at) → AreConfined g h ns (HasNumber q at) (IsWordNumber q at)
+    → AreConfined f g ns (IsInBefore q at) (IsNumberBefore q at)
+    → AreConfined g h ns (HasNumber q at) (IsWordNumber q at)
     → AreConfined f h ns (IsInBefore q (at + 1)) (IsNumberBefore q (at + 1))
-before-more q at f g h ns of a b = again f g h ns (IsInBefore q at) (HasNumber q at) (IsInBefore q (at + 1)) (IsNumberBefore q at) (IsWordNumber q at) (IsNumberBefore q (at + 1)) of a b
+before-more q at f g h ns of a b = again f g h ns (IsInBefore q at) (HasNumber q at) (IsInBefore q (at + 1))
+    (IsNumberBefore q at) (IsWordNumber q at) (IsNumberBefore q (at + 1)) of a b
     (λ d all word l. all word (omega arith)) (λ d all. all at (omega arith))
     (λ d all here word l. elim (cases_eq word at) [
       | inl same ↦ subst (λ (i : ℕ). HasNumber q i d) (sym same) here
@@ -201,10 +239,13 @@ before-more q at f g h ns of a b = again f g h ns (IsInBefore q at) (HasNumber q
     ])
 
 pub before-missed : (q : Asked) (at : ℕ) (f g : FactsView) (ns : List Node) → at < 16
-    → AreConfined f g ns (IsInBefore q at) (IsNumberBefore q at) → NonePasses g ns (HasNumber q at) → NonePasses f ns (IsInQuestion q)
-before-missed q at f g ns l a none = none-again f g ns (IsInBefore q at) (HasNumber q at) (IsInQuestion q) (IsNumberBefore q at) a none (λ d inside word early. inside word (omega arith)) (λ d inside. inside at l)
+    → AreConfined f g ns (IsInBefore q at) (IsNumberBefore q at) → NonePasses g ns (HasNumber q at)
+    → NonePasses f ns (IsInQuestion q)
+before-missed q at f g ns l a none = none-again f g ns (IsInBefore q at) (HasNumber q at) (IsInQuestion q)
+    (IsNumberBefore q at) a none (λ d inside word early. inside word (omega arith)) (λ d inside. inside at l)
 
 -- after the last word
 pub before-all : (q : Asked) (at : ℕ) (f g : FactsView) (ns : List Node) → at ≡ 16
-    → AreConfined f g ns (IsInBefore q at) (IsNumberBefore q at) → AreConfined f g ns (IsInQuestion q) (IsNumberBefore q 16)
+    → AreConfined f g ns (IsInBefore q at) (IsNumberBefore q at)
+    → AreConfined f g ns (IsInQuestion q) (IsNumberBefore q 16)
 before-all q at f g ns e a = subst (λ (i : ℕ). AreConfined f g ns (IsInBefore q i) (IsNumberBefore q i)) e a

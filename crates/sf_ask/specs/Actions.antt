@@ -6,7 +6,8 @@ use Rattle.sf_ask.specs.declared.actions.ActionSet.{ActionSet}
 
 -- no action is in the set
 abbrev pub is_no_action : ActionSet → Bool
-is_no_action s = not (s.kill_process || s.kill_thread || s.trap || s.errno || s.user_notif || s.trace || s.log || s.allow || s.other)
+is_no_action s =
+    not (s.kill_process || s.kill_thread || s.trap || s.errno || s.user_notif || s.trace || s.log || s.allow || s.other)
 
 -- the action is in the set
 abbrev pub has_action : ActionSet → Action → Bool

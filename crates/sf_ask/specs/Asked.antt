@@ -10,10 +10,11 @@ pub record Asked : Type 0 where
   pub masks : List (ℕ × ℕ)
   pub actions : ActionSet
 
--- the range of a word, and its mask with its value
+-- the ends between which a word must lie
 abbrev pub range_at : Asked → ℕ → ℕ × ℕ
 range_at q word = slice_index_or q.ranges word (0, 0)
 
+-- the bits that a word must have, as a mask and the value under it
 abbrev pub mask_at : Asked → ℕ → ℕ × ℕ
 mask_at q word = slice_index_or q.masks word (0, 0)
 

@@ -16,13 +16,15 @@ use Rattle.sf_ask.specs.Verdicts.{IsLowInput}
 abbrev pub NonePasses : FactsView → List Node → (Input → Type 0) → Type 0
 NonePasses f ns passes = (d : Input) → IsInput d → Agrees f ns d → ¬ passes d
 
--- an input has in a word a number of its range, the bits of its mask, and both
+-- an input has in a word a number of its range
 abbrev pub IsInRange : Asked → ℕ → Input → Type 0
 IsInRange q word d = lies_in word (range_at q word).0 (range_at q word).1 d ≡ true
 
+-- an input has in a word the bits of its mask
 abbrev pub HasBits : Asked → ℕ → Input → Type 0
 HasBits q word d = has_masked word (mask_at q word).0 (mask_at q word).1 d ≡ true
 
+-- an input has in a word a number of its range with the bits of its mask
 abbrev pub HasNumber : Asked → ℕ → Input → Type 0
 HasNumber q word d = IsNumberOf q word (slice_index d.words word)
 
@@ -30,13 +32,15 @@ HasNumber q word d = IsNumberOf q word (slice_index d.words word)
 abbrev pub IsInBefore : Asked → ℕ → Input → Type 0
 IsInBefore q end d = (word : ℕ) → word < end → IsNumberOf q word (slice_index d.words word)
 
--- the numbers that a word may have, where it is this one: by its range, by its mask, by both
+-- where the word is this one, the number lies in its range
 abbrev pub IsRangeNumber : Asked → ℕ → ℕ → ℕ → Type 0
 IsRangeNumber q at word n = word ≡ at → ((range_at q at).0 ≤ n) × (n ≤ (range_at q at).1)
 
+-- where the word is this one, the number has the bits of its mask
 abbrev pub IsMaskNumber : Asked → ℕ → ℕ → ℕ → Type 0
 IsMaskNumber q at word n = word ≡ at → bit_and n (mask_at q at).0 ≡ (mask_at q at).1
 
+-- where the word is this one, the question lets it have the number
 abbrev pub IsWordNumber : Asked → ℕ → ℕ → ℕ → Type 0
 IsWordNumber q at word n = word ≡ at → IsNumberOf q at n
 
@@ -46,8 +50,8 @@ IsRightSearch p q Clear = (d : Input) → IsInput d → is_member p d ≡ true �
 IsRightSearch p q (Hit d) = IsInput d × (is_member p d ≡ true) × IsInQuestion q d
 IsRightSearch p q Doubt = (d : Input) → IsInput d → IsLowInput q d → ¬ (is_member p d ≡ true)
 
--- A hit has in each word the least number that any member in the question has there; a doubt is of an input that was tried
--- and isn't a member.
+-- A hit has in each word the least number that any member in the question has there; a doubt is of an input that was
+-- tried and isn't a member.
 abbrev pub TellsTried : PieceData → Asked → Verdict → Type 0
 TellsTried p q Clear = Unit {0}
 TellsTried p q (Hit d) =

@@ -8,14 +8,17 @@ use Rattle.sf_ask.specs.Verdicts.{IsBreakAt}
 use Rattle.sf_ask.specs.Sheets.{is_hit, is_doubt, is_skipped, HasBreak, HasNoBreak, IsRightEntry}
 
 -- where there is a hit, a member of the region breaks the question
-pub hit-breaks : (s : BookData) (questions : List Asked) (place q : ℕ) (entry : Option Verdict) → IsRightEntry s questions place q entry → is_hit entry ≡ true → HasBreak s questions place q
+pub hit-breaks : (s : BookData) (questions : List Asked) (place q : ℕ) (entry : Option Verdict)
+    → IsRightEntry s questions place q entry → is_hit entry ≡ true → HasBreak s questions place q
 hit-breaks s questions place q None right hit = cc
 hit-breaks s questions place q (Some Clear) right hit = cc
-hit-breaks s questions place q (Some (Hit d)) right hit = (d, record { question = right.question; asked = right.asked; breaks = right.right })
+hit-breaks s questions place q (Some (Hit d)) right hit =
+    (d, record { question = right.question; asked = right.asked; breaks = right.right })
 hit-breaks s questions place q (Some Doubt) right hit = cc
 
 -- where there is neither a hit nor a doubt, and the question wasn't skipped, no member does
-pub clear-breaks-none : (s : BookData) (questions : List Asked) (place q : ℕ) (entry : Option Verdict) → IsRightEntry s questions place q entry
+pub clear-breaks-none : (s : BookData) (questions : List Asked) (place q : ℕ) (entry : Option Verdict)
+    → IsRightEntry s questions place q entry
     → is_hit entry ≡ false → is_doubt entry ≡ false → is_skipped entry ≡ false → HasNoBreak s questions place q
 clear-breaks-none s questions place q None right hit doubt skipped = cc
 clear-breaks-none s questions place q (Some Clear) right hit doubt skipped = λ d h.

@@ -20,16 +20,19 @@ pub record SheetData : Type 0 where
 abbrev pub verdict_at : List (Option Verdict) → ℕ → Option Verdict
 verdict_at verdicts q = slice_index_or verdicts q None
 
+-- no verdict stands for the question
 abbrev pub is_skipped : Option Verdict → Bool
 is_skipped None = true
 is_skipped (Some v) = false
 
+-- the verdict has a member that breaks the question
 abbrev pub is_hit : Option Verdict → Bool
 is_hit None = false
 is_hit (Some Clear) = false
 is_hit (Some (Hit d)) = true
 is_hit (Some Doubt) = false
 
+-- the verdict leaves it open whether a member breaks the question
 abbrev pub is_doubt : Option Verdict → Bool
 is_doubt None = false
 is_doubt (Some Clear) = false
@@ -46,9 +49,11 @@ pub record IsBreakOf (s : BookData) (questions : List Asked) (place q : ℕ) (d 
   pub asked : slice_get questions q ≡ Some question
   pub breaks : IsBreakAt s place question d
 
+-- some member of the region breaks the question
 abbrev pub HasBreak : BookData → List Asked → ℕ → ℕ → Type 0
 HasBreak s questions place q = (d : Input) × IsBreakOf s questions place q d
 
+-- no member of the region breaks the question
 abbrev pub HasNoBreak : BookData → List Asked → ℕ → ℕ → Type 0
 HasNoBreak s questions place q = (d : Input) → ¬ IsBreakOf s questions place q d
 

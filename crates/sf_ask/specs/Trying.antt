@@ -9,8 +9,10 @@ use Rattle.sf_piece.specs.Pieces.{PieceData}
 use Rattle.sf_ask.specs.Asked.{Asked}
 use Rattle.sf_ask.specs.Breaking.{IsNumberOf, IsInQuestion}
 
--- facts are confined: of the inputs that agreed those that pass agree still, and what a word may have is kept to some numbers
-pub record AreConfined (old new : FactsView) (ns : List Node) (passes : Input → Type 0) (may_have : ℕ → ℕ → Type 0) : Type 0 where
+-- facts are confined: of the inputs that agreed those that pass agree still, and what a word may have is kept to some
+-- numbers
+pub record AreConfined (old new : FactsView) (ns : List Node) (passes : Input → Type 0) (may_have : ℕ → ℕ
+    → Type 0) : Type 0 where
   pub keeps : (d : Input) → IsInput d → Agrees old ns d → passes d → Agrees new ns d
   pub only : (d : Input) → IsInput d → Agrees new ns d → Agrees old ns d × passes d
   pub narrower : AreNarrower old new

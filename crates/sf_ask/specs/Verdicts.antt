@@ -51,7 +51,8 @@ pub record IsFirstBreak (s : BookData) (q : Asked) (place : ℕ) : Type 0 where
 -- the plain example of a region: it has in each word the least number that any member in the question has there
 pub record IsPlainExample (s : BookData) (place : ℕ) (q : Asked) (d : Input) : Type 0 where
   pub breaks : IsBreakAt s place q d
-  pub least : (other : Input) → IsMemberAt s place other → IsInQuestion q other → (word : ℕ) → word < 16 → slice_index d.words word ≤ slice_index other.words word
+  pub least : (other : Input) → IsMemberAt s place other → IsInQuestion q other → (word : ℕ) → word < 16
+      → slice_index d.words word ≤ slice_index other.words word
 
 -- the region at a place is in doubt: an input that was tried isn't a member of it
 pub record IsDoubtful (s : BookData) (place : ℕ) (q : Asked) : Type 0 where

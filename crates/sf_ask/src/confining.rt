@@ -22,7 +22,8 @@ use std::alloc::Global;
 fn misses(facts: &Facts, question: &Question, word: usize) -> bool
     requires word { word < 16 }
     requires known { 16 ≤ length facts.now.known }
-    ensures { result ≡ true → (pool : List ANode) → Covers facts.now pool → NonePasses facts.now pool (IsInQuestion question.now) }
+    ensures { result ≡ true → (pool : List ANode) → Covers facts.now pool
+        → NonePasses facts.now pool (IsInQuestion question.now) }
 {
     let known = facts.known(NodeId(word));
     let (low, high) = question.range(word);
@@ -32,7 +33,8 @@ fn misses(facts: &Facts, question: &Question, word: usize) -> bool
 /// Whether what is known of some word rules out its range: a look before anything is copied.
 pub(crate) fn rules_out(facts: &Facts, question: &Question) -> bool
     requires { 16 ≤ length facts.now.known }
-    ensures { result ≡ true → (pool : List ANode) → Covers facts.now pool → NonePasses facts.now pool (IsInQuestion question.now) }
+    ensures { result ≡ true → (pool : List ANode) → Covers facts.now pool
+        → NonePasses facts.now pool (IsInQuestion question.now) }
 {
     for word in 0..16 {
         if misses(facts, question, word) {
@@ -53,7 +55,8 @@ fn confine_range(
     requires covers { Covers facts.old pool.now }
     requires word { word < 16 }
     ensures confined { IfOk result (λ b. MatchBool b
-        (AreConfined facts.old facts.new pool.now (IsInRange question.now word) (IsRangeNumber question.now word))
+        (AreConfined facts.old facts.new pool.now (IsInRange question.now word)
+        (IsRangeNumber question.now word))
         (NonePasses facts.old pool.now (IsInRange question.now word))) }
     ensures err { IfErr result (λ f. f ≡ Memory) }
 {
@@ -75,7 +78,8 @@ fn confine_mask(
     requires covers { Covers facts.old pool.now }
     requires word { word < 16 }
     ensures confined { IfOk result (λ b. MatchBool b
-        (AreConfined facts.old facts.new pool.now (HasBits question.now word) (IsMaskNumber question.now word))
+        (AreConfined facts.old facts.new pool.now (HasBits question.now word)
+        (IsMaskNumber question.now word))
         (NonePasses facts.old pool.now (HasBits question.now word))) }
     ensures err { IfErr result (λ f. f ≡ Memory) }
 {
@@ -97,7 +101,8 @@ fn confine_word(
     requires covers { Covers facts.old pool.now }
     requires word { word < 16 }
     ensures confined { IfOk result (λ b. MatchBool b
-        (AreConfined facts.old facts.new pool.now (HasNumber question.now word) (IsWordNumber question.now word))
+        (AreConfined facts.old facts.new pool.now (HasNumber question.now word)
+        (IsWordNumber question.now word))
         (NonePasses facts.old pool.now (HasNumber question.now word))) }
     ensures err { IfErr result (λ f. f ≡ Memory) }
 {
@@ -118,7 +123,8 @@ pub(crate) fn confined(
     requires { Covers facts.now pool.now }
     ensures confined { IfOk result (λ o. MatchOption o
         (NonePasses facts.now pool.now (IsInQuestion question.now))
-        (λ f. AreConfined facts.now f pool.now (IsInQuestion question.now) (IsNumberBefore question.now 16))) }
+        (λ f. AreConfined facts.now f pool.now (IsInQuestion question.now)
+        (IsNumberBefore question.now 16))) }
     ensures err { IfErr result (λ f. f ≡ Memory) }
 {
     let mut confined = facts.fork(alloc)?;

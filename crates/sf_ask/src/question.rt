@@ -29,9 +29,19 @@ impl Model for Question {
 
     ghost Value = { Asked };
 
-    ghost view = { λ q. record { name = string_bytes q.name; ranges = q.ranges; masks = q.masks; actions = q.actions } };
+    ghost view = { λ q. record {
+      name = string_bytes q.name;
+      ranges = q.ranges;
+      masks = q.masks;
+      actions = q.actions;
+    } };
 
-    ghost invariant = { λ q. IsQuestion (record { name = string_bytes q.name; ranges = q.ranges; masks = q.masks; actions = q.actions }) };
+    ghost invariant = { λ q. IsQuestion (record {
+      name = string_bytes q.name;
+      ranges = q.ranges;
+      masks = q.masks;
+      actions = q.actions;
+    }) };
 }
 
 fn is_printable_text(bytes: &[u8]) -> bool

@@ -29,9 +29,19 @@ impl Model for Sheet {
 
     ghost Value = { SheetData };
 
-    ghost view = { λ s. record { settled = s.settled.value; questions = map (λ q. q.value) s.questions.items; job = s.job; verdicts = s.verdicts.items } };
+    ghost view = { λ s. record {
+      settled = s.settled.value;
+      questions = map (λ q. q.value) s.questions.items;
+      job = s.job;
+      verdicts = s.verdicts.items;
+    } };
 
-    ghost invariant = { λ s. IsRightSheet (record { settled = s.settled.value; questions = map (λ q. q.value) s.questions.items; job = s.job; verdicts = s.verdicts.items }) };
+    ghost invariant = { λ s. IsRightSheet (record {
+      settled = s.settled.value;
+      questions = map (λ q. q.value) s.questions.items;
+      job = s.job;
+      verdicts = s.verdicts.items;
+    }) };
 }
 
 /// A snapshot of each question; they take no bytes.

@@ -29,7 +29,8 @@ word_in_cases (pos n) = refl
 word_in_cases (negsuc n) = refl
 
 four_cases : (a b c d : Bool) (k l m n : ℕ)
-    → four_of (if a then Some k else None) (if b then Some l else None) (if c then Some m else None) (if d then Some n else None)
+    → four_of (if a then Some k else None) (if b then Some l else None) (if c then Some m
+    else None) (if d then Some n else None)
     ≡ if a && b && c && d then ((k, l), (m, n)) else ((1, 0), (0, 0))
 four_cases true true true true k l m n = refl
 four_cases true true true false k l m n = refl
@@ -40,7 +41,8 @@ four_cases false b c d k l m n = refl
 encoded_cases : (w : WordEntry) → encoded w ≡ if has_words w then (range_of w, mask_of w) else ((1, 0), (0, 0))
 encoded_cases w =
     rw (word_in_cases w.low, word_in_cases w.high, word_in_cases w.mask, word_in_cases w.value)
-    (four_cases (is_word w.low) (is_word w.high) (is_word w.mask) (is_word w.value) (word_of w.low) (word_of w.high) (word_of w.mask) (word_of w.value))
+    (four_cases (is_word w.low) (is_word w.high) (is_word w.mask) (is_word w.value) (word_of w.low) (word_of w.high)
+    (word_of w.mask) (word_of w.value))
 
 abbrev chosen : Bool → ℕ × ℕ → ℕ × ℕ → (ℕ × ℕ) × (ℕ × ℕ)
 chosen b range mask = if b then (range, mask) else ((1, 0), (0, 0))
@@ -85,7 +87,8 @@ all_masks : (ws : List WordEntry) → list_all is_inside_mask (map mask_of ws) �
 all_masks [] = refl
 all_masks (w ∷ ws) = ap (λ b. has_mask w && b) (all_masks ws)
 
-one_more : (before a a' rest : Bool) → (before ≡ true) ⊎ ((a || rest) ≡ true) → ((before || (a || a')) ≡ true) ⊎ (rest ≡ true)
+one_more : (before a a' rest : Bool) → (before ≡ true) ⊎ ((a || rest) ≡ true)
+    → ((before || (a || a')) ≡ true) ⊎ (rest ≡ true)
 one_more true a a' rest h = inl refl
 one_more false true a' rest h = inl refl
 one_more false false a' rest (inl h) = cc
@@ -94,7 +97,8 @@ one_more false false a' rest (inr h) = inr h
 -- Where the first text is one of nine names, one of nine actions is named.
 some_of_nine : (a b c d e f g h i a' b' c' d' e' f' g' h' i' : Bool)
     → (a || (b || (c || (d || (e || (f || (g || (h || (i || false))))))))) ≡ true
-    → not ((a || a') || (b || b') || (c || c') || (d || d') || (e || e') || (f || f') || (g || g') || (h || h') || (i || i')) ≡ false
+    → not ((a || a') || (b || b') || (c || c') || (d || d') || (e || e') || (f || f') || (g || g') || (h || h') ||
+    (i || i')) ≡ false
 some_of_nine a b c d e f g h i a' b' c' d' e' f' g' h' i' some =
     elim (one_more _ i i' false (one_more _ h h' _ (one_more _ g g' _ (one_more _ f f' _ (one_more _ e e' _
     (one_more _ d d' _ (one_more _ c c' _ (one_more _ b b' _ (one_more false a a' _ (inr some)))))))))) [
@@ -108,13 +112,16 @@ some_action (text ∷ texts) h =
     let is = λ (name : List ℕ). bytes_eq text name in
     let named = λ (name : List ℕ). is_named texts name in
     some_of_nine
-    (is (codes "KILL_PROCESS")) (is (codes "KILL_THREAD")) (is (codes "TRAP")) (is (codes "ERRNO")) (is (codes "USER_NOTIF"))
+    (is (codes "KILL_PROCESS")) (is (codes "KILL_THREAD")) (is (codes "TRAP")) (is (codes "ERRNO"))
+    (is (codes "USER_NOTIF"))
     (is (codes "TRACE")) (is (codes "LOG")) (is (codes "ALLOW")) (is (codes "OTHER"))
-    (named (codes "KILL_PROCESS")) (named (codes "KILL_THREAD")) (named (codes "TRAP")) (named (codes "ERRNO")) (named (codes "USER_NOTIF"))
+    (named (codes "KILL_PROCESS")) (named (codes "KILL_THREAD")) (named (codes "TRAP")) (named (codes "ERRNO"))
+    (named (codes "USER_NOTIF"))
     (named (codes "TRACE")) (named (codes "LOG")) (named (codes "ALLOW")) (named (codes "OTHER"))
     (both_true (is_action text) (list_all is_action texts) h).0
 
-empty_or_not : (b : Bool) (set : ActionSet) → (b ≡ true → is_no_action set ≡ false) → is_no_action (if b then set else no_actions) ≡ not b
+empty_or_not : (b : Bool) (set : ActionSet) → (b ≡ true → is_no_action set ≡ false)
+    → is_no_action (if b then set else no_actions) ≡ not b
 empty_or_not true set h = h refl
 empty_or_not false set h = refl
 
@@ -130,25 +137,34 @@ same_test number fault true b' r due e h = rw e (h refl)
 same_test number fault false b' r due e h = rw e refl
 
 same_actions : (number : ℕ) (b none : Bool) (q q' : Asked) → none ≡ not b → (b ≡ true → q' ≡ q)
-    → with_number number (if none then Err ask.Actions else Ok q') ≡ (if not b then Err (faults.Actions number) else Ok q)
+    → with_number number (if none then Err ask.Actions else Ok q')
+    ≡ (if not b then Err (faults.Actions number) else Ok q)
 same_actions number true none q q' e h = rw e (ap Ok (h refl))
 same_actions number false none q q' e h = rw e refl
 
-asked : (name : List ℕ) (ranges ranges' masks masks' : List (ℕ × ℕ)) (set set' : ActionSet) → ranges' ≡ ranges → masks' ≡ masks → set' ≡ set
-    → let question : List (ℕ × ℕ) → List (ℕ × ℕ) → ActionSet → Asked = λ r m s. record { name = name; ranges = r; masks = m; actions = s } in question ranges' masks' set' ≡ question ranges masks set
+asked : (name : List ℕ) (ranges ranges' masks masks' : List (ℕ × ℕ)) (set set' : ActionSet) → ranges' ≡ ranges
+    → masks' ≡ masks → set' ≡ set
+    → let question : List (ℕ × ℕ) → List (ℕ × ℕ) → ActionSet → Asked =
+    λ r m s. record { name = name; ranges = r; masks = m; actions = s } in
+    question ranges' masks' set' ≡ question ranges masks set
 asked name ranges ranges' masks masks' set set' p q r = rw (p, q, r) refl
 
-pub encoded_due : (number : ℕ) (e : Entry) → with_number number (question_of e.name (map encoded_range e.words) (map encoded_mask e.words) (encoded_set e.actions)) ≡ question_of_entry number e
+pub encoded_due : (number : ℕ) (e : Entry)
+    → with_number number (question_of e.name (map encoded_range e.words) (map encoded_mask e.words)
+    (encoded_set e.actions)) ≡ question_of_entry number e
 encoded_due number e =
     same_test number ask.Name (is_name e.name) (is_name e.name) _ _ refl (λ named.
-    same_test number ask.Range (list_all has_range e.words) (list_all is_in_order (map encoded_range e.words)) _ _ (all_orders e.words) (λ ranged.
+    same_test number ask.Range (list_all has_range e.words) (list_all is_in_order (map encoded_range e.words)) _ _
+    (all_orders e.words) (λ ranged.
     same_test number ask.Mask (list_all has_mask e.words) (list_all is_inside_mask (map encoded_mask e.words)) _ _
     (ap (λ l. list_all is_inside_mask l) (masks_same e.words ranged) ∙ all_masks e.words) (λ masked.
     same_actions number (are_actions e.actions) (is_no_action (encoded_set e.actions)) _ _
     (empty_or_not (are_actions e.actions) (set_of e.actions) (some_action e.actions))
-    (λ some. asked e.name _ _ _ _ _ _ (ranges_same e.words ranged) (masks_same e.words ranged) (set_same (are_actions e.actions) (set_of e.actions) some)))))
+    (λ some. asked e.name _ _ _ _ _ _ (ranges_same e.words ranged) (masks_same e.words ranged)
+    (set_same (are_actions e.actions) (set_of e.actions) some)))))
 
-parts_due : (number : ℕ) (only : Bool) (name' : Option (List ℕ)) (words' : Option (List WordEntry)) (texts' : Option (List (List ℕ))) (name : List ℕ) (words : List WordEntry) (set : ActionSet)
+parts_due : (number : ℕ) (only : Bool) (name' : Option (List ℕ)) (words' : Option (List WordEntry))
+    (texts' : Option (List (List ℕ))) (name : List ℕ) (words : List WordEntry) (set : ActionSet)
     → only ≡ true → Some name ≡ name' → Some words ≡ words' → Some set ≡ option_map encoded_set texts'
     → with_number number (question_of name (map encoded_range words) (map encoded_mask words) set)
     ≡ question_where_read number (if only then entry_of_parts name' words' texts' else None)
@@ -163,12 +179,14 @@ parts_due number true (Some name') (Some words') (Some texts) name words set h k
     rw (same_name, same_words, same_set) (encoded_due number (record { name = name'; words = words'; actions = texts }))
 
 -- The table of a question, where each of its parts was read.
-pub table_due : (version : Version) (number : ℕ) (ms : Members) (name : List ℕ) (words : List WordEntry) (set : ActionSet)
+pub table_due : (version : Version) (number : ℕ) (ms : Members) (name : List ℕ) (words : List WordEntry)
+    (set : ActionSet)
     → has_only question_keys ms ≡ true
     → Some name ≡ text_at (codes "name") ms
     → Some words ≡ each_of (λ key. entry_at version (get_member key ms)) word_keys
     → Some set ≡ option_map encoded_set (names_at (get_member (codes "actions") ms))
-    → with_number number (question_of name (map encoded_range words) (map encoded_mask words) set) ≡ question_of_table version number ms
+    → with_number number (question_of name (map encoded_range words) (map encoded_mask words) set)
+    ≡ question_of_table version number ms
 table_due version number ms name words set h k l m = parts_due number _ _ _ _ name words set h k l m
 
 -- the questions that were read, in front of those that are left
@@ -176,16 +194,19 @@ abbrev pub with_questions : List Asked → Result (List Asked) Fault → Result 
 with_questions front (Ok rest) = Ok (front ++ rest)
 with_questions front (Err fault) = Err fault
 
-with_questions_cons : (front : List Asked) (q : Asked) (rest : Result (List Asked) Fault) → with_questions front (question_cons (Ok q) rest) ≡ with_questions (front ++ q ∷ []) rest
+with_questions_cons : (front : List Asked) (q : Asked) (rest : Result (List Asked) Fault)
+    → with_questions front (question_cons (Ok q) rest) ≡ with_questions (front ++ q ∷ []) rest
 with_questions_cons front q (Ok rest) = ap Ok (sym (append_assoc front (q ∷ []) rest))
 with_questions_cons front q (Err fault) = refl
 
 -- One more question was read.
-pub one_more_question : (version : Version) (whole : Result (List Asked) Fault) (front : List Asked) (vs : List Value) (i : ℕ) (v : Value) (q : Asked)
+pub one_more_question : (version : Version) (whole : Result (List Asked) Fault) (front : List Asked) (vs : List Value)
+    (i : ℕ) (v : Value) (q : Asked)
     → i < length vs → v ≡ get_or vs i v
     → question_of_table version (i + 1) (table_or_empty (view v)) ≡ Ok q
     → whole ≡ with_questions front (questions_from version (i + 1) (map (λ v. table_or_empty (view v)) (drop i vs)))
-    → whole ≡ with_questions (front ++ q ∷ []) (questions_from version (i + 1 + 1) (map (λ v. table_or_empty (view v)) (drop (i + 1) vs)))
+    → whole ≡ with_questions (front ++ q ∷ [])
+    (questions_from version (i + 1 + 1) (map (λ v. table_or_empty (view v)) (drop (i + 1) vs)))
 one_more_question version whole front vs i v q h is found before =
     let opened = rw (drop_more vs i v h, ← is, found) at before in
     opened ∙ with_questions_cons front q _

@@ -10,7 +10,8 @@ use Rattle.sf_audit.specs.Audits.{IsAudit, IsMiscounted, IsAuditRefusal}
 
 -- files with a refusal spell no lawful stack
 abbrev pub NoStack : Type 0
-NoStack = (files : List (List ℕ)) (e : Fault) (programs : List (List Insn)) → IsFirstRefusal files e → SpellStack files programs → ⊥
+NoStack = (files : List (List ℕ)) (e : Fault) (programs : List (List Insn)) → IsFirstRefusal files e
+    → SpellStack files programs → ⊥
 
 -- a refusal is of the number of questions, or of the files
 by_kind : (files : List (List ℕ)) (questions : List Asked) (e : Fault) → IsAuditRefusal files questions e
@@ -23,7 +24,8 @@ never_both : (n : ℕ) → (0 < n) × (n ≤ 256) → (n ≡ 0) ⊎ (256 < n) �
 never_both n h (inl none) = let some = h.0 in omega arith
 never_both n h (inr many) = let few = h.1 in omega arith
 
-pub audited_not_refused : NoStack → (files : List (List ℕ)) (questions : List Asked) (budget : ℕ) (o : Found) (e : Fault)
+pub audited_not_refused : NoStack → (files : List (List ℕ)) (questions : List Asked) (budget : ℕ)
+    (o : Found) (e : Fault)
     → IsAudit files questions budget o → IsAuditRefusal files questions e → ⊥
 audited_not_refused none files questions budget o e audit refused = ⊎_elim
     (λ (m : IsMiscounted files questions). never_both (length questions) audit.counted m.count)

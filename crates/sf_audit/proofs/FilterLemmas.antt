@@ -35,24 +35,31 @@ pub unlawful_due : (number : ℕ) (bytes : List ℕ) (raws : List RawInsn) (e : 
 unlawful_due number bytes raws e fields spelled some short (inl memory) = inl (ap (check_fault number) memory)
 unlawful_due number bytes raws check.Empty fields spelled some short (inr h) = absurd (omega arith)
 unlawful_due number bytes raws check.TooLong fields spelled some short (inr h) = absurd (omega arith)
-unlawful_due number bytes raws (check.Code at) fields spelled some short (inr h) = inr (refl, record { raws = raws; fields = fields; spelled = spelled; first = h })
-unlawful_due number bytes raws (check.Field at) fields spelled some short (inr h) = inr (refl, record { raws = raws; fields = fields; spelled = spelled; first = h })
-unlawful_due number bytes raws (check.Jump at) fields spelled some short (inr h) = inr (refl, record { raws = raws; fields = fields; spelled = spelled; first = h })
-unlawful_due number bytes raws check.Last fields spelled some short (inr h) = inr (refl, record { raws = raws; fields = fields; spelled = spelled; first = h })
-unlawful_due number bytes raws (check.Scratch at) fields spelled some short (inr h) = inr (refl, record { raws = raws; fields = fields; spelled = spelled; first = h })
+unlawful_due number bytes raws (check.Code at) fields spelled some short (inr h) =
+    inr (refl, record { raws = raws; fields = fields; spelled = spelled; first = h })
+unlawful_due number bytes raws (check.Field at) fields spelled some short (inr h) =
+    inr (refl, record { raws = raws; fields = fields; spelled = spelled; first = h })
+unlawful_due number bytes raws (check.Jump at) fields spelled some short (inr h) =
+    inr (refl, record { raws = raws; fields = fields; spelled = spelled; first = h })
+unlawful_due number bytes raws check.Last fields spelled some short (inr h) =
+    inr (refl, record { raws = raws; fields = fields; spelled = spelled; first = h })
+unlawful_due number bytes raws (check.Scratch at) fields spelled some short (inr h) =
+    inr (refl, record { raws = raws; fields = fields; spelled = spelled; first = h })
 unlawful_due number bytes raws check.NoFilter fields spelled some short (inr h) = absurd h
 unlawful_due number bytes raws check.TooMany fields spelled some short (inr h) = absurd h
 unlawful_due number bytes raws check.PathLength fields spelled some short (inr h) = absurd h
 unlawful_due number bytes raws check.Memory fields spelled some short (inr h) = absurd h
 
 pub one_more_program : (files : List (List ℕ)) (programs : List (List Insn)) (file : List ℕ) (program : List Insn)
-    → SpellPrograms files programs → SpellsProgram file program → SpellPrograms (files ++ file ∷ []) (programs ++ program ∷ [])
+    → SpellPrograms files programs → SpellsProgram file program
+    → SpellPrograms (files ++ file ∷ []) (programs ++ program ∷ [])
 one_more_program [] [] file program h p = (p, tt)
 one_more_program (f ∷ files) (g ∷ programs) file program h p = (h.0, one_more_program files programs file program h.1 p)
 one_more_program [] (g ∷ programs) file program h p = absurd h
 one_more_program (f ∷ files) [] file program h p = absurd h
 
-pub as_many : (files : List (List ℕ)) (programs : List (List Insn)) → SpellPrograms files programs → length programs ≡ length files
+pub as_many : (files : List (List ℕ)) (programs : List (List Insn)) → SpellPrograms files programs
+    → length programs ≡ length files
 as_many [] [] h = refl
 as_many (f ∷ files) (g ∷ programs) h = ap suc (as_many files programs h.1)
 as_many [] (g ∷ programs) h = absurd h
@@ -62,20 +69,24 @@ as_many (f ∷ files) [] h = absurd h
 abbrev pub bytes_of : List (Vec ℕ Global) → List (List ℕ)
 bytes_of files = map (λ f. f.items) files
 
-file_at : (files : List (Vec ℕ Global)) (i : ℕ) (file : Vec ℕ Global) → i < length files → file ≡ get_or files i file → get_or (bytes_of files) i [] ≡ file.items
+file_at : (files : List (Vec ℕ Global)) (i : ℕ) (file : Vec ℕ Global) → i < length files → file ≡ get_or files i file
+    → get_or (bytes_of files) i [] ≡ file.items
 file_at files i file h is = get_or-map (λ f. f.items) files i file [] h ∙ ap (λ (f : Vec ℕ Global). f.items) (sym is)
 
 -- One more file spells a lawful program.
-pub one_more_file : (files : List (Vec ℕ Global)) (programs : List (List Insn)) (i : ℕ) (file : Vec ℕ Global) (program : List Insn)
+pub one_more_file : (files : List (Vec ℕ Global)) (programs : List (List Insn)) (i : ℕ) (file : Vec ℕ Global)
+    (program : List Insn)
     → i < length files → file ≡ get_or files i file
     → SpellPrograms (take i (bytes_of files)) programs → SpellsProgram file.items program
     → SpellPrograms (take (i + 1) (bytes_of files)) (programs ++ program ∷ [])
 one_more_file files programs i file program h is before spelled =
     let below : i < length (bytes_of files) = rw length-map h in
-    rw (take_more (bytes_of files) i [] below, file_at files i file h is) (one_more_program _ programs file.items program before spelled)
+    rw (take_more (bytes_of files) i [] below, file_at files i file h is)
+    (one_more_program _ programs file.items program before spelled)
 
 -- A file is refused, after files that spell lawful programs.
-pub one_file_refused : (files : List (Vec ℕ Global)) (programs : List (List Insn)) (i : ℕ) (file : Vec ℕ Global) (e : Fault)
+pub one_file_refused : (files : List (Vec ℕ Global)) (programs : List (List Insn)) (i : ℕ)
+    (file : Vec ℕ Global) (e : Fault)
     → i < length files → file ≡ get_or files i file
     → SpellPrograms (take i (bytes_of files)) programs
     → (e ≡ faults.Memory) ⊎ IsRefusalOf (i + 1) file.items e
@@ -86,7 +97,8 @@ one_file_refused files programs i file e h is before (inr refused) =
     inr (record {
       place = i;
       file = file.items;
-      at = slice_get_read (bytes_of files) (length (bytes_of files)) i file.items refl below (sym (get_or-map (λ f. f.items) files i file file.items h ∙ ap (λ (f : Vec ℕ Global). f.items) (sym is)));
+      at = slice_get_read (bytes_of files) (length (bytes_of files)) i file.items refl below
+          (sym (get_or-map (λ f. f.items) files i file file.items h ∙ ap (λ (f : Vec ℕ Global). f.items) (sym is)));
       programs = programs;
       before = before;
       refused = refused;
@@ -140,12 +152,15 @@ first_refusal files faults.Read few r = (few, r)
 first_refusal files faults.Write few r = (few, r)
 first_refusal files faults.Memory few r = (few, r)
 
-pub refused_or_memory : (files : List (List ℕ)) (e : Fault) → AreFew files → (e ≡ faults.Memory) ⊎ IsFileRefusal files e → (e ≡ faults.Memory) ⊎ IsFirstRefusal files e
+pub refused_or_memory : (files : List (List ℕ)) (e : Fault) → AreFew files → (e ≡ faults.Memory) ⊎ IsFileRefusal files e
+    → (e ≡ faults.Memory) ⊎ IsFirstRefusal files e
 refused_or_memory files e few (inl memory) = inl memory
 refused_or_memory files e few (inr refused) = inr (first_refusal files e few refused)
 
-pub few_files : (files : List (Vec ℕ Global)) → (length files == 0) ≡ false → length files ≤ 64 → AreFew (bytes_of files)
+pub few_files : (files : List (Vec ℕ Global)) → (length files == 0) ≡ false → length files ≤ 64
+    → AreFew (bytes_of files)
 few_files [] none few = cc
 few_files (file ∷ files) none few =
-    let count : length (bytes_of (file ∷ files)) ≡ length (file ∷ files) = length-map (file ∷ files) (λ (f : Vec ℕ Global). f.items) in
+    let count : length (bytes_of (file ∷ files)) ≡ length (file ∷ files) =
+    length-map (file ∷ files) (λ (f : Vec ℕ Global). f.items) in
     record { some = omega arith; few = omega arith }

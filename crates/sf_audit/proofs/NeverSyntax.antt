@@ -20,7 +20,8 @@ is_syntax (Ok x) = false
 is_syntax (Err faults.Syntax) = true
 is_syntax (Err fault) = false
 
-choice : {X : Type 0} (b : Bool) (x y : Result X Fault) → is_syntax x ≡ false → is_syntax y ≡ false → is_syntax (if b then x else y) ≡ false
+choice : {X : Type 0} (b : Bool) (x y : Result X Fault) → is_syntax x ≡ false → is_syntax y ≡ false
+    → is_syntax (if b then x else y) ≡ false
 choice true x y p q = p
 choice false x y p q = q
 
@@ -35,23 +36,31 @@ where_read : (number : ℕ) (e : Option Entry) → is_syntax (question_where_rea
 where_read number (Some e) = of_entry number e
 where_read number None = refl
 
-in_front : (q : Result Asked Fault) (qs : Result (List Asked) Fault) → is_syntax q ≡ false → is_syntax qs ≡ false → is_syntax (question_cons q qs) ≡ false
+in_front : (q : Result Asked Fault) (qs : Result (List Asked) Fault) → is_syntax q ≡ false → is_syntax qs ≡ false
+    → is_syntax (question_cons q qs) ≡ false
 in_front (Ok q) (Ok qs) p r = refl
 in_front (Ok q) (Err fault) p r = r
 in_front (Err fault) qs p r = p
 
-of_tables : (version : Version) (number : ℕ) (mss : List Members) → is_syntax (questions_from version number mss) ≡ false
+of_tables : (version : Version) (number : ℕ) (mss : List Members)
+    → is_syntax (questions_from version number mss) ≡ false
 of_tables version number [] = refl
-of_tables version number (ms ∷ mss) = in_front _ _ (where_read number (entry_of_question version ms)) (of_tables version (number + 1) mss)
+of_tables version number (ms ∷ mss) = in_front _ _ (where_read number (entry_of_question version ms))
+    (of_tables version (number + 1) mss)
 
-where_tables : (version : Version) (mss : Option (List Members)) → is_syntax (questions_where_tables version mss) ≡ false
-where_tables version (Some mss) = choice (nat_le 1 (length mss) && nat_le (length mss) 256) _ _ (of_tables version 1 mss) refl
+where_tables : (version : Version) (mss : Option (List Members))
+    → is_syntax (questions_where_tables version mss) ≡ false
+where_tables version (Some mss) = choice (nat_le 1 (length mss) && nat_le (length mss) 256) _ _
+    (of_tables version 1 mss) refl
 where_tables version None = refl
 
 where_version : (version : Option Version) (ms : Members) → is_syntax (policy_where_version version ms) ≡ false
-where_version (Some version) ms = choice (has_only top_keys ms) _ _ (where_tables version (tables_at (get_member (codes "question") ms))) refl
+where_version (Some version) ms = choice (has_only top_keys ms) _ _
+    (where_tables version (tables_at (get_member (codes "question") ms))) refl
 where_version None ms = refl
 
 -- a function that gives what a tree means never answers `Syntax`
-pub not_syntax : {X : Type 0} (view : X → List Asked) (r : Result X Fault) (ms : Members) → Gives view r (policy_of ms) → r ≡ Err faults.Syntax → ⊥
-not_syntax view r ms gives e = false≢true (sym (where_version (version_of (number_at (codes "version") ms)) ms) ∙ ap (λ l. is_syntax l) (rw e at gives))
+pub not_syntax : {X : Type 0} (view : X → List Asked) (r : Result X Fault) (ms : Members) → Gives view r (policy_of ms)
+    → r ≡ Err faults.Syntax → ⊥
+not_syntax view r ms gives e = false≢true (sym (where_version (version_of (number_at (codes "version") ms)) ms)
+    ∙ ap (λ l. is_syntax l) (rw e at gives))

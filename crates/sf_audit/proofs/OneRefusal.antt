@@ -34,39 +34,84 @@ kind_of : (number : ℕ) (bytes : List ℕ) (e : Fault) → IsRefusalOf number b
 kind_of number bytes (faults.Ragged f) r = ragged (ap faults.Ragged r.0) r.1
 kind_of number bytes (faults.Empty f) r = empty (ap faults.Empty r.0) r.1
 kind_of number bytes (faults.TooLong f) r = long (ap faults.TooLong r.0) r.1 r.2
-kind_of number bytes (faults.Code f at) r = spoken (record { fault = check.Code at; spelled = r.1; some = r.1.first.0.some; short = r.1.first.0.short; is = ap (λ n. faults.Code n at) r.0 })
-kind_of number bytes (faults.Field f at) r = spoken (record { fault = check.Field at; spelled = r.1; some = r.1.first.0.some; short = r.1.first.0.short; is = ap (λ n. faults.Field n at) r.0 })
-kind_of number bytes (faults.Jump f at) r = spoken (record { fault = check.Jump at; spelled = r.1; some = r.1.first.0.some; short = r.1.first.0.short; is = ap (λ n. faults.Jump n at) r.0 })
-kind_of number bytes (faults.Last f) r = spoken (record { fault = check.Last; spelled = r.1; some = r.1.first.0.some; short = r.1.first.0.short; is = ap faults.Last r.0 })
-kind_of number bytes (faults.Scratch f at) r = spoken (record { fault = check.Scratch at; spelled = r.1; some = r.1.first.0.some; short = r.1.first.0.short; is = ap (λ n. faults.Scratch n at) r.0 })
+kind_of number bytes (faults.Code f at) r =
+    spoken (record {
+      fault = check.Code at;
+      spelled = r.1;
+      some = r.1.first.0.some;
+      short = r.1.first.0.short;
+      is = ap (λ n. faults.Code n at) r.0;
+    })
+kind_of number bytes (faults.Field f at) r =
+    spoken (record {
+      fault = check.Field at;
+      spelled = r.1;
+      some = r.1.first.0.some;
+      short = r.1.first.0.short;
+      is = ap (λ n. faults.Field n at) r.0;
+    })
+kind_of number bytes (faults.Jump f at) r =
+    spoken (record {
+      fault = check.Jump at;
+      spelled = r.1;
+      some = r.1.first.0.some;
+      short = r.1.first.0.short;
+      is = ap (λ n. faults.Jump n at) r.0;
+    })
+kind_of number bytes (faults.Last f) r = spoken
+    (record {
+      fault = check.Last;
+      spelled = r.1;
+      some = r.1.first.0.some;
+      short = r.1.first.0.short;
+      is = ap faults.Last r.0;
+    })
+kind_of number bytes (faults.Scratch f at) r =
+    spoken (record {
+      fault = check.Scratch at;
+      spelled = r.1;
+      some = r.1.first.0.some;
+      short = r.1.first.0.short;
+      is = ap (λ n. faults.Scratch n at) r.0;
+    })
 kind_of number bytes _ r = absurd r
 
 -- how long the bytes of instructions with a fault are
-spoken_length : (number : ℕ) (bytes : List ℕ) (e : Fault) (s : Spoken number bytes e) → length bytes ≡ 8 * length s.spelled.raws
+spoken_length : (number : ℕ) (bytes : List ℕ) (e : Fault) (s : Spoken number bytes e)
+    → length bytes ≡ 8 * length s.spelled.raws
 spoken_length number bytes e s = ap length s.spelled.spelled ∙ length_spelling s.spelled.raws
 
-same_spoken : OneSpelling → OneFault → (number : ℕ) (bytes : List ℕ) (e f : Fault) → Spoken number bytes e → Spoken number bytes f → e ≡ f
+same_spoken : OneSpelling → OneFault → (number : ℕ) (bytes : List ℕ) (e f : Fault) → Spoken number bytes e
+    → Spoken number bytes f → e ≡ f
 same_spoken spelling one number bytes e f s t =
-    let raws = spelling s.spelled.raws t.spelled.raws s.spelled.fields t.spelled.fields (sym s.spelled.spelled ∙ t.spelled.spelled) in
+    let raws = spelling s.spelled.raws t.spelled.raws s.spelled.fields t.spelled.fields
+    (sym s.spelled.spelled ∙ t.spelled.spelled) in
     let same = one t.spelled.raws s.fault t.fault (rw raws at s.spelled.first) t.spelled.first in
     s.is ∙ ap (check_fault number) same ∙ sym t.is
 
-same_kind : OneSpelling → OneFault → (number : ℕ) (bytes : List ℕ) (e f : Fault) → Kind number bytes e → Kind number bytes f → e ≡ f
+same_kind : OneSpelling → OneFault → (number : ℕ) (bytes : List ℕ) (e f : Fault) → Kind number bytes e
+    → Kind number bytes f → e ≡ f
 same_kind spelling one number bytes e f (ragged p q) (ragged r s) = p ∙ sym r
 same_kind spelling one number bytes e f (ragged p q) (empty r s) = absurd (q (omega arith))
 same_kind spelling one number bytes e f (ragged p q) (long r s t) = absurd (q s)
-same_kind spelling one number bytes e f (ragged p q) (spoken s) = let size = spoken_length number bytes f s in absurd (q (omega arith))
+same_kind spelling one number bytes e f (ragged p q) (spoken s) = let size = spoken_length number bytes f s in
+    absurd (q (omega arith))
 same_kind spelling one number bytes e f (empty p q) (ragged r s) = absurd (s (omega arith))
 same_kind spelling one number bytes e f (empty p q) (empty r s) = p ∙ sym r
 same_kind spelling one number bytes e f (empty p q) (long r s t) = absurd (omega arith)
-same_kind spelling one number bytes e f (empty p q) (spoken s) = let size = spoken_length number bytes f s in let some = s.some in absurd (omega arith)
+same_kind spelling one number bytes e f (empty p q) (spoken s) = let size = spoken_length number bytes f s in
+    let some = s.some in absurd (omega arith)
 same_kind spelling one number bytes e f (long p q t) (ragged r s) = absurd (s q)
 same_kind spelling one number bytes e f (long p q t) (empty r s) = absurd (omega arith)
 same_kind spelling one number bytes e f (long p q t) (long r s u) = p ∙ sym r
-same_kind spelling one number bytes e f (long p q t) (spoken s) = let size = spoken_length number bytes f s in let short = s.short in absurd (omega arith)
-same_kind spelling one number bytes e f (spoken s) (ragged p q) = let size = spoken_length number bytes e s in absurd (q (omega arith))
-same_kind spelling one number bytes e f (spoken s) (empty p q) = let size = spoken_length number bytes e s in let some = s.some in absurd (omega arith)
-same_kind spelling one number bytes e f (spoken s) (long p q t) = let size = spoken_length number bytes e s in let short = s.short in absurd (omega arith)
+same_kind spelling one number bytes e f (long p q t) (spoken s) = let size = spoken_length number bytes f s in
+    let short = s.short in absurd (omega arith)
+same_kind spelling one number bytes e f (spoken s) (ragged p q) = let size = spoken_length number bytes e s in
+    absurd (q (omega arith))
+same_kind spelling one number bytes e f (spoken s) (empty p q) = let size = spoken_length number bytes e s in
+    let some = s.some in absurd (omega arith)
+same_kind spelling one number bytes e f (spoken s) (long p q t) = let size = spoken_length number bytes e s in
+    let short = s.short in absurd (omega arith)
 same_kind spelling one number bytes e f (spoken s) (spoken t) = same_spoken spelling one number bytes e f s t
 
 slice_get_take : (files : List (List ℕ)) (n i : ℕ) → i < n → slice_get (take n files) i ≡ slice_get files i
@@ -77,13 +122,15 @@ slice_get_take (f ∷ files) (suc n) zero lt = refl
 slice_get_take (f ∷ files) (suc n) (suc i) lt = slice_get_take files n i (omega arith)
 
 -- a file before the one that is refused spells a lawful program, so it isn't refused itself
-not_before : OneSpelling → FaultsAreNot → (files : List (List ℕ)) (e f : Fault) (r : IsFileRefusal files e) (s : IsFileRefusal files f) → r.place < s.place → ⊥
+not_before : OneSpelling → FaultsAreNot → (files : List (List ℕ)) (e f : Fault) (r : IsFileRefusal files e)
+    (s : IsFileRefusal files f) → r.place < s.place → ⊥
 not_before spelling none files e f r s lt =
     let there = slice_get_take files s.place r.place lt ∙ r.at in
     let (program, spelled) = program_at (take s.place files) s.programs r.place r.file there s.before in
     refused_no_program spelling none (r.place + 1) r.file e program r.refused spelled
 
-same_file : OneSpelling → OneFault → FaultsAreNot → (files : List (List ℕ)) (e f : Fault) → IsFileRefusal files e → IsFileRefusal files f → e ≡ f
+same_file : OneSpelling → OneFault → FaultsAreNot → (files : List (List ℕ)) (e f : Fault) → IsFileRefusal files e
+    → IsFileRefusal files f → e ≡ f
 same_file spelling one none files e f r s =
     elim (cases_lt r.place s.place) [
       | inl lt ↦ absurd (not_before spelling none files e f r s lt)
@@ -118,7 +165,8 @@ stack_kind files (faults.Last f) r = file r.0 r.1
 stack_kind files (faults.Scratch f at) r = file r.0 r.1
 stack_kind files _ r = file r.0 r.1
 
-same_stack_kind : OneSpelling → OneFault → FaultsAreNot → (files : List (List ℕ)) (e f : Fault) → StackKind files e → StackKind files f → e ≡ f
+same_stack_kind : OneSpelling → OneFault → FaultsAreNot → (files : List (List ℕ)) (e f : Fault) → StackKind files e
+    → StackKind files f → e ≡ f
 same_stack_kind spelling one lawless files e f (none p q) (none r s) = p ∙ sym r
 same_stack_kind spelling one lawless files e f (none p q) (many r s) = absurd (omega arith)
 same_stack_kind spelling one lawless files e f (none p q) (path r few s) = let some = few.some in absurd (omega arith)
@@ -130,11 +178,15 @@ same_stack_kind spelling one lawless files e f (many p q) (file few s) = let mos
 same_stack_kind spelling one lawless files e f (path p few q) (none r s) = let some = few.some in absurd (omega arith)
 same_stack_kind spelling one lawless files e f (path p few q) (many r s) = let most = few.few in absurd (omega arith)
 same_stack_kind spelling one lawless files e f (path p few q) (path r few' s) = p ∙ sym r
-same_stack_kind spelling one lawless files e f (path p few q) (file few' s) = absurd (file_no_stack spelling lawless files f q.programs s q.spelled)
+same_stack_kind spelling one lawless files e f (path p few q) (file few' s) =
+    absurd (file_no_stack spelling lawless files f q.programs s q.spelled)
 same_stack_kind spelling one lawless files e f (file few q) (none r s) = let some = few.some in absurd (omega arith)
 same_stack_kind spelling one lawless files e f (file few q) (many r s) = let most = few.few in absurd (omega arith)
-same_stack_kind spelling one lawless files e f (file few q) (path r few' s) = absurd (file_no_stack spelling lawless files e s.programs q s.spelled)
+same_stack_kind spelling one lawless files e f (file few q) (path r few' s) =
+    absurd (file_no_stack spelling lawless files e s.programs q s.spelled)
 same_stack_kind spelling one lawless files e f (file few q) (file few' s) = same_file spelling one lawless files e f q s
 
-pub same_refusal : OneSpelling → OneFault → FaultsAreNot → (files : List (List ℕ)) (e f : Fault) → IsFirstRefusal files e → IsFirstRefusal files f → e ≡ f
-same_refusal spelling one lawless files e f r s = same_stack_kind spelling one lawless files e f (stack_kind files e r) (stack_kind files f s)
+pub same_refusal : OneSpelling → OneFault → FaultsAreNot → (files : List (List ℕ)) (e f : Fault)
+    → IsFirstRefusal files e → IsFirstRefusal files f → e ≡ f
+same_refusal spelling one lawless files e f r s =
+    same_stack_kind spelling one lawless files e f (stack_kind files e r) (stack_kind files f s)

@@ -65,8 +65,10 @@ same_names b c h = h.worked.names ∙ same_traces b c h ∙ sym h.worked'.names
 
 -- ---- the regions at a place
 
-right_at : (b : BookData) (i : ℕ) (r : RegionData) → IsLawful b → slice_get b.regions i ≡ Some r → IsRightRegion b.stack r
-right_at b i r h at = subst (IsRightRegion b.stack) (get_or_from_slice_get b.regions i r r at) (h.regions i r (slice_get_within b.regions i r at))
+right_at : (b : BookData) (i : ℕ) (r : RegionData) → IsLawful b → slice_get b.regions i ≡ Some r
+    → IsRightRegion b.stack r
+right_at b i r h at = subst (IsRightRegion b.stack) (get_or_from_slice_get b.regions i r r at)
+    (h.regions i r (slice_get_within b.regions i r at))
 
 -- a region with the same name at the same place
 record HasTwin (rs : List RegionData) (i : ℕ) (r : RegionData) : Type 0 where
@@ -74,7 +76,8 @@ record HasTwin (rs : List RegionData) (i : ℕ) (r : RegionData) : Type 0 where
   there : slice_get rs i ≡ Some region
   name : region.name ≡ r.name
 
-twin : (rs ss : List RegionData) (i : ℕ) (r : RegionData) → names rs ≡ names ss → slice_get rs i ≡ Some r → HasTwin ss i r
+twin : (rs ss : List RegionData) (i : ℕ) (r : RegionData) → names rs ≡ names ss → slice_get rs i ≡ Some r
+    → HasTwin ss i r
 twin [] ss i r e at = absurd cc
 twin (x ∷ rs) [] i r e at = absurd cc
 twin (x ∷ rs) (y ∷ ss) zero r e at =
@@ -94,7 +97,8 @@ member_too b c h i d m =
     let right' = right_at c i t.region h.lawful' t.there in
     let begins : is_prefix m.region.name (trace_of b.stack d) ≡ true = sym (right.members d m.input) ∙ m.member in
     let named : is_prefix t.region.name (trace_of c.stack d) ≡ is_prefix m.region.name (trace_of b.stack d) =
-    ap (λ (n : List Bool). is_prefix n (trace_of c.stack d)) t.name ∙ ap (λ (s : List (List Insn)). is_prefix m.region.name (trace_of s d)) (sym h.stack) in
+    ap (λ (n : List Bool). is_prefix n (trace_of c.stack d)) t.name
+    ∙ ap (λ (s : List (List Insn)). is_prefix m.region.name (trace_of s d)) (sym h.stack) in
     record { region = t.region; there = t.there; input = m.input; member = right'.members d m.input ∙ named ∙ begins }
 
 break_too : (b c : BookData) → AreAlike b c → (i : ℕ) (q : Asked) (d : Input) → IsBreakAt b i q d → IsBreakAt c i q d
@@ -118,16 +122,20 @@ input_is : (a b : List ℕ) → a ≡ b → input_of a ≡ input_of b
 input_is a b e = cc
 
 -- an input is its words
-same_input : (d e : Input) → IsInput d → IsInput e → ((w : ℕ) → w < 16 → slice_index d.words w ≡ slice_index e.words w) → d ≡ e
+same_input : (d e : Input) → IsInput d → IsInput e
+    → ((w : ℕ) → w < 16 → slice_index d.words w ≡ slice_index e.words w) → d ≡ e
 same_input d e p q each =
     let long : length d.words ≡ 16 = p.sixteen in
     input_is d.words e.words (ext_get_or 0 d.words e.words (p.sixteen ∙ sym q.sixteen) (λ i less. each i (omega arith)))
 
-same_example : (b c : BookData) → AreAlike b c → (q : Asked) (i : ℕ) (d e : Input) → IsPlainExample b i q d → IsPlainExample c i q e → d ≡ e
+same_example : (b c : BookData) → AreAlike b c → (q : Asked) (i : ℕ) (d e : Input) → IsPlainExample b i q d
+    → IsPlainExample c i q e → d ≡ e
 same_example b c h q i d e f g =
     same_input d e f.breaks.member.input g.breaks.member.input (λ w less.
-    let low : slice_index d.words w ≤ slice_index e.words w = f.least e (member_too c b (turned b c h) i e g.breaks.member) g.breaks.breaks.inside w less in
-    let high : slice_index e.words w ≤ slice_index d.words w = g.least d (member_too b c h i d f.breaks.member) f.breaks.breaks.inside w less in
+    let low : slice_index d.words w ≤ slice_index e.words w =
+    f.least e (member_too c b (turned b c h) i e g.breaks.member) g.breaks.breaks.inside w less in
+    let high : slice_index e.words w ≤ slice_index d.words w =
+    g.least d (member_too b c h i d f.breaks.member) f.breaks.breaks.inside w less in
     omega arith)
 
 -- ---- the same replies
@@ -135,20 +143,23 @@ same_example b c h q i d e f g =
 none_left : (b : BookData) → b.outstanding ≡ [] → 0 < length b.outstanding → ⊥
 none_left b none some = let left : length b.outstanding ≡ 0 = ap length none in omega arith
 
-same_reply : (b c : BookData) → AreAlike b c → IsPlain b.stack → (q : Asked) (x y : Reply) → IsReplyTo b q x → IsReplyTo c q y → x ≡ y
+same_reply : (b c : BookData) → AreAlike b c → IsPlain b.stack → (q : Asked) (x y : Reply) → IsReplyTo b q x
+    → IsReplyTo c q y → x ≡ y
 same_reply b c h plain q Unsettled y f g = absurd (none_left b h.done (f.plain plain))
 same_reply b c h plain q x Unsettled f g = absurd (none_left c h.done' (g.plain (subst IsPlain h.stack plain)))
 same_reply b c h plain q Never Never f g = refl
 same_reply b c h plain q Never (Allowed e) f g =
     absurd (f.right.1 e g.right.0 (subst (λ (s : List (List Insn)). Breaks s q e) (sym h.stack) g.right.1))
-same_reply b c h plain q (Allowed d) Never f g = absurd (g.right.1 d f.right.0 (subst (λ (s : List (List Insn)). Breaks s q d) h.stack f.right.1))
+same_reply b c h plain q (Allowed d) Never f g =
+    absurd (g.right.1 d f.right.0 (subst (λ (s : List (List Insn)). Breaks s q d) h.stack f.right.1))
 same_reply b c h plain q (Allowed d) (Allowed e) f g =
     let p = f.plain plain in
     let r = g.plain (subst IsPlain h.stack plain) in
     let place : p.0 ≡ r.0 = same_first b c h q p.0 r.0 p.1 r.1 in
     ap Allowed (same_example b c h q p.0 d e p.2 (subst (λ k. IsPlainExample c k q e) (sym place) r.2))
 
-same_replies : (b c : BookData) → AreAlike b c → IsPlain b.stack → (qs : List Asked) (xs ys : List Reply) → AreRightReplies b qs xs → AreRightReplies c qs ys → xs ≡ ys
+same_replies : (b c : BookData) → AreAlike b c → IsPlain b.stack → (qs : List Asked) (xs ys : List Reply)
+    → AreRightReplies b qs xs → AreRightReplies c qs ys → xs ≡ ys
 same_replies b c h plain qs xs ys f g =
     let long : length xs ≡ length qs = f.count in
     let long' : length ys ≡ length qs = g.count in
@@ -163,7 +174,8 @@ same_replies b c h plain qs xs ys f g =
 -- ---- the same answers
 
 -- some input has the name of the region as its trace
-some_named : (b : BookData) (i : ℕ) (r : RegionData) → IsWorkedOff b (feasible_traces b.stack) → slice_get b.regions i ≡ Some r → IsFeasible b.stack r.name
+some_named : (b : BookData) (i : ℕ) (r : RegionData) → IsWorkedOff b (feasible_traces b.stack)
+    → slice_get b.regions i ≡ Some r → IsFeasible b.stack r.name
 some_named b i r w at =
     let within = slice_get_within b.regions i r at in
     let there : Contains b.regions r = (i, within, get_or_from_slice_get b.regions i r r at) in
@@ -171,18 +183,24 @@ some_named b i r w at =
     ((feasible_are b.stack).exactly r.name).0 (subst (λ (ns : List (List Bool)). Contains ns r.name) w.names named)
 
 -- and is answered as its region says
-answered : (stack : List (List Insn)) (r : RegionData) (d : Input) → IsRightRegion stack r → IsInput d → trace_of stack d ≡ r.name → Answers stack d r.answer
-answered stack r d right is named = right.answers d is (right.members d is ∙ ap (λ (t : List Bool). is_prefix r.name t) named ∙ prefix-refl r.name)
+answered : (stack : List (List Insn)) (r : RegionData) (d : Input) → IsRightRegion stack r → IsInput d
+    → trace_of stack d ≡ r.name → Answers stack d r.answer
+answered stack r d right is named = right.answers d is (right.members d is
+    ∙ ap (λ (t : List Bool). is_prefix r.name t) named ∙ prefix-refl r.name)
 
-same_answer : (b c : BookData) → AreAlike b c → (i : ℕ) (r s : RegionData) → slice_get b.regions i ≡ Some r → slice_get c.regions i ≡ Some s → r.answer ≡ s.answer
+same_answer : (b c : BookData) → AreAlike b c → (i : ℕ) (r s : RegionData) → slice_get b.regions i ≡ Some r
+    → slice_get c.regions i ≡ Some s → r.answer ≡ s.answer
 same_answer b c h i r s at at' =
     let d = some_named b i r h.worked at in
     let t = twin b.regions c.regions i r (same_names b c h) at in
-    let name : r.name ≡ s.name = sym t.name ∙ ap (λ (k : RegionData). k.name) (same_Some t.region s (sym t.there ∙ at')) in
-    let trace : trace_of c.stack d.0 ≡ s.name = ap (λ (k : List (List Insn)). trace_of k d.0) (sym h.stack) ∙ d.2 ∙ name in
+    let name : r.name ≡ s.name = sym t.name ∙ ap (λ (k : RegionData). k.name)
+    (same_Some t.region s (sym t.there ∙ at')) in
+    let trace : trace_of c.stack d.0 ≡ s.name =
+    ap (λ (k : List (List Insn)). trace_of k d.0) (sym h.stack) ∙ d.2 ∙ name in
     let mine : Answers b.stack d.0 r.answer = answered b.stack r d.0 (right_at b i r h.lawful at) d.1 d.2 in
     let other : Answers c.stack d.0 s.answer = answered c.stack s d.0 (right_at c i s h.lawful' at') d.1 trace in
-    one (returns_of b.stack d.0) r.answer s.answer mine (subst (λ (k : List (List Insn)). Answers k d.0 s.answer) (sym h.stack) other)
+    one (returns_of b.stack d.0) r.answer s.answer mine
+    (subst (λ (k : List (List Insn)). Answers k d.0 s.answer) (sym h.stack) other)
 
 -- ---- the same lines
 
@@ -190,9 +208,12 @@ abbrev told : ℕ → List Bool → Answer → List ℕ
 told n name a = line (codes "region" ∷ decimal n ∷ trace_text name ∷ action_text a.action ∷ decimal a.info ∷ [])
 
 same_line : (n : ℕ) (r s : RegionData) → r.name ≡ s.name → r.answer ≡ s.answer → region_line n r ≡ region_line n s
-same_line n r s name answer = ap (λ (t : List Bool). told n t r.answer) name ∙ ap (λ (a : Answer). told n s.name a) answer
+same_line n r s name answer = ap (λ (t : List Bool). told n t r.answer) name
+    ∙ ap (λ (a : Answer). told n s.name a) answer
 
-same_lines : (n : ℕ) (rs ss : List RegionData) → names rs ≡ names ss → ((i : ℕ) (r s : RegionData) → slice_get rs i ≡ Some r → slice_get ss i ≡ Some s → r.answer ≡ s.answer) → region_lines n rs ≡ region_lines n ss
+same_lines : (n : ℕ) (rs ss : List RegionData) → names rs ≡ names ss
+    → ((i : ℕ) (r s : RegionData) → slice_get rs i ≡ Some r → slice_get ss i ≡ Some s → r.answer ≡ s.answer)
+    → region_lines n rs ≡ region_lines n ss
 same_lines n [] [] e each = refl
 same_lines n [] (s ∷ ss) e each = absurd cc
 same_lines n (r ∷ rs) [] e each = absurd cc
@@ -200,14 +221,16 @@ same_lines n (r ∷ rs) (s ∷ ss) e each =
     let first : r.name ≡ s.name = cc in
     let rest : names rs ≡ names ss = cc in
     let lines = same_lines (n + 1) rs ss rest (λ i x y at at'. each (suc i) x y at at') in
-    ap (λ (l : List ℕ). l ++ region_lines (n + 1) rs) (same_line n r s first (each 0 r s refl refl)) ∙ ap (λ (l : List ℕ). region_line n s ++ l) lines
+    ap (λ (l : List ℕ). l ++ region_lines (n + 1) rs) (same_line n r s first (each 0 r s refl refl))
+    ∙ ap (λ (l : List ℕ). region_line n s ++ l) lines
 
 -- ---- the same counts
 
 abbrev count : ℕ → ℕ → ℕ → ℕ → ℕ → Counts
 count l s e p c = record { left = l; settled = s; emptied = e; splits = p; commits = c }
 
-count_is : {l l' s s' e e' p p' c c' : ℕ} → l ≡ l' → s ≡ s' → e ≡ e' → p ≡ p' → c ≡ c' → count l s e p c ≡ count l' s' e' p' c'
+count_is : {l l' s s' e e' p p' c c' : ℕ} → l ≡ l' → s ≡ s' → e ≡ e' → p ≡ p' → c ≡ c'
+    → count l s e p c ≡ count l' s' e' p' c'
 count_is a b d e f = cc
 
 same_counts : (b c : BookData) → AreAlike b c → counts_of b ≡ counts_of c
@@ -229,7 +252,8 @@ same_counts b c h =
 -- ---- the same report
 
 abbrev head : List (List Insn) → ℕ → Counts → List ℕ
-head stack questions counts = title_line ++ (size_line (length stack) (path_length stack) questions ++ counts_line counts)
+head stack questions counts = title_line ++ (size_line (length stack) (path_length stack) questions
+    ++ counts_line counts)
 
 abbrev whole : List ℕ → List ℕ → List ℕ → List ℕ → List ℕ
 whole a b c d = a ++ (b ++ (c ++ d))
@@ -238,10 +262,12 @@ whole_is : {a a' b b' c c' d d' : List ℕ} → a ≡ a' → b ≡ b' → c ≡ 
 whole_is p q r s = cc
 
 -- what two audits of the files ended with is alike
-alike : OneStack → (files : List (List ℕ)) (questions : List Asked) (m n : ℕ) (o p : Found) → IsAudit files questions m o → IsAudit files questions n p → IsPlain o.settled.stack
+alike : OneStack → (files : List (List ℕ)) (questions : List Asked) (m n : ℕ) (o p : Found)
+    → IsAudit files questions m o → IsAudit files questions n p → IsPlain o.settled.stack
     → o.settled.outstanding ≡ [] → p.settled.outstanding ≡ [] → AreAlike o.settled p.settled
 alike one_stack files questions m n o p f g plain none none' =
-    let stack : o.settled.stack ≡ p.settled.stack = one_stack files o.settled.stack p.settled.stack f.stack.spelled g.stack.spelled in
+    let stack : o.settled.stack ≡ p.settled.stack =
+    one_stack files o.settled.stack p.settled.stack f.stack.spelled g.stack.spelled in
     record {
       lawful = f.found.end.settled.lawful;
       lawful' = g.found.end.settled.lawful;
@@ -252,20 +278,28 @@ alike one_stack files questions m n o p f g plain none none' =
       worked' = (g.found.plain (subst IsPlain stack plain)).worked none';
     }
 
-pub same_report : OneStack → (files : List (List ℕ)) (questions : List Asked) (m n : ℕ) (o p : Found) → IsAudit files questions m o → IsAudit files questions n p → IsPlain o.settled.stack
-    → o.settled.outstanding ≡ [] → p.settled.outstanding ≡ [] → (shown : Bool) → report_text o shown ≡ report_text p shown
+pub same_report : OneStack → (files : List (List ℕ)) (questions : List Asked) (m n : ℕ) (o p : Found)
+    → IsAudit files questions m o → IsAudit files questions n p → IsPlain o.settled.stack
+    → o.settled.outstanding ≡ [] → p.settled.outstanding ≡ [] → (shown : Bool)
+    → report_text o shown ≡ report_text p shown
 same_report one_stack files questions m n o p f g plain none none' shown =
     let h = alike one_stack files questions m n o p f g plain none none' in
     let asked : o.questions ≡ p.questions = f.found.questions ∙ sym g.found.questions in
-    let theirs : AreRightReplies p.settled o.questions p.replies = subst (λ (qs : List Asked). AreRightReplies p.settled qs p.replies) (sym asked) g.found.replies in
-    let replies : o.replies ≡ p.replies = same_replies o.settled p.settled h plain o.questions o.replies p.replies f.found.replies theirs in
-    let heads : head o.settled.stack (length o.questions) (counts_of o.settled) ≡ head p.settled.stack (length p.questions) (counts_of p.settled) =
+    let theirs : AreRightReplies p.settled o.questions p.replies =
+    subst (λ (qs : List Asked). AreRightReplies p.settled qs p.replies) (sym asked) g.found.replies in
+    let replies : o.replies ≡ p.replies = same_replies o.settled p.settled h plain o.questions o.replies p.replies
+    f.found.replies theirs in
+    let heads : head o.settled.stack (length o.questions) (counts_of o.settled)
+    ≡ head p.settled.stack (length p.questions) (counts_of p.settled) =
     ap (λ (s : List (List Insn)). head s (length o.questions) (counts_of o.settled)) h.stack
     ∙ (ap (λ (qs : List Asked). head p.settled.stack (length qs) (counts_of o.settled)) asked
     ∙ ap (λ (c : Counts). head p.settled.stack (length p.questions) c) (same_counts o.settled p.settled h)) in
     let answers : question_lines 1 o.questions o.replies ≡ question_lines 1 p.questions p.replies =
-    ap (λ (qs : List Asked). question_lines 1 qs o.replies) asked ∙ ap (λ (rs : List Reply). question_lines 1 p.questions rs) replies in
+    ap (λ (qs : List Asked). question_lines 1 qs o.replies) asked
+    ∙ ap (λ (rs : List Reply). question_lines 1 p.questions rs) replies in
     let regions : region_lines 1 o.settled.regions ≡ region_lines 1 p.settled.regions =
-    same_lines 1 o.settled.regions p.settled.regions (same_names o.settled p.settled h) (same_answer o.settled p.settled h) in
-    let shown_regions : shown_lines shown o.settled.regions ≡ shown_lines shown p.settled.regions = ap (λ (l : List ℕ). if shown then l else []) regions in
+    same_lines 1 o.settled.regions p.settled.regions (same_names o.settled p.settled h)
+    (same_answer o.settled p.settled h) in
+    let shown_regions : shown_lines shown o.settled.regions ≡ shown_lines shown p.settled.regions =
+    ap (λ (l : List ℕ). if shown then l else []) regions in
     whole_is heads answers shown_regions (ap (λ (rs : List Reply). totals_line rs) replies)

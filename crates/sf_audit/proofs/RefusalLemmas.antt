@@ -22,7 +22,8 @@ abbrev pub OneProgram : Type 0
 OneProgram = (bytes : List ℕ) (a b : List Insn) → SpellsProgram bytes a → SpellsProgram bytes b → a ≡ b
 
 abbrev pub FaultsAreNot : Type 0
-FaultsAreNot = (raws : List RawInsn) (e : CheckFault) (code : List Insn) → IsFirstFault raws e → Spells raws code → IsLawful code → ⊥
+FaultsAreNot = (raws : List RawInsn) (e : CheckFault) (code : List Insn) → IsFirstFault raws e → Spells raws code
+    → IsLawful code → ⊥
 
 abbrev pub OneStack : Type 0
 OneStack = (files : List (List ℕ)) (a b : List (List Insn)) → SpellPrograms files a → SpellPrograms files b → a ≡ b
@@ -48,15 +49,18 @@ as_long raws program spells = sym (length-map raws insn_of) ∙ ap length spells
 
 -- the bytes of a lawful program are 8 for each instruction
 eight_each : (bytes : List ℕ) (program : List Insn) → SpellsProgram bytes program → length bytes ≡ 8 * length program
-eight_each bytes program p = ap length p.spelled ∙ length_spelling p.raws ∙ ap (λ n. 8 * n) (as_long p.raws program p.read)
+eight_each bytes program p = ap length p.spelled ∙ length_spelling p.raws
+    ∙ ap (λ n. 8 * n) (as_long p.raws program p.read)
 
-faulty : OneSpelling → FaultsAreNot → (bytes : List ℕ) (e : CheckFault) (program : List Insn) → SpellsFault bytes e → SpellsProgram bytes program → ⊥
+faulty : OneSpelling → FaultsAreNot → (bytes : List ℕ) (e : CheckFault) (program : List Insn) → SpellsFault bytes e
+    → SpellsProgram bytes program → ⊥
 faulty spelling none bytes e program f p =
     let raws = spelling f.raws p.raws f.fields p.fields (sym f.spelled ∙ p.spelled) in
     none p.raws e program (rw raws at f.first) p.read p.lawful
 
 -- A file that is refused spells no lawful program.
-pub refused_no_program : OneSpelling → FaultsAreNot → (number : ℕ) (bytes : List ℕ) (e : Fault) (program : List Insn) → IsRefusalOf number bytes e → SpellsProgram bytes program → ⊥
+pub refused_no_program : OneSpelling → FaultsAreNot → (number : ℕ) (bytes : List ℕ) (e : Fault) (program : List Insn)
+    → IsRefusalOf number bytes e → SpellsProgram bytes program → ⊥
 refused_no_program spelling none number bytes (faults.Ragged f) program r p =
     let size = eight_each bytes program p in
     let rest : (8 * length program) % 8 ≡ 0 = omega arith in
@@ -69,27 +73,36 @@ refused_no_program spelling none number bytes (faults.TooLong f) program r p =
     let size = eight_each bytes program p in
     let short = p.lawful.short in
     omega arith
-refused_no_program spelling none number bytes (faults.Code f at) program r p = faulty spelling none bytes _ program r.1 p
-refused_no_program spelling none number bytes (faults.Field f at) program r p = faulty spelling none bytes _ program r.1 p
-refused_no_program spelling none number bytes (faults.Jump f at) program r p = faulty spelling none bytes _ program r.1 p
+refused_no_program spelling none number bytes (faults.Code f at) program r p =
+    faulty spelling none bytes _ program r.1 p
+refused_no_program spelling none number bytes (faults.Field f at) program r p =
+    faulty spelling none bytes _ program r.1 p
+refused_no_program spelling none number bytes (faults.Jump f at) program r p =
+    faulty spelling none bytes _ program r.1 p
 refused_no_program spelling none number bytes (faults.Last f) program r p = faulty spelling none bytes _ program r.1 p
-refused_no_program spelling none number bytes (faults.Scratch f at) program r p = faulty spelling none bytes _ program r.1 p
+refused_no_program spelling none number bytes (faults.Scratch f at) program r p =
+    faulty spelling none bytes _ program r.1 p
 refused_no_program spelling none number bytes _ program r p = absurd r
 
 -- the file at a place spells a lawful program
-pub program_at : (files : List (List ℕ)) (programs : List (List Insn)) (place : ℕ) (file : List ℕ) → slice_get files place ≡ Some file → SpellPrograms files programs
+pub program_at : (files : List (List ℕ)) (programs : List (List Insn)) (place : ℕ) (file : List ℕ)
+    → slice_get files place ≡ Some file → SpellPrograms files programs
     → (program : List Insn) × SpellsProgram file program
 program_at [] programs place file at p = absurd cc
 program_at (f ∷ files) [] place file at p = absurd p
-program_at (f ∷ files) (g ∷ programs) zero file at p = (g, subst (λ (x : List ℕ). SpellsProgram x g) (same_Some f file at) p.0)
+program_at (f ∷ files) (g ∷ programs) zero file at p =
+    (g, subst (λ (x : List ℕ). SpellsProgram x g) (same_Some f file at) p.0)
 program_at (f ∷ files) (g ∷ programs) (suc place) file at p = program_at files programs place file at p.1
 
-pub file_no_stack : OneSpelling → FaultsAreNot → (files : List (List ℕ)) (e : Fault) (programs : List (List Insn)) → IsFileRefusal files e → SpellPrograms files programs → ⊥
+pub file_no_stack : OneSpelling → FaultsAreNot → (files : List (List ℕ)) (e : Fault) (programs : List (List Insn))
+    → IsFileRefusal files e → SpellPrograms files programs → ⊥
 file_no_stack spelling none files e programs r p =
     let (program, spelled) = program_at files programs r.place r.file r.at p in
     refused_no_program spelling none (r.place + 1) r.file e program r.refused spelled
 
-pub refused_no_stack : OneSpelling → FaultsAreNot → OneStack → (files : List (List ℕ)) (e : Fault) (programs : List (List Insn)) → IsFirstRefusal files e → SpellStack files programs → ⊥
+pub refused_no_stack : OneSpelling → FaultsAreNot → OneStack
+    → (files : List (List ℕ)) (e : Fault) (programs : List (List Insn)) → IsFirstRefusal files e
+    → SpellStack files programs → ⊥
 refused_no_stack spelling none one files faults.NoFilter programs r s =
     let count = as_many files programs s.spelled in
     let some = s.lawful.some in
@@ -103,12 +116,20 @@ refused_no_stack spelling none one files faults.PathLength programs r s =
     let long : 32768 < path_length programs = rw same at r.1.long in
     let short = s.lawful.short in
     omega arith
-refused_no_stack spelling none one files (faults.Ragged f) programs r s = file_no_stack spelling none files _ programs r.1 s.spelled
-refused_no_stack spelling none one files (faults.Empty f) programs r s = file_no_stack spelling none files _ programs r.1 s.spelled
-refused_no_stack spelling none one files (faults.TooLong f) programs r s = file_no_stack spelling none files _ programs r.1 s.spelled
-refused_no_stack spelling none one files (faults.Code f at) programs r s = file_no_stack spelling none files _ programs r.1 s.spelled
-refused_no_stack spelling none one files (faults.Field f at) programs r s = file_no_stack spelling none files _ programs r.1 s.spelled
-refused_no_stack spelling none one files (faults.Jump f at) programs r s = file_no_stack spelling none files _ programs r.1 s.spelled
-refused_no_stack spelling none one files (faults.Last f) programs r s = file_no_stack spelling none files _ programs r.1 s.spelled
-refused_no_stack spelling none one files (faults.Scratch f at) programs r s = file_no_stack spelling none files _ programs r.1 s.spelled
+refused_no_stack spelling none one files (faults.Ragged f) programs r s =
+    file_no_stack spelling none files _ programs r.1 s.spelled
+refused_no_stack spelling none one files (faults.Empty f) programs r s =
+    file_no_stack spelling none files _ programs r.1 s.spelled
+refused_no_stack spelling none one files (faults.TooLong f) programs r s =
+    file_no_stack spelling none files _ programs r.1 s.spelled
+refused_no_stack spelling none one files (faults.Code f at) programs r s =
+    file_no_stack spelling none files _ programs r.1 s.spelled
+refused_no_stack spelling none one files (faults.Field f at) programs r s =
+    file_no_stack spelling none files _ programs r.1 s.spelled
+refused_no_stack spelling none one files (faults.Jump f at) programs r s =
+    file_no_stack spelling none files _ programs r.1 s.spelled
+refused_no_stack spelling none one files (faults.Last f) programs r s =
+    file_no_stack spelling none files _ programs r.1 s.spelled
+refused_no_stack spelling none one files (faults.Scratch f at) programs r s =
+    file_no_stack spelling none files _ programs r.1 s.spelled
 refused_no_stack spelling none one files _ programs r s = file_no_stack spelling none files _ programs r.1 s.spelled

@@ -14,17 +14,23 @@ use Rattle.sf_audit.specs.Words.{entry_of_array}
 use Rattle.sf_audit.specs.Encoding.{text_or_empty, table_or_empty}
 use Rattle.sf_audit.specs.declared.policy.keys.TheConstants.{QUESTION_KEYS, TOP_KEYS, MASK_KEYS}
 
-has_only_view : (keys : List (List ℕ)) (es : List (String Global × Value)) → has_only keys (members_view es) ≡ list_all (λ key. list_any (bytes_eq (string_bytes key)) keys) (keys_of es)
+has_only_view : (keys : List (List ℕ)) (es : List (String Global × Value))
+    → has_only keys (members_view es) ≡ list_all (λ key. list_any (bytes_eq (string_bytes key)) keys) (keys_of es)
 has_only_view keys [] = refl
 has_only_view keys (e ∷ es) = ap (λ b. list_any (bytes_eq (string_bytes e.0)) keys && b) (has_only_view keys es)
 
-pub has_only_question_keys : (es : List (String Global × Value)) → has_only question_keys (members_view es) ≡ list_all (λ key. list_any (λ k. bytes_eq (string_bytes key) k.now) QUESTION_KEYS) (keys_of es)
+pub has_only_question_keys : (es : List (String Global × Value))
+    → has_only question_keys (members_view es)
+    ≡ list_all (λ key. list_any (λ k. bytes_eq (string_bytes key) k.now) QUESTION_KEYS) (keys_of es)
 has_only_question_keys es = has_only_view question_keys es
 
-pub has_only_top_keys : (es : List (String Global × Value)) → has_only top_keys (members_view es) ≡ list_all (λ key. list_any (λ k. bytes_eq (string_bytes key) k.now) TOP_KEYS) (keys_of es)
+pub has_only_top_keys : (es : List (String Global × Value)) → has_only top_keys (members_view es)
+    ≡ list_all (λ key. list_any (λ k. bytes_eq (string_bytes key) k.now) TOP_KEYS) (keys_of es)
 has_only_top_keys es = has_only_view top_keys es
 
-pub has_only_mask_keys : (es : List (String Global × Value)) → has_only mask_keys (members_view es) ≡ list_all (λ key. list_any (λ k. bytes_eq (string_bytes key) k.now) MASK_KEYS) (keys_of es)
+pub has_only_mask_keys : (es : List (String Global × Value))
+    → has_only mask_keys (members_view es) ≡ list_all
+    (λ key. list_any (λ k. bytes_eq (string_bytes key) k.now) MASK_KEYS) (keys_of es)
 has_only_mask_keys es = has_only_view mask_keys es
 
 pub short_array : (vs : List Value) → length vs < 2 → None ≡ entry_of_array (items_view vs)
@@ -43,32 +49,42 @@ listed_view [] = refl
 listed_view (v ∷ vs) = ap (λ ds. view v ∷ ds) (listed_view vs)
 
 -- Each value can be read, or one of them can't be.
-each_read : {X : Type 0} (read : Data → Option X) (absent : X) (vs : List Value) → list_all (λ v. is_some (read (view v))) vs ≡ true
+each_read : {X : Type 0} (read : Data → Option X) (absent : X) (vs : List Value)
+    → list_all (λ v. is_some (read (view v))) vs ≡ true
     → each_of read (map view vs) ≡ Some (map (λ v. unwrap_or (read (view v)) absent) vs)
 each_read read absent [] h = refl
-each_read read absent (v ∷ vs) h = elim (read (view v)) as (λ r. (is_some r && list_all (λ v. is_some (read (view v))) vs) ≡ true → option_cons r (each_of read (map view vs)) ≡ Some (unwrap_or r absent ∷ map (λ v. unwrap_or (read (view v)) absent) vs)) [
-  | Some x ↦ λ g. ap (λ r. option_cons (Some x) r) (each_read read absent vs g)
-  | None ↦ λ g. cc
-] h
+each_read read absent (v ∷ vs) h = elim (read (view v)) as (λ r.
+    (is_some r && list_all (λ v. is_some (read (view v))) vs) ≡ true
+    → option_cons r (each_of read (map view vs))
+    ≡ Some (unwrap_or r absent ∷ map (λ v. unwrap_or (read (view v)) absent) vs)) [
+      | Some x ↦ λ g. ap (λ r. option_cons (Some x) r) (each_read read absent vs g)
+      | None ↦ λ g. cc
+    ] h
 
-one_unread : {X : Type 0} (read : Data → Option X) (vs : List Value) → list_all (λ v. is_some (read (view v))) vs ≡ false
+one_unread : {X : Type 0} (read : Data → Option X) (vs : List Value)
+    → list_all (λ v. is_some (read (view v))) vs ≡ false
     → each_of read (map view vs) ≡ None
 one_unread read [] h = cc
-one_unread read (v ∷ vs) h = elim (read (view v)) as (λ r. (is_some r && list_all (λ v. is_some (read (view v))) vs) ≡ false → option_cons r (each_of read (map view vs)) ≡ None) [
-  | Some x ↦ λ g. ap (λ r. option_cons (Some x) r) (one_unread read vs g)
-  | None ↦ λ g. refl
-] h
+one_unread read (v ∷ vs) h = elim (read (view v)) as (λ r. (is_some r && list_all (λ v. is_some (read (view v))) vs)
+    ≡ false → option_cons r (each_of read (map view vs)) ≡ None) [
+      | Some x ↦ λ g. ap (λ r. option_cons (Some x) r) (one_unread read vs g)
+      | None ↦ λ g. refl
+    ] h
 
-pub texts_view : (vs : List Value) → list_all (λ v. is_some (as_str (view v))) vs ≡ true → texts_of (items_view vs) ≡ Some (map (λ v. text_or_empty (view v)) vs)
+pub texts_view : (vs : List Value) → list_all (λ v. is_some (as_str (view v))) vs ≡ true
+    → texts_of (items_view vs) ≡ Some (map (λ v. text_or_empty (view v)) vs)
 texts_view vs h = ap (λ ds. each_of as_str ds) (listed_view vs) ∙ each_read as_str [] vs h
 
-pub no_texts_view : (vs : List Value) → list_all (λ v. is_some (as_str (view v))) vs ≡ false → texts_of (items_view vs) ≡ None
+pub no_texts_view : (vs : List Value) → list_all (λ v. is_some (as_str (view v))) vs ≡ false
+    → texts_of (items_view vs) ≡ None
 no_texts_view vs h = ap (λ ds. each_of as_str ds) (listed_view vs) ∙ one_unread as_str vs h
 
-pub tables_view : (vs : List Value) → list_all (λ v. is_some (as_table (view v))) vs ≡ true → tables_of (items_view vs) ≡ Some (map (λ v. table_or_empty (view v)) vs)
+pub tables_view : (vs : List Value) → list_all (λ v. is_some (as_table (view v))) vs ≡ true
+    → tables_of (items_view vs) ≡ Some (map (λ v. table_or_empty (view v)) vs)
 tables_view vs h = ap (λ ds. each_of as_table ds) (listed_view vs) ∙ each_read as_table no_members vs h
 
-pub no_tables_view : (vs : List Value) → list_all (λ v. is_some (as_table (view v))) vs ≡ false → tables_of (items_view vs) ≡ None
+pub no_tables_view : (vs : List Value) → list_all (λ v. is_some (as_table (view v))) vs ≡ false
+    → tables_of (items_view vs) ≡ None
 no_tables_view vs h = ap (λ ds. each_of as_table ds) (listed_view vs) ∙ one_unread as_table vs h
 
 pub count_view : (vs : List Value) → length (map (λ v. table_or_empty (view v)) vs) ≡ length vs
@@ -79,29 +95,34 @@ abbrev pub with_front : {X : Type 0} → List X → Option (List X) → Option (
 with_front front None = None
 with_front front (Some rest) = Some (front ++ rest)
 
-with_front_cons : {X : Type 0} (front : List X) (x : X) (r : Option (List X)) → with_front front (option_cons (Some x) r) ≡ with_front (front ++ x ∷ []) r
+with_front_cons : {X : Type 0} (front : List X) (x : X) (r : Option (List X))
+    → with_front front (option_cons (Some x) r) ≡ with_front (front ++ x ∷ []) r
 with_front_cons front x None = refl
 with_front_cons front x (Some rest) = ap Some (sym (append_assoc front (x ∷ []) rest))
 
 abbrev pub texts_now : List (Bor (List ℕ)) → List (List ℕ)
 texts_now ks = map (λ key. key.now) ks
 
-read_at : {X : Type 0} (read : List ℕ → Option X) (ks : List (Bor (List ℕ))) (i : ℕ) (d : Bor (List ℕ)) (r : Option X) → i < length ks
+read_at : {X : Type 0} (read : List ℕ → Option X) (ks : List (Bor (List ℕ))) (i : ℕ) (d : Bor (List ℕ))
+    (r : Option X) → i < length ks
     → read (get_or ks i d).now ≡ r → read (get_or (texts_now ks) i []) ≡ r
 read_at read ks i d r h found = ap read (get_or-map (λ k. k.now) ks i d [] h) ∙ found
 
 -- One more key was read into its place.
-pub one_more_read : {X : Type 0} (read : List ℕ → Option X) (whole : Option (List X)) (ks : List (Bor (List ℕ))) (i : ℕ) (d : Bor (List ℕ)) (xs : List X) (x : X)
+pub one_more_read : {X : Type 0} (read : List ℕ → Option X) (whole : Option (List X)) (ks : List (Bor (List ℕ))) (i : ℕ)
+    (d : Bor (List ℕ)) (xs : List X) (x : X)
     → i < length ks → i < length xs → read (get_or ks i d).now ≡ Some x
     → whole ≡ with_front (take i xs) (each_of read (drop i (texts_now ks)))
     → whole ≡ with_front (take (i + 1) (set xs i x)) (each_of read (drop (i + 1) (texts_now ks)))
 one_more_read read whole ks i d xs x h k found before =
     let below : i < length (texts_now ks) = rw length-map h in
     let opened = rw (drop_more (texts_now ks) i [] below, read_at read ks i d (Some x) h found) at before in
-    opened ∙ with_front_cons (take i xs) x _ ∙ ap (λ l. with_front l (each_of read (drop (i + 1) (texts_now ks)))) (sym (take-set_at xs i (i + 1) x refl k))
+    opened ∙ with_front_cons (take i xs) x _ ∙ ap (λ l. with_front l (each_of read (drop (i + 1) (texts_now ks))))
+    (sym (take-set_at xs i (i + 1) x refl k))
 
 -- A key that can't be read leaves nothing.
-pub not_read : {X : Type 0} (read : List ℕ → Option X) (whole : Option (List X)) (ks : List (Bor (List ℕ))) (i : ℕ) (d : Bor (List ℕ)) (front : List X)
+pub not_read : {X : Type 0} (read : List ℕ → Option X) (whole : Option (List X)) (ks : List (Bor (List ℕ))) (i : ℕ)
+    (d : Bor (List ℕ)) (front : List X)
     → i < length ks → read (get_or ks i d).now ≡ None
     → whole ≡ with_front front (each_of read (drop i (texts_now ks)))
     → None ≡ whole

@@ -12,6 +12,7 @@ action_names =
     codes "KILL_PROCESS" ∷ codes "KILL_THREAD" ∷ codes "TRAP" ∷ codes "ERRNO" ∷ codes "USER_NOTIF"
     ∷ codes "TRACE" ∷ codes "LOG" ∷ codes "ALLOW" ∷ codes "OTHER" ∷ []
 
+-- the text is one of these names
 abbrev pub is_action : List ℕ → Bool
 is_action text = list_any (bytes_eq text) action_names
 
@@ -20,6 +21,7 @@ abbrev pub are_actions : List (List ℕ) → Bool
 are_actions [] = false
 are_actions (text ∷ texts) = list_all is_action (text ∷ texts)
 
+-- the name is among the texts
 abbrev pub is_named : List (List ℕ) → List ℕ → Bool
 is_named texts name = list_any (λ text. bytes_eq text name) texts
 
@@ -37,6 +39,7 @@ set_of texts = record {
   other = is_named texts (codes "OTHER");
 }
 
+-- the texts of an array; nothing where the value is of another kind, or an item is no text
 abbrev pub texts_of_value : Data → Option (List (List ℕ))
 texts_of_value (array ds) = texts_of ds
 texts_of_value _ = None

@@ -20,19 +20,33 @@ abbrev pub four_of : Option ℕ → Option ℕ → Option ℕ → Option ℕ →
 four_of (Some low) (Some high) (Some mask) (Some value) = ((low, high), (mask, value))
 four_of _ _ _ _ = ((1, 0), (0, 0))
 
+-- what is handed in of a word's entry; the range has no number where one of the four isn't of 32 bits
 abbrev pub encoded : WordEntry → (ℕ × ℕ) × (ℕ × ℕ)
 encoded w = four_of (word_in w.low) (word_in w.high) (word_in w.mask) (word_in w.value)
 
+-- the ends that are handed in: of no number, where the entry has one outside 32 bits
 abbrev pub encoded_range : WordEntry → ℕ × ℕ
 encoded_range w = (encoded w).0
 
+-- the mask and the value that are handed in, both 0 where the entry has a number outside 32 bits
 abbrev pub encoded_mask : WordEntry → ℕ × ℕ
 encoded_mask w = (encoded w).1
 
 -- the set without an action
 abbrev pub no_actions : ActionSet
-no_actions = record { kill_process = false; kill_thread = false; trap = false; errno = false; user_notif = false; trace = false; log = false; allow = false; other = false }
+no_actions = record {
+  kill_process = false;
+  kill_thread = false;
+  trap = false;
+  errno = false;
+  user_notif = false;
+  trace = false;
+  log = false;
+  allow = false;
+  other = false;
+}
 
+-- the set that is handed in, empty where one of the texts names no action
 abbrev pub encoded_set : List (List ℕ) → ActionSet
 encoded_set texts = if are_actions texts then set_of texts else no_actions
 
@@ -52,6 +66,7 @@ numbered number ask.Mask = faults.Mask number
 numbered number ask.Actions = faults.Actions number
 numbered number ask.Memory = faults.Memory
 
+-- what was made, or its fault with the question's number
 abbrev pub with_number : {X : Type 0} → ℕ → Result X AskFault → Result X Fault
 with_number number (Ok x) = Ok x
 with_number number (Err fault) = Err (numbered number fault)

@@ -7,12 +7,14 @@ use Rattle.sf_check.specs.declared.fault.Fault.TheVariants as check
 use Rattle.sf_audit.specs.declared.fault.Fault.{Fault}
 use Rattle.sf_audit.specs.declared.fault.Fault.TheVariants as faults
 
+-- what is wrong with the bytes of a filter; want of memory has no filter
 abbrev pub decode_fault : ℕ → DecodeFault → Fault
 decode_fault filter decode.Ragged = faults.Ragged filter
 decode_fault filter decode.Empty = faults.Empty filter
 decode_fault filter decode.TooLong = faults.TooLong filter
 decode_fault filter decode.Memory = faults.Memory
 
+-- what is wrong with the program of a filter, or with the stack, which has no filter's number
 abbrev pub check_fault : ℕ → CheckFault → Fault
 check_fault filter check.Empty = faults.Empty filter
 check_fault filter check.TooLong = faults.TooLong filter

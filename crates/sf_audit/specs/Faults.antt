@@ -3,6 +3,7 @@ use Rattle.std.specs.Prelude.{◌≡◌, ℕ, Result, Ok, Err}
 use Rattle.sf_audit.specs.declared.fault.Fault.{Fault}
 use Rattle.sf_audit.specs.declared.fault.Fault.TheVariants as faults
 
+-- what each refusal of an audit, and want of memory, is told by
 abbrev pub fault_number : Fault → ℕ
 fault_number (faults.Ragged filter) = 10
 fault_number (faults.Empty filter) = 11

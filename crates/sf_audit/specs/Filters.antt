@@ -33,7 +33,8 @@ pub record SpellsFault (bytes : List ℕ) (fault : CheckFault) : Type 0 where
 abbrev pub IsRefusalOf : ℕ → List ℕ → Fault → Type 0
 IsRefusalOf number bytes (faults.Ragged filter) = (filter ≡ number) × (length bytes % 8 ≢ 0)
 IsRefusalOf number bytes (faults.Empty filter) = (filter ≡ number) × (length bytes ≡ 0)
-IsRefusalOf number bytes (faults.TooLong filter) = (filter ≡ number) × (length bytes % 8 ≡ 0) × (8 * 4096 < length bytes)
+IsRefusalOf number bytes (faults.TooLong filter) = (filter ≡ number) × (length bytes % 8 ≡ 0)
+    × (8 * 4096 < length bytes)
 IsRefusalOf number bytes (faults.Code filter at) = (filter ≡ number) × SpellsFault bytes (check.Code at)
 IsRefusalOf number bytes (faults.Field filter at) = (filter ≡ number) × SpellsFault bytes (check.Field at)
 IsRefusalOf number bytes (faults.Jump filter at) = (filter ≡ number) × SpellsFault bytes (check.Jump at)

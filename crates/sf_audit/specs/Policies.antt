@@ -20,6 +20,7 @@ pub record Entry : Type 0 where
   pub words : List WordEntry
   pub actions : List (List ℕ)
 
+-- the entry, where name, words and actions could all be read
 abbrev pub entry_of_parts : Option (List ℕ) → Option (List WordEntry) → Option (List (List ℕ)) → Option Entry
 entry_of_parts (Some name) (Some words) (Some actions) = Some (record { name = name; words = words; actions = actions })
 entry_of_parts _ _ _ = None
@@ -28,7 +29,8 @@ entry_of_parts _ _ _ = None
 abbrev pub entry_of_question : Version → Members → Option Entry
 entry_of_question version ms =
     if has_only question_keys ms
-    then entry_of_parts (text_at (codes "name") ms) (each_of (λ key. entry_at version (get_member key ms)) word_keys) (names_at (get_member (codes "actions") ms))
+    then entry_of_parts (text_at (codes "name") ms) (each_of (λ key. entry_at version (get_member key ms)) word_keys)
+    (names_at (get_member (codes "actions") ms))
     else None
 
 -- the question of an entry, or what is wrong with it: the name, then a range, then a mask, then the actions
@@ -38,8 +40,14 @@ question_of_entry number e =
     else if not (list_all has_range e.words) then Err (faults.Range number)
     else if not (list_all has_mask e.words) then Err (faults.Mask number)
     else if not (are_actions e.actions) then Err (faults.Actions number)
-    else Ok (record { name = e.name; ranges = map range_of e.words; masks = map mask_of e.words; actions = set_of e.actions })
+    else Ok (record {
+      name = e.name;
+      ranges = map range_of e.words;
+      masks = map mask_of e.words;
+      actions = set_of e.actions;
+    })
 
+-- the question of an entry that was read; one that could not be read has a wrong key
 abbrev pub question_where_read : ℕ → Option Entry → Result Asked Fault
 question_where_read number (Some e) = question_of_entry number e
 question_where_read number None = Err (faults.Key number)
@@ -48,6 +56,7 @@ question_where_read number None = Err (faults.Key number)
 abbrev pub question_of_table : Version → ℕ → Members → Result Asked Fault
 question_of_table version number ms = question_where_read number (entry_of_question version ms)
 
+-- a question before the others, or the first refusal among them
 abbrev pub question_cons : Result Asked Fault → Result (List Asked) Fault → Result (List Asked) Fault
 question_cons (Ok q) (Ok qs) = Ok (q ∷ qs)
 question_cons (Ok q) (Err fault) = Err fault
@@ -56,7 +65,8 @@ question_cons (Err fault) _ = Err fault
 -- the questions of tables in order, the first of them with this number
 abbrev pub questions_from : Version → ℕ → List Members → Result (List Asked) Fault
 questions_from version number [] = Ok []
-questions_from version number (ms ∷ mss) = question_cons (question_of_table version number ms) (questions_from version (number + 1) mss)
+questions_from version number (ms ∷ mss) =
+    question_cons (question_of_table version number ms) (questions_from version (number + 1) mss)
 
 -- 1 to 256 questions
 abbrev pub questions_counted : Version → List Members → Result (List Asked) Fault
@@ -64,6 +74,7 @@ questions_counted version mss =
     if nat_le 1 (length mss) && nat_le (length mss) 256 then questions_from version 1 mss
     else Err faults.Count
 
+-- the tables of an array; nothing where the value is of another kind, or an item is no table
 abbrev pub tables_of_value : Data → Option (List Members)
 tables_of_value (array ds) = tables_of ds
 tables_of_value _ = None
@@ -73,6 +84,7 @@ abbrev pub tables_at : Option Data → Option (List Members)
 tables_at None = Some []
 tables_at (Some d) = tables_of_value d
 
+-- the questions of tables that were read; the key is wrong where they could not be read
 abbrev pub questions_where_tables : Version → Option (List Members) → Result (List Asked) Fault
 questions_where_tables version (Some mss) = questions_counted version mss
 questions_where_tables version None = Err faults.TopKey
@@ -82,6 +94,7 @@ abbrev pub version_of : Option ℤ → Option Version
 version_of (Some (pos n)) = if nat_eq n 1 then Some One else if nat_eq n 2 then Some Two else None
 version_of _ = None
 
+-- the questions of a file of a known version without unknown keys; else it is refused
 abbrev pub policy_where_version : Option Version → Members → Result (List Asked) Fault
 policy_where_version (Some version) ms =
     if has_only top_keys ms then questions_where_tables version (tables_at (get_member (codes "question") ms))

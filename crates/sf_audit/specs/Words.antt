@@ -20,6 +20,7 @@ between low high = record { low = low; high = high; mask = pos 0; value = pos 0 
 abbrev pub any_number : WordEntry
 any_number = between (pos 0) most
 
+-- the range of two ends, where both are whole numbers
 abbrev pub entry_between : Option ℤ → Option ℤ → Option WordEntry
 entry_between (Some low) (Some high) = Some (between low high)
 entry_between _ _ = None
@@ -29,8 +30,10 @@ abbrev pub entry_of_array : Items → Option WordEntry
 entry_of_array (item low (item high no_items)) = entry_between (as_integer low) (as_integer high)
 entry_of_array _ = None
 
+-- a mask, a value and a range, where all four numbers could be read
 abbrev pub entry_of_parts : Option ℤ → Option ℤ → Option ℤ → Option ℤ → Option WordEntry
-entry_of_parts (Some mask) (Some value) (Some low) (Some high) = Some (record { low = low; high = high; mask = mask; value = value })
+entry_of_parts (Some mask) (Some value) (Some low) (Some high) =
+    Some (record { low = low; high = high; mask = mask; value = value })
 entry_of_parts _ _ _ _ = None
 
 -- a table with a mask, a value and, where they are named, the ends of a range
@@ -68,9 +71,11 @@ abbrev pub word_of : ℤ → ℕ
 word_of (pos n) = n
 word_of (negsuc n) = 0
 
+-- the ends between which a question lets the word lie
 abbrev pub range_of : WordEntry → ℕ × ℕ
 range_of w = (word_of w.low, word_of w.high)
 
+-- the bits that a question looks at in the word, and what they have to be
 abbrev pub mask_of : WordEntry → ℕ × ℕ
 mask_of w = (word_of w.mask, word_of w.value)
 

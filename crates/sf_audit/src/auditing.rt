@@ -77,8 +77,11 @@ pub fn audit<R: Threads + Wait + Sync, G: Gate>(
     ensures found { IfOk result (IsAudit (map (λ f. f.items) filters.now) questions.items budget) }
 
     // Anything else is the first refusal, but for want of memory, and a book of another exploration from several workers.
-    ensures refused { IfErr result (λ e. (e ≡ Fault.Memory) ⊎ ((e ≡ Fault.Foreign) ⊎ IsAuditRefusal (map (λ f. f.items) filters.now) questions.items e)) }
-    ensures alone { workers ≡ 1 → IfErr result (λ e. (e ≡ Fault.Memory) ⊎ IsAuditRefusal (map (λ f. f.items) filters.now) questions.items e) }
+    ensures refused { IfErr result (λ e. (e ≡ Fault.Memory)
+        ⊎ ((e ≡ Fault.Foreign) ⊎ IsAuditRefusal (map (λ f. f.items) filters.now)
+        questions.items e)) }
+    ensures alone { workers ≡ 1 → IfErr result (λ e. (e ≡ Fault.Memory)
+        ⊎ IsAuditRefusal (map (λ f. f.items) filters.now) questions.items e) }
 {
     let stack = match stack_of(alloc, filters) {
         Ok(stack) => stack,

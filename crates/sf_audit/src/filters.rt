@@ -72,7 +72,8 @@ fn program_of(alloc: Global, filter: usize, bytes: &[u8]) -> Result<Program, Fau
 fn programs_of(alloc: Global, filters: &[Vec<u8>]) -> Result<Vec<Program>, Fault>
     requires { length filters.now ≤ 64 }
     ensures accepted { IfOk result (λ v. SpellPrograms (map (λ f. f.items) filters.now) v.items) }
-    ensures refused { IfErr result (λ e. (e ≡ Fault.Memory) ⊎ IsFileRefusal (map (λ f. f.items) filters.now) e) }
+    ensures refused { IfErr result (λ e. (e ≡ Fault.Memory)
+        ⊎ IsFileRefusal (map (λ f. f.items) filters.now) e) }
 {
     let mut programs = Vec::new(alloc);
     for (i, bytes) in filters.iter().enumerate() {
@@ -91,7 +92,8 @@ fn programs_of(alloc: Global, filters: &[Vec<u8>]) -> Result<Vec<Program>, Fault
 /// path through all programs is longer than 32768. `Memory` can come anywhere.
 pub fn stack_of(alloc: Global, filters: &[Vec<u8>]) -> Result<Stack, Fault>
     ensures accepted { IfOk result (SpellStack (map (λ f. f.items) filters.now)) }
-    ensures refused { IfErr result (λ e. (e ≡ Fault.Memory) ⊎ IsFirstRefusal (map (λ f. f.items) filters.now) e) }
+    ensures refused { IfErr result (λ e. (e ≡ Fault.Memory)
+        ⊎ IsFirstRefusal (map (λ f. f.items) filters.now) e) }
 {
     if filters.is_empty() {
         return Err(Fault::NoFilter);

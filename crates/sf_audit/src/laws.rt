@@ -33,7 +33,8 @@ pub fn a_refusal_spells_no_stack()
 
 /// Filter files have at most one first refusal, so `stack_of` tells the only one.
 pub fn one_refusal()
-    ensures { (files : List (List ℕ)) (e f : Fault) → IsFirstRefusal files e → IsFirstRefusal files f → e ≡ f }
+    ensures { (files : List (List ℕ)) (e f : Fault) → IsFirstRefusal files e
+        → IsFirstRefusal files f → e ≡ f }
 {
     one_spelling();
     one_first_fault();
@@ -43,7 +44,8 @@ pub fn one_refusal()
 /// What is audited is not refused: its files have no refusal, and there are 1 to 256 questions. So `audit` refuses exactly
 /// what its definition says, but for want of memory.
 pub fn an_audit_is_not_refused()
-    ensures { (files : List (List ℕ)) (questions : List Asked) (budget : ℕ) (o : Found) (e : Fault) →
+    ensures { (files : List (List ℕ)) (questions : List Asked) (budget : ℕ)
+        (o : Found) (e : Fault) →
         IsAudit files questions budget o → IsAuditRefusal files questions e → ⊥ }
 {
     a_refusal_spells_no_stack();

@@ -19,9 +19,17 @@ impl Model for Outcome {
 
     ghost Value = { Found };
 
-    ghost view = { λ o. record { settled = o.settled; questions = o.questions.items; replies = o.replies.items } };
+    ghost view = { λ o. record {
+      settled = o.settled;
+      questions = o.questions.items;
+      replies = o.replies.items;
+    } };
 
-    ghost invariant = { λ o. IsAnswered (record { settled = o.settled; questions = o.questions.items; replies = o.replies.items }) };
+    ghost invariant = { λ o. IsAnswered (record {
+      settled = o.settled;
+      questions = o.questions.items;
+      replies = o.replies.items;
+    }) };
 }
 
 impl Outcome {

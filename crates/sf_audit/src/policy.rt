@@ -52,7 +52,8 @@ fn questions_counted(
     version: Version,
     items: &[Value],
 ) -> Result<Vec<Question>, Fault>
-    ensures { Gives (λ v. v.items) result (questions_counted version (map (λ v. table_or_empty (view v)) items.now)) }
+    ensures { Gives (λ v. v.items) result (questions_counted version
+        (map (λ v. table_or_empty (view v)) items.now)) }
 {
     if items.is_empty() || MOST_QUESTIONS < items.len() {
         return Err(Fault::Count);
@@ -65,7 +66,8 @@ fn questions_of_items(
     version: Version,
     items: &[Value],
 ) -> Result<Vec<Question>, Fault>
-    ensures { Gives (λ v. v.items) result (questions_where_tables version (tables_of (items_view items.now))) }
+    ensures { Gives (λ v. v.items) result (questions_where_tables version
+        (tables_of (items_view items.now))) }
 {
     if are_tables(items) {
         questions_counted(alloc, version, items)
@@ -79,7 +81,8 @@ fn questions_of_value(
     version: Version,
     value: &Value,
 ) -> Result<Vec<Question>, Fault>
-    ensures { Gives (λ v. v.items) result (questions_where_tables version (tables_of_value (view value.now))) }
+    ensures { Gives (λ v. v.items) result (questions_where_tables version
+        (tables_of_value (view value.now))) }
 {
     match value {
         Value::Array(items) => questions_of_items(alloc, version, items),
@@ -111,11 +114,13 @@ fn policy_of_table(alloc: Global, table: &Table) -> Result<Vec<Question>, Fault>
 /// anywhere.
 pub fn read_policy(alloc: Global, text: &str) -> Result<Vec<Question>, Fault>
     // Where the text is TOML, the questions or the refusal are those of its tree.
-    ensures read { (tree : Members) → parse_document text.now ≡ Some tree → Gives (λ v. v.items) result (policy_of tree) }
+    ensures read { (tree : Members) → parse_document text.now ≡ Some tree
+        → Gives (λ v. v.items) result (policy_of tree) }
 
     // `Syntax` comes exactly where it is none, unless memory ran out.
     ensures syntax { result ≡ Err Fault.Syntax → parse_document text.now ≡ None }
-    ensures no_syntax { parse_document text.now ≡ None → (result ≡ Err Fault.Syntax) ⊎ (result ≡ Err Fault.Memory) }
+    ensures no_syntax { parse_document text.now ≡ None → (result ≡ Err Fault.Syntax)
+        ⊎ (result ≡ Err Fault.Memory) }
 {
     match toml::table_from_str(alloc, text) {
         Ok(table) => policy_of_table(alloc, &table),

@@ -13,8 +13,9 @@ use std::alloc::Global;
 use std::io::Write;
 use text::report_of;
 
-/// Writes all the bytes, by as many writes as it takes.
-fn write_bytes<W: Write>(bytes: &[u8], out: &mut W) -> Result<(), Fault>
+/// Writes all the bytes, by as many writes as it takes. `Write` where one fails, also by a signal, or takes no byte; a
+/// beginning of them was written then.
+pub fn write_bytes<W: Write>(bytes: &[u8], out: &mut W) -> Result<(), Fault>
     ensures ok { OnOk result (Appends (W.contents out.old) (W.contents out.new) bytes.now) }
     ensures err { OnErr result (AppendsFront (W.contents out.old) (W.contents out.new) bytes.now) }
     ensures fault { IfErr result (λ e. e ≡ WriteFault) }
@@ -41,13 +42,16 @@ pub fn write_report<W: Write>(
     out: &mut W,
 ) -> Result<(), Fault>
     // The text is written, to a writer that tells its bytes.
-    ensures written { OnOk result (Appends (W.contents out.old) (W.contents out.new) (report_text outcome.now regions)) }
+    ensures written { OnOk result (Appends (W.contents out.old) (W.contents out.new)
+        (report_text outcome.now regions)) }
 
     // Otherwise a beginning of it is.
-    ensures begun { OnErr result (AppendsFront (W.contents out.old) (W.contents out.new) (report_text outcome.now regions)) }
+    ensures begun { OnErr result (AppendsFront (W.contents out.old) (W.contents out.new)
+        (report_text outcome.now regions)) }
 
     // Nothing else is told than that writing failed or memory ran out, and then nothing was written.
-    ensures refused { IfErr result (λ e. (e ≡ WriteFault) ⊎ ((e ≡ MemoryFault) × (out.new ≡ out.old))) }
+    ensures refused { IfErr result (λ e. (e ≡ WriteFault)
+        ⊎ ((e ≡ MemoryFault) × (out.new ≡ out.old))) }
 {
     match report_of(alloc, outcome, regions) {
         Ok(text) => write_bytes(text.as_bytes(), out),

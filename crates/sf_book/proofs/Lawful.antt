@@ -28,19 +28,25 @@ pub record IsReplaced (b : BookData) (p : PieceData) (i : ℕ) (d : EntryData) :
   pub room : b.commits < b.budget
 
 -- the entry at the place has the members of the piece
-same_there : (b : BookData) (p : PieceData) (i : ℕ) (e : EntryData) → IsLawful b → IsReplaced b p i e → (d : Input) → IsInput d → is_member (get_or b.outstanding i e).piece d ≡ is_member p d
+same_there : (b : BookData) (p : PieceData) (i : ℕ) (e : EntryData) → IsLawful b → IsReplaced b p i e → (d : Input)
+    → IsInput d → is_member (get_or b.outstanding i e).piece d ≡ is_member p d
 same_there b p i e h r d n =
     let o = All-get_or (IsOutstanding b.stack) b.outstanding i e r.there h.outstanding in
     same_members (get_or b.outstanding i e).piece p o.named r.named (o.of ∙ sym r.of) r.same_name d n
 
-all_without : (b : BookData) (i : ℕ) (e : EntryData) → IsLawful b → i < length b.outstanding → All (IsOutstanding b.stack) (remove b.outstanding i)
-all_without b i e h l = rw (remove_without b.outstanding i e h.ids l) (All-filter _ (IsOutstanding b.stack) b.outstanding h.outstanding)
+all_without : (b : BookData) (i : ℕ) (e : EntryData) → IsLawful b → i < length b.outstanding
+    → All (IsOutstanding b.stack) (remove b.outstanding i)
+all_without b i e h l = rw (remove_without b.outstanding i e h.ids l)
+    (All-filter _ (IsOutstanding b.stack) b.outstanding h.outstanding)
 
-rising_without : (b : BookData) (i : ℕ) (e : EntryData) → IsLawful b → i < length b.outstanding → IsRising (remove b.outstanding i)
+rising_without : (b : BookData) (i : ℕ) (e : EntryData) → IsLawful b → i < length b.outstanding
+    → IsRising (remove b.outstanding i)
 rising_without b i e h l = rw (remove_without b.outstanding i e h.ids l) (IsRising-filter _ b.outstanding h.ids)
 
-below_without : (b : BookData) (i k : ℕ) (e : EntryData) → IsLawful b → i < length b.outstanding → All (λ f. f.id < k) b.outstanding → All (λ f. f.id < k) (remove b.outstanding i)
-below_without b i k e h l a = rw (remove_without b.outstanding i e h.ids l) (All-filter _ (λ f. f.id < k) b.outstanding a)
+below_without : (b : BookData) (i k : ℕ) (e : EntryData) → IsLawful b → i < length b.outstanding
+    → All (λ f. f.id < k) b.outstanding → All (λ f. f.id < k) (remove b.outstanding i)
+below_without b i k e h l a = rw (remove_without b.outstanding i e h.ids l)
+    (All-filter _ (λ f. f.id < k) b.outstanding a)
 
 abbrev pub entry : ℕ → PieceData → EntryData
 entry k p = record { id = k; piece = p; leased = true }
@@ -48,7 +54,8 @@ entry k p = record { id = k; piece = p; leased = true }
 abbrev pub after_split : BookData → List EntryData → BookData
 after_split b es = record b { outstanding = es; splits = b.splits + 1; commits = b.commits + 1 }
 
-pub split_lawful : (b : BookData) (p f t : PieceData) (i j k : ℕ) (e : EntryData) → IsLawful b → IsReplaced b p i e → IsRightSplit p f t
+pub split_lawful : (b : BookData) (p f t : PieceData) (i j k : ℕ) (e : EntryData) → IsLawful b → IsReplaced b p i e
+    → IsRightSplit p f t
     → All (λ x. x.id < j) b.outstanding → j < k
     → IsLawful (after_split b ((remove b.outstanding i ++ entry j f ∷ []) ++ entry k t ∷ []))
 split_lawful b p f t i j k e h r s below jk =
@@ -58,18 +65,22 @@ split_lawful b p f t i j k e h r s below jk =
     let of_f : IsOutstanding b.stack F = record { of = s.false_stack ∙ r.of; named = s.false_named } in
     let of_t : IsOutstanding b.stack T = record { of = s.true_stack ∙ r.of; named = s.true_named } in
     let low : All (λ x. x.id < j) es = below_without b i j e h r.there below in
-    let low_k : All (λ x. x.id < k) (es ++ F ∷ []) = All-push (λ x. x.id < k) es F (λ q d l. let g : (get_or es q d).id < j = low q d l in omega arith) jk in
+    let low_k : All (λ x. x.id < k) (es ++ F ∷ []) =
+    All-push (λ x. x.id < k) es F (λ q d l. let g : (get_or es q d).id < j = low q d l in omega arith) jk in
     let shorter : length es + 1 ≡ length b.outstanding = length-remove b.outstanding i r.there in
     let longer : length ((es ++ F ∷ []) ++ T ∷ []) ≡ length es + 2 = rw (length-append, length-append) (omega arith) in
     record {
       stack = h.stack;
-      outstanding = All-push (IsOutstanding b.stack) (es ++ F ∷ []) T (All-push (IsOutstanding b.stack) es F (all_without b i e h r.there) of_f) of_t;
+      outstanding = All-push (IsOutstanding b.stack) (es ++ F ∷ []) T
+          (All-push (IsOutstanding b.stack) es F (all_without b i e h r.there) of_f) of_t;
       regions = h.regions;
       one = λ d n.
           let m : EntryData → ℕ = λ x. bit (is_member x.piece d) in
-          let out : sum_by m es + m (get_or b.outstanding i e) ≡ sum_by m b.outstanding = sum_by-remove m b.outstanding i e r.there in
+          let out : sum_by m es + m (get_or b.outstanding i e) ≡ sum_by m b.outstanding =
+          sum_by-remove m b.outstanding i e r.there in
           let first : sum_by m (es ++ F ∷ []) ≡ sum_by m es + m F = sum_by_push m es F in
-          let second : sum_by m ((es ++ F ∷ []) ++ T ∷ []) ≡ sum_by m (es ++ F ∷ []) + m T = sum_by_push m (es ++ F ∷ []) T in
+          let second : sum_by m ((es ++ F ∷ []) ++ T ∷ []) ≡ sum_by m (es ++ F ∷ []) + m T =
+          sum_by_push m (es ++ F ∷ []) T in
           let both : m F + m T ≡ bit (is_member p d) = split_members p f t r.named s d n in
           let same : m (get_or b.outstanding i e) ≡ bit (is_member p d) = ap bit (same_there b p i e h r d n) in
           let before = h.one d n in
@@ -77,9 +88,11 @@ split_lawful b p f t i j k e h r s below jk =
       emptied = h.emptied;
       apart = λ l.
           let m : EntryData → ℕ = λ x. hits x.piece.name l in
-          let out : sum_by m es + m (get_or b.outstanding i e) ≡ sum_by m b.outstanding = sum_by-remove m b.outstanding i e r.there in
+          let out : sum_by m es + m (get_or b.outstanding i e) ≡ sum_by m b.outstanding =
+          sum_by-remove m b.outstanding i e r.there in
           let first : sum_by m (es ++ F ∷ []) ≡ sum_by m es + m F = sum_by_push m es F in
-          let second : sum_by m ((es ++ F ∷ []) ++ T ∷ []) ≡ sum_by m (es ++ F ∷ []) + m T = sum_by_push m (es ++ F ∷ []) T in
+          let second : sum_by m ((es ++ F ∷ []) ++ T ∷ []) ≡ sum_by m (es ++ F ∷ []) + m T =
+          sum_by_push m (es ++ F ∷ []) T in
           let both : m F + m T ≤ hits p.name l = split_names p f t s l in
           let same : m (get_or b.outstanding i e) ≡ hits p.name l = ap (λ n. hits n l) r.same_name in
           let before = h.apart l in
@@ -93,7 +106,8 @@ split_lawful b p f t i j k e h r s below jk =
 abbrev pub after_answer : BookData → List EntryData → RegionData → BookData
 after_answer b es r = record b { outstanding = es; regions = b.regions ++ r ∷ []; commits = b.commits + 1 }
 
-pub answer_lawful : (b : BookData) (p : PieceData) (n : List Bool) (a : Answer) (i : ℕ) (e : EntryData) → IsLawful b → IsReplaced b p i e → IsRightAnswer p n a
+pub answer_lawful : (b : BookData) (p : PieceData) (n : List Bool) (a : Answer) (i : ℕ) (e : EntryData) → IsLawful b
+    → IsReplaced b p i e → IsRightAnswer p n a
     → IsLawful (after_answer b (remove b.outstanding i) (record { piece = p; name = n; answer = a }))
 answer_lawful b p n a i e h r s =
     let es = remove b.outstanding i in
@@ -113,7 +127,8 @@ answer_lawful b p n a i e h r s =
       one = λ d k.
           let m : EntryData → ℕ = λ x. bit (is_member x.piece d) in
           let g : RegionData → ℕ = λ x. bit (is_member x.piece d) in
-          let out : sum_by m es + m (get_or b.outstanding i e) ≡ sum_by m b.outstanding = sum_by-remove m b.outstanding i e r.there in
+          let out : sum_by m es + m (get_or b.outstanding i e) ≡ sum_by m b.outstanding =
+          sum_by-remove m b.outstanding i e r.there in
           let added : sum_by g (b.regions ++ R ∷ []) ≡ sum_by g b.regions + g R = sum_by_push g b.regions R in
           let same : m (get_or b.outstanding i e) ≡ bit (is_member p d) = ap bit (same_there b p i e h r d k) in
           let before = h.one d k in
@@ -122,7 +137,8 @@ answer_lawful b p n a i e h r s =
       apart = λ l.
           let m : EntryData → ℕ = λ x. hits x.piece.name l in
           let g : RegionData → ℕ = λ x. hits x.name l in
-          let out : sum_by m es + m (get_or b.outstanding i e) ≡ sum_by m b.outstanding = sum_by-remove m b.outstanding i e r.there in
+          let out : sum_by m es + m (get_or b.outstanding i e) ≡ sum_by m b.outstanding =
+          sum_by-remove m b.outstanding i e r.there in
           let added : sum_by g (b.regions ++ R ∷ []) ≡ sum_by g b.regions + g R = sum_by_push g b.regions R in
           let less : hits n l ≤ hits p.name l = hits-le p.name n l (answer_begins p n a s) in
           let same : m (get_or b.outstanding i e) ≡ hits p.name l = ap (λ q. hits q l) r.same_name in
@@ -137,11 +153,16 @@ answer_lawful b p n a i e h r s =
 abbrev pub after_empty : BookData → List EntryData → List Bool → BookData
 after_empty b es n = record b { outstanding = es; emptied = b.emptied ++ n ∷ []; commits = b.commits + 1 }
 
-pub empty_lawful : (b : BookData) (p : PieceData) (i : ℕ) (e : EntryData) → IsLawful b → IsReplaced b p i e → HasNoMember p
+pub empty_lawful : (b : BookData) (p : PieceData) (i : ℕ) (e : EntryData) → IsLawful b
+    → IsReplaced b p i e → HasNoMember p
     → IsLawful (after_empty b (remove b.outstanding i) p.name)
 empty_lawful b p i e h r s =
     let es = remove b.outstanding i in
-    let gone : IsNoBeginning b.stack p.name = record { none = λ d k. ap (λ q. is_prefix p.name (trace_of q d)) (sym r.of) ∙ (sym (r.named.members d k) ∙ s.none d k) } in
+    let gone : IsNoBeginning b.stack p.name =
+    record {
+      none = λ d k. ap (λ q. is_prefix p.name (trace_of q d)) (sym r.of)
+          ∙ (sym (r.named.members d k) ∙ s.none d k);
+    } in
     let shorter : length es + 1 ≡ length b.outstanding = length-remove b.outstanding i r.there in
     let longer : length (b.emptied ++ p.name ∷ []) ≡ length b.emptied + 1 = length-append b.emptied (p.name ∷ []) in
     record {
@@ -150,7 +171,8 @@ empty_lawful b p i e h r s =
       regions = h.regions;
       one = λ d k.
           let m : EntryData → ℕ = λ x. bit (is_member x.piece d) in
-          let out : sum_by m es + m (get_or b.outstanding i e) ≡ sum_by m b.outstanding = sum_by-remove m b.outstanding i e r.there in
+          let out : sum_by m es + m (get_or b.outstanding i e) ≡ sum_by m b.outstanding =
+          sum_by-remove m b.outstanding i e r.there in
           let same : m (get_or b.outstanding i e) ≡ bit (is_member p d) = ap bit (same_there b p i e h r d k) in
           let none : bit (is_member p d) ≡ 0 = ap bit (s.none d k) in
           let before = h.one d k in
@@ -159,8 +181,10 @@ empty_lawful b p i e h r s =
       apart = λ l.
           let m : EntryData → ℕ = λ x. hits x.piece.name l in
           let g : List Bool → ℕ = λ x. hits x l in
-          let out : sum_by m es + m (get_or b.outstanding i e) ≡ sum_by m b.outstanding = sum_by-remove m b.outstanding i e r.there in
-          let added : sum_by g (b.emptied ++ p.name ∷ []) ≡ sum_by g b.emptied + g p.name = sum_by_push g b.emptied p.name in
+          let out : sum_by m es + m (get_or b.outstanding i e) ≡ sum_by m b.outstanding =
+          sum_by-remove m b.outstanding i e r.there in
+          let added : sum_by g (b.emptied ++ p.name ∷ []) ≡ sum_by g b.emptied + g p.name =
+          sum_by_push g b.emptied p.name in
           let same : m (get_or b.outstanding i e) ≡ hits p.name l = ap (λ q. hits q l) r.same_name in
           let before = h.apart l in
           omega arith;
@@ -171,24 +195,30 @@ empty_lawful b p i e h r s =
     }
 
 -- a change of marks alone
-pub marks_lawful : (b : BookData) (g : EntryData → EntryData) → ((e : EntryData) → (g e).id ≡ e.id) → ((e : EntryData) → (g e).piece ≡ e.piece) → IsLawful b → IsLawful (record b { outstanding = map g b.outstanding })
+pub marks_lawful : (b : BookData) (g : EntryData → EntryData) → ((e : EntryData) → (g e).id ≡ e.id)
+    → ((e : EntryData) → (g e).piece ≡ e.piece) → IsLawful b → IsLawful (record b { outstanding = map g b.outstanding })
 marks_lawful b g ids pieces h =
     let len : length (map g b.outstanding) ≡ length b.outstanding = length-map b.outstanding g in
     record {
       stack = h.stack;
       outstanding = All-map (IsOutstanding b.stack) g b.outstanding (λ k d l.
           let o = h.outstanding k d l in
-          record { of = rw (pieces (get_or b.outstanding k d)) o.of; named = rw (pieces (get_or b.outstanding k d)) o.named });
+          record {
+            of = rw (pieces (get_or b.outstanding k d)) o.of;
+            named = rw (pieces (get_or b.outstanding k d)) o.named;
+          });
       regions = h.regions;
       one = λ d n.
           let m : EntryData → ℕ = λ x. bit (is_member x.piece d) in
-          let same : sum_by m (map g b.outstanding) ≡ sum_by m b.outstanding = sum_by-map_same m g (λ e. ap (λ p. bit (is_member p d)) (pieces e)) b.outstanding in
+          let same : sum_by m (map g b.outstanding) ≡ sum_by m b.outstanding =
+          sum_by-map_same m g (λ e. ap (λ p. bit (is_member p d)) (pieces e)) b.outstanding in
           let before = h.one d n in
           omega arith;
       emptied = h.emptied;
       apart = λ l.
           let m : EntryData → ℕ = λ x. hits x.piece.name l in
-          let same : sum_by m (map g b.outstanding) ≡ sum_by m b.outstanding = sum_by-map_same m g (λ e. ap (λ p. hits p.name l) (pieces e)) b.outstanding in
+          let same : sum_by m (map g b.outstanding) ≡ sum_by m b.outstanding =
+          sum_by-map_same m g (λ e. ap (λ p. hits p.name l) (pieces e)) b.outstanding in
           let before = h.apart l in
           omega arith;
       pieces = let before = h.pieces in omega arith;
@@ -197,12 +227,15 @@ marks_lawful b g ids pieces h =
       ids = IsRising-map g ids b.outstanding h.ids;
     }
 
-pub fresh_lawful : (stack : List (List Insn)) (r : PieceData) (budget : ℕ) → IsLawfulStack stack → IsRoot stack r → IsLawful (fresh stack r budget)
+pub fresh_lawful : (stack : List (List Insn)) (r : PieceData) (budget : ℕ) → IsLawfulStack stack → IsRoot stack r
+    → IsLawful (fresh stack r budget)
 fresh_lawful stack r budget lawful h =
-    let O : IsOutstanding stack (record { id = 0; piece = r; leased = false }) = record { of = h.of; named = h.named } in
+    let O : IsOutstanding stack (record { id = 0; piece = r; leased = false }) =
+    record { of = h.of; named = h.named } in
     record {
       stack = lawful;
-      outstanding = All-cons (IsOutstanding stack) (record { id = 0; piece = r; leased = false }) [] O (All-nil (IsOutstanding stack));
+      outstanding = All-cons (IsOutstanding stack) (record { id = 0; piece = r; leased = false }) [] O
+          (All-nil (IsOutstanding stack));
       regions = All-nil (IsRightRegion stack);
       one = λ d n. rw (h.all d n) refl;
       emptied = All-nil (IsNoBeginning stack);
@@ -214,7 +247,8 @@ fresh_lawful stack r budget lawful h =
     }
 
 -- the regions in another order
-pub permuted_lawful : (b : BookData) (rs : List RegionData) → IsPermutation b.regions rs → IsLawful b → IsLawful (record b { regions = rs })
+pub permuted_lawful : (b : BookData) (rs : List RegionData) → IsPermutation b.regions rs → IsLawful b
+    → IsLawful (record b { regions = rs })
 permuted_lawful b rs p h =
     let len : length rs ≡ length b.regions = length_permutation b.regions rs p in
     record {

@@ -48,42 +48,57 @@ pub longer_misses : (m n t : List Bool) → is_prefix m n ≡ true → is_prefix
 longer_misses m n t h = below_none (is_prefix n t) (is_prefix m t) (hits-le m n t h)
 
 -- pieces of one stack with one name have the same members
-pub same_members : (p q : PieceData) → IsTrulyNamed p → IsTrulyNamed q → p.stack ≡ q.stack → p.name ≡ q.name → (d : Input) → IsInput d → is_member p d ≡ is_member q d
+pub same_members : (p q : PieceData) → IsTrulyNamed p → IsTrulyNamed q → p.stack ≡ q.stack → p.name ≡ q.name
+    → (d : Input) → IsInput d → is_member p d ≡ is_member q d
 same_members p q np nq s n d i =
-    np.members d i ∙ (ap (λ k. is_prefix k (trace_of p.stack d)) n ∙ (ap (λ k. is_prefix q.name (trace_of k d)) s ∙ sym (nq.members d i)))
+    np.members d i ∙ (ap (λ k. is_prefix k (trace_of p.stack d)) n
+    ∙ (ap (λ k. is_prefix q.name (trace_of k d)) s ∙ sym (nq.members d i)))
 
 -- a piece whose name goes on from another's has none of the inputs that the other hasn't
-longer_has_none : (p f : PieceData) → IsTrulyNamed p → IsTrulyNamed f → f.stack ≡ p.stack → is_prefix p.name f.name ≡ true → (d : Input) → IsInput d → is_member p d ≡ false → is_member f d ≡ false
+longer_has_none : (p f : PieceData) → IsTrulyNamed p → IsTrulyNamed f → f.stack ≡ p.stack
+    → is_prefix p.name f.name ≡ true → (d : Input) → IsInput d → is_member p d ≡ false → is_member f d ≡ false
 longer_has_none p f np nf s h d i out =
-    nf.members d i ∙ (ap (λ k. is_prefix f.name (trace_of k d)) s ∙ longer_misses p.name f.name (trace_of p.stack d) h (sym (np.members d i) ∙ out))
+    nf.members d i ∙ (ap (λ k. is_prefix f.name (trace_of k d)) s
+    ∙ longer_misses p.name f.name (trace_of p.stack d) h (sym (np.members d i) ∙ out))
 
-shared : (m f t : Bool) → (m ≡ true → t ≡ not f) → (m ≡ false → f ≡ false) → (m ≡ false → t ≡ false) → bit f + bit t ≡ bit m
+shared : (m f t : Bool) → (m ≡ true → t ≡ not f) → (m ≡ false → f ≡ false) → (m ≡ false → t ≡ false)
+    → bit f + bit t ≡ bit m
 shared true true t one a b = rw (one refl) refl
 shared true false t one a b = rw (one refl) refl
 shared false f t one a b = rw (a refl, b refl) refl
 
 -- each member goes to one of the children, and the children have no other
-pub split_members : (p f t : PieceData) → IsTrulyNamed p → IsRightSplit p f t → (d : Input) → IsInput d → bit (is_member f d) + bit (is_member t d) ≡ bit (is_member p d)
+pub split_members : (p f t : PieceData) → IsTrulyNamed p → IsRightSplit p f t → (d : Input) → IsInput d
+    → bit (is_member f d) + bit (is_member t d) ≡ bit (is_member p d)
 split_members p f t np s d i =
     shared (is_member p d) (is_member f d) (is_member t d) (s.one d i)
-    (longer_has_none p f np s.false_named s.false_stack (rw s.false_name (rw append_assoc (prefix-append p.name (s.on ++ false ∷ [])))) d i)
-    (longer_has_none p t np s.true_named s.true_stack (rw s.true_name (rw append_assoc (prefix-append p.name (s.on ++ true ∷ [])))) d i)
+    (longer_has_none p f np s.false_named s.false_stack
+    (rw s.false_name (rw append_assoc (prefix-append p.name (s.on ++ false ∷ [])))) d i)
+    (longer_has_none p t np s.true_named s.true_stack
+    (rw s.true_name (rw append_assoc (prefix-append p.name (s.on ++ true ∷ [])))) d i)
 
 -- the children's names take no more room than the piece's
-pub split_names : (p f t : PieceData) → IsRightSplit p f t → (l : List Bool) → hits f.name l + hits t.name l ≤ hits p.name l
+pub split_names : (p f t : PieceData) → IsRightSplit p f t → (l : List Bool)
+    → hits f.name l + hits t.name l ≤ hits p.name l
 split_names p f t s l =
-    let both : hits (p.name ++ s.on ++ false ∷ []) l + hits (p.name ++ s.on ++ true ∷ []) l ≤ hits (p.name ++ s.on) l = hits-children (p.name ++ s.on) l in
-    let under : hits (p.name ++ s.on) l ≤ hits p.name l = hits-le p.name (p.name ++ s.on) l (prefix-append p.name s.on) in
+    let both : hits (p.name ++ s.on ++ false ∷ []) l + hits (p.name ++ s.on ++ true ∷ []) l ≤ hits (p.name ++ s.on) l =
+    hits-children (p.name ++ s.on) l in
+    let under : hits (p.name ++ s.on) l ≤ hits p.name l =
+    hits-le p.name (p.name ++ s.on) l (prefix-append p.name s.on) in
     rw (s.false_name, s.true_name) (omega arith)
 
-settled : (m : Bool) (p e w : List Bool) → m ≡ is_prefix p w → is_prefix p e ≡ true → (m ≡ true → w ≡ e) → m ≡ is_prefix e w
+settled : (m : Bool) (p e w : List Bool) → m ≡ is_prefix p w → is_prefix p e ≡ true → (m ≡ true → w ≡ e)
+    → m ≡ is_prefix e w
 settled true p e w is h one = rw (one refl) (sym (prefix-refl e))
 settled false p e w is h one = sym (longer_misses p e w h (sym is))
 
 -- the whole route of a settled piece goes on from its name
-pub answer_begins : (p : PieceData) (whole : List Bool) (a : Answer) → IsRightAnswer p whole a → is_prefix p.name whole ≡ true
+pub answer_begins : (p : PieceData) (whole : List Bool) (a : Answer) → IsRightAnswer p whole a
+    → is_prefix p.name whole ≡ true
 answer_begins p whole a s = rw s.begins.1 (prefix-append p.name s.begins.0)
 
 -- a settled piece is truly named by its whole route
-pub answer_members : (p : PieceData) (whole : List Bool) (a : Answer) → IsTrulyNamed p → IsRightAnswer p whole a → (d : Input) → IsInput d → is_member p d ≡ is_prefix whole (trace_of p.stack d)
-answer_members p whole a np s d i = settled (is_member p d) p.name whole (trace_of p.stack d) (np.members d i) (answer_begins p whole a s) (s.trace d i)
+pub answer_members : (p : PieceData) (whole : List Bool) (a : Answer) → IsTrulyNamed p → IsRightAnswer p whole a
+    → (d : Input) → IsInput d → is_member p d ≡ is_prefix whole (trace_of p.stack d)
+answer_members p whole a np s d i = settled (is_member p d) p.name whole (trace_of p.stack d) (np.members d i)
+    (answer_begins p whole a s) (s.trace d i)

@@ -14,14 +14,20 @@ use Rattle.sf_book.specs.PlainLaws.{plain_fresh, plain_marks, split_plain, answe
 use Rattle.sf_book.proofs.Lawful.{entry, after_split, after_answer, after_empty}
 use Rattle.sf_book.proofs.Kept.{kept_fresh, kept_marks, split_kept, answer_kept, empty_kept}
 
-pub fresh_book : (stack : List (List Insn)) (r : PieceData) (budget : ℕ) → IsLawfulStack stack → IsRoot stack r → (IsPlain r.stack → IsPlainPiece r) → IsBook (fresh stack r budget) 1
+pub fresh_book : (stack : List (List Insn)) (r : PieceData) (budget : ℕ) → IsLawfulStack stack → IsRoot stack r
+    → (IsPlain r.stack → IsPlainPiece r) → IsBook (fresh stack r budget) 1
 fresh_book stack r budget lawful root plain = record {
   kept = kept_fresh stack r budget lawful root;
   plain = record { book = λ h. plain_fresh stack r budget (plain (subst IsPlain (sym root.of) h)) };
 }
 
-pub marks_book : (b : BookData) (next : ℕ) (g : EntryData → EntryData) → ((e : EntryData) → (g e).id ≡ e.id) → ((e : EntryData) → (g e).piece ≡ e.piece) → IsBook b next → IsBook (record b { outstanding = map g b.outstanding }) next
-marks_book b next g ids pieces h = record { kept = kept_marks b next g ids pieces h.kept; plain = record { book = λ p. plain_marks b g pieces (h.plain.book p) } }
+pub marks_book : (b : BookData) (next : ℕ) (g : EntryData → EntryData) → ((e : EntryData) → (g e).id ≡ e.id)
+    → ((e : EntryData) → (g e).piece ≡ e.piece) → IsBook b next
+    → IsBook (record b { outstanding = map g b.outstanding }) next
+marks_book b next g ids pieces h = record {
+  kept = kept_marks b next g ids pieces h.kept;
+  plain = record { book = λ p. plain_marks b g pieces (h.plain.book p) };
+}
 
 -- what a commit knows of its work
 pub record IsLawfulWork (w : WorkData) (step : StepData) : Type 0 where
@@ -32,21 +38,24 @@ pub record IsLawfulWork (w : WorkData) (step : StepData) : Type 0 where
 right_step : (w : WorkData) (step : StepData) → IsLawfulWork w step → IsRightStep w.piece step w.name
 right_step w step h = subst (λ (s : StepData). IsRightStep w.piece s w.name) h.is h.right.1
 
-pub split_book : (b : BookData) (next id : ℕ) (w : WorkData) (f t : PieceData) → IsBook b next → MayCommit b id w → b.commits < b.budget → IsLawfulWork w (Split f t)
+pub split_book : (b : BookData) (next id : ℕ) (w : WorkData) (f t : PieceData) → IsBook b next → MayCommit b id w
+    → b.commits < b.budget → IsLawfulWork w (Split f t)
     → IsBook (after_split b ((without id b.outstanding ++ entry next f ∷ []) ++ entry (next + 1) t ∷ [])) (next + 2)
 split_book b next id w f t h m room work = record {
   kept = split_kept b next id w f t h.kept m room work.right.0 (right_step w (Split f t) work);
   plain = split_plain b id next (next + 1) w f t h.plain m work.plain work.is;
 }
 
-pub answer_book : (b : BookData) (next id : ℕ) (w : WorkData) (a : Answer) → IsBook b next → MayCommit b id w → b.commits < b.budget → IsLawfulWork w (Settled a)
+pub answer_book : (b : BookData) (next id : ℕ) (w : WorkData) (a : Answer) → IsBook b next → MayCommit b id w
+    → b.commits < b.budget → IsLawfulWork w (Settled a)
     → IsBook (after_answer b (without id b.outstanding) (record { piece = w.piece; name = w.name; answer = a })) next
 answer_book b next id w a h m room work = record {
   kept = answer_kept b next id w a h.kept m room work.right.0 (right_step w (Settled a) work);
   plain = answer_plain b id w a h.plain m work.plain work.is;
 }
 
-pub empty_book : (b : BookData) (next id : ℕ) (w : WorkData) → IsBook b next → MayCommit b id w → b.commits < b.budget → IsLawfulWork w Empty
+pub empty_book : (b : BookData) (next id : ℕ) (w : WorkData) → IsBook b next → MayCommit b id w → b.commits < b.budget
+    → IsLawfulWork w Empty
     → IsBook (after_empty b (without id b.outstanding) w.piece.name) next
 empty_book b next id w h m room work = record {
   kept = empty_kept b next id w h.kept m room work.right.0 (right_step w Empty work);

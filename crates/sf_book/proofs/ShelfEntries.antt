@@ -26,7 +26,8 @@ use Rattle.sf_book.proofs.ShelfLeases.{none_some, true_false}
 nat_at : (i j : ℕ) → j < i → nat_cmp i j ≡ Greater
 nat_at i j h = grind (arith, nat_tests)
 
-pub insert_last : (ids : Ids) (i : ℕ) (p : PieceData) → All (λ e. e.0 < i) ids → insert_entry nat_cmp ids i p ≡ ids ++ (i, p) ∷ []
+pub insert_last : (ids : Ids) (i : ℕ) (p : PieceData) → All (λ e. e.0 < i) ids
+    → insert_entry nat_cmp ids i p ≡ ids ++ (i, p) ∷ []
 insert_last [] i p h = refl
 insert_last (e ∷ ids) i p h =
     let P = λ (e : ℕ × PieceData). e.0 < i in
@@ -44,7 +45,8 @@ head_or_tail : (b : Bool) (a n : EntryData) (o : Option EntryData) → cond b (S
 head_or_tail true a n o h = inl (some_inj a n h)
 head_or_tail false a n o h = inr h
 
-found_all : (P : EntryData → Type 0) (es : List EntryData) (i : ℕ) (x : EntryData) → All P es → entry_at i es ≡ Some x → P x
+found_all : (P : EntryData → Type 0) (es : List EntryData) (i : ℕ) (x : EntryData) → All P es
+    → entry_at i es ≡ Some x → P x
 found_all P [] i x h at = absurd (cc)
 found_all P (e ∷ es) i x h at =
     ⊎_elim
@@ -53,16 +55,19 @@ found_all P (e ∷ es) i x h at =
     (head_or_tail (e.id == i) e x (entry_at i es) at)
 
 -- no mark of a name that no piece has
-pub absent_name : (ids : Ids) (names : Names) (p : PieceData) → IsShelf ids names → All (λ e. e.piece.name ≢ p.name) (entries_of ids names) → mark_of names p ≡ None
+pub absent_name : (ids : Ids) (names : Names) (p : PieceData) → IsShelf ids names
+    → All (λ e. e.piece.name ≢ p.name) (entries_of ids names) → mark_of names p ≡ None
 absent_name ids names p h apart = go (mark_of names p) refl
   where
     go : (o : Option Mark) → mark_of names p ≡ o → mark_of names p ≡ None
     go None is = is
     go (Some m) is =
         let r = h.known p m is in
-        absurd (found_all (λ e. e.piece.name ≢ p.name) (entries_of ids names) m.id (entry_of names (m.id, r.0)) apart (entry_at_is ids names m.id ∙ ap (option_map (λ q. entry_of names (m.id, q))) r.1) r.2)
+        absurd (found_all (λ e. e.piece.name ≢ p.name) (entries_of ids names) m.id (entry_of names (m.id, r.0)) apart
+        (entry_at_is ids names m.id ∙ ap (option_map (λ q. entry_of names (m.id, q))) r.1) r.2)
 
-insert_step : (i : ℕ) (p : PieceData) (e : ℕ × PieceData) (ids new : Ids) (o : Ordering) → nat_cmp i e.0 ≡ o → cond (is_eq o) (Some e.1) (piece_at ids i) ≡ None
+insert_step : (i : ℕ) (p : PieceData) (e : ℕ × PieceData) (ids new : Ids) (o : Ordering) → nat_cmp i e.0 ≡ o
+    → cond (is_eq o) (Some e.1) (piece_at ids i) ≡ None
     → (piece_at ids i ≡ None → remove_entry (is_at (nat_cmp i)) new ≡ ids)
     → remove_entry (is_at (nat_cmp i)) (match_ordering o ((i, p) ∷ e ∷ ids) ((e.0, p) ∷ ids) (e ∷ new)) ≡ e ∷ ids
 insert_step i p e ids new Less is a h = rw (id_yes i i refl) refl
@@ -70,21 +75,26 @@ insert_step i p e ids new Equal is a h = absurd (cc)
 insert_step i p e ids new Greater is a h = rw is (ap (λ l. e ∷ l) (h a))
 
 -- to take out what was just put in
-pub removed_insert : (i : ℕ) (p : PieceData) (ids : Ids) → piece_at ids i ≡ None → remove_entry (is_at (nat_cmp i)) (insert_entry nat_cmp ids i p) ≡ ids
+pub removed_insert : (i : ℕ) (p : PieceData) (ids : Ids) → piece_at ids i ≡ None
+    → remove_entry (is_at (nat_cmp i)) (insert_entry nat_cmp ids i p) ≡ ids
 removed_insert i p [] h = rw (id_yes i i refl) refl
-removed_insert i p (e ∷ ids) h = insert_step i p e ids (insert_entry nat_cmp ids i p) (nat_cmp i e.0) refl h (removed_insert i p ids)
+removed_insert i p (e ∷ ids) h = insert_step i p e ids (insert_entry nat_cmp ids i p) (nat_cmp i e.0) refl h
+    (removed_insert i p ids)
 
 -- ---- after an insertion
 
-pub record IsAdded (ids : Ids) (names : Names) (i : ℕ) (p : PieceData) (on : Bool) (ids' : Ids) (names' : Names) : Type 0 where
+pub record IsAdded (ids : Ids) (names : Names) (i : ℕ) (p : PieceData) (on : Bool) (ids' : Ids)
+    (names' : Names) : Type 0 where
   pub at_id : (j : ℕ) → piece_at ids' j ≡ cond (is_at (nat_cmp i) j) (Some p) (piece_at ids j)
-  pub at_name : (q : PieceData) → mark_of names' q ≡ cond (is_at (name_cmp p) q) (Some (record { id = i; leased = on })) (mark_of names q)
+  pub at_name : (q : PieceData) → mark_of names' q ≡ cond (is_at (name_cmp p) q) (Some (record { id = i; leased = on }))
+      (mark_of names q)
   pub no_id : piece_at ids i ≡ None
   pub no_name : mark_of names p ≡ None
   pub rising : IsStrictlySortedBy nat_cmp (keys_of ids')
   pub sorted : IsStrictlySortedBy name_cmp (keys_of names')
 
-cond_some : {A : Type 0} (b : Bool) (a x : A) (o : Option A) → cond b (Some a) o ≡ Some x → ((b ≡ true) × (a ≡ x)) ⊎ ((b ≡ false) × (o ≡ Some x))
+cond_some : {A : Type 0} (b : Bool) (a x : A) (o : Option A) → cond b (Some a) o ≡ Some x → ((b ≡ true) × (a ≡ x))
+    ⊎ ((b ≡ false) × (o ≡ Some x))
 cond_some true a x o h = inl (refl, some_inj a x h)
 cond_some false a x o h = inr (refl, h)
 
@@ -103,38 +113,59 @@ pick_yes false a o h = absurd (cc)
 id_same : (i j : ℕ) → is_at (nat_cmp i) j ≡ true → i ≡ j
 id_same i j h = grind (arith, nat_tests)
 
-pub added_shelf : (ids : Ids) (names : Names) (i : ℕ) (p : PieceData) (on : Bool) (ids' : Ids) (names' : Names) → IsShelf ids names → IsAdded ids names i p on ids' names' → IsShelf ids' names'
+pub added_shelf : (ids : Ids) (names : Names) (i : ℕ) (p : PieceData) (on : Bool) (ids' : Ids) (names' : Names)
+    → IsShelf ids names → IsAdded ids names i p on ids' names' → IsShelf ids' names'
 added_shelf ids names i p on ids' names' h a = record {
   rising = a.rising;
   sorted = a.sorted;
   named = λ j q at.
       ⊎_elim
-      (λ (k : (is_at (nat_cmp i) j ≡ true) × (p ≡ q)).
-      (record { id = i; leased = on }, a.at_name q ∙ pick_yes (is_at (name_cmp p) q) (Some (record { id = i; leased = on })) (mark_of names q) (name_yes p q (ap (λ x. x.name) k.1)), id_same i j k.0))
+      (λ (k : (is_at (nat_cmp i) j ≡ true) × (p ≡ q)). (
+        record { id = i; leased = on },
+        a.at_name q ∙ pick_yes (is_at (name_cmp p) q)
+            (Some (record { id = i; leased = on })) (mark_of names q) (name_yes p q (ap (λ x. x.name) k.1)),
+        id_same i j k.0,
+      ))
       (λ (k : (is_at (nat_cmp i) j ≡ false) × (piece_at ids j ≡ Some q)).
-      let n = h.named j q k.1 in
-      (n.0, a.at_name q ∙ (pick_no (is_at (name_cmp p) q) (Some (record { id = i; leased = on })) (mark_of names q) (λ t. none_some n.0 (mark_of names q) (sym (mark_by_name names p q (same_name p q t)) ∙ a.no_name) n.1) ∙ n.1), n.2))
+      let n = h.named j q k.1 in (
+        n.0,
+        a.at_name q ∙ (pick_no (is_at (name_cmp p) q) (Some (record { id = i; leased = on })) (mark_of names q)
+            (λ t. none_some n.0 (mark_of names q) (sym (mark_by_name names p q (same_name p q t)) ∙ a.no_name) n.1)
+            ∙ n.1),
+        n.2,
+      ))
       (cond_some (is_at (nat_cmp i) j) p q (piece_at ids j) (sym (a.at_id j) ∙ at));
   known = λ q n at.
       ⊎_elim
       (λ (k : (is_at (name_cmp p) q ≡ true) × (record { id = i; leased = on } ≡ n)).
-      let same : i ≡ n.id = ap (λ (x : Mark). x.id) k.1 in
-      (p, a.at_id n.id ∙ pick_yes (is_at (nat_cmp i) n.id) (Some p) (piece_at ids n.id) (id_yes i n.id same), same_name p q k.0))
+      let same : i ≡ n.id = ap (λ (x : Mark). x.id) k.1 in (
+        p,
+        a.at_id n.id ∙ pick_yes (is_at (nat_cmp i) n.id) (Some p) (piece_at ids n.id) (id_yes i n.id same),
+        same_name p q k.0,
+      ))
       (λ (k : (is_at (name_cmp p) q ≡ false) × (mark_of names q ≡ Some n)).
-      let r = h.known q n k.1 in
-      (r.0, a.at_id n.id ∙ (pick_no (is_at (nat_cmp i) n.id) (Some p) (piece_at ids n.id) (λ t. none_some r.0 (piece_at ids n.id) (ap (λ x. piece_at ids x) (sym (id_same i n.id t)) ∙ a.no_id) r.1) ∙ r.1), r.2))
+      let r = h.known q n k.1 in (
+        r.0,
+        a.at_id n.id ∙ (pick_no (is_at (nat_cmp i) n.id) (Some p) (piece_at ids n.id)
+            (λ t. none_some r.0 (piece_at ids n.id) (ap (λ x. piece_at ids x) (sym (id_same i n.id t)) ∙ a.no_id) r.1)
+            ∙ r.1),
+        r.2,
+      ))
       (cond_some (is_at (name_cmp p) q) (record { id = i; leased = on }) n (mark_of names q) (sym (a.at_name q) ∙ at));
 }
 
-pub added_view : (ids : Ids) (names : Names) (i : ℕ) (p : PieceData) (on : Bool) (ids' : Ids) (names' : Names) → IsShelf ids names → IsAdded ids names i p on ids' names' → ids' ≡ ids ++ (i, p) ∷ []
+pub added_view : (ids : Ids) (names : Names) (i : ℕ) (p : PieceData) (on : Bool) (ids' : Ids) (names' : Names)
+    → IsShelf ids names → IsAdded ids names i p on ids' names' → ids' ≡ ids ++ (i, p) ∷ []
     → entries_of ids' names' ≡ entries_of ids names ++ record { id = i; piece = p; leased = on } ∷ []
 added_view ids names i p on ids' names' h a is =
     let w : Mark = record { id = i; leased = on } in
     let old : entries_of ids names' ≡ entries_of ids names = same_view ids names names' (λ k d l.
     let q = (get_or ids k d).1 in
     let n = h.named (get_or ids k d).0 q (own ids h.rising k d l) in
-    a.at_name q ∙ pick_no (is_at (name_cmp p) q) (Some w) (mark_of names q) (λ t. none_some n.0 (mark_of names q) (sym (mark_by_name names p q (same_name p q t)) ∙ a.no_name) n.1)) in
-    let new : mark_of names' p ≡ Some w = a.at_name p ∙ pick_yes (is_at (name_cmp p) p) (Some w) (mark_of names p) (name_yes p p refl) in
+    a.at_name q ∙ pick_no (is_at (name_cmp p) q) (Some w) (mark_of names q)
+    (λ t. none_some n.0 (mark_of names q) (sym (mark_by_name names p q (same_name p q t)) ∙ a.no_name) n.1)) in
+    let new : mark_of names' p ≡ Some w = a.at_name p ∙ pick_yes (is_at (name_cmp p) p) (Some w) (mark_of names p)
+    (name_yes p p refl) in
     rw (is, map-append, new, old) refl
 
 -- ---- after a removal
@@ -146,14 +177,20 @@ pub record IsTaken (ids : Ids) (names : Names) (i : ℕ) (p : PieceData) (ids' :
   pub rising : IsStrictlySortedBy nat_cmp (keys_of ids')
   pub sorted : IsStrictlySortedBy name_cmp (keys_of names')
 
-pub taken_shelf : (ids : Ids) (names : Names) (i : ℕ) (p : PieceData) (ids' : Ids) (names' : Names) → IsShelf ids names → IsTaken ids names i p ids' names' → IsShelf ids' names'
+pub taken_shelf : (ids : Ids) (names : Names) (i : ℕ) (p : PieceData) (ids' : Ids) (names' : Names) → IsShelf ids names
+    → IsTaken ids names i p ids' names' → IsShelf ids' names'
 taken_shelf ids names i p ids' names' h a = record {
   rising = a.rising;
   sorted = a.sorted;
   named = λ j q at.
       let k = cond_none (is_at (nat_cmp i) j) q (piece_at ids j) (sym (a.at_id j) ∙ at) in
-      let n = h.named j q k.1 in
-      (n.0, a.at_name q ∙ (pick_no (is_at (name_cmp p) q) None (mark_of names q) (λ t. true_false (is_at (nat_cmp i) j) (id_yes i j (sym (num_same j i (sym (test_of ids names i j p q h a.there k.1) ∙ t)))) k.0) ∙ n.1), n.2);
+      let n = h.named j q k.1 in (
+        n.0,
+        a.at_name q ∙ (pick_no (is_at (name_cmp p) q) None (mark_of names q)
+            (λ t. true_false (is_at (nat_cmp i) j) (id_yes i j
+            (sym (num_same j i (sym (test_of ids names i j p q h a.there k.1) ∙ t)))) k.0) ∙ n.1),
+        n.2,
+      );
   known = λ q n at.
       let k = cond_none (is_at (name_cmp p) q) n (mark_of names q) (sym (a.at_name q) ∙ at) in
       let r = h.known q n k.1 in (
@@ -165,7 +202,8 @@ taken_shelf ids names i p ids' names' h a = record {
       );
 }
 
-rising_above : (i : ℕ) (ids : Ids) (names : Names) → AllByRecursion (λ k. nat_cmp i k ≡ Less) (keys_of ids) → AllByRecursion (λ f. i < f.id) (entries_of ids names)
+rising_above : (i : ℕ) (ids : Ids) (names : Names) → AllByRecursion (λ k. nat_cmp i k ≡ Less) (keys_of ids)
+    → AllByRecursion (λ f. i < f.id) (entries_of ids names)
 rising_above i [] names h = tt
 rising_above i (e ∷ ids) names h = (below i e.0 h.0, rising_above i ids names h.1)
   where
@@ -173,27 +211,38 @@ rising_above i (e ∷ ids) names h = (below i e.0 h.0, rising_above i ids names 
     below i j h = grind (arith, nat_tests)
 
 -- the ids rise
-pub shelf_rising : (ids : Ids) (names : Names) → IsStrictlySortedBy nat_cmp (keys_of ids) → IsRising (entries_of ids names)
+pub shelf_rising : (ids : Ids) (names : Names) → IsStrictlySortedBy nat_cmp (keys_of ids)
+    → IsRising (entries_of ids names)
 shelf_rising [] names h = tt
-shelf_rising (e ∷ ids) names h = (rising_above e.0 ids names (sorted_head nat_cmp e.0 (keys_of ids) h), shelf_rising ids names (sorted_tail nat_cmp e.0 (keys_of ids) h))
+shelf_rising (e ∷ ids) names h = (
+  rising_above e.0 ids names (sorted_head nat_cmp e.0 (keys_of ids) h),
+  shelf_rising ids names (sorted_tail nat_cmp e.0 (keys_of ids) h),
+)
 
-removed_view : (ids : Ids) (names : Names) (i : ℕ) → IsStrictlySortedBy nat_cmp (keys_of ids) → entries_of (remove_entry (is_at (nat_cmp i)) ids) names ≡ without i (entries_of ids names)
+removed_view : (ids : Ids) (names : Names) (i : ℕ) → IsStrictlySortedBy nat_cmp (keys_of ids)
+    → entries_of (remove_entry (is_at (nat_cmp i)) ids) names ≡ without i (entries_of ids names)
 removed_view [] names i h = refl
 removed_view (e ∷ ids) names i h =
     ⊎_elim
     (λ (k : i ≡ e.0). rw (num_yes e.0 i (sym k), id_yes i e.0 k)
-    (sym (without-above i (entries_of ids names) (rising_above i ids names (subst (λ x. AllByRecursion (λ y. nat_cmp x y ≡ Less) (keys_of ids)) (sym k) (sorted_head nat_cmp e.0 (keys_of ids) h))))))
-    (λ (k : i ≡ e.0 → ⊥). rw (num_no e.0 i (λ x. k (sym x)), id_no i e.0 k) (ap (λ l. entry_of names e ∷ l) (removed_view ids names i (sorted_tail nat_cmp e.0 (keys_of ids) h))))
+    (sym (without-above i (entries_of ids names)
+    (rising_above i ids names (subst (λ x. AllByRecursion (λ y. nat_cmp x y ≡ Less) (keys_of ids)) (sym k)
+    (sorted_head nat_cmp e.0 (keys_of ids) h))))))
+    (λ (k : i ≡ e.0 → ⊥). rw (num_no e.0 i (λ x. k (sym x)), id_no i e.0 k)
+    (ap (λ l. entry_of names e ∷ l) (removed_view ids names i (sorted_tail nat_cmp e.0 (keys_of ids) h))))
     (cases_eq i e.0)
 
-pub taken_view : (ids : Ids) (names : Names) (i : ℕ) (p : PieceData) (ids' : Ids) (names' : Names) → IsShelf ids names → IsTaken ids names i p ids' names' → ids' ≡ remove_entry (is_at (nat_cmp i)) ids
+pub taken_view : (ids : Ids) (names : Names) (i : ℕ) (p : PieceData) (ids' : Ids) (names' : Names) → IsShelf ids names
+    → IsTaken ids names i p ids' names' → ids' ≡ remove_entry (is_at (nat_cmp i)) ids
     → entries_of ids' names' ≡ without i (entries_of ids names)
 taken_view ids names i p ids' names' h a is =
     same_view ids' names names' (λ k d l.
     let j = (get_or ids' k d).0 in
     let q = (get_or ids' k d).1 in
     let m = cond_none (is_at (nat_cmp i) j) q (piece_at ids j) (sym (a.at_id j) ∙ own ids' a.rising k d l) in
-    a.at_name q ∙ pick_no (is_at (name_cmp p) q) None (mark_of names q) (λ t. true_false (is_at (nat_cmp i) j) (id_yes i j (sym (num_same j i (sym (test_of ids names i j p q h a.there m.1) ∙ t)))) m.0))
+    a.at_name q ∙ pick_no (is_at (name_cmp p) q) None (mark_of names q)
+    (λ t. true_false (is_at (nat_cmp i) j) (id_yes i j
+    (sym (num_same j i (sym (test_of ids names i j p q h a.there m.1) ∙ t)))) m.0))
     ∙ (ap (λ l. entries_of l names) is ∙ removed_view ids names i h.rising)
 
 -- an id that no piece has
@@ -201,7 +250,8 @@ pub without_none : (es : List EntryData) (i : ℕ) → entry_at i es ≡ None �
 without_none [] i h = refl
 without_none (e ∷ es) i h = go (e.id == i) h (without_none es i)
   where
-    go : (b : Bool) → cond b (Some e) (entry_at i es) ≡ None → (entry_at i es ≡ None → without i es ≡ es) → cond (not b) (e ∷ without i es) (without i es) ≡ e ∷ es
+    go : (b : Bool) → cond b (Some e) (entry_at i es) ≡ None → (entry_at i es ≡ None → without i es ≡ es)
+        → cond (not b) (e ∷ without i es) (without i es) ≡ e ∷ es
     go true k next = absurd (cc)
     go false k next = ap (λ l. e ∷ l) (next k)
 
@@ -218,13 +268,18 @@ same_none (e ∷ es) i on h = go (e.id == i) h (same_none es i on)
 below_ids : (ids : Ids) (names : Names) (i : ℕ) → All (λ e. e.id < i) (entries_of ids names) → All (λ e. e.0 < i) ids
 below_ids [] names i h = All-nil (λ (e : ℕ × PieceData). e.0 < i)
 below_ids (e ∷ ids) names i h =
-    All-cons (λ (e : ℕ × PieceData). e.0 < i) e ids (All-head (λ (x : EntryData). x.id < i) (entry_of names e) (entries_of ids names) h) (below_ids ids names i (All-tail (λ (x : EntryData). x.id < i) (entry_of names e) (entries_of ids names) h))
+    All-cons (λ (e : ℕ × PieceData). e.0 < i) e ids
+    (All-head (λ (x : EntryData). x.id < i) (entry_of names e) (entries_of ids names) h)
+    (below_ids ids names i (All-tail (λ (x : EntryData). x.id < i) (entry_of names e) (entries_of ids names) h))
 
-pub is_added : (ids : Ids) (names : Names) (i : ℕ) (p : PieceData) (on : Bool) (ids' : Ids) (names' : Names) → IsShelf ids names
+pub is_added : (ids : Ids) (names : Names) (i : ℕ) (p : PieceData) (on : Bool) (ids' : Ids) (names' : Names)
+    → IsShelf ids names
     → All (λ e. e.id < i) (entries_of ids names) → All (λ e. e.piece.name ≢ p.name) (entries_of ids names)
     → ((j : ℕ) → piece_at ids' j ≡ cond (is_at (nat_cmp i) j) (Some p) (piece_at ids j))
-    → ((q : PieceData) → mark_of names' q ≡ cond (is_at (name_cmp p) q) (Some (record { id = i; leased = on })) (mark_of names q))
-    → IsStrictlySortedBy nat_cmp (keys_of ids') → IsStrictlySortedBy name_cmp (keys_of names') → IsAdded ids names i p on ids' names'
+    → ((q : PieceData) → mark_of names' q ≡ cond (is_at (name_cmp p) q) (Some (record { id = i; leased = on }))
+    (mark_of names q))
+    → IsStrictlySortedBy nat_cmp (keys_of ids') → IsStrictlySortedBy name_cmp (keys_of names')
+    → IsAdded ids names i p on ids' names'
 is_added ids names i p on ids' names' h above apart at_id at_name rising sorted = record {
   at_id = at_id;
   at_name = at_name;
@@ -235,18 +290,22 @@ is_added ids names i p on ids' names' h above apart at_id at_name rising sorted 
 }
 
 -- one more id, above all
-pub added_ids : (ids : Ids) (names : Names) (i : ℕ) (p : PieceData) → All (λ e. e.id < i) (entries_of ids names) → insert_entry nat_cmp ids i p ≡ ids ++ (i, p) ∷ []
+pub added_ids : (ids : Ids) (names : Names) (i : ℕ) (p : PieceData) → All (λ e. e.id < i) (entries_of ids names)
+    → insert_entry nat_cmp ids i p ≡ ids ++ (i, p) ∷ []
 added_ids ids names i p h = insert_last ids i p (below_ids ids names i h)
 
 -- to take out what was just put in
-pub put_back : (ids : Ids) (names : Names) (i : ℕ) (p : PieceData) → All (λ e. e.id < i) (entries_of ids names) → remove_entry (is_at (nat_cmp i)) (insert_entry nat_cmp ids i p) ≡ ids
+pub put_back : (ids : Ids) (names : Names) (i : ℕ) (p : PieceData) → All (λ e. e.id < i) (entries_of ids names)
+    → remove_entry (is_at (nat_cmp i)) (insert_entry nat_cmp ids i p) ≡ ids
 put_back ids names i p h = removed_insert i p ids (absent_id ids i (below_ids ids names i h))
 
 without_append : (i : ℕ) (es fs : List EntryData) → without i (es ++ fs) ≡ without i es ++ without i fs
 without_append i [] fs = refl
 without_append i (e ∷ es) fs = go (e.id == i) (without_append i es fs)
   where
-    go : (b : Bool) → without i (es ++ fs) ≡ without i es ++ without i fs → cond (not b) (e ∷ without i (es ++ fs)) (without i (es ++ fs)) ≡ cond (not b) (e ∷ without i es) (without i es) ++ without i fs
+    go : (b : Bool) → without i (es ++ fs) ≡ without i es ++ without i fs
+        → cond (not b) (e ∷ without i (es ++ fs)) (without i (es ++ fs))
+        ≡ cond (not b) (e ∷ without i es) (without i es) ++ without i fs
     go true h = h
     go false h = ap (λ l. e ∷ l) h
 
@@ -254,17 +313,26 @@ pub without_low : (i : ℕ) (es : List EntryData) → All (λ e. e.id < i) es �
 without_low i [] h = refl
 without_low i (e ∷ es) h =
     let low : e.id < i = All-head (λ (x : EntryData). x.id < i) e es h in
-    rw (num_no e.id i (λ k. let e = k in omega arith)) (ap (λ l. e ∷ l) (without_low i es (All-tail (λ (x : EntryData). x.id < i) e es h)))
+    rw (num_no e.id i (λ k. let e = k in omega arith))
+    (ap (λ l. e ∷ l) (without_low i es (All-tail (λ (x : EntryData). x.id < i) e es h)))
 
 -- the last one out again
 pub without_last : (es : List EntryData) (x : EntryData) → All (λ e. e.id < x.id) es → without x.id (es ++ x ∷ []) ≡ es
-without_last es x h = without_append x.id es (x ∷ []) ∙ (rw (without_low x.id es h, num_yes x.id x.id refl, append-nil) refl)
+without_last es x h = without_append x.id es (x ∷ [])
+    ∙ (rw (without_low x.id es h, num_yes x.id x.id refl, append-nil) refl)
 
 -- one out below two new ones
-pub without_below : (i : ℕ) (es : List EntryData) (x y : EntryData) → i < x.id → i < y.id → without i ((es ++ x ∷ []) ++ y ∷ []) ≡ (without i es ++ x ∷ []) ++ y ∷ []
+pub without_below : (i : ℕ) (es : List EntryData) (x y : EntryData) → i < x.id → i < y.id
+    → without i ((es ++ x ∷ []) ++ y ∷ []) ≡ (without i es ++ x ∷ []) ++ y ∷ []
 without_below i es x y lx ly =
-    without_append i (es ++ x ∷ []) (y ∷ []) ∙ (rw (without_append i es (x ∷ []), num_no x.id i (λ k. let e = k in omega arith), num_no y.id i (λ k. let e = k in omega arith)) refl)
+    without_append i (es ++ x ∷ []) (y ∷ []) ∙ (rw (
+      without_append i es (x ∷ []),
+      num_no x.id i (λ k. let e = k in omega arith),
+      num_no y.id i (λ k. let e = k in omega arith),
+    ) refl)
 
 -- the pieces stand in the order of their ids
-pub piece_place : (ids : List (ℕ × PieceData)) (names : List (PieceData × Mark)) (i : ℕ) (p : PieceData) → slice_get (map (λ (e : ℕ × PieceData). e.1) ids) i ≡ Some p → slice_get (map (λ (e : EntryData). e.piece) (entries_of ids names)) i ≡ Some p
+pub piece_place : (ids : List (ℕ × PieceData)) (names : List (PieceData × Mark)) (i : ℕ) (p : PieceData)
+    → slice_get (map (λ (e : ℕ × PieceData). e.1) ids) i ≡ Some p
+    → slice_get (map (λ (e : EntryData). e.piece) (entries_of ids names)) i ≡ Some p
 piece_place ids names i p h = rw map-map h

@@ -46,14 +46,18 @@ found_first e names m s false is h next =
       key = e.0;
       there = rw (name_laws.refl e.0) h;
       free = ap (λ x. x.leased) (sym (some_inj e.1 m h)) ∙ is;
-      first = λ q n at f before. none_some n (mark_of (e ∷ names) q) (lookup-none (is_at (name_cmp q)) (e ∷ names) (none_below_head name_total q e names s before)) at;
+      first = λ q n at f before. none_some n (mark_of (e ∷ names) q)
+          (lookup-none (is_at (name_cmp q)) (e ∷ names) (none_below_head name_total q e names s before)) at;
     }
 found_first e names m s true is h next =
     let r = next h in
     record {
       key = r.key;
       there = hidden (is_at (name_cmp r.key) e.0) e.1 m (mark_of names r.key)
-          (λ t. none_some m (mark_of names r.key) (lookup-none (is_at (name_cmp r.key)) names (none_past_head name_laws r.key e names (IsDistinct-from_sorted name_cmp (keys_of (e ∷ names)) s) t)) r.there)
+          (λ t. none_some m (mark_of names r.key)
+          (lookup-none (is_at (name_cmp r.key)) names
+          (none_past_head name_laws r.key e names (IsDistinct-from_sorted name_cmp (keys_of (e ∷ names)) s) t))
+          r.there)
           r.there;
       free = r.free;
       first = λ q n at f.
@@ -63,15 +67,19 @@ found_first e names m s true is h next =
           (head_or_later (is_at (name_cmp q) e.0) e.1 n (mark_of names q) at);
     }
 
-pub find_first : (names : Names) (m : Mark) → IsStrictlySortedBy name_cmp (keys_of names) → find is_free (values_of names) ≡ Some m → IsFirst names m
+pub find_first : (names : Names) (m : Mark) → IsStrictlySortedBy name_cmp (keys_of names)
+    → find is_free (values_of names) ≡ Some m → IsFirst names m
 find_first [] m s h = absurd (cc)
-find_first (e ∷ names) m s h = found_first e names m s e.1.leased refl h (λ k. find_first names m (sorted_tail name_cmp e.0 (keys_of names) s) k)
+find_first (e ∷ names) m s h = found_first e names m s e.1.leased refl h
+    (λ k. find_first names m (sorted_tail name_cmp e.0 (keys_of names) s) k)
 
-none_free : (b : Bool) (a : Mark) (o : Option Mark) → a.leased ≡ b → cond (not b) (Some a) o ≡ None → (a.leased ≡ true) × (o ≡ None)
+none_free : (b : Bool) (a : Mark) (o : Option Mark) → a.leased ≡ b → cond (not b) (Some a) o ≡ None
+    → (a.leased ≡ true) × (o ≡ None)
 none_free true a o is h = (is, h)
 none_free false a o is h = absurd (cc)
 
-pub find_none : (names : Names) → find is_free (values_of names) ≡ None → (q : PieceData) (n : Mark) → mark_of names q ≡ Some n → n.leased ≡ true
+pub find_none : (names : Names) → find is_free (values_of names) ≡ None → (q : PieceData) (n : Mark)
+    → mark_of names q ≡ Some n → n.leased ≡ true
 find_none [] h q n at = absurd (cc)
 find_none (e ∷ names) h q n at =
     let r = none_free e.1.leased e.1 (find is_free (values_of names)) refl h in
@@ -80,11 +88,13 @@ find_none (e ∷ names) h q n at =
     (λ (k : mark_of names q ≡ Some n). find_none names r.1 q n k)
     (head_or_later (is_at (name_cmp q) e.0) e.1 n (mark_of names q) at)
 
-leased_all : (o : Option Mark) → ((n : Mark) → o ≡ Some n → n.leased ≡ true) → option_map_or (λ (m : Mark). m.leased) o true ≡ true
+leased_all : (o : Option Mark) → ((n : Mark) → o ≡ Some n → n.leased ≡ true)
+    → option_map_or (λ (m : Mark). m.leased) o true ≡ true
 leased_all None h = refl
 leased_all (Some n) h = h n refl
 
-some_free : (o : Option Mark) → option_map_or (λ (m : Mark). m.leased) o true ≡ false → (n : Mark) × (o ≡ Some n) × (n.leased ≡ false)
+some_free : (o : Option Mark) → option_map_or (λ (m : Mark). m.leased) o true ≡ false → (n : Mark) × (o ≡ Some n)
+    × (n.leased ≡ false)
 some_free None h = absurd (cc)
 some_free (Some n) h = (n, refl, h)
 
@@ -96,9 +106,12 @@ an_id : (o : Option Mark) (i : ℕ) → Some i ≡ option_map (λ (m : Mark). m.
 an_id None i h = absurd (cc)
 an_id (Some m) i h = (m, refl, some_inj m.id i (sym h))
 
-pub all_leased : (ids : Ids) (names : Names) → None ≡ option_map (λ (m : Mark). m.id) (find is_free (values_of names)) → All (λ e. e.leased ≡ true) (entries_of ids names)
+pub all_leased : (ids : Ids) (names : Names) → None ≡ option_map (λ (m : Mark). m.id) (find is_free (values_of names))
+    → All (λ e. e.leased ≡ true) (entries_of ids names)
 all_leased ids names h =
-    All-map (λ e. e.leased ≡ true) (entry_of names) ids (λ k d l. leased_all (mark_of names (get_or ids k d).1) (find_none names (no_id (find is_free (values_of names)) h) (get_or ids k d).1))
+    All-map (λ e. e.leased ≡ true) (entry_of names) ids (λ k d l.
+    leased_all (mark_of names (get_or ids k d).1)
+    (find_none names (no_id (find is_free (values_of names)) h) (get_or ids k d).1))
 
 -- the piece of the first free name
 pub record IsFirstPiece (ids : Ids) (names : Names) (i : ℕ) : Type 0 where
@@ -109,7 +122,8 @@ pub record IsFirstPiece (ids : Ids) (names : Names) (i : ℕ) : Type 0 where
   pub free : mark.leased ≡ false
   pub first : IsFirstFree piece.name (entries_of ids names)
 
-pub first_piece : (ids : Ids) (names : Names) (i : ℕ) → IsShelf ids names → Some i ≡ option_map (λ (m : Mark). m.id) (find is_free (values_of names)) → IsFirstPiece ids names i
+pub first_piece : (ids : Ids) (names : Names) (i : ℕ) → IsShelf ids names
+    → Some i ≡ option_map (λ (m : Mark). m.id) (find is_free (values_of names)) → IsFirstPiece ids names i
 first_piece ids names i h is =
     let m = an_id (find is_free (values_of names)) i is in
     let f = find_first names m.0 h.sorted m.1 in
@@ -126,7 +140,8 @@ first_piece ids names i h is =
           subst (λ w. ¬ IsBefore q.name w) (sym r.2) (f.first q n.0 n.1 n.2));
     }
 
-pub leases_entry : (ids : Ids) (names : Names) (i : ℕ) (p : PieceData) → IsShelf ids names → (f : IsFirstPiece ids names i) → f.piece ≡ p
+pub leases_entry : (ids : Ids) (names : Names) (i : ℕ) (p : PieceData) → IsShelf ids names
+    → (f : IsFirstPiece ids names i) → f.piece ≡ p
     → LeasesEntry (entries_of ids names) i p (entries_of ids (marked names f.piece f.mark true))
 leases_entry ids names i p h f same = record {
   there = entry_at_is ids names i ∙ (rw (f.there, f.marked, f.free, same) refl);

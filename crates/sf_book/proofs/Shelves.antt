@@ -68,7 +68,8 @@ name_yes p q h = ap (λ n. is_eq (slice_cmp bool_cmp p.name n)) (sym h) ∙ name
 
 -- ---- what stands under an id and a name
 
-pub entry_at_is : (ids : Ids) (names : Names) (i : ℕ) → entry_at i (entries_of ids names) ≡ option_map (λ p. entry_of names (i, p)) (piece_at ids i)
+pub entry_at_is : (ids : Ids) (names : Names) (i : ℕ) → entry_at i (entries_of ids names)
+    ≡ option_map (λ p. entry_of names (i, p)) (piece_at ids i)
 entry_at_is [] names i = refl
 entry_at_is (e ∷ ids) names i =
     ⊎_elim
@@ -78,13 +79,15 @@ entry_at_is (e ∷ ids) names i =
 
 -- each entry is the one under its id
 pub own : (ids : Ids) → IsStrictlySortedBy nat_cmp (keys_of ids) → All (λ e. piece_at ids e.0 ≡ Some e.1) ids
-own ids s = λ k d l. lookup_from_place id_laws ids k (get_or ids k d).0 (get_or ids k d).1 (IsDistinct-from_sorted nat_cmp (keys_of ids) s) (slice_get-get_or ids k d l)
+own ids s = λ k d l. lookup_from_place id_laws ids k (get_or ids k d).0 (get_or ids k d).1
+    (IsDistinct-from_sorted nat_cmp (keys_of ids) s) (slice_get-get_or ids k d l)
 
 pub mark_by_name : (names : Names) (p q : PieceData) → p.name ≡ q.name → mark_of names p ≡ mark_of names q
 mark_by_name names p q h = ap (λ n. lookup (λ (k : PieceData). is_eq (slice_cmp bool_cmp n k.name)) names) h
 
 -- of two outstanding pieces, the names are equal where the ids are
-pub test_of : (ids : Ids) (names : Names) (i j : ℕ) (p q : PieceData) → IsShelf ids names → piece_at ids i ≡ Some p → piece_at ids j ≡ Some q → is_at (name_cmp p) q ≡ (j == i)
+pub test_of : (ids : Ids) (names : Names) (i j : ℕ) (p q : PieceData) → IsShelf ids names → piece_at ids i ≡ Some p
+    → piece_at ids j ≡ Some q → is_at (name_cmp p) q ≡ (j == i)
 test_of ids names i j p q h at_i at_j =
     same_bool (is_at (name_cmp p) q) (j == i)
     (λ t.
@@ -99,19 +102,27 @@ test_of ids names i j p q h at_i at_j =
 
 -- ---- lists
 
-views : (f : EntryData → EntryData) (ids : Ids) (a b : Names) → All (λ e. entry_of b e ≡ f (entry_of a e)) ids → entries_of ids b ≡ map f (entries_of ids a)
+views : (f : EntryData → EntryData) (ids : Ids) (a b : Names) → All (λ e. entry_of b e ≡ f (entry_of a e)) ids
+    → entries_of ids b ≡ map f (entries_of ids a)
 views f [] a b h = refl
 views f (e ∷ ids) a b h =
     let P = λ (e : ℕ × PieceData). entry_of b e ≡ f (entry_of a e) in
-    ap (λ x. x ∷ entries_of ids b) (All-head P e ids h) ∙ ap (λ l. f (entry_of a e) ∷ l) (views f ids a b (All-tail P e ids h))
+    ap (λ x. x ∷ entries_of ids b) (All-head P e ids h) ∙ ap (λ l. f (entry_of a e) ∷ l)
+    (views f ids a b (All-tail P e ids h))
 
 map_same : (es : List EntryData) → map (λ e. e) es ≡ es
 map_same [] = refl
 map_same (e ∷ es) = ap (λ l. e ∷ l) (map_same es)
 
-pub same_view : (ids : Ids) (a b : Names) → All (λ e. mark_of b e.1 ≡ mark_of a e.1) ids → entries_of ids b ≡ entries_of ids a
+pub same_view : (ids : Ids) (a b : Names) → All (λ e. mark_of b e.1 ≡ mark_of a e.1) ids
+    → entries_of ids b ≡ entries_of ids a
 same_view ids a b h =
-    views (λ e. e) ids a b (λ k d l. ap (λ (o : Option Mark). record { id = (get_or ids k d).0; piece = (get_or ids k d).1; leased = option_map_or (λ (m : Mark). m.leased) o true }) (h k d l)) ∙ map_same (entries_of ids a)
+    views (λ e. e) ids a b (λ k d l. ap (λ (o : Option Mark). record {
+      id = (get_or ids k d).0;
+      piece = (get_or ids k d).1;
+      leased = option_map_or (λ (m : Mark). m.leased) o true;
+    }) (h k d l))
+    ∙ map_same (entries_of ids a)
 
 -- ---- marks
 
@@ -119,41 +130,55 @@ abbrev pub marked : Names → PieceData → Mark → Bool → Names
 marked names p m on = set_value (is_at (name_cmp p)) names (record { id = m.id; leased = on })
 
 marked_mark : (names : Names) (p q : PieceData) (m : Mark) (on : Bool) → mark_of names p ≡ Some m
-    → mark_of (marked names p m on) q ≡ cond (is_at (name_cmp p) q) (Some (record { id = m.id; leased = on })) (mark_of names q)
+    → mark_of (marked names p m on) q ≡ cond (is_at (name_cmp p) q) (Some (record { id = m.id; leased = on }))
+    (mark_of names q)
 marked_mark names p q m on h =
-    lookup-set_value name_laws (is_at (name_cmp p)) (λ x y t. name_laws.congr p x y t) q (record { id = m.id; leased = on }) names (rw h refl)
+    lookup-set_value name_laws (is_at (name_cmp p)) (λ x y t. name_laws.congr p x y t) q
+    (record { id = m.id; leased = on }) names (rw h refl)
 
-lease_of : (b : Bool) (w : Mark) (o : Option Mark) → option_map_or (λ (m : Mark). m.leased) (cond b (Some w) o) true ≡ cond b w.leased (option_map_or (λ (m : Mark). m.leased) o true)
+lease_of : (b : Bool) (w : Mark) (o : Option Mark) → option_map_or (λ (m : Mark). m.leased) (cond b (Some w) o) true
+    ≡ cond b w.leased (option_map_or (λ (m : Mark). m.leased) o true)
 lease_of true w o = refl
 lease_of false w o = refl
 
-pub marked_view : (ids : Ids) (names : Names) (i : ℕ) (p : PieceData) (m : Mark) (on : Bool) → IsShelf ids names → piece_at ids i ≡ Some p → mark_of names p ≡ Some m
+pub marked_view : (ids : Ids) (names : Names) (i : ℕ) (p : PieceData) (m : Mark) (on : Bool) → IsShelf ids names
+    → piece_at ids i ≡ Some p → mark_of names p ≡ Some m
     → entries_of ids (marked names p m on) ≡ map (with_lease_at i on) (entries_of ids names)
 marked_view ids names i p m on h at is =
     views (with_lease_at i on) ids names (marked names p m on) (λ k d l.
     let e = get_or ids k d in
     let t = test_of ids names i e.0 p e.1 h at (own ids h.rising k d l) in
-    rw (marked_mark names p e.1 m on is, t, lease_of (e.0 == i) (record { id = m.id; leased = on }) (mark_of names e.1)) refl)
+    rw (
+      marked_mark names p e.1 m on is,
+      t,
+      lease_of (e.0 == i) (record { id = m.id; leased = on })
+          (mark_of names e.1),
+    ) refl)
 
-marked_named : (b : Bool) (w m n : Mark) (o : Option Mark) (j : ℕ) → o ≡ Some n → n.id ≡ j → w.id ≡ m.id → (b ≡ true → m ≡ n)
+marked_named : (b : Bool) (w m n : Mark) (o : Option Mark) (j : ℕ) → o ≡ Some n → n.id ≡ j → w.id ≡ m.id
+    → (b ≡ true → m ≡ n)
     → (x : Mark) × (cond b (Some w) o ≡ Some x) × (x.id ≡ j)
 marked_named true w m n o j h is same one = (w, refl, same ∙ (ap (λ x. x.id) (one refl) ∙ is))
 marked_named false w m n o j h is same one = (n, h, is)
 
-marked_known : (b : Bool) (w m n : Mark) (o : Option Mark) → cond b (Some w) o ≡ Some n → w.id ≡ m.id → ((b ≡ true) × (m.id ≡ n.id)) ⊎ ((b ≡ false) × (o ≡ Some n))
+marked_known : (b : Bool) (w m n : Mark) (o : Option Mark) → cond b (Some w) o ≡ Some n → w.id ≡ m.id
+    → ((b ≡ true) × (m.id ≡ n.id)) ⊎ ((b ≡ false) × (o ≡ Some n))
 marked_known true w m n o h same = inl (refl, sym same ∙ ap (λ x. x.id) (some_inj w n h))
 marked_known false w m n o h same = inr (refl, h)
 
-pub marked_shelf : (ids : Ids) (names : Names) (i : ℕ) (p : PieceData) (m : Mark) (on : Bool) → IsShelf ids names → piece_at ids i ≡ Some p → mark_of names p ≡ Some m
+pub marked_shelf : (ids : Ids) (names : Names) (i : ℕ) (p : PieceData) (m : Mark) (on : Bool) → IsShelf ids names
+    → piece_at ids i ≡ Some p → mark_of names p ≡ Some m
     → IsShelf ids (marked names p m on)
 marked_shelf ids names i p m on h at is =
     let w : Mark = record { id = m.id; leased = on } in
     record {
       rising = h.rising;
-      sorted = subst (λ ks. IsStrictlySortedBy name_cmp ks) (sym (keys-set_value (is_at (name_cmp p)) names w)) h.sorted;
+      sorted = subst (λ ks. IsStrictlySortedBy name_cmp ks)
+          (sym (keys-set_value (is_at (name_cmp p)) names w)) h.sorted;
       named = λ j q at_j.
           let n = h.named j q at_j in
-          rw (marked_mark names p q m on is) (marked_named (is_at (name_cmp p) q) w m n.0 (mark_of names q) j n.1 n.2 refl
+          rw (marked_mark names p q m on is) (marked_named (is_at (name_cmp p) q) w m n.0
+          (mark_of names q) j n.1 n.2 refl
           (λ t. some_inj m n.0 (sym is ∙ (mark_by_name names p q (same_name p q t) ∙ n.1))));
       known = λ q n k.
           ⊎_elim
@@ -192,7 +217,8 @@ recalled_shelf ids names h = record {
       (r.0, ap (λ x. piece_at ids x) (sym m.2) ∙ r.1, r.2);
 }
 
-pub recalled_view : (ids : Ids) (names : Names) → IsShelf ids names → entries_of ids (all_off names) ≡ map (with_lease false) (entries_of ids names)
+pub recalled_view : (ids : Ids) (names : Names) → IsShelf ids names
+    → entries_of ids (all_off names) ≡ map (with_lease false) (entries_of ids names)
 recalled_view ids names h =
     views (with_lease false) ids names (all_off names) (λ k d l.
     let e = get_or ids k d in

@@ -46,7 +46,8 @@ members_of es rs d = count_by (λ e. is_member e.piece d) es + count_by (λ r. i
 
 -- how many of the names the list of truth values begins with
 abbrev pub names_before : List EntryData → List RegionData → List (List Bool) → List Bool → ℕ
-names_before es rs ns t = count_by (λ e. is_prefix e.piece.name t) es + count_by (λ r. is_prefix r.name t) rs + count_by (λ n. is_prefix n t) ns
+names_before es rs ns t = count_by (λ e. is_prefix e.piece.name t) es + count_by (λ r. is_prefix r.name t) rs
+    + count_by (λ n. is_prefix n t) ns
 
 -- each id is below all later ones
 abbrev pub IsRising : List EntryData → Type 0
@@ -105,7 +106,13 @@ pub record IsKept (b : BookData) (next : ℕ) : Type 0 where
 
 -- what is counted of a book
 abbrev pub counts_of : BookData → Counts
-counts_of b = record { left = length b.outstanding; settled = length b.regions; emptied = length b.emptied; splits = b.splits; commits = b.commits }
+counts_of b = record {
+  left = length b.outstanding;
+  settled = length b.regions;
+  emptied = length b.emptied;
+  splits = b.splits;
+  commits = b.commits;
+}
 
 -- regions in name order
 abbrev pub IsInNameOrder : List RegionData → Type 0

@@ -10,7 +10,8 @@ use Rattle.sf_book.specs.declared.fault.Fault.{Fault}
 use Rattle.sf_book.specs.declared.fault.Fault.TheVariants.{Foreign, Stale, Spent, Memory}
 
 -- what holds of all entries holds of the one under an id
-all_at : (P : EntryData → Type 0) (es : List EntryData) (id : ℕ) (e : EntryData) → All P es → entry_at id es ≡ Some e → P e
+all_at : (P : EntryData → Type 0) (es : List EntryData) (id : ℕ) (e : EntryData) → All P es
+    → entry_at id es ≡ Some e → P e
 all_at P [] id e h at = absurd cc
 all_at P (x ∷ es) id e h at = by (x.id == id) at (All-head P x es h) (λ k. all_at P es id e (All-tail P x es h) k)
   where
@@ -19,17 +20,21 @@ all_at P (x ∷ es) id e h at = by (x.id == id) at (All-head P x es h) (λ k. al
     by false at here rest = rest at
 
 -- the entry under an id, with another mark
-leased_at : (es : List EntryData) (id : ℕ) (e : EntryData) → entry_at id es ≡ Some e → entry_at id (map (with_lease_at id true) es) ≡ Some (with_lease_at id true e)
+leased_at : (es : List EntryData) (id : ℕ) (e : EntryData) → entry_at id es ≡ Some e
+    → entry_at id (map (with_lease_at id true) es) ≡ Some (with_lease_at id true e)
 leased_at [] id e at = absurd cc
 leased_at (x ∷ es) id e at = by (x.id == id) at (λ k. leased_at es id e k)
   where
-    by : (b : Bool) → cond b (Some x) (entry_at id es) ≡ Some e → (entry_at id es ≡ Some e → entry_at id (map (with_lease_at id true) es) ≡ Some (with_lease_at id true e))
-        → cond b (Some (with_lease_at id true x)) (entry_at id (map (with_lease_at id true) es)) ≡ Some (with_lease_at id true e)
+    by : (b : Bool) → cond b (Some x) (entry_at id es) ≡ Some e
+        → (entry_at id es ≡ Some e → entry_at id (map (with_lease_at id true) es) ≡ Some (with_lease_at id true e))
+        → cond b (Some (with_lease_at id true x)) (entry_at id (map (with_lease_at id true) es))
+        ≡ Some (with_lease_at id true e)
     by true at rest = ap (λ k. Some (with_lease_at id true k)) (same_Some x e at)
     by false at rest = rest at
 
 -- the work of the leased piece may be committed
-pub lease_may_commit : (b c : BookData) (id : ℕ) (p : PieceData) (w : WorkData) → IsLawful b → Leases b id p c → w.piece ≡ p → MayCommit c id w
+pub lease_may_commit : (b c : BookData) (id : ℕ) (p : PieceData) (w : WorkData) → IsLawful b → Leases b id p c
+    → w.piece ≡ p → MayCommit c id w
 lease_may_commit b c id p w h l is =
     let e : EntryData = record { id = id; piece = p; leased = false } in
     let o : IsOutstanding b.stack e = all_at (IsOutstanding b.stack) b.outstanding id e h.outstanding l.there in
@@ -41,14 +46,16 @@ lease_may_commit b c id p w h l is =
     })
 
 -- what may be committed within the budget is refused only for want of memory
-pub only_memory : (b : BookData) (id : ℕ) (w : WorkData) (f : Fault) → MayCommit b id w → b.commits < b.budget → Refuses b id w f → f ≡ Memory
+pub only_memory : (b : BookData) (id : ℕ) (w : WorkData) (f : Fault) → MayCommit b id w → b.commits < b.budget
+    → Refuses b id w f → f ≡ Memory
 only_memory b id w Foreign m room r = absurd (r m.same_stack)
 only_memory b id w Stale m room r = let k = rw m.there at r.1 in absurd (k (sym m.same_name))
 only_memory b id w Spent m room r = let k = r.1 in absurd (omega arith)
 only_memory b id w Memory m room r = refl
 
 -- within the budget the work of the leased piece is refused only for want of memory
-pub lease_refused : (b c : BookData) (id : ℕ) (p : PieceData) (w : WorkData) (f : Fault) → IsLawful b → Leases b id p c → w.piece ≡ p → (b.commits ≡ b.budget → ⊥) → Refuses c id w f → f ≡ Memory
+pub lease_refused : (b c : BookData) (id : ℕ) (p : PieceData) (w : WorkData) (f : Fault) → IsLawful b → Leases b id p c
+    → w.piece ≡ p → (b.commits ≡ b.budget → ⊥) → Refuses c id w f → f ≡ Memory
 lease_refused b c id p w f h l is unspent r =
     let commits : c.commits ≡ b.commits = ap (λ (x : BookData). x.commits) l.after in
     let budget : c.budget ≡ b.budget = ap (λ (x : BookData). x.budget) l.after in

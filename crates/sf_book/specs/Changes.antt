@@ -59,7 +59,8 @@ abbrev pub CommitsAs : BookData → ℕ → PieceData → List Bool → StepData
 CommitsAs b id p n (Split f t) (Some ids) c =
     AreNewIds b.outstanding ids.0 ids.1
     × (c ≡ record b {
-      outstanding = without id b.outstanding ++ (record { id = ids.0; piece = f; leased = true } ∷ record { id = ids.1; piece = t; leased = true } ∷ []);
+      outstanding = without id b.outstanding ++ (record { id = ids.0; piece = f; leased = true }
+          ∷ record { id = ids.1; piece = t; leased = true } ∷ []);
       splits = b.splits + 1;
       commits = b.commits + 1;
     })

@@ -15,8 +15,8 @@ pub record HasMembers (b : BookData) : Type 0 where
   pub regions : All (λ (r : RegionData). HasMember r.piece) b.regions
   pub emptied : b.emptied ≡ []
 
--- The regions have exactly these names, in this order. There was one split fewer than there are regions, each commit was a
--- split or settled a region, and no piece was emptied.
+-- The regions have exactly these names, in this order. There was one split fewer than there are regions, each commit
+-- was a split or settled a region, and no piece was emptied.
 pub record IsWorkedOff (b : BookData) (traces : List (List Bool)) : Type 0 where
   pub names : map (λ (r : RegionData). r.name) b.regions ≡ traces
   pub splits : b.splits + 1 ≡ length traces

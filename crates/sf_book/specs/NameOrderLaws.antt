@@ -25,7 +25,9 @@ before m n low other = by (cmp m n) (cmp n m) refl (names_total.antisymm n m) lo
     by Greater p e r low = let k = r ∙ ap ordering_reverse e in let l = sym (ap is_lt k) ∙ low in absurd cc
 
 -- names in order of which no list begins with two are strictly in order
-pub strictly_in_order : (rs : List RegionData) → IsInNameOrder rs → ((t : List Bool) → sum_by (λ (r : RegionData). hits r.name t) rs ≤ 1) → AreInNameOrder (map (λ (r : RegionData). r.name) rs)
+pub strictly_in_order : (rs : List RegionData) → IsInNameOrder rs
+    → ((t : List Bool) → sum_by (λ (r : RegionData). hits r.name t) rs ≤ 1)
+    → AreInNameOrder (map (λ (r : RegionData). r.name) rs)
 unfolding IsStrictlySortedBy
 strictly_in_order [] order few = tt
 strictly_in_order (r ∷ []) order few = (tt, tt)
@@ -33,7 +35,8 @@ strictly_in_order (r ∷ q ∷ rs) order few =
     let all = λ (t : List Bool). sum_by-cons (λ (r : RegionData). hits r.name t) r (q ∷ rs) in
     let more = λ (t : List Bool). sum_by-cons (λ (r : RegionData). hits r.name t) q rs in
     let rest = strictly_in_order (q ∷ rs)
-    (λ k d low less. let o = order (suc k) d (omega arith) (omega arith) in let e : suc k + 1 ≡ suc (k + 1) = omega arith in rw e at o)
+    (λ k d low less. let o = order (suc k) d (omega arith) (omega arith) in
+    let e : suc k + 1 ≡ suc (k + 1) = omega arith in rw e at o)
     (λ t. let a = all t in let f = few t in omega arith) in
     let other : r.name ≡ q.name → ⊥ = λ e.
     let a = all r.name in

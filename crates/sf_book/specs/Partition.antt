@@ -10,7 +10,8 @@ parts_of b = map (λ (e : EntryData). e.piece) b.outstanding ++ map (λ (r : Reg
 
 -- the names of a book: of outstanding pieces, of regions, and of pieces without a member
 abbrev pub names_of : BookData → List (List Bool)
-names_of b = map (λ (e : EntryData). e.piece.name) b.outstanding ++ map (λ (r : RegionData). r.name) b.regions ++ b.emptied
+names_of b = map (λ (e : EntryData). e.piece.name) b.outstanding
+    ++ map (λ (r : RegionData). r.name) b.regions ++ b.emptied
 
 -- the input is a member of the piece at one place, and of no other
 pub record LiesInOne (pieces : List PieceData) (d : Input) : Type 0 where
@@ -22,4 +23,5 @@ pub record LiesInOne (pieces : List PieceData) (d : Input) : Type 0 where
 
 -- no name begins the name at another place
 pub record NoneBeginsAnother (names : List (List Bool)) : Type 0 where
-  pub one_place : (i j : ℕ) (m n : List Bool) → slice_get names i ≡ Some m → slice_get names j ≡ Some n → is_prefix m n ≡ true → i ≡ j
+  pub one_place : (i j : ℕ) (m n : List Bool) → slice_get names i ≡ Some m → slice_get names j ≡ Some n
+      → is_prefix m n ≡ true → i ≡ j

@@ -19,7 +19,8 @@ hits n t = bit (is_prefix n t)
 
 module _ {A : Type 0} (p : A → Bool) where
   -- where the count is 0 there is none
-  none_there : (xs : List A) → sum_by (λ x. bit (p x)) xs ≡ 0 → (j : ℕ) (y : A) → slice_get xs j ≡ Some y → p y ≡ true → ⊥
+  none_there : (xs : List A) → sum_by (λ x. bit (p x)) xs ≡ 0 → (j : ℕ) (y : A) → slice_get xs j ≡ Some y
+      → p y ≡ true → ⊥
   none_there [] zeros j y at hit = cc
   none_there (x ∷ xs) zeros zero y at hit =
       let all = sum_by-cons (λ x. bit (p x)) x xs in
@@ -30,7 +31,8 @@ module _ {A : Type 0} (p : A → Bool) where
       none_there xs (omega arith) j y at hit
 
   -- where the count is at most 1 there is no second one
-  pub no_second : (xs : List A) → sum_by (λ x. bit (p x)) xs ≤ 1 → (i j : ℕ) (x y : A) → slice_get xs i ≡ Some x → slice_get xs j ≡ Some y → p x ≡ true → p y ≡ true → i ≡ j
+  pub no_second : (xs : List A) → sum_by (λ x. bit (p x)) xs ≤ 1 → (i j : ℕ) (x y : A) → slice_get xs i ≡ Some x
+      → slice_get xs j ≡ Some y → p x ≡ true → p y ≡ true → i ≡ j
   no_second [] few i j x y at at' hit hit' = cc
   no_second (z ∷ xs) few zero zero x y at at' hit hit' = refl
   no_second (z ∷ xs) few zero (suc j) x y at at' hit hit' =
@@ -46,11 +48,13 @@ module _ {A : Type 0} (p : A → Bool) where
       ap suc (no_second xs (omega arith) i j x y at at' hit hit')
 
   -- where the count is not 0 there is one
-  pub some_there : (xs : List A) → 1 ≤ sum_by (λ x. bit (p x)) xs → (i : ℕ) × (x : A) × (slice_get xs i ≡ Some x) × (p x ≡ true)
+  pub some_there : (xs : List A) → 1 ≤ sum_by (λ x. bit (p x)) xs → (i : ℕ) × (x : A)
+      × (slice_get xs i ≡ Some x) × (p x ≡ true)
   some_there [] some = absurd (omega arith)
   some_there (x ∷ xs) some = by (p x) refl (λ k. some_there xs k)
     where
-      by : (b : Bool) → p x ≡ b → (1 ≤ sum_by (λ x. bit (p x)) xs → (i : ℕ) × (y : A) × (slice_get xs i ≡ Some y) × (p y ≡ true)) → (i : ℕ) × (y : A) × (slice_get (x ∷ xs) i ≡ Some y) × (p y ≡ true)
+      by : (b : Bool) → p x ≡ b → (1 ≤ sum_by (λ x. bit (p x)) xs → (i : ℕ) × (y : A) × (slice_get xs i ≡ Some y)
+          × (p y ≡ true)) → (i : ℕ) × (y : A) × (slice_get (x ∷ xs) i ≡ Some y) × (p y ≡ true)
       by true is rest = (zero, x, refl, is)
       by false is rest =
           let all = sum_by-cons (λ x. bit (p x)) x xs in
@@ -60,7 +64,8 @@ module _ {A : Type 0} (p : A → Bool) where
 
 sum_by-map : {A B : Type 0} (f : B → ℕ) (g : A → B) (xs : List A) → sum_by f (map g xs) ≡ sum_by (λ x. f (g x)) xs
 sum_by-map f g [] = refl
-sum_by-map f g (x ∷ xs) = sum_by-cons f (g x) (map g xs) ∙ (ap (λ k. f (g x) + k) (sum_by-map f g xs) ∙ sym (sum_by-cons (λ x. f (g x)) x xs))
+sum_by-map f g (x ∷ xs) = sum_by-cons f (g x) (map g xs)
+    ∙ (ap (λ k. f (g x) + k) (sum_by-map f g xs) ∙ sym (sum_by-cons (λ x. f (g x)) x xs))
 
 -- each input lies in exactly one outstanding piece or region of a lawful book
 pub lies_in_one : (b : BookData) → IsLawful b → (d : Input) → IsInput d → LiesInOne (parts_of b) d
@@ -69,8 +74,10 @@ lies_in_one b h d n =
     let es = map (λ (e : EntryData). e.piece) b.outstanding in
     let rs = map (λ (r : RegionData). r.piece) b.regions in
     let both : sum_by m (es ++ rs) ≡ sum_by m es + sum_by m rs = sum_by-append m es rs in
-    let left : sum_by m es ≡ sum_by (λ (e : EntryData). m e.piece) b.outstanding = sum_by-map m (λ (e : EntryData). e.piece) b.outstanding in
-    let right : sum_by m rs ≡ sum_by (λ (r : RegionData). m r.piece) b.regions = sum_by-map m (λ (r : RegionData). r.piece) b.regions in
+    let left : sum_by m es ≡ sum_by (λ (e : EntryData). m e.piece) b.outstanding =
+    sum_by-map m (λ (e : EntryData). e.piece) b.outstanding in
+    let right : sum_by m rs ≡ sum_by (λ (r : RegionData). m r.piece) b.regions =
+    sum_by-map m (λ (r : RegionData). r.piece) b.regions in
     let one = h.one d n in
     let r = some_there (λ p. is_member p d) (es ++ rs) (omega arith) in
     record {
@@ -94,10 +101,13 @@ none_begins_another b h = record {
       let f : List Bool → ℕ = λ k. bit (is_prefix k n) in
       let es = map (λ (e : EntryData). e.piece.name) b.outstanding in
       let rs = map (λ (r : RegionData). r.name) b.regions in
-      let all : sum_by f (es ++ rs ++ b.emptied) ≡ sum_by f (es ++ rs) + sum_by f b.emptied = sum_by-append f (es ++ rs) b.emptied in
+      let all : sum_by f (es ++ rs ++ b.emptied) ≡ sum_by f (es ++ rs) + sum_by f b.emptied =
+      sum_by-append f (es ++ rs) b.emptied in
       let both : sum_by f (es ++ rs) ≡ sum_by f es + sum_by f rs = sum_by-append f es rs in
-      let left : sum_by f es ≡ sum_by (λ (e : EntryData). f e.piece.name) b.outstanding = sum_by-map f (λ (e : EntryData). e.piece.name) b.outstanding in
-      let right : sum_by f rs ≡ sum_by (λ (r : RegionData). f r.name) b.regions = sum_by-map f (λ (r : RegionData). r.name) b.regions in
+      let left : sum_by f es ≡ sum_by (λ (e : EntryData). f e.piece.name) b.outstanding =
+      sum_by-map f (λ (e : EntryData). e.piece.name) b.outstanding in
+      let right : sum_by f rs ≡ sum_by (λ (r : RegionData). f r.name) b.regions =
+      sum_by-map f (λ (r : RegionData). r.name) b.regions in
       let apart = h.apart n in
       no_second (λ k. is_prefix k n) (es ++ rs ++ b.emptied) (omega arith) i j m n at at' begins (prefix-refl n);
 }

@@ -18,6 +18,7 @@ use Rattle.sf_book.specs.declared.shelf.Mark.{Mark}
 abbrev pub name_cmp : PieceData → PieceData → Ordering
 name_cmp p q = slice_cmp bool_cmp p.name q.name
 
+-- that order is total
 pub name_total : IsTotalOrder name_cmp
 name_total = on_total (λ (p : PieceData). p.name) names_total
 
@@ -35,7 +36,11 @@ mark_of names p = lookup (is_at (name_cmp p)) names
 
 -- an outstanding piece, with its mark
 abbrev pub entry_of : List (PieceData × Mark) → ℕ × PieceData → EntryData
-entry_of names e = record { id = e.0; piece = e.1; leased = option_map_or (λ (m : Mark). m.leased) (mark_of names e.1) true }
+entry_of names e = record {
+  id = e.0;
+  piece = e.1;
+  leased = option_map_or (λ (m : Mark). m.leased) (mark_of names e.1) true;
+}
 
 -- the outstanding pieces, in the order of their ids
 abbrev pub entries_of : List (ℕ × PieceData) → List (PieceData × Mark) → List EntryData
@@ -46,7 +51,8 @@ pub record IsShelf (ids : List (ℕ × PieceData)) (names : List (PieceData × M
   pub rising : IsStrictlySortedBy nat_cmp (keys_of ids)
   pub sorted : IsStrictlySortedBy name_cmp (keys_of names)
   pub named : (i : ℕ) (p : PieceData) → piece_at ids i ≡ Some p → (m : Mark) × (mark_of names p ≡ Some m) × (m.id ≡ i)
-  pub known : (q : PieceData) (m : Mark) → mark_of names q ≡ Some m → (p : PieceData) × (piece_at ids m.id ≡ Some p) × (p.name ≡ q.name)
+  pub known : (q : PieceData) (m : Mark) → mark_of names q ≡ Some m → (p : PieceData) × (piece_at ids m.id ≡ Some p)
+      × (p.name ≡ q.name)
 
 -- the first free piece is put on lease
 pub record LeasesEntry (es : List EntryData) (id : ℕ) (p : PieceData) (fs : List EntryData) : Type 0 where

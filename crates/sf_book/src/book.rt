@@ -39,7 +39,9 @@ pub struct Counts {
 /// A piece to work on, and the id under which it is outstanding.
 #[derive(Drop)]
 pub struct Lease {
+    /// What the book knows the piece by; no other outstanding piece has it.
     pub id: u64,
+    /// The piece, which the book and its lease share.
     pub piece: Arc<Piece>,
 }
 
@@ -62,16 +64,33 @@ impl Model for Book {
 
     ghost Value = { BookData };
 
-    ghost view = { λ b. record { stack = b.stack.value; outstanding = b.outstanding; regions = b.regions.items; emptied = b.emptied.items; splits = b.splits; commits = b.commits; budget = b.budget } };
+    ghost view = { λ b. record {
+      stack = b.stack.value;
+      outstanding = b.outstanding;
+      regions = b.regions.items;
+      emptied = b.emptied.items;
+      splits = b.splits;
+      commits = b.commits;
+      budget = b.budget;
+    } };
 
-    ghost invariant = { λ b. IsBook (record { stack = b.stack.value; outstanding = b.outstanding; regions = b.regions.items; emptied = b.emptied.items; splits = b.splits; commits = b.commits; budget = b.budget }) b.next_id };
+    ghost invariant = { λ b. IsBook (record {
+      stack = b.stack.value;
+      outstanding = b.outstanding;
+      regions = b.regions.items;
+      emptied = b.emptied.items;
+      splits = b.splits;
+      commits = b.commits;
+      budget = b.budget;
+    }) b.next_id };
 }
 
 impl Book {
     /// A new book of the stack, with the piece of all inputs outstanding, that takes so many works in all, 0 to
     /// 2^32 - 1. `Memory` where a growth is refused.
     pub fn open(alloc: Global, stack: Arc<Stack>, budget: u32) -> Result<Book, Fault>
-        ensures ok { IfOk result (λ b. (r : PieceData) × IsRoot (arc_value stack) r × (b ≡ fresh (arc_value stack) r budget)) }
+        ensures ok { IfOk result (λ b. (r : PieceData) × IsRoot (arc_value stack) r
+            × (b ≡ fresh (arc_value stack) r budget)) }
         ensures err { IfErr result (λ f. f ≡ Memory) }
     {
         let _programs = stack.programs();
@@ -119,7 +138,9 @@ impl Book {
     /// Puts the piece with the first name among those not on lease on lease, and answers it; `None` where all are on
     /// lease. `Memory` where a growth is refused: the book is unchanged then.
     pub fn lease(&mut self) -> Result<Option<Lease>, Fault>
-        ensures ok { IfOk result (λ l. MatchOption l ((self.new ≡ self.old) × All (λ e. e.leased ≡ true) self.old.outstanding) (λ l. Leases self.old l.id (arc_value l.piece) self.new)) }
+        ensures ok { IfOk result (λ l. MatchOption l ((self.new ≡ self.old)
+            × All (λ e. e.leased ≡ true) self.old.outstanding)
+            (λ l. Leases self.old l.id (arc_value l.piece) self.new)) }
         ensures err { IfErr result (λ f. (f ≡ Memory) × (self.new ≡ self.old)) }
     {
         let Some((id, piece)) = self.outstanding.lease()? else {
@@ -130,14 +151,20 @@ impl Book {
 
     /// Takes the piece under the id off lease. An id that is not outstanding changes nothing.
     pub fn give_back(&mut self, id: u64)
-        ensures { self.new ≡ record self.old { outstanding = map (with_lease_at id false) self.old.outstanding } }
+        ensures { self.new ≡ record self.old {
+          outstanding = map
+              (with_lease_at id false) self.old.outstanding;
+        } }
     {
         self.outstanding.give_back(id);
     }
 
     /// Takes all pieces off lease.
     pub fn recall(&mut self)
-        ensures { self.new ≡ record self.old { outstanding = map (with_lease false) self.old.outstanding } }
+        ensures { self.new ≡ record self.old {
+          outstanding = map
+              (with_lease false) self.old.outstanding;
+        } }
     {
         self.outstanding.recall();
     }
@@ -149,7 +176,9 @@ impl Book {
     /// no piece is outstanding under the id, or one with another name; `Spent` where the budget is spent; `Memory`
     /// where a growth is refused.
     pub fn commit(&mut self, id: u64, work: Work) -> Result<Option<(u64, u64)>, Fault>
-        ensures ok { IfOk result (λ ids. MayCommit self.old id work × (self.old.commits < self.old.budget) × CommitsAs self.old id work.piece work.name work.step ids self.new) }
+        ensures ok { IfOk result (λ ids. MayCommit self.old id work
+            × (self.old.commits < self.old.budget)
+            × CommitsAs self.old id work.piece work.name work.step ids self.new) }
         ensures err { IfErr result (λ f. Refuses self.old id work f × (self.new ≡ self.old)) }
     {
         self.admit(id, &work)?;
@@ -158,7 +187,8 @@ impl Book {
 
     /// Refuses a work that isn't of the piece under the id, or comes when the budget is spent.
     fn admit(&self, id: u64, work: &Work) -> Result<(), Fault>
-        ensures ok { OnOk result (MayCommit self.now id work.now × (self.now.commits < self.now.budget)) }
+        ensures ok { OnOk result (MayCommit self.now id work.now
+            × (self.now.commits < self.now.budget)) }
         ensures err { IfErr result (λ f. Refuses self.now id work.now f) }
     {
         if !is_of(work, &self.stack) {
@@ -180,7 +210,8 @@ impl Book {
     fn replace(&mut self, id: u64, work: Work) -> Result<Option<(u64, u64)>, Fault>
         requires may { MayCommit self.old id work }
         requires room { self.old.commits < self.old.budget }
-        ensures ok { IfOk result (λ ids. CommitsAs self.old id work.piece work.name work.step ids self.new) }
+        ensures ok { IfOk result (λ ids. CommitsAs self.old id work.piece work.name
+            work.step ids self.new) }
         ensures err { IfErr result (λ f. (f ≡ Memory) × (self.new ≡ self.old)) }
     {
         let next = self.next_id;

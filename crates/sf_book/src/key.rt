@@ -61,7 +61,8 @@ impl Eq for Named {
 impl PartialOrd for Named {
     ghost partial_cmp = { λ x y. Some (name_cmp x y) };
 
-    ghost laws = { partial_order_from_agreeing_total name_cmp name_total (λ x y. refl) (λ x y. name_ties x y) };
+    ghost laws = { partial_order_from_agreeing_total name_cmp name_total (λ x y. refl)
+        (λ x y. name_ties x y) };
 
     fn partial_cmp(&self, other: &Named) -> Option<Ordering> {
         Some(self.cmp(other))

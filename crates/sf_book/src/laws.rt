@@ -44,6 +44,7 @@ pub fn what_is_left_took_fewer_works()
 /// An ended exploration has nothing outstanding exactly where its budget was enough.
 #[tactic(auto, using(crate::specs::ExactLaws::enough))]
 pub fn a_budget_is_enough_or_not()
-    ensures { (b : BookData) → IsSettled b → HasMembers b → (b.outstanding ≡ []) ⊎ (b.commits ≡ b.budget) →
+    ensures { (b : BookData) → IsSettled b → HasMembers b → (b.outstanding ≡ [])
+        ⊎ (b.commits ≡ b.budget) →
         (b.outstanding ≡ []) ↔ (2 * length (feasible_traces b.stack) ≤ b.budget + 1) }
 {}

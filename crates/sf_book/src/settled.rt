@@ -36,9 +36,25 @@ impl Model for Settled {
 
     ghost Value = { BookData };
 
-    ghost view = { λ b. record { stack = b.stack.value; outstanding = b.outstanding; regions = b.regions.items; emptied = b.emptied.items; splits = b.splits; commits = b.commits; budget = b.budget } };
+    ghost view = { λ b. record {
+      stack = b.stack.value;
+      outstanding = b.outstanding;
+      regions = b.regions.items;
+      emptied = b.emptied.items;
+      splits = b.splits;
+      commits = b.commits;
+      budget = b.budget;
+    } };
 
-    ghost invariant = { λ b. IsClosed (record { stack = b.stack.value; outstanding = b.outstanding; regions = b.regions.items; emptied = b.emptied.items; splits = b.splits; commits = b.commits; budget = b.budget }) };
+    ghost invariant = { λ b. IsClosed (record {
+      stack = b.stack.value;
+      outstanding = b.outstanding;
+      regions = b.regions.items;
+      emptied = b.emptied.items;
+      splits = b.splits;
+      commits = b.commits;
+      budget = b.budget;
+    }) };
 }
 
 impl Settled {
@@ -81,7 +97,8 @@ impl Settled {
     /// The piece that is left at this place in the order of ids.
     pub fn outstanding(&self, i: usize) -> &Arc<Piece>
         requires { i < length self.now.outstanding }
-        ensures value { slice_get (map (λ (e : EntryData). e.piece) self.now.outstanding) i ≡ Some (arc_value result.now) }
+        ensures value { slice_get (map (λ (e : EntryData). e.piece) self.now.outstanding) i
+            ≡ Some (arc_value result.now) }
         ensures lawful { IsSettled self.now }
     {
         self.outstanding.at(i)

@@ -49,7 +49,11 @@ impl Model for Shelf {
 impl Shelf {
     /// One piece, which is not on lease.
     pub(crate) fn open(alloc: Global, id: u64, piece: Arc<Piece>) -> Result<Shelf, Fault>
-        ensures ok { IfOk result (λ s. s ≡ record { id = id; piece = arc_value piece; leased = false } ∷ []) }
+        ensures ok { IfOk result (λ s. s ≡ record {
+          id = id;
+          piece = arc_value piece;
+          leased = false;
+        } ∷ []) }
         ensures err { IfErr result (λ f. f ≡ Memory) }
     {
         let mut shelf = Shelf {
@@ -69,7 +73,12 @@ impl Shelf {
 
     /// The piece under the id.
     pub(crate) fn piece(&self, id: u64) -> Option<&Arc<Piece>>
-        ensures { MatchOption result (entry_at id self.now ≡ None) (λ p. (on : Bool) × (entry_at id self.now ≡ Some (record { id = id; piece = arc_value p.now; leased = on }))) }
+        ensures { MatchOption result (entry_at id self.now ≡ None) (λ p. (on : Bool)
+            × (entry_at id self.now ≡ Some (record {
+              id = id;
+              piece = arc_value p.now;
+              leased = on;
+            }))) }
     {
         match self.by_id.get(&id) {
             Some(named) => Some(named.piece()),
@@ -80,14 +89,17 @@ impl Shelf {
     /// The piece at this place in the order of ids.
     pub(crate) fn at(&self, i: usize) -> &Arc<Piece>
         requires { i < length self.now }
-        ensures { slice_get (map (λ (e : EntryData). e.piece) self.now) i ≡ Some (arc_value result.now) }
+        ensures { slice_get (map (λ (e : EntryData). e.piece) self.now) i
+            ≡ Some (arc_value result.now) }
     {
         named_at(&self.by_id, i).piece()
     }
 
     /// Puts the piece with the first name among those not on lease on lease.
     pub(crate) fn lease(&mut self) -> Result<Option<(u64, Arc<Piece>)>, Fault>
-        ensures ok { IfOk result (λ l. MatchOption l ((self.new ≡ self.old) × All (λ e. e.leased ≡ true) self.old) (λ l. LeasesEntry self.old l.0 (arc_value l.1) self.new)) }
+        ensures ok { IfOk result (λ l. MatchOption l ((self.new ≡ self.old)
+            × All (λ e. e.leased ≡ true) self.old) (λ l.
+            LeasesEntry self.old l.0 (arc_value l.1) self.new)) }
         ensures err { IfErr result (λ f. (f ≡ Memory) × (self.new ≡ self.old)) }
     {
         let Some(id) = first_free(&self.by_name) else {
@@ -121,7 +133,11 @@ impl Shelf {
     fn add(&mut self, id: u64, piece: Arc<Piece>, leased: bool) -> Result<(), Fault>
         requires above { All (λ e. e.id < id) self.old }
         requires apart { All (λ e. e.piece.name ≢ (arc_value piece).name) self.old }
-        ensures ok { OnOk result (self.new ≡ self.old ++ record { id = id; piece = arc_value piece; leased = leased } ∷ []) }
+        ensures ok { OnOk result (self.new ≡ self.old ++ record {
+          id = id;
+          piece = arc_value piece;
+          leased = leased;
+        } ∷ []) }
         ensures err { IfErr result (λ f. (f ≡ Memory) × (self.new ≡ self.old)) }
     {
         let twin = Named::of(Arc::try_clone(&piece)?);
@@ -155,9 +171,12 @@ impl Shelf {
     ) -> Result<(), Fault>
         requires above { All (λ e. e.id < first) self.old }
         requires ids { (id < first) × (first < second) }
-        requires apart { All (λ e. (e.piece.name ≢ (arc_value f).name) × (e.piece.name ≢ (arc_value t).name)) self.old }
+        requires apart { All (λ e. (e.piece.name ≢ (arc_value f).name)
+            × (e.piece.name ≢ (arc_value t).name)) self.old }
         requires differ { (arc_value f).name ≢ (arc_value t).name }
-        ensures ok { OnOk result (self.new ≡ (without id self.old ++ record { id = first; piece = arc_value f; leased = true } ∷ []) ++ record { id = second; piece = arc_value t; leased = true } ∷ []) }
+        ensures ok { OnOk result (self.new ≡ (without id self.old
+            ++ record { id = first; piece = arc_value f; leased = true } ∷ [])
+            ++ record { id = second; piece = arc_value t; leased = true } ∷ []) }
         ensures err { IfErr result (λ f. (f ≡ Memory) × (self.new ≡ self.old)) }
     {
         self.add(first, f, true)?;
@@ -188,7 +207,8 @@ fn named_at(by_id: &BTreeMap<u64, Named>, i: usize) -> &Named
 /// Puts a piece under an id, or leaves all as it was.
 fn put_id(by_id: &mut BTreeMap<u64, Named>, id: u64, piece: Named) -> Result<(), Fault>
     ensures updates { OnOk result (Updates nat_cmp by_id.old by_id.new id (Some piece)) }
-    ensures entries { OnOk result (by_id.new.entries ≡ insert_entry nat_cmp by_id.old.entries id piece) }
+    ensures entries { OnOk result (by_id.new.entries
+        ≡ insert_entry nat_cmp by_id.old.entries id piece) }
     ensures err { IfErr result (λ f. (f ≡ Memory) × (by_id.new.entries ≡ by_id.old.entries)) }
     ensures ordered { IsOrdered nat_cmp by_id.new }
 {
@@ -215,7 +235,8 @@ fn drop_id(by_id: &mut BTreeMap<u64, Named>, id: u64)
 
 /// The id of the first name that is not on lease.
 fn first_free(by_name: &BTreeMap<Named, Mark>) -> Option<u64>
-    ensures { result ≡ option_map (λ (m : Mark). m.id) (find (λ (m : Mark). not m.leased) (values by_name.now)) }
+    ensures { result ≡ option_map (λ (m : Mark). m.id)
+        (find (λ (m : Mark). not m.leased) (values by_name.now)) }
 {
     by_name
         .values()
@@ -225,7 +246,10 @@ fn first_free(by_name: &BTreeMap<Named, Mark>) -> Option<u64>
 
 /// Marks a name.
 fn set_mark(by_name: &mut BTreeMap<Named, Mark>, named: &Named, leased: bool)
-    ensures { MatchOption (mark_of by_name.old.entries named.now) (by_name.new.entries ≡ by_name.old.entries) (λ m. by_name.new.entries ≡ set_value (is_at (name_cmp named.now)) by_name.old.entries (record { id = m.id; leased = leased })) }
+    ensures { MatchOption (mark_of by_name.old.entries named.now)
+        (by_name.new.entries ≡ by_name.old.entries) (λ m. by_name.new.entries
+        ≡ set_value (is_at (name_cmp named.now)) by_name.old.entries
+        (record { id = m.id; leased = leased })) }
 {
     if let Some(mark) = by_name.get_mut(named) {
         mark.leased = leased;
@@ -234,7 +258,8 @@ fn set_mark(by_name: &mut BTreeMap<Named, Mark>, named: &Named, leased: bool)
 
 /// Marks all names as free.
 fn clear_marks(by_name: &mut BTreeMap<Named, Mark>)
-    ensures { by_name.new.entries ≡ map (λ e. (e.0, record { id = e.1.id; leased = false })) by_name.old.entries }
+    ensures { by_name.new.entries ≡ map (λ e. (e.0, record { id = e.1.id; leased = false }))
+        by_name.old.entries }
 {
     by_name.retain(|_, mark| {
         mark.leased = false;

@@ -35,21 +35,27 @@ set_only n k lt i h z =
 -- ---- masks that are met
 
 -- one mask is met with a set
-met_same : (ms : List ℕ) (p s k : ℕ) → p < length ms → bit_at (get_or (set ms p (bit_and (get_or ms p 0) s)) p 0) k ≡ min (bit_at (get_or ms p 0) k) (bit_at s k)
-met_same ms p s k lt = ap (λ (n : ℕ). bit_at n k) (get_or-set_same ms p (bit_and (get_or ms p 0) s) 0 lt) ∙ bit_at_and (get_or ms p 0) s k
+met_same : (ms : List ℕ) (p s k : ℕ) → p < length ms → bit_at (get_or (set ms p (bit_and (get_or ms p 0) s)) p 0) k
+    ≡ min (bit_at (get_or ms p 0) k) (bit_at s k)
+met_same ms p s k lt = ap (λ (n : ℕ). bit_at n k) (get_or-set_same ms p (bit_and (get_or ms p 0) s) 0 lt)
+    ∙ bit_at_and (get_or ms p 0) s k
 
-met_other : (ms : List ℕ) (p s k q : ℕ) → (q ≡ p → ⊥) → bit_at (get_or (set ms p (bit_and (get_or ms p 0) s)) q 0) k ≡ bit_at (get_or ms q 0) k
+met_other : (ms : List ℕ) (p s k q : ℕ) → (q ≡ p → ⊥) → bit_at (get_or (set ms p (bit_and (get_or ms p 0) s)) q 0) k
+    ≡ bit_at (get_or ms q 0) k
 met_other ms p s k q ne = ap (λ (n : ℕ). bit_at n k) (get_or-set_other ms p q (bit_and (get_or ms p 0) s) 0 ne)
 
 pub length-narrowed : (qs : List ℕ) (s : ℕ) (ms : List ℕ) → length (narrowed qs s ms) ≡ length ms
 length-narrowed [] s ms = refl
-length-narrowed (p ∷ qs) s ms = length-narrowed qs s (set ms p (bit_and (get_or ms p 0) s)) ∙ length-set ms p (bit_and (get_or ms p 0) s)
+length-narrowed (p ∷ qs) s ms = length-narrowed qs s (set ms p (bit_and (get_or ms p 0) s))
+    ∙ length-set ms p (bit_and (get_or ms p 0) s)
 
 -- no bit is added
-met_keeps : (n : ℕ) (qs : List ℕ) (s : ℕ) (ms : List ℕ) (q k : ℕ) → length ms ≡ n → AllBelow n qs → bit_at (get_or (narrowed qs s ms) q 0) k ≡ 1 → bit_at (get_or ms q 0) k ≡ 1
+met_keeps : (n : ℕ) (qs : List ℕ) (s : ℕ) (ms : List ℕ) (q k : ℕ) → length ms ≡ n → AllBelow n qs
+    → bit_at (get_or (narrowed qs s ms) q 0) k ≡ 1 → bit_at (get_or ms q 0) k ≡ 1
 met_keeps n [] s ms q k len below h = h
 met_keeps n (p ∷ qs) s ms q k len below h =
-    let later = met_keeps n qs s (set ms p (bit_and (get_or ms p 0) s)) q k (length-set ms p (bit_and (get_or ms p 0) s) ∙ len) below.1 h in
+    let later = met_keeps n qs s (set ms p (bit_and (get_or ms p 0) s)) q k
+    (length-set ms p (bit_and (get_or ms p 0) s) ∙ len) below.1 h in
     elim (cases_eq q p) [
       | inl e ↦ keeps_here e later
       | inr ne ↦ sym (met_other ms p s k q ne) ∙ later
@@ -58,10 +64,17 @@ met_keeps n (p ∷ qs) s ms q k len below h =
     keeps_here : q ≡ p → bit_at (get_or (set ms p (bit_and (get_or ms p 0) s)) q 0) k ≡ 1 → bit_at (get_or ms q 0) k ≡ 1
     keeps_here e later =
         let there = rw e at later in
-        rw e (omega (arith, met_same ms p s k (omega (arith, below.0)), there, bit_at-lt (get_or ms p 0) k, bit_at-lt s k))
+        rw e (omega (
+          arith,
+          met_same ms p s k (omega (arith, below.0)),
+          there,
+          bit_at-lt (get_or ms p 0) k,
+          bit_at-lt s k,
+        ))
 
 -- a bit that stays at a place that is met is in the set
-met_adds : (n : ℕ) (qs : List ℕ) (s : ℕ) (ms : List ℕ) (q k : ℕ) → length ms ≡ n → AllBelow n qs → Contains qs q → bit_at (get_or (narrowed qs s ms) q 0) k ≡ 1 → bit_at s k ≡ 1
+met_adds : (n : ℕ) (qs : List ℕ) (s : ℕ) (ms : List ℕ) (q k : ℕ) → length ms ≡ n → AllBelow n qs → Contains qs q
+    → bit_at (get_or (narrowed qs s ms) q 0) k ≡ 1 → bit_at s k ≡ 1
 met_adds n [] s ms q k len below c h = absurd (contains_nil q c)
 met_adds n (p ∷ qs) s ms q k len below c h =
     let len' = length-set ms p (bit_and (get_or ms p 0) s) ∙ len in
@@ -76,10 +89,12 @@ met_adds n (p ∷ qs) s ms q k len below c h =
         omega (arith, met_same ms p s k (omega (arith, below.0)), there, bit_at-lt (get_or ms p 0) k, bit_at-lt s k)
 
 -- a bit that is clear was clear, or is met with a set without it
-met_clear : (n : ℕ) (qs : List ℕ) (s : ℕ) (ms : List ℕ) (q k : ℕ) → length ms ≡ n → AllBelow n qs → bit_at (get_or (narrowed qs s ms) q 0) k ≡ 0 → (bit_at (get_or ms q 0) k ≡ 0) ⊎ (Contains qs q × (bit_at s k ≡ 0))
+met_clear : (n : ℕ) (qs : List ℕ) (s : ℕ) (ms : List ℕ) (q k : ℕ) → length ms ≡ n → AllBelow n qs
+    → bit_at (get_or (narrowed qs s ms) q 0) k ≡ 0 → (bit_at (get_or ms q 0) k ≡ 0) ⊎ (Contains qs q × (bit_at s k ≡ 0))
 met_clear n [] s ms q k len below h = inl h
 met_clear n (p ∷ qs) s ms q k len below h =
-    elim (met_clear n qs s (set ms p (bit_and (get_or ms p 0) s)) q k (length-set ms p (bit_and (get_or ms p 0) s) ∙ len) below.1 h) [
+    elim (met_clear n qs s (set ms p (bit_and (get_or ms p 0) s)) q k
+    (length-set ms p (bit_and (get_or ms p 0) s) ∙ len) below.1 h) [
       | inl z ↦ clear_here z (cases_eq q p)
       | inr later ↦ inr (contains_there p qs q later.0, later.1)
     ]
@@ -88,10 +103,12 @@ met_clear n (p ∷ qs) s ms q k len below h =
     split zero b lt e = inl refl
     split (suc a) b lt e = inr (omega arith)
 
-    clear_here : bit_at (get_or (set ms p (bit_and (get_or ms p 0) s)) q 0) k ≡ 0 → (q ≡ p) ⊎ (q ≡ p → ⊥) → (bit_at (get_or ms q 0) k ≡ 0) ⊎ (Contains (p ∷ qs) q × (bit_at s k ≡ 0))
+    clear_here : bit_at (get_or (set ms p (bit_and (get_or ms p 0) s)) q 0) k ≡ 0 → (q ≡ p) ⊎ (q ≡ p → ⊥)
+        → (bit_at (get_or ms q 0) k ≡ 0) ⊎ (Contains (p ∷ qs) q × (bit_at s k ≡ 0))
     clear_here z (inl e) =
         let there = rw e at z in
-        elim (split (bit_at (get_or ms p 0) k) (bit_at s k) (bit_at-lt (get_or ms p 0) k) (sym (met_same ms p s k (omega (arith, below.0))) ∙ there)) [
+        elim (split (bit_at (get_or ms p 0) k) (bit_at s k) (bit_at-lt (get_or ms p 0) k)
+        (sym (met_same ms p s k (omega (arith, below.0))) ∙ there)) [
           | inl a ↦ inl (rw e a)
           | inr b ↦ inr (contains_here p qs q (sym e), b)
         ]
@@ -114,15 +131,18 @@ path_goes_up code q (p ∷ earlier) path = successor_after p path.0.0 q path.0.2
 -- bit for one that some path has not set, and no load below is of a word that may not be set.
 pub record Known (code : List Insn) (masks : List ℕ) (place : ℕ) : Type 0 where
   pub size : length masks ≡ length code
-  pub sound : (q k : ℕ) (earlier : List ℕ) → bit_at (get_or masks q 0) k ≡ 1 → ComesFromBelow place earlier → IsPath code (q ∷ earlier) → Any (Stores code k) earlier
-  pub complete : (q k : ℕ) → q < length code → k < 16 → bit_at (get_or masks q 0) k ≡ 0 → (earlier : List ℕ) × IsPath code (q ∷ earlier) × (Any (Stores code k) earlier → ⊥)
+  pub sound : (q k : ℕ) (earlier : List ℕ) → bit_at (get_or masks q 0) k ≡ 1 → ComesFromBelow place earlier
+      → IsPath code (q ∷ earlier) → Any (Stores code k) earlier
+  pub complete : (q k : ℕ) → q < length code → k < 16 → bit_at (get_or masks q 0) k ≡ 0 → (earlier : List ℕ)
+      × IsPath code (q ∷ earlier) × (Any (Stores code k) earlier → ⊥)
   pub all_set : (j : ℕ) → j < place → IsSetAt code j
 
 -- the masks at the start: all words, but none at place 0
 abbrev fresh : ℕ → List ℕ
 fresh n = set (replicate n 65535) 0 0
 
-pub known_start : (code : List Insn) (n : ℕ) → n ≡ length code → 0 < length code → Known code (set (replicate n 65535) 0 0) 0
+pub known_start : (code : List Insn) (n : ℕ) → n ≡ length code → 0 < length code
+    → Known code (set (replicate n 65535) 0 0) 0
 known_start code n n-is some = record {
   size = size;
   sound = sound;
@@ -134,37 +154,53 @@ known_start code n n-is some = record {
     size = length-set {A = ℕ} (replicate {A = ℕ} n 65535) 0 0 ∙ length-replicate {A = ℕ} n 65535 ∙ n-is
 
     first_is : get_or (fresh n) 0 0 ≡ 0
-    first_is = get_or-set_same {A = ℕ} (replicate {A = ℕ} n 65535) 0 0 0 (omega (arith, length-replicate {A = ℕ} n 65535))
+    first_is = get_or-set_same {A = ℕ} (replicate {A = ℕ} n 65535) 0 0 0
+        (omega (arith, length-replicate {A = ℕ} n 65535))
 
-    sound : (q k : ℕ) (earlier : List ℕ) → bit_at (get_or (fresh n) q 0) k ≡ 1 → ComesFromBelow 0 earlier → IsPath code (q ∷ earlier) → Any (Stores code k) earlier
+    sound : (q k : ℕ) (earlier : List ℕ) → bit_at (get_or (fresh n) q 0) k ≡ 1 → ComesFromBelow 0 earlier
+        → IsPath code (q ∷ earlier) → Any (Stores code k) earlier
     sound q k [] h below path =
         let at_first = rw (path, first_is) at h in
         absurd (omega (arith, bit_at-zero k, at_first))
     sound q k (p ∷ earlier) h below path = absurd (omega (arith, below))
 
-    complete : (q k : ℕ) → q < length code → k < 16 → bit_at (get_or (fresh n) q 0) k ≡ 0 → (q ≡ 0) ⊎ (q ≡ 0 → ⊥) → (earlier : List ℕ) × IsPath code (q ∷ earlier) × (Any (Stores code k) earlier → ⊥)
+    complete : (q k : ℕ) → q < length code → k < 16 → bit_at (get_or (fresh n) q 0) k ≡ 0 → (q ≡ 0) ⊎ (q ≡ 0 → ⊥)
+        → (earlier : List ℕ) × IsPath code (q ∷ earlier) × (Any (Stores code k) earlier → ⊥)
     complete q k lt small z (inl e) = ([], e, any_nil (Stores code k))
     complete q k lt small z (inr ne) =
-        let there = rw (get_or-set_other {A = ℕ} (replicate {A = ℕ} n 65535) 0 q 0 0 ne, get_or-replicate {A = ℕ} n q 65535 0 (omega arith)) at z in
+        let there = rw (
+          get_or-set_other {A = ℕ} (replicate {A = ℕ} n 65535) 0 q 0 0 ne,
+          get_or-replicate {A = ℕ} n q 65535 0 (omega arith),
+        ) at z in
         absurd (omega (arith, bit_at_ones 16 k small, there))
 
 -- a load of a word that the mask of its place has
-pub load_is_set : (code : List Insn) (masks : List ℕ) (place : ℕ) (i : Insn) → Known code masks place → IsAt code place i → ((k : ℕ) → loaded_by i ≡ Some k → bit_at (get_or masks place 0) k ≡ 1) → IsSetAt code place
+pub load_is_set : (code : List Insn) (masks : List ℕ) (place : ℕ) (i : Insn) → Known code masks place
+    → IsAt code place i → ((k : ℕ) → loaded_by i ≡ Some k → bit_at (get_or masks place 0) k ≡ 1) → IsSetAt code place
 load_is_set code masks place i known at fine k earlier loads path =
     let same : loads.0 ≡ i = same_Some loads.0 i (sym loads.1 ∙ at) in
     known.sound place k earlier (fine k (ap loaded_by (sym same) ∙ loads.2)) (path_goes_up code place earlier path) path
 
 -- a load of a word that the mask of its place lacks
-pub load_is_unset : (code : List Insn) (masks : List ℕ) (place : ℕ) (i : Insn) (k : ℕ) → Known code masks place → place < length code → IsAt code place i → k < 16 → loaded_by i ≡ Some k → bit_at (get_or masks place 0) k ≡ 0 → IsUnsetAt code place
+pub load_is_unset : (code : List Insn) (masks : List ℕ) (place : ℕ) (i : Insn) (k : ℕ) → Known code masks place
+    → place < length code → IsAt code place i → k < 16 → loaded_by i ≡ Some k → bit_at (get_or masks place 0) k ≡ 0
+    → IsUnsetAt code place
 load_is_unset code masks place i k known lt at small loads z =
     let found = known.complete place k lt small z in
     (k, found.0, (i, at, loads), found.1, found.2)
 
-pub known_step : (code : List Insn) (masks : List ℕ) (place : ℕ) (i : Insn) (after : ℕ) → Known code masks place → place < length code → IsAt code place i → AllBelow (length code) (successors place i) → ((k : ℕ) → loaded_by i ≡ Some k → bit_at (get_or masks place 0) k ≡ 1) → ((k : ℕ) → bit_at (get_or masks place 0) k ≡ 1 → bit_at after k ≡ 1) → ((k : ℕ) → stored_by i ≡ Some k → bit_at after k ≡ 1) → ((k : ℕ) → bit_at after k ≡ 1 → bit_at (get_or masks place 0) k ≡ 0 → stored_by i ≡ Some k) → Known code (narrowed (successors place i) after masks) (place + 1)
+pub known_step : (code : List Insn) (masks : List ℕ) (place : ℕ) (i : Insn) (after : ℕ) → Known code masks place
+    → place < length code → IsAt code place i → AllBelow (length code) (successors place i)
+    → ((k : ℕ) → loaded_by i ≡ Some k → bit_at (get_or masks place 0) k ≡ 1)
+    → ((k : ℕ) → bit_at (get_or masks place 0) k ≡ 1 → bit_at after k ≡ 1)
+    → ((k : ℕ) → stored_by i ≡ Some k → bit_at after k ≡ 1)
+    → ((k : ℕ) → bit_at after k ≡ 1 → bit_at (get_or masks place 0) k ≡ 0 → stored_by i ≡ Some k)
+    → Known code (narrowed (successors place i) after masks) (place + 1)
 known_step code masks place i after known lt at inside fine more stored only = record {
   size = length-narrowed (successors place i) after masks ∙ known.size;
   sound = sound;
-  complete = λ q k q-lt small z. complete q k q-lt small (met_clear (length code) (successors place i) after masks q k known.size inside z);
+  complete = λ q k q-lt small z. complete q k q-lt small
+      (met_clear (length code) (successors place i) after masks q k known.size inside z);
   all_set = λ j j-lt. all_set j (cases_eq j place) j-lt;
 }
   where
@@ -177,25 +213,34 @@ known_step code masks place i after known lt at inside fine more stored only = r
 
     -- the instruction that leads on from here is this one
     here : (q : ℕ) → Leads code place q → Contains (successors place i) q
-    here q leads = subst (λ (j : Insn). Contains (successors place j) q) (same_Some leads.0 i (sym leads.1 ∙ at)) leads.2
+    here q leads = subst (λ (j : Insn). Contains (successors place j) q)
+        (same_Some leads.0 i (sym leads.1 ∙ at)) leads.2
 
-    sound : (q k : ℕ) (earlier : List ℕ) → bit_at (get_or (narrowed (successors place i) after masks) q 0) k ≡ 1 → ComesFromBelow (place + 1) earlier → IsPath code (q ∷ earlier) → Any (Stores code k) earlier
-    sound q k [] h below path = known.sound q k [] (met_keeps (length code) (successors place i) after masks q k known.size inside h) tt path
+    sound : (q k : ℕ) (earlier : List ℕ) → bit_at (get_or (narrowed (successors place i) after masks) q 0) k ≡ 1
+        → ComesFromBelow (place + 1) earlier → IsPath code (q ∷ earlier) → Any (Stores code k) earlier
+    sound q k [] h below path = known.sound q k []
+        (met_keeps (length code) (successors place i) after masks q k known.size inside h) tt path
     sound q k (p ∷ earlier) h below path = from (cases_eq p place)
       where
         from : (p ≡ place) ⊎ (p ≡ place → ⊥) → Any (Stores code k) (p ∷ earlier)
-        from (inr ne) = known.sound q k (p ∷ earlier) (met_keeps (length code) (successors place i) after masks q k known.size inside h) (omega (arith, below)) path
+        from (inr ne) = known.sound q k (p ∷ earlier)
+            (met_keeps (length code) (successors place i) after masks q k known.size inside h)
+            (omega (arith, below)) path
         from (inl e) =
             let leads = subst (λ (x : ℕ). Leads code x q) e path.0 in
             let back = subst (λ (x : ℕ). IsPath code (x ∷ earlier)) e path.1 in
-            let bit_after : bit_at after k ≡ 1 = met_adds (length code) (successors place i) after masks q k known.size inside (here q leads) h in
+            let bit_after : bit_at after k ≡ 1 = met_adds (length code)
+            (successors place i) after masks q k known.size inside (here q leads) h in
             let at_place : Any (Stores code k) (place ∷ earlier) = elim (bits (get_or masks place 0) k) [
               | inl z ↦ any_here (Stores code k) place earlier (i, at, only k bit_after z)
-              | inr one ↦ any_there (Stores code k) place earlier (known.sound place k earlier one (path_goes_up code place earlier back) back)
+              | inr one ↦ any_there (Stores code k) place earlier
+                  (known.sound place k earlier one (path_goes_up code place earlier back) back)
             ] in
             subst (λ (x : ℕ). Any (Stores code k) (x ∷ earlier)) (sym e) at_place
 
-    complete : (q k : ℕ) → q < length code → k < 16 → (bit_at (get_or masks q 0) k ≡ 0) ⊎ (Contains (successors place i) q × (bit_at after k ≡ 0)) → (earlier : List ℕ) × IsPath code (q ∷ earlier) × (Any (Stores code k) earlier → ⊥)
+    complete : (q k : ℕ) → q < length code → k < 16 → (bit_at (get_or masks q 0) k ≡ 0)
+        ⊎ (Contains (successors place i) q × (bit_at after k ≡ 0)) → (earlier : List ℕ) × IsPath code (q ∷ earlier)
+        × (Any (Stores code k) earlier → ⊥)
     complete q k q-lt small (inl z) = known.complete q k q-lt small z
     complete q k q-lt small (inr z) = extend (bits (get_or masks place 0) k)
       where
@@ -206,7 +251,8 @@ known_step code masks place i after known lt at inside fine more stored only = r
               | inr later ↦ none later
             ]
 
-        extend : (bit_at (get_or masks place 0) k ≡ 0) ⊎ (bit_at (get_or masks place 0) k ≡ 1) → (earlier : List ℕ) × IsPath code (q ∷ earlier) × (Any (Stores code k) earlier → ⊥)
+        extend : (bit_at (get_or masks place 0) k ≡ 0) ⊎ (bit_at (get_or masks place 0) k ≡ 1) → (earlier : List ℕ)
+            × IsPath code (q ∷ earlier) × (Any (Stores code k) earlier → ⊥)
         extend (inr one) = absurd (omega (arith, z.1, more k one))
         extend (inl zero') =
             let found = known.complete place k lt small zero' in

@@ -25,7 +25,8 @@ successor_after at (Branch test other t f) q c =
 successor_after at _ q c = omega (arith, only_one (at + 1) q c)
 
 -- the targets of jumps and tests and the return at the end are all that successors need
-pub successors_inside : (code : List Insn) (at : ℕ) (i : Insn) → IsAt code at i → AllBelow (length code) (targets at i) → EndsInReturn code → AllBelow (length code) (successors at i)
+pub successors_inside : (code : List Insn) (at : ℕ) (i : Insn) → IsAt code at i → AllBelow (length code) (targets at i)
+    → EndsInReturn code → AllBelow (length code) (successors at i)
 successors_inside code at i here inside ends = by_kind i here inside
   where
     not_last : (i : Insn) → IsAt code at i → (IsReturn i → ⊥) → at + 1 < length code
@@ -36,7 +37,8 @@ successors_inside code at i here inside ends = by_kind i here inside
           | inr ne ↦ omega arith
         ]
 
-    by_kind : (i : Insn) → IsAt code at i → AllBelow (length code) (targets at i) → AllBelow (length code) (successors at i)
+    by_kind : (i : Insn) → IsAt code at i → AllBelow (length code) (targets at i)
+        → AllBelow (length code) (successors at i)
     by_kind (ReturnConstant k) here inside = tt
     by_kind ReturnA here inside = tt
     by_kind (Jump k) here inside = inside

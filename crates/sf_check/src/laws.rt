@@ -16,7 +16,8 @@ pub fn one_program()
 
 /// The bytes of a filter file spell at most one lawful program.
 pub fn one_program_of_a_file()
-    ensures { (bytes : List ℕ) (a b : List Insn) → SpellsProgram bytes a → SpellsProgram bytes b → a ≡ b }
+    ensures { (bytes : List ℕ) (a b : List Insn) → SpellsProgram bytes a
+        → SpellsProgram bytes b → a ≡ b }
 {
     one_spelling();
 }
@@ -29,5 +30,6 @@ pub fn a_fault_spells_no_lawful_program()
 
 /// Instructions have at most one first fault, so `check` tells the only one.
 pub fn one_first_fault()
-    ensures { (raws : List RawInsn) (e f : Fault) → IsFirstFault raws e → IsFirstFault raws f → e ≡ f }
+    ensures { (raws : List RawInsn) (e f : Fault) → IsFirstFault raws e
+        → IsFirstFault raws f → e ≡ f }
 {}

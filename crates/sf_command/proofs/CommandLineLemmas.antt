@@ -31,18 +31,24 @@ unfolding clap_on_literals command_line
 form_is_free = refl
 
 -- A number that was read of a text of as many bits as it needs, or the usual one where there is no text.
-pub number_read : {E : Type 0} (gives : List ℕ → Result ℕ E → Type 0) (bits greatest usual : ℕ) (text : Option Text) (read : Option ℕ) → greatest < 2 ^ bits
+pub number_read : {E : Type 0} (gives : List ℕ → Result ℕ E → Type 0) (bits greatest usual : ℕ) (text : Option Text)
+    (read : Option ℕ) → greatest < 2 ^ bits
     → (text ≡ None → read ≡ None)
     → ((t : Text) → text ≡ Some t → ReadsOne gives t read)
     → ((bs : List ℕ) (r : Result ℕ E) → gives bs r → ParsesUnsigned bits 10 bs r)
     → IsNumberOf text greatest usual (unwrap_or read usual)
 number_read gives bits greatest usual None read fits none some parses = rw (none refl) refl
-number_read gives bits greatest usual (Some t) (Some n) fits none some parses = λ numeral positive small. (parses t (Ok n) (some t refl)).1
+number_read gives bits greatest usual (Some t) (Some n) fits none some parses =
+    λ numeral positive small. (parses t (Ok n) (some t refl)).1
 number_read gives bits greatest usual (Some t) None fits none some parses =
-    λ numeral positive small. absurd (parses t (Err (some t refl).0) (some t refl).1 (numeral, omega (arith, small, fits)))
+    λ numeral positive small. absurd (parses t (Err (some t refl).0) (some t refl).1 (
+      numeral,
+      omega (arith, small, fits),
+    ))
 
 -- the same of what a parse found
-pub number_found : {E : Type 0} (gives : List ℕ → Result ℕ E → Type 0) (bits greatest usual : ℕ) (f : Found) (id : Text) (read : Option ℕ) → greatest < 2 ^ bits
+pub number_found : {E : Type 0} (gives : List ℕ → Result ℕ E → Type 0) (bits greatest usual : ℕ) (f : Found) (id : Text)
+    (read : Option ℕ) → greatest < 2 ^ bits
     → (one_text f id ≡ None → read ≡ None)
     → ((t : Text) → one_text f id ≡ Some t → ReadsOne gives t read)
     → ((bs : List ℕ) (r : Result ℕ E) → gives bs r → ParsesUnsigned bits 10 bs r)
@@ -51,49 +57,62 @@ number_found gives bits greatest usual f id read fits none some parses =
     rw (← one_text-rows f id) (number_read gives bits greatest usual _ _ fits none some parses)
 
 -- what is read of an option, or of what stands for none
-pub read_or : {X Y : Type 0} (f : X → Y) (o : Option X) (p : Option Y) (x : X) → option_map f o ≡ p → f (unwrap_or o x) ≡ unwrap_or p (f x)
+pub read_or : {X Y : Type 0} (f : X → Y) (o : Option X) (p : Option Y) (x : X) → option_map f o ≡ p
+    → f (unwrap_or o x) ≡ unwrap_or p (f x)
 read_or f None p x e = rw (← e) refl
 read_or f (Some y) p x e = rw (← e) refl
 
 -- where such a number lies outside its range, it is the usual one that stands for it
-pub usual_number : (greatest usual n : ℕ) (text : Option Text) → IsNumberOf text greatest usual n → ((0 < n) × (greatest < n)) ⊎ (n ≤ 0)
+pub usual_number : (greatest usual n : ℕ) (text : Option Text) → IsNumberOf text greatest usual n
+    → ((0 < n) × (greatest < n)) ⊎ (n ≤ 0)
     → IsNumberOf text greatest usual usual
 usual_number greatest usual n None is outside = refl
-usual_number greatest usual n (Some t) is (inl great) = λ numeral some few. absurd (omega (arith, is numeral some few, great.1, few))
-usual_number greatest usual n (Some t) is (inr none) = λ numeral some few. absurd (omega (arith, is numeral some few, none, some))
+usual_number greatest usual n (Some t) is (inl great) =
+    λ numeral some few. absurd (omega (arith, is numeral some few, great.1, few))
+usual_number greatest usual n (Some t) is (inr none) =
+    λ numeral some few. absurd (omega (arith, is numeral some few, none, some))
 
 -- the paths that a parse found
 pub paths_found : (f : Found) (r : Option (Bor (List (Bor Text)))) (none : Bor (List (Bor Text)))
-    → option_map (λ s. map (λ v. v.now) s.now) r ≡ option_map raw_values (matched_of f (codes "filters")) → none.now ≡ []
+    → option_map (λ s. map (λ v. v.now) s.now) r ≡ option_map raw_values
+    (matched_of f (codes "filters")) → none.now ≡ []
     → ArePaths (rows_of f) (unwrap_or r none).now
 paths_found f r none is empty =
-    read_or (λ s. map (λ v. v.now) s.now) r _ none (is ∙ raw_values-rows f (codes "filters")) ∙ ap (λ (vs : List (Bor Text)). unwrap_or (all_of (codes "filters") (rows_of f)) (map (λ v. v.now) vs)) empty
+    read_or (λ s. map (λ v. v.now) s.now) r _ none (is ∙ raw_values-rows f (codes "filters"))
+    ∙ ap (λ (vs : List (Bor Text)). unwrap_or (all_of (codes "filters") (rows_of f)) (map (λ v. v.now) vs)) empty
 
 -- two readings of one thing that may be absent, joined
 pub joined : {X A B : Type 0} (f : X → A) (g : X → B) (o : Option X) (a : A) (b : B) → Some a ≡ option_map f o
-    → Some b ≡ option_map (λ p. p.1) (option_map {U = A × B} (λ x. (f x, g x)) o) → option_map {U = A × B} (λ x. (f x, g x)) o ≡ Some (a, b)
+    → Some b ≡ option_map (λ p. p.1) (option_map {U = A × B} (λ x. (f x, g x)) o)
+    → option_map {U = A × B} (λ x. (f x, g x)) o ≡ Some (a, b)
 joined f g None a b is_a is_b = cc
 joined f g (Some x) a b is_a is_b = cc
 
 -- what a parse by the form reads of the words
-pub told_subcommand : (a : App) (words : List Text) (m : ArgMatches) → a ≡ command_line → HasMatchesOf a words m → subcommand_rows_of m ≡ subcommand_at words
+pub told_subcommand : (a : App) (words : List Text) (m : ArgMatches) → a ≡ command_line → HasMatchesOf a words m
+    → subcommand_rows_of m ≡ subcommand_at words
 unfolding subcommand_at
-told_subcommand a words m is has = (has (ap is_simple is ∙ form_is_simple)).1 ∙ ap (λ (x : App). subcommand_of x words) is
+told_subcommand a words m is has = (has (ap is_simple is ∙ form_is_simple)).1
+    ∙ ap (λ (x : App). subcommand_of x words) is
 
 -- and what it says of the errors that may come
-pub told_errors : (P : Kinds → Type 0) (a : App) (words : List Text) → a ≡ command_line → (is_simple_and_free a ≡ true → P (fault_of a words)) → P (errors_at words)
+pub told_errors : (P : Kinds → Type 0) (a : App) (words : List Text) → a ≡ command_line
+    → (is_simple_and_free a ≡ true → P (fault_of a words)) → P (errors_at words)
 unfolding errors_at
-told_errors P a words is told = subst (λ (x : App). P (fault_of x words)) is (told (ap is_simple_and_free is ∙ form_is_free))
+told_errors P a words is told = subst (λ (x : App). P (fault_of x words)) is
+    (told (ap is_simple_and_free is ∙ form_is_free))
 
 -- an answer to a call for help
 pub helps : (words : List Text) (e : Error) (status : ℕ) (old new : Option Text) → HasKind (errors_at words) e
     → IsHelp (kind_of e) × (status ≡ 0) × WritesText old new → Helps words status old new
-helps words e status old new (inr among) done = record { kind = kind_of e; error = among; help = done.0; told = done.1; written = done.2 }
+helps words e status old new (inr among) done =
+    record { kind = kind_of e; error = among; help = done.0; told = done.1; written = done.2 }
 helps words e status old new (inl memory) (inl help, told, written) = cc
 helps words e status old new (inl memory) (inr version, told, written) = cc
 
 -- an error other than want of memory is one that the words may give
-pub some_error : (words : List Text) (e : Error) → HasKind (errors_at words) e → kind_of e ≢ OutOfMemory → ¬ (errors_at words ≡ [])
+pub some_error : (words : List Text) (e : Error) → HasKind (errors_at words) e → kind_of e ≢ OutOfMemory
+    → ¬ (errors_at words ≡ [])
 some_error words e (inl memory) other none = other memory
 some_error words e (inr among) other none = subst (λ (ks : Kinds). IsAmong (kind_of e) ks) none among
 

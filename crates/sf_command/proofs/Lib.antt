@@ -4,3 +4,4 @@ pub mod ReadLemmas
 pub mod CommandLineLemmas
 pub mod SubcommandLemmas
 pub mod RefusalLemmas
+pub mod TraceLemmas

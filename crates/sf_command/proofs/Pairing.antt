@@ -22,13 +22,16 @@ pub record PairedSoFar {X Y : Type 0} (Holds : X → Y → Type 0) (xs : List X)
 pub paired_none : {X Y : Type 0} (Holds : X → Y → Type 0) (xs : List X) → PairedSoFar Holds xs [] 0
 paired_none Holds xs = record { count = refl; each = λ n x lt. absurd (omega arith) }
 
-pub paired_more : {X Y : Type 0} (Holds : X → Y → Type 0) (xs : List X) (ys ys' : List Y) (place : ℕ) (x : X) (y : Y) → PairedSoFar Holds xs ys place → slice_get xs place ≡ Some x → Holds x y → ys' ≡ ys ++ y ∷ [] → PairedSoFar Holds xs ys' (place + 1)
+pub paired_more : {X Y : Type 0} (Holds : X → Y → Type 0) (xs : List X) (ys ys' : List Y) (place : ℕ) (x : X) (y : Y)
+    → PairedSoFar Holds xs ys place → slice_get xs place ≡ Some x → Holds x y → ys' ≡ ys ++ y ∷ []
+    → PairedSoFar Holds xs ys' (place + 1)
 paired_more {X} {Y} Holds xs ys ys' place x y so_far here holds pushed = rw pushed (record {
   count = length_push ys y ∙ ap (λ (n : ℕ). n + 1) so_far.count;
   each = each;
 })
   where
-    each : (n : ℕ) (a : X) → n < place + 1 → slice_get xs n ≡ Some a → (b : Y) × (slice_get (ys ++ y ∷ []) n ≡ Some b) × Holds a b
+    each : (n : ℕ) (a : X) → n < place + 1 → slice_get xs n ≡ Some a → (b : Y)
+        × (slice_get (ys ++ y ∷ []) n ≡ Some b) × Holds a b
     each n a lt h = elim (cases_eq n place) [
       | inl e ↦
           let same : a ≡ x = same_Some a x (sym h ∙ ap (λ (k : ℕ). slice_get xs k) e ∙ here) in
@@ -38,7 +41,9 @@ paired_more {X} {Y} Holds xs ys ys' place x y so_far here holds pushed = rw push
           (b, get_front ys (y ∷ []) n b at, old)
     ]
 
-pub paired_all : {X Y : Type 0} (Holds Weaker : X → Y → Type 0) (xs : List X) (ys : List Y) (place : ℕ) → ((x : X) (y : Y) → Holds x y → Weaker x y) → PairedSoFar Holds xs ys place → length xs ≤ place → place ≤ length xs → Pairwise Weaker xs ys
+pub paired_all : {X Y : Type 0} (Holds Weaker : X → Y → Type 0) (xs : List X) (ys : List Y) (place : ℕ)
+    → ((x : X) (y : Y) → Holds x y → Weaker x y) → PairedSoFar Holds xs ys place → length xs ≤ place → place ≤ length xs
+    → Pairwise Weaker xs ys
 paired_all Holds Weaker xs ys place weaker so_far over under = record {
   same = omega (arith, so_far.count);
   each = λ n x h.
@@ -48,7 +53,8 @@ paired_all Holds Weaker xs ys place weaker so_far over under = record {
 }
 
 -- the second list, seen through a function
-pub paired_mapped : {X Y Z : Type 0} (Holds : X → Z → Type 0) (view : Y → Z) (xs : List X) (ys : List Y) → Pairwise (λ x y. Holds x (view y)) xs ys → Pairwise Holds xs (map view ys)
+pub paired_mapped : {X Y Z : Type 0} (Holds : X → Z → Type 0) (view : Y → Z) (xs : List X) (ys : List Y)
+    → Pairwise (λ x y. Holds x (view y)) xs ys → Pairwise Holds xs (map view ys)
 paired_mapped {X} {Y} {Z} Holds view xs ys paired = record {
   same = length-map ys view ∙ paired.same;
   each = λ n x h.

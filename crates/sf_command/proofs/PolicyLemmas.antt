@@ -16,7 +16,8 @@ option_cases None = inl refl
 option_cases (Some x) = inr (x, refl)
 
 -- a refusal is want of memory or the one that is due
-fails_due : {X : Type 0} (fault : Fault) (due : Result X Fault) → Fails fault due → (fault ≡ faults.Memory) ⊎ (due ≡ Err fault)
+fails_due : {X : Type 0} (fault : Fault) (due : Result X Fault) → Fails fault due → (fault ≡ faults.Memory)
+    ⊎ (due ≡ Err fault)
 fails_due (faults.Ragged f) due h = inr h
 fails_due (faults.Empty f) due h = inr h
 fails_due (faults.TooLong f) due h = inr h
@@ -43,14 +44,20 @@ fails_due faults.Read due h = inr h
 fails_due faults.Write due h = inr h
 fails_due faults.Memory due h = inl refl
 
-pub policy_asked : {X : Type 0} (view : X → List Asked) (r : Result X Fault) (known : Option (List ℕ)) (text : List ℕ) → ((tree : Members) → parse_document text ≡ Some tree → Gives view r (policy_of tree)) → (parse_document text ≡ None → (r ≡ Err faults.Syntax) ⊎ (r ≡ Err faults.Memory)) → AgreesWith known text → IfOk r (λ v. IsPolicyFile known (view v))
+pub policy_asked : {X : Type 0} (view : X → List Asked) (r : Result X Fault) (known : Option (List ℕ)) (text : List ℕ)
+    → ((tree : Members) → parse_document text ≡ Some tree → Gives view r (policy_of tree))
+    → (parse_document text ≡ None → (r ≡ Err faults.Syntax) ⊎ (r ≡ Err faults.Memory)) → AgreesWith known text
+    → IfOk r (λ v. IsPolicyFile known (view v))
 policy_asked view (Ok x) known text read none agrees = elim (option_cases (parse_document text)) [
   | inl e ↦ elim (none e) [ inl h ↦ absurd cc | inr h ↦ absurd cc ]
   | inr found ↦ (text, agrees, (found.0, found.1, read found.0 found.1))
 ]
 policy_asked view (Err e) known text read none agrees = tt
 
-pub policy_refused : {X : Type 0} (view : X → List Asked) (r : Result X Fault) (known : Option (List ℕ)) (text : List ℕ) → ((tree : Members) → parse_document text ≡ Some tree → Gives view r (policy_of tree)) → (parse_document text ≡ None → (r ≡ Err faults.Syntax) ⊎ (r ≡ Err faults.Memory)) → AgreesWith known text → IfErr r (λ e. (e ≡ faults.Read) ⊎ (e ≡ faults.Memory) ⊎ RefusesPolicyFile known e)
+pub policy_refused : {X : Type 0} (view : X → List Asked) (r : Result X Fault) (known : Option (List ℕ)) (text : List ℕ)
+    → ((tree : Members) → parse_document text ≡ Some tree → Gives view r (policy_of tree))
+    → (parse_document text ≡ None → (r ≡ Err faults.Syntax) ⊎ (r ≡ Err faults.Memory)) → AgreesWith known text
+    → IfErr r (λ e. (e ≡ faults.Read) ⊎ (e ≡ faults.Memory) ⊎ RefusesPolicyFile known e)
 policy_refused view (Ok x) known text read none agrees = tt
 policy_refused view (Err e) known text read none agrees = elim (option_cases (parse_document text)) [
   | inl h ↦ elim (none h) [

@@ -2,7 +2,8 @@
 use Rattle.std.proofs.Common.{◌≡◌, ℕ, List, Option, Bor, subst}
 use Rattle.sf_command.specs.Files.{AgreesWith, AreRead}
 
-pub read_same : (before after : List ℕ → Option (List ℕ)) (paths : List (Bor (List ℕ))) (files : List (List ℕ)) → ((p : List ℕ) → after p ≡ before p) → AreRead after paths files → AreRead before paths files
+pub read_same : (before after : List ℕ → Option (List ℕ)) (paths : List (Bor (List ℕ))) (files : List (List ℕ))
+    → ((p : List ℕ) → after p ≡ before p) → AreRead after paths files → AreRead before paths files
 read_same before after paths files same read = record {
   same = read.same;
   each = λ n path h.

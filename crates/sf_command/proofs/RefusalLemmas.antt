@@ -21,9 +21,12 @@ policy_why holds policy paths e (inr (inl memory)) = inr (inr (inl memory))
 policy_why holds policy paths e (inr (inr why)) = inr (inr (inr (inr (inl why))))
 
 -- the audit of what the files hold is refused
-pub audit_why : (holds : List ℕ → Option (List ℕ)) (policy : List ℕ) (paths : List (Bor (List ℕ))) (questions : List Asked) (files : List (List ℕ)) (e : Fault)
-    → IsPolicyFile (holds policy) questions → AreRead holds paths files → (e ≡ Memory) ⊎ (e ≡ Foreign) ⊎ IsAuditRefusal files questions e
+pub audit_why : (holds : List ℕ → Option (List ℕ)) (policy : List ℕ) (paths : List (Bor (List ℕ)))
+    (questions : List Asked) (files : List (List ℕ)) (e : Fault)
+    → IsPolicyFile (holds policy) questions → AreRead holds paths files → (e ≡ Memory) ⊎ (e ≡ Foreign)
+    ⊎ IsAuditRefusal files questions e
     → RefusesAudit holds policy paths e
 audit_why holds policy paths questions files e asked read (inl memory) = inr (inr (inl memory))
 audit_why holds policy paths questions files e asked read (inr (inl foreign)) = inr (inr (inr (inl foreign)))
-audit_why holds policy paths questions files e asked read (inr (inr why)) = inr (inr (inr (inr (inr (questions, files, asked, read, why)))))
+audit_why holds policy paths questions files e asked read (inr (inr why)) =
+    inr (inr (inr (inr (inr (questions, files, asked, read, why)))))

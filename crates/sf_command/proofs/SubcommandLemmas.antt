@@ -21,17 +21,21 @@ one_or_other true k l none = cc
 one_or_other false k l none = cc
 
 -- the last checks find none only where a subcommand was entered, if one must be
-check_needs : (s : Shape) (rows : List Row) (has : Bool) → s.subcommand_required ≡ true → check_fault s rows has ≡ [] → has ≡ true
+check_needs : (s : Shape) (rows : List Row) (has : Bool) → s.subcommand_required ≡ true
+    → check_fault s rows has ≡ [] → has ≡ true
 check_needs s rows true needed none = refl
 check_needs s rows false needed none = absurd (one_or_other _ _ _ (rw needed at none))
 
 -- so a line that fits the form enters a subcommand, if one must be
-pub needs_subcommand : (a : App) (words : List Text) → a.top.subcommand_required ≡ true → built_fault a nothing_held words ≡ []
+pub needs_subcommand : (a : App) (words : List Text) → a.top.subcommand_required ≡ true
+    → built_fault a nothing_held words ≡ []
     → is_some (entered a (stop_after a.top.rules (names_of a) words)) ≡ true
 needs_subcommand a words needed none =
     let end = walk a.top.rules (names_of a) nothing_held words in
-    let settled_none = second_none (entered_fault a end.stopped) _ (second_none (walk_fault a.top (names_of a) (walk_from nothing_held) words) _ none) in
-    let last_none = second_none (defaults_fault (settled a.top.rules end.held).rows a.top.rules) _ (second_none (settle_fault a.top.rules a.top.args_override_self end.held) _ settled_none) in
+    let settled_none = second_none (entered_fault a end.stopped) _
+    (second_none (walk_fault a.top (names_of a) (walk_from nothing_held) words) _ none) in
+    let last_none = second_none (defaults_fault (settled a.top.rules end.held).rows a.top.rules) _
+    (second_none (settle_fault a.top.rules a.top.args_override_self end.held) _ settled_none) in
     check_needs a.top (finished a.top.rules end.held) _ needed last_none
 
 -- the first of three that passes a test is one of them
@@ -51,8 +55,10 @@ first_of_three p x y z s found = go (p x) refl
     go false is = inr (second (p y) refl (rw is at found))
 
 -- a subcommand that was entered has the name of one of the three
-pub entered_name : (a : App) (x y z : Shape) → a.subs ≡ x ∷ y ∷ z ∷ [] → (stop : Option (Text × List Text)) → is_some (entered a stop) ≡ true
-    → (found : Text × List Row) × (entered a stop ≡ Some found) × ((found.0 ≡ x.name) ⊎ (found.0 ≡ y.name) ⊎ (found.0 ≡ z.name))
+pub entered_name : (a : App) (x y z : Shape) → a.subs ≡ x ∷ y ∷ z ∷ [] → (stop : Option (Text × List Text))
+    → is_some (entered a stop) ≡ true
+    → (found : Text × List Row) × (entered a stop ≡ Some found)
+    × ((found.0 ≡ x.name) ⊎ (found.0 ≡ y.name) ⊎ (found.0 ≡ z.name))
 entered_name a x y z subs None some = cc
 entered_name a x y z subs (Some p) some = go (find (λ s. answers_to p.0 (label_of s)) a.subs) refl some
   where
@@ -61,27 +67,38 @@ entered_name a x y z subs (Some p) some = go (find (λ s. answers_to p.0 (label_
     named s (inr (inl is)) = inr (inl (ap (λ (t : Shape). t.name) is))
     named s (inr (inr is)) = inr (inr (ap (λ (t : Shape). t.name) is))
 
-    go : (o : Option Shape) → find (λ s. answers_to p.0 (label_of s)) a.subs ≡ o → is_some (option_map (λ s. rows_at s p.1) o) ≡ true
-        → (found : Text × List Row) × (option_map (λ s. rows_at s p.1) (find (λ s. answers_to p.0 (label_of s)) a.subs) ≡ Some found)
+    go : (o : Option Shape) → find (λ s. answers_to p.0 (label_of s)) a.subs ≡ o
+        → is_some (option_map (λ s. rows_at s p.1) o) ≡ true
+        → (found : Text × List Row) × (option_map (λ s. rows_at s p.1)
+        (find (λ s. answers_to p.0 (label_of s)) a.subs) ≡ Some found)
         × ((found.0 ≡ x.name) ⊎ (found.0 ≡ y.name) ⊎ (found.0 ≡ z.name))
     go None is h = cc
-    go (Some s) is h = (rows_at s p.1, ap (option_map (λ t. rows_at t p.1)) is, named s (first_of_three (λ t. answers_to p.0 (label_of t)) x y z s (rw subs at is)))
+    go (Some s) is h = (
+      rows_at s p.1,
+      ap (option_map (λ t. rows_at t p.1)) is,
+      named s (first_of_three (λ t. answers_to p.0 (label_of t)) x y z s (rw subs at is)),
+    )
 
 -- words that fit the form of the program name one of its three subcommands
 pub known_subcommand : (words : List Text) → errors_at words ≡ [] → IsKnown (subcommand_at words)
 unfolding command_line errors_at subcommand_at
 known_subcommand words fits =
     let a = built command_line in
-    entered_name a _ _ _ refl (stop_after a.top.rules (names_of a) (argument_words command_line words)) (needs_subcommand a (argument_words command_line words) refl fits)
+    entered_name a _ _ _ refl (stop_after a.top.rules (names_of a) (argument_words command_line words))
+    (needs_subcommand a (argument_words command_line words) refl fits)
 
 -- a name that is none of the three
 pub unknown_name : (o : Option (Text × List Row)) (name : Text) (rows : List Row) → o ≡ Some (name, rows)
     → ¬ (name ≡ codes "audit") → ¬ (name ≡ codes "check") → ¬ (name ≡ codes "eval") → ¬ IsKnown o
-unknown_name o name rows is no_audit no_check no_eval (found, met, inl audit) = no_audit (ap (λ (p : Option (Text × List Row)). (unwrap_or p found).0) (sym is ∙ met) ∙ audit)
-unknown_name o name rows is no_audit no_check no_eval (found, met, inr (inl check)) = no_check (ap (λ (p : Option (Text × List Row)). (unwrap_or p found).0) (sym is ∙ met) ∙ check)
-unknown_name o name rows is no_audit no_check no_eval (found, met, inr (inr eval)) = no_eval (ap (λ (p : Option (Text × List Row)). (unwrap_or p found).0) (sym is ∙ met) ∙ eval)
+unknown_name o name rows is no_audit no_check no_eval (found, met, inl audit) =
+    no_audit (ap (λ (p : Option (Text × List Row)). (unwrap_or p found).0) (sym is ∙ met) ∙ audit)
+unknown_name o name rows is no_audit no_check no_eval (found, met, inr (inl check)) =
+    no_check (ap (λ (p : Option (Text × List Row)). (unwrap_or p found).0) (sym is ∙ met) ∙ check)
+unknown_name o name rows is no_audit no_check no_eval (found, met, inr (inr eval)) =
+    no_eval (ap (λ (p : Option (Text × List Row)). (unwrap_or p found).0) (sym is ∙ met) ∙ eval)
 
 -- no name
-pub no_name : {X : Type 0} (f : X → Text) (g : X → List Row) (o : Option X) → None ≡ option_map f o → ¬ IsKnown (option_map {U = Text × List Row} (λ x. (f x, g x)) o)
+pub no_name : {X : Type 0} (f : X → Text) (g : X → List Row) (o : Option X) → None ≡ option_map f o
+    → ¬ IsKnown (option_map {U = Text × List Row} (λ x. (f x, g x)) o)
 no_name f g None none (found, met, name) = cc
 no_name f g (Some x) none known = cc

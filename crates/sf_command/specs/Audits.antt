@@ -35,7 +35,8 @@ RefusesPolicyFile known fault = (bytes : List ℕ) × AgreesWith known bytes × 
 
 -- `audit`: the files at the paths are read and audited by the questions of the policy file; the report is written, and
 -- the status tells the replies
-pub record AuditsFiles (holds : List ℕ → Option (List ℕ)) (policy : List ℕ) (paths : List (Bor (List ℕ))) (budget : ℕ) (regions : Bool) (status : ℕ) (old new : Option (List ℕ)) : Type 0 where
+pub record AuditsFiles (holds : List ℕ → Option (List ℕ)) (policy : List ℕ) (paths : List (Bor (List ℕ))) (budget : ℕ)
+    (regions : Bool) (status : ℕ) (old new : Option (List ℕ)) : Type 0 where
   pub questions : List Asked
   pub asked : IsPolicyFile (holds policy) questions
   pub files : List (List ℕ)
@@ -51,5 +52,6 @@ pub record AuditsFiles (holds : List ℕ → Option (List ℕ)) (policy : List �
 abbrev pub RefusesAudit : (List ℕ → Option (List ℕ)) → List ℕ → List (Bor (List ℕ)) → Fault → Type 0
 RefusesAudit holds policy paths fault =
     (fault ≡ Read) ⊎ (fault ≡ Write) ⊎ (fault ≡ Memory) ⊎ (fault ≡ Foreign) ⊎ RefusesPolicyFile (holds policy) fault
-    ⊎ ((questions : List Asked) × (files : List (List ℕ)) × IsPolicyFile (holds policy) questions × AreRead holds paths files
+    ⊎ ((questions : List Asked) × (files : List (List ℕ)) × IsPolicyFile (holds policy) questions
+    × AreRead holds paths files
     × IsAuditRefusal files questions fault)

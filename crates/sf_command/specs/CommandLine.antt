@@ -46,16 +46,26 @@ audit_line = with_rule (with_rule (with_rule (with_rule (with_rule (new_app (cod
 abbrev pub check_line : App
 check_line = with_rule (new_app (codes "check")) filters_rule
 
--- `eval --input HEX FILTER..`
+-- `eval --input HEX [--trace] [--trace-true] FILTER..`
 abbrev pub eval_line : App
-eval_line = with_rule (with_rule (new_app (codes "eval")) (needed_rule (codes "input"))) filters_rule
+eval_line = with_rule (with_rule (with_rule (with_rule (new_app (codes "eval"))
+    (needed_rule (codes "input")))
+    (switch_rule (codes "trace")))
+    (switch_rule (codes "trace-true")))
+    filters_rule
 
--- the program without its name: a subcommand that must be given, and none for help
+-- the program without its name: a subcommand that must be given, and none for help; it knows its version
 abbrev pub program_line : App
 program_line = let new = new_app (codes "seccomp_audit") in record new {
-  top = record new.top { no_binary_name = true; subcommand_required = true; disable_help_subcommand = true };
+  top = record new.top {
+    no_binary_name = true;
+    subcommand_required = true;
+    has_version = true;
+    disable_help_subcommand = true;
+  };
 }
 
 -- one of the three subcommands
 unfoldable pub command_line : App
-command_line = with_subcommand (with_subcommand (with_subcommand program_line audit_line.top) check_line.top) eval_line.top
+command_line =
+    with_subcommand (with_subcommand (with_subcommand program_line audit_line.top) check_line.top) eval_line.top

@@ -1,6 +1,7 @@
 pub mod Pairs
 pub mod Files
 pub mod Texts
+pub mod Traces
 pub mod Outputs
 pub mod Status
 pub mod Audits

@@ -1,5 +1,5 @@
 -- What `check` and `eval` write of filter files.
-use Rattle.std.specs.Prelude.{◌≡◌, ◌⊎◌, ℕ, List, Option, Ok, IsOk}
+use Rattle.std.specs.Prelude.{◌≡◌, ◌⊎◌, ℕ, Bool, List, Option, Ok, IsOk}
 use Rattle.std.specs.Borrow.{Bor}
 use Rattle.hex.specs.Hex.{decode_sized}
 use Rattle.std.specs.Io.KnownBytes.{Appends}
@@ -12,34 +12,38 @@ use Rattle.sf_audit.specs.declared.fault.Fault.{Fault}
 use Rattle.sf_audit.specs.declared.fault.Fault.TheVariants.{Input as InputFault, Memory, Read, Write}
 use Rattle.sf_audit.specs.Filters.{IsFirstRefusal, SpellStack}
 use Rattle.sf_command.specs.Files.{AreRead}
-use Rattle.sf_command.specs.Texts.{answer_text, check_text}
+use Rattle.sf_command.specs.Texts.{check_text}
+use Rattle.sf_command.specs.Traces.{eval_text}
 
 -- the files spell a lawful stack, and known bytes grow by the text about it
 abbrev pub WritesCheck : List (List ℕ) → Option (List ℕ) → Option (List ℕ) → Type 0
 WritesCheck files old new =
     (programs : List (List Insn)) × SpellStack files programs × Appends old new (check_text programs)
 
--- the files spell a lawful stack, and known bytes grow by the line of what it answers to the input
-abbrev pub WritesAnswer : List (List ℕ) → Input → Option (List ℕ) → Option (List ℕ) → Type 0
-WritesAnswer files input old new =
+-- The files spell a lawful stack, and known bytes grow by the line of what it answers to the input, and by where that
+-- comes from, if it is asked for.
+abbrev pub WritesAnswer : List (List ℕ) → Input → (traced brief : Bool) → Option (List ℕ) → Option (List ℕ) → Type 0
+WritesAnswer files input traced brief old new =
     (programs : List (List Insn)) × (answer : Answer) × SpellStack files programs
-    × Answers programs input answer × Appends old new (answer_text answer)
+    × Answers programs input answer × Appends old new (eval_text traced brief programs input answer)
 
 -- `check`: the files at the paths are read, and what they spell is written
 abbrev pub ChecksFiles : (List ℕ → Option (List ℕ)) → List (Bor (List ℕ)) → Option (List ℕ) → Option (List ℕ) → Type 0
 ChecksFiles holds paths old new = (files : List (List ℕ)) × AreRead holds paths files × WritesCheck files old new
 
 -- `eval`: the digits spell an input, the files at the paths are read, and what they answer to it is written
-abbrev pub EvaluatesFiles : List ℕ → (List ℕ → Option (List ℕ)) → List (Bor (List ℕ)) → Option (List ℕ) → Option (List ℕ) → Type 0
-EvaluatesFiles digits holds paths old new =
+abbrev pub EvaluatesFiles : List ℕ → (traced brief : Bool) → (List ℕ → Option (List ℕ)) → List (Bor (List ℕ))
+    → Option (List ℕ) → Option (List ℕ) → Type 0
+EvaluatesFiles digits traced brief holds paths old new =
     (input : Input) × (files : List (List ℕ)) × (decode_sized digits 64 ≡ Ok (input_bytes input))
-    × AreRead holds paths files × WritesAnswer files input old new
+    × AreRead holds paths files × WritesAnswer files input traced brief old new
 
 -- Why the files at the paths are refused: one can't be read, or else all were read and make no lawful stack. Want of
 -- memory can come at any time.
 abbrev pub RefusesFiles : (List ℕ → Option (List ℕ)) → List (Bor (List ℕ)) → Fault → Type 0
 RefusesFiles holds paths fault =
-    (fault ≡ Read) ⊎ (fault ≡ Memory) ⊎ ((files : List (List ℕ)) × AreRead holds paths files × IsFirstRefusal files fault)
+    (fault ≡ Read) ⊎ (fault ≡ Memory) ⊎ ((files : List (List ℕ)) × AreRead holds paths files
+    × IsFirstRefusal files fault)
 
 -- why `check` is refused
 abbrev pub RefusesCheck : (List ℕ → Option (List ℕ)) → List (Bor (List ℕ)) → Fault → Type 0
@@ -48,4 +52,5 @@ RefusesCheck holds paths fault = (fault ≡ Write) ⊎ RefusesFiles holds paths 
 -- why `eval` is refused: the digits spell no input, or else as `check`
 abbrev pub RefusesEval : List ℕ → (List ℕ → Option (List ℕ)) → List (Bor (List ℕ)) → Fault → Type 0
 RefusesEval digits holds paths fault =
-    ((fault ≡ InputFault) × ¬ IsOk (decode_sized digits 64)) ⊎ (IsOk (decode_sized digits 64) × RefusesCheck holds paths fault)
+    ((fault ≡ InputFault) × ¬ IsOk (decode_sized digits 64))
+    ⊎ (IsOk (decode_sized digits 64) × RefusesCheck holds paths fault)

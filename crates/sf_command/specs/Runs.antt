@@ -66,7 +66,11 @@ module _ (holds : Text → Option Text) (rows : List Row) (status : ℕ) (old ne
   pub record Evaluates : Type 0 where
     pub paths : List (Bor Text)
     pub named : ArePaths rows paths
-    pub evaluated : EvaluatesFiles (text_of (codes "input") rows) holds paths old new
+    pub traced : Bool
+    pub in_full : IsSwitch (one_of (codes "trace") rows) traced
+    pub brief : Bool
+    pub in_brief : IsSwitch (one_of (codes "trace-true") rows) brief
+    pub evaluated : EvaluatesFiles (text_of (codes "input") rows) traced brief holds paths old new
     pub told : status ≡ 0
 
 -- one of the three subcommands is named
@@ -79,7 +83,8 @@ IsKnown named =
 abbrev pub ByName : (audit check eval : List Row → Type 0) → Option (Text × List Row) → Type 0
 ByName audit check eval named =
     (found : Text × List Row) × (named ≡ Some found)
-    × (((found.0 ≡ codes "audit") × audit found.1) ⊎ ((found.0 ≡ codes "check") × check found.1) ⊎ ((found.0 ≡ codes "eval") × eval found.1))
+    × (((found.0 ≡ codes "audit") × audit found.1) ⊎ ((found.0 ≡ codes "check") × check found.1)
+    ⊎ ((found.0 ≡ codes "eval") × eval found.1))
 
 -- what the subcommand that is named asks for was done
 abbrev pub RunsAs : (Text → Option Text) → Option (Text × List Row) → ℕ → Option Text → Option Text → Type 0
@@ -93,11 +98,11 @@ RunsAs holds named status old new = ByName
 abbrev pub WritesText : Option Text → Option Text → Type 0
 WritesText old new = (text : Text) × Appends old new text
 
--- the error is the answer to a call for help, or for the version, of which `clap` knows and the form does not
+-- the error is the answer to a call for help, or for the version
 abbrev pub IsHelp : ErrorKind → Type 0
 IsHelp kind = (kind ≡ DisplayHelp) ⊎ (kind ≡ DisplayVersion)
 
--- some text was written, at the words' call for help
+-- some text was written, at the words' call for help or for the version
 pub record Helps (words : List Text) (status : ℕ) (old new : Option Text) : Type 0 where
   pub kind : ErrorKind
   pub error : IsAmong kind (errors_at words)
@@ -105,8 +110,8 @@ pub record Helps (words : List Text) (status : ℕ) (old new : Option Text) : Ty
   pub told : status ≡ 0
   pub written : WritesText old new
 
--- What the words ask for was done: what their subcommand says, where they fit the form, or else the help that they
--- call for.
+-- What the words ask for was done: what their subcommand says, where they fit the form, or else the help or the version
+-- that they call for.
 abbrev pub DoesAsTold : (Text → Option Text) → List Text → ℕ → Option Text → Option Text → Type 0
 DoesAsTold holds words status old new =
     ((errors_at words ≡ []) × RunsAs holds (subcommand_at words) status old new) ⊎ Helps words status old new
@@ -123,7 +128,8 @@ RefusesAs holds named fault = ByName
     (λ rows. OnPaths rows (λ paths. RefusesEval (text_of (codes "input") rows) holds paths fault))
     named
 
--- Why what words that fit the form ask for is refused. Want of memory can come at any time, and help may not be written.
+-- Why what words that fit the form ask for is refused. Want of memory can come at any time, and help may not be
+-- written.
 abbrev pub RefusesAsTold : (Text → Option Text) → List Text → Fault → Type 0
 RefusesAsTold holds words fault =
     (fault ≡ Memory) ⊎ (fault ≡ Write) ⊎ ((errors_at words ≡ []) × RefusesAs holds (subcommand_at words) fault)

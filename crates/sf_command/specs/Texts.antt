@@ -12,13 +12,15 @@ answer_text answer = line (action_text answer.action ∷ decimal answer.info ∷
 
 -- the line of `check` for a filter, with its number of instructions
 abbrev pub filter_line : ℕ → ℕ → List ℕ
-filter_line number instructions = line (codes "filter" ∷ decimal number ∷ decimal instructions ∷ codes "instructions" ∷ [])
+filter_line number instructions = line (codes "filter" ∷ decimal number ∷ decimal instructions
+    ∷ codes "instructions" ∷ [])
 
 -- a line for each filter, the first of them with this number
 abbrev pub filter_lines : ℕ → List (List Insn) → List ℕ
 filter_lines number [] = []
 filter_lines number (p ∷ ps) = filter_line number (length p) ++ filter_lines (number + 1) ps
 
+-- the last line of `check`: the length of the path through all filters
 abbrev pub path_line : ℕ → List ℕ
 path_line path = line (codes "path" ∷ decimal path ∷ [])
 

@@ -14,7 +14,8 @@ pub fn text_of<'a>(found: &ArgMatches<'a>, name: &str) -> &'a str
 
 /// The budget of an audit.
 pub fn budget_of(found: &ArgMatches<'_>) -> u32
-    ensures { IsNumberOf (one_of (codes "budget") (rows_of (found_of found.now))) 1000000 100000 result }
+    ensures { IsNumberOf (one_of (codes "budget") (rows_of (found_of found.now)))
+        1000000 100000 result }
 {
     found.get_one::<u32>("budget").unwrap_or(100_000)
 }
@@ -28,7 +29,8 @@ fn asked_workers(found: &ArgMatches<'_>) -> u8
 
 /// The number of workers of an audit, from 1 to 64; the form lets no other through.
 pub fn workers_of(found: &ArgMatches<'_>) -> u8
-    ensures number { IsNumberOf (one_of (codes "workers") (rows_of (found_of found.now))) 64 4 result }
+    ensures number { IsNumberOf (one_of (codes "workers")
+        (rows_of (found_of found.now))) 64 4 result }
     ensures few { (0 < result) × (result ≤ 64) }
 {
     let asked = asked_workers(found);
@@ -40,4 +42,18 @@ pub fn regions_of(found: &ArgMatches<'_>) -> bool
     ensures { IsSwitch (one_of (codes "regions") (rows_of (found_of found.now))) result }
 {
     found.get_flag("regions")
+}
+
+/// Whether an evaluation tells where its answer comes from.
+pub fn traced_of(found: &ArgMatches<'_>) -> bool
+    ensures { IsSwitch (one_of (codes "trace") (rows_of (found_of found.now))) result }
+{
+    found.get_flag("trace")
+}
+
+/// Whether it leaves out what is false there.
+pub fn brief_of(found: &ArgMatches<'_>) -> bool
+    ensures { IsSwitch (one_of (codes "trace-true") (rows_of (found_of found.now))) result }
+{
+    found.get_flag("trace-true")
 }

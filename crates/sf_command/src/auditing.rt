@@ -31,7 +31,8 @@ pub struct Options {
 /// what `read_policy` refuses.
 fn questions_in<F: Files>(alloc: Global, path: &str, files: &mut F) -> Result<Vec<Question>, Fault>
     ensures asked { IfOk result (λ v. IsPolicyFile (F.holds files.old path.now) v.items) }
-    ensures refused { IfErr result (λ e. (e ≡ ReadFault) ⊎ (e ≡ MemoryFault) ⊎ RefusesPolicyFile (F.holds files.old path.now) e) }
+    ensures refused { IfErr result (λ e. (e ≡ ReadFault) ⊎ (e ≡ MemoryFault)
+        ⊎ RefusesPolicyFile (F.holds files.old path.now) e) }
     ensures same { (p : List ℕ) → F.holds files.new p ≡ F.holds files.old p }
 {
     let bytes = files.read(path)?;
@@ -55,7 +56,8 @@ pub fn audit<R: Threads + Wait + Sync, F: Files, O: Write>(
     out: &mut O,
 ) -> Result<u8, Fault>
     requires workers { (0 < options.workers) × (options.workers ≤ 64) }
-    ensures written { IfOk result (λ s. AuditsFiles (F.holds files.old) policy.now paths.now options.budget options.regions s (O.contents out.old) (O.contents out.new)) }
+    ensures written { IfOk result (λ s. AuditsFiles (F.holds files.old) policy.now paths.now
+        options.budget options.regions s (O.contents out.old) (O.contents out.new)) }
     ensures status { IfOk result (λ s. s ≤ 2) }
     ensures refused { IfErr result (RefusesAudit (F.holds files.old) policy.now paths.now) }
     ensures quiet { IfErr result (λ e. (fault_status (fault_number e) ≡ 5) ⊎ (out.new ≡ out.old)) }

@@ -1,17 +1,22 @@
 //! What `check` and `eval` do with the bytes that they were given.
 
-ghost use Rattle.std.specs.Prelude.{◌≡◌, ◌⊎◌, map, Err, Ok, IfOk, IfErr, OnOk, IsOk};
+ghost use Rattle.std.specs.Prelude.{◌≡◌, ◌⊎◌, map, string_bytes, Err, Ok, IfOk, IfErr, OnOk, IsOk};
 ghost use Rattle.std.specs.Io.KnownBytes.{Appends};
 ghost use Rattle.hex.specs.Hex.{decode_sized};
 ghost use Rattle.sf_insn.specs.Inputs.{input_bytes};
+ghost use Rattle.sf_run.specs.Answers.{Answers};
+ghost use Rattle.sf_run.specs.declared.action.Answer.{Answer};
+ghost use Rattle.sf_command.specs.Traces.{eval_text};
 ghost use Rattle.sf_command.specs.Outputs.{ChecksFiles, EvaluatesFiles, RefusesEval, RefusesFiles, WritesAnswer, WritesCheck};
 ghost use Rattle.sf_audit.specs.Filters.{IsFirstRefusal};
 ghost use Rattle.sf_audit.specs.declared.fault.Fault.TheVariants.{Memory as MemoryFault, Input as InputFault, Write as WriteFault};
 
 use crate::files::{Files, read_all};
 use crate::texts::{answer_text, check_text};
+use crate::tracing::push_trace;
 use hex::FromHex;
-use sf_audit::{Fault, stack_of};
+use sf_audit::{Fault, stack_of, write_bytes};
+use sf_check::Stack;
 use sf_insn::{Input, input_of_bytes};
 use sf_run::answer;
 use std::alloc::Global;
@@ -22,10 +27,7 @@ pub fn print<O: Write>(text: &str, out: &mut O) -> Result<(), Fault>
     ensures written { OnOk result (Appends (O.contents out.old) (O.contents out.new) text.now) }
     ensures refused { IfErr result (λ e. e ≡ WriteFault) }
 {
-    match out.write_all(text.as_bytes()) {
-        Ok(()) => Ok(()),
-        Err(_) => Err(Fault::Write),
-    }
+    write_bytes(text.as_bytes(), out)
 }
 
 /// The input that 128 hexadecimal digits spell, in lower or upper case: the 64 bytes of `struct seccomp_data`, as
@@ -42,26 +44,57 @@ pub fn input_of(text: &str) -> Result<Input, Fault>
 
 /// Writes the number of instructions of each filter and the path length of their stack.
 fn check_filters<O: Write>(alloc: Global, filters: &[Vec<u8>], out: &mut O) -> Result<(), Fault>
-    ensures written { OnOk result (WritesCheck (map (λ f. f.items) filters.now) (O.contents out.old) (O.contents out.new)) }
-    ensures refused { IfErr result (λ e. (e ≡ WriteFault) ⊎ (((e ≡ MemoryFault) ⊎ IsFirstRefusal (map (λ f. f.items) filters.now) e) × (out.new ≡ out.old))) }
+    ensures written { OnOk result (WritesCheck (map (λ f. f.items) filters.now)
+        (O.contents out.old) (O.contents out.new)) }
+    ensures refused { IfErr result (λ e. (e ≡ WriteFault)
+        ⊎ (((e ≡ MemoryFault) ⊎ IsFirstRefusal (map (λ f. f.items) filters.now) e)
+        × (out.new ≡ out.old))) }
 {
     let stack = stack_of(alloc, filters)?;
     let text = check_text(alloc, &stack)?;
     print(&text, out)
 }
 
-/// Writes what the stack of the filters answers to the input.
+/// The answer of the stack to the input, and where it comes from, if that is asked for, in full or in brief.
+fn eval_text(
+    alloc: Global,
+    stack: &Stack,
+    input: &Input,
+    traced: bool,
+    brief: bool,
+) -> Result<String, Fault>
+    ensures told { IfOk result (λ text. (a : Answer) × Answers stack.now input.now a
+        × (string_bytes text ≡ eval_text traced brief stack.now input.now a)) }
+    ensures refused { IfErr result (λ e. e ≡ MemoryFault) }
+{
+    let answer = answer(stack, input);
+    let mut text = answer_text(alloc, answer)?;
+    if !traced && !brief {
+        return Ok(text);
+    }
+    match push_trace(alloc, &mut text, stack, input, answer, brief) {
+        Ok(()) => Ok(text),
+        Err(_) => Err(Fault::Memory),
+    }
+}
+
+/// Writes what the stack of the filters answers to the input, and where that comes from, if it is asked for.
 fn evaluate_filters<O: Write>(
     alloc: Global,
     input: &Input,
+    traced: bool,
+    brief: bool,
     filters: &[Vec<u8>],
     out: &mut O,
 ) -> Result<(), Fault>
-    ensures written { OnOk result (WritesAnswer (map (λ f. f.items) filters.now) input.now (O.contents out.old) (O.contents out.new)) }
-    ensures refused { IfErr result (λ e. (e ≡ WriteFault) ⊎ (((e ≡ MemoryFault) ⊎ IsFirstRefusal (map (λ f. f.items) filters.now) e) × (out.new ≡ out.old))) }
+    ensures written { OnOk result (WritesAnswer (map (λ f. f.items) filters.now) input.now traced
+        brief (O.contents out.old) (O.contents out.new)) }
+    ensures refused { IfErr result (λ e. (e ≡ WriteFault)
+        ⊎ (((e ≡ MemoryFault) ⊎ IsFirstRefusal (map (λ f. f.items) filters.now) e)
+        × (out.new ≡ out.old))) }
 {
     let stack = stack_of(alloc, filters)?;
-    let text = answer_text(alloc, answer(&stack, input))?;
+    let text = eval_text(alloc, &stack, input, traced, brief)?;
     print(&text, out)
 }
 
@@ -74,28 +107,37 @@ pub fn check<F: Files, O: Write>(
     files: &mut F,
     out: &mut O,
 ) -> Result<(), Fault>
-    ensures written { OnOk result (ChecksFiles (F.holds files.old) paths.now (O.contents out.old) (O.contents out.new)) }
-    ensures refused { IfErr result (λ e. (e ≡ WriteFault) ⊎ (RefusesFiles (F.holds files.old) paths.now e × (out.new ≡ out.old))) }
+    ensures written { OnOk result (ChecksFiles (F.holds files.old) paths.now (O.contents out.old)
+        (O.contents out.new)) }
+    ensures refused { IfErr result (λ e. (e ≡ WriteFault)
+        ⊎ (RefusesFiles (F.holds files.old) paths.now e × (out.new ≡ out.old))) }
 {
     let filters = read_all(alloc, paths, files)?;
     check_filters(alloc, &filters, out)
 }
 
 /// Reads the input from its hexadecimal digits and the filter files, in order of installation, and writes what the stack
-/// of the filters answers to the input. `Input` where the digits spell no input, before a file is read; else as `check`.
+/// of the filters answers to the input, and where that comes from, if it is traced in full or in brief. `Input` where the
+/// digits spell no input, before a file is read; else as `check`.
 pub fn evaluate<F: Files, O: Write>(
     alloc: Global,
     digits: &str,
+    traced: bool,
+    brief: bool,
     paths: &[&str],
     files: &mut F,
     out: &mut O,
 ) -> Result<(), Fault>
-    ensures written { OnOk result (EvaluatesFiles digits.now (F.holds files.old) paths.now (O.contents out.old) (O.contents out.new)) }
-    ensures unspelled { (IsOk (decode_sized digits.now 64) → ⊥) → (result ≡ Err InputFault) × (files.new ≡ files.old) × (out.new ≡ out.old) }
-    ensures refused { IsOk (decode_sized digits.now 64) → IfErr result (λ e. (e ≡ WriteFault) ⊎ (RefusesFiles (F.holds files.old) paths.now e × (out.new ≡ out.old))) }
+    ensures written { OnOk result (EvaluatesFiles digits.now traced brief
+        (F.holds files.old) paths.now (O.contents out.old) (O.contents out.new)) }
+    ensures unspelled { (IsOk (decode_sized digits.now 64) → ⊥) → (result ≡ Err InputFault)
+        × (files.new ≡ files.old) × (out.new ≡ out.old) }
+    ensures refused { IsOk (decode_sized digits.now 64)
+        → IfErr result (λ e. (e ≡ WriteFault)
+        ⊎ (RefusesFiles (F.holds files.old) paths.now e × (out.new ≡ out.old))) }
     ensures explained { IfErr result (RefusesEval digits.now (F.holds files.old) paths.now) }
 {
     let input = input_of(digits)?;
     let filters = read_all(alloc, paths, files)?;
-    evaluate_filters(alloc, &input, &filters, out)
+    evaluate_filters(alloc, &input, traced, brief, &filters, out)
 }

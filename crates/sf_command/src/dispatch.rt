@@ -8,11 +8,11 @@ ghost use Rattle.sf_command.specs.Outputs.{RefusesCheck, RefusesEval};
 ghost use Rattle.sf_command.specs.Runs.{Audits, Checks, Evaluates, RunsAs, IsKnown, IsHelp, DoesAsTold, OnPaths, RefusesAs, RefusesAsTold, WritesText, errors_at, text_of};
 ghost use Rattle.sf_command.specs.Status.{fault_status};
 
-use crate::asked::{budget_of, regions_of, text_of, workers_of};
+use crate::asked::{brief_of, budget_of, regions_of, text_of, traced_of, workers_of};
 use crate::auditing::{Options, audit};
 use crate::checking::{check, evaluate, print};
 use crate::files::Files;
-use crate::status::status_of;
+use crate::telling::tell_fault;
 use crate::words;
 use clap::ArgMatches;
 use clap::error::ErrorKind;
@@ -30,10 +30,13 @@ fn run_audit<R: Threads + Wait + Sync, F: Files, O: Write>(
     files: &mut F,
     out: &mut O,
 ) -> Result<u8, Fault>
-    ensures done { IfOk result (λ s. Audits (F.holds files.old) (rows_of (found_of found.now)) s (O.contents out.old) (O.contents out.new)) }
+    ensures done { IfOk result (λ s. Audits (F.holds files.old) (rows_of (found_of found.now)) s
+        (O.contents out.old) (O.contents out.new)) }
     ensures status { IfOk result (λ s. s ≤ 2) }
     ensures quiet { IfErr result (λ e. (fault_status (fault_number e) ≡ 5) ⊎ (out.new ≡ out.old)) }
-    ensures refused { IfErr result (λ e. OnPaths (rows_of (found_of found.now)) (λ paths. RefusesAudit (F.holds files.old) (text_of (codes "policy") (rows_of (found_of found.now))) paths e)) }
+    ensures refused { IfErr result (λ e. OnPaths (rows_of (found_of found.now))
+        (λ paths. RefusesAudit (F.holds files.old)
+        (text_of (codes "policy") (rows_of (found_of found.now))) paths e)) }
 {
     let paths = found.get_strs("filters").unwrap_or(&[]);
     let options = Options {
@@ -52,9 +55,11 @@ fn run_check<F: Files, O: Write>(
     files: &mut F,
     out: &mut O,
 ) -> Result<u8, Fault>
-    ensures done { IfOk result (λ s. Checks (F.holds files.old) (rows_of (found_of found.now)) s (O.contents out.old) (O.contents out.new)) }
+    ensures done { IfOk result (λ s. Checks (F.holds files.old) (rows_of (found_of found.now)) s
+        (O.contents out.old) (O.contents out.new)) }
     ensures quiet { IfErr result (λ e. (fault_status (fault_number e) ≡ 5) ⊎ (out.new ≡ out.old)) }
-    ensures refused { IfErr result (λ e. OnPaths (rows_of (found_of found.now)) (λ paths. RefusesCheck (F.holds files.old) paths e)) }
+    ensures refused { IfErr result (λ e. OnPaths (rows_of (found_of found.now))
+        (λ paths. RefusesCheck (F.holds files.old) paths e)) }
 {
     let paths = found.get_strs("filters").unwrap_or(&[]);
     check(alloc, paths, files, out)?;
@@ -68,13 +73,18 @@ fn run_eval<F: Files, O: Write>(
     files: &mut F,
     out: &mut O,
 ) -> Result<u8, Fault>
-    ensures done { IfOk result (λ s. Evaluates (F.holds files.old) (rows_of (found_of found.now)) s (O.contents out.old) (O.contents out.new)) }
+    ensures done { IfOk result (λ s. Evaluates (F.holds files.old)
+        (rows_of (found_of found.now)) s (O.contents out.old) (O.contents out.new)) }
     ensures quiet { IfErr result (λ e. (fault_status (fault_number e) ≡ 5) ⊎ (out.new ≡ out.old)) }
-    ensures refused { IfErr result (λ e. OnPaths (rows_of (found_of found.now)) (λ paths. RefusesEval (text_of (codes "input") (rows_of (found_of found.now))) (F.holds files.old) paths e)) }
+    ensures refused { IfErr result (λ e. OnPaths (rows_of (found_of found.now))
+        (λ paths. RefusesEval (text_of (codes "input") (rows_of (found_of found.now)))
+        (F.holds files.old) paths e)) }
 {
     let paths = found.get_strs("filters").unwrap_or(&[]);
     let digits = text_of(found, "input");
-    evaluate(alloc, digits, paths, files, out)?;
+    let traced = traced_of(found);
+    let brief = brief_of(found);
+    evaluate(alloc, digits, traced, brief, paths, files, out)?;
     Ok(0)
 }
 
@@ -87,10 +97,13 @@ fn run<R: Threads + Wait + Sync, F: Files, O: Write>(
     out: &mut O,
 ) -> Result<u8, Fault>
     ensures status { IfOk result (λ s. (s ≤ 2) ⊎ (s ≡ 4)) }
-    ensures done { IfOk result (λ s. s ≤ 2 → RunsAs (F.holds files.old) (subcommand_rows_of matches.now) s (O.contents out.old) (O.contents out.new)) }
-    ensures usage { IfOk result (λ s. s ≡ 4 → ¬ IsKnown (subcommand_rows_of matches.now) × (files.new ≡ files.old) × (out.new ≡ out.old)) }
+    ensures done { IfOk result (λ s. s ≤ 2 → RunsAs (F.holds files.old)
+        (subcommand_rows_of matches.now) s (O.contents out.old) (O.contents out.new)) }
+    ensures usage { IfOk result (λ s. s ≡ 4 → ¬ IsKnown (subcommand_rows_of matches.now)
+        × (files.new ≡ files.old) × (out.new ≡ out.old)) }
     ensures quiet { IfErr result (λ e. (fault_status (fault_number e) ≡ 5) ⊎ (out.new ≡ out.old)) }
-    ensures refused { IfErr result (RefusesAs (F.holds files.old) (subcommand_rows_of matches.now)) }
+    ensures refused { IfErr result (RefusesAs (F.holds files.old)
+        (subcommand_rows_of matches.now)) }
 {
     let Some((name, found)) = matches.subcommand() else {
         return Ok(4);
@@ -103,7 +116,7 @@ fn run<R: Threads + Wait + Sync, F: Files, O: Write>(
     }
 }
 
-/// Shows the help that was asked for, or why the command line is refused.
+/// Shows the help or the version that was asked for, or why the command line is refused.
 fn explain<O: Write, E: Write>(
     alloc: Global,
     error: &clap::Error,
@@ -112,9 +125,11 @@ fn explain<O: Write, E: Write>(
 ) -> Result<u8, Fault>
     ensures status { IfOk result (λ s. (s ≤ 2) ⊎ (s ≡ 4)) }
     ensures help { IsHelp (kind_of error.now) → IfOk result (λ s. s ≡ 0) }
-    ensures done { IfOk result (λ s. s ≤ 2 → IsHelp (kind_of error.now) × (s ≡ 0) × WritesText (O.contents out.old) (O.contents out.new)) }
+    ensures done { IfOk result (λ s. s ≤ 2 → IsHelp (kind_of error.now) × (s ≡ 0)
+        × WritesText (O.contents out.old) (O.contents out.new)) }
     ensures refused { ¬ IsHelp (kind_of error.now) → IfOk result (λ s. s ≡ 4) }
-    ensures usage { IfOk result (λ s. s ≡ 4 → (kind_of error.now ≢ ErrorKind.OutOfMemory) × (out.new ≡ out.old)) }
+    ensures usage { IfOk result (λ s. s ≡ 4 → (kind_of error.now ≢ ErrorKind.OutOfMemory)
+        × (out.new ≡ out.old)) }
     ensures failed { IfErr result (λ e. fault_status (fault_number e) ≡ 5) }
     ensures explained { IfErr result (λ e. (e ≡ MemoryFault) ⊎ (e ≡ WriteFault)) }
 {
@@ -143,10 +158,13 @@ fn reply<R: Threads + Wait + Sync, F: Files, O: Write, E: Write>(
     err: &mut E,
 ) -> Result<u8, Fault>
     ensures status { IfOk result (λ s. (s ≤ 2) ⊎ (s ≡ 4)) }
-    ensures done { IfOk result (λ s. s ≤ 2 → DoesAsTold (F.holds files.old) (map string_bytes words.now) s (O.contents out.old) (O.contents out.new)) }
-    ensures usage { IfOk result (λ s. s ≡ 4 → ¬ (errors_at (map string_bytes words.now) ≡ []) × (files.new ≡ files.old) × (out.new ≡ out.old)) }
+    ensures done { IfOk result (λ s. s ≤ 2 → DoesAsTold (F.holds files.old)
+        (map string_bytes words.now) s (O.contents out.old) (O.contents out.new)) }
+    ensures usage { IfOk result (λ s. s ≡ 4 → ¬ (errors_at (map string_bytes words.now) ≡ [])
+        × (files.new ≡ files.old) × (out.new ≡ out.old)) }
     ensures quiet { IfErr result (λ e. (fault_status (fault_number e) ≡ 5) ⊎ (out.new ≡ out.old)) }
-    ensures refused { IfErr result (RefusesAsTold (F.holds files.old) (map string_bytes words.now)) }
+    ensures refused { IfErr result (RefusesAsTold (F.holds files.old)
+        (map string_bytes words.now)) }
 {
     match words::form(alloc)?.try_get_matches_from(words) {
         Ok(matches) => run(rt, alloc, &matches, files, out),
@@ -170,15 +188,16 @@ pub fn command<R: Threads + Wait + Sync, F: Files, O: Write, E: Write>(
     err: &mut E,
 ) -> u8
     ensures status { result ≤ 5 }
-    ensures done { result ≤ 2 → DoesAsTold (F.holds files.old) (map string_bytes words.now) result (O.contents out.old) (O.contents out.new) }
-    ensures usage { result ≡ 4 → ¬ (errors_at (map string_bytes words.now) ≡ []) × (files.new ≡ files.old) × (out.new ≡ out.old) }
-    ensures refused { result ≡ 3 → (out.new ≡ out.old) × ((e : Fault) × (fault_status (fault_number e) ≡ 3) × RefusesAsTold (F.holds files.old) (map string_bytes words.now) e) }
+    ensures done { result ≤ 2 → DoesAsTold (F.holds files.old) (map string_bytes words.now) result
+        (O.contents out.old) (O.contents out.new) }
+    ensures usage { result ≡ 4 → ¬ (errors_at (map string_bytes words.now) ≡ [])
+        × (files.new ≡ files.old) × (out.new ≡ out.old) }
+    ensures refused { result ≡ 3 → (out.new ≡ out.old)
+        × ((e : Fault) × (fault_status (fault_number e) ≡ 3)
+        × RefusesAsTold (F.holds files.old) (map string_bytes words.now) e) }
 {
     match reply(rt, alloc, words, files, out, err) {
         Ok(status) => status,
-        Err(fault) => {
-            let _ = write!(err, "error {fault}\n");
-            status_of(&fault)
-        }
+        Err(fault) => tell_fault(&fault, err),
     }
 }

@@ -1,11 +1,15 @@
 //! Where files come from.
 
-ghost use Rattle.std.specs.Prelude.{◌≡◌, ◌⊎◌, ℕ, List, map, IfOk, IfErr};
+ghost use Rattle.std.specs.Prelude.{◌≡◌, ◌⊎◌, ◌≤◌, ℕ, List, length, map, IfOk, IfErr};
 ghost use Rattle.sf_command.specs.Files.{AgreesWith, AreRead};
 ghost use Rattle.sf_audit.specs.declared.fault.Fault.TheVariants.{Memory, Read};
 
 use sf_audit::Fault;
 use std::alloc::Global;
+
+/// The most bytes of a file that is read: 1 MiB, which is 32 times the longest filter. So a file without an end is
+/// refused.
+pub const MOST_BYTES: usize = 0x100000;
 
 /// Files by their paths.
 pub trait Files {
@@ -14,9 +18,11 @@ pub trait Files {
     // The bytes of the file at a path, where they are known.
     ghost holds: { Self → List ℕ → Option (List ℕ) } = { λ _ _. None };
 
-    /// The bytes of the file at a path. `Read` where it can't be read, `Memory` where a growth is refused.
+    /// The bytes of the file at a path. `Read` where it can't be read or has more than `MOST_BYTES`, `Memory` where a
+    /// growth is refused.
     fn read(&mut self, path: &str) -> Result<Vec<u8>, Fault>
         ensures bytes { IfOk result (λ v. AgreesWith (holds self.old path.now) v.items) }
+        ensures few { IfOk result (λ v. length v.items ≤ 0x100000) }
         ensures refused { IfErr result (λ e. (e ≡ Read) ⊎ (e ≡ Memory)) }
         ensures same { (p : List ℕ) → holds self.new p ≡ holds self.old p };
 }
@@ -27,7 +33,8 @@ pub fn read_all<F: Files>(
     paths: &[&str],
     files: &mut F,
 ) -> Result<Vec<Vec<u8>>, Fault>
-    ensures read { IfOk result (λ v. AreRead (F.holds files.old) paths.now (map (λ f. f.items) v.items)) }
+    ensures read { IfOk result (λ v. AreRead (F.holds files.old) paths.now
+        (map (λ f. f.items) v.items)) }
     ensures refused { IfErr result (λ e. (e ≡ Read) ⊎ (e ≡ Memory)) }
 {
     let mut read = Vec::new(alloc);

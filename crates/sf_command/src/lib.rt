@@ -7,9 +7,11 @@ mod checking;
 mod dispatch;
 mod files;
 mod status;
+mod telling;
 mod texts;
+mod tracing;
 mod words;
 
 pub use dispatch::command;
-pub use files::Files;
-pub use status::status_of;
+pub use files::{Files, MOST_BYTES};
+pub use telling::tell_fault;

@@ -19,13 +19,15 @@ pub fn answer_text(alloc: Global, answer: Answer) -> Result<String, AllocError>
 }
 
 fn push_filter(text: &mut String, number: usize, instructions: usize) -> Result<(), AllocError>
-    ensures { OnOk result (string_bytes text.new ≡ string_bytes text.old ++ filter_line number instructions) }
+    ensures { OnOk result (string_bytes text.new ≡ string_bytes text.old
+        ++ filter_line number instructions) }
 {
     write!(text, "filter {number} {instructions} instructions\n")
 }
 
 fn push_filters(text: &mut String, programs: &[Program]) -> Result<(), AllocError>
-    ensures { OnOk result (string_bytes text.new ≡ string_bytes text.old ++ filter_lines 1 programs.now) }
+    ensures { OnOk result (string_bytes text.new ≡ string_bytes text.old
+        ++ filter_lines 1 programs.now) }
 {
     for (i, program) in programs.iter().enumerate() {
         push_filter(text, i + 1, program.insns().len())?;

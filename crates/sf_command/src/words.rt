@@ -6,6 +6,27 @@ ghost use Rattle.sf_command.specs.CommandLine.{command_line, filters_rule, neede
 use clap::{Arg, ArgAction, Command, value_parser};
 use std::alloc::{AllocError, Global};
 
+/// The version of the program, as `--version` tells it.
+const VERSION: &str = "1.0.0";
+
+/// What stands at the end of `--help`.
+const AFTER_HELP: &str = "Exit status:
+  0  every question is never; or check, eval or help did what it should
+  1  some question is allowed
+  2  some question is unsettled, and none allowed
+  3  a filter, the stack, the policy or the input is refused
+  4  the command line is refused
+  5  a file can't be read, standard output can't be written, or memory ran out
+
+Limits:
+  1 to 64 filters of 1 to 4096 instructions each, with a path length of at most 32768
+  1 to 256 questions of a policy
+  1 to 1000000 pieces that are worked on (--budget), 100000 if not given
+  1 to 64 workers (--workers), 4 if not given
+  1048576 bytes of a file
+
+docs/GUIDE.md says how to get filters, how to ask questions and how to read the answers.";
+
 /// An option with a value.
 fn option<'a>(alloc: Global, name: &'a str, value: &'a str) -> Arg<'a>
     ensures rule { rule_of result ≡ option_rule name.entry.now }
@@ -31,7 +52,7 @@ fn budget<'a>(alloc: Global) -> Arg<'a>
     option(alloc, "budget", "N")
         .value_parser(numbers)
         .default_value("100000")
-        .help("The most pieces that are worked on")
+        .help("The most pieces that are worked on, 1 to 1000000")
 }
 
 fn workers<'a>(alloc: Global) -> Arg<'a>
@@ -64,6 +85,26 @@ fn input<'a>(alloc: Global) -> Arg<'a>
     )
 }
 
+fn trace<'a>(alloc: Global) -> Arg<'a>
+    ensures rule { rule_of result ≡ switch_rule (codes "trace") }
+    ensures own { result.global ≡ false }
+{
+    Arg::new(alloc, "trace")
+        .long("trace")
+        .action(ArgAction::SetTrue)
+        .help("Show what each filter meets and returns too")
+}
+
+fn trace_true<'a>(alloc: Global) -> Arg<'a>
+    ensures rule { rule_of result ≡ switch_rule (codes "trace-true") }
+    ensures own { result.global ≡ false }
+{
+    Arg::new(alloc, "trace-true")
+        .long("trace-true")
+        .action(ArgAction::SetTrue)
+        .help("The same without the comparisons that are false")
+}
+
 fn filters<'a>(alloc: Global) -> Arg<'a>
     ensures rule { rule_of result ≡ filters_rule }
     ensures own { result.global ≡ false }
@@ -93,12 +134,16 @@ pub(crate) fn form<'a>(alloc: Global) -> Result<Command<'a>, AllocError>
     let eval = Command::new(alloc, "eval")
         .about("Show what a stack of filters answers to one input")
         .arg(input(alloc))?
+        .arg(trace(alloc))?
+        .arg(trace_true(alloc))?
         .arg(filters(alloc))?;
     let program = Command::new(alloc, "seccomp_audit")
         .about("Audit a stack of seccomp filters")
+        .after_help(AFTER_HELP)
         .bin_name("seccomp_audit")?
         .no_binary_name(true)
         .subcommand_required(true)
+        .version(VERSION)
         .disable_help_subcommand(true);
     program
         .subcommand(audit)?

@@ -13,7 +13,8 @@ pub has_same : (x : ℕ) (xs : List ℕ) → has x (x ∷ xs) ≡ max 1 (has x x
 has_same x xs = let t : (if x == x then 1 else 0) ≡ 1 = grind (arith, nat_tests) in ap (λ n. max n (has x xs)) t
 
 pub has_other : (x y : ℕ) (xs : List ℕ) → x ≢ y → has x (y ∷ xs) ≡ has x xs
-has_other x y xs ne = let t : (if x == y then 1 else 0) ≡ 0 = grind (arith, nat_tests) in ap (λ n. max n (has x xs)) t ∙ omega arith
+has_other x y xs ne = let t : (if x == y then 1 else 0) ≡ 0 = grind (arith, nat_tests) in
+    ap (λ n. max n (has x xs)) t ∙ omega arith
 
 one_at_most : (x y : ℕ) → (if x == y then 1 else 0) ≤ 1
 one_at_most x y = grind (arith, nat_tests)
@@ -36,31 +37,40 @@ mask_apart b c b_low c_low same = dite (ℕ_discrete b c) (λ e. e) (λ ne. absu
     let set_b : bit_at (bit_or 0 (1 * 2 ^ b % 2 ^ 64)) b ≡ 1 = bit_at_set_same w64 0 b b_low in
     let set_c : bit_at (bit_or 0 (1 * 2 ^ c % 2 ^ 64)) b ≡ bit_at 0 b = bit_at_set_other w64 0 c c_low b ne in
     let none = bit_at-zero b in
-    let e : bit_at (bit_or 0 (1 * 2 ^ b % 2 ^ 64)) b ≡ bit_at (bit_or 0 (1 * 2 ^ c % 2 ^ 64)) b = ap (λ m. bit_at (bit_or 0 m) b) same in
+    let e : bit_at (bit_or 0 (1 * 2 ^ b % 2 ^ 64)) b ≡ bit_at (bit_or 0 (1 * 2 ^ c % 2 ^ 64)) b =
+    ap (λ m. bit_at (bit_or 0 m) b) same in
     omega arith))
 
 -- a word of doubts and a mask belong to one question
 pub question_is : (p q : ℕ) → p / 64 + 2 ≡ q / 64 + 2 → 1 * 2 ^ (p % 64) % 2 ^ 64 ≡ 1 * 2 ^ (q % 64) % 2 ^ 64 → p ≡ q
-question_is p q word mask = let rest : p % 64 ≡ q % 64 = mask_apart (p % 64) (q % 64) (omega arith) (omega arith) mask in omega arith
+question_is p q word mask = let rest : p % 64 ≡ q % 64 =
+    mask_apart (p % 64) (q % 64) (omega arith) (omega arith) mask in omega arith
 
 -- the bit of p, where the bit of q is set in its word
 pub bit_set : (word q : ℕ) → bit_at (bit_or word (1 * 2 ^ (q % 64) % 2 ^ 64)) (q % 64) ≡ 1
 bit_set word q = bit_at_set_same w64 word (q % 64) (omega arith)
 
-pub bit_kept : (word p q : ℕ) → p ≢ q → p / 64 ≡ q / 64 → bit_at (bit_or word (1 * 2 ^ (q % 64) % 2 ^ 64)) (p % 64) ≡ bit_at word (p % 64)
+pub bit_kept : (word p q : ℕ) → p ≢ q → p / 64 ≡ q / 64 → bit_at (bit_or word (1 * 2 ^ (q % 64) % 2 ^ 64)) (p % 64)
+    ≡ bit_at word (p % 64)
 bit_kept word p q ne same = bit_at_set_other w64 word (q % 64) (omega arith) (p % 64) (λ e. ne (omega arith))
 
 pub bit_most : (word b : ℕ) → bit_at word b ≤ 1
 bit_most word b = let lt = bit_at-lt word b in omega arith
 
 -- the bit of q is set in four words, and no other is changed
-pub bits_more : (words : List ℕ) (p q : ℕ) → length words ≡ 4 → q < 256 → bit_of (set words (q / 64) (bit_or (slice_index words (q / 64)) (1 * 2 ^ (q % 64) % 2 ^ 64))) p ≡ (if p == q then 1 else bit_of words p)
+pub bits_more : (words : List ℕ) (p q : ℕ) → length words ≡ 4 → q < 256
+    → bit_of (set words (q / 64) (bit_or (slice_index words (q / 64)) (1 * 2 ^ (q % 64) % 2 ^ 64))) p
+    ≡ (if p == q then 1 else bit_of words p)
 bits_more words p q long low =
     let w : ℕ = q / 64 in let m : ℕ = bit_or (slice_index words w) (1 * 2 ^ (q % 64) % 2 ^ 64) in
     let here : slice_index (set words w m) w ≡ m = get_or-set_same words w m 0 (omega arith) in
     let one : bit_of (set words w m) q ≡ 1 = ap (λ x. bit_at x (q % 64)) here ∙ bit_set (slice_index words w) q in
     dite (ℕ_discrete p q)
-    (λ e. (let t : (if p == q then 1 else bit_of words p) ≡ 1 = grind (arith, nat_tests) in subst (λ x. bit_of (set words w m) x ≡ 1) (sym e) one ∙ sym t))
-    (λ ne. (let t : (if p == q then 1 else bit_of words p) ≡ bit_of words p = grind (arith, nat_tests) in dite (ℕ_discrete (p / 64) w)
-    (λ same. ap (λ x. bit_at (slice_index (set words w m) x) (p % 64)) same ∙ ap (λ x. bit_at x (p % 64)) here ∙ bit_kept (slice_index words w) p q ne same ∙ ap (λ x. bit_at (slice_index words x) (p % 64)) (sym same) ∙ sym t)
+    (λ e. (let t : (if p == q then 1 else bit_of words p) ≡ 1 = grind (arith, nat_tests) in
+    subst (λ x. bit_of (set words w m) x ≡ 1) (sym e) one ∙ sym t))
+    (λ ne. (let t : (if p == q then 1 else bit_of words p) ≡ bit_of words p = grind (arith, nat_tests) in
+    dite (ℕ_discrete (p / 64) w)
+    (λ same. ap (λ x. bit_at (slice_index (set words w m) x) (p % 64)) same ∙ ap (λ x. bit_at x (p % 64)) here
+    ∙ bit_kept (slice_index words w) p q ne same ∙ ap (λ x. bit_at (slice_index words x) (p % 64))
+    (sym same) ∙ sym t)
     (λ apart. ap (λ x. bit_at x (p % 64)) (get_or-set_other words w (p / 64) m 0 apart) ∙ sym t)))

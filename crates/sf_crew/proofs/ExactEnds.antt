@@ -14,7 +14,8 @@ use Rattle.sf_crew.specs.Ends.{IsEndOf, IsExactEnd}
 abbrev IsEnough : List (List Insn) → ℕ → BookData → Type 0
 IsEnough stack budget s = (s.outstanding ≡ []) ↔ (2 * length (feasible_traces stack) ≤ budget + 1)
 
-pub exact_end : (stack : List (List Insn)) (budget : ℕ) (s : BookData) → IsEndOf stack budget s → IsPlainWhereStackIs s → IsPlain stack → IsExactEnd stack budget s
+pub exact_end : (stack : List (List Insn)) (budget : ℕ) (s : BookData) → IsEndOf stack budget s → IsPlainWhereStackIs s
+    → IsPlain stack → IsExactEnd stack budget s
 exact_end stack budget s h plain p =
     let members : HasMembers s = plain_has_members s (plain.book (subst IsPlain (sym h.of) p)) in
     let own : IsEnough s.stack s.budget s = enough s h.settled members h.end in

@@ -1,13 +1,19 @@
 -- Pieces on lease through a turn.
-use Rattle.std.proofs.Common.{◌≡◌, ℕ, ◌+◌, ◌==◌, Bool, true, false, not, cond, List, [], ◌∷◌, ◌++◌, map, get_or, Option, Some, None, refl, sym, ◌∙◌, ap, subst, arith, inl, inr}
+use Rattle.std.proofs.Common.{◌≡◌, ℕ, ◌<◌, ◌==◌, Bool, true, false, not, cond, List, [], ◌∷◌, ◌++◌, map, Option, Some, None, MatchOption, refl, ◌∙◌, ap, subst, arith, inl}
 use Rattle.std.specs.List.{All}
 use Rattle.std.proofs.lemmas.Bool.Decides.{nat_tests}
-use Rattle.std.proofs.lemmas.List.{map-append}
-use Rattle.std.proofs.lemmas.List.Elements.{All-head, All-tail, All-cons, All-nil, All-append, All-map}
-use Rattle.sf_piece.specs.Pieces.{PieceData, StepData, Split, Settled, Empty}
-use Rattle.sf_book.specs.Books.{EntryData, BookData}
-use Rattle.sf_book.specs.Changes.{with_lease_at, with_lease, without, CommitsAs, Leases, AreNewIds}
-use Rattle.sf_crew.specs.Ends.{IsEnd, IsFree, IsSameExploration, GoesOn}
+use Rattle.std.specs.Arc.{arc_value}
+use Rattle.std.specs.Option.{option_map}
+use Rattle.std.proofs.lemmas.Option.{same_Some}
+use Rattle.std.proofs.lemmas.List.Elements.{All-head, All-tail, All-cons, All-nil, All-filter, All-map}
+use Rattle.sf_piece.specs.Pieces.{PieceData, StepData, WorkData, Split, Settled, Empty, children_of}
+use Rattle.sf_book.specs.Books.{EntryData, BookData, IsLawful, IsOutstanding}
+use Rattle.sf_book.specs.Changes.{entry_at, with_lease_at, with_lease, without, CommitsAs, Leases, MayCommit, Refuses}
+use Rattle.sf_book.specs.ChangeLaws.{only_memory}
+use Rattle.sf_book.specs.declared.book.Lease.{Lease}
+use Rattle.sf_book.specs.declared.fault.Fault.{Fault}
+use Rattle.sf_book.specs.declared.fault.Fault.TheVariants.{Memory}
+use Rattle.sf_crew.specs.Ends.{IsEnd, IsFree, IsOnlyLease, MayWork, IsSameExploration, GoesOn}
 
 abbrev Free : EntryData → Type 0
 Free e = e.leased ≡ false
@@ -22,48 +28,144 @@ none_left (e ∷ es) h k =
 marked_free : (i : ℕ) (e : EntryData) → e.leased ≡ false → (with_lease_at i false e).leased ≡ false
 marked_free i e h = elim (e.id == i) as (λ b. cond b false e.leased ≡ false) [ true ↦ refl | false ↦ h ]
 
-free_map : (i : ℕ) (es : List EntryData) → IsFree es → IsFree (map (with_lease_at i false) es)
-free_map i es h = All-map Free (with_lease_at i false) es (λ k d l. marked_free i (get_or es k d) (h k d l))
-
 left_free : (id : ℕ) (es : List EntryData) → IsFree es → IsFree (without id (map (with_lease_at id true) es))
 left_free id [] h = All-nil Free
 left_free id (e ∷ es) h =
     let R = without id (map (with_lease_at id true) es) in
     let rest : IsFree R = left_free id es (All-tail Free e es h) in
-    elim (e.id == id) as (λ b. IsFree (cond (not b) (record { id = e.id; piece = e.piece; leased = cond b true e.leased } ∷ R) R))
-    [ true ↦ rest | false ↦ All-cons Free (record { id = e.id; piece = e.piece; leased = e.leased }) R (All-head Free e es h) rest ]
+    elim (e.id == id) as (λ b. IsFree (cond (not b)
+    (record { id = e.id; piece = e.piece; leased = cond b true e.leased } ∷ R) R)) [
+      | true ↦ rest
+      | false ↦ All-cons Free (record { id = e.id; piece = e.piece; leased = e.leased }) R
+          (All-head Free e es h) rest
+    ]
 
-back_free : (i : ℕ) (p : PieceData) → (with_lease_at i false (record { id = i; piece = p; leased = true })).leased ≡ false
-back_free i p = let t : (i == i) ≡ true = grind (arith, nat_tests) in rw t refl
+-- ---- a lease of the first piece, where none was on lease
 
-children_free : (es : List EntryData) (i j : ℕ) (f t : PieceData) → IsFree es
-    → IsFree (map (with_lease_at j false) (map (with_lease_at i false) (es ++ (record { id = i; piece = f; leased = true } ∷ record { id = j; piece = t; leased = true } ∷ []))))
-children_free es i j f t h =
-    let F : EntryData = record { id = i; piece = f; leased = true } in
+leased_there : (es : List EntryData) (id : ℕ) (p : PieceData)
+    → entry_at id es ≡ Some (record { id = id; piece = p; leased = false })
+    → entry_at id (map (with_lease_at id true) es) ≡ Some (record { id = id; piece = p; leased = true })
+leased_there [] id p at = absurd cc
+leased_there (x ∷ es) id p at = by (x.id == id) at (leased_there es id p)
+  where
+    by : (b : Bool) → cond b (Some x) (entry_at id es) ≡ Some (record { id = id; piece = p; leased = false })
+        → (entry_at id es ≡ Some (record { id = id; piece = p; leased = false })
+        → entry_at id (map (with_lease_at id true) es) ≡ Some (record { id = id; piece = p; leased = true }))
+        → cond b (Some (record { id = x.id; piece = x.piece; leased = cond b true x.leased }))
+        (entry_at id (map (with_lease_at id true) es)) ≡ Some (record { id = id; piece = p; leased = true })
+    by true at rest = ap (λ (k : EntryData). Some (record { id = k.id; piece = k.piece; leased = true }))
+        (same_Some x (record { id = id; piece = p; leased = false }) at)
+    by false at rest = rest at
+
+pub only_leased : (b c : BookData) (x : Lease) → IsFree b.outstanding → Leases b x.id (arc_value x.piece) c
+    → IsOnlyLease c x
+only_leased b c x h l = rw l.after (record {
+  there = leased_there b.outstanding x.id (arc_value x.piece) l.there;
+  others = left_free x.id b.outstanding h;
+})
+
+-- a lease, if there is a piece, changes nothing else
+pub lease_keeps : (b c : BookData) (l : Option Lease)
+    → MatchOption l ((c ≡ b) × All (λ e. e.leased ≡ true) b.outstanding) (λ x. Leases b x.id (arc_value x.piece) c)
+    → IsSameExploration b c × (c.commits ≡ b.commits)
+lease_keeps b c None h = rw h.0 (record { stack = refl; budget = refl }, refl)
+lease_keeps b c (Some x) h = rw h.after (record { stack = refl; budget = refl }, refl)
+
+-- it may be worked within the budget, and where there is none, nothing is outstanding
+pub leased_or_end : (b c : BookData) (l : Option Lease) → IsFree b.outstanding → b.commits < b.budget
+    → MatchOption l ((c ≡ b) × All (λ e. e.leased ≡ true) b.outstanding) (λ x. Leases b x.id (arc_value x.piece) c)
+    → MatchOption l (IsEnd c) (λ x. MayWork c x)
+leased_or_end b c None free room h = rw h.0 (inl (none_left b.outstanding free h.1))
+leased_or_end b c (Some x) free room h = record { lease = only_leased b c x free h; room = rw h.after room }
+
+-- ---- a commit of the leased piece's work
+
+entry_all : (P : EntryData → Type 0) (es : List EntryData) (id : ℕ) (e : EntryData) → All P es
+    → entry_at id es ≡ Some e → P e
+entry_all P [] id e h at = absurd cc
+entry_all P (x ∷ es) id e h at = by (x.id == id) at (All-head P x es h) (λ k. entry_all P es id e (All-tail P x es h) k)
+  where
+    by : (b : Bool) → cond b (Some x) (entry_at id es) ≡ Some e → P x → (entry_at id es ≡ Some e → P e) → P e
+    by true at here rest = subst P (same_Some x e at) here
+    by false at here rest = rest at
+
+-- it is refused for nothing but want of memory
+pub work_refused : (b : BookData) (x : Lease) (w : WorkData) (f : Fault) → IsLawful b → MayWork b x
+    → w.piece ≡ arc_value x.piece → Refuses b x.id w f → f ≡ Memory
+work_refused b x w f h m is r =
+    let e : EntryData = record { id = x.id; piece = arc_value x.piece; leased = true } in
+    let o : IsOutstanding b.stack e = entry_all (IsOutstanding b.stack) b.outstanding x.id e h.outstanding
+    m.lease.there in
+    let may : MayCommit b x.id w = record {
+      same_stack = ap (λ (q : PieceData). q.stack) is ∙ o.of;
+      entry = e;
+      there = m.lease.there;
+      same_name = ap (λ (q : PieceData). q.name) is;
+    } in
+    only_memory b x.id w f may m.room r
+
+-- where nothing was split, no piece is on lease after it
+pub goes_one : (b c : BookData) (x : Lease) (p : PieceData) (n : List Bool) (s : StepData) → MayWork b x
+    → CommitsAs b x.id p n s None c → GoesOn b None c
+goes_one b c x p n (Split f t) m k = absurd k
+goes_one b c x p n (Settled a) m k = rw k (record { commits = refl; only = m.lease.others })
+goes_one b c x p n Empty m k = rw k (record { commits = refl; only = m.lease.others })
+
+pub split_has_child : (b c : BookData) (id : ℕ) (ids : ℕ × ℕ) (p : PieceData) (n : List Bool) (s : StepData)
+    → CommitsAs b id p n s (Some ids) c → None ≡ option_map (λ k. k.0) (children_of s) → ⊥
+split_has_child b c id ids p n (Split f t) k none = cc
+split_has_child b c id ids p n (Settled a) k none = k
+split_has_child b c id ids p n Empty k none = k
+
+-- ---- a split, after which the second child is given back
+
+first_there : (es : List EntryData) (i j : ℕ) (f t : PieceData) → All (λ e. e.id < i) es → i < j
+    → entry_at i (map (with_lease_at j false) (es ++ record { id = i; piece = f; leased = true }
+    ∷ record { id = j; piece = t; leased = true } ∷ [])) ≡ Some (record { id = i; piece = f; leased = true })
+first_there [] i j f t h lt =
+    let same : (i == i) ≡ true = grind (arith, nat_tests) in
+    let other : (i == j) ≡ false = grind (arith, nat_tests) in
+    rw (same, other) refl
+first_there (e ∷ es) i j f t h lt =
+    let below : e.id < i = All-head (λ e. e.id < i) e es h in
+    let other : (e.id == i) ≡ false = grind (arith, nat_tests) in
+    rw other (first_there es i j f t (All-tail (λ e. e.id < i) e es h) lt)
+
+rest_free : (es : List EntryData) (i j : ℕ) (f t : PieceData) → IsFree es → All (λ e. e.id < i) es → i < j
+    → IsFree (without i (map (with_lease_at j false) (es ++ record { id = i; piece = f; leased = true }
+    ∷ record { id = j; piece = t; leased = true } ∷ [])))
+rest_free [] i j f t free h lt =
+    let same : (i == i) ≡ true = grind (arith, nat_tests) in
+    let other : (j == i) ≡ false = grind (arith, nat_tests) in
     let T : EntryData = record { id = j; piece = t; leased = true } in
-    let m = with_lease_at i false in
-    let n = with_lease_at j false in
-    let back : (n (m T)).leased ≡ false = (let t : (j == j) ≡ true = grind (arith, nat_tests) in rw t refl) in
-    rw (map-append, map-append)
-    (All-append Free (map n (map m es)) (n (m F) ∷ n (m T) ∷ []) (free_map j (map m es) (free_map i es h))
-    (All-cons Free (n (m F)) (n (m T) ∷ []) (marked_free j (m F) (back_free i f)) (All-cons Free (n (m T)) [] back (All-nil Free))))
+    let back : (with_lease_at j false T).leased ≡ false =
+    (let is : (j == j) ≡ true = grind (arith, nat_tests) in rw is refl) in
+    rw (same, other) (All-cons Free (with_lease_at j false T) [] back (All-nil Free))
+rest_free (e ∷ es) i j f t free h lt =
+    let below : e.id < i = All-head (λ e. e.id < i) e es h in
+    let other : (e.id == i) ≡ false = grind (arith, nat_tests) in
+    let R = without i (map (with_lease_at j false) (es ++ record { id = i; piece = f; leased = true }
+    ∷ record { id = j; piece = t; leased = true } ∷ [])) in
+    rw other (All-cons Free (with_lease_at j false e) R (marked_free j e (All-head Free e es free))
+    (rest_free es i j f t (All-tail Free e es free) (All-tail (λ e. e.id < i) e es h) lt))
 
-abbrev pub given_back : ℕ → BookData → BookData
-given_back i b = record b { outstanding = map (with_lease_at i false) b.outstanding }
-
-pub goes_split : (b l c : BookData) (id i j : ℕ) (q p : PieceData) (n : List Bool) (s : StepData) → IsFree b.outstanding → Leases b id q l → CommitsAs l id p n s (Some (i, j)) c → GoesOn b (given_back j (given_back i c))
-goes_split b l c id i j q p n (Split f t) h a k =
-    rw (k.1, a.after) (record {
+pub goes_split : (b c : BookData) (x y : Lease) (i j : ℕ) (p : PieceData) (n : List Bool) (s : StepData) → MayWork b x
+    → CommitsAs b x.id p n s (Some (i, j)) c
+    → y.id ≡ i → Some (arc_value y.piece) ≡ option_map (λ k. k.0) (children_of s)
+    → GoesOn b (Some y) (record c { outstanding = map (with_lease_at j false) c.outstanding })
+goes_split b c x y i j p n (Split f t) m k id is =
+    let rest : List EntryData = without x.id b.outstanding in
+    let below : All (λ e. e.id < i) rest = All-filter (λ e. not (e.id == x.id)) (λ e. e.id < i) b.outstanding k.0.0 in
+    let piece : arc_value y.piece ≡ f = same_Some (arc_value y.piece) f is in
+    rw (k.1, id, piece) (record {
       commits = refl;
-      free = children_free (without id (map (with_lease_at id true) b.outstanding)) i j f t (left_free id b.outstanding h);
+      only = record {
+        there = first_there rest i j f t below k.0.1;
+        others = rest_free rest i j f t m.lease.others below k.0.1;
+      };
     })
-goes_split b l c id i j q p n (Settled x) h a k = absurd k
-goes_split b l c id i j q p n Empty h a k = absurd k
-
-pub goes_one : (b l c : BookData) (id : ℕ) (q p : PieceData) (n : List Bool) (s : StepData) → IsFree b.outstanding → Leases b id q l → CommitsAs l id p n s None c → GoesOn b c
-goes_one b l c id q p n (Split f t) h a k = absurd k
-goes_one b l c id q p n (Settled x) h a k = rw (k, a.after) (record { commits = refl; free = left_free id b.outstanding h })
-goes_one b l c id q p n Empty h a k = rw (k, a.after) (record { commits = refl; free = left_free id b.outstanding h })
+goes_split b c x y i j p n (Settled a) m k id is = absurd k
+goes_split b c x y i j p n Empty m k id is = absurd k
 
 pub recalled_free : (es : List EntryData) → IsFree (map (with_lease false) es)
 recalled_free es = All-map Free (with_lease false) es (λ k d l. refl)

@@ -23,20 +23,31 @@ use Rattle.sf_crew.proofs.Jobs.{jobs_once, jobs_all, count_all}
 once_at_most : (x n : ℕ) → once_below x n ≤ 1
 once_at_most x n = grind (arith, nat_tests)
 
-pub glances : (k : Matter) (slots id : ℕ) (me : Me ℕ View) → me.0.about ≡ Some k → Allows (BoardKept k) slots id me 0 (λ n. n) (λ n w. (w ≡ me) × Knows me.0)
+pub glances : (k : Matter) (slots id : ℕ) (me : Me ℕ View) → me.0.about ≡ Some k
+    → Allows (BoardKept k) slots id me 0 (λ n. n) (λ n w. (w ≡ me) × Knows me.0)
 glances k slots id me is s h homes at fits =
     let v : View = me.0 in let n : ℕ = slice_index s.words 0 in
     let same : set s.words 0 n ≡ s.words = set-get_or s.words 0 0 in
     let stay : set s.views id v ≡ s.views = set_again s.views id v at in
     let all : IfSome v.about (λ j. 0 < v.nones → Whole j v) =
     subst (λ o. IfSome o (λ j. 0 < v.nones → Whole j v)) (sym is)
-    (λ past whole. let end = ((h.1).each id v at).past past in
-    (count_all k n _ _ _ s.views id v at h.1 whole ∙ omega arith, λ x. jobs_all k n _ _ _ s.views id v at h.1 whole x ∙ ap (once_below x) (omega arith))) in (
+    (λ past whole. let end = ((h.1).each id v at).past past in (
+      count_all k n _ _ _ s.views id v at h.1 whole ∙ omega arith,
+      λ x. jobs_all k n _ _ _ s.views id v at h.1 whole x ∙ ap (once_below x) (omega arith),
+    )) in (
       v,
       keeps,
       tt,
-      subst (λ (y : List ℕ × List View). BoardKept k (record { words = y.0; homes = s.homes; views = y.1 })) (λ i. (sym same i, sym stay i)) h,
-      (refl, ((λ x. let a = jobs_once k n _ _ _ s.views id v at h.1 x in let b = once_at_most x (min n (places k)) in omega arith), all)),
+      subst (λ (y : List ℕ × List View). BoardKept k (record { words = y.0; homes = s.homes; views = y.1 }))
+          (λ i. (sym same i, sym stay i)) h,
+      (
+        refl,
+        (
+          (λ x. let a = jobs_once k n _ _ _ s.views id v at h.1 x in let b = once_at_most x (min n (places k)) in
+              omega arith),
+          all,
+        ),
+      ),
     )
 
 shared : (k : Matter) (least : ℕ → ℕ) (n : ℕ) (v : View) → v.about ≡ Some k → Sound k n least (sharing v)
@@ -50,33 +61,46 @@ shared k least n v is = record {
   covered = tt;
 }
 
-split_kept : (k : Matter) (n e : ℕ) (d least : ℕ → ℕ) (views : List View) (port : ℕ) (v : View) → 1 < v.parts → v.nones ≡ 0 → v.about ≡ Some k → get_elem? views port ≡ some v → Kept k n e d least views → Kept k n e d least (set views port (keeping v) ++ sharing v ∷ [])
-split_kept k n e d least views port v parts fresh is at h = let w : View = keeping v in let u : View = sharing v in let mine = h.each port v at in let vs : List View = set views port w in record {
-  parts = (let s = total_set (λ y. y.parts) views port v w at in let t = total_snoc (λ y. y.parts) vs u in let p = h.parts in omega arith);
-  drawn = λ x. (let s = total_set (λ y. times x (jobs y)) views port v w at in let t = total_snoc (λ y. times x (jobs y)) vs u in let p = h.drawn x in omega arith);
-  drawn_count = (let s = total_set (λ y. length (jobs y)) views port v w at in let t = total_snoc (λ y. length (jobs y)) vs u in let p = h.drawn_count in omega arith);
-  past_end = (let s = total_set (λ y. y.nones) views port v w at in let t = total_snoc (λ y. y.nones) vs u in let p = h.past_end in omega arith);
-  entered_is = (let s = total_set (λ y. length y.entries) views port v w at in let t = total_snoc (λ y. length y.entries) vs u in let p = h.entered_is in omega arith);
-  marked = λ q few. (let s = top_set (doubt_at q) views port v w at (omega arith) in let t = top_at (doubt_at q) views port v at in let p = h.marked q few in let same : doubt_at q w ≡ doubt_at q v = refl in
-      let none : doubt_at q u ≡ 0 = refl in let r = top_snoc (doubt_at q) vs u none in omega arith);
-  right = h.right;
-  each = every_snoc (Sound k n least) vs u (every_set (Sound k n least) (Sound k n least) views port w h.each (λ y s. s) record {
-    about = λ _. is;
-    idle = λ none. absurd (omega arith);
-    few = omega arith;
-    past = λ some_none. absurd (omega arith);
-    marks = mine.marks;
-    noted = mine.noted;
-    covered = mine.covered;
-  }) (shared k least n v is);
-}
+split_kept : (k : Matter) (n e : ℕ) (d least : ℕ → ℕ) (views : List View) (port : ℕ) (v : View) → 1 < v.parts
+    → v.nones ≡ 0 → v.about ≡ Some k → get_elem? views port ≡ some v → Kept k n e d least views
+    → Kept k n e d least (set views port (keeping v) ++ sharing v ∷ [])
+split_kept k n e d least views port v parts fresh is at h = let w : View = keeping v in let u : View = sharing v in
+    let mine = h.each port v at in let vs : List View = set views port w in record {
+      parts = (let s = total_set (λ y. y.parts) views port v w at in let t = total_snoc (λ y. y.parts) vs u in
+          let p = h.parts in omega arith);
+      drawn = λ x. (let s = total_set (λ y. times x (jobs y)) views port v w at in
+          let t = total_snoc (λ y. times x (jobs y)) vs u in let p = h.drawn x in omega arith);
+      drawn_count = (let s = total_set (λ y. length (jobs y)) views port v w at in
+          let t = total_snoc (λ y. length (jobs y)) vs u in let p = h.drawn_count in omega arith);
+      past_end = (let s = total_set (λ y. y.nones) views port v w at in let t = total_snoc (λ y. y.nones) vs u in
+          let p = h.past_end in omega arith);
+      entered_is = (let s = total_set (λ y. length y.entries) views port v w at in
+          let t = total_snoc (λ y. length y.entries) vs u in let p = h.entered_is in omega arith);
+      marked = λ q few. (let s = top_set (doubt_at q) views port v w at (omega arith) in
+          let t = top_at (doubt_at q) views port v at in let p = h.marked q few in
+          let same : doubt_at q w ≡ doubt_at q v = refl in
+          let none : doubt_at q u ≡ 0 = refl in let r = top_snoc (doubt_at q) vs u none in omega arith);
+      right = h.right;
+      each = every_snoc (Sound k n least) vs u (every_set (Sound k n least) (Sound k n least) views port w h.each
+          (λ y s. s) record {
+            about = λ _. is;
+            idle = λ none. absurd (omega arith);
+            few = omega arith;
+            past = λ some_none. absurd (omega arith);
+            marks = mine.marks;
+            noted = mine.noted;
+            covered = mine.covered;
+          }) (shared k least n v is);
+    }
 
-pub splits : (k : Matter) (id : ℕ) (v : View) → 1 < v.parts → v.nones ≡ 0 → v.about ≡ Some k → Splits {S = ℕ} (BoardKept k) id v (keeping v) (sharing v)
+pub splits : (k : Matter) (id : ℕ) (v : View) → 1 < v.parts → v.nones ≡ 0 → v.about ≡ Some k
+    → Splits {S = ℕ} (BoardKept k) id v (keeping v) (sharing v)
 splits k id v parts fresh is s h at = (h.0, split_kept k _ _ _ _ s.views id v parts fresh is at h.1)
 
 noted_left : (ns ms : List Note) (q r : ℕ) → Noted ns q r → Noted (ns ++ ms) q r
 noted_left [] ms q r x = absurd x
-noted_left (n ∷ ns) ms q r x = ⊎_elim (λ (y : (n.question ≡ q) × (n.place ≡ r)). inl y) (λ (y : Noted ns q r). inr (noted_left ns ms q r y)) x
+noted_left (n ∷ ns) ms q r x = ⊎_elim (λ (y : (n.question ≡ q) × (n.place ≡ r)). inl y)
+    (λ (y : Noted ns q r). inr (noted_left ns ms q r y)) x
 
 noted_right : (ns ms : List Note) (q r : ℕ) → Noted ms q r → Noted (ns ++ ms) q r
 noted_right [] ms q r x = x
@@ -84,83 +108,116 @@ noted_right (n ∷ ns) ms q r x = inr (noted_right ns ms q r x)
 
 pub noted_either : (ns ms : List Note) (q r : ℕ) → Noted (ns ++ ms) q r → Noted ns q r ⊎ Noted ms q r
 noted_either [] ms q r x = inr x
-noted_either (n ∷ ns) ms q r x = ⊎_elim (λ (y : (n.question ≡ q) × (n.place ≡ r)). inl (inl y)) (λ (y : Noted (ns ++ ms) q r). ⊎_elim (λ (z : Noted ns q r). inl (inr z)) (λ (z : Noted ms q r). inr z) (noted_either ns ms q r y)) x
+noted_either (n ∷ ns) ms q r x = ⊎_elim (λ (y : (n.question ≡ q) × (n.place ≡ r)). inl (inl y))
+    (λ (y : Noted (ns ++ ms) q r). ⊎_elim (λ (z : Noted ns q r). inl (inr z)) (λ (z : Noted ms q r). inr z)
+    (noted_either ns ms q r y)) x
 
 each_append : (P : Entry → Type 0) (xs ys : List Entry) → Each P xs → Each P ys → Each P (xs ++ ys)
 each_append P [] ys a b = b
 each_append P (x ∷ xs) ys a b = (a.0, each_append P xs ys a.1 b)
 
-joint_jobs : (x : ℕ) (v w : View) → v.owes ≡ None → w.owes ≡ None → times x (jobs (joining v w)) ≡ times x (jobs v) + times x (jobs w)
+joint_jobs : (x : ℕ) (v w : View) → v.owes ≡ None → w.owes ≡ None
+    → times x (jobs (joining v w)) ≡ times x (jobs v) + times x (jobs w)
 joint_jobs x v w a b =
     let f : Entry → ℕ = λ e. e.job in
     let l : times x (jobs v) ≡ times x (map f v.entries) = ap (λ o. times x (owed o ++ map f v.entries)) a in
     let r : times x (jobs w) ≡ times x (map f w.entries) = ap (λ o. times x (owed o ++ map f w.entries)) b in
-    let both : times x (map f (v.entries ++ w.entries)) ≡ times x (map f v.entries) + times x (map f w.entries) = ap (times x) (map-append f v.entries w.entries) ∙ times_append x (map f v.entries) (map f w.entries) in
+    let both : times x (map f (v.entries ++ w.entries)) ≡ times x (map f v.entries) + times x (map f w.entries) =
+    ap (times x) (map-append f v.entries w.entries) ∙ times_append x (map f v.entries) (map f w.entries) in
     omega arith
 
-joint_count : (v w : View) → v.owes ≡ None → w.owes ≡ None → length (jobs (joining v w)) ≡ length (jobs v) + length (jobs w)
+joint_count : (v w : View) → v.owes ≡ None → w.owes ≡ None → length (jobs (joining v w)) ≡ length (jobs v)
+    + length (jobs w)
 joint_count v w a b =
     let f : Entry → ℕ = λ e. e.job in
     let l : length (jobs v) ≡ length (map f v.entries) = ap (λ o. length (owed o ++ map f v.entries)) a in
     let r : length (jobs w) ≡ length (map f w.entries) = ap (λ o. length (owed o ++ map f w.entries)) b in
-    omega (arith, length-map v.entries f, length-map w.entries f, length-map (v.entries ++ w.entries) f, length-append v.entries w.entries)
+    omega (
+      arith,
+      length-map v.entries f,
+      length-map w.entries f,
+      length-map (v.entries ++ w.entries) f,
+      length-append v.entries w.entries,
+    )
 
 -- two views at different places: the first becomes b, and the second z
-total_both : (f : View → ℕ) (views : List View) (i j : ℕ) (v w b z : View) → j ≢ i → get_elem? views i ≡ some v → get_elem? (set views i b) j ≡ some w → total f (set (set views i b) j z) + f v + f w ≡ total f views + f b + f z
-total_both f views i j v w b z apart at at' = let s = total_set f views i v b at in let t = total_set f (set views i b) j w z at' in omega arith
+total_both : (f : View → ℕ) (views : List View) (i j : ℕ) (v w b z : View) → j ≢ i → get_elem? views i ≡ some v
+    → get_elem? (set views i b) j ≡ some w → total f (set (set views i b) j z) + f v + f w ≡ total f views + f b + f z
+total_both f views i j v w b z apart at at' = let s = total_set f views i v b at in
+    let t = total_set f (set views i b) j w z at' in omega arith
 
-long_enough : (views : List View) (i : ℕ) (v b : View) → get_elem? views i ≡ some v → get_elem? (set views i b) i ≡ some b
+long_enough : (views : List View) (i : ℕ) (v b : View) → get_elem? views i ≡ some v
+    → get_elem? (set views i b) i ≡ some b
 long_enough [] i v b e = absurd (some-ne-none v (sym e))
 long_enough (x ∷ xs) zero v b e = refl
 long_enough (x ∷ xs) (suc i) v b e = long_enough xs i v b e
 
 -- where b has what w had, the top stays when w falls to z
-top_both : (f : View → ℕ) (views : List View) (i j : ℕ) (v w b z : View) → j ≢ i → get_elem? views i ≡ some v → get_elem? (set views i b) j ≡ some w → f b ≡ max (f v) (f w) → f z ≡ 0 → top f (set (set views i b) j z) ≡ top f views
+top_both : (f : View → ℕ) (views : List View) (i j : ℕ) (v w b z : View) → j ≢ i → get_elem? views i ≡ some v
+    → get_elem? (set views i b) j ≡ some w → f b ≡ max (f v) (f w) → f z ≡ 0
+    → top f (set (set views i b) j z) ≡ top f views
 top_both f views i j v w b z apart at at' joined none =
     let was : get_elem? views j ≡ some w = sym (set_else views i j b apart) ∙ at' in
     let s = top_set f views i v b at (omega arith) in
     let t = top_change f (set views i b) j w z at' in
-    let there : get_elem? (set (set views i b) j z) i ≡ some b = set_else (set views i b) j i z (λ e. apart (sym e)) ∙ long_enough views i v b at in
+    let there : get_elem? (set (set views i b) j z) i ≡ some b =
+    set_else (set views i b) j i z (λ e. apart (sym e)) ∙ long_enough views i v b at in
     let most = top_at f (set (set views i b) j z) i b there in
     let mine = top_at f views i v at in let theirs = top_at f views j w was in
     omega arith
 
-join_kept : (k : Matter) (n e : ℕ) (d least : ℕ → ℕ) (views : List View) (i j : ℕ) (v w : View) → v.owes ≡ None → w.owes ≡ None → v.about ≡ Some k → 0 < v.parts → j ≢ i → get_elem? views i ≡ some v → get_elem? (set views i (joining v w)) j ≡ some w
+join_kept : (k : Matter) (n e : ℕ) (d least : ℕ → ℕ) (views : List View) (i j : ℕ) (v w : View) → v.owes ≡ None
+    → w.owes ≡ None → v.about ≡ Some k → 0 < v.parts → j ≢ i → get_elem? views i ≡ some v
+    → get_elem? (set views i (joining v w)) j ≡ some w
     → Kept k n e d least views → Kept k n e d least (set (set views i (joining v w)) j idle_view)
 join_kept k n e d least views i j v w free free' is part apart at at' h =
     let b : View = joining v w in let z : View = idle_view in
     let was : get_elem? views j ≡ some w = sym (set_else views i j b apart) ∙ at' in
     let mine = h.each i v at in let theirs = h.each j w was in record {
       parts = (let s = total_both (λ y. y.parts) views i j v w b z apart at at' in let p = h.parts in omega arith);
-      drawn = λ x. (let s = total_both (λ y. times x (jobs y)) views i j v w b z apart at at' in let t = joint_jobs x v w free free' in let p = h.drawn x in omega arith);
-      drawn_count = (let s = total_both (λ y. length (jobs y)) views i j v w b z apart at at' in let t = joint_count v w free free' in let p = h.drawn_count in omega arith);
-      past_end = (let s = total_both (λ y. y.nones) views i j v w b z apart at at' in let p = h.past_end in omega arith);
-      entered_is = (let s = total_both (λ y. length y.entries) views i j v w b z apart at at' in let t = length-append v.entries w.entries in let p = h.entered_is in omega arith);
+      drawn = λ x. (let s = total_both (λ y. times x (jobs y)) views i j v w b z apart at at' in
+          let t = joint_jobs x v w free free' in let p = h.drawn x in omega arith);
+      drawn_count = (let s = total_both (λ y. length (jobs y)) views i j v w b z apart at at' in
+          let t = joint_count v w free free' in let p = h.drawn_count in omega arith);
+      past_end = (let s = total_both (λ y. y.nones) views i j v w b z apart at at' in
+          let p = h.past_end in omega arith);
+      entered_is = (let s = total_both (λ y. length y.entries) views i j v w b z apart at at' in
+          let t = length-append v.entries w.entries in let p = h.entered_is in omega arith);
       marked = λ q few.
           (let none : doubt_at q z ≡ 0 = refl in
-          let a : has q v.marked ≡ 0 = ap (has q) (mine.marks free) in let c : has q w.marked ≡ 0 = ap (has q) (theirs.marks free') in
-          let o : doubt_at q b ≡ max (has q []) (has_doubt q (v.entries ++ w.entries)) = refl in let y : has q [] ≡ 0 = refl in
+          let a : has q v.marked ≡ 0 = ap (has q) (mine.marks free) in
+          let c : has q w.marked ≡ 0 = ap (has q) (theirs.marks free') in
+          let o : doubt_at q b ≡ max (has q []) (has_doubt q (v.entries ++ w.entries)) = refl in
+          let y : has q [] ≡ 0 = refl in
           let m = has_doubt_append q v.entries w.entries in
-          let t = top_both (doubt_at q) views i j v w b z apart at at' (omega arith) none in let p = h.marked q few in omega arith);
+          let t = top_both (doubt_at q) views i j v w b z apart at at' (omega arith) none in
+          let p = h.marked q few in omega arith);
       right = h.right;
-      each = every_set (Sound k n least) (Sound k n least) (set views i b) j z (every_set (Sound k n least) (Sound k n least) views i b h.each (λ y s. s) record {
-        about = λ _. is;
-        idle = λ none. absurd (omega arith);
-        few = (let x = mine.few in let y = theirs.few in omega arith);
-        past = λ some_none. dite (dec_le 1 v.nones) (λ yes. mine.past yes) (λ no. theirs.past (let lt = lt_of_not-le no in omega arith));
-        marks = λ _. refl;
-        noted = λ q r x. ⊎_elim (λ (y : Noted v.notes q r). mine.noted q r y) (λ (y : Noted w.notes q r). theirs.noted q r y) (noted_either v.notes w.notes q r x);
-        covered = each_append (Covered k (v.notes ++ w.notes)) v.entries w.entries (noted_more k v.notes (v.notes ++ w.notes) v.entries (noted_left v.notes w.notes) mine.covered) (noted_more k w.notes (v.notes ++ w.notes) w.entries (noted_right v.notes w.notes) theirs.covered);
-      }) (λ y s. s) record {
-        about = λ some_part. absurd (omega arith);
-        idle = λ _. (refl, refl);
-        few = omega arith;
-        past = λ some_none. absurd (omega arith);
-        marks = λ _. refl;
-        noted = λ q r x. absurd x;
-        covered = tt;
-      };
+      each = every_set (Sound k n least) (Sound k n least) (set views i b) j z
+          (every_set (Sound k n least) (Sound k n least) views i b h.each (λ y s. s) record {
+            about = λ _. is;
+            idle = λ none. absurd (omega arith);
+            few = (let x = mine.few in let y = theirs.few in omega arith);
+            past = λ some_none. dite (dec_le 1 v.nones) (λ yes. mine.past yes)
+                (λ no. theirs.past (let lt = lt_of_not-le no in omega arith));
+            marks = λ _. refl;
+            noted = λ q r x. ⊎_elim (λ (y : Noted v.notes q r). mine.noted q r y)
+                (λ (y : Noted w.notes q r). theirs.noted q r y) (noted_either v.notes w.notes q r x);
+            covered = each_append (Covered k (v.notes ++ w.notes)) v.entries w.entries
+                (noted_more k v.notes (v.notes ++ w.notes) v.entries (noted_left v.notes w.notes) mine.covered)
+                (noted_more k w.notes (v.notes ++ w.notes) w.entries (noted_right v.notes w.notes) theirs.covered);
+          }) (λ y s. s) record {
+            about = λ some_part. absurd (omega arith);
+            idle = λ _. (refl, refl);
+            few = omega arith;
+            past = λ some_none. absurd (omega arith);
+            marks = λ _. refl;
+            noted = λ q r x. absurd x;
+            covered = tt;
+          };
     }
 
-pub joins : (k : Matter) (id other : ℕ) (v w : View) → v.owes ≡ None → w.owes ≡ None → v.about ≡ Some k → 0 < v.parts → Joins {S = ℕ} (BoardKept k) id v other w (joining v w) idle_view
-joins k id other v w free free' is part s h at apart at' = (h.0, join_kept k _ _ _ _ s.views id other v w free free' is part apart at at' h.1)
+pub joins : (k : Matter) (id other : ℕ) (v w : View) → v.owes ≡ None → w.owes ≡ None → v.about ≡ Some k → 0 < v.parts
+    → Joins {S = ℕ} (BoardKept k) id v other w (joining v w) idle_view
+joins k id other v w free free' is part s h at apart at' =
+    (h.0, join_kept k _ _ _ _ s.views id other v w free free' is part apart at at' h.1)

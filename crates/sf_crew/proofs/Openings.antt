@@ -23,7 +23,8 @@ first_doubts n regions (suc (suc (suc (suc w)))) lt = absurd (omega arith)
 
 first_least : (n regions q : ℕ) → q < n → least_in (first_words n regions) q ≡ regions
 first_least n regions q lt =
-    let turn : slice_index (first_words n regions) (6 + q) ≡ slice_index (replicate n regions) q = get_or-append-add (0 ∷ 0 ∷ 0 ∷ 0 ∷ 0 ∷ 0 ∷ []) (replicate n regions) q 0 in
+    let turn : slice_index (first_words n regions) (6 + q) ≡ slice_index (replicate n regions) q =
+    get_or-append-add (0 ∷ 0 ∷ 0 ∷ 0 ∷ 0 ∷ 0 ∷ []) (replicate n regions) q 0 in
     ap (slice_index (first_words n regions)) (omega arith) ∙ turn ∙ get_or-replicate n q regions 0 lt
 
 only_view : {X : Type 0} (x y : X) (port : ℕ) → get_elem? (x ∷ []) port ≡ some y → x ≡ y
@@ -41,19 +42,24 @@ opened k = record {
   covered = tt;
 }
 
-pub opens : (k : Matter) → Kept k 0 0 (doubts_in (first_words (length (asked k)) (places k))) (least_in (first_words (length (asked k)) (places k))) (first_view k ∷ [])
+pub opens : (k : Matter) → Kept k 0 0 (doubts_in (first_words (length (asked k)) (places k)))
+    (least_in (first_words (length (asked k)) (places k))) (first_view k ∷ [])
 opens k = let words : List ℕ = first_words (length (asked k)) (places k) in record {
   parts = omega arith;
   drawn = λ x. (let none : once_below x (min 0 (places k)) ≡ 0 = grind (arith, nat_tests) in omega arith);
   drawn_count = omega arith;
   past_end = omega arith;
   entered_is = refl;
-  marked = λ q few. ap (λ x. bit_at x (q % 64)) (first_doubts (length (asked k)) (places k) (q / 64) (omega arith)) ∙ bit_at-zero (q % 64);
+  marked = λ q few. ap (λ x. bit_at x (q % 64)) (first_doubts (length (asked k)) (places k) (q / 64) (omega arith))
+      ∙ bit_at-zero (q % 64);
   right = λ q there. inl (first_least (length (asked k)) (places k) q there);
   each = λ port v at. subst (Sound k 0 (least_in words)) (only_view (first_view k) v port at) (opened k);
 }
 
 -- the same of any words that are these
-pub opens_at : (k : Matter) (words : List ℕ) (n regions : ℕ) → words ≡ first_words n regions → n ≡ length (asked k) → regions ≡ places k → BoardKept {S = ℕ} k (record { words = words; homes = []; views = first_view k ∷ [] })
-opens_at k words n regions is same small = subst (λ (y : List ℕ). BoardKept {S = ℕ} k (record { words = y; homes = []; views = first_view k ∷ [] }))
-    (sym (is ∙ (λ i. first_words (same i) (small i)))) (omega (arith, length-replicate (length (asked k)) (places k)), opens k)
+pub opens_at : (k : Matter) (words : List ℕ) (n regions : ℕ) → words ≡ first_words n regions → n ≡ length (asked k)
+    → regions ≡ places k → BoardKept {S = ℕ} k (record { words = words; homes = []; views = first_view k ∷ [] })
+opens_at k words n regions is same small =
+    subst (λ (y : List ℕ). BoardKept {S = ℕ} k (record { words = y; homes = []; views = first_view k ∷ [] }))
+    (sym (is ∙ (λ i. first_words (same i) (small i))))
+    (omega (arith, length-replicate (length (asked k)) (places k)), opens k)

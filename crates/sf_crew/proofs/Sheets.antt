@@ -19,45 +19,55 @@ use Rattle.sf_crew.specs.SheetEntries.{IsHit, IsDoubt, MarksDoubts, AreDoubts, N
 pub marks_none : (vs : List (Option Verdict)) (old : List ℕ) → MarksDoubts vs 0 old old
 marks_none vs old = record { more = λ q. omega arith; doubts = λ q lt. absurd (omega arith); only = λ q one. inl one }
 
-pub marks_same : (vs : List (Option Verdict)) (n : ℕ) (old new : List ℕ) → (IsDoubt vs n → ⊥) → MarksDoubts vs n old new → MarksDoubts vs (n + 1) old new
+pub marks_same : (vs : List (Option Verdict)) (n : ℕ) (old new : List ℕ) → (IsDoubt vs n → ⊥) → MarksDoubts vs n old new
+    → MarksDoubts vs (n + 1) old new
 marks_same vs n old new none h = record {
   more = h.more;
-  doubts = λ q lt is. dite (ℕ_discrete q n) (λ e. absurd (none (subst (IsDoubt vs) e is))) (λ ne. h.doubts q (omega arith) is);
+  doubts = λ q lt is. dite (ℕ_discrete q n) (λ e. absurd (none (subst (IsDoubt vs) e is)))
+      (λ ne. h.doubts q (omega arith) is);
   only = h.only;
 }
 
-pub marks_more : (vs : List (Option Verdict)) (n : ℕ) (old new : List ℕ) → IsDoubt vs n → MarksDoubts vs n old new → MarksDoubts vs (n + 1) old (n ∷ new)
+pub marks_more : (vs : List (Option Verdict)) (n : ℕ) (old new : List ℕ) → IsDoubt vs n → MarksDoubts vs n old new
+    → MarksDoubts vs (n + 1) old (n ∷ new)
 marks_more vs n old new is h = record {
   more = λ q. (let m = h.more q in omega arith);
   doubts = λ q lt there. dite (ℕ_discrete q n)
       (λ e. (let most = has_most n new in subst (λ x. has x (n ∷ new) ≡ 1) (sym e) (has_same n new ∙ omega arith)))
       (λ ne. has_other q n new ne ∙ h.doubts q (omega arith) there);
-  only = λ q one. dite (ℕ_discrete q n) (λ e. inr (subst (IsDoubt vs) (sym e) is)) (λ ne. h.only q (sym (has_other q n new ne) ∙ one));
+  only = λ q one. dite (ℕ_discrete q n) (λ e. inr (subst (IsDoubt vs) (sym e) is))
+      (λ ne. h.only q (sym (has_other q n new ne) ∙ one));
 }
 
-pub hits_same : (vs : List (Option Verdict)) (job n : ℕ) (old new : List Note) → (IsHit vs n → ⊥) → NotesHits vs job n old new → NotesHits vs job (n + 1) old new
+pub hits_same : (vs : List (Option Verdict)) (job n : ℕ) (old new : List Note) → (IsHit vs n → ⊥)
+    → NotesHits vs job n old new → NotesHits vs job (n + 1) old new
 hits_same vs job n old new none h = record {
   more = h.more;
-  hits = λ q lt is. dite (ℕ_discrete q n) (λ e. absurd (none (subst (IsHit vs) e is))) (λ ne. h.hits q (omega arith) is);
+  hits = λ q lt is. dite (ℕ_discrete q n) (λ e. absurd (none (subst (IsHit vs) e is)))
+      (λ ne. h.hits q (omega arith) is);
   only = h.only;
 }
 
-pub hits_more : (vs : List (Option Verdict)) (job n : ℕ) (old new : List Note) → IsHit vs n → NotesHits vs job n old new → NotesHits vs job (n + 1) old (note n job ∷ new)
+pub hits_more : (vs : List (Option Verdict)) (job n : ℕ) (old new : List Note) → IsHit vs n → NotesHits vs job n old new
+    → NotesHits vs job (n + 1) old (note n job ∷ new)
 hits_more vs job n old new is h = record {
   more = λ q r x. inr (h.more q r x);
   hits = λ q lt there. dite (ℕ_discrete q n) (λ e. inl (sym e, refl)) (λ ne. inr (h.hits q (omega arith) there));
-  only = λ q r x. ⊎_elim (λ (y : (n ≡ q) × (job ≡ r)). inr (sym y.1, subst (IsHit vs) y.0 is)) (λ (y : Noted new q r). h.only q r y) x;
+  only = λ q r x. ⊎_elim (λ (y : (n ≡ q) × (job ≡ r)). inr (sym y.1, subst (IsHit vs) y.0 is))
+      (λ (y : Noted new q r). h.only q r y) x;
 }
 
 -- each verdict is a hit, a doubt, or there is none; or no member breaks the question
-verdict_cases : (s : BookData) (qs : List Asked) (r q : ℕ) (v : Option Verdict) → IsRightEntry s qs r q v → (is_hit v ≡ true) ⊎ (is_doubt v ≡ true) ⊎ (is_skipped v ≡ true) ⊎ HasNoBreak s qs r q
+verdict_cases : (s : BookData) (qs : List Asked) (r q : ℕ) (v : Option Verdict) → IsRightEntry s qs r q v
+    → (is_hit v ≡ true) ⊎ (is_doubt v ≡ true) ⊎ (is_skipped v ≡ true) ⊎ HasNoBreak s qs r q
 verdict_cases s qs r q None h = inr (inr (inl refl))
 verdict_cases s qs r q (Some Clear) h = inr (inr (inr (clear-breaks-none s qs r q (Some Clear) h refl refl refl)))
 verdict_cases s qs r q (Some (Hit d)) h = inl refl
 verdict_cases s qs r q (Some Doubt) h = inr (inl refl)
 
 -- a verdict that is a doubt is the doubt
-doubt_right : (s : BookData) (qs : List Asked) (r q : ℕ) (v : Option Verdict) → IsRightEntry s qs r q v → is_doubt v ≡ true → IsRightEntry s qs r q (Some Doubt)
+doubt_right : (s : BookData) (qs : List Asked) (r q : ℕ) (v : Option Verdict) → IsRightEntry s qs r q v
+    → is_doubt v ≡ true → IsRightEntry s qs r q (Some Doubt)
 doubt_right s qs r q None h is = absurd (cc)
 doubt_right s qs r q (Some Clear) h is = absurd (cc)
 doubt_right s qs r q (Some (Hit d)) h is = absurd (cc)
@@ -72,22 +82,30 @@ doubt_below (v ∷ vs) (suc q) is = let rest = doubt_below vs q is in omega arit
 abbrev Subject : Type 0
 Subject = BookData × List Asked
 
-pub covers : (k : Matter) (v : View) (s : SheetData) (ds : List ℕ) (ns : List Note) → IsSheetFor k v s → IsRightSheet s → NotesHits s.verdicts s.job (length s.questions) v.notes ns → AreDoubts s ds → Covered k ns (entry s.job ds)
+pub covers : (k : Matter) (v : View) (s : SheetData) (ds : List ℕ) (ns : List Note) → IsSheetFor k v s → IsRightSheet s
+    → NotesHits s.verdicts s.job (length s.questions) v.notes ns → AreDoubts s ds → Covered k ns (entry s.job ds)
 covers k v s ds ns f right notes marks =
-    let same : length s.questions ≡ length (asked k) = ap (λ (y : List Asked). length y) f.questions in let long = right.each in record {
+    let same : length s.questions ≡ length (asked k) = ap (λ (y : List Asked). length y) f.questions in
+    let long = right.each in record {
       there = subst (λ (y : BookData). s.job < length y.regions) f.regions right.there;
       cleared = λ q lt. (let there : q < length s.questions = omega arith in
           ⊎_elim (λ (x : is_hit (verdict_at s.verdicts q) ≡ true). inl (s.job, notes.hits q there x, omega arith))
           (λ x. ⊎_elim (λ (y : is_doubt (verdict_at s.verdicts q) ≡ true). inr (inr (marks.doubts q there y)))
-          (λ y. ⊎_elim (λ (z : is_skipped (verdict_at s.verdicts q) ≡ true). let low = f.skips q lt z in inl (low.0, notes.more q low.0 low.1, (let lt = low.2 in omega arith)))
-          (λ (z : HasNoBreak s.settled s.questions s.job q). inr (inl (subst (λ (y : Subject). HasNoBreak y.0 y.1 s.job q) (λ i. (f.regions i, f.questions i)) z))) y) x)
+          (λ y. ⊎_elim (λ (z : is_skipped (verdict_at s.verdicts q) ≡ true). let low = f.skips q lt z in
+          inl (low.0, notes.more q low.0 low.1, (let lt = low.2 in omega arith)))
+          (λ (z : HasNoBreak s.settled s.questions s.job q).
+          inr (inl (subst (λ (y : Subject). HasNoBreak y.0 y.1 s.job q) (λ i. (f.regions i, f.questions i)) z)))
+          y) x)
           (verdict_cases s.settled s.questions s.job q (verdict_at s.verdicts q) (right.right q there)));
       doubts = λ q one. ⊎_elim (λ (x : has q [] ≡ 1). absurd (cc))
           (λ (x : IsDoubt s.verdicts q). let there = doubt_below s.verdicts q x in
-          subst (λ (y : Subject). IsRightEntry y.0 y.1 s.job q (Some Doubt)) (λ i. (f.regions i, f.questions i)) (doubt_right s.settled s.questions s.job q (verdict_at s.verdicts q) (right.right q (omega arith)) x))
+          subst (λ (y : Subject). IsRightEntry y.0 y.1 s.job q (Some Doubt)) (λ i. (f.regions i, f.questions i))
+          (doubt_right s.settled s.questions s.job q (verdict_at s.verdicts q) (right.right q (omega arith)) x))
           (marks.only q one);
     }
 
 -- the seat before its last step
-pub marked_view : (v m w : View) → m ≡ with_notes v m.notes → w ≡ with_marks m w.marked → w ≡ view_of v.about v.parts v.nones v.owes w.marked v.entries m.notes
-marked_view v m w noted marked = marked ∙ ap (λ (y : View). view_of y.about y.parts y.nones y.owes w.marked y.entries m.notes) noted
+pub marked_view : (v m w : View) → m ≡ with_notes v m.notes → w ≡ with_marks m w.marked
+    → w ≡ view_of v.about v.parts v.nones v.owes w.marked v.entries m.notes
+marked_view v m w noted marked = marked ∙ ap
+    (λ (y : View). view_of y.about y.parts y.nones y.owes w.marked y.entries m.notes) noted

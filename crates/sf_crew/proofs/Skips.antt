@@ -13,17 +13,22 @@ abbrev pub IsBeaten : ℕ → List Note → ℕ → Type 0
 IsBeaten job ns q = (r : ℕ) × Noted ns q r × (r < job)
 
 -- one question more
-pub skips_more : (n job : ℕ) (ns ms : List Note) (before after : List ℕ) → ((q r : ℕ) → Noted ns q r → Noted ms q r) → ((q : ℕ) → q < n → bit_of before q ≡ 0 → IsBeaten job ns q)
-    → (bit_of after n ≡ 0 → IsBeaten job ms n) → ((q : ℕ) → q ≢ n → bit_of after q ≡ bit_of before q) → (q : ℕ) → q < n + 1 → bit_of after q ≡ 0 → IsBeaten job ms q
+pub skips_more : (n job : ℕ) (ns ms : List Note) (before after : List ℕ) → ((q r : ℕ) → Noted ns q r → Noted ms q r)
+    → ((q : ℕ) → q < n → bit_of before q ≡ 0 → IsBeaten job ns q)
+    → (bit_of after n ≡ 0 → IsBeaten job ms n) → ((q : ℕ) → q ≢ n → bit_of after q ≡ bit_of before q) → (q : ℕ)
+    → q < n + 1 → bit_of after q ≡ 0 → IsBeaten job ms q
 skips_more n job ns ms before after more all this same q lt none = dite (ℕ_discrete q n)
     (λ e. subst (IsBeaten job ms) (sym e) (this (subst (λ x. bit_of after x ≡ 0) e none)))
     (λ ne. let was = all q (omega arith) (sym (same q ne) ∙ none) in (was.0, more q was.0 was.1, was.2))
 
-pub set_here : (n : ℕ) (before after : List ℕ) → ((p : ℕ) → bit_of after p ≡ (if p == n then 1 else bit_of before p)) → bit_of after n ≡ 1
+pub set_here : (n : ℕ) (before after : List ℕ) → ((p : ℕ) → bit_of after p ≡ (if p == n then 1 else bit_of before p))
+    → bit_of after n ≡ 1
 set_here n before after h = let t : (if n == n then 1 else bit_of before n) ≡ 1 = grind (arith, nat_tests) in h n ∙ t
 
-pub set_else : (n : ℕ) (before after : List ℕ) → ((p : ℕ) → bit_of after p ≡ (if p == n then 1 else bit_of before p)) → (q : ℕ) → q ≢ n → bit_of after q ≡ bit_of before q
-set_else n before after h q ne = let t : (if q == n then 1 else bit_of before q) ≡ bit_of before q = grind (arith, nat_tests) in h q ∙ t
+pub set_else : (n : ℕ) (before after : List ℕ) → ((p : ℕ) → bit_of after p ≡ (if p == n then 1 else bit_of before p))
+    → (q : ℕ) → q ≢ n → bit_of after q ≡ bit_of before q
+set_else n before after h q ne = let t : (if q == n then 1 else bit_of before q) ≡ bit_of before q =
+    grind (arith, nat_tests) in h q ∙ t
 
 -- a question that is not asked for has its bit at 0
 pub not_wanted : (words : List ℕ) (q : ℕ) → true ≡ not (is_wanted words q) → bit_of words q ≡ 0

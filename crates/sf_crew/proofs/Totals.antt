@@ -6,12 +6,14 @@ use Rattle.atomic_table.proofs.Lists.{at_set, at_snoc}
 use Rattle.sf_crew.specs.declared.view.View.{View}
 use Rattle.sf_crew.specs.Views.{times, total, top}
 
-pub total_set : (f : View → ℕ) (views : List View) (port : ℕ) (v w : View) → get_elem? views port ≡ some v → total f (set views port w) + f v ≡ total f views + f w
+pub total_set : (f : View → ℕ) (views : List View) (port : ℕ) (v w : View) → get_elem? views port ≡ some v
+    → total f (set views port w) + f v ≡ total f views + f w
 total_set f [] port v w e = absurd (some-ne-none v (sym e))
 total_set f (x ∷ xs) zero v w e = let same : f x ≡ f v = ap f (some-injective x v e) in omega arith
 total_set f (x ∷ xs) (suc port) v w e = let rest = total_set f xs port v w e in omega arith
 
-pub total_at : (f : View → ℕ) (views : List View) (port : ℕ) (v : View) → get_elem? views port ≡ some v → f v ≤ total f views
+pub total_at : (f : View → ℕ) (views : List View) (port : ℕ) (v : View) → get_elem? views port ≡ some v
+    → f v ≤ total f views
 total_at f [] port v e = absurd (some-ne-none v (sym e))
 total_at f (x ∷ xs) zero v e = let same : f x ≡ f v = ap f (some-injective x v e) in omega arith
 total_at f (x ∷ xs) (suc port) v e = let rest = total_at f xs port v e in omega arith
@@ -21,11 +23,16 @@ total_snoc f [] w = omega arith
 total_snoc f (x ∷ xs) w = let rest = total_snoc f xs w in omega arith
 
 -- where one view has all of f, and g is 0 wherever f is, it has all of g
-total_none : (f g : View → ℕ) (views : List View) → ((port : ℕ) (v : View) → get_elem? views port ≡ some v → f v ≡ 0 → g v ≡ 0) → total f views ≡ 0 → total g views ≡ 0
+total_none : (f g : View → ℕ) (views : List View)
+    → ((port : ℕ) (v : View) → get_elem? views port ≡ some v → f v ≡ 0 → g v ≡ 0) → total f views ≡ 0
+    → total g views ≡ 0
 total_none f g [] h e = refl
-total_none f g (x ∷ xs) h e = let here : g x ≡ 0 = h 0 x refl (omega arith) in let rest = total_none f g xs (λ j v at. h (suc j) v at) (omega arith) in omega arith
+total_none f g (x ∷ xs) h e = let here : g x ≡ 0 = h 0 x refl (omega arith) in
+    let rest = total_none f g xs (λ j v at. h (suc j) v at) (omega arith) in omega arith
 
-pub total_only : (f g : View → ℕ) (views : List View) (port : ℕ) (v : View) → ((j : ℕ) (u : View) → get_elem? views j ≡ some u → f u ≡ 0 → g u ≡ 0) → get_elem? views port ≡ some v → total f views ≡ f v → total g views ≡ g v
+pub total_only : (f g : View → ℕ) (views : List View) (port : ℕ) (v : View)
+    → ((j : ℕ) (u : View) → get_elem? views j ≡ some u → f u ≡ 0 → g u ≡ 0) → get_elem? views port ≡ some v
+    → total f views ≡ f v → total g views ≡ g v
 total_only f g [] port v h at e = absurd (some-ne-none v (sym at))
 total_only f g (x ∷ xs) zero v h at e =
     let f_same : f x ≡ f v = ap f (some-injective x v at) in let g_same : g x ≡ g v = ap g (some-injective x v at) in
@@ -34,16 +41,20 @@ total_only f g (x ∷ xs) (suc port) v h at e =
     let most = total_at f xs port v at in let here : g x ≡ 0 = h 0 x refl (omega arith) in
     let rest = total_only f g xs port v (λ j u there. h (suc j) u there) at (omega arith) in omega arith
 
-pub total_le : (f g : View → ℕ) (views : List View) → ((port : ℕ) (v : View) → get_elem? views port ≡ some v → f v ≤ g v) → total f views ≤ total g views
+pub total_le : (f g : View → ℕ) (views : List View)
+    → ((port : ℕ) (v : View) → get_elem? views port ≡ some v → f v ≤ g v) → total f views ≤ total g views
 total_le f g [] h = omega arith
-total_le f g (x ∷ xs) h = let here : f x ≤ g x = h 0 x refl in let rest = total_le f g xs (λ j v at. h (suc j) v at) in omega arith
+total_le f g (x ∷ xs) h = let here : f x ≤ g x = h 0 x refl in
+    let rest = total_le f g xs (λ j v at. h (suc j) v at) in omega arith
 
-pub top_set : (f : View → ℕ) (views : List View) (port : ℕ) (v w : View) → get_elem? views port ≡ some v → f v ≤ f w → top f (set views port w) ≡ max (top f views) (f w)
+pub top_set : (f : View → ℕ) (views : List View) (port : ℕ) (v w : View) → get_elem? views port ≡ some v → f v ≤ f w
+    → top f (set views port w) ≡ max (top f views) (f w)
 top_set f [] port v w at h = absurd (some-ne-none v (sym at))
 top_set f (x ∷ xs) zero v w at h = let same : f x ≡ f v = ap f (some-injective x v at) in omega arith
 top_set f (x ∷ xs) (suc port) v w at h = let rest = top_set f xs port v w at h in omega arith
 
-pub top_at : (f : View → ℕ) (views : List View) (port : ℕ) (v : View) → get_elem? views port ≡ some v → f v ≤ top f views
+pub top_at : (f : View → ℕ) (views : List View) (port : ℕ) (v : View) → get_elem? views port ≡ some v
+    → f v ≤ top f views
 top_at f [] port v at = absurd (some-ne-none v (sym at))
 top_at f (x ∷ xs) zero v at = let same : f x ≡ f v = ap f (some-injective x v at) in omega arith
 top_at f (x ∷ xs) (suc port) v at = let rest = top_at f xs port v at in omega arith
@@ -52,11 +63,15 @@ pub top_snoc : (f : View → ℕ) (views : List View) (w : View) → f w ≡ 0 �
 top_snoc f [] w h = omega arith
 top_snoc f (x ∷ xs) w h = let rest = top_snoc f xs w h in omega arith
 
-top_none : (f g : View → ℕ) (views : List View) → ((port : ℕ) (v : View) → get_elem? views port ≡ some v → f v ≡ 0 → g v ≡ 0) → total f views ≡ 0 → top g views ≡ 0
+top_none : (f g : View → ℕ) (views : List View)
+    → ((port : ℕ) (v : View) → get_elem? views port ≡ some v → f v ≡ 0 → g v ≡ 0) → total f views ≡ 0 → top g views ≡ 0
 top_none f g [] h e = refl
-top_none f g (x ∷ xs) h e = let here : g x ≡ 0 = h 0 x refl (omega arith) in let rest = top_none f g xs (λ j v at. h (suc j) v at) (omega arith) in omega arith
+top_none f g (x ∷ xs) h e = let here : g x ≡ 0 = h 0 x refl (omega arith) in
+    let rest = top_none f g xs (λ j v at. h (suc j) v at) (omega arith) in omega arith
 
-pub top_only : (f g : View → ℕ) (views : List View) (port : ℕ) (v : View) → ((j : ℕ) (u : View) → get_elem? views j ≡ some u → f u ≡ 0 → g u ≡ 0) → get_elem? views port ≡ some v → total f views ≡ f v → top g views ≡ g v
+pub top_only : (f g : View → ℕ) (views : List View) (port : ℕ) (v : View)
+    → ((j : ℕ) (u : View) → get_elem? views j ≡ some u → f u ≡ 0 → g u ≡ 0) → get_elem? views port ≡ some v
+    → total f views ≡ f v → top g views ≡ g v
 top_only f g [] port v h at e = absurd (some-ne-none v (sym at))
 top_only f g (x ∷ xs) zero v h at e =
     let f_same : f x ≡ f v = ap f (some-injective x v at) in let g_same : g x ≡ g v = ap g (some-injective x v at) in
@@ -70,14 +85,22 @@ times_append x [] ys = omega arith
 times_append x (y ∷ xs) ys = let rest = times_append x xs ys in omega arith
 
 -- a fact of every view stays where one view changes
-pub every_set : (F G : View → Type 0) (views : List View) (port : ℕ) (w : View) → ((j : ℕ) (u : View) → get_elem? views j ≡ some u → F u) → ((u : View) → F u → G u) → G w → (j : ℕ) (u : View) → get_elem? (set views port w) j ≡ some u → G u
-every_set F G views port w all keeps mine j u e = ⊎_elim (λ (x : (j ≡ port) × (w ≡ u)). subst G x.1 mine) (λ (x : (j ≢ port) × (get_elem? views j ≡ some u)). keeps u (all j u x.1)) (at_set views port j w u e)
+pub every_set : (F G : View → Type 0) (views : List View) (port : ℕ) (w : View)
+    → ((j : ℕ) (u : View) → get_elem? views j ≡ some u → F u) → ((u : View) → F u → G u) → G w → (j : ℕ) (u : View)
+    → get_elem? (set views port w) j ≡ some u → G u
+every_set F G views port w all keeps mine j u e =
+    ⊎_elim (λ (x : (j ≡ port) × (w ≡ u)). subst G x.1 mine) (λ (x : (j ≢ port) × (get_elem? views j ≡ some u)).
+    keeps u (all j u x.1)) (at_set views port j w u e)
 
-pub every_snoc : (F : View → Type 0) (views : List View) (w : View) → ((j : ℕ) (u : View) → get_elem? views j ≡ some u → F u) → F w → (j : ℕ) (u : View) → get_elem? (views ++ w ∷ []) j ≡ some u → F u
-every_snoc F views w all mine j u e = ⊎_elim (λ (x : get_elem? views j ≡ some u). all j u x) (λ (x : w ≡ u). subst F x mine) (at_snoc views w u j e)
+pub every_snoc : (F : View → Type 0) (views : List View) (w : View)
+    → ((j : ℕ) (u : View) → get_elem? views j ≡ some u → F u) → F w → (j : ℕ) (u : View)
+    → get_elem? (views ++ w ∷ []) j ≡ some u → F u
+every_snoc F views w all mine j u e = ⊎_elim (λ (x : get_elem? views j ≡ some u). all j u x)
+    (λ (x : w ≡ u). subst F x mine) (at_snoc views w u j e)
 
 -- the top when a view changes, whether it rises or falls
-pub top_change : (f : View → ℕ) (views : List View) (port : ℕ) (v w : View) → get_elem? views port ≡ some v → max (top f (set views port w)) (f v) ≡ max (top f views) (f w)
+pub top_change : (f : View → ℕ) (views : List View) (port : ℕ) (v w : View) → get_elem? views port ≡ some v
+    → max (top f (set views port w)) (f v) ≡ max (top f views) (f w)
 top_change f [] port v w at = absurd (some-ne-none v (sym at))
 top_change f (x ∷ xs) zero v w at = let same : f x ≡ f v = ap f (some-injective x v at) in omega arith
 top_change f (x ∷ xs) (suc port) v w at = let rest = top_change f xs port v w at in omega arith

@@ -18,7 +18,8 @@ pub record Sound (k : Matter) (next : ℕ) (least : ℕ → ℕ) (v : View) : Ty
   pub noted : (q r : ℕ) → Noted v.notes q r → least q ≤ r
   pub covered : Each (Covered k v.notes) v.entries
 
--- the words: the next job, the number of sheets entered, four of bits of the questions with a Doubt, and for each question its least place
+-- the words: the next job, the number of sheets entered, four of bits of the questions with a Doubt, and for each
+-- question its least place
 pub record Kept (k : Matter) (next entered : ℕ) (doubts least : ℕ → ℕ) (views : List View) : Type 0 where
   pub parts : total (λ v. v.parts) views ≡ k.seats
   pub drawn : (x : ℕ) → total (λ v. times x (jobs v)) views ≡ once_below x (min next (places k))
@@ -29,12 +30,15 @@ pub record Kept (k : Matter) (next entered : ℕ) (doubts least : ℕ → ℕ) (
   pub right : (q : ℕ) → q < length (asked k) → RightPlace k q (least q)
   pub each : (port : ℕ) (v : View) → get_elem? views port ≡ some v → Sound k next least v
 
+-- the least region with a hit that the board has for a question
 abbrev pub least_in : List ℕ → ℕ → ℕ
 least_in words q = slice_index words (q + 6)
 
+-- one of the four words of the questions in doubt
 abbrev pub doubts_in : List ℕ → ℕ → ℕ
 doubts_in words w = slice_index words (w + 2)
 
+-- the board's words, and the views of all seats, keep its rule
 abbrev pub BoardKept : {S : Type 0} → Matter → State S View → Type 0
 BoardKept k s = (length s.words ≡ length (asked k) + 6)
     × Kept k (slice_index s.words 0) (slice_index s.words 1) (doubts_in s.words) (least_in s.words) s.views

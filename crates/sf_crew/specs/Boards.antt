@@ -11,6 +11,7 @@ use Rattle.sf_crew.specs.declared.board.Seat.{Seat}
 abbrev pub about : Board → Matter
 about b = b.table.shared.key
 
+-- which board it is, among all that there are
 abbrev pub board_id : Board → TableId
 board_id b = b.table.shared.table_id
 
@@ -18,6 +19,7 @@ board_id b = b.table.shared.table_id
 abbrev pub seat_view : Seat → View
 seat_view s = s.seat.me.0
 
+-- the seat belongs to this board, and is about the same regions and questions
 abbrev pub IsSeatOf : Board → Seat → Type 0
 IsSeatOf b s = (s.seat.table_id ≡ board_id b) × ((seat_view s).about ≡ Some (about b))
 

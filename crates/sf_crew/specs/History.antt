@@ -1,5 +1,6 @@
--- The history of a bench: one list of the leases that were put, of which each end has got some, each lease at most once and first in, first out.
-use Rattle.std.specs.Prelude.{◌≡◌, ◌≢◌, ℕ, ◌+◌, ◌<◌, List, [], ◌∷◌, ◌++◌, length, Some, slice_get}
+-- The history of a bench: one list of the leases that were put, of which each end has got some, each lease at most once
+-- and first in, first out.
+use Rattle.std.specs.Prelude.{◌≡◌, ◌≢◌, ℕ, ◌+◌, ◌<◌, List, [], ◌∷◌, ◌++◌, length, Option, Some, slice_get}
 use Rattle.sf_book.specs.declared.book.Lease.{Lease}
 use Rattle.sf_crew.specs.declared.history.Event.{Event}
 use Rattle.sf_crew.specs.declared.history.Event.TheVariants.{Put, Got}
@@ -19,6 +20,19 @@ abbrev pub NotBy : ℕ → List Event → Type 0
 NotBy i [] = Unit {0}
 NotBy i (e ∷ es) = (by e ≢ i) × NotBy i es
 
+-- all steps are by ends below n
+abbrev pub AllBelow : ℕ → List Event → Type 0
+AllBelow n [] = Unit {0}
+AllBelow n (e ∷ es) = (by e < n) × AllBelow n es
+
+-- steps of other ends. The owner has made all of them, so it knows which there are; a thief doesn't
+abbrev pub OfOthers : End → List Event → Type 0
+OfOthers v es = NotBy v.me es × (v.me ≡ 0 → AllBelow v.made es)
+
+-- the owner of a bench without thieves
+abbrev pub HasNoThief : End → Type 0
+HasNoThief v = (v.me ≡ 0) × (v.made ≡ 1)
+
 -- the list of the leases that were put
 abbrev pub puts : List Event → List Lease
 puts [] = []
@@ -31,18 +45,23 @@ gots [] = 0
 gots (Put x ∷ es) = gots es
 gots (Got i ∷ es) = 1 + gots es
 
+-- the first lease that was put and that no end has got, if there is one
+abbrev pub first_left : List Event → Option Lease
+first_left h = slice_get (puts h) (gots h)
+
 -- after p puts and g gets, each get finds a lease that was put and that no end has got
 abbrev pub LawfulFrom : ℕ → ℕ → List Event → Type 0
 LawfulFrom p g [] = Unit {0}
 LawfulFrom p g (Put x ∷ es) = LawfulFrom (p + 1) g es
 LawfulFrom p g (Got i ∷ es) = (g < p) × LawfulFrom p (g + 1) es
 
+-- from the first step on, each get finds a lease
 abbrev pub Lawful : List Event → Type 0
 Lawful h = LawfulFrom 0 0 h
 
 -- at some moment the history was h: what the end knew, and then steps of other ends alone
 abbrev pub At : End → List Event → List Event → Type 0
-At v between h = NotBy v.me between × (h ≡ v.events ++ between) × Lawful h
+At v between h = OfOthers v between × (h ≡ v.events ++ between) × Lawful h
 
 -- at some moment the end put the lease, behind all that were put before
 abbrev pub Puts : End → Lease → End → Type 0
@@ -50,7 +69,8 @@ Puts v x w = (between : List Event) × (h : List Event) × At v between h × (w 
 
 -- at some moment the end got the lease: the first one that no end had got
 abbrev pub Gets : End → Lease → End → Type 0
-Gets v x w = (between : List Event) × (h : List Event) × At v between h × (slice_get (puts h) (gots h) ≡ Some x) × (w ≡ end v.me v.made (h ++ Got v.me ∷ []))
+Gets v x w = (between : List Event) × (h : List Event) × At v between h × (first_left h ≡ Some x)
+    × (w ≡ end v.me v.made (h ++ Got v.me ∷ []))
 
 -- at some moment each lease that was put had been got
 abbrev pub AllGot : End → Type 0

@@ -2,6 +2,7 @@ pub mod Numbers
 pub mod Ends
 pub mod History
 pub mod Benches
+pub mod Workers
 pub mod BenchRule
 pub mod Views
 pub mod Boards

@@ -8,13 +8,15 @@ use Rattle.sf_crew.specs.declared.view.View.{View}
 use Rattle.sf_crew.specs.Views.{regions_of, asked, Noted, has, entry}
 use Rattle.sf_crew.specs.BoardSteps.{view_of}
 
--- the verdict on question q is a hit, or a doubt; or there is none
+-- the verdict on question q is a hit
 abbrev pub IsHit : List (Option Verdict) → ℕ → Type 0
 IsHit vs q = is_hit (verdict_at vs q) ≡ true
 
+-- the verdict on question q is a doubt
 abbrev pub IsDoubt : List (Option Verdict) → ℕ → Type 0
 IsDoubt vs q = is_doubt (verdict_at vs q) ≡ true
 
+-- there is no verdict on question q
 abbrev pub IsSkipped : List (Option Verdict) → ℕ → Type 0
 IsSkipped vs q = is_skipped (verdict_at vs q) ≡ true
 
@@ -34,7 +36,8 @@ pub record NotesHits (vs : List (Option Verdict)) (job n : ℕ) (old new : List 
   pub hits : (q : ℕ) → q < n → IsHit vs q → Noted new q job
   pub only : (q r : ℕ) → Noted new q r → Noted old q r ⊎ ((r ≡ job) × IsHit vs q)
 
--- the sheet is of the board's regions and questions, for the job that the seat owes, and skips only questions for which the seat has seen a lower place
+-- the sheet is of the board's regions and questions, for the job that the seat owes, and skips only questions for which
+-- the seat has seen a lower place
 pub record IsSheetFor (k : Matter) (v : View) (s : SheetData) : Type 0 where
   pub regions : s.settled ≡ regions_of k
   pub questions : s.questions ≡ asked k
@@ -43,4 +46,5 @@ pub record IsSheetFor (k : Matter) (v : View) (s : SheetData) : Type 0 where
 
 -- the seat owes nothing more, has one more entry, and has noted the hits
 abbrev pub Enters : View → SheetData → View → Type 0
-Enters v s w = (ds : List ℕ) × AreDoubts s ds × NotesHits s.verdicts s.job (length s.questions) v.notes w.notes × (w ≡ view_of v.about v.parts v.nones None [] (entry s.job ds ∷ v.entries) w.notes)
+Enters v s w = (ds : List ℕ) × AreDoubts s ds × NotesHits s.verdicts s.job (length s.questions) v.notes w.notes
+    × (w ≡ view_of v.about v.parts v.nones None [] (entry s.job ds ∷ v.entries) w.notes)

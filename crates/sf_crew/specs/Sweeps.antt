@@ -1,5 +1,5 @@
 -- What a sweep does: the jobs of each worker, and the tally of all regions.
-use Rattle.std.specs.Prelude.{◌≡◌, ℕ, ◌<◌, ◌⊎◌, Bool, false, IsTrue, List, length, Some, None, slice_get}
+use Rattle.std.specs.Prelude.{◌≡◌, ℕ, ◌<◌, ◌≤◌, ◌⊎◌, Bool, false, IsTrue, List, length, Some, None, slice_get}
 use Rattle.sf_book.specs.Books.{BookData}
 use Rattle.sf_ask.specs.Asked.{Asked}
 use Rattle.sf_insn.specs.declared.input.Input.{Input}
@@ -25,16 +25,21 @@ pub record SkipsOnly (questions : List Asked) (job : ℕ) (v w : View) (wanted :
 
 -- a worker's seat, and whether it found the end
 abbrev pub IsWorked : Board → Seat × Bool → Type 0
-IsWorked b s = IsSeatOf b s.0 × ((seat_view s.0).parts ≡ 1) × (IsTrue s.1 → ((seat_view s.0).owes ≡ None) × (0 < (seat_view s.0).nones))
+IsWorked b s = IsSeatOf b s.0 × ((seat_view s.0).parts ≡ 1)
+    × (IsTrue s.1 → ((seat_view s.0).owes ≡ None) × (0 < (seat_view s.0).nones))
 
 -- the tally of all regions
 pub record IsFullTally (s : BookData) (qs : List Asked) (t : Tally) : Type 0 where
   -- a least place is a region with a member that breaks the question
   pub breaks : (q r : ℕ) → slice_get t.least q ≡ Some (Some r) → (r < length s.regions) × HasBreak s qs r q
   -- below it no region has such a member, but one in doubt, and then the question's bit is set
-  pub cleared : (q r : ℕ) → q < length qs → r < length s.regions → IsBelow t q r → HasNoBreak s qs r q ⊎ ((bit_of t.doubts q ≡ 1) × IsRightEntry s qs r q (Some Doubt))
+  pub cleared : (q r : ℕ) → q < length qs → r < length s.regions → IsBelow t q r → HasNoBreak s qs r q
+      ⊎ ((bit_of t.doubts q ≡ 1) × IsRightEntry s qs r q (Some Doubt))
   -- a bit is set only where some region is in doubt
-  pub doubts : (q : ℕ) → q < length qs → bit_of t.doubts q ≡ 1 → (r : ℕ) × (r < length s.regions) × IsRightEntry s qs r q (Some Doubt)
+  pub doubts : (q : ℕ) → q < length qs → bit_of t.doubts q ≡ 1 → (r : ℕ) × (r < length s.regions)
+      × IsRightEntry s qs r q (Some Doubt)
+  -- and none of the 256 past the last question
+  pub past : (q : ℕ) → length qs ≤ q → q < 256 → bit_of t.doubts q ≡ 0
   pub counted : t.entered ≡ length s.regions
 
 -- no member of the region breaks the question, or the region is in doubt
@@ -51,14 +56,15 @@ pub record IsUnbroken (s : BookData) (question : Asked) (doubt : Bool) (r : ℕ)
   pub none : doubt ≡ false → (d : Input) → ¬ IsBreakAt s r question d
   pub low : (d : Input) → IsLowInput question d → ¬ IsBreakAt s r question d
 
--- on a plain stack an example is the plain one of the first break, and a question is unsettled only where a piece is outstanding
+-- on a plain stack an example is the plain one of the first break, and a question is unsettled only where a piece is
+-- outstanding
 abbrev pub IsPlainReply : BookData → Asked → Reply → Type 0
 IsPlainReply s question Never = Unit {0}
 IsPlainReply s question (Allowed d) = (r : ℕ) × IsFirstBreak s question r × IsPlainExample s r question d
 IsPlainReply s question Unsettled = 0 < length s.outstanding
 
--- What a reply rests on. An example is the plain one of its region, and each earlier region was passed by. A question is
--- unsettled only where every region was, and a piece is outstanding or some region is in doubt.
+-- What a reply rests on. An example is the plain one of its region, and each earlier region was passed by. A question
+-- is unsettled only where every region was, and a piece is outstanding or some region is in doubt.
 abbrev pub RestsOn : BookData → Asked → Reply → Type 0
 RestsOn s question Never = Unit {0}
 RestsOn s question (Allowed d) = (r : ℕ) × IsPlainExample s r question d × ((e : ℕ) → e < r → IsPassedBy s question e)

@@ -15,10 +15,12 @@ entered_jobs v = map (λ e. e.job) v.entries
 abbrev pub IsBelow : Tally → ℕ → ℕ → Type 0
 IsBelow t q j = (r : ℕ) → slice_get t.least q ≡ Some (Some r) → j < r
 
--- no member of the entered region breaks the question, or it was entered with a doubt, and then the question's bit is set
+-- no member of the entered region breaks the question, or it was entered with a doubt, and then the question's bit is
+-- set
 abbrev pub IsCleared : Matter → Tally → Entry → ℕ → Type 0
 IsCleared k t e q = HasNoBreak (regions_of k) (asked k) e.job q ⊎ ((has q e.doubts ≡ 1) × (bit_of t.doubts q ≡ 1))
 
+-- a tally is right about what was entered by the seat that closes the board, and by those joined into it
 pub record RightTally (k : Matter) (v : View) (t : Tally) : Type 0 where
   -- what was entered is the places of regions, each at most once
   pub each_once : (x : ℕ) → times x (entered_jobs v) ≤ once_below x (places k)
@@ -32,6 +34,8 @@ pub record RightTally (k : Matter) (v : View) (t : Tally) : Type 0 where
   pub counted : length v.entries ≤ t.entered
   -- as many as there are regions are all of them
   pub complete : length v.entries ≡ places k → (x : ℕ) → times x (entered_jobs v) ≡ once_below x (places k)
-  -- where all seats were joined, a bit is set only for a doubt on an entered sheet, and no other sheet is counted
-  pub all_doubts : v.parts ≡ k.seats → (q : ℕ) → q < length (asked k) → bit_of t.doubts q ≡ has_doubt q v.entries
+  -- where all seats were joined, each of the 256 bits is set just for a doubt on an entered sheet, so none past the
+  -- last question, and no other sheet is counted
+  pub all_doubts : v.parts ≡ k.seats → (q : ℕ) → q < 256 → bit_of t.doubts q ≡ has_doubt q v.entries
+  pub past : v.parts ≡ k.seats → (q : ℕ) → length (asked k) ≤ q → q < 256 → bit_of t.doubts q ≡ 0
   pub all_counted : v.parts ≡ k.seats → t.entered ≡ length v.entries

@@ -14,6 +14,7 @@ use Rattle.sf_crew.specs.declared.view.View.{View}
 abbrev pub regions_of : Matter → BookData
 regions_of k = k.settled.value
 
+-- the questions that a board is about, in order
 abbrev pub asked : Matter → List Asked
 asked k = map (λ q. q.value) k.questions.items
 
@@ -65,10 +66,12 @@ RightPlace k q r = (r ≡ places k) ⊎ ((r < places k) × HasBreak (regions_of 
 abbrev pub IsInDoubt : Matter → ℕ → ℕ → Type 0
 IsInDoubt k r q = IsRightEntry (regions_of k) (asked k) r q (Some Doubt)
 
--- an entered sheet is of a region, which breaks no question but where a place at or below it was noted, or the sheet has a doubt; and its doubts are right
+-- an entered sheet is of a region, which breaks no question but where a place at or below it was noted, or the sheet
+-- has a doubt; and its doubts are right
 pub record Covered (k : Matter) (notes : List Note) (e : Entry) : Type 0 where
   pub there : e.job < places k
-  pub cleared : (q : ℕ) → q < length (asked k) → ((r : ℕ) × Noted notes q r × (r ≤ e.job)) ⊎ HasNoBreak (regions_of k) (asked k) e.job q ⊎ (has q e.doubts ≡ 1)
+  pub cleared : (q : ℕ) → q < length (asked k) → ((r : ℕ) × Noted notes q r × (r ≤ e.job))
+      ⊎ HasNoBreak (regions_of k) (asked k) e.job q ⊎ (has q e.doubts ≡ 1)
   pub doubts : (q : ℕ) → has q e.doubts ≡ 1 → IsInDoubt k e.job q
 
 -- a fact of each element

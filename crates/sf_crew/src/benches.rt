@@ -1,7 +1,7 @@
 //! Benches: the owner puts leases and takes them, thieves steal them, first in, first out.
 ghost use Rattle.std.specs.Prelude.{◌≡◌, ℕ, ◌+◌, ◌<◌, [], IfOk, IfErr, MatchResult, MatchOption, vec_len};
 ghost use Rattle.crossbeam_deque.specs.Steals.{MatchSteal};
-ghost use Rattle.sf_crew.specs.History.{Puts, Gets, AllGot, end};
+ghost use Rattle.sf_crew.specs.History.{Puts, Gets, AllGot, HasNoThief, first_left, end};
 ghost use Rattle.sf_crew.specs.Benches.{owner_end, thief_end, AreThieves};
 ghost use Rattle.sf_crew.specs.declared.fault.Fault.TheVariants.{Memory};
 
@@ -37,7 +37,8 @@ impl Owner {
     /// One thief more, as long as nothing was put.
     fn hire(&mut self) -> Result<Thief, AllocError>
         requires { (owner_end self.old).events ≡ [] }
-        ensures owner { IfOk result (λ _. owner_end self.new ≡ end (owner_end self.old).me ((owner_end self.old).made + 1) []) }
+        ensures owner { IfOk result (λ _. owner_end self.new ≡ end (owner_end self.old).me
+            ((owner_end self.old).made + 1) []) }
         ensures thief { IfOk result (λ t. thief_end t ≡ end (owner_end self.old).made 0 []) }
     {
         let stealer = self.worker.stealer()?;
@@ -47,14 +48,19 @@ impl Owner {
 
     /// Adds the lease at the end of the list, or hands it back and changes nothing, where the bench cannot grow.
     pub fn put(&mut self, lease: Lease) -> Result<(), Lease>
-        ensures { MatchResult result (λ _. Puts (owner_end self.old) lease (owner_end self.new)) (λ l. (l ≡ lease) × (owner_end self.new ≡ owner_end self.old)) }
+        ensures { MatchResult result (λ _. Puts (owner_end self.old) lease (owner_end self.new))
+            (λ l. (l ≡ lease) × (owner_end self.new ≡ owner_end self.old)) }
     {
         self.worker.push_as::<Putting>(lease)
     }
 
-    /// The first lease that no end has got, at one moment of the call. `None` where each that was put had been got.
+    /// The first lease that no end has got, at one moment of the call. `None` where each that was put had been got, by
+    /// this end or by the thieves that were made with it.
     pub fn take(&mut self) -> Option<Lease>
-        ensures { MatchOption result ((owner_end self.new ≡ owner_end self.old) × AllGot (owner_end self.old)) (λ l. Gets (owner_end self.old) l (owner_end self.new)) }
+        ensures got { MatchOption result ((owner_end self.new ≡ owner_end self.old)
+            × AllGot (owner_end self.old)) (λ l. Gets (owner_end self.old) l (owner_end self.new)) }
+        ensures alone { HasNoThief (owner_end self.old) → result
+            ≡ first_left (owner_end self.old).events }
     {
         self.worker.pop_as::<Getting>()
     }
@@ -64,7 +70,9 @@ impl Thief {
     /// The first lease that no end has got, at one moment of the call. `Empty` where each that was put had been got;
     /// `Retry` where another end came first, and this one got nothing.
     pub fn steal(&mut self) -> Steal<Lease>
-        ensures { MatchSteal result ((thief_end self.new ≡ thief_end self.old) × AllGot (thief_end self.old)) (thief_end self.new ≡ thief_end self.old) (λ l. Gets (thief_end self.old) l (thief_end self.new)) }
+        ensures { MatchSteal result ((thief_end self.new ≡ thief_end self.old)
+            × AllGot (thief_end self.old)) (thief_end self.new ≡ thief_end self.old)
+            (λ l. Gets (thief_end self.old) l (thief_end self.new)) }
     {
         self.stealer.steal_as::<Getting>(&mut self.pass)
     }

@@ -16,8 +16,10 @@ pub struct Board {
     pub(crate) table: Words,
     pub(crate) regions: usize,
     pub(crate) questions: usize,
-    ghost counted: { (table.shared.table_id.words ≡ length (asked table.shared.key) + 6) × (table.shared.table_id.slots ≡ 0) },
-    ghost sized: { (regions ≡ places table.shared.key) × (questions ≡ length (asked table.shared.key)) },
+    ghost counted: { (table.shared.table_id.words ≡ length (asked table.shared.key) + 6)
+        × (table.shared.table_id.slots ≡ 0) },
+    ghost sized: { (regions ≡ places table.shared.key)
+        × (questions ≡ length (asked table.shared.key)) },
     ghost small: { places table.shared.key + table.shared.key.seats < 2 ^ 64 },
     ghost few: { length (asked table.shared.key) ≤ 256 },
 }

@@ -25,8 +25,12 @@ impl Board {
         requires free { (seat_view seat.old).owes ≡ None }
         ensures same { IsSeatOf self.now seat.new }
         ensures parts { (seat_view seat.new).parts ≡ (seat_view seat.old).parts }
-        ensures some { IfSome result (λ j. (j < places (about self.now)) × (times j (jobs (seat_view seat.old)) ≡ 0) × (length (jobs (seat_view seat.old)) < places (about self.now)) × (seat_view seat.new ≡ drawing (seat_view seat.old) j)) }
-        ensures none { IfNone result (GotNone (about self.now) (seat_view seat.old) (seat_view seat.new)) }
+        ensures some { IfSome result (λ j. (j < places (about self.now))
+            × (times j (jobs (seat_view seat.old)) ≡ 0)
+            × (length (jobs (seat_view seat.old)) < places (about self.now))
+            × (seat_view seat.new ≡ drawing (seat_view seat.old) j)) }
+        ensures none { IfNone result (GotNone (about self.now) (seat_view seat.old)
+            (seat_view seat.new)) }
     {
         if seat.done {
             return None;
@@ -48,8 +52,13 @@ impl Board {
         requires seat { IsSeatOf self.now seat.old }
         requires there { q < length (asked (about self.now)) }
         ensures same { IsSeatOf self.now seat.new }
-        ensures some { IfSome result (λ r. (r < places (about self.now)) × HasBreak (regions_of (about self.now)) (asked (about self.now)) r q × ((s : ℕ) → Noted (seat_view seat.old).notes q s → r ≤ s) × (seat_view seat.new ≡ noting (seat_view seat.old) q r)) }
-        ensures none { IfNone result (((s : ℕ) → Noted (seat_view seat.old).notes q s → places (about self.now) ≤ s) × (seat_view seat.new ≡ noting (seat_view seat.old) q (places (about self.now)))) }
+        ensures some { IfSome result (λ r. (r < places (about self.now))
+            × HasBreak (regions_of (about self.now)) (asked (about self.now)) r q
+            × ((s : ℕ) → Noted (seat_view seat.old).notes q s → r ≤ s)
+            × (seat_view seat.new ≡ noting (seat_view seat.old) q r)) }
+        ensures none { IfNone result (((s : ℕ) → Noted (seat_view seat.old).notes q s
+            → places (about self.now) ≤ s) × (seat_view seat.new
+            ≡ noting (seat_view seat.old) q (places (about self.now)))) }
     {
         let found = self.table.shared.load::<Look>(&mut seat.seat, q + LEAST);
         if found < self.regions as u64 {

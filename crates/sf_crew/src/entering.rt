@@ -14,11 +14,13 @@ impl Board {
     /// One step for each hit: the least place of its question becomes the job where that is lower.
     fn enter_hits(&self, seat: &mut atomic_table::Seat<u8, View>, sheet: &Sheet)
         requires table { seat.old.table_id ≡ board_id self.now }
-        requires matter { (sheet.now.settled ≡ regions_of (about self.now)) × (sheet.now.questions ≡ asked (about self.now)) }
+        requires matter { (sheet.now.settled ≡ regions_of (about self.now))
+            × (sheet.now.questions ≡ asked (about self.now)) }
         ensures table { seat.new.table_id ≡ seat.old.table_id }
         ensures carried { seat.new.me.1 ≡ seat.old.me.1 }
         ensures view { seat.new.me.0 ≡ with_notes seat.old.me.0 seat.new.me.0.notes }
-        ensures notes { NotesHits sheet.now.verdicts sheet.now.job (length sheet.now.questions) seat.old.me.0.notes seat.new.me.0.notes }
+        ensures notes { NotesHits sheet.now.verdicts sheet.now.job
+            (length sheet.now.questions) seat.old.me.0.notes seat.new.me.0.notes }
     {
         let job = sheet.job() as u64;
         for q in 0..sheet.question_count() {
@@ -36,7 +38,8 @@ impl Board {
         ensures table { seat.new.table_id ≡ seat.old.table_id }
         ensures carried { seat.new.me.1 ≡ seat.old.me.1 }
         ensures view { seat.new.me.0 ≡ with_marks seat.old.me.0 seat.new.me.0.marked }
-        ensures marks { MarksDoubts sheet.now.verdicts (length sheet.now.questions) seat.old.me.0.marked seat.new.me.0.marked }
+        ensures marks { MarksDoubts sheet.now.verdicts (length sheet.now.questions)
+            seat.old.me.0.marked seat.new.me.0.marked }
     {
         for q in 0..sheet.question_count() {
             if sheet.is_doubt(q) {

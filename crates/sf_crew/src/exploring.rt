@@ -1,47 +1,75 @@
 //! Turns of one worker that has the book to itself: pieces are leased, worked and committed until none is left or the
 //! budget is spent.
 
-ghost use Rattle.std.specs.Prelude.{◌≡◌, ◌≢◌, IfOk, IfErr, OnOk, MatchBool};
+ghost use Rattle.std.specs.Prelude.{◌≡◌, ◌≢◌, IfOk, IfErr, OnOk, MatchOption, option_map};
 ghost use Rattle.std.specs.Arc.{arc_value};
-ghost use Rattle.sf_crew.specs.Ends.{IsEnd, IsFree, IsSameExploration, GoesOn, IsEndOf, IsExactEnd};
+ghost use Rattle.sf_piece.specs.Pieces.{children_of};
+ghost use Rattle.sf_crew.specs.Ends.{IsEnd, IsFree, HasOnly, MayWork, IsSameExploration, GoesOn, IsEndOf, IsExactEnd};
 ghost use Rattle.sf_crew.specs.declared.fault.Fault.TheVariants.{Memory, Foreign};
 ghost use Rattle.sf_check.specs.Stacks.{IsPlain};
 
 use crate::fault::Fault;
 use crate::gate::Gate;
-use sf_book::{Book, Settled};
+use sf_book::{Book, Lease, Settled};
 use sf_check::Stack;
-use sf_piece::advance;
+use sf_piece::{Piece, Work, advance};
 use std::alloc::Global;
 use std::sync::Arc;
 
-/// One turn: the first piece is leased, worked and committed, and its children are given back. False where nothing
-/// is left to do.
+/// The lease that the last turn left, or else one of the first piece. None where nothing is left to do.
+fn next_lease(book: &mut Book, left: Option<Lease>) -> Result<Option<Lease>, Fault>
+    requires { HasOnly book.old left }
+    ensures same { IsSameExploration book.old book.new }
+    ensures commits { book.new.commits ≡ book.old.commits }
+    ensures ok { IfOk result (λ l. MatchOption l (IsEnd book.new) (λ x. MayWork book.new x)) }
+    ensures err { IfErr result (λ f. f ≡ Memory) }
+{
+    if book.counts().commits == book.budget() {
+        return Ok(None);
+    }
+    if let Some(lease) = left {
+        return Ok(Some(lease));
+    }
+    Ok(book.lease()?)
+}
+
+/// The false child of a work that split its piece.
+fn false_child(work: &Work) -> Result<Option<Arc<Piece>>, Fault>
+    ensures ok { IfOk result (λ c. option_map (λ p. arc_value p) c
+        ≡ option_map (λ c. c.0) (children_of work.now.step)) }
+    ensures err { IfErr result (λ f. f ≡ Memory) }
+{
+    match work.children() {
+        Some((on_false, _)) => Ok(Some(Arc::try_clone(on_false)?)),
+        None => Ok(None),
+    }
+}
+
+/// One turn: the piece of the lease is worked and committed. Where it is split, the true child is given back, and the
+/// lease of the false one is answered: its name is the first of all.
 fn turn<G: Gate>(
     alloc: Global,
     book: &mut Book,
     gate: &G,
     worker: usize,
     call: usize,
-) -> Result<bool, Fault>
-    requires { IsFree book.old.outstanding }
+    lease: Lease,
+) -> Result<Option<Lease>, Fault>
+    requires { MayWork book.old lease }
     ensures same { IsSameExploration book.old book.new }
-    ensures ok { IfOk result (λ more. MatchBool more (GoesOn book.old book.new) (IsEnd book.new)) }
+    ensures ok { IfOk result (λ left. GoesOn book.old left book.new) }
     ensures err { IfErr result (λ f. f ≡ Memory) }
 {
-    if book.counts().commits == book.budget() {
-        return Ok(false);
-    }
-    let Some(lease) = book.lease()? else {
-        return Ok(false);
-    };
     let work = advance(alloc, &lease.piece)?;
+    let child = false_child(&work)?;
     gate.pass(worker, call);
-    if let Some((f, t)) = book.commit(lease.id, work)? {
-        book.give_back(f);
-        book.give_back(t);
-    }
-    Ok(true)
+    let _counts = book.counts();
+    let Some((f, t)) = book.commit(lease.id, work)? else {
+        return Ok(None);
+    };
+    let Some(piece) = child else { unreachable!() };
+    book.give_back(t);
+    Ok(Some(Lease { id: f, piece }))
 }
 
 /// Works pieces one after another until none is outstanding or the budget is spent. The calls of the worker are
@@ -58,10 +86,12 @@ pub(crate) fn work_off<G: Gate>(
     ensures err { IfErr result (λ f. f ≡ Memory) }
 {
     let budget = book.budget();
+    let mut left = None;
     for call in 0..budget {
-        if !turn(alloc, book, gate, worker, call as usize + 1)? {
+        let Some(lease) = next_lease(book, left)? else {
             return Ok(());
-        }
+        };
+        left = turn(alloc, book, gate, worker, call as usize + 1, lease)?;
     }
     let _end = book.counts();
     Ok(())
@@ -72,7 +102,8 @@ pub(crate) fn finished(book: Book, stack: &Arc<Stack>, _budget: u32) -> Result<S
     requires end { IsEnd book }
     requires budget { book.budget ≡ _budget }
     ensures ok { IfOk result (λ s. IsEndOf (arc_value stack.now) _budget s) }
-    ensures plain { IfOk result (λ s. IsPlain (arc_value stack.now) → IsExactEnd (arc_value stack.now) _budget s) }
+    ensures plain { IfOk result (λ s. IsPlain (arc_value stack.now)
+        → IsExactEnd (arc_value stack.now) _budget s) }
     ensures err { IfErr result (λ f. (f ≡ Foreign) × (book.stack ≢ arc_value stack.now)) }
 {
     let settled = book.finish(stack)?;
@@ -88,7 +119,8 @@ pub(crate) fn explore_alone<G: Gate>(
     gate: &G,
 ) -> Result<Settled, Fault>
     ensures ok { IfOk result (λ s. IsEndOf (arc_value stack) budget s) }
-    ensures plain { IfOk result (λ s. IsPlain (arc_value stack) → IsExactEnd (arc_value stack) budget s) }
+    ensures plain { IfOk result (λ s. IsPlain (arc_value stack)
+        → IsExactEnd (arc_value stack) budget s) }
     ensures err { IfErr result (λ f. f ≡ Memory) }
 {
     let mut book = Book::open(alloc, Arc::try_clone(&stack)?, budget)?;

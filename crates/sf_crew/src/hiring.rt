@@ -1,6 +1,6 @@
 //! How workers are made: a bench for each, and a thief on it for each other worker.
 
-ghost use Rattle.std.specs.Prelude.{◌≡◌, ◌<◌, ◌≤◌, IfErr, length};
+ghost use Rattle.std.specs.Prelude.{◌≡◌, ◌<◌, ◌≤◌, IfOk, IfErr, length, vec_len};
 ghost use Rattle.sf_crew.specs.declared.fault.Fault.TheVariants.{Memory};
 
 use crate::benches::bench;
@@ -12,6 +12,7 @@ use std::alloc::Global;
 /// Workers with the numbers from 0, and a bench each.
 pub(crate) fn workers_of(alloc: Global, count: usize) -> Result<Vec<Worker>, Fault>
     requires { (0 < count) × (count ≤ 64) }
+    ensures count { IfOk result (λ v. vec_len v ≡ count) }
     ensures err { IfErr result (λ f. f ≡ Memory) }
 {
     let mut workers = Vec::new(alloc);

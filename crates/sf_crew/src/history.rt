@@ -5,15 +5,20 @@ use std::collections::LinkedList;
 
 /// What happened on a bench: a lease was put, or the end of this number got one.
 pub enum Event {
+    /// The owner put this lease.
     Put(Lease),
+    /// The end of this number got the first lease that was left.
     Got(usize),
 }
 
 /// What an end knows: its number, how many ends there are (the owner alone), and the history up to its last step. No
 /// value of it is made.
 pub struct End {
+    /// The end's number; the owner has 0.
     pub me: usize,
+    /// How many ends the owner has made, itself with them; 0 for a thief.
     pub made: usize,
+    /// The history up to the end's last step, oldest first.
     pub events: LinkedList<Event>,
 }
 

@@ -28,7 +28,8 @@ fn snapshots(alloc: Global, questions: &[Question]) -> Result<Vec<Snapshot<Quest
 
 /// No job drawn, no sheet entered, no doubt, and no least place.
 fn first_words(alloc: Global, regions: usize, questions: usize) -> Result<Vec<u64>, Fault>
-    ensures ok { IfOk result (λ v. v.items ≡ (0 ∷ 0 ∷ 0 ∷ 0 ∷ 0 ∷ 0 ∷ []) ++ replicate questions regions) }
+    ensures ok { IfOk result (λ v. v.items ≡ (0 ∷ 0 ∷ 0 ∷ 0 ∷ 0 ∷ 0 ∷ [])
+        ++ replicate questions regions) }
     ensures err { IfErr result (λ f. f ≡ Memory) }
 {
     let mut words = Vec::new(alloc);
@@ -52,8 +53,10 @@ impl Board {
     ) -> Result<(Board, Vec<Seat>), Fault>
         requires seats { (0 < seats) × (seats ≤ 65) }
         requires questions { length questions.now ≤ 256 }
-        ensures about { IfOk result (λ r. (regions_of (about r.0) ≡ settled.now) × (asked (about r.0) ≡ questions.now) × ((about r.0).seats ≡ seats)) }
-        ensures seats { IfOk result (λ r. (vec_len r.1 ≡ seats) × All (λ s. IsNewSeat r.0 s) r.1.items) }
+        ensures about { IfOk result (λ r. (regions_of (about r.0) ≡ settled.now)
+            × (asked (about r.0) ≡ questions.now) × ((about r.0).seats ≡ seats)) }
+        ensures seats { IfOk result (λ r. (vec_len r.1 ≡ seats)
+            × All (λ s. IsNewSeat r.0 s) r.1.items) }
         ensures err { IfErr result (λ f. f ≡ Memory) }
     {
         let counts = settled.counts();
@@ -82,8 +85,10 @@ impl Board {
         seats: usize,
     ) -> Result<Vec<Seat>, Fault>
         requires seats { (0 < seats) × (seats ≤ 65) }
-        requires seat { (seat.table_id ≡ board_id self.now) × (seat.me ≡ (view_of (Some (about self.now)) seats 0 None [] [] [], [])) }
-        ensures ok { IfOk result (λ r. (vec_len r ≡ seats) × All (λ s. IsNewSeat self.now s) r.items) }
+        requires seat { (seat.table_id ≡ board_id self.now)
+            × (seat.me ≡ (view_of (Some (about self.now)) seats 0 None [] [] [], [])) }
+        ensures ok { IfOk result (λ r. (vec_len r ≡ seats)
+            × All (λ s. IsNewSeat self.now s) r.items) }
         ensures err { IfErr result (λ f. f ≡ Memory) }
     {
         let mut dealt = Vec::new(alloc);

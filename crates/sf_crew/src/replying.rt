@@ -19,7 +19,8 @@ use std::thread::Threads;
 
 /// The reply where no region is known to break the question.
 fn unbroken(settled: &Settled, _question: &Question, doubt: bool) -> Reply
-    requires unbroken { (r : ℕ) → r < length settled.now.regions → IsUnbroken settled.now _question.now doubt r }
+    requires unbroken { (r : ℕ) → r < length settled.now.regions
+        → IsUnbroken settled.now _question.now doubt r }
     requires doubtful { doubt ≡ true → HasDoubt settled.now _question.now }
     requires plain { IsPlain settled.now.stack → doubt ≡ false }
     ensures { IsReplyTo settled.now _question.now result }

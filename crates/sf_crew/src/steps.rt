@@ -57,7 +57,8 @@ impl Play<u8, View> for Mark {
     ghost use Rattle.std.specs.Prelude.{◌≡◌, ℕ, ◌+◌, ◌*◌, ◌/◌, ◌%◌, ◌^◌};
     ghost use Rattle.sf_crew.specs.BoardSteps.{marking};
 
-    ghost then = { λ st m n w. ((q : ℕ) → st.word ≡ q / 64 + 2 → st.first ≡ 1 * 2 ^ (q % 64) % 2 ^ 64 → w.0 ≡ marking m.0 q) × (w.1 ≡ m.1) };
+    ghost then = { λ st m n w. ((q : ℕ) → st.word ≡ q / 64 + 2
+        → st.first ≡ 1 * 2 ^ (q % 64) % 2 ^ 64 → w.0 ≡ marking m.0 q) × (w.1 ≡ m.1) };
 }
 
 pub(crate) struct Enter;

@@ -30,7 +30,8 @@ fn is_beaten(board: &Board, seat: &mut Seat, job: usize, q: usize) -> bool
     requires there { q < length (asked (about board.now)) }
     ensures same { IsSeatOf board.now seat.new }
     ensures view { seat_view seat.new ≡ with_notes (seat_view seat.old) (seat_view seat.new).notes }
-    ensures more { (p r : ℕ) → Noted (seat_view seat.old).notes p r → Noted (seat_view seat.new).notes p r }
+    ensures more { (p r : ℕ) → Noted (seat_view seat.old).notes p r
+        → Noted (seat_view seat.new).notes p r }
     ensures beaten { IsTrue result → (r : ℕ) × Noted (seat_view seat.new).notes q r × (r < job) }
 {
     match board.look(seat, q) {
@@ -43,7 +44,8 @@ fn is_beaten(board: &Board, seat: &mut Seat, job: usize, q: usize) -> bool
 fn look_at_all(board: &Board, seat: &mut Seat, job: usize) -> [u64; 4]
     requires seat { IsSeatOf board.now seat.old }
     ensures same { IsSeatOf board.now seat.new }
-    ensures wanted { SkipsOnly (asked (about board.now)) job (seat_view seat.old) (seat_view seat.new) result }
+    ensures wanted { SkipsOnly (asked (about board.now)) job (seat_view seat.old)
+        (seat_view seat.new) result }
 {
     let mut wanted = [0u64; 4];
     for q in 0..board.questions {
@@ -67,12 +69,14 @@ pub(crate) fn enter_job<G: Gate>(
 ) -> Result<(), Fault>
     requires seat { IsSeatOf board.now seat.old }
     requires owes { ((seat_view seat.old).owes ≡ Some job) × (job < places (about board.now)) }
-    requires matter { (regions_of (about board.now) ≡ settled.now) × (asked (about board.now) ≡ questions.now) }
+    requires matter { (regions_of (about board.now) ≡ settled.now)
+        × (asked (about board.now) ≡ questions.now) }
     ensures same { IsSeatOf board.now seat.new }
     ensures parts { (seat_view seat.new).parts ≡ (seat_view seat.old).parts }
     ensures nones { (seat_view seat.new).nones ≡ (seat_view seat.old).nones }
     ensures free { OnOk result ((seat_view seat.new).owes ≡ None) }
-    ensures count { OnOk result (length (jobs (seat_view seat.new)) ≡ length (jobs (seat_view seat.old))) }
+    ensures count { OnOk result (length (jobs (seat_view seat.new))
+        ≡ length (jobs (seat_view seat.old))) }
 {
     let wanted = look_at_all(board, seat, job);
     let sheet = Sheet::of(alloc, settled, job, questions, wanted)?;
@@ -92,10 +96,12 @@ fn work<G: Gate>(
     worker: usize,
 ) -> (Seat, bool)
     requires seat { IsSeatOf board.now seat × ((seat_view seat).owes ≡ None) }
-    requires matter { (regions_of (about board.now) ≡ settled.now) × (asked (about board.now) ≡ questions.now) }
+    requires matter { (regions_of (about board.now) ≡ settled.now)
+        × (asked (about board.now) ≡ questions.now) }
     ensures seat { IsSeatOf board.now result.0 }
     ensures parts { (seat_view result.0).parts ≡ (seat_view seat).parts }
-    ensures done { IsTrue result.1 → ((seat_view result.0).owes ≡ None) × (0 < (seat_view result.0).nones) }
+    ensures done { IsTrue result.1 → ((seat_view result.0).owes ≡ None)
+        × (0 < (seat_view result.0).nones) }
 {
     let mut call: usize = 0;
     while let Some(job) = board.draw(&mut seat) {
@@ -112,7 +118,9 @@ fn work<G: Gate>(
 fn join_all(board: &Board, first: Seat, mut others: Vec<(Seat, bool)>) -> Option<Seat>
     requires first { IsSeatOf board.now first × ((seat_view first).owes ≡ None) }
     requires others { All (λ s. IsWorked board.now s) others.items }
-    ensures { IfSome result (λ s. IsSeatOf board.now s × ((seat_view s).owes ≡ None) × ((seat_view s).parts ≡ (seat_view first).parts + vec_len others) × (0 < vec_len others → (0 < (seat_view s).nones) × Knows (seat_view s))) }
+    ensures { IfSome result (λ s. IsSeatOf board.now s × ((seat_view s).owes ≡ None)
+        × ((seat_view s).parts ≡ (seat_view first).parts + vec_len others)
+        × (0 < vec_len others → (0 < (seat_view s).nones) × Knows (seat_view s))) }
 {
     let mut all = first;
     while let Some((seat, done)) = others.pop() {
@@ -134,7 +142,8 @@ pub(crate) struct Part {
 /// The seats, numbered from 0.
 fn numbered(alloc: Global, board: &Board, mut seats: Vec<Seat>) -> Result<Vec<Part>, Fault>
     requires { All (λ s. IsNewSeat board.now s) seats.items }
-    ensures ok { IfOk result (λ v. (vec_len v ≡ vec_len seats) × All (λ p. IsNewSeat board.now p.seat) v.items) }
+    ensures ok { IfOk result (λ v. (vec_len v ≡ vec_len seats)
+        × All (λ p. IsNewSeat board.now p.seat) v.items) }
     ensures err { IfErr result (λ f. f ≡ Memory) }
 {
     let _ = board;
@@ -171,7 +180,9 @@ pub(crate) fn tally<R: Threads + Sync, G: Gate>(
         rt,
         parts,
         &|part: Part| -> (Seat, bool)
-            requires { IsNewSeat shared.now part.seat × (regions_of (about shared.now) ≡ settled.now) × (asked (about shared.now) ≡ questions.now) }
+            requires { IsNewSeat shared.now part.seat
+                × (regions_of (about shared.now) ≡ settled.now)
+                × (asked (about shared.now) ≡ questions.now) }
             ensures { IsWorked shared.entry.now result }
         {
             work(

@@ -7,20 +7,27 @@ use std::snapshot::Snapshot;
 /// What a board is about: the regions, the questions, and how many seats there are.
 #[derive(Drop)]
 pub struct Matter {
+    /// The exploration whose regions are judged.
     pub settled: Snapshot<Settled>,
+    /// The questions that they are judged by, in order.
     pub questions: Vec<Snapshot<Question>>,
+    /// How many seats the board was opened with.
     pub seats: usize,
 }
 
 /// A sheet that was entered: its job, and the questions that it has a doubt for.
 pub struct Entry {
+    /// The place of the sheet's region.
     pub job: usize,
+    /// The places of the questions that the sheet has a doubt for.
     pub doubts: LinkedList<usize>,
 }
 
 /// The least place of a question was `place` or less at some moment.
 pub struct Note {
+    /// The question's place, counted from 0.
     pub question: usize,
+    /// The place of a region, or the number of regions, which stands for none.
     pub place: usize,
 }
 

@@ -1,9 +1,14 @@
 //! Workers that share one book under its lock. Each has a bench of leases, and steals from the benches of the others.
 
-ghost use Rattle.std.specs.Prelude.{◌≡◌, ◌⊎◌, ◌<◌, ◌≤◌, ℕ, IfOk, IfErr, OnOk, IsTrue, MatchBool, vec_len};
+ghost use Rattle.std.specs.Prelude.{◌≡◌, ◌⊎◌, ◌<◌, ◌≤◌, IfOk, IfErr, OnOk, OnErr, MatchBool, length, option_map};
 ghost use Rattle.std.specs.Arc.{arc_value};
 ghost use denote.Ref.{Bor};
+ghost use Rattle.sf_piece.specs.Pieces.{children_of};
 ghost use Rattle.sf_book.specs.Books.{BookData, IsLawful};
+ghost use Rattle.sf_crew.specs.History.{AllGot};
+ghost use Rattle.sf_crew.specs.Benches.{owner_end};
+ghost use Rattle.sf_crew.specs.Workers.{given_back, HandsIn, IsMadeOf, ends_of, own_end, Steals, IsIdle, HoldsNext};
+ghost use Rattle.sf_crew.specs.Workers.{PutsOrNot, WorksOn};
 ghost use Rattle.sf_crew.specs.Ends.{IsEnd, IsEndOf, IsExactEnd};
 ghost use Rattle.sf_crew.specs.declared.fault.Fault.TheVariants.{Memory, Foreign};
 ghost use Rattle.sf_check.specs.Stacks.{IsPlain};
@@ -16,7 +21,7 @@ use crate::hiring::workers_of;
 use crossbeam_deque::Steal;
 use sf_book::{Book, Lease, Settled};
 use sf_check::Stack;
-use sf_piece::{Piece, Step, Work, advance};
+use sf_piece::{Piece, Work, advance};
 use std::alloc::Global;
 use std::sync::{Arc, Mutex, Wait};
 use std::thread;
@@ -30,74 +35,168 @@ pub(crate) struct Worker {
     pub(crate) others: Vec<Thief>,
 }
 
+/// A lease that a worker has. It can't be dropped: its work is handed in, or it is given back.
+pub(crate) struct Held {
+    lease: Lease,
+}
+
+/// A work that is ready to be handed in, and its children, the false one first.
+pub(crate) struct Made {
+    work: Work,
+    children: Option<(Arc<Piece>, Arc<Piece>)>,
+}
+
+/// Gives a lease back.
+fn give_back(book: &mut Book, held: Held)
+    ensures { book.new ≡ given_back held.lease.id book.old }
+{
+    let Held { lease } = held;
+    book.give_back(lease.id);
+}
+
+/// Commits the work of a lease, and tells the ids of its children. Where it is refused the lease is given back.
+fn hand_in(book: &mut Book, held: Held, work: Work) -> Result<Option<(u64, u64)>, Fault>
+    ensures ok { IfOk result (λ ids. HandsIn book.old held.lease.id work ids book.new) }
+    ensures err { OnErr result (book.new ≡ given_back held.lease.id book.old) }
+{
+    match book.commit(held.lease.id, work) {
+        Ok(ids) => {
+            let Held { lease: _lease } = held;
+            Ok(ids)
+        }
+        Err(fault) => {
+            give_back(book, held);
+            Err(fault.into())
+        }
+    }
+}
+
 /// The children of a work that split its piece, the false one first.
 fn children_of(work: &Work) -> Result<Option<(Arc<Piece>, Arc<Piece>)>, Fault>
+    ensures ok { IfOk result (λ r. option_map (λ c. (arc_value c.0, arc_value c.1)) r
+        ≡ children_of work.now.step) }
     ensures err { IfErr result (λ f. f ≡ Memory) }
 {
-    let Step::Split(f, t) = work.step() else {
+    let Some((f, t)) = work.children() else {
         return Ok(None);
     };
     Ok(Some((Arc::try_clone(f)?, Arc::try_clone(t)?)))
 }
 
+/// Tries one bench.
+fn steal_at(others: &mut [Thief], place: usize) -> Option<Lease>
+    requires { place < length others.old }
+    ensures { Steals (ends_of others.old) result (ends_of others.new) }
+{
+    match others[place].steal() {
+        Steal::Success(lease) => Some(lease),
+        Steal::Empty | Steal::Retry => None,
+    }
+}
+
+/// Tries each bench once: the first lease that is got.
+fn steal_from(others: &mut [Thief]) -> Option<Lease>
+    ensures { Steals (ends_of others.old) result (ends_of others.new) }
+{
+    for place in 0..others.len() {
+        if let Some(lease) = steal_at(others, place) {
+            return Some(lease);
+        }
+    }
+    None
+}
+
 impl Worker {
-    /// A lease from its own bench, or else a stolen one, or else one from the book.
-    fn next_lease<R: Wait>(&mut self, rt: &R, book: &Mutex<Book>) -> Result<Option<Lease>, Fault> {
+    /// A lease from its own bench, or else a stolen one, the next worker's first, or else one from the book.
+    fn next_lease<R: Wait>(&mut self, rt: &R, book: &Mutex<Book>) -> Result<Option<Held>, Fault>
+        ensures number { self.new.number ≡ self.old.number }
+        ensures ok { IfOk result (λ found. HoldsNext self.old found self.new) }
+        ensures err { OnErr result (IsIdle self.old self.new) }
+    {
         if let Some(lease) = self.own.take() {
-            return Ok(Some(lease));
+            return Ok(Some(Held { lease }));
         }
-        if let Some(lease) = self.steal() {
-            return Ok(Some(lease));
+        if let Some(lease) = steal_from(self.others.as_mut_slice()) {
+            return Ok(Some(Held { lease }));
         }
-        Ok(book.lock(rt).lease()?)
+        match book.lock(rt).lease()? {
+            Some(lease) => Ok(Some(Held { lease })),
+            None => Ok(None),
+        }
     }
 
-    /// Tries each other bench once, the next worker's first.
-    fn steal(&mut self) -> Option<Lease> {
-        for thief in self.others.iter_mut() {
-            if let Steal::Success(lease) = thief.steal() {
-                return Some(lease);
-            }
-        }
-        None
+    /// The work of a piece and its children, once the gate has let it pass.
+    fn make<G: Gate>(
+        &self,
+        alloc: Global,
+        gate: &G,
+        piece: &Arc<Piece>,
+        call: usize,
+    ) -> Result<Made, Fault>
+        ensures ok { IfOk result (λ made. IsMadeOf (arc_value piece.now) made) }
+        ensures err { IfErr result (λ f. f ≡ Memory) }
+    {
+        let work = advance(alloc, piece)?;
+        let _piece = work.piece();
+        let children = children_of(&work)?;
+        gate.pass(self.number, call);
+        Ok(Made { work, children })
     }
 
-    /// Works the piece, passes the gate and commits. The children come on its own bench, the false one first.
+    /// Works the piece, passes the gate and hands the work in. The children come on its own bench, the false one first.
+    /// With a fault the lease is given back.
     fn work<R: Wait, G: Gate>(
         &mut self,
         rt: &R,
         alloc: Global,
         book: &Mutex<Book>,
         gate: &G,
-        lease: &Lease,
+        held: Held,
         call: usize,
-    ) -> Result<(), Fault> {
-        let work = advance(alloc, &lease.piece)?;
-        let children = children_of(&work)?;
-        gate.pass(self.number, call);
-        let ids = book.lock(rt).commit(lease.id, work)?;
-        if let (Some((f, t)), Some((f_id, t_id))) = (children, ids) {
-            self.put(rt, book, Lease { id: f_id, piece: f });
-            self.put(rt, book, Lease { id: t_id, piece: t });
-        }
+    ) -> Result<(), Fault>
+        ensures number { self.new.number ≡ self.old.number }
+        ensures ok { OnOk result (WorksOn held.lease self.old self.new) }
+        ensures err { OnErr result (own_end self.new ≡ own_end self.old) }
+    {
+        let Made { work, children } = match self.make(alloc, gate, &held.lease.piece, call) {
+            Ok(made) => made,
+            Err(fault) => {
+                give_back(&mut book.lock(rt), held);
+                return Err(fault);
+            }
+        };
+        let Some((f_id, t_id)) = hand_in(&mut book.lock(rt), held, work)? else {
+            return Ok(());
+        };
+        let Some((f, t)) = children else {
+            return Ok(());
+        };
+        self.put(rt, book, Lease { id: f_id, piece: f });
+        self.put(rt, book, Lease { id: t_id, piece: t });
         Ok(())
     }
 
     /// Puts a lease on its bench. One that is handed back is given back to the book.
-    fn put<R: Wait>(&mut self, rt: &R, book: &Mutex<Book>, lease: Lease) {
-        if let Err(refused) = self.own.put(lease) {
-            book.lock(rt).give_back(refused.id);
+    fn put<R: Wait>(&mut self, rt: &R, book: &Mutex<Book>, lease: Lease)
+        ensures number { self.new.number ≡ self.old.number }
+        ensures put { PutsOrNot (own_end self.old) lease (own_end self.new) }
+    {
+        if let Err(lease) = self.own.put(lease) {
+            give_back(&mut book.lock(rt), Held { lease });
         }
     }
 
     /// Takes its bench empty, and gives each lease back to the book.
-    fn empty<R: Wait>(&mut self, rt: &R, book: &Mutex<Book>) {
+    fn empty<R: Wait>(&mut self, rt: &R, book: &Mutex<Book>)
+        ensures { AllGot (own_end self.new) }
+    {
         for _ in rt.forever() {
             let Some(lease) = self.own.take() else {
                 return;
             };
-            book.lock(rt).give_back(lease.id);
+            give_back(&mut book.lock(rt), Held { lease });
         }
+        unreachable!()
     }
 }
 
@@ -110,14 +209,22 @@ fn is_over(book: &Book) -> bool
 }
 
 /// The turns of one worker, until nothing is left to do. Where it meets want of memory or a spent budget, it gives its
-/// pieces back and ends.
-fn run<R: Wait, G: Gate>(rt: &R, alloc: Global, book: &Mutex<Book>, gate: &G, mut worker: Worker) {
+/// pieces back and ends. It answers the end of its bench, which it has emptied.
+fn run<R: Wait, G: Gate>(
+    rt: &R,
+    alloc: Global,
+    book: &Mutex<Book>,
+    gate: &G,
+    mut worker: Worker,
+) -> Owner
+    ensures { AllGot (owner_end result) }
+{
     let mut call: usize = 0;
     for _ in rt.forever() {
         let Ok(leased) = worker.next_lease(rt, book) else {
             break;
         };
-        let Some(lease) = leased else {
+        let Some(held) = leased else {
             if is_over(&book.lock(rt)) {
                 break;
             }
@@ -125,12 +232,17 @@ fn run<R: Wait, G: Gate>(rt: &R, alloc: Global, book: &Mutex<Book>, gate: &G, mu
             continue;
         };
         call = call.wrapping_add(1);
-        if worker.work(rt, alloc, book, gate, &lease, call).is_err() {
-            book.lock(rt).give_back(lease.id);
+        if worker.work(rt, alloc, book, gate, held, call).is_err() {
             break;
         }
     }
     worker.empty(rt, book);
+    let Worker {
+        own,
+        number: _,
+        others: _others,
+    } = worker;
+    own
 }
 
 /// Lets the workers work on a book, each on a thread, and answers the book when they have ended. A thread that can't be
@@ -149,7 +261,9 @@ fn run_all<R: Threads + Wait + Sync, G: Gate>(
             if is_over(&shared.lock(rt)) {
                 break;
             }
-            let _ = scope.spawn(move || run(rt, alloc, shared, gate, worker));
+            let _ = scope.spawn(move || {
+                let _emptied = run(rt, alloc, shared, gate, worker);
+            });
         }
     });
     book.into_inner()
@@ -172,7 +286,8 @@ pub fn explore<R: Threads + Wait + Sync, G: Gate>(
 ) -> Result<Settled, Fault>
     requires workers { (0 < workers) × (workers ≤ 64) }
     ensures ok { IfOk result (λ s. IsEndOf (arc_value stack) budget s) }
-    ensures plain { IfOk result (λ s. IsPlain (arc_value stack) → IsExactEnd (arc_value stack) budget s) }
+    ensures plain { IfOk result (λ s. IsPlain (arc_value stack)
+        → IsExactEnd (arc_value stack) budget s) }
     ensures err { IfErr result (λ f. (f ≡ Memory) ⊎ (f ≡ Foreign)) }
     ensures alone { workers ≡ 1 → IfErr result (λ f. f ≡ Memory) }
 {
@@ -193,6 +308,7 @@ pub fn explore<R: Threads + Wait + Sync, G: Gate>(
 /// book is lawful.
 pub fn visit<R: Wait, F: FnOnce(&Book)>(rt: &R, book: &Mutex<Book>, f: F)
     requires { (b : Bor BookData) → IsLawful b.now → F.pre f b }
+    ensures { (b : Bor BookData) × IsLawful b.now × F.post f b result }
 {
     let guard = book.lock(rt);
     let _counts = guard.counts();

@@ -5,7 +5,7 @@ use Rattle.std.specs.Int.{bit_at}
 use Rattle.std.proofs.lemmas.Nat.{shr_split, shr-shr, and_le_l, or_disjoint, or_lt, pow_pos, xor_shr, le-div}
 use Rattle.std.proofs.lemmas.Nat.Bits.{bit_at_and, bit_at_or, bit_at_xor, bit_at-lt, same_from_bits, bit_at_above, bit_at_cat_low, bit_at_cat_high, bit_at-zero, bit_at_mask_below, bit_at_ones_above}
 use Rattle.std.proofs.Math.Nat.{div-eq_of_lt, div-mul-le_self}
-use Rattle.sf_dom.specs.Known.{HasBits}
+use Rattle.sf_dom.specs.Known.{HasBits, AreBitsOf}
 use Rattle.sf_dom.specs.FactsLaws.{bit_at-complement}
 
 -- one bit of each rule, by the numbers 0 and 1
@@ -21,10 +21,12 @@ or_zero a b za zb la lb h k = omega arith
 or_one : (a b oa ob : ℕ) → oa ≤ a → ob ≤ b → max oa ob ≤ max a b
 or_one a b oa ob h k = omega arith
 
-xor_zero : (a b za oa zb ob : ℕ) → a < 2 → b < 2 → za + a ≤ 1 → oa ≤ a → zb + b ≤ 1 → ob ≤ b → max (min za zb) (min oa ob) + (a + b) % 2 ≤ 1
+xor_zero : (a b za oa zb ob : ℕ) → a < 2 → b < 2 → za + a ≤ 1 → oa ≤ a → zb + b ≤ 1 → ob ≤ b
+    → max (min za zb) (min oa ob) + (a + b) % 2 ≤ 1
 xor_zero a b za oa zb ob la lb h k l m = omega arith
 
-xor_one : (a b za oa zb ob : ℕ) → a < 2 → b < 2 → za + a ≤ 1 → oa ≤ a → zb + b ≤ 1 → ob ≤ b → max (min za ob) (min oa zb) ≤ (a + b) % 2
+xor_one : (a b za oa zb ob : ℕ) → a < 2 → b < 2 → za + a ≤ 1 → oa ≤ a → zb + b ≤ 1 → ob ≤ b
+    → max (min za ob) (min oa zb) ≤ (a + b) % 2
 xor_one a b za oa zb ob la lb h k l m = omega arith
 
 join_zero : (n z y : ℕ) → z + n ≤ 1 → y + n ≤ 1 → max z y + n ≤ 1
@@ -45,22 +47,27 @@ back_or_zero x c z h = omega arith
 back_or_one : (x c k o : ℕ) → k + c ≤ 1 → o ≤ max x c → min o k ≤ x
 back_or_one x c k o l h = omega arith
 
-back_xor_zero : (x c k z o : ℕ) → x < 2 → c < 2 → k + c ≤ 1 → z + (x + c) % 2 ≤ 1 → o ≤ (x + c) % 2 → max (min z k) (min o c) + x ≤ 1
+back_xor_zero : (x c k z o : ℕ) → x < 2 → c < 2 → k + c ≤ 1 → z + (x + c) % 2 ≤ 1 → o ≤ (x + c) % 2
+    → max (min z k) (min o c) + x ≤ 1
 back_xor_zero x c k z o lx lc l h m = omega arith
 
-back_xor_one : (x c k z o : ℕ) → x < 2 → c < 2 → k + c ≤ 1 → z + (x + c) % 2 ≤ 1 → o ≤ (x + c) % 2 → max (min o k) (min z c) ≤ x
+back_xor_one : (x c k z o : ℕ) → x < 2 → c < 2 → k + c ≤ 1 → z + (x + c) % 2 ≤ 1 → o ≤ (x + c) % 2
+    → max (min o k) (min z c) ≤ x
 back_xor_one x c k z o lx lc l h m = omega arith
 
 -- both operands' known bits
-pub and-bits : (a b za oa zb ob : ℕ) → HasBits a za oa → HasBits b zb ob → HasBits (bit_and a b) (bit_or za zb) (bit_and oa ob)
+pub and-bits : (a b za oa zb ob : ℕ) → HasBits a za oa → HasBits b zb ob
+    → HasBits (bit_and a b) (bit_or za zb) (bit_and oa ob)
 and-bits a b za oa zb ob ha hb = record {
   zero = λ i. rw (bit_at_and a b i, bit_at_or za zb i) (and_zero _ _ _ _ (ha.zero i) (hb.zero i));
   one = λ i. rw (bit_at_and a b i, bit_at_and oa ob i) (and_one _ _ _ _ (ha.one i) (hb.one i));
 }
 
-pub or-bits : (a b za oa zb ob : ℕ) → HasBits a za oa → HasBits b zb ob → HasBits (bit_or a b) (bit_and za zb) (bit_or oa ob)
+pub or-bits : (a b za oa zb ob : ℕ) → HasBits a za oa → HasBits b zb ob
+    → HasBits (bit_or a b) (bit_and za zb) (bit_or oa ob)
 or-bits a b za oa zb ob ha hb = record {
-  zero = λ i. rw (bit_at_or a b i, bit_at_and za zb i) (or_zero _ _ _ _ (bit_at-lt a i) (bit_at-lt b i) (ha.zero i) (hb.zero i));
+  zero = λ i. rw (bit_at_or a b i, bit_at_and za zb i)
+      (or_zero _ _ _ _ (bit_at-lt a i) (bit_at-lt b i) (ha.zero i) (hb.zero i));
   one = λ i. rw (bit_at_or a b i, bit_at_or oa ob i) (or_one _ _ _ _ (ha.one i) (hb.one i));
 }
 
@@ -90,14 +97,16 @@ part-bits n z o y p h = record {
 -- back through an operation with a constant
 pub back-and : (x c z o : ℕ) → HasBits (bit_and x c) z o → HasBits x (bit_and z c) o
 back-and x c z o h = record {
-  zero = λ i. rw (bit_at_and z c i) (back_and_zero _ _ _ (bit_at-lt x i) (bit_at-lt c i) (rw (bit_at_and x c i) at (h.zero i)));
+  zero = λ i. rw (bit_at_and z c i) (back_and_zero _ _ _ (bit_at-lt x i) (bit_at-lt c i)
+      (rw (bit_at_and x c i) at (h.zero i)));
   one = λ i. back_and_one _ _ _ (rw (bit_at_and x c i) at (h.one i));
 }
 
 pub back-or : (x c z o : ℕ) → c < 2 ^ 32 → HasBits (bit_or x c) z o → HasBits x z (bit_and o (4294967295 - c))
 back-or x c z o l h = record {
   zero = λ i. back_or_zero _ _ _ (rw (bit_at_or x c i) at (h.zero i));
-  one = λ i. rw (bit_at_and o (4294967295 - c) i) (back_or_one _ _ _ _ (bit_at-complement c i l) (rw (bit_at_or x c i) at (h.one i)));
+  one = λ i. rw (bit_at_and o (4294967295 - c) i)
+      (back_or_one _ _ _ _ (bit_at-complement c i l) (rw (bit_at_or x c i) at (h.one i)));
 }
 
 pub back-xor : (x c z o : ℕ) → c < 2 ^ 32 → HasBits (bit_xor x c) z o
@@ -106,9 +115,17 @@ back-xor x c z o l h =
     let zx : (i : ℕ) → bit_at z i + (bit_at x i + bit_at c i) % 2 ≤ 1 = λ i. rw (bit_at_xor x c i) at (h.zero i) in
     let ox : (i : ℕ) → bit_at o i ≤ (bit_at x i + bit_at c i) % 2 = λ i. rw (bit_at_xor x c i) at (h.one i) in
     record {
-      zero = λ i. rw (bit_at_or (bit_and z (4294967295 - c)) (bit_and o c) i, bit_at_and z (4294967295 - c) i, bit_at_and o c i)
+      zero = λ i. rw (
+        bit_at_or (bit_and z (4294967295 - c)) (bit_and o c) i,
+        bit_at_and z (4294967295 - c) i,
+        bit_at_and o c i,
+      )
           (back_xor_zero _ _ _ _ _ (bit_at-lt x i) (bit_at-lt c i) (bit_at-complement c i l) (zx i) (ox i));
-      one = λ i. rw (bit_at_or (bit_and o (4294967295 - c)) (bit_and z c) i, bit_at_and o (4294967295 - c) i, bit_at_and z c i)
+      one = λ i. rw (
+        bit_at_or (bit_and o (4294967295 - c)) (bit_and z c) i,
+        bit_at_and o (4294967295 - c) i,
+        bit_at_and z c i,
+      )
           (back_xor_one _ _ _ _ _ (bit_at-lt x i) (bit_at-lt c i) (bit_at-complement c i l) (zx i) (ox i));
     }
 
@@ -121,10 +138,22 @@ ones-le n z o h =
     min_of : (b a : ℕ) → a ≤ b → min b a ≡ a
     min_of b a l = omega arith
 
+-- bits of a number are no greater
+pub bits-le : (a b : ℕ) → AreBitsOf a b → a ≤ b
+bits-le a b h = ones-le b 0 a (record { zero = λ i. omega (arith, bit_at-zero i, bit_at-lt b i); one = h })
+
+-- a number's bits are among those of an OR with it
+pub bits-of-or : (a b : ℕ) → AreBitsOf a (bit_or a b)
+bits-of-or a b i = rw (bit_at_or a b i) (omega arith)
+
+pub bits-of-or_right : (a b : ℕ) → AreBitsOf b (bit_or a b)
+bits-of-or_right a b i = rw (bit_at_or a b i) (omega arith)
+
 -- and leave room for the known zeros
 pub zeros-le : (n z o : ℕ) → n < 2 ^ 32 → z < 2 ^ 32 → HasBits n z o → n ≤ 4294967295 - z
 zeros-le n z o ln lz h =
-    let none : bit_and n z ≡ 0 = same_from_bits (bit_and n z) 0 (λ i. bit_at_and n z i ∙ min_none _ _ (h.zero i) ∙ sym (bit_at-zero i)) in
+    let none : bit_and n z ≡ 0 = same_from_bits (bit_and n z) 0
+    (λ i. bit_at_and n z i ∙ min_none _ _ (h.zero i) ∙ sym (bit_at-zero i)) in
     omega (arith, or_disjoint n z none, or_lt 32 n z ln lz)
   where
     min_none : (b a : ℕ) → a + b ≤ 1 → min b a ≡ 0
@@ -135,25 +164,36 @@ pub bit_at-mod : (n k i : ℕ) → i < k → bit_at (n % 2 ^ k) i ≡ bit_at n i
 bit_at-mod n k i h = sym (bit_at_cat_low (n / 2 ^ k) k (n % 2 ^ k) i h) ∙ ap (λ m. bit_at m i) (shr_split n k)
 
 pub bit_at-shl_low : (a s i : ℕ) → i < s → bit_at (a * 2 ^ s) i ≡ 0
-bit_at-shl_low a s i h = let e : a * 2 ^ s + 0 ≡ a * 2 ^ s = omega arith in rw e at (bit_at_cat_low a s 0 i h) ∙ bit_at-zero i
+bit_at-shl_low a s i h = let e : a * 2 ^ s + 0 ≡ a * 2 ^ s = omega arith in
+    rw e at (bit_at_cat_low a s 0 i h) ∙ bit_at-zero i
 
 pub bit_at-shl_high : (a s i : ℕ) → s ≤ i → bit_at (a * 2 ^ s) i ≡ bit_at a (i - s)
-bit_at-shl_high a s i h = let e : a * 2 ^ s + 0 ≡ a * 2 ^ s = omega arith in rw e at (bit_at_cat_high a s 0 i (pow_pos s) h)
+bit_at-shl_high a s i h = let e : a * 2 ^ s + 0 ≡ a * 2 ^ s = omega arith in
+    rw e at (bit_at_cat_high a s 0 i (pow_pos s) h)
 
 pub bit_at-shr : (a s i : ℕ) → bit_at (a / 2 ^ s) i ≡ bit_at a (s + i)
 bit_at-shr a s i = ap (λ m. m % 2) (shr-shr a s i)
 
 -- moved left by s, modulo 2 ^ 32
-pub shl-bits : (a za oa s : ℕ) → HasBits a za oa → HasBits (a * 2 ^ s % 2 ^ 32) (bit_or (za * 2 ^ s % 2 ^ 32) (2 ^ s - 1)) (oa * 2 ^ s % 2 ^ 32)
+pub shl-bits : (a za oa s : ℕ) → HasBits a za oa
+    → HasBits (a * 2 ^ s % 2 ^ 32) (bit_or (za * 2 ^ s % 2 ^ 32) (2 ^ s - 1)) (oa * 2 ^ s % 2 ^ 32)
 shl-bits a za oa s h =
-    let low : (n i : ℕ) → i < 32 → i < s → bit_at (n * 2 ^ s % 2 ^ 32) i ≡ 0 = λ n i l m. bit_at-mod (n * 2 ^ s) 32 i l ∙ bit_at-shl_low n s i m in
-    let high : (n i : ℕ) → i < 32 → s ≤ i → bit_at (n * 2 ^ s % 2 ^ 32) i ≡ bit_at n (i - s) = λ n i l m. bit_at-mod (n * 2 ^ s) 32 i l ∙ bit_at-shl_high n s i m in
-    let past : (n i : ℕ) → 32 ≤ i → bit_at (n * 2 ^ s % 2 ^ 32) i ≡ 0 = λ n i l. bit_at_above (n * 2 ^ s % 2 ^ 32) 32 i (omega arith) l in
+    let low : (n i : ℕ) → i < 32 → i < s → bit_at (n * 2 ^ s % 2 ^ 32) i ≡ 0 =
+    λ n i l m. bit_at-mod (n * 2 ^ s) 32 i l ∙ bit_at-shl_low n s i m in
+    let high : (n i : ℕ) → i < 32 → s ≤ i → bit_at (n * 2 ^ s % 2 ^ 32) i ≡ bit_at n (i - s) =
+    λ n i l m. bit_at-mod (n * 2 ^ s) 32 i l ∙ bit_at-shl_high n s i m in
+    let past : (n i : ℕ) → 32 ≤ i → bit_at (n * 2 ^ s % 2 ^ 32) i ≡ 0 =
+    λ n i l. bit_at_above (n * 2 ^ s % 2 ^ 32) 32 i (omega arith) l in
     record {
       zero = λ i. elim (cases_lt i 32) [
         | inl l ↦ elim (cases_lt i s) [
           | inl m ↦ rw (low a i l m) (zero_right _ (bit_at-lt _ i))
-          | inr m ↦ rw (bit_at_or (za * 2 ^ s % 2 ^ 32) (2 ^ s - 1) i, high a i l m, high za i l m, bit_at_ones_above s i m) (max_zero _ _ (h.zero (i - s)))
+          | inr m ↦ rw (
+            bit_at_or (za * 2 ^ s % 2 ^ 32) (2 ^ s - 1) i,
+            high a i l m,
+            high za i l m,
+            bit_at_ones_above s i m,
+          ) (max_zero _ _ (h.zero (i - s)))
         ]
         | inr l ↦ rw (past a i l) (zero_right _ (bit_at-lt _ i))
       ];
@@ -173,7 +213,8 @@ shl-bits a za oa s h =
     max_zero z n l = omega arith
 
 -- moved right by s
-pub shr-bits : (a za oa s : ℕ) → s < 32 → a < 2 ^ 32 → HasBits a za oa → HasBits (a / 2 ^ s) (bit_or (za / 2 ^ s) (2 ^ 32 - 2 ^ (32 - s))) (oa / 2 ^ s)
+pub shr-bits : (a za oa s : ℕ) → s < 32 → a < 2 ^ 32 → HasBits a za oa
+    → HasBits (a / 2 ^ s) (bit_or (za / 2 ^ s) (2 ^ 32 - 2 ^ (32 - s))) (oa / 2 ^ s)
 shr-bits a za oa s ls la h = record {
   zero = λ i. rw (bit_at-shr a s i, bit_at_or (za / 2 ^ s) (2 ^ 32 - 2 ^ (32 - s)) i, bit_at-shr za s i)
       (elim (cases_lt i (32 - s)) [
@@ -193,7 +234,8 @@ shr-bits a za oa s ls la h = record {
 pub same_quotient : (a b k : ℕ) → bit_xor a b < 2 ^ k → a / 2 ^ k ≡ b / 2 ^ k
 same_quotient a b k h =
     let none : bit_xor (a / 2 ^ k) (b / 2 ^ k) ≡ 0 = sym (xor_shr a b k) ∙ div-eq_of_lt h in
-    same_from_bits (a / 2 ^ k) (b / 2 ^ k) (λ i. equal_bits _ _ (bit_at-lt _ i) (bit_at-lt _ i) (sym (bit_at_xor (a / 2 ^ k) (b / 2 ^ k) i) ∙ ap (λ m. bit_at m i) none ∙ bit_at-zero i))
+    same_from_bits (a / 2 ^ k) (b / 2 ^ k) (λ i. equal_bits _ _ (bit_at-lt _ i) (bit_at-lt _ i)
+    (sym (bit_at_xor (a / 2 ^ k) (b / 2 ^ k) i) ∙ ap (λ m. bit_at m i) none ∙ bit_at-zero i))
   where
     equal_bits : (x y : ℕ) → x < 2 → y < 2 → (x + y) % 2 ≡ 0 → x ≡ y
     equal_bits x y l m e = omega arith
@@ -210,7 +252,8 @@ leading-bits low high n k ll above below e =
     let same : n / 2 ^ k ≡ low / 2 ^ k = omega arith in
     let at_bit : (i : ℕ) → k ≤ i → bit_at n i ≡ bit_at low i
     = λ i l. let j : k + (i - k) ≡ i = omega arith in
-    ap (bit_at n) (sym j) ∙ sym (bit_at-shr n k (i - k)) ∙ ap (λ m. bit_at m (i - k)) same ∙ bit_at-shr low k (i - k) ∙ ap (bit_at low) j in
+    ap (bit_at n) (sym j) ∙ sym (bit_at-shr n k (i - k)) ∙ ap (λ m. bit_at m (i - k)) same ∙ bit_at-shr low k (i - k)
+    ∙ ap (bit_at low) j in
     record {
       zero = λ i. rw (bit_at_and (4294967295 - low) (2 ^ 32 - 2 ^ k) i) (elim (cases_lt i k) [
         | inl l ↦ rw (bit_at_mask_below k 32 i l) (min_zero _ _ (bit_at-lt n i))
@@ -236,7 +279,8 @@ leading-bits low high n k ll above below e =
 
 -- no bit is known to be both
 pub bits-apart : (n z o : ℕ) → HasBits n z o → bit_and z o ≡ 0
-bits-apart n z o h = same_from_bits (bit_and z o) 0 (λ i. bit_at_and z o i ∙ min_none _ _ _ (h.zero i) (h.one i) ∙ sym (bit_at-zero i))
+bits-apart n z o h = same_from_bits (bit_and z o) 0 (λ i. bit_at_and z o i ∙ min_none _ _ _ (h.zero i) (h.one i)
+    ∙ sym (bit_at-zero i))
   where
     min_none : (z o n : ℕ) → z + n ≤ 1 → o ≤ n → min z o ≡ 0
     min_none z o n l m = omega arith

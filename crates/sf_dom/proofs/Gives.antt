@@ -9,7 +9,8 @@ pub gives-greater : (x y : ℕ) → Gives Greater x y true → y < x
 gives-greater x y h = (Decides-ltb y x).0 h
 
 pub gives-not_greater : (x y : ℕ) → Gives Greater x y false → x ≤ y
-gives-not_greater x y h = elim (cases_lt y x) [ inl l ↦ absurd (false≢true (sym h ∙ (Decides-ltb y x).1 l)) | inr l ↦ l ]
+gives-not_greater x y h =
+    elim (cases_lt y x) [ inl l ↦ absurd (false≢true (sym h ∙ (Decides-ltb y x).1 l)) | inr l ↦ l ]
 
 pub gives-at_least : (x y : ℕ) → Gives GreaterOrEqual x y true → y ≤ x
 gives-at_least x y h = grind (arith, nat_tests)

@@ -5,6 +5,7 @@ pub mod Slots
 pub mod Passes
 pub mod Halves
 pub mod CommonBits
+pub mod Backs
 pub mod Settles
 pub mod Gives
 pub mod Sampled

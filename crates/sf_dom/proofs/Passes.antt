@@ -16,7 +16,7 @@ use Rattle.sf_dom.proofs.Rounds.{IsNarrower-trans, IsNarrower-refl}
 use Rattle.sf_sym.specs.Pool.{OperandsBelow}
 use Rattle.sf_sym.specs.declared.pool.Node.TheVariants.{Const, Word, Bin, Neg}
 use Rattle.sf_sym.specs.ValueLaws.{OperandsBelow-at}
-use Rattle.sf_dom.proofs.Bits.{join-bits}
+use Rattle.sf_dom.proofs.Bits.{join-bits, bits-le}
 use Rattle.sf_dom.specs.Facts.{known_at, numbers_at, excluded_of, AgreesWith, AreDecidedOperands}
 use Rattle.sf_dom.specs.Tightening.{IsForced, IsMeet}
 
@@ -25,9 +25,14 @@ pub meet-is : (a b : Known) (low high : ℕ) → low ≡ max a.low b.low → hig
     → IsMeet a b (known_of low high (bit_or a.zeros b.zeros) (bit_or a.ones b.ones))
 meet-is a b low high el eh = record {
   left = narrowed a low high b.zeros b.ones (omega arith) (omega arith);
-  right = rw (or_comm a.zeros b.zeros, or_comm a.ones b.ones) (narrowed b low high a.zeros a.ones (omega arith) (omega arith));
+  right = rw (or_comm a.zeros b.zeros, or_comm a.ones b.ones)
+      (narrowed b low high a.zeros a.ones (omega arith) (omega arith));
   both = λ n p q. let x = p.above in let y = p.below in let z = q.above in let w = q.below in
-      record { above = omega arith; below = omega arith; bits = join-bits n a.zeros a.ones b.zeros b.ones p.bits q.bits };
+      record {
+        above = omega arith;
+        below = omega arith;
+        bits = join-bits n a.zeros a.ones b.zeros b.ones p.bits q.bits;
+      };
 }
 
 -- the value of a node is left by what was known of it and by its rule
@@ -45,7 +50,8 @@ pass-left ks ex ns d i by_rule met p len l a r m =
     }
 
 pub pass-set : (ks : List Known) (ex : List (List ℕ)) (ns : List Node) (d : Input) (i : ℕ) (next : Known)
-    → i < length ks → AgreesWith ks ex ns d → Leaves next (excluded_of ex (node_at ns i)) (value_of ns d i) → AgreesWith (set ks i next) ex ns d
+    → i < length ks → AgreesWith ks ex ns d → Leaves next (excluded_of ex (node_at ns i)) (value_of ns d i)
+    → AgreesWith (set ks i next) ex ns d
 pass-set ks ex ns d i next l a h j lj =
     elim (cases_eq j i) [
       | inl e ↦ rw (e, get_or-set_same ks i next (known_of 0 0 0 0) l) h
@@ -65,14 +71,16 @@ OperandsBelow-more k m (Word i) l o = o
 OperandsBelow-more k m (Bin op a b) l o = let x = o.0 in let y = o.1 in (omega arith, omega arith)
 OperandsBelow-more k m (Neg a) l o = omega arith
 
-pub AreDecidedOperands-same : (ks js : List Known) (k : ℕ) (n : Node) → OperandsBelow k n → ((j : ℕ) → j < k → known_at ks j ≡ known_at js j)
+pub AreDecidedOperands-same : (ks js : List Known) (k : ℕ) (n : Node) → OperandsBelow k n
+    → ((j : ℕ) → j < k → known_at ks j ≡ known_at js j)
     → AreDecidedOperands ks n → AreDecidedOperands js n
 AreDecidedOperands-same ks js k (Const c) o e h = h
 AreDecidedOperands-same ks js k (Word i) o e h = h
 AreDecidedOperands-same ks js k (Bin op a b) o e h = (h.0, rw (e a.0 o.0) at h.1, rw (e b.0 o.1) at h.2)
 AreDecidedOperands-same ks js k (Neg a) o e h = rw (e a.0 o) at h
 
-pub settled-operands : (ks : List Known) (k : ℕ) (n : Node) → OperandsBelow k n → ((j : ℕ) → j < k → IsSettled (known_at ks j)) → AreSettledOperands ks n
+pub settled-operands : (ks : List Known) (k : ℕ) (n : Node) → OperandsBelow k n
+    → ((j : ℕ) → j < k → IsSettled (known_at ks j)) → AreSettledOperands ks n
 settled-operands ks k (Const c) o h = tt
 settled-operands ks k (Word i) o h = tt
 settled-operands ks k (Bin op a b) o h = (h a.0 o.0, h b.0 o.1)
@@ -87,20 +95,27 @@ IsPassed-same ks js ex ns k p l e h =
     record {
       settled = rw here at h.settled;
       tight = λ b. rw here at (h.tight b);
-      decided = λ o. rw here at (h.decided (AreDecidedOperands-same js ks k (node_at ns k) lower (λ j b. sym (e j (omega arith))) o));
+      decided = λ o.
+          rw here at (h.decided (AreDecidedOperands-same js ks k (node_at ns k) lower
+          (λ j b. sym (e j (omega arith))) o));
       constant = λ c n. rw here at (h.constant c n);
     }
 
-pub forced-decided : (r met next : Known) (ex : List (List ℕ)) (n : Node) → IsNarrower r met → IsTightNode met next ex n → IsForced r → IsDecided next
+pub forced-decided : (r met next : Known) (ex : List (List ℕ)) (n : Node) → IsNarrower r met → IsTightNode met next ex n
+    → IsForced r → IsDecided next
 forced-decided r met next ex n h t f =
-    let a = h.low in let b = h.high in let c = h.zeros in let d = h.ones in
-    let a2 = t.narrower.low in let b2 = t.narrower.high in let c2 = t.narrower.zeros in let d2 = t.narrower.ones in
+    let a = h.low in let b = h.high in let c = bits-le r.zeros met.zeros h.zeros in
+    let d = bits-le r.ones met.ones h.ones in
+    let a2 = t.narrower.low in let b2 = t.narrower.high in
+    let c2 = bits-le met.zeros next.zeros t.narrower.zeros in let d2 = bits-le met.ones next.ones t.narrower.ones in
     let o = t.settled.ordered in let ol = t.ones_low in let hz = t.high_zeros in
     elim f [ inl l ↦ omega arith | inr l ↦ omega arith ]
 
 -- a node that a pass has just gone over
-pub IsPassed-new : (ks : List Known) (ex : List (List ℕ)) (ns : List Node) (i : ℕ) (r met next : Known) → IsPool ns → known_at ks i ≡ next
-    → (AreDecidedOperands ks (node_at ns i) → IsForced r) → ((c : ℕ) → node_at ns i ≡ Const c → (r.low ≡ c) × (r.high ≡ c))
+pub IsPassed-new : (ks : List Known) (ex : List (List ℕ)) (ns : List Node) (i : ℕ) (r met next : Known) → IsPool ns
+    → known_at ks i ≡ next
+    → (AreDecidedOperands ks (node_at ns i) → IsForced r)
+    → ((c : ℕ) → node_at ns i ≡ Const c → (r.low ≡ c) × (r.high ≡ c))
     → IsNarrower r met → IsTightNode met next ex (node_at ns i) → IsPassed ks ex ns i
 IsPassed-new ks ex ns i r met next p e forced constant h t = record {
   settled = rw e t.settled;
@@ -115,7 +130,8 @@ IsPassed-new ks ex ns i r met next p e forced constant h t = record {
 }
 
 -- one step of a pass
-pub passed-set : (ks : List Known) (ex : List (List ℕ)) (ns : List Node) (i : ℕ) (r met next : Known) → IsPool ns → length ks ≡ length ns → i < length ks
+pub passed-set : (ks : List Known) (ex : List (List ℕ)) (ns : List Node) (i : ℕ) (r met next : Known) → IsPool ns
+    → length ks ≡ length ns → i < length ks
     → ((k : ℕ) → k < i → IsPassed ks ex ns k)
     → (AreSettledOperands ks (node_at ns i) → AreDecidedOperands ks (node_at ns i) → IsForced r)
     → ((c : ℕ) → node_at ns i ≡ Const c → (r.low ≡ c) × (r.high ≡ c))
@@ -128,14 +144,17 @@ passed-set ks ex ns i r met next p len l older forced constant h t k lk =
       | inl b ↦ IsPassed-same ks (set ks i next) ex ns k p (omega arith) (λ j c. same j (omega arith)) (older k b)
       | inr g ↦ (let e : k ≡ i = omega arith in
           rw e (IsPassed-new (set ks i next) ex ns i r met next p (get_or-set_same ks i next (known_of 0 0 0 0) l)
-          (λ o. forced (settled-operands ks i (node_at ns i) lower (λ j b. (older j b).settled)) (AreDecidedOperands-same (set ks i next) ks i (node_at ns i) lower (λ j b. sym (same j b)) o))
+          (λ o. forced (settled-operands ks i (node_at ns i) lower (λ j b. (older j b).settled))
+          (AreDecidedOperands-same (set ks i next) ks i (node_at ns i) lower (λ j b. sym (same j b)) o))
           constant h t))
     ]
 
-pub AllNarrower-set : (old ks : List Known) (i : ℕ) (next : Known) → length old ≡ length ks → i < length ks → AllNarrower old ks → IsNarrower (known_at ks i) next → AllNarrower old (set ks i next)
+pub AllNarrower-set : (old ks : List Known) (i : ℕ) (next : Known) → length old ≡ length ks → i < length ks
+    → AllNarrower old ks → IsNarrower (known_at ks i) next → AllNarrower old (set ks i next)
 AllNarrower-set old ks i next len l h n j b =
     elim (cases_eq j i) [
-      | inl e ↦ rw (e, get_or-set_same ks i next (known_of 0 0 0 0) l) (IsNarrower-trans (known_at old i) (known_at ks i) next (h i (omega arith)) n)
+      | inl e ↦ rw (e, get_or-set_same ks i next (known_of 0 0 0 0) l)
+          (IsNarrower-trans (known_at old i) (known_at ks i) next (h i (omega arith)) n)
       | inr ne ↦ rw (get_or-set_other ks i j next (known_of 0 0 0 0) ne) (h j b)
     ]
 
@@ -143,10 +162,12 @@ pub AllNarrower-refl : (ks : List Known) → AllNarrower ks ks
 AllNarrower-refl ks i l = IsNarrower-refl (known_at ks i)
 
 pub AllNarrower-trans : (a b c : List Known) → length a ≡ length b → AllNarrower a b → AllNarrower b c → AllNarrower a c
-AllNarrower-trans a b c len h k i l = IsNarrower-trans (known_at a i) (known_at b i) (known_at c i) (h i l) (k i (omega arith))
+AllNarrower-trans a b c len h k i l = IsNarrower-trans (known_at a i) (known_at b i) (known_at c i) (h i l)
+    (k i (omega arith))
 
 -- a new node at the end
-pub passed-push : (ks : List Known) (ex : List (List ℕ)) (ns : List Node) (from i : ℕ) (r next : Known) → IsPool ns → length ks ≡ i → i < length ns → from ≤ i
+pub passed-push : (ks : List Known) (ex : List (List ℕ)) (ns : List Node) (from i : ℕ) (r next : Known) → IsPool ns
+    → length ks ≡ i → i < length ns → from ≤ i
     → ((k : ℕ) → k < i → IsSettled (known_at ks k)) → ((k : ℕ) → from ≤ k → k < i → IsPassed ks ex ns k)
     → (AreSettledOperands ks (node_at ns i) → AreDecidedOperands ks (node_at ns i) → IsForced r)
     → ((c : ℕ) → node_at ns i ≡ Const c → (r.low ≡ c) × (r.high ≡ c))
@@ -159,12 +180,14 @@ passed-push ks ex ns from i r next p len l fl settled older forced constant t k 
       | inl b ↦ IsPassed-same ks (ks ++ next ∷ []) ex ns k p (omega arith) (λ j c. same j (omega arith)) (older k fk b)
       | inr g ↦ (let e : k ≡ i = omega arith in
           rw e (IsPassed-new (ks ++ next ∷ []) ex ns i r r next p (get_or_push ks next (known_of 0 0 0 0) i len)
-          (λ o. forced (settled-operands ks i (node_at ns i) lower settled) (AreDecidedOperands-same (ks ++ next ∷ []) ks i (node_at ns i) lower (λ j b. sym (same j b)) o))
+          (λ o. forced (settled-operands ks i (node_at ns i) lower settled)
+          (AreDecidedOperands-same (ks ++ next ∷ []) ks i (node_at ns i) lower (λ j b. sym (same j b)) o))
           constant (IsNarrower-refl r) t))
     ]
 
 -- a number that a word has is not excluded for it, where the word's own node is there, or nothing is excluded
-pub kept-node : (ks : List Known) (ex : List (List ℕ)) (ns : List Node) (d : Input) (n : Node) (v : ℕ) → IsPool ns → OperandsBelow (length ns) n → v ≡ node_value d (values_of ns d) n
+pub kept-node : (ks : List Known) (ex : List (List ℕ)) (ns : List Node) (d : Input) (n : Node) (v : ℕ) → IsPool ns
+    → OperandsBelow (length ns) n → v ≡ node_value d (values_of ns d) n
     → ((16 ≤ length ks) ⊎ ((w : ℕ) → numbers_at ex w ≡ [])) → AgreesWith ks ex ns d → ¬ Contains (excluded_of ex n) v
 kept-node ks ex ns d (Const c) v p o e h a w = absurd (omega (arith, w.1))
 kept-node ks ex ns d (Bin op x y) v p o e h a w = absurd (omega (arith, w.1))
@@ -172,34 +195,45 @@ kept-node ks ex ns d (Neg x) v p o e h a w = absurd (omega (arith, w.1))
 kept-node ks ex ns d (Word i) v p o e (inl l) a w =
     let words = p.words in
     let here : node_at ns i ≡ Word i = p.word i o in
-    let value : value_of ns d i ≡ v = value-node ns d i p (omega arith) ∙ ap (node_value d (values_of ns d)) here ∙ sym e in
+    let value : value_of ns d i ≡ v = value-node ns d i p (omega arith)
+    ∙ ap (node_value d (values_of ns d)) here ∙ sym e in
     (rw (here, value) at (a i (omega arith)).kept) w
 kept-node ks ex ns d (Word i) v p o e (inr none) a w = let z = (rw (none i) at w) in absurd (omega (arith, z.1))
 
 -- the input agrees with what follows of a new node
-pub grown-left : (ks : List Known) (ex : List (List ℕ)) (ns : List Node) (d : Input) (i : ℕ) (r : Known) → IsPool ns → i < length ns
-    → ((16 ≤ length ks) ⊎ ((w : ℕ) → numbers_at ex w ≡ [])) → AgreesWith ks ex ns d → Admits r (node_value d (values_of ns d) (node_at ns i))
+pub grown-left : (ks : List Known) (ex : List (List ℕ)) (ns : List Node) (d : Input) (i : ℕ) (r : Known)
+    → IsPool ns → i < length ns
+    → ((16 ≤ length ks) ⊎ ((w : ℕ) → numbers_at ex w ≡ [])) → AgreesWith ks ex ns d
+    → Admits r (node_value d (values_of ns d) (node_at ns i))
     → Leaves r (excluded_of ex (node_at ns i)) (value_of ns d i)
 grown-left ks ex ns d i r p l h a adm =
     let e = value-node ns d i p l in
     let o = operands-below ns i p l in
-    record { admitted = rw e adm; kept = kept-node ks ex ns d (node_at ns i) (value_of ns d i) p (OperandsBelow-more i (length ns) (node_at ns i) (omega arith) o) e h a }
+    record {
+      admitted = rw e adm;
+      kept = kept-node ks ex ns d (node_at ns i) (value_of ns d i) p
+          (OperandsBelow-more i (length ns) (node_at ns i) (omega arith) o) e h a;
+    }
 
-pub agrees-push : (ks : List Known) (ex : List (List ℕ)) (ns : List Node) (d : Input) (i : ℕ) (next : Known) → length ks ≡ i → AgreesWith ks ex ns d
+pub agrees-push : (ks : List Known) (ex : List (List ℕ)) (ns : List Node) (d : Input) (i : ℕ) (next : Known)
+    → length ks ≡ i → AgreesWith ks ex ns d
     → Leaves next (excluded_of ex (node_at ns i)) (value_of ns d i) → AgreesWith (ks ++ next ∷ []) ex ns d
 agrees-push ks ex ns d i next len a h j lj =
     elim (cases_lt j (length ks)) [
       | inl b ↦ rw (get_or_append_left ks (next ∷ []) (known_of 0 0 0 0) j b) (a j b)
-      | inr g ↦ (let e : j ≡ i = omega (arith, length_push ks next) in rw (e, get_or_push ks next (known_of 0 0 0 0) i len) h)
+      | inr g ↦ (let e : j ≡ i = omega (arith, length_push ks next) in
+          rw (e, get_or_push ks next (known_of 0 0 0 0) i len) h)
     ]
 
 -- what lets new nodes be taken in goes on to hold
-pub still-none : (old ks : List Known) (ex : List (List ℕ)) → length old ≤ length ks → ((16 ≤ length old) ⊎ ((w : ℕ) → numbers_at ex w ≡ [])) → ((16 ≤ length ks) ⊎ ((w : ℕ) → numbers_at ex w ≡ []))
+pub still-none : (old ks : List Known) (ex : List (List ℕ)) → length old ≤ length ks
+    → ((16 ≤ length old) ⊎ ((w : ℕ) → numbers_at ex w ≡ [])) → ((16 ≤ length ks) ⊎ ((w : ℕ) → numbers_at ex w ≡ []))
 still-none old ks ex l (inl a) = inl (omega arith)
 still-none old ks ex l (inr n) = inr n
 
 -- a node that has one number from the start needs no step of a pass
-pub unlisted-passed : (n : NodesView) (ex : List (List ℕ)) (ns : List Node) (k : ℕ) → IsReady n.known ns → IsLaidOut n → k < length n.known
+pub unlisted-passed : (n : NodesView) (ex : List (List ℕ)) (ns : List Node) (k : ℕ) → IsReady n.known ns → IsLaidOut n
+    → k < length n.known
     → ((j : ℕ) → j < length n.variables → slice_index n.variables j ≢ k) → IsPassed n.known ex ns k
 unlisted-passed n ex ns k ready laid l none = elim (laid.rest k l) [
   | inl o ↦ absurd (none o.0 o.1 o.2)
@@ -212,16 +246,20 @@ unlisted-passed n ex ns k ready laid l none = elim (laid.rest k l) [
 ]
 
 -- the variable at hand stands before those to come
-pub variable-before : (n : NodesView) (r j k : ℕ) → IsLaidOut n → r ≤ j → j < length n.variables → k < slice_index n.variables r → k < slice_index n.variables j
+pub variable-before : (n : NodesView) (r j k : ℕ) → IsLaidOut n → r ≤ j → j < length n.variables
+    → k < slice_index n.variables r → k < slice_index n.variables j
 variable-before n r j k laid b l h = elim (cases_eq j r) [
   | inl e ↦ rw e h
   | inr ne ↦ omega (arith, laid.rising r j (omega arith) l)
 ]
 
 -- what was gone over, and the node at hand, and those up to the next variable
-pub passed-up_to : (n m : NodesView) (ex : List (List ℕ)) (ns : List Node) (rank i : ℕ) → IsReady m.known ns → IsLaidOut n → IsLaidOut m → m.variables ≡ n.variables → rank < length n.variables → slice_index n.variables rank ≡ i
+pub passed-up_to : (n m : NodesView) (ex : List (List ℕ)) (ns : List Node) (rank i : ℕ) → IsReady m.known ns
+    → IsLaidOut n → IsLaidOut m → m.variables ≡ n.variables → rank < length n.variables
+    → slice_index n.variables rank ≡ i
     → ((k : ℕ) → k < i + 1 → IsPassed m.known ex ns k)
-    → (k : ℕ) → k < length m.known → ((j : ℕ) → rank + 1 ≤ j → j < length m.variables → k < slice_index m.variables j) → IsPassed m.known ex ns k
+    → (k : ℕ) → k < length m.known → ((j : ℕ) → rank + 1 ≤ j → j < length m.variables → k < slice_index m.variables j)
+    → IsPassed m.known ex ns k
 passed-up_to n m ex ns rank i ready ln lm same l at up k lk before = elim (cases_lt k (i + 1)) [
   | inl b ↦ up k b
   | inr g ↦ unlisted-passed m ex ns k ready lm lk (λ j lj e. elim (cases_lt rank j) [
@@ -235,17 +273,20 @@ passed-up_to n m ex ns rank i ready ln lm same l at up k lk before = elim (cases
 ]
 
 -- what is ready stays so where a node is narrowed
-pub IsReady-set : (ks : List Known) (ns : List Node) (i : ℕ) (next : Known) → i < length ks → IsReady ks ns → IsNarrower (known_at ks i) next → IsSettled next → IsReady (set ks i next) ns
+pub IsReady-set : (ks : List Known) (ns : List Node) (i : ℕ) (next : Known) → i < length ks → IsReady ks ns
+    → IsNarrower (known_at ks i) next → IsSettled next → IsReady (set ks i next) ns
 IsReady-set ks ns i next l h n s = record {
   count = length-set ks i next ∙ h.count;
   settled = λ j b. elim (cases_eq j i) [
     | inl e ↦ rw (e, get_or-set_same ks i next (known_of 0 0 0 0) l) s
-    | inr ne ↦ rw (get_or-set_other ks i j next (known_of 0 0 0 0) ne) (h.settled j (omega (arith, length-set ks i next)))
+    | inr ne ↦ rw (get_or-set_other ks i j next (known_of 0 0 0 0) ne)
+        (h.settled j (omega (arith, length-set ks i next)))
   ];
   constants = λ j c b e. elim (cases_eq j i) [
     | inl f ↦ (let k = h.constants i c l (rw f at e) in let a = n.low in let z = n.high in let o = s.ordered in
         rw (f, get_or-set_same ks i next (known_of 0 0 0 0) l) (omega (arith, k.0, k.1), omega (arith, k.0, k.1)))
-    | inr ne ↦ rw (get_or-set_other ks i j next (known_of 0 0 0 0) ne) (h.constants j c (omega (arith, length-set ks i next)) e)
+    | inr ne ↦ rw (get_or-set_other ks i j next (known_of 0 0 0 0) ne)
+        (h.constants j c (omega (arith, length-set ks i next)) e)
   ];
 }
 
@@ -258,5 +299,6 @@ decided-kept k next s n t d =
     let one : next.low ≡ next.high = omega arith in
     let zeros : next.zeros ≡ k.zeros = t.zeros one ∙ ap (λ x. 4294967295 - x) low ∙ sym (s.zeros d) in
     let ones : next.ones ≡ k.ones = t.ones one ∙ low ∙ sym (s.ones d) in
-    let whole : known_of next.low next.high next.zeros next.ones ≡ known_of k.low k.high k.zeros k.ones = rw (low, high, zeros, ones) refl in
+    let whole : known_of next.low next.high next.zeros next.ones ≡ known_of k.low k.high k.zeros k.ones =
+    rw (low, high, zeros, ones) refl in
     whole

@@ -21,15 +21,18 @@ use Rattle.sf_dom.proofs.Gives.{differs-gives}
 use Rattle.sf_dom.proofs.Passes.{AreDecidedOperands-same, operands-below, word-below}
 
 -- an answer is true exactly where on some input that agreed this is so
-pub exact-none : (old : FactsView) (ns : List Node) (met : Input → Bool) → NoInput old ns met → IsTrue false ↔ SomeInput old ns met
+pub exact-none : (old : FactsView) (ns : List Node) (met : Input → Bool) → NoInput old ns met → IsTrue false
+    ↔ SomeInput old ns met
 exact-none old ns met none = ((λ t. absurd (false≢true t)), (λ s. absurd (false≢true (sym (none s.0 s.1 s.2) ∙ s.3))))
 
-pub exact-some : (old new : FactsView) (ns : List Node) (met : Input → Bool) → SomeInput new ns (λ d. true) → KeepsOnly old new ns met → IsTrue true ↔ SomeInput old ns met
+pub exact-some : (old new : FactsView) (ns : List Node) (met : Input → Bool) → SomeInput new ns (λ d. true)
+    → KeepsOnly old new ns met → IsTrue true ↔ SomeInput old ns met
 exact-some old new ns met s only = let k = only s.0 s.1 s.2 in ((λ _. (s.0, s.1, k.0, k.1)), (λ _. refl))
 
 -- a node of words and constants that is not decided has two numbers
 pub undecided : (f : FactsView) (ns : List Node) (i n : ℕ) → Covers f ns → ArePlainNodes ns → i < length ns
-    → ((known_at f.known i).low ≢ (known_at f.known i).high) → ¬ ((d : Input) → IsInput d → AgreesWith f.known f.excluded ns d → value_of ns d i ≡ n)
+    → ((known_at f.known i).low ≢ (known_at f.known i).high)
+    → ¬ ((d : Input) → IsInput d → AgreesWith f.known f.excluded ns d → value_of ns d i ≡ n)
 undecided f ns i n h plain l ne all = elim (cases_lt i 16) [
   | inl b ↦
       (let p = h.pool in
@@ -39,11 +42,13 @@ undecided f ns i n h plain l ne all = elim (cases_lt i 16) [
       let one = all s.0 s.1 (words-agree f ns s.0 h plain s.2) in
       let two = all u.0 u.1 (words-agree f ns u.0 h plain u.2) in
       ne (sym s.3 ∙ sym (value-word ns s.0 i p b) ∙ one ∙ sym two ∙ value-word ns u.0 i p b ∙ u.3))
-  | inr g ↦ (let count = h.count in let c = plain i g l in let k = h.constants i c.0 (omega arith) c.1 in ne (k.0 ∙ sym k.1))
+  | inr g ↦ (let count = h.count in let c = plain i g l in let k = h.constants i c.0 (omega arith) c.1 in
+      ne (k.0 ∙ sym k.1))
 ]
 
 -- facts after a pass
-pub pass-facts : (ks : List Known) (ex : List (List ℕ)) (ns : List Node) → IsPool ns → length ks ≡ length ns → length ex ≡ 16 → ((i : ℕ) → i < length ns → IsPassed ks ex ns i)
+pub pass-facts : (ks : List Known) (ex : List (List ℕ)) (ns : List Node) → IsPool ns → length ks ≡ length ns
+    → length ex ≡ 16 → ((i : ℕ) → i < length ns → IsPassed ks ex ns i)
     → Covers (record { known = ks; excluded = ex }) ns
 pass-facts ks ex ns p len lex passed =
     let words = p.words in
@@ -60,43 +65,56 @@ pass-facts ks ex ns p len lex passed =
       decided = λ i l o. (passed i (omega arith)).decided o;
     }
 
-pub agrees-back : (old new : List Known) (ex : List (List ℕ)) (ns : List Node) (d : Input) → length old ≡ length new → AllNarrower old new → AgreesWith new ex ns d → AgreesWith old ex ns d
-agrees-back old new ex ns d len h a i l = let k = a i (omega arith) in record { admitted = (h i l).numbers (value_of ns d i) k.admitted; kept = k.kept }
+pub agrees-back : (old new : List Known) (ex : List (List ℕ)) (ns : List Node) (d : Input) → length old ≡ length new
+    → AllNarrower old new → AgreesWith new ex ns d → AgreesWith old ex ns d
+agrees-back old new ex ns d len h a i l = let k = a i (omega arith) in
+    record { admitted = (h i l).numbers (value_of ns d i) k.admitted; kept = k.kept }
 
-pub admits-word : (ks : List Known) (ex : List (List ℕ)) (ns : List Node) (d : Input) (w : ℕ) (more : Known) → IsPool ns → w < 16 → length ks ≡ length ns → IsNarrower more (known_at ks w)
+pub admits-word : (ks : List Known) (ex : List (List ℕ)) (ns : List Node) (d : Input) (w : ℕ) (more : Known) → IsPool ns
+    → w < 16 → length ks ≡ length ns → IsNarrower more (known_at ks w)
     → AgreesWith ks ex ns d → Admits more (slice_index d.words w)
 admits-word ks ex ns d w more p l len h a =
     let words = p.words in
     rw (value-word ns d w p l) at (h.numbers (value_of ns d w) (a w (omega arith)).admitted)
 
 -- a node of the older pool
-pub node-older : (before ns : List Node) (i : ℕ) → Extends before ns → i < length before → node_at ns i ≡ node_at before i
+pub node-older : (before ns : List Node) (i : ℕ) → Extends before ns → i < length before
+    → node_at ns i ≡ node_at before i
 node-older before ns i more l = ap (λ xs. node_at xs i) more.1 ∙ get_or_append_left before more.0 (Const 0) i l
 
 -- an input agrees on a pool where it agrees on the beginning that the facts speak of
-agrees-before : (ks : List Known) (ex : List (List ℕ)) (before ns : List Node) (d : Input) → length ks ≡ length before → Extends before ns → AgreesWith ks ex ns d → AgreesWith ks ex before d
+agrees-before : (ks : List Known) (ex : List (List ℕ)) (before ns : List Node) (d : Input) → length ks ≡ length before
+    → Extends before ns → AgreesWith ks ex ns d → AgreesWith ks ex before d
 agrees-before ks ex before ns d len more a i l =
-    let value : value_of ns d i ≡ value_of before d i = ap (λ xs. value_of xs d i) more.1 ∙ value-older before more.0 d i (omega arith) in
+    let value : value_of ns d i ≡ value_of before d i = ap (λ xs. value_of xs d i) more.1
+    ∙ value-older before more.0 d i (omega arith) in
     rw (node-older before ns i more (omega arith), value) at (a i l)
 
-agrees-after : (ks : List Known) (ex : List (List ℕ)) (before ns : List Node) (d : Input) → length ks ≡ length before → Extends before ns → AgreesWith ks ex before d → AgreesWith ks ex ns d
+agrees-after : (ks : List Known) (ex : List (List ℕ)) (before ns : List Node) (d : Input) → length ks ≡ length before
+    → Extends before ns → AgreesWith ks ex before d → AgreesWith ks ex ns d
 agrees-after ks ex before ns d len more a i l =
-    let value : value_of ns d i ≡ value_of before d i = ap (λ xs. value_of xs d i) more.1 ∙ value-older before more.0 d i (omega arith) in
+    let value : value_of ns d i ≡ value_of before d i = ap (λ xs. value_of xs d i) more.1
+    ∙ value-older before more.0 d i (omega arith) in
     rw (node-older before ns i more (omega arith), value) (a i l)
 
 -- what agrees after growth agreed before
-agrees-kept : (old new : List Known) (ex : List (List ℕ)) (ns : List Node) (d : Input) → take (length old) new ≡ old → length old ≤ length new → AgreesWith new ex ns d → AgreesWith old ex ns d
+agrees-kept : (old new : List Known) (ex : List (List ℕ)) (ns : List Node) (d : Input) → take (length old) new ≡ old
+    → length old ≤ length new → AgreesWith new ex ns d → AgreesWith old ex ns d
 agrees-kept old new ex ns d kept le a i l =
-    let same : known_at old i ≡ known_at new i = ap (λ xs. known_at xs i) (sym kept) ∙ get_or-take (length old) new i (record { low = 0; high = 0; zeros = 0; ones = 0 }) l in
+    let same : known_at old i ≡ known_at new i = ap (λ xs. known_at xs i) (sym kept)
+    ∙ get_or-take (length old) new i (record { low = 0; high = 0; zeros = 0; ones = 0 }) l in
     rw same (a i (omega arith))
 
 -- Growth over a longer pool takes in the inputs that agreed on its beginning, and no others; where no input agrees on
 -- the longer pool, none did on its beginning.
-module _ (old : List Known) (ex : List (List ℕ)) (before ns : List Node) (count : length old ≡ length before) (more : Extends before ns) where
-  pub grown-takes_in : (new : List Known) → IsGrown old new ex ns → (d : Input) → IsInput d → AgreesWith old ex before d → AgreesWith new ex ns d
+module _ (old : List Known) (ex : List (List ℕ)) (before ns : List Node) (count : length old ≡ length before)
+    (more : Extends before ns) where
+  pub grown-takes_in : (new : List Known) → IsGrown old new ex ns → (d : Input) → IsInput d → AgreesWith old ex before d
+      → AgreesWith new ex ns d
   grown-takes_in new g d p a = g.keeps d p (agrees-after old ex before ns d count more a)
 
-  pub grown-took_in : (new : List Known) → IsGrown old new ex ns → length old ≤ length ns → (d : Input) → AgreesWith new ex ns d → AgreesWith old ex before d
+  pub grown-took_in : (new : List Known) → IsGrown old new ex ns → length old ≤ length ns → (d : Input)
+      → AgreesWith new ex ns d → AgreesWith old ex before d
   grown-took_in new g le d a =
       let covers = g.covers in
       agrees-before old ex before ns d count more (agrees-kept old new ex ns d g.kept (omega arith) a)
@@ -105,7 +123,8 @@ module _ (old : List Known) (ex : List (List ℕ)) (before ns : List Node) (coun
   none-agreed none d p a = none d p (agrees-after old ex before ns d count more a)
 
 -- what is known after growth, where something was before
-pub grown-facts : (old new : List Known) (ex : List (List ℕ)) (ns : List Node) → IsPool ns → AreFacts (record { known = old; excluded = ex })
+pub grown-facts : (old new : List Known) (ex : List (List ℕ)) (ns : List Node) → IsPool ns
+    → AreFacts (record { known = old; excluded = ex })
     → length old ≤ length ns → IsGrown old new ex ns
     → AreFacts (record { known = new; excluded = ex }) × ((i : ℕ) → i < length old → known_at old i ≡ known_at new i)
 grown-facts old new ex ns p h le g =
@@ -113,7 +132,8 @@ grown-facts old new ex ns p h le g =
     let kept = g.kept in
     let count = h.count in
     let same : (i : ℕ) → i < length old → known_at old i ≡ known_at new i
-    = λ i l. ap (λ xs. known_at xs i) (sym kept) ∙ get_or-take (length old) new i (record { low = 0; high = 0; zeros = 0; ones = 0 }) l in (
+    = λ i l. ap (λ xs. known_at xs i) (sym kept) ∙ get_or-take (length old) new i
+    (record { low = 0; high = 0; zeros = 0; ones = 0 }) l in (
       record {
         count = omega arith;
         words = h.words;
@@ -126,14 +146,16 @@ grown-facts old new ex ns p h le g =
       same,
     )
 
-pub grown-of : (old new : List Known) (ex : List (List ℕ)) (before ns : List Node) → IsPool ns → Covers (record { known = old; excluded = ex }) before → Extends before ns
+pub grown-of : (old new : List Known) (ex : List (List ℕ)) (before ns : List Node) → IsPool ns
+    → Covers (record { known = old; excluded = ex }) before → Extends before ns
     → length old ≤ length ns → IsGrown old new ex ns → Covers (record { known = new; excluded = ex }) ns
 grown-of old new ex before ns p h more le g =
     let covers = g.covers in
     let count = h.count in
     let facts = grown-facts old new ex ns p h.lawful le g in
     let same = facts.1 in
-    let older : (i : ℕ) → i < length old → node_at ns i ≡ node_at before i = λ i l. node-older before ns i more (omega arith) in
+    let older : (i : ℕ) → i < length old → node_at ns i ≡ node_at before i =
+    λ i l. node-older before ns i more (omega arith) in
     record {
       pool = p;
       lawful = facts.0;
@@ -143,37 +165,50 @@ grown-of old new ex before ns p h more le g =
         | inr o ↦ (g.passed h.lawful.settled i o (omega arith)).constant c e
       ];
       decided = λ i l d. elim (cases_lt i (length old)) [
-        | inl b ↦ rw (same i b) at (h.decided i b (rw (older i b) at (AreDecidedOperands-same new old i (node_at ns i) (operands-below ns i p (omega arith)) (λ j m. sym (same j (omega arith))) d)))
+        | inl b ↦ rw (same i b) at (h.decided i b
+            (rw (older i b) at (AreDecidedOperands-same new old i (node_at ns i) (operands-below ns i p (omega arith))
+            (λ j m. sym (same j (omega arith))) d)))
         | inr o ↦ (g.passed h.lawful.settled i o (omega arith)).decided d
       ];
     }
 
 -- an excluded number is not agreed with any more
-pub agrees-with-fewer : (ks : List Known) (ex ex' : List (List ℕ)) (ns : List Node) (d : Input) → IsPool ns → length ks ≡ length ns
-    → ((w m : ℕ) → w < 16 → Contains (numbers_at ex w) m → Contains (numbers_at ex' w) m) → AgreesWith ks ex' ns d → AgreesWith ks ex ns d
+pub agrees-with-fewer : (ks : List Known) (ex ex' : List (List ℕ)) (ns : List Node) (d : Input) → IsPool ns
+    → length ks ≡ length ns
+    → ((w m : ℕ) → w < 16 → Contains (numbers_at ex w) m → Contains (numbers_at ex' w) m) → AgreesWith ks ex' ns d
+    → AgreesWith ks ex ns d
 agrees-with-fewer ks ex ex' ns d p len more a i l =
-    record { admitted = (a i l).admitted; kept = fewer (node_at ns i) (word-below i (node_at ns i) (operands-below ns i p (omega arith))) (a i l).kept }
+    record {
+      admitted = (a i l).admitted;
+      kept = fewer (node_at ns i)
+          (word-below i (node_at ns i) (operands-below ns i p (omega arith))) (a i l).kept;
+    }
   where
-    fewer : (n : Node) → ((w : ℕ) → n ≡ Word w → w < 16) → ¬ Contains (excluded_of ex' n) (value_of ns d i) → ¬ Contains (excluded_of ex n) (value_of ns d i)
+    fewer : (n : Node) → ((w : ℕ) → n ≡ Word w → w < 16) → ¬ Contains (excluded_of ex' n) (value_of ns d i)
+        → ¬ Contains (excluded_of ex n) (value_of ns d i)
     fewer (Const c) b k h = k h
     fewer (Bin op x y) b k h = k h
     fewer (Neg x) b k h = k h
     fewer (Word w) b k h = k (more w _ (b w refl) h)
 
 -- both nodes are decided, and so is the test
-pub decides-test : (old new : List Known) (ex : List (List ℕ)) (ns : List Node) (cond : Cond) → IsSettled (known_at old cond.node.0) → cond.node.0 < length ns → length old ≡ length ns
+pub decides-test : (old new : List Known) (ex : List (List ℕ)) (ns : List Node) (cond : Cond)
+    → IsSettled (known_at old cond.node.0) → cond.node.0 < length ns → length old ≡ length ns
     → IsSettle old new ex ns cond → IsDecided (known_at old cond.node.0) → IsDecided (known_at old cond.other.0)
     → Gives cond.test (known_at old cond.node.0).low (known_at old cond.other.0).low cond.sense
 decides-test old new ex ns cond s l len h dv dw =
     let n = h.narrower cond.node.0 (omega arith) in
     let t = (h.passed cond.node.0 l).settled in
     let o = t.ordered in let a = n.low in let b = n.high in
-    h.decided s dv dw (known_at old cond.node.0).low (decided-admits (known_at new cond.node.0) (known_at old cond.node.0).low t (omega arith) (omega arith))
+    h.decided s dv dw (known_at old cond.node.0).low
+    (decided-admits (known_at new cond.node.0) (known_at old cond.node.0).low t (omega arith) (omega arith))
 
 -- of words and constants against constants, the facts keep the tests exactly
-pub plain-gives : (old new : List Known) (ex ex' : List (List ℕ)) (ns : List Node) (cond : Cond) (d : Input) → IsPool ns → length old ≡ length ns → length new ≡ length ns
+pub plain-gives : (old new : List Known) (ex ex' : List (List ℕ)) (ns : List Node) (cond : Cond) (d : Input) → IsPool ns
+    → length old ≡ length ns → length new ≡ length ns
     → cond.node.0 < length ns → cond.other.0 < length ns
-    → IsSettled (known_at old cond.node.0) → IsSettle old new ex' ns cond → AreBothExcluded old ex ex' ns cond → IsPlain ns cond
+    → IsSettled (known_at old cond.node.0) → IsSettle old new ex' ns cond → AreBothExcluded old ex ex' ns cond
+    → IsPlain ns cond
     → ((i c : ℕ) → i < length old → node_at ns i ≡ Const c → ((known_at old i).low ≡ c) × ((known_at old i).high ≡ c))
     → AgreesWith new ex' ns d → Holds ns cond d
 plain-gives old new ex ex' ns cond d p lo ln lv lw s h b plain know a =
@@ -191,15 +226,20 @@ plain-gives old new ex ex' ns cond d p lo ln lv lw s h b plain know a =
     low = (known_at old cond.other.0).low
 
     by_sharp : (t : Test) (sense : Bool) → cond.test ≡ t → cond.sense ≡ sense → IsDecided (known_at old cond.other.0)
-        → Leaves (known_at new cond.node.0) (excluded_of ex' (node_at ns cond.node.0)) x → IsSharp t sense low → Gives t x low sense
+        → Leaves (known_at new cond.node.0) (excluded_of ex' (node_at ns cond.node.0)) x → IsSharp t sense low
+        → Gives t x low sense
     by_sharp t sense et es dw leaves sh =
-        let before : IsSharp cond.test cond.sense low = subst (λ (u : Test). IsSharp u cond.sense low) (sym et) (subst (λ (b : Bool). IsSharp t b low) (sym es) sh) in
+        let before : IsSharp cond.test cond.sense low =
+        subst (λ (u : Test). IsSharp u cond.sense low) (sym et)
+        (subst (λ (b : Bool). IsSharp t b low) (sym es) sh) in
         let given = h.sharp dw before x leaves.admitted in
         subst (λ (b : Bool). Gives t x low b) es (subst (λ (u : Test). Gives u x low cond.sense) et given)
 
-    by_test : (t : Test) (sense : Bool) → cond.test ≡ t → cond.sense ≡ sense → (i : ℕ) → node_at ns cond.node.0 ≡ Word i → IsDecided (known_at old cond.other.0) → low ≡ plain.number → IsPlainTest t plain.number
+    by_test : (t : Test) (sense : Bool) → cond.test ≡ t → cond.sense ≡ sense → (i : ℕ) → node_at ns cond.node.0 ≡ Word i
+        → IsDecided (known_at old cond.other.0) → low ≡ plain.number → IsPlainTest t plain.number
         → Leaves (known_at new cond.node.0) (excluded_of ex' (node_at ns cond.node.0)) x → Gives t x low sense
-    by_test Equal false et es i ei dw wl pt leaves = differs-gives x low (λ e. (rw ei at leaves.kept) (rw e (b.added i ei dw et es)))
+    by_test Equal false et es i ei dw wl pt leaves =
+        differs-gives x low (λ e. (rw ei at leaves.kept) (rw e (b.added i ei dw et es)))
     by_test Equal true et es i ei dw wl pt leaves = by_sharp Equal true et es dw leaves tt
     by_test Greater false et es i ei dw wl pt leaves = by_sharp Greater false et es dw leaves tt
     by_test Greater true et es i ei dw wl pt leaves = by_sharp Greater true et es dw leaves tt
@@ -208,8 +248,10 @@ plain-gives old new ex ex' ns cond d p lo ln lv lw s h b plain know a =
     by_test AnyBit false et es i ei dw wl pt leaves = by_sharp AnyBit false et es dw leaves tt
     by_test AnyBit true et es i ei dw wl pt leaves = by_sharp AnyBit true et es dw leaves (pt.0, pt.1, wl ∙ pt.2)
 
-    by_node : (n : Node) → node_at ns cond.node.0 ≡ n → IsWordOrConst n → IsDecided (known_at old cond.other.0) → low ≡ plain.number
-        → Leaves (known_at new cond.node.0) (excluded_of ex' (node_at ns cond.node.0)) x → Gives cond.test x low cond.sense
+    by_node : (n : Node) → node_at ns cond.node.0 ≡ n → IsWordOrConst n → IsDecided (known_at old cond.other.0)
+        → low ≡ plain.number
+        → Leaves (known_at new cond.node.0) (excluded_of ex' (node_at ns cond.node.0)) x
+        → Gives cond.test x low cond.sense
     by_node (Word i) e k dw wl leaves = by_test cond.test cond.sense refl refl i e dw wl plain.test leaves
     by_node (Const c) e k dw wl leaves =
         let v = know cond.node.0 c (omega arith) e in
@@ -218,9 +260,11 @@ plain-gives old new ex ex' ns cond d p lo ln lv lw s h b plain know a =
     by_node (Bin op y z) e k dw wl leaves = elim k [ ]
     by_node (Neg y) e k dw wl leaves = elim k [ ]
 
-pub first-facts : (new : List Known) (ex : List (List ℕ)) (ns : List Node) → IsPool ns → length ex ≡ 16 → IsGrown [] new ex ns
+pub first-facts : (new : List Known) (ex : List (List ℕ)) (ns : List Node) → IsPool ns → length ex ≡ 16
+    → IsGrown [] new ex ns
     → Covers (record { known = new; excluded = ex }) ns
-first-facts new ex ns p len g = pass-facts new ex ns p g.covers len (λ i l. g.passed (λ k b. absurd (omega arith)) i (omega arith) l)
+first-facts new ex ns p len g = pass-facts new ex ns p g.covers len
+    (λ i l. g.passed (λ k b. absurd (omega arith)) i (omega arith) l)
 
 -- an input
 pub no-input : (d : Input) × IsInput d

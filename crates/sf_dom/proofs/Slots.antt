@@ -16,7 +16,8 @@ abbrev pub variable_of : ℕ → Known → Variable
 variable_of i x = record { place = i; known = x }
 
 -- what is known of the node of a slot
-pub known-slot : (slots : List Slot) (os : List Variable) (i : ℕ) → i < length slots → known_at (known_by os slots) i ≡ slot_known os (slot_at slots i)
+pub known-slot : (slots : List Slot) (os : List Variable) (i : ℕ) → i < length slots
+    → known_at (known_by os slots) i ≡ slot_known os (slot_at slots i)
 known-slot slots os i l = get_or-map (slot_known os) slots i (Number 0) (known_of 0 0 0 0) l
 
 pub known-length : (slots : List Slot) (os : List Variable) → length (known_by os slots) ≡ length slots
@@ -25,11 +26,13 @@ known-length slots os = length-map slots (slot_known os)
 pub places-length : (os : List Variable) → length (places_of os) ≡ length os
 places-length os = length-map os (λ o. o.place)
 
-pub place-at : (os : List Variable) (r : ℕ) → r < length os → slice_index (places_of os) r ≡ (get_or os r (variable_of 0 (known_of 0 0 0 0))).place
+pub place-at : (os : List Variable) (r : ℕ) → r < length os → slice_index (places_of os) r
+    ≡ (get_or os r (variable_of 0 (known_of 0 0 0 0))).place
 place-at os r l = get_or-map (λ o. o.place) os r (variable_of 0 (known_of 0 0 0 0)) 0 l
 
 -- what is kept so is laid out
-pub laid-out : (slots : List Slot) (os : List Variable) → AreKept slots os → IsLaidOut (record { known = known_by os slots; variables = places_of os })
+pub laid-out : (slots : List Slot) (os : List Variable) → AreKept slots os
+    → IsLaidOut (record { known = known_by os slots; variables = places_of os })
 laid-out slots os k = record {
   within = λ j l. omega (arith, k.within j (omega (arith, places-length os)), known-length slots os);
   rising = λ j m a l. k.rising j m a (omega (arith, places-length os));
@@ -37,15 +40,19 @@ laid-out slots os k = record {
 }
   where
     rest : (i : ℕ) → i < length slots → (s : Slot) → slot_at slots i ≡ s
-        → ((j : ℕ) × (j < length (places_of os)) × (slice_index (places_of os) j ≡ i)) ⊎ ((16 ≤ i) × IsDecided (known_at (known_by os slots) i))
+        → ((j : ℕ) × (j < length (places_of os)) × (slice_index (places_of os) j ≡ i))
+        ⊎ ((16 ≤ i) × IsDecided (known_at (known_by os slots) i))
     rest i l (Number c) e = inr (k.numbers i c l e, rw (known-slot slots os i l, e) refl)
     rest i l (VariableAt r) e = let v = k.variables i r l e in inl (r, omega (arith, places-length os, v.0), v.1)
 
 -- the variables keep their places
-pub places-set : (os : List Variable) (r i : ℕ) (x : Known) → slice_index (places_of os) r ≡ i → places_of (set os r (variable_of i x)) ≡ places_of os
-places-set os r i x e = map-set (λ (o : Variable). o.place) os r (variable_of i x) ∙ ap (set (places_of os) r) (sym e) ∙ set-get_or (places_of os) r 0
+pub places-set : (os : List Variable) (r i : ℕ) (x : Known) → slice_index (places_of os) r ≡ i
+    → places_of (set os r (variable_of i x)) ≡ places_of os
+places-set os r i x e = map-set (λ (o : Variable). o.place) os r (variable_of i x) ∙ ap (set (places_of os) r) (sym e)
+    ∙ set-get_or (places_of os) r 0
 
-pub kept-set : (slots : List Slot) (os : List Variable) (r i : ℕ) (x : Known) → slice_index (places_of os) r ≡ i → AreKept slots os → AreKept slots (set os r (variable_of i x))
+pub kept-set : (slots : List Slot) (os : List Variable) (r i : ℕ) (x : Known) → slice_index (places_of os) r ≡ i
+    → AreKept slots os → AreKept slots (set os r (variable_of i x))
 kept-set slots os r i x e k = record {
   variables = λ j q l s. rw (length-set os r (variable_of i x), places-set os r i x e) (k.variables j q l s);
   within = λ j l. rw (places-set os r i x e) (k.within j (omega (arith, length-set os r (variable_of i x))));
@@ -54,14 +61,24 @@ kept-set slots os r i x e k = record {
 }
 
 -- a variable's facts are written at its place
-pub known-set : (slots : List Slot) (os : List Variable) (r i : ℕ) (x : Known) → AreKept slots os → i < length slots → slot_at slots i ≡ VariableAt r
+pub known-set : (slots : List Slot) (os : List Variable) (r i : ℕ) (x : Known) → AreKept slots os → i < length slots
+    → slot_at slots i ≡ VariableAt r
     → known_by (set os r (variable_of i x)) slots ≡ set (known_by os slots) i x
 known-set slots os r i x k l e =
     ext_get_or (known_of 0 0 0 0) (known_by new slots) (set (known_by os slots) i x)
     (known-length slots new ∙ sym (length-set (known_by os slots) i x ∙ known-length slots os))
-    (λ j lj. let below : j < length slots = omega (arith, known-length slots new) in known-slot slots new j below ∙ elim (cases_eq j i) [
-      | inl s ↦ rw (s, e, get_or-set_same (known_by os slots) i x (known_of 0 0 0 0) (omega (arith, known-length slots os))) (ap (λ (o : Variable). o.known) (get_or-set_same os r (variable_of i x) (variable_of 0 (known_of 0 0 0 0)) (k.variables i r l e).0))
-      | inr ne ↦ other j ne below (slot_at slots j) refl ∙ sym (known-slot slots os j below) ∙ sym (get_or-set_other (known_by os slots) i j x (known_of 0 0 0 0) ne)
+    (λ j lj. let below : j < length slots = omega (arith, known-length slots new) in
+    known-slot slots new j below ∙ elim (cases_eq j i) [
+      | inl s ↦ rw (
+        s,
+        e,
+        get_or-set_same (known_by os slots) i x (known_of 0 0 0 0)
+            (omega (arith, known-length slots os)),
+      )
+          (ap (λ (o : Variable). o.known) (get_or-set_same os r (variable_of i x) (variable_of 0 (known_of 0 0 0 0))
+          (k.variables i r l e).0))
+      | inr ne ↦ other j ne below (slot_at slots j) refl ∙ sym (known-slot slots os j below)
+          ∙ sym (get_or-set_other (known_by os slots) i j x (known_of 0 0 0 0) ne)
     ])
   where
     new : List Variable
@@ -73,14 +90,17 @@ known-set slots os r i x k l e =
         let v = k.variables j q b f in
         let w = k.variables i r l e in
         let apart : q ≢ r = λ same. ne (sym v.1 ∙ ap (slice_index (places_of os)) same ∙ w.1) in
-        ap (λ (o : Variable). o.known) (get_or-set_other os r q (variable_of i x) (variable_of 0 (known_of 0 0 0 0)) apart)
+        ap (λ (o : Variable). o.known) (get_or-set_other os r q (variable_of i x)
+        (variable_of 0 (known_of 0 0 0 0)) apart)
 
 -- what is known of a number is not changed by writing it again
-pub number-set : (slots : List Slot) (os : List Variable) (i : ℕ) (x : Known) → x ≡ known_at (known_by os slots) i → known_by os slots ≡ set (known_by os slots) i x
+pub number-set : (slots : List Slot) (os : List Variable) (i : ℕ) (x : Known) → x ≡ known_at (known_by os slots) i
+    → known_by os slots ≡ set (known_by os slots) i x
 number-set slots os i x e = sym (ap (set (known_by os slots) i) e ∙ set-get_or (known_by os slots) i (known_of 0 0 0 0))
 
 -- one more number
-pub kept-number : (slots : List Slot) (os : List Variable) (c : ℕ) → 16 ≤ length slots → AreKept slots os → AreKept (slots ++ Number c ∷ []) os
+pub kept-number : (slots : List Slot) (os : List Variable) (c : ℕ) → 16 ≤ length slots → AreKept slots os
+    → AreKept (slots ++ Number c ∷ []) os
 kept-number slots os c past k = record {
   variables = λ i r l e. elim (cases_lt i (length slots)) [
     | inl b ↦ k.variables i r b (rw (get_or_append_left slots (Number c ∷ []) (Number 0) i b) at e)
@@ -95,15 +115,18 @@ kept-number slots os c past k = record {
   ];
 }
 
-pub known-number : (slots : List Slot) (os : List Variable) (c : ℕ) → known_by os (slots ++ Number c ∷ []) ≡ known_by os slots ++ known_of c c (4294967295 - c) c ∷ []
+pub known-number : (slots : List Slot) (os : List Variable) (c : ℕ)
+    → known_by os (slots ++ Number c ∷ []) ≡ known_by os slots ++ known_of c c (4294967295 - c) c ∷ []
 known-number slots os c = map-append (slot_known os) slots (Number c ∷ [])
 
 -- one more variable
 pub known-variable : (slots : List Slot) (os : List Variable) (x : Known) → AreKept slots os
-    → known_by (os ++ variable_of (length slots) x ∷ []) (slots ++ VariableAt (length os) ∷ []) ≡ known_by os slots ++ x ∷ []
+    → known_by (os ++ variable_of (length slots) x ∷ []) (slots ++ VariableAt (length os) ∷ [])
+    ≡ known_by os slots ++ x ∷ []
 known-variable slots os x k =
     map-append (slot_known new) slots (VariableAt (length os) ∷ [])
-    ∙ ap (λ y. known_by new slots ++ y ∷ []) (ap (λ (o : Variable). o.known) (get_or_push os v (variable_of 0 (known_of 0 0 0 0)) (length os) refl)) ∙ ap (λ ks. ks ++ x ∷ []) older
+    ∙ ap (λ y. known_by new slots ++ y ∷ []) (ap (λ (o : Variable). o.known)
+    (get_or_push os v (variable_of 0 (known_of 0 0 0 0)) (length os) refl)) ∙ ap (λ ks. ks ++ x ∷ []) older
   where
     v : Variable
     v = variable_of (length slots) x
@@ -113,16 +136,21 @@ known-variable slots os x k =
 
     same : (j : ℕ) → j < length slots → (s : Slot) → slot_at slots j ≡ s → slot_known new s ≡ slot_known os s
     same j b (Number c) f = refl
-    same j b (VariableAt q) f = ap (λ (o : Variable). o.known) (get_or_append_left os (v ∷ []) (variable_of 0 (known_of 0 0 0 0)) q (k.variables j q b f).0)
+    same j b (VariableAt q) f = ap (λ (o : Variable). o.known)
+        (get_or_append_left os (v ∷ []) (variable_of 0 (known_of 0 0 0 0)) q (k.variables j q b f).0)
 
     older : known_by new slots ≡ known_by os slots
-    older = ext_get_or (known_of 0 0 0 0) (known_by new slots) (known_by os slots) (known-length slots new ∙ sym (known-length slots os))
-        (λ j l. let b : j < length slots = omega (arith, known-length slots new) in known-slot slots new j b ∙ same j b (slot_at slots j) refl ∙ sym (known-slot slots os j b))
+    older = ext_get_or (known_of 0 0 0 0) (known_by new slots) (known_by os slots)
+        (known-length slots new ∙ sym (known-length slots os))
+        (λ j l. let b : j < length slots = omega (arith, known-length slots new) in
+        known-slot slots new j b ∙ same j b (slot_at slots j) refl ∙ sym (known-slot slots os j b))
 
-pub kept-variable : (slots : List Slot) (os : List Variable) (x : Known) → AreKept slots os → AreKept (slots ++ VariableAt (length os) ∷ []) (os ++ variable_of (length slots) x ∷ [])
+pub kept-variable : (slots : List Slot) (os : List Variable) (x : Known) → AreKept slots os
+    → AreKept (slots ++ VariableAt (length os) ∷ []) (os ++ variable_of (length slots) x ∷ [])
 kept-variable slots os x k = record {
   variables = λ i r l e. elim (cases_lt i (length slots)) [
-    | inl b ↦ (let o = k.variables i r b (rw (get_or_append_left slots (VariableAt (length os) ∷ []) (Number 0) i b) at e) in
+    | inl b ↦ (let o = k.variables i r b (rw (get_or_append_left slots (VariableAt (length os) ∷ [])
+        (Number 0) i b) at e) in
         (omega (arith, o.0, length_push os v), older r o.0 ∙ o.1))
     | inr g ↦ (let at : i ≡ length slots = omega (arith, length_push slots (VariableAt (length os))) in
         let here = get_or_push slots (VariableAt (length os)) (Number 0) i (sym at) in
@@ -132,15 +160,18 @@ kept-variable slots os x k = record {
   ];
   within = λ r l. elim (cases_lt r (length os)) [
     | inl b ↦ omega (arith, older r b, k.within r b, length_push slots (VariableAt (length os)))
-    | inr g ↦ (let rank : r ≡ length os = omega (arith, length_push os v) in rw rank (omega (arith, newest, length_push slots (VariableAt (length os)))))
+    | inr g ↦ (let rank : r ≡ length os = omega (arith, length_push os v) in
+        rw rank (omega (arith, newest, length_push slots (VariableAt (length os)))))
   ];
   rising = λ j m a l. elim (cases_lt m (length os)) [
     | inl b ↦ omega (arith, older j (omega arith), older m b, k.rising j m a b)
-    | inr g ↦ (let rank : m ≡ length os = omega (arith, length_push os v) in rw rank (omega (arith, newest, older j (omega arith), k.within j (omega arith))))
+    | inr g ↦ (let rank : m ≡ length os = omega (arith, length_push os v) in
+        rw rank (omega (arith, newest, older j (omega arith), k.within j (omega arith))))
   ];
   numbers = λ i d l e. elim (cases_lt i (length slots)) [
     | inl b ↦ k.numbers i d b (rw (get_or_append_left slots (VariableAt (length os) ∷ []) (Number 0) i b) at e)
-    | inr g ↦ (let here = get_or_push slots (VariableAt (length os)) (Number 0) i (omega (arith, length_push slots (VariableAt (length os)))) in
+    | inr g ↦ (let here = get_or_push slots (VariableAt (length os)) (Number 0) i
+        (omega (arith, length_push slots (VariableAt (length os)))) in
         let clash : VariableAt (length os) ≡ Number d = sym here ∙ e in absurd cc)
   ];
 }
@@ -152,7 +183,9 @@ kept-variable slots os x k = record {
     places = map-append (λ (o : Variable). o.place) os (v ∷ [])
 
     older : (r : ℕ) → r < length os → slice_index (places_of (os ++ v ∷ [])) r ≡ slice_index (places_of os) r
-    older r l = ap (λ ps. slice_index ps r) places ∙ get_or_append_left (places_of os) (length slots ∷ []) 0 r (omega (arith, places-length os))
+    older r l = ap (λ ps. slice_index ps r) places ∙ get_or_append_left (places_of os) (length slots ∷ []) 0 r
+        (omega (arith, places-length os))
 
     newest : slice_index (places_of (os ++ v ∷ [])) (length os) ≡ length slots
-    newest = ap (λ ps. slice_index ps (length os)) places ∙ get_or_push (places_of os) (length slots) 0 (length os) (places-length os)
+    newest = ap (λ ps. slice_index ps (length os)) places ∙ get_or_push (places_of os) (length slots) 0 (length os)
+        (places-length os)

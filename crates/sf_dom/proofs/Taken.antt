@@ -8,7 +8,7 @@ use Rattle.sf_sym.specs.declared.pool.Cond.{Cond}
 use Rattle.sf_sym.specs.declared.pool.Node.{Node}
 use Rattle.sf_dom.specs.declared.known.Known.{Known}
 use Rattle.sf_dom.specs.Facts.{FactsView, AgreesWith, Covers, AreNarrower, IsPlain, DecidesTest}
-use Rattle.sf_dom.specs.Rules.{IsReady, IsTaken, IsNarrow, NarrowsWord}
+use Rattle.sf_dom.specs.Rules.{IsReady, IsTaken, IsTold, IsNarrow, NarrowsWord}
 use Rattle.sf_dom.proofs.Sampled.{pass-facts, agrees-back, agrees-with-fewer, admits-word, decides-test, plain-gives}
 
 -- facts of a pool's nodes are ready for a condition
@@ -20,44 +20,69 @@ pub not_met : (b : Bool) → (b ≡ true → ⊥) → b ≡ false
 not_met true h = absurd (h refl)
 not_met false h = refl
 
-pub taken-covers : (old new : List Known) (ex ex' : List (List ℕ)) (ns : List Node) (cond : Cond) → IsPool ns → IsTaken old ex new ex' ns cond → Covers (record { known = new; excluded = ex' }) ns
+pub taken-covers : (old new : List Known) (ex ex' : List (List ℕ)) (ns : List Node) (cond : Cond) → IsPool ns
+    → IsTaken old ex new ex' ns cond → Covers (record { known = new; excluded = ex' }) ns
 taken-covers old new ex ex' ns cond p t = pass-facts new ex' ns p t.settled.count t.words t.settled.passed
 
-pub taken-keeps : (old new : List Known) (ex ex' : List (List ℕ)) (ns : List Node) (cond : Cond) → IsTaken old ex new ex' ns cond
+pub taken-keeps : (old new : List Known) (ex ex' : List (List ℕ)) (ns : List Node) (cond : Cond)
+    → IsTaken old ex new ex' ns cond
     → (d : Input) → IsInput d → AgreesWith old ex ns d → is_met ns d cond ≡ true → AgreesWith new ex' ns d
 taken-keeps old new ex ex' ns cond t d i a m =
     let h = met-passes ns d cond m in
     t.settled.keeps d i (t.both.keeps d i a h) h
 
-pub taken-narrower : (old new : List Known) (ex ex' : List (List ℕ)) (ns : List Node) (cond : Cond) → IsTaken old ex new ex' ns cond
+pub taken-narrower : (old new : List Known) (ex ex' : List (List ℕ)) (ns : List Node) (cond : Cond)
+    → IsTaken old ex new ex' ns cond
     → AreNarrower (record { known = old; excluded = ex }) (record { known = new; excluded = ex' })
 taken-narrower old new ex ex' ns cond t = record { known = t.settled.narrower; excluded = t.both.more }
 
-pub taken-decides : (old new : List Known) (ex ex' : List (List ℕ)) (ns : List Node) (cond : Cond) → Covers (record { known = old; excluded = ex }) ns → IsCondBelow (length ns) cond
+pub taken-told : (old new : List Known) (ex ex' : List (List ℕ)) (ns : List Node) (cond : Cond)
+    → IsTaken old ex new ex' ns cond
+    → IsTold (record { known = old; excluded = ex }) (record { known = new; excluded = ex' }) ns cond
+taken-told old new ex ex' ns cond t = record {
+  tells = t.settled.tells;
+  back_node = t.settled.back_node;
+  back_other = t.settled.back_other;
+  sharp = t.settled.sharp;
+  excluded = t.both.added;
+  excluded_other = t.both.added_other;
+}
+
+pub taken-decides : (old new : List Known) (ex ex' : List (List ℕ)) (ns : List Node) (cond : Cond)
+    → Covers (record { known = old; excluded = ex }) ns → IsCondBelow (length ns) cond
     → IsTaken old ex new ex' ns cond → DecidesTest (record { known = old; excluded = ex }) cond
 taken-decides old new ex ex' ns cond h below t =
     let count = h.count in
     decides-test old new ex' ns cond (h.lawful.settled cond.node.0 (omega (arith, below.0))) below.0 count t.settled
 
-pub taken-only : (old new : List Known) (ex ex' : List (List ℕ)) (ns : List Node) (cond : Cond) → Covers (record { known = old; excluded = ex }) ns → IsCondBelow (length ns) cond
-    → IsTaken old ex new ex' ns cond → IsPlain ns cond → (d : Input) → AgreesWith new ex' ns d → AgreesWith old ex ns d × (is_met ns d cond ≡ true)
+pub taken-only : (old new : List Known) (ex ex' : List (List ℕ)) (ns : List Node) (cond : Cond)
+    → Covers (record { known = old; excluded = ex }) ns → IsCondBelow (length ns) cond
+    → IsTaken old ex new ex' ns cond → IsPlain ns cond → (d : Input) → AgreesWith new ex' ns d → AgreesWith old ex ns d
+    × (is_met ns d cond ≡ true)
 taken-only old new ex ex' ns cond h below t plain d a =
     let count = h.count in
     let covers = t.settled.count in
     let settled = h.lawful.settled cond.node.0 (omega (arith, below.0)) in (
-      agrees-with-fewer old ex ex' ns d h.pool count t.both.more (agrees-back old new ex' ns d (omega arith) t.settled.narrower a),
-      passes-met ns d cond (plain-gives old new ex ex' ns cond d h.pool count covers below.0 below.1 settled t.settled t.both plain h.constants a),
+      agrees-with-fewer old ex ex' ns d h.pool count t.both.more
+          (agrees-back old new ex' ns d (omega arith) t.settled.narrower a),
+      passes-met ns d cond (plain-gives old new ex ex' ns cond d h.pool count covers below.0 below.1 settled t.settled
+          t.both plain h.constants a),
     )
 
-pub narrow-word : (old new : List Known) (ex : List (List ℕ)) (ns : List Node) (w : ℕ) (more : Known) → Covers (record { known = old; excluded = ex }) ns → w < 16
-    → IsNarrow old new ex ns w more → NarrowsWord (record { known = old; excluded = ex }) (record { known = new; excluded = ex }) ns w more
+pub narrow-word : (old new : List Known) (ex : List (List ℕ)) (ns : List Node) (w : ℕ) (more : Known)
+    → Covers (record { known = old; excluded = ex }) ns → w < 16
+    → IsNarrow old new ex ns w more → NarrowsWord (record { known = old; excluded = ex })
+    (record { known = new; excluded = ex }) ns w more
 narrow-word old new ex ns w more h l n =
     let count = h.count in
     let after = n.count in
     record {
       covers = pass-facts new ex ns h.pool after h.lawful.words n.passed;
       keeps = n.keeps;
-      only = λ d i a. (agrees-back old new ex ns d (omega arith) n.narrower a, admits-word new ex ns d w more h.pool l after n.word a);
+      only = λ d i a. (
+        agrees-back old new ex ns d (omega arith) n.narrower a,
+        admits-word new ex ns d w more h.pool l after n.word a,
+      );
       narrower = record { known = n.narrower; excluded = λ v m k c. c };
       word = n.word;
     }

@@ -27,7 +27,11 @@ bit_at-complement c i l = elim (cases_lt i 32) [
 
 -- a constant is known in full
 pub constant-admits : (c : ℕ) → c < 2 ^ 32 → Admits (record { low = c; high = c; zeros = 4294967295 - c; ones = c }) c
-constant-admits c l = record { above = omega arith; below = omega arith; bits = record { zero = λ i. bit_at-complement c i l; one = λ i. omega arith } }
+constant-admits c l = record {
+  above = omega arith;
+  below = omega arith;
+  bits = record { zero = λ i. bit_at-complement c i l; one = λ i. omega arith };
+}
 
 -- an input that agrees on the words, with any number that a word may have
 pub sampled : (f : FactsView) (w n : ℕ) → w < 16 → AreFacts f → Leaves (known_at f.known w) (numbers_at f.excluded w) n
@@ -43,7 +47,9 @@ sampled f w n lw h leaves =
     = λ i l. elim (cases_eq i w) [
       | inl e ↦ rw (e, get_or-set_same xs w n 0 (omega arith)) leaves
       | inr ne ↦ (let low : get_or xs i 0 ≡ (known_at f.known i).low
-          = get_or-map (λ k. k.low) ks i (record { low = 0; high = 0; zeros = 0; ones = 0 }) 0 (omega arith) ∙ ap (λ (k : Known). k.low) (get_or-take 16 f.known i (record { low = 0; high = 0; zeros = 0; ones = 0 }) l) in
+          = get_or-map (λ k. k.low) ks i (record { low = 0; high = 0; zeros = 0; ones = 0 }) 0 (omega arith)
+          ∙ ap (λ (k : Known). k.low) (get_or-take 16 f.known i
+          (record { low = 0; high = 0; zeros = 0; ones = 0 }) l) in
           rw (get_or-set_other xs w i n 0 ne, low) (h.tight i l).low)
     ] in
     let fits : (i : ℕ) → get_or (set xs w n) i 0 < 2 ^ 32
@@ -55,7 +61,8 @@ sampled f w n lw h leaves =
 
 -- the value of a word
 pub value-word : (ns : List Node) (d : Input) (w : ℕ) → IsPool ns → w < 16 → value_of ns d w ≡ slice_index d.words w
-value-word ns d w p l = let words = p.words in value-node ns d w p (omega arith) ∙ ap (node_value d (values_of ns d)) (p.word w l)
+value-word ns d w p l = let words = p.words in
+    value-node ns d w p (omega arith) ∙ ap (node_value d (values_of ns d)) (p.word w l)
 
 -- a decided node's facts admit its number
 pub decided-admits : (k : Known) (c : ℕ) → IsSettled k → k.low ≡ c → k.high ≡ c → Admits k c
@@ -69,7 +76,8 @@ decided-admits k c s el eh =
     }
 
 -- over words and constants, what agrees on the words agrees
-pub words-agree : (f : FactsView) (ns : List Node) (d : Input) → Covers f ns → ArePlainNodes ns → AgreesOnWords f d → AgreesWith f.known f.excluded ns d
+pub words-agree : (f : FactsView) (ns : List Node) (d : Input) → Covers f ns → ArePlainNodes ns → AgreesOnWords f d
+    → AgreesWith f.known f.excluded ns d
 words-agree f ns d h plain a i l =
     let p = h.pool in
     let len = h.count in
@@ -78,7 +86,10 @@ words-agree f ns d h plain a i l =
       | inr g ↦ (let c = plain i g (omega arith) in
           let k = h.constants i c.0 l c.1 in
           rw (c.1, value-constant ns d i c.0 p (omega arith) c.1)
-          (record { admitted = decided-admits (known_at f.known i) c.0 (h.lawful.settled i l) k.0 k.1; kept = λ w. absurd (omega (arith, w.1)) }))
+          (record {
+            admitted = decided-admits (known_at f.known i) c.0 (h.lawful.settled i l) k.0 k.1;
+            kept = λ w. absurd (omega (arith, w.1));
+          }))
     ]
 
 -- Over words and constants some input agrees.
@@ -97,5 +108,6 @@ agreeing-word f ns d w h l a =
     rw (h.pool.word w l, value-word ns d w h.pool l) at (a w (omega arith))
 
 -- The low end of a word's interval is left for it.
-pub low-left : (f : FactsView) (ns : List Node) (w : ℕ) → Covers f ns → w < 16 → Leaves (known_at f.known w) (numbers_at f.excluded w) (known_at f.known w).low
+pub low-left : (f : FactsView) (ns : List Node) (w : ℕ) → Covers f ns → w < 16
+    → Leaves (known_at f.known w) (numbers_at f.excluded w) (known_at f.known w).low
 low-left f ns w h l = (h.lawful.tight w l).low

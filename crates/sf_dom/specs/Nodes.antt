@@ -16,25 +16,30 @@ pub record NodesView : Type 0 where
 pub record IsLaidOut (n : NodesView) : Type 0 where
   pub within : (j : ℕ) → j < length n.variables → slice_index n.variables j < length n.known
   pub rising : (j k : ℕ) → j < k → k < length n.variables → slice_index n.variables j < slice_index n.variables k
-  pub rest : (i : ℕ) → i < length n.known → ((j : ℕ) × (j < length n.variables) × (slice_index n.variables j ≡ i)) ⊎ ((16 ≤ i) × IsDecided (known_at n.known i))
+  pub rest : (i : ℕ) → i < length n.known → ((j : ℕ) × (j < length n.variables) × (slice_index n.variables j ≡ i))
+      ⊎ ((16 ≤ i) × IsDecided (known_at n.known i))
 
 -- what is known of the node of a slot: its number, or what stands among the variables
 abbrev pub slot_known : List Variable → Slot → Known
 slot_known os (Number c) = known_of c c (4294967295 - c) c
 slot_known os (VariableAt r) = (slice_index_or os r (record { place = 0; known = known_of 0 0 0 0 })).known
 
+-- what is known of each node, by its slot
 abbrev pub known_by : List Variable → List Slot → List Known
 known_by os slots = map (slot_known os) slots
 
+-- where in the pool the variables stand
 abbrev pub places_of : List Variable → List ℕ
 places_of os = map (λ o. o.place) os
 
+-- the slot of the node at a place
 abbrev pub slot_at : List Slot → ℕ → Slot
 slot_at slots i = slice_index_or slots i (Number 0)
 
 -- variables and their slots tell of each other, and no word is kept as a number
 pub record AreKept (slots : List Slot) (os : List Variable) : Type 0 where
-  pub variables : (i r : ℕ) → i < length slots → slot_at slots i ≡ VariableAt r → (r < length os) × (slice_index (places_of os) r ≡ i)
+  pub variables : (i r : ℕ) → i < length slots → slot_at slots i ≡ VariableAt r → (r < length os)
+      × (slice_index (places_of os) r ≡ i)
   pub within : (r : ℕ) → r < length os → slice_index (places_of os) r < length slots
   pub rising : (j k : ℕ) → j < k → k < length os → slice_index (places_of os) j < slice_index (places_of os) k
   pub numbers : (i c : ℕ) → i < length slots → slot_at slots i ≡ Number c → 16 ≤ i

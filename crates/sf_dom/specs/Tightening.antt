@@ -41,6 +41,7 @@ pub record IsTightened (old new : Known) : Type 0 where
   pub ones_low : new.ones ≤ new.low
   pub high_zeros : new.high ≤ 4294967295 - new.zeros
 
+-- the same of a word with excluded numbers: those that are left stay, and the ends are two of them
 pub record IsTightWord (old new : Known) (xs : List ℕ) : Type 0 where
   pub same : (n : ℕ) → Leaves old xs n → Leaves new xs n
   pub narrower : IsNarrower old new

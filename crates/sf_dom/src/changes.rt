@@ -49,7 +49,8 @@ fn narrow(nodes: &mut Nodes, excluded: &[Exclusions], pool: &Pool, word: usize, 
     requires word { word < 16 }
     ensures { MatchBool result
         (IsNarrow nodes.old.known nodes.new.known excluded.now pool.now word more)
-        (NoneAgreesOn nodes.old.known excluded.now pool.now (λ d. Admits more (slice_index d.words word))) }
+        (NoneAgreesOn nodes.old.known excluded.now pool.now
+        (λ d. Admits more (slice_index d.words word))) }
 {
     let count = pool.len();
     prove!(word < count);
@@ -69,7 +70,8 @@ pub fn narrowed(
     requires words { length excluded.now ≡ 16 }
     requires word { word < 16 }
     ensures { IfOk result (λ o. MatchOption o
-        (NoneAgreesOn nodes.now.known excluded.now pool.now (λ d. Admits more (slice_index d.words word)))
+        (NoneAgreesOn nodes.now.known excluded.now pool.now
+        (λ d. Admits more (slice_index d.words word)))
         (λ r. IsNarrow nodes.now.known r.known excluded.now pool.now word more)) }
 {
     let _count = pool.len();

@@ -35,9 +35,11 @@ pub fn tightened(known: Known, node: Node, excluded: &[Exclusions]) -> Option<Kn
 pub fn rule(nodes: &Nodes, node: Node) -> Known
     requires { OperandsBelow (length nodes.now.known) node }
     ensures value { (d : Input) (older : List ℕ) → IsInput d
-        → ((i : ℕ) → i < length nodes.now.known → Admits (known_at nodes.now.known i) (slice_index older i))
+        → ((i : ℕ) → i < length nodes.now.known
+        → Admits (known_at nodes.now.known i) (slice_index older i))
         → Admits result (node_value d older node) }
-    ensures forced { AreSettledOperands nodes.now.known node → AreDecidedOperands nodes.now.known node → IsForced result }
+    ensures forced { AreSettledOperands nodes.now.known node
+        → AreDecidedOperands nodes.now.known node → IsForced result }
     ensures constant { (c : ℕ) → node ≡ Node.Const c → (result.low ≡ c) × (result.high ≡ c) }
 {
     match node {
@@ -89,8 +91,10 @@ pub fn append(nodes: &mut Nodes, excluded: &[Exclusions], pool: &Pool) -> Result
     ensures grown { IfOk result (λ b. MatchBool b
         (IsGrown nodes.old.known nodes.new.known excluded.now pool.now)
         (NoneAgreesWith nodes.old.known excluded.now pool.now)) }
-    ensures false_unchanged { length pool.now ≤ length nodes.old.known + 1 → result ≡ Ok false → nodes.new ≡ nodes.old }
-    ensures err { length pool.now ≤ length nodes.old.known + 1 → OnErr result (nodes.new ≡ nodes.old) }
+    ensures false_unchanged { length pool.now ≤ length nodes.old.known + 1 → result ≡ Ok false
+        → nodes.new ≡ nodes.old }
+    ensures err { length pool.now ≤ length nodes.old.known + 1
+        → OnErr result (nodes.new ≡ nodes.old) }
 {
     for i in nodes.len()..pool.len() {
         let node = pool.node(NodeId(i));

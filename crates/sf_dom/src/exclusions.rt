@@ -104,7 +104,8 @@ impl Exclusions {
 
     /// Adds a number, if it is not there. `Memory` where a growth is refused: the numbers are as they were then.
     pub fn add(&mut self, alloc: Global, number: u32) -> Result<(), Fault>
-        ensures ok { IfOk result (λ _. (n : ℕ) → Contains self.new n ↔ (Contains self.old n ⊎ (n ≡ number))) }
+        ensures ok { IfOk result (λ _. (n : ℕ) → Contains self.new n
+            ↔ (Contains self.old n ⊎ (n ≡ number))) }
         ensures err { OnErr result (self.new ≡ self.old) }
     {
         if let Some(more) = with_number(alloc, slice_of(&self.numbers), number)? {
@@ -150,7 +151,8 @@ pub fn no_exclusions(alloc: Global) -> Result<Vec<Exclusions>, Fault>
 pub fn have_same(left: &[Exclusions], right: &[Exclusions]) -> bool
     requires left { length left.now ≡ 16 }
     requires right { length right.now ≡ 16 }
-    ensures { IsTrue result ↔ ((w : ℕ) → w < 16 → AreSameNumbers (numbers_at left.now w) (numbers_at right.now w)) }
+    ensures { IsTrue result ↔ ((w : ℕ) → w < 16
+        → AreSameNumbers (numbers_at left.now w) (numbers_at right.now w)) }
 {
     for w in 0..16 {
         if !left[w].has_same(&right[w]) {

@@ -47,7 +47,8 @@ fn add(a: Known, b: Known) -> Known
 
 /// A difference: where none of them wraps, or each does, they lie between those of the ends.
 fn sub(a: Known, b: Known) -> Known
-    ensures admits { (x y : ℕ) → Admits a x → Admits b y → Admits result ((x + (2 ^ 32 - y)) % 2 ^ 32) }
+    ensures admits { (x y : ℕ) → Admits a x → Admits b y
+        → Admits result ((x + (2 ^ 32 - y)) % 2 ^ 32) }
     ensures forced { IsSettled a → IsSettled b → IsDecided a → IsDecided b → IsForced result }
 {
     if a.low >= b.high {
@@ -181,7 +182,8 @@ fn shift_right(a: Known, b: Known) -> Known
 /// What follows of an operation from what is known of its operands.
 pub fn forward(op: BinOp, a: Known, b: Known) -> Known
     ensures admits { (x y : ℕ) → Admits a x → Admits b y → Admits result (apply op x y) }
-    ensures forced { KeepsDecided op → IsSettled a → IsSettled b → IsDecided a → IsDecided b → IsForced result }
+    ensures forced { KeepsDecided op → IsSettled a → IsSettled b → IsDecided a → IsDecided b
+        → IsForced result }
 {
     match op {
         BinOp::Add => add(a, b),

@@ -1,8 +1,9 @@
 //! What the tests leave of two words.
 
 ghost use Rattle.std.specs.Prelude.{◌≡◌, ◌≢◌, ℕ, ◌+◌, ◌-◌, ◌*◌, ◌/◌, ◌%◌, ◌<◌, ◌≤◌, ◌^◌, MatchOption, IfSome, bit_and, bit_or};
-ghost use Rattle.sf_dom.specs.Known.{HasBits, Admits, IsSettled, IsDecided};
+ghost use Rattle.sf_dom.specs.Known.{AreBitsOf, HasBits, Admits, IsSettled, IsDecided};
 ghost use Rattle.sf_dom.specs.Rules.{LeavesPair, LeavesNoPair};
+ghost use Rattle.sf_dom.specs.Tightening.{IsMeet};
 ghost use Rattle.sf_insn.specs.Words.{IsOneBit};
 
 use crate::domain::meet;
@@ -18,6 +19,7 @@ pub struct Pair {
 /// The two are equal: each has what is known of both.
 pub fn equal(v: Known, w: Known) -> Pair
     ensures pair { LeavesPair v w result.node result.other (λ x y. x ≡ y) }
+    ensures both { IsMeet v w result.node × IsMeet v w result.other }
     ensures sharp { w.low ≡ w.high → (x : ℕ) → Admits result.node x → x ≡ w.low }
 {
     let both = meet(v, w);
@@ -29,7 +31,9 @@ pub fn equal(v: Known, w: Known) -> Pair
 
 /// The first is greater.
 pub fn greater(v: Known, w: Known) -> Option<Pair>
-    ensures pair { MatchOption result (LeavesNoPair v w (λ x y. y < x)) (λ p. LeavesPair v w p.node p.other (λ x y. y < x)) }
+    ensures pair { MatchOption result (LeavesNoPair v w (λ x y. y < x))
+        (λ p. LeavesPair v w p.node p.other (λ x y. y < x)) }
+    ensures ends { IfSome result (λ p. (w.low < p.node.low) × (p.other.high < v.high)) }
     ensures left { IfSome result (λ p. (x : ℕ) → Admits p.node x → w.low < x) }
     ensures right { IfSome result (λ p. (y : ℕ) → Admits p.other y → y < v.high) }
 {
@@ -54,6 +58,7 @@ pub fn greater(v: Known, w: Known) -> Option<Pair>
 /// The first is at least the second.
 pub fn at_least(v: Known, w: Known) -> Pair
     ensures pair { LeavesPair v w result.node result.other (λ x y. y ≤ x) }
+    ensures ends { (w.low ≤ result.node.low) × (result.other.high ≤ v.high) }
     ensures left { (x : ℕ) → Admits result.node x → w.low ≤ x }
     ensures right { (y : ℕ) → Admits result.other y → y ≤ v.high }
 {
@@ -71,7 +76,10 @@ pub fn at_least(v: Known, w: Known) -> Pair
 
 /// A bound that is a number which the word does not have is moved past it.
 pub fn differs(v: Known, number: u32) -> Option<Known>
-    ensures kept { MatchOption result ((x : ℕ) → Admits v x → ¬ (x ≢ number)) (λ r. (x : ℕ) → Admits v x → x ≢ number → Admits r x) }
+    ensures kept { MatchOption result ((x : ℕ) → Admits v x → ¬ (x ≢ number)) (λ r. (x : ℕ)
+        → Admits v x → x ≢ number → Admits r x) }
+    ensures ends { IfSome result (λ r. (v.low ≡ number → number < r.low)
+        × (v.high ≡ number → r.high < number)) }
     ensures moved { IfSome result (λ r. v.low ≡ v.high → (x : ℕ) → Admits r x → x ≢ number) }
 {
     let mut at = v;
@@ -93,6 +101,7 @@ pub fn differs(v: Known, number: u32) -> Option<Known>
 /// The two have no common bit.
 pub fn no_common_bit(v: Known, bits: u32) -> Known
     ensures kept { (x : ℕ) → Admits v x → bit_and x bits ≡ 0 → Admits result x }
+    ensures told { AreBitsOf bits result.zeros }
     ensures sharp { (x : ℕ) → Admits result x → bit_and x bits ≡ 0 }
 {
     Known {
@@ -103,9 +112,12 @@ pub fn no_common_bit(v: Known, bits: u32) -> Known
 
 /// The two have a common bit.
 pub fn common_bit(v: Known, bits: u32) -> Option<Known>
-    ensures kept { MatchOption result ((x : ℕ) → Admits v x → ¬ (bit_and x bits ≢ 0)) (λ r. (x : ℕ) → Admits v x → bit_and x bits ≢ 0 → Admits r x) }
+    ensures kept { MatchOption result ((x : ℕ) → Admits v x → ¬ (bit_and x bits ≢ 0))
+        (λ r. (x : ℕ) → Admits v x → bit_and x bits ≢ 0 → Admits r x) }
+    ensures told { IsOneBit bits → IfSome result (λ r. AreBitsOf bits r.ones) }
     ensures sharp { IsOneBit bits → IfSome result (λ r. (x : ℕ) → Admits r x → bit_and x bits ≢ 0) }
-    ensures decided { IsSettled v → IsDecided v → IfSome result (λ r. (x : ℕ) → Admits r x → bit_and x bits ≢ 0) }
+    ensures decided { IsSettled v → IsDecided v → IfSome result (λ r. (x : ℕ) → Admits r x
+        → bit_and x bits ≢ 0) }
 {
     let open = bits & !v.zeros;
     if open == 0 {

@@ -49,14 +49,18 @@ impl Model for Nodes {
 
     ghost Value = { NodesView };
 
-    ghost view = { λ n. record { known = known_by n.variables.items n.slots; variables = places_of n.variables.items } };
+    ghost view = { λ n. record {
+      known = known_by n.variables.items n.slots;
+      variables = places_of n.variables.items;
+    } };
 
     ghost invariant = { λ n. AreKept n.slots n.variables.items };
 }
 
 /// Whether a number is known in full.
 fn is_number(known: Known) -> bool
-    ensures { IsTrue result → known ≡ known_of known.low known.low (4294967295 - known.low) known.low }
+    ensures { IsTrue result → known ≡ known_of known.low known.low
+        (4294967295 - known.low) known.low }
 {
     known == number(known.low)
 }
@@ -109,7 +113,8 @@ impl Nodes {
     /// Writes what is known of a node. One that has one number keeps it.
     pub fn set(&mut self, i: usize, known: Known)
         requires within { i < length self.old.known }
-        requires decided { IsDecided (known_at self.old.known i) → known ≡ known_at self.old.known i }
+        requires decided { IsDecided (known_at self.old.known i)
+            → known ≡ known_at self.old.known i }
         ensures known { self.new.known ≡ set self.old.known i known }
         ensures variables { self.new.variables ≡ self.old.variables }
         ensures laid_out { IsLaidOut self.new }

@@ -1,12 +1,13 @@
 //! A condition taken into what is known of the nodes of a pool.
 
-ghost use Rattle.std.specs.Prelude.{◌≡◌, ◌≢◌, ℕ, ◌+◌, ◌-◌, ◌*◌, ◌/◌, ◌%◌, ◌<◌, ◌≤◌, ◌^◌, ◌⊎◌, List, length, Contains, MatchOption, MatchBool, IfSome, IfOk, OnErr, IsTrue, bit_and, bit_or, bit_xor, true, false};
+ghost use Rattle.std.specs.Prelude.{◌≡◌, ◌≢◌, ℕ, ◌+◌, ◌-◌, ◌*◌, ◌/◌, ◌%◌, ◌<◌, ◌≤◌, ◌^◌, ◌⊎◌, List, length, Contains, MatchOption, MatchBool, IfSome, IfOk, OnErr, IsTrue, bit_and, bit_or, bit_xor, true, false, None};
 ghost use Rattle.sf_insn.specs.Inputs.{IsInput};
 ghost use Rattle.sf_insn.specs.Words.{apply};
 ghost use Rattle.sf_sym.specs.Pool.{OperandsBelow, IsPool, node_at, node_value, values_of, value_of};
 ghost use Rattle.sf_insn.specs.declared.input.Input.{Input};
-ghost use Rattle.sf_dom.specs.Known.{HasBits, Admits, Leaves, IsNarrower, IsSettled, IsDecided};
-ghost use Rattle.sf_dom.specs.Rules.{KeepsAgreeing, NoneAgreesWith, KeepsAgreeingOn, NoneAgreesOn, LeavesPair, LeavesNoPair, IsSwappable, IsSharp, Gives, AllNarrower, IsReady, IsLeft, IsSettle, AreExcluded, AreBothExcluded, Holds};
+ghost use Rattle.sf_dom.specs.Known.{AreBitsOf, HasBits, Admits, Leaves, IsNarrower, IsSettled, IsDecided};
+ghost use Rattle.sf_dom.specs.Rules.{KeepsAgreeing, NoneAgreesWith, KeepsAgreeingOn, NoneAgreesOn, LeavesPair, LeavesNoPair, IsSharp, Tells, Gives, AllNarrower, IsReady, IsLeft, IsSettle, AreExcluded, AreBothExcluded, Holds};
+ghost use Rattle.sf_dom.specs.Walks.{IsSwappable, HandsOn, constant_operand_of, IsWalkedBack};
 ghost use Rattle.sf_dom.specs.Facts.{known_at, numbers_at, excluded_of, AgreesWith};
 
 use crate::domain::{meet, pass, tightened};
@@ -22,6 +23,7 @@ use std::alloc::Global;
 /// What is known, with more known bits.
 fn with_bits(known: Known, zeros: u32, ones: u32) -> Known
     ensures admits { (x : ℕ) → Admits known x → HasBits x zeros ones → Admits result x }
+    ensures more { AreBitsOf zeros result.zeros × AreBitsOf ones result.ones }
     ensures narrower { IsNarrower known result }
 {
     Known {
@@ -33,8 +35,11 @@ fn with_bits(known: Known, zeros: u32, ones: u32) -> Known
 
 /// What is known of an operand, with the bits that it gains from those of its node, whose other operand is a constant.
 fn back(op: BinOp, node: Known, c: u32, operand: Known) -> Option<Known>
-    ensures bits { IfSome result (λ g. (x : ℕ) → Admits operand x → Admits node (apply op x c) → Admits g x) }
+    ensures bits { IfSome result (λ g. (x : ℕ) → Admits operand x
+        → Admits node (apply op x c) → Admits g x) }
     ensures swappable { IfSome result (λ g. IsSwappable op) }
+    ensures none { result ≡ None → ¬ IsSwappable op }
+    ensures told { IfSome result (λ g. HandsOn op c node g) }
     ensures narrower { IfSome result (λ g. IsNarrower operand g) }
 {
     match op {
@@ -52,8 +57,10 @@ fn back(op: BinOp, node: Known, c: u32, operand: Known) -> Option<Known>
 /// The constant operand of a node and its other operand, where exactly one is constant.
 fn constant_operand(pool: &Pool, at: usize) -> Option<(BinOp, usize, u32)>
     requires { at < length pool.now }
+    ensures told { result ≡ constant_operand_of pool.now (node_at pool.now at) }
     ensures smaller { IfSome result (λ o. o.1 < at) }
-    ensures value { IfSome result (λ o. (d : Input) → IsInput d → IsSwappable o.0 → value_of pool.now d at ≡ apply o.0 (value_of pool.now d o.1) o.2) }
+    ensures value { IfSome result (λ o. (d : Input) → IsInput d → IsSwappable o.0
+        → value_of pool.now d at ≡ apply o.0 (value_of pool.now d o.1) o.2) }
 {
     match pool.node(NodeId(at)) {
         Node::Bin(op, a, b) => match (constant_of(pool.node(a)), constant_of(pool.node(b))) {
@@ -71,8 +78,10 @@ fn walk(nodes: &mut Nodes, excluded: &[Exclusions], pool: &Pool, from: usize) ->
     requires words { length excluded.now ≡ 16 }
     requires start { from < length pool.now }
     ensures kept { MatchBool result
-        (KeepsAgreeing nodes.old.known nodes.new.known excluded.now pool.now × AllNarrower nodes.old.known nodes.new.known)
+        (KeepsAgreeing nodes.old.known nodes.new.known excluded.now pool.now
+        × AllNarrower nodes.old.known nodes.new.known)
         (NoneAgreesWith nodes.old.known excluded.now pool.now) }
+    ensures back { IsTrue result → (n : ℕ) → IsWalkedBack n nodes.new.known pool.now from }
     ensures ready { IsReady nodes.new.known pool.now }
 {
     let mut at = from;
@@ -95,8 +104,11 @@ fn tested(v: Known, w: Known, test: Test, sense: bool) -> Option<Pair>
     ensures pair { MatchOption result
         (LeavesNoPair v w (λ x y. Gives test x y sense))
         (λ p. LeavesPair v w p.node p.other (λ x y. Gives test x y sense)) }
-    ensures sharp { IsDecided w → IsSharp test sense w.low → IfSome result (λ p. (x : ℕ) → Admits p.node x → Gives test x w.low sense) }
-    ensures decided { IsSettled v → IsDecided v → IsDecided w → IfSome result (λ p. (x : ℕ) → Admits p.node x → Gives test x w.low sense) }
+    ensures tells { IfSome result (λ p. Tells test sense v w p.node p.other) }
+    ensures sharp { IsDecided w → IsSharp test sense w.low
+        → IfSome result (λ p. (x : ℕ) → Admits p.node x → Gives test x w.low sense) }
+    ensures decided { IsSettled v → IsDecided v → IsDecided w
+        → IfSome result (λ p. (x : ℕ) → Admits p.node x → Gives test x w.low sense) }
 {
     match (test, sense) {
         (Test::Equal, true) => Some(equal(v, w)),
@@ -159,7 +171,8 @@ fn left_of(
     requires words { length excluded.now ≡ 16 }
     requires place { at < length pool.now }
     ensures { MatchOption result
-        (NoneAgreesOn nodes.now.known excluded.now pool.now (λ d. Admits more (value_of pool.now d at)))
+        (NoneAgreesOn nodes.now.known excluded.now pool.now
+        (λ d. Admits more (value_of pool.now d at)))
         (λ next. IsLeft nodes.now.known excluded.now pool.now at more next) }
 {
     let node = pool.node(NodeId(at));
@@ -178,9 +191,12 @@ pub fn settle_node(
     requires words { length excluded.now ≡ 16 }
     requires place { at < length pool.now }
     ensures kept { MatchBool result
-        (KeepsAgreeingOn nodes.old.known nodes.new.known excluded.now pool.now (λ d. Admits more (value_of pool.now d at))
-        × AllNarrower nodes.old.known nodes.new.known × IsNarrower more (known_at nodes.new.known at))
-        (NoneAgreesOn nodes.old.known excluded.now pool.now (λ d. Admits more (value_of pool.now d at))) }
+        (KeepsAgreeingOn nodes.old.known nodes.new.known excluded.now pool.now
+        (λ d. Admits more (value_of pool.now d at))
+        × AllNarrower nodes.old.known nodes.new.known
+        × IsNarrower more (known_at nodes.new.known at))
+        (NoneAgreesOn nodes.old.known excluded.now pool.now
+        (λ d. Admits more (value_of pool.now d at))) }
     ensures ready { IsReady nodes.new.known pool.now }
 {
     match left_of(nodes, excluded, pool, at, more) {
@@ -198,7 +214,8 @@ pub fn is_ruled_out(nodes: &Nodes, excluded: &[Exclusions], pool: &Pool, cond: &
     requires words { length excluded.now ≡ 16 }
     requires node { cond.now.node.0 < length pool.now }
     requires other { cond.now.other.0 < length pool.now }
-    ensures { IsTrue result → NoneAgreesOn nodes.now.known excluded.now pool.now (Holds pool.now cond.now) }
+    ensures { IsTrue result → NoneAgreesOn nodes.now.known excluded.now pool.now
+        (Holds pool.now cond.now) }
 {
     let v = cond.node.0;
     let w = cond.other.0;
@@ -274,7 +291,8 @@ pub fn exclude_both(
     requires words { length excluded.old ≡ 16 }
     requires node { cond.now.node.0 < length pool.now }
     requires other { cond.now.other.0 < length pool.now }
-    ensures { IfOk result (λ _. AreBothExcluded nodes.now.known excluded.old excluded.new pool.now cond.now) }
+    ensures { IfOk result (λ _. AreBothExcluded nodes.now.known excluded.old excluded.new
+        pool.now cond.now) }
 {
     let left = pool.node(cond.node);
     let right = pool.node(cond.other);

@@ -25,7 +25,8 @@ on_a m id = record m { a = id; place = m.place + 1; taken = 0; value = 0 }
 abbrev on_x : Machine → NodeId → Machine
 on_x m id = record m { x = id; place = m.place + 1; taken = 0; value = 0 }
 
-pub set_a_goes : (p : PieceData) (i : Insn) (node : Node) (q : PieceData) (id : NodeId) → IsPushed p node q id → SetsA p i node → Goes q i (on_a q.machine id)
+pub set_a_goes : (p : PieceData) (i : Insn) (node : Node) (q : PieceData) (id : NodeId) → IsPushed p node q id
+    → SetsA p i node → Goes q i (on_a q.machine id)
 set_a_goes p i node q id h sets = subst (λ (r : PieceData). Goes r i (on_a r.machine id)) (sym h.grown.same) (record {
   program = refl;
   so_far = refl;
@@ -36,23 +37,27 @@ set_a_goes p i node q id h sets = subst (λ (r : PieceData). Goes r i (on_a r.ma
   run = by sets;
 })
   where
-    to : (d : Input) (v : ℕ) → value_of q.pool d id.0 ≡ v → valued q.pool (on_a p.machine id) d ≡ record (valued p.pool p.machine d) { place = p.machine.place + 1; a = v }
+    to : (d : Input) (v : ℕ) → value_of q.pool d id.0 ≡ v → valued q.pool (on_a p.machine id) d
+        ≡ record (valued p.pool p.machine d) { place = p.machine.place + 1; a = v }
     to d v e =
         ap (λ (s : State). record s { place = p.machine.place + 1; a = value_of q.pool d id.0 }) (h.grown.state d)
         ∙ ap (λ (n : ℕ). record (valued p.pool p.machine d) { place = p.machine.place + 1; a = n }) e
 
     by : SetsA p i node → GoesBy (record p { pool = q.pool; facts = q.facts }) i (on_a p.machine id)
-    by (inl run) = inl (λ d. ap (λ (s : State). executed d s i) (h.grown.state d) ∙ run d ∙ ap (goes []) (sym (to d (node_value d (values_of p.pool d) node) (h.value d))))
+    by (inl run) = inl (λ d. ap (λ (s : State). executed d s i) (h.grown.state d) ∙ run d
+        ∙ ap (goes []) (sym (to d (node_value d (values_of p.pool d) node) (h.value d))))
     by (inr (is, taken, value)) =
         inr (
           is,
           taken,
           λ d.
               to d (apply Div (value_of p.pool d p.machine.a.0) (value_of p.pool d p.machine.x.0)) (h.value d ∙ value d)
-              ∙ ap (λ (s : State). record s { place = p.machine.place + 1; a = apply Div s.a s.x }) (sym (h.grown.state d)),
+              ∙ ap (λ (s : State). record s { place = p.machine.place + 1; a = apply Div s.a s.x })
+              (sym (h.grown.state d)),
         )
 
-pub set_x_goes : (p : PieceData) (i : Insn) (k : ℕ) (q : PieceData) (id : NodeId) → IsPushed p (Const k) q id → SetsX p i k → Goes q i (on_x q.machine id)
+pub set_x_goes : (p : PieceData) (i : Insn) (k : ℕ) (q : PieceData) (id : NodeId) → IsPushed p (Const k) q id
+    → SetsX p i k → Goes q i (on_x q.machine id)
 set_x_goes p i k q id h sets = subst (λ (r : PieceData). Goes r i (on_x r.machine id)) (sym h.grown.same) (record {
   program = refl;
   so_far = refl;
@@ -60,10 +65,12 @@ set_x_goes p i k q id h sets = subst (λ (r : PieceData). Goes r i (on_x r.machi
   taken = refl;
   value = refl;
   nodes = record { a = h.grown.nodes.a; x = h.within; zero = h.grown.nodes.zero; scratch = h.grown.nodes.scratch };
-  run = inl (λ d. ap (λ (s : State). executed d s i) (h.grown.state d) ∙ sets d ∙ ap (goes []) (sym (to d (h.value d))));
+  run = inl (λ d. ap (λ (s : State). executed d s i) (h.grown.state d) ∙ sets d
+      ∙ ap (goes []) (sym (to d (h.value d))));
 })
   where
-    to : (d : Input) → value_of q.pool d id.0 ≡ k → valued q.pool (on_x p.machine id) d ≡ record (valued p.pool p.machine d) { place = p.machine.place + 1; x = k }
+    to : (d : Input) → value_of q.pool d id.0 ≡ k → valued q.pool (on_x p.machine id) d
+        ≡ record (valued p.pool p.machine d) { place = p.machine.place + 1; x = k }
     to d e =
         ap (λ (s : State). record s { place = p.machine.place + 1; x = value_of q.pool d id.0 }) (h.grown.state d)
         ∙ ap (λ (n : ℕ). record (valued p.pool p.machine d) { place = p.machine.place + 1; x = n }) e
@@ -72,19 +79,24 @@ set_x_goes p i k q id h sets = subst (λ (r : PieceData). Goes r i (on_x r.machi
 
 pub sixteen_scratch_words : (p : PieceData) (i : Insn) → Standing p i → length p.machine.scratch ≡ 16
 sixteen_scratch_words p i s =
-    sym (length-map p.machine.scratch (option_map (λ (n : NodeId). value_of p.pool some_input n.0))) ∙ (s.stands.inside.safe some_input).sixteen
+    sym (length-map p.machine.scratch (option_map (λ (n : NodeId). value_of p.pool some_input n.0)))
+    ∙ (s.stands.inside.safe some_input).sixteen
 
-map_at : (f : NodeId → ℕ) (ws : List (Option NodeId)) (k : ℕ) (w : NodeId) → slice_get ws k ≡ Some (Some w) → slice_get (map (option_map f) ws) k ≡ Some (Some (f w))
+map_at : (f : NodeId → ℕ) (ws : List (Option NodeId)) (k : ℕ) (w : NodeId) → slice_get ws k ≡ Some (Some w)
+    → slice_get (map (option_map f) ws) k ≡ Some (Some (f w))
 map_at f [] k w e = absurd cc
 map_at f (o ∷ ws) zero w e = ap (λ (x : Option NodeId). Some (option_map f x)) (same_Some o (Some w) e)
 map_at f (o ∷ ws) (suc k) w e = map_at f ws k w e
 
-map_set : (f : NodeId → ℕ) (ws : List (Option NodeId)) (k : ℕ) (w : NodeId) → map (option_map f) (slice_set ws k (Some w)) ≡ slice_set (map (option_map f) ws) k (Some (f w))
+map_set : (f : NodeId → ℕ) (ws : List (Option NodeId)) (k : ℕ) (w : NodeId)
+    → map (option_map f) (slice_set ws k (Some w)) ≡ slice_set (map (option_map f) ws) k (Some (f w))
 map_set f [] k w = refl
 map_set f (o ∷ ws) zero w = refl
 map_set f (o ∷ ws) (suc k) w = ap (λ (l : List (Option ℕ)). option_map f o ∷ l) (map_set f ws k w)
 
-set_below : (n : ℕ) (ws : List (Option NodeId)) (j : ℕ) (v : NodeId) → ((k : ℕ) (w : NodeId) → slice_get ws k ≡ Some (Some w) → w.0 < n) → v.0 < n → (k : ℕ) (w : NodeId) → slice_get (slice_set ws j (Some v)) k ≡ Some (Some w) → w.0 < n
+set_below : (n : ℕ) (ws : List (Option NodeId)) (j : ℕ) (v : NodeId)
+    → ((k : ℕ) (w : NodeId) → slice_get ws k ≡ Some (Some w) → w.0 < n) → v.0 < n → (k : ℕ) (w : NodeId)
+    → slice_get (slice_set ws j (Some v)) k ≡ Some (Some w) → w.0 < n
 set_below n [] j v h l k w e = absurd cc
 set_below n (o ∷ ws) zero v h l zero w e =
     let a : Some v ≡ Some w = same_Some (Some v) (Some w) e in
@@ -97,7 +109,8 @@ set_below n (o ∷ ws) (suc j) v h l (suc k) w e = set_below n ws j v (λ i x y.
 abbrev on : Machine → Machine
 on m = record m { place = m.place + 1; taken = 0; value = 0 }
 
-pub load_goes : (p : PieceData) (k : ℕ) (w : NodeId) → AreNodesBelow (length p.pool) p.machine → slice_get p.machine.scratch k ≡ Some (Some w) → Goes p (LoadScratch k) (record (on p.machine) { a = w })
+pub load_goes : (p : PieceData) (k : ℕ) (w : NodeId) → AreNodesBelow (length p.pool) p.machine
+    → slice_get p.machine.scratch k ≡ Some (Some w) → Goes p (LoadScratch k) (record (on p.machine) { a = w })
 load_goes p k w b at = record {
   program = refl;
   so_far = refl;
@@ -108,7 +121,8 @@ load_goes p k w b at = record {
   run = inl (λ d. rw (map_at (λ n. value_of p.pool d n.0) p.machine.scratch k w at) refl);
 }
 
-pub load_x_goes : (p : PieceData) (k : ℕ) (w : NodeId) → AreNodesBelow (length p.pool) p.machine → slice_get p.machine.scratch k ≡ Some (Some w) → Goes p (LoadXScratch k) (record (on p.machine) { x = w })
+pub load_x_goes : (p : PieceData) (k : ℕ) (w : NodeId) → AreNodesBelow (length p.pool) p.machine
+    → slice_get p.machine.scratch k ≡ Some (Some w) → Goes p (LoadXScratch k) (record (on p.machine) { x = w })
 load_x_goes p k w b at = record {
   program = refl;
   so_far = refl;
@@ -119,29 +133,46 @@ load_x_goes p k w b at = record {
   run = inl (λ d. rw (map_at (λ n. value_of p.pool d n.0) p.machine.scratch k w at) refl);
 }
 
-pub store_goes : (p : PieceData) (k : ℕ) → AreNodesBelow (length p.pool) p.machine → Goes p (StoreA k) (record (on p.machine) { scratch = slice_set p.machine.scratch k (Some p.machine.a) })
+pub store_goes : (p : PieceData) (k : ℕ) → AreNodesBelow (length p.pool) p.machine
+    → Goes p (StoreA k) (record (on p.machine) { scratch = slice_set p.machine.scratch k (Some p.machine.a) })
 store_goes p k b = record {
   program = refl;
   so_far = refl;
   zero = refl;
   taken = refl;
   value = refl;
-  nodes = record { a = b.a; x = b.x; zero = b.zero; scratch = set_below (length p.pool) p.machine.scratch k p.machine.a b.scratch b.a };
-  run = inl (λ d. ap (λ (l : List (Option ℕ)). goes [] (record (valued p.pool p.machine d) { place = p.machine.place + 1; scratch = l })) (sym (map_set (λ n. value_of p.pool d n.0) p.machine.scratch k p.machine.a)));
+  nodes = record {
+    a = b.a;
+    x = b.x;
+    zero = b.zero;
+    scratch = set_below (length p.pool) p.machine.scratch k p.machine.a b.scratch b.a;
+  };
+  run = inl (λ d. ap (λ (l : List (Option ℕ)).
+      goes [] (record (valued p.pool p.machine d) { place = p.machine.place + 1; scratch = l }))
+      (sym (map_set (λ n. value_of p.pool d n.0) p.machine.scratch k p.machine.a)));
 }
 
-pub store_x_goes : (p : PieceData) (k : ℕ) → AreNodesBelow (length p.pool) p.machine → Goes p (StoreX k) (record (on p.machine) { scratch = slice_set p.machine.scratch k (Some p.machine.x) })
+pub store_x_goes : (p : PieceData) (k : ℕ) → AreNodesBelow (length p.pool) p.machine
+    → Goes p (StoreX k) (record (on p.machine) { scratch = slice_set p.machine.scratch k (Some p.machine.x) })
 store_x_goes p k b = record {
   program = refl;
   so_far = refl;
   zero = refl;
   taken = refl;
   value = refl;
-  nodes = record { a = b.a; x = b.x; zero = b.zero; scratch = set_below (length p.pool) p.machine.scratch k p.machine.x b.scratch b.x };
-  run = inl (λ d. ap (λ (l : List (Option ℕ)). goes [] (record (valued p.pool p.machine d) { place = p.machine.place + 1; scratch = l })) (sym (map_set (λ n. value_of p.pool d n.0) p.machine.scratch k p.machine.x)));
+  nodes = record {
+    a = b.a;
+    x = b.x;
+    zero = b.zero;
+    scratch = set_below (length p.pool) p.machine.scratch k p.machine.x b.scratch b.x;
+  };
+  run = inl (λ d. ap (λ (l : List (Option ℕ)).
+      goes [] (record (valued p.pool p.machine d) { place = p.machine.place + 1; scratch = l }))
+      (sym (map_set (λ n. value_of p.pool d n.0) p.machine.scratch k p.machine.x)));
 }
 
-pub tax_goes : (p : PieceData) → AreNodesBelow (length p.pool) p.machine → Goes p Tax (record (on p.machine) { x = p.machine.a })
+pub tax_goes : (p : PieceData) → AreNodesBelow (length p.pool) p.machine
+    → Goes p Tax (record (on p.machine) { x = p.machine.a })
 tax_goes p b = record {
   program = refl;
   so_far = refl;
@@ -152,7 +183,8 @@ tax_goes p b = record {
   run = inl (λ d. refl);
 }
 
-pub txa_goes : (p : PieceData) → AreNodesBelow (length p.pool) p.machine → Goes p Txa (record (on p.machine) { a = p.machine.x })
+pub txa_goes : (p : PieceData) → AreNodesBelow (length p.pool) p.machine
+    → Goes p Txa (record (on p.machine) { a = p.machine.x })
 txa_goes p b = record {
   program = refl;
   so_far = refl;
@@ -163,7 +195,8 @@ txa_goes p b = record {
   run = inl (λ d. refl);
 }
 
-pub jump_goes : (p : PieceData) (k : ℕ) → AreNodesBelow (length p.pool) p.machine → Goes p (Jump k) (record (on p.machine) { place = p.machine.place + 1 + k })
+pub jump_goes : (p : PieceData) (k : ℕ) → AreNodesBelow (length p.pool) p.machine
+    → Goes p (Jump k) (record (on p.machine) { place = p.machine.place + 1 + k })
 jump_goes p k b = record {
   program = refl;
   so_far = refl;

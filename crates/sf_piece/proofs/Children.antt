@@ -30,19 +30,25 @@ use Rattle.sf_piece.proofs.Prefixes.{prefix_next, same-true, and-true}
 
 -- ---- after any entry
 
-turned : (p : PieceData) (i : Insn) (cond : Cond) (b : Bool) (cs : List Cond) (fs : FactsView) (m : Machine) → IsPiece p → Standing p i → IsEntry p i cond → AfterEntry p i b m → Narrows p cs cond b
+turned : (p : PieceData) (i : Insn) (cond : Cond) (b : Bool) (cs : List Cond) (fs : FactsView) (m : Machine) → IsPiece p
+    → Standing p i → IsEntry p i cond → AfterEntry p i b m → Narrows p cs cond b
     → Turned p (made p (p.name ++ b ∷ []) cs m fs)
 turned p (Branch test other t f) cond b cs fs m h s e after narrow =
-    subst (λ (k : Machine). Turned p (made p (p.name ++ b ∷ []) cs k fs)) (sym after) (branch_turned p test other t f cond b cs fs h s e narrow)
+    subst (λ (k : Machine). Turned p (made p (p.name ++ b ∷ []) cs k fs)) (sym after)
+    (branch_turned p test other t f cond b cs fs h s e narrow)
 turned p ReturnA cond b cs fs m h s e after narrow =
-    subst (λ (k : Machine). Turned p (made p (p.name ++ b ∷ []) cs k fs)) (sym after) (return_turned p cond b cs fs h s e narrow)
+    subst (λ (k : Machine). Turned p (made p (p.name ++ b ∷ []) cs k fs)) (sym after)
+    (return_turned p cond b cs fs h s e narrow)
 turned p (Alu op other) cond b cs fs m h s e after narrow = alu op other b s e after narrow
   where
-    alu : (op : BinOp) (other : Operand) (b : Bool) → Standing p (Alu op other) → IsEntry p (Alu op other) cond → AfterEntry p (Alu op other) b m → Narrows p cs cond b → Turned p (made p (p.name ++ b ∷ []) cs m fs)
+    alu : (op : BinOp) (other : Operand) (b : Bool) → Standing p (Alu op other) → IsEntry p (Alu op other) cond
+        → AfterEntry p (Alu op other) b m → Narrows p cs cond b → Turned p (made p (p.name ++ b ∷ []) cs m fs)
     alu Div X true s e after narrow =
-        subst (λ (k : Machine). Turned p (made p (p.name ++ true ∷ []) cs k fs)) (sym after) (zero_turned p cond cs fs (returned_nodes p 0 h.nodes) h s e narrow)
+        subst (λ (k : Machine). Turned p (made p (p.name ++ true ∷ []) cs k fs)) (sym after)
+        (zero_turned p cond cs fs (returned_nodes p 0 h.nodes) h s e narrow)
     alu Div X false s e after narrow =
-        subst (λ (k : Machine). Turned p (made p (p.name ++ false ∷ []) cs k fs)) (sym after) (nonzero_turned p cond cs fs h s e narrow)
+        subst (λ (k : Machine). Turned p (made p (p.name ++ false ∷ []) cs k fs)) (sym after)
+        (nonzero_turned p cond cs fs h s e narrow)
     alu Div (Constant k) b s e after narrow = absurd after
     alu _ other b s e after narrow = absurd after
 turned p _ cond b cs fs m h s e after narrow = absurd after
@@ -53,38 +59,46 @@ same_right : (x : Bool) → same x true ≡ x
 same_right true = refl
 same_right false = refl
 
-pub sense_is : (pool : List Node) (d : Input) (cond : Cond) (b : Bool) → cond.sense ≡ true → is_met pool d (sensed cond b) ≡ same (is_met pool d cond) b
+pub sense_is : (pool : List Node) (d : Input) (cond : Cond) (b : Bool) → cond.sense ≡ true
+    → is_met pool d (sensed cond b) ≡ same (is_met pool d cond) b
 sense_is pool d cond b e =
     let x = passes cond.test (value_of pool d cond.node.0) (value_of pool d cond.other.0) in
     let plain : same x cond.sense ≡ x = ap (λ (v : Bool). same x v) e ∙ same_right x in
     ap (λ (v : Bool). same v b) (sym plain)
 
 -- the name with one more truth value
-named_next : (p : PieceData) (i : Insn) (cond : Cond) (b : Bool) → IsPiece p → Standing p i → IsEntry p i cond → (d : Input) → IsInput d
+named_next : (p : PieceData) (i : Insn) (cond : Cond) (b : Bool) → IsPiece p → Standing p i → IsEntry p i cond
+    → (d : Input) → IsInput d
     → (is_member p d && same (is_met p.pool d cond) b) ≡ is_prefix (p.name ++ b ∷ []) (trace_of p.stack d)
 named_next p i cond b h s e d inp =
-    prefix_next p.name (trace_of p.stack d) b (is_met p.pool d cond) (is_member p d) (h.members d inp) (λ member. entry_trace p i cond s e d inp member)
+    prefix_next p.name (trace_of p.stack d) b (is_met p.pool d cond) (is_member p d) (h.members d inp)
+    (λ member. entry_trace p i cond s e d inp member)
 
 implied_and : (v x : Bool) → (v ≡ true → x ≡ true) → v ≡ (v && x)
 implied_and true x h = sym (h refl)
 implied_and false x h = refl
 
-implied_narrows : (p : PieceData) (i : Insn) (cond : Cond) (b : Bool) → IsEntry p i cond → IsImplied p cond b → Narrows p p.conditions cond b
+implied_narrows : (p : PieceData) (i : Insn) (cond : Cond) (b : Bool) → IsEntry p i cond → IsImplied p cond b
+    → Narrows p p.conditions cond b
 unfolding is_member
-implied_narrows p i cond b e imp d inp member = (member, same-true (is_met p.pool d cond) b (sym (sense_is p.pool d cond b e.sense) ∙ imp d inp member))
+implied_narrows p i cond b e imp d inp member =
+    (member, same-true (is_met p.pool d cond) b (sym (sense_is p.pool d cond b e.sense) ∙ imp d inp member))
 
 abbrev pub taken_on : PieceData → Bool → Machine → PieceData
 taken_on p b m = made p (p.name ++ b ∷ []) p.conditions m p.facts
 
-pub take_piece : (p : PieceData) (i : Insn) (cond : Cond) (b : Bool) (m : Machine) → IsPiece p → Standing p i → IsEntry p i cond → IsImplied p cond b → AfterEntry p i b m → IsPiece (taken_on p b m)
+pub take_piece : (p : PieceData) (i : Insn) (cond : Cond) (b : Bool) (m : Machine) → IsPiece p → Standing p i
+    → IsEntry p i cond → IsImplied p cond b → AfterEntry p i b m → IsPiece (taken_on p b m)
 unfolding is_member
 take_piece p i cond b m h s e imp after =
     let t = turned p i cond b p.conditions p.facts m h s e after (implied_narrows p i cond b e imp) in
     assembled p (p.name ++ b ∷ []) p.conditions m p.facts h h.bounded t.nodes t.zero_is h.covers h.known
-    (λ d inp. implied_and (is_member p d) (same (is_met p.pool d cond) b) (λ member. sym (sense_is p.pool d cond b e.sense) ∙ imp d inp member) ∙ named_next p i cond b h s e d inp)
+    (λ d inp. implied_and (is_member p d) (same (is_met p.pool d cond) b)
+    (λ member. sym (sense_is p.pool d cond b e.sense) ∙ imp d inp member) ∙ named_next p i cond b h s e d inp)
     t.rest t.base t.pre t.stands
 
-pub take_gone : (p : PieceData) (i : Insn) (cond : Cond) (b : Bool) (m : Machine) → IsPiece p → Standing p i → IsEntry p i cond → IsImplied p cond b → AfterEntry p i b m → HasGone p (taken_on p b m)
+pub take_gone : (p : PieceData) (i : Insn) (cond : Cond) (b : Bool) (m : Machine) → IsPiece p → Standing p i
+    → IsEntry p i cond → IsImplied p cond b → AfterEntry p i b m → HasGone p (taken_on p b m)
 unfolding is_member
 take_gone p i cond b m h s e imp after =
     let t = turned p i cond b p.conditions p.facts m h s e after (implied_narrows p i cond b e imp) in
@@ -94,34 +108,45 @@ take_gone p i cond b m h s e imp after =
 
 all_push : (f : Cond → Bool) (cs : List Cond) (c : Cond) → list_all f (cs ++ c ∷ []) ≡ (list_all f cs && f c)
 all_push f [] c = elim (f c) as (λ b. (b && true) ≡ (true && b)) [ true ↦ refl | false ↦ refl ]
-all_push f (x ∷ cs) c = elim (f x) as (λ b. (b && list_all f (cs ++ c ∷ [])) ≡ ((b && list_all f cs) && f c)) [ true ↦ all_push f cs c | false ↦ refl ]
+all_push f (x ∷ cs) c = elim (f x) as (λ b. (b && list_all f (cs ++ c ∷ [])) ≡ ((b && list_all f cs) && f c))
+    [ true ↦ all_push f cs c | false ↦ refl ]
 
-below_push : (n : ℕ) (cs : List Cond) (c : Cond) → AllByRecursion (IsCondBelow n) cs → IsCondBelow n c → AllByRecursion (IsCondBelow n) (cs ++ c ∷ [])
+below_push : (n : ℕ) (cs : List Cond) (c : Cond) → AllByRecursion (IsCondBelow n) cs → IsCondBelow n c
+    → AllByRecursion (IsCondBelow n) (cs ++ c ∷ [])
 below_push n [] c b h = (h, tt)
 below_push n (x ∷ cs) c b h = (b.0, below_push n cs c b.1 h)
 
 abbrev pub child_of : PieceData → Cond → Bool → Machine → FactsView → PieceData
 child_of p cond b m fs = made p (p.name ++ b ∷ []) (p.conditions ++ sensed cond b ∷ []) m fs
 
-pub child_members : (p : PieceData) (cond : Cond) (b : Bool) (m : Machine) (fs : FactsView) (d : Input) → is_member (child_of p cond b m fs) d ≡ (is_member p d && is_met p.pool d (sensed cond b))
+pub child_members : (p : PieceData) (cond : Cond) (b : Bool) (m : Machine) (fs : FactsView) (d : Input)
+    → is_member (child_of p cond b m fs) d ≡ (is_member p d && is_met p.pool d (sensed cond b))
 unfolding is_member
 child_members p cond b m fs d = all_push (is_met p.pool d) p.conditions (sensed cond b)
 
-child_both : (p : PieceData) (cond : Cond) (b : Bool) (m : Machine) (fs : FactsView) (d : Input) → is_member (child_of p cond b m fs) d ≡ true → (is_member p d ≡ true) × (is_met p.pool d (sensed cond b) ≡ true)
-child_both p cond b m fs d member = and-true (is_member p d) (is_met p.pool d (sensed cond b)) (sym (child_members p cond b m fs d) ∙ member)
+child_both : (p : PieceData) (cond : Cond) (b : Bool) (m : Machine) (fs : FactsView) (d : Input)
+    → is_member (child_of p cond b m fs) d ≡ true → (is_member p d ≡ true) × (is_met p.pool d (sensed cond b) ≡ true)
+child_both p cond b m fs d member = and-true (is_member p d) (is_met p.pool d (sensed cond b))
+    (sym (child_members p cond b m fs d) ∙ member)
 
-child_narrows : (p : PieceData) (cond : Cond) (b : Bool) (m : Machine) (fs : FactsView) → cond.sense ≡ true → Narrows p (p.conditions ++ sensed cond b ∷ []) cond b
+child_narrows : (p : PieceData) (cond : Cond) (b : Bool) (m : Machine) (fs : FactsView) → cond.sense ≡ true
+    → Narrows p (p.conditions ++ sensed cond b ∷ []) cond b
 unfolding is_member
 child_narrows p cond b m fs sense d inp member =
     let both = child_both p cond b m fs d member in
     (both.0, same-true (is_met p.pool d cond) b (sym (sense_is p.pool d cond b sense) ∙ both.1))
 
-pub child_piece : (p : PieceData) (i : Insn) (cond : Cond) (b : Bool) (m : Machine) (fs : FactsView) → IsPiece p → Standing p i → IsEntry p i cond → AreChildFacts p cond b fs → AfterEntry p i b m → IsPiece (child_of p cond b m fs)
+pub child_piece : (p : PieceData) (i : Insn) (cond : Cond) (b : Bool) (m : Machine) (fs : FactsView) → IsPiece p
+    → Standing p i → IsEntry p i cond → AreChildFacts p cond b fs → AfterEntry p i b m
+    → IsPiece (child_of p cond b m fs)
 child_piece p i cond b m fs h s e facts after =
-    let t = turned p i cond b (p.conditions ++ sensed cond b ∷ []) fs m h s e after (child_narrows p cond b m fs e.sense) in
-    assembled p (p.name ++ b ∷ []) (p.conditions ++ sensed cond b ∷ []) m fs h (below_push (length p.pool) p.conditions (sensed cond b) h.bounded e.below) t.nodes t.zero_is facts.covers
+    let t = turned p i cond b (p.conditions ++ sensed cond b ∷ []) fs m h s e after
+    (child_narrows p cond b m fs e.sense) in
+    assembled p (p.name ++ b ∷ []) (p.conditions ++ sensed cond b ∷ []) m fs h
+    (below_push (length p.pool) p.conditions (sensed cond b) h.bounded e.below) t.nodes t.zero_is facts.covers
     (λ d inp member. let both = child_both p cond b m fs d member in facts.known d inp both.0 both.1)
-    (λ d inp. child_members p cond b m fs d ∙ ap (λ (v : Bool). is_member p d && v) (sense_is p.pool d cond b e.sense) ∙ named_next p i cond b h s e d inp)
+    (λ d inp. child_members p cond b m fs d ∙ ap (λ (v : Bool). is_member p d && v) (sense_is p.pool d cond b e.sense)
+    ∙ named_next p i cond b h s e d inp)
     t.rest t.base t.pre t.stands
 
 -- ---- names are routes
@@ -138,36 +163,56 @@ length-bits zero a = refl
 length-bits (suc n) a = ap suc (length-bits n a)
 
 -- a way from a place that goes on from the truth values taken
-fill : (code : List Insn) (place taken : ℕ) (pre : List Bool) → IsLawful code → place < length code → IsPending code place taken pre → (on : List Bool) × IsWay code place (pre ++ on)
+fill : (code : List Insn) (place taken : ℕ) (pre : List Bool) → IsLawful code → place < length code
+    → IsPending code place taken pre → (on : List Bool) × IsWay code place (pre ++ on)
 fill code place taken pre lawful inside (inl (none, e)) =
     let way = some_way (length code) code place lawful inside (omega arith) in
     (way.0, subst (λ (l : List Bool). IsWay code place (l ++ way.0)) (sym e) way.1)
-fill code place taken pre lawful inside (inr (inl (at, few, len))) =
-    (bits (32 - taken) 0, returns_at ReturnA at (length-append pre (bits (32 - taken) 0) ∙ omega (arith, length-bits (32 - taken) 0), refl))
+fill code place taken pre lawful inside (inr (inl (at, few, len))) = (
+  bits (32 - taken) 0,
+  returns_at ReturnA at (
+    length-append pre (bits (32 - taken) 0)
+        ∙ omega (arith, length-bits (32 - taken) 0),
+    refl,
+  ),
+)
 fill code place taken pre lawful inside (inr (inr (at, one, e))) =
-    let next : place + 1 < length code = (successors_inside code place (Alu Div X) at (lawful.inside place (Alu Div X) at) lawful.ends).0 in
-    let way = some_way (length code) code (place + 1) lawful next (omega arith) in
-    (way.0, goes_on (Alu Div X) (false ∷ []) (place + 1) way.0 at (inr (refl, refl)) way.1 (ap (λ (l : List Bool). l ++ way.0) e))
+    let next : place + 1 < length code =
+    (successors_inside code place (Alu Div X) at (lawful.inside place (Alu Div X) at) lawful.ends).0 in
+    let way = some_way (length code) code (place + 1) lawful next (omega arith) in (
+      way.0,
+      goes_on (Alu Div X) (false ∷ []) (place + 1) way.0 at (inr (refl, refl)) way.1
+          (ap (λ (l : List Bool). l ++ way.0) e),
+    )
 
-route_of : (p : PieceData) (rest : List (List Insn)) (base pre : List Bool) → StandsAt p rest base pre → IsRoute p.stack p.name
-route_of p [] base pre s =
-    ([], subst (IsWholeRoute p.stack) (ap (λ (l : List Bool). base ++ l) (sym s.inside) ∙ sym s.name_is ∙ sym (append-nil p.name)) (s.route [] refl))
+route_of : (p : PieceData) (rest : List (List Insn)) (base pre : List Bool) → StandsAt p rest base pre
+    → IsRoute p.stack p.name
+route_of p [] base pre s = (
+  [],
+  subst (IsWholeRoute p.stack) (ap (λ (l : List Bool). base ++ l) (sym s.inside) ∙ sym s.name_is
+      ∙ sym (append-nil p.name)) (s.route [] refl),
+)
 route_of p (code ∷ later) base pre s =
-    let on = fill code p.machine.place p.machine.taken pre s.laws.0 (s.inside.safe some_input).inside s.inside.pending in
+    let on = fill code p.machine.place p.machine.taken pre s.laws.0
+    (s.inside.safe some_input).inside s.inside.pending in
     let others = some_ways later s.laws.1 in
     let whole = s.route ((pre ++ on.0) ++ others.0) (pre ++ on.0, others.0, on.1, others.1, refl) in (
       on.0 ++ others.0,
-      subst (IsWholeRoute p.stack) (ap (λ (l : List Bool). base ++ l) (append_assoc pre on.0 others.0) ∙ sym (append_assoc base pre (on.0 ++ others.0)) ∙ ap (λ (l : List Bool). l ++ (on.0 ++ others.0)) (sym s.name_is)) whole,
+      subst (IsWholeRoute p.stack) (ap (λ (l : List Bool). base ++ l) (append_assoc pre on.0 others.0)
+          ∙ sym (append_assoc base pre (on.0 ++ others.0)) ∙ ap (λ (l : List Bool). l ++ (on.0 ++ others.0))
+          (sym s.name_is)) whole,
     )
 
 pub piece_named : (p : PieceData) → IsPiece p → IsTrulyNamed p
 piece_named p h = record { route = route_of p h.rest h.base h.pre h.stands; members = h.members }
 
-pub child_is : (p : PieceData) (cond : Cond) (b : Bool) (m : Machine) (fs : FactsView) → IsLawfulPiece (child_of p cond b m fs) → IsChild p cond b (child_of p cond b m fs)
-child_is p cond b m fs h = record {
+pub child_is : (p : PieceData) (cond : Cond) (b : Bool) (m : Machine) (fs : FactsView) → AreChildFacts p cond b fs
+    → IsLawfulPiece (child_of p cond b m fs) → IsChild p cond b (child_of p cond b m fs)
+child_is p cond b m fs facts h = record {
   of = refl;
   name = refl;
   named = h.named;
   members = λ d inp. child_members p cond b m fs d;
+  facts = facts;
   plain = h.plain;
 }

@@ -28,17 +28,31 @@ below_le n m [] h b = tt
 below_le n m (c ∷ cs) h b = ((omega (arith, b.0.0), omega (arith, b.0.1)), below_le n m cs h b.1)
 
 nodes_le : (n m : ℕ) (k : Machine) → n ≤ m → AreNodesBelow n k → AreNodesBelow m k
-nodes_le n m k h b = record { a = omega (arith, b.a); x = omega (arith, b.x); zero = omega (arith, b.zero); scratch = λ j w e. omega (arith, b.scratch j w e) }
+nodes_le n m k h b = record {
+  a = omega (arith, b.a);
+  x = omega (arith, b.x);
+  zero = omega (arith, b.zero);
+  scratch = λ j w e. omega (arith, b.scratch j w e);
+}
 
-pub members_grown : (p : PieceData) (added : List Node) (fs : FactsView) (d : Input) → AllByRecursion (IsCondBelow (length p.pool)) p.conditions → is_member (grown p added fs) d ≡ is_member p d
+pub members_grown : (p : PieceData) (added : List Node) (fs : FactsView) (d : Input)
+    → AllByRecursion (IsCondBelow (length p.pool)) p.conditions → is_member (grown p added fs) d ≡ is_member p d
 unfolding is_member
 members_grown p added fs d b = all_grown p.pool added d p.conditions b
 
-in_grown : (p : PieceData) (added : List Node) (rest : List (List Insn)) (pre : List Bool) → AreNodesBelow (length p.pool) p.machine → InProgram rest p.pool p.machine pre → InProgram rest (p.pool ++ added) p.machine pre
+in_grown : (p : PieceData) (added : List Node) (rest : List (List Insn)) (pre : List Bool)
+    → AreNodesBelow (length p.pool) p.machine → InProgram rest p.pool p.machine pre
+    → InProgram rest (p.pool ++ added) p.machine pre
 in_grown p added [] pre b h = h
-in_grown p added (code ∷ later) pre b h = record { safe = λ d. subst (Safe code) (sym (valued_grown p.pool added p.machine d b)) (h.safe d); pending = h.pending }
+in_grown p added (code ∷ later) pre b h = record {
+  safe = λ d.
+      subst (Safe code) (sym (valued_grown p.pool added p.machine d b)) (h.safe d);
+  pending = h.pending;
+}
 
-pub stands_grown : (p : PieceData) (added : List Node) (fs : FactsView) (rest : List (List Insn)) (base pre : List Bool) → AllByRecursion (IsCondBelow (length p.pool)) p.conditions → AreNodesBelow (length p.pool) p.machine → StandsAt p rest base pre → StandsAt (grown p added fs) rest base pre
+pub stands_grown : (p : PieceData) (added : List Node) (fs : FactsView) (rest : List (List Insn)) (base pre : List Bool)
+    → AllByRecursion (IsCondBelow (length p.pool)) p.conditions → AreNodesBelow (length p.pool) p.machine
+    → StandsAt p rest base pre → StandsAt (grown p added fs) rest base pre
 stands_grown p added fs rest base pre bounded b s = record {
   rest_is = s.rest_is;
   laws = s.laws;
@@ -48,7 +62,8 @@ stands_grown p added fs rest base pre bounded b s = record {
   route = s.route;
   runs = λ d inp member.
       let f = s.runs d inp (sym (members_grown p added fs d bounded) ∙ member) in
-      let same : valued (p.pool ++ added) p.machine d ≡ valued p.pool p.machine d = valued_grown p.pool added p.machine d b in
+      let same : valued (p.pool ++ added) p.machine d ≡ valued p.pool p.machine d =
+      valued_grown p.pool added p.machine d b in
       record {
         ends = λ more vs r. f.ends more vs (subst (λ (t : State). RunsOn rest d t more vs) same r);
         taken = subst (λ (t : State). HasTaken rest d t p.machine.taken pre) (sym same) f.taken;
@@ -58,7 +73,8 @@ stands_grown p added fs rest base pre bounded b s = record {
 length_le : (p : PieceData) (added : List Node) → length p.pool ≤ length (p.pool ++ added)
 length_le p added = omega (arith, length-append p.pool added)
 
-pub grown_piece : (p : PieceData) (added : List Node) (fs : FactsView) → IsPiece p → IsPool (p.pool ++ added) → Covers fs (p.pool ++ added) → TakesIn p.facts fs p.pool (p.pool ++ added) → IsPiece (grown p added fs)
+pub grown_piece : (p : PieceData) (added : List Node) (fs : FactsView) → IsPiece p → IsPool (p.pool ++ added)
+    → Covers fs (p.pool ++ added) → TakesIn p.facts fs p.pool (p.pool ++ added) → IsPiece (grown p added fs)
 grown_piece p added fs h pool covers takes = record {
   lawful = h.lawful;
   pool = pool;
@@ -99,12 +115,17 @@ has_grown p added fs h = record {
   nodes = nodes_le (length p.pool) (length (p.pool ++ added)) p.machine (length_le p added) h.nodes;
 }
 
-pub pushed : (p : PieceData) (added : List Node) (fs : FactsView) (node : Node) (id : NodeId) → IsPiece p → IsLawfulPiece (grown p added fs) → id.0 < length (p.pool ++ added) → ((d : Input) → value_of (p.pool ++ added) d id.0 ≡ node_value d (values_of p.pool d) node) → ((c : ℕ) → node ≡ Const c → node_at (p.pool ++ added) id.0 ≡ Const c) → IsPushed p node (grown p added fs) id
-pushed p added fs node id h lawful within value constant = record { grown = has_grown p added fs h; lawful = lawful; within = within; value = value; constant = constant }
+pub pushed : (p : PieceData) (added : List Node) (fs : FactsView) (node : Node) (id : NodeId) → IsPiece p
+    → IsLawfulPiece (grown p added fs) → id.0 < length (p.pool ++ added)
+    → ((d : Input) → value_of (p.pool ++ added) d id.0 ≡ node_value d (values_of p.pool d) node)
+    → ((c : ℕ) → node ≡ Const c → node_at (p.pool ++ added) id.0 ≡ Const c) → IsPushed p node (grown p added fs) id
+pushed p added fs node id h lawful within value constant =
+    record { grown = has_grown p added fs h; lawful = lawful; within = within; value = value; constant = constant }
 
 bool_false : (b : Bool) → (b ≡ true → ⊥) → b ≡ false
 bool_false true h = absurd (h refl)
 bool_false false h = refl
 
 pub none_member : (p : PieceData) → IsPiece p → NoneAgrees p.facts p.pool → HasNoMember p
-none_member p h none = record { none = λ d inp. bool_false (is_member p d) (λ member. none d inp (h.known d inp member)) }
+none_member p h none =
+    record { none = λ d inp. bool_false (is_member p d) (λ member. none d inp (h.known d inp member)) }

@@ -42,40 +42,51 @@ div_clash true u t e = cc
 div_clash false u t e = cc
 
 -- where a step meets nothing, nothing of it is in the name
-nothing_taken : (code : List Insn) (place taken : ℕ) (pre : List Bool) (i : Insn) (d : Input) (s t : State) → IsPending code place taken pre → IsAt code place i → executed d s i ≡ goes [] t → pre ≡ []
+nothing_taken : (code : List Insn) (place taken : ℕ) (pre : List Bool) (i : Insn) (d : Input) (s t : State)
+    → IsPending code place taken pre → IsAt code place i → executed d s i ≡ goes [] t → pre ≡ []
 nothing_taken code place taken pre i d s t (inl p) at e = p.1
 nothing_taken code place taken pre i d s t (inr (inl p)) at e =
-    let clash : executed d s ReturnA ≡ goes [] t = subst (λ (j : Insn). executed d s j ≡ goes [] t) (at_same code place i ReturnA at p.0) e in
+    let clash : executed d s ReturnA ≡ goes [] t =
+    subst (λ (j : Insn). executed d s j ≡ goes [] t) (at_same code place i ReturnA at p.0) e in
     absurd cc
 nothing_taken code place taken pre i d s t (inr (inr p)) at e =
-    absurd (div_clash (s.x == 0) (record s { place = s.place + 1; a = apply Div s.a s.x }) t (subst (λ (j : Insn). executed d s j ≡ goes [] t) (at_same code place i (Alu Div X) at p.0) e))
+    absurd (div_clash (s.x == 0) (record s { place = s.place + 1; a = apply Div s.a s.x }) t
+    (subst (λ (j : Insn). executed d s j ≡ goes [] t) (at_same code place i (Alu Div X) at p.0) e))
 
 abbrev Allowed : ℕ → Insn → Progress → Type 0
 Allowed at i (goes met next) = MayMeet at i met (Some next.place)
 Allowed at i (returns met value) = MayMeet at i met None
 Allowed at i stuck = Unit {0}
 
-pub may_go : (d : Input) (s : State) (i : Insn) (met : List Bool) (t : State) → executed d s i ≡ goes met t → MayMeet s.place i met (Some t.place)
+pub may_go : (d : Input) (s : State) (i : Insn) (met : List Bool) (t : State) → executed d s i ≡ goes met t
+    → MayMeet s.place i met (Some t.place)
 may_go d s i met t e = subst (λ (q : Progress). Allowed s.place i q) e (step_allowed d s i)
 
 -- the same scratch words at a place to which the instruction leads
-pub safe_moved : (code : List Insn) (s t : State) (i : Insn) → IsLawful code → Safe code s → IsAt code s.place i → Contains (successors s.place i) t.place → stored_by i ≡ None → t.scratch ≡ s.scratch → Safe code t
+pub safe_moved : (code : List Insn) (s t : State) (i : Insn) → IsLawful code → Safe code s → IsAt code s.place i
+    → Contains (successors s.place i) t.place → stored_by i ≡ None → t.scratch ≡ s.scratch → Safe code t
 safe_moved code s t i lawful safe at leads none same = record {
-  inside = below_in (length code) (successors s.place i) t.place (successors_inside code s.place i at (lawful.inside s.place i at) lawful.ends) leads;
+  inside = below_in (length code) (successors s.place i) t.place
+      (successors_inside code s.place i at (lawful.inside s.place i at) lawful.ends) leads;
   sixteen = ap length same ∙ safe.sixteen;
   earlier = s.place ∷ safe.earlier;
   path = ((i, at, leads), safe.path);
   set_words = λ k any. elim (any_cons (Stores code k) s.place safe.earlier any) [
-    | inl here ↦ let clash : None ≡ Some k = sym none ∙ ap stored_by (at_same code s.place i here.0 at here.1) ∙ here.2 in absurd cc
+    | inl here ↦ let clash : None ≡ Some k = sym none ∙ ap stored_by (at_same code s.place i here.0 at here.1)
+        ∙ here.2 in absurd cc
     | inr later ↦ let old = safe.set_words k later in (old.0, ap (λ (l : List (Option ℕ)). slice_get l k) same ∙ old.1)
   ];
 }
 
 -- a piece of the same pool
-pub assembled : (p : PieceData) (name : List Bool) (cs : List Cond) (m : Machine) (fs : FactsView) → IsPiece p → AllByRecursion (IsCondBelow (length p.pool)) cs → AreNodesBelow (length p.pool) m → m.zero ≡ p.machine.zero → Covers fs p.pool
+pub assembled : (p : PieceData) (name : List Bool) (cs : List Cond) (m : Machine) (fs : FactsView) → IsPiece p
+    → AllByRecursion (IsCondBelow (length p.pool)) cs → AreNodesBelow (length p.pool) m → m.zero ≡ p.machine.zero
+    → Covers fs p.pool
     → ((d : Input) → IsInput d → is_member (made p name cs m fs) d ≡ true → Agrees fs p.pool d)
-    → ((d : Input) → IsInput d → is_member (made p name cs m fs) d ≡ is_prefix name (Rattle.sf_run.specs.Machine.trace_of p.stack d))
-    → (rest : List (List Insn)) (base pre : List Bool) → StandsAt (made p name cs m fs) rest base pre → IsPiece (made p name cs m fs)
+    → ((d : Input) → IsInput d → is_member (made p name cs m fs) d
+    ≡ is_prefix name (Rattle.sf_run.specs.Machine.trace_of p.stack d))
+    → (rest : List (List Insn)) (base pre : List Bool) → StandsAt (made p name cs m fs) rest base pre
+    → IsPiece (made p name cs m fs)
 assembled p name cs m fs h bounded nodes zero_is covers known members rest base pre stands = record {
   lawful = h.lawful;
   pool = h.pool;
@@ -98,28 +109,36 @@ same_members p m = record { of = refl; on = []; name = sym (append-nil p.name); 
 abbrev pub gone : PieceData → Machine → PieceData
 gone p m = made p p.name p.conditions m p.facts
 
-kept : (p : PieceData) (m : Machine) → IsPiece p → AreNodesBelow (length p.pool) m → m.zero ≡ p.machine.zero → (rest : List (List Insn)) (base pre : List Bool) → StandsAt (gone p m) rest base pre → IsPiece (gone p m)
+kept : (p : PieceData) (m : Machine) → IsPiece p → AreNodesBelow (length p.pool) m → m.zero ≡ p.machine.zero
+    → (rest : List (List Insn)) (base pre : List Bool) → StandsAt (gone p m) rest base pre → IsPiece (gone p m)
 unfolding is_member
-kept p m h nodes zero_is rest base pre stands = assembled p p.name p.conditions m p.facts h h.bounded nodes zero_is h.covers h.known h.members rest base pre stands
+kept p m h nodes zero_is rest base pre stands =
+    assembled p p.name p.conditions m p.facts h h.bounded nodes zero_is h.covers h.known h.members rest base pre stands
 
-div_taken : (b : Bool) (u t : State) → false ∷ [] ≡ take 1 (met_of (if b then returns (true ∷ []) 0 else goes (false ∷ []) u)) → t ≡ u → (if b then returns (true ∷ []) 0 else goes (false ∷ []) u) ≡ goes (false ∷ []) t
+div_taken : (b : Bool) (u t : State) → false ∷ []
+    ≡ take 1 (met_of (if b then returns (true ∷ []) 0 else goes (false ∷ []) u)) → t ≡ u
+    → (if b then returns (true ∷ []) 0 else goes (false ∷ []) u) ≡ goes (false ∷ []) t
 div_taken true u t e same = let clash : false ∷ [] ≡ true ∷ [] = e in absurd cc
 div_taken false u t e same = ap (goes (false ∷ [])) (sym same)
 
-go_stands : (p : PieceData) (i : Insn) (m : Machine) → IsPiece p → (s : Standing p i) → Goes p i m → GoesBy p i m → ((base : List Bool) × StandsAt (gone p m) (s.code ∷ s.later) base []) × (p.machine.place < m.place)
+go_stands : (p : PieceData) (i : Insn) (m : Machine) → IsPiece p → (s : Standing p i) → Goes p i m → GoesBy p i m
+    → ((base : List Bool) × StandsAt (gone p m) (s.code ∷ s.later) base []) × (p.machine.place < m.place)
 unfolding is_member
 go_stands p i m h s g (inl run) =
     let at0 = valued p.pool p.machine some_input in
-    let none = nothing_taken s.code p.machine.place p.machine.taken s.pre i some_input at0 (valued p.pool m some_input) s.stands.inside.pending s.at (run some_input) in (
+    let none = nothing_taken s.code p.machine.place p.machine.taken s.pre i some_input at0
+    (valued p.pool m some_input) s.stands.inside.pending s.at (run some_input) in (
       (
         s.base ++ [],
         stands_moved p s.code s.later s.base s.pre [] i p.name p.conditions m p.facts s.stands s.at
             (may_go some_input at0 i [] (valued p.pool m some_input) (run some_input))
             (s.stands.name_is ∙ ap (λ (l : List Bool). s.base ++ l) none) g.program g.so_far g.taken g.value
-            (λ d. (safe_next s.code d (valued p.pool p.machine d) i [] (valued p.pool m d) s.stands.laws.0 (s.stands.inside.safe d) s.at (run d)).0)
+            (λ d. (safe_next s.code d (valued p.pool p.machine d) i [] (valued p.pool m d) s.stands.laws.0
+            (s.stands.inside.safe d) s.at (run d)).0)
             (λ d inp member. (member, run d)),
       ),
-      (safe_next s.code some_input at0 i [] (valued p.pool m some_input) s.stands.laws.0 (s.stands.inside.safe some_input) s.at (run some_input)).1,
+      (safe_next s.code some_input at0 i [] (valued p.pool m some_input) s.stands.laws.0
+          (s.stands.inside.safe some_input) s.at (run some_input)).1,
     )
 go_stands p i m h s g (inr (is, taken, to)) =
     let place : m.place ≡ p.machine.place + 1 = ap (λ (t : State). t.place) (to some_input) in
@@ -130,22 +149,30 @@ go_stands p i m h s g (inr (is, taken, to)) =
         stands_moved p s.code s.later s.base s.pre (false ∷ []) (Alu Div X) p.name p.conditions m p.facts s.stands at
             (inr (refl, ap (λ (n : ℕ). Some n) place))
             (s.stands.name_is ∙ ap (λ (l : List Bool). s.base ++ l) pre) g.program g.so_far g.taken g.value
-            (λ d. safe_moved s.code (valued p.pool p.machine d) (valued p.pool m d) (Alu Div X) s.stands.laws.0 (s.stands.inside.safe d) at
+            (λ d. safe_moved s.code (valued p.pool p.machine d) (valued p.pool m d) (Alu Div X) s.stands.laws.0
+            (s.stands.inside.safe d) at
             (contains_here (p.machine.place + 1) [] m.place (sym place)) refl (ap (λ (t : State). t.scratch) (to d)))
             (λ d inp member.
-            let u = record (valued p.pool p.machine d) { place = p.machine.place + 1; a = apply Div (value_of p.pool d p.machine.a.0) (value_of p.pool d p.machine.x.0) } in
+            let u = record (valued p.pool p.machine d) {
+              place = p.machine.place + 1;
+              a = apply Div (value_of p.pool d p.machine.a.0) (value_of p.pool d p.machine.x.0);
+            } in
             let f = (s.stands.runs d inp member).taken in (
               member,
               div_taken (value_of p.pool d p.machine.x.0 == 0) u (valued p.pool m d)
-                  (sym pre ∙ f ∙ ap (λ (k : ℕ). take k (met_of (step s.code d (valued p.pool p.machine d)))) taken ∙ ap (λ (q : Progress). take 1 (met_of q)) (step_is s.code d (valued p.pool p.machine d) (Alu Div X) at)) (to d),
+                  (sym pre ∙ f ∙ ap (λ (k : ℕ). take k (met_of (step s.code d (valued p.pool p.machine d)))) taken
+                  ∙ ap (λ (q : Progress). take 1 (met_of q))
+                  (step_is s.code d (valued p.pool p.machine d) (Alu Div X) at)) (to d),
             )),
       ),
       omega arith,
     )
   where
-    pending : IsPending s.code p.machine.place p.machine.taken s.pre → IsAt s.code p.machine.place (Alu Div X) → p.machine.taken ≡ 1 → s.pre ≡ false ∷ []
+    pending : IsPending s.code p.machine.place p.machine.taken s.pre → IsAt s.code p.machine.place (Alu Div X)
+        → p.machine.taken ≡ 1 → s.pre ≡ false ∷ []
     pending (inl q) at one = absurd (omega (arith, q.0))
-    pending (inr (inl q)) at one = let clash : ReturnA ≡ Alu Div X = at_same s.code p.machine.place ReturnA (Alu Div X) q.0 at in absurd cc
+    pending (inr (inl q)) at one = let clash : ReturnA ≡ Alu Div X =
+        at_same s.code p.machine.place ReturnA (Alu Div X) q.0 at in absurd cc
     pending (inr (inr q)) at one = q.2
 
 pub go_piece : (p : PieceData) (i : Insn) (m : Machine) → IsPiece p → Standing p i → Goes p i m → IsPiece (gone p m)
@@ -175,30 +202,38 @@ number_bits zero n a = omega arith
 number_bits (suc k) n a =
     let t = a / 2 ^ k % 2 in
     let bit : (if a / 2 ^ k % 2 == 1 then 1 else 0) ≡ a / 2 ^ k % 2 = bit_is (a / 2 ^ k % 2) (omega arith) in
-    let rest : number_from (2 * n + a / 2 ^ k % 2) (bits k a) ≡ (2 * n + a / 2 ^ k % 2) * 2 ^ k + a % 2 ^ k = number_bits k (2 * n + a / 2 ^ k % 2) a in
+    let rest : number_from (2 * n + a / 2 ^ k % 2) (bits k a) ≡ (2 * n + a / 2 ^ k % 2) * 2 ^ k + a % 2 ^ k =
+    number_bits k (2 * n + a / 2 ^ k % 2) a in
     let split : a % 2 ^ (1 + k) ≡ (a / 2 ^ k % 2 ^ 1) * 2 ^ k + a % 2 ^ k = mod-pow-add a 1 k in
     let sum : 1 + k ≡ suc k = omega arith in
     let split' : a % 2 ^ suc k ≡ (a / 2 ^ k % 2) * 2 ^ k + a % 2 ^ k = rw sum at split in
     let pow : 2 ^ suc k ≡ 2 * 2 ^ k = omega arith in
-    ap (λ (v : ℕ). number_from (2 * n + v) (bits k a)) bit ∙ (rest ∙ finish (2 ^ k) (2 ^ suc k) (a / 2 ^ k % 2) (a % 2 ^ k) (a % 2 ^ suc k) pow split')
+    ap (λ (v : ℕ). number_from (2 * n + v) (bits k a)) bit
+    ∙ (rest ∙ finish (2 ^ k) (2 ^ suc k) (a / 2 ^ k % 2) (a % 2 ^ k) (a % 2 ^ suc k) pow split')
   where
     finish : (q r t u v : ℕ) → r ≡ 2 * q → v ≡ t * q + u → (2 * n + t) * q + u ≡ n * r + v
     finish q r t u v e f = rw (e, f) (omega arith)
 
-return_stands : (p : PieceData) (i : Insn) (v : ℕ) → IsPiece p → (s : Standing p i) → ReturnsNow p i v → (base : List Bool) × StandsAt (gone p (returned p.machine v)) s.later base []
+return_stands : (p : PieceData) (i : Insn) (v : ℕ) → IsPiece p → (s : Standing p i) → ReturnsNow p i v
+    → (base : List Bool) × StandsAt (gone p (returned p.machine v)) s.later base []
 unfolding is_member
 return_stands p i v h s (inl is) =
-    let at : IsAt s.code p.machine.place (ReturnConstant v) = subst (λ (j : Insn). IsAt s.code p.machine.place j) is s.at in
+    let at : IsAt s.code p.machine.place (ReturnConstant v) =
+    subst (λ (j : Insn). IsAt s.code p.machine.place j) is s.at in
     let none = pending s.stands.inside.pending at in (
       s.base ++ [],
-      stands_returned p s.code s.later s.base s.pre [] (ReturnConstant v) v p.name p.conditions p.facts s.stands at (refl, refl)
+      stands_returned p s.code s.later s.base s.pre [] (ReturnConstant v) v p.name p.conditions p.facts
+          s.stands at (refl, refl)
           (s.stands.name_is ∙ ap (λ (l : List Bool). s.base ++ l) none) h.zero (λ d inp member. (member, refl)),
     )
   where
-    pending : IsPending s.code p.machine.place p.machine.taken s.pre → IsAt s.code p.machine.place (ReturnConstant v) → s.pre ≡ []
+    pending : IsPending s.code p.machine.place p.machine.taken s.pre
+        → IsAt s.code p.machine.place (ReturnConstant v) → s.pre ≡ []
     pending (inl q) at = q.1
-    pending (inr (inl q)) at = let clash : ReturnA ≡ ReturnConstant v = at_same s.code p.machine.place ReturnA (ReturnConstant v) q.0 at in absurd cc
-    pending (inr (inr q)) at = let clash : Alu Div X ≡ ReturnConstant v = at_same s.code p.machine.place (Alu Div X) (ReturnConstant v) q.0 at in absurd cc
+    pending (inr (inl q)) at = let clash : ReturnA ≡ ReturnConstant v =
+        at_same s.code p.machine.place ReturnA (ReturnConstant v) q.0 at in absurd cc
+    pending (inr (inr q)) at = let clash : Alu Div X ≡ ReturnConstant v =
+        at_same s.code p.machine.place (Alu Div X) (ReturnConstant v) q.0 at in absurd cc
 return_stands p i v h s (inr (is, full, same)) =
     let at : IsAt s.code p.machine.place ReturnA = subst (λ (j : Insn). IsAt s.code p.machine.place j) is s.at in
     let len = pending s.stands.inside.pending at full in (
@@ -208,35 +243,43 @@ return_stands p i v h s (inr (is, full, same)) =
           (λ d inp member.
           let a = value_of p.pool d p.machine.a.0 in
           let f = (s.stands.runs d inp member).taken in
-          let met : s.pre ≡ bits 32 a = f ∙ ap (λ (k : ℕ). take k (met_of (step s.code d (valued p.pool p.machine d)))) full ∙ ap (λ (q : Progress). take 32 (met_of q)) (step_is s.code d (valued p.pool p.machine d) ReturnA at) in
+          let met : s.pre ≡ bits 32 a = f ∙ ap (λ (k : ℕ). take k (met_of (step s.code d (valued p.pool p.machine d))))
+          full ∙ ap (λ (q : Progress). take 32 (met_of q))
+          (step_is s.code d (valued p.pool p.machine d) ReturnA at) in
           let word : a < 2 ^ 32 = value-small p.pool d p.machine.a.0 h.pool inp in
           let spelt : number_from 0 (bits 32 a) ≡ 0 * 2 ^ 32 + a % 2 ^ 32 = number_bits 32 0 a in
           let value : v ≡ a = same ∙ s.stands.number ∙ ap (number_from 0) met ∙ spelt ∙ omega arith in
           (member, returns_are (sym met) (sym value))),
     )
   where
-    pending : IsPending s.code p.machine.place p.machine.taken s.pre → IsAt s.code p.machine.place ReturnA → p.machine.taken ≡ 32 → length s.pre ≡ 32
+    pending : IsPending s.code p.machine.place p.machine.taken s.pre → IsAt s.code p.machine.place ReturnA
+        → p.machine.taken ≡ 32 → length s.pre ≡ 32
     pending (inl q) at full = absurd (omega (arith, q.0))
     pending (inr (inl q)) at full = q.2 ∙ full
-    pending (inr (inr q)) at full = let clash : Alu Div X ≡ ReturnA = at_same s.code p.machine.place (Alu Div X) ReturnA q.0 at in absurd cc
+    pending (inr (inr q)) at full = let clash : Alu Div X ≡ ReturnA =
+        at_same s.code p.machine.place (Alu Div X) ReturnA q.0 at in absurd cc
 
     returns_are : {l l' : List Bool} {n n' : ℕ} → l ≡ l' → n ≡ n' → returns l n ≡ returns l' n'
     returns_are e f = cc
 
-pub returned_nodes : (p : PieceData) (v : ℕ) → AreNodesBelow (length p.pool) p.machine → AreNodesBelow (length p.pool) (returned p.machine v)
+pub returned_nodes : (p : PieceData) (v : ℕ) → AreNodesBelow (length p.pool) p.machine
+    → AreNodesBelow (length p.pool) (returned p.machine v)
 returned_nodes p v b = record { a = b.zero; x = b.zero; zero = b.zero; scratch = λ k w e. absurd (unset 16 k w e) }
   where
-    unset : (n k : ℕ) (w : Rattle.sf_sym.specs.declared.pool.NodeId.NodeId) → slice_get (Rattle.std.specs.Prelude.replicate n None) k ≡ Some (Some w) → ⊥
+    unset : (n k : ℕ) (w : Rattle.sf_sym.specs.declared.pool.NodeId.NodeId)
+        → slice_get (Rattle.std.specs.Prelude.replicate n None) k ≡ Some (Some w) → ⊥
     unset zero k w e = cc
     unset (suc n) zero w e = cc
     unset (suc n) (suc k) w e = unset n k w e
 
-pub return_piece : (p : PieceData) (i : Insn) (v : ℕ) → IsPiece p → Standing p i → ReturnsNow p i v → IsPiece (gone p (returned p.machine v))
+pub return_piece : (p : PieceData) (i : Insn) (v : ℕ) → IsPiece p → Standing p i → ReturnsNow p i v
+    → IsPiece (gone p (returned p.machine v))
 return_piece p i v h s r =
     let w = return_stands p i v h s r in
     kept p (returned p.machine v) h (returned_nodes p v h.nodes) refl s.later w.0 [] w.1
 
-pub return_gone : (p : PieceData) (i : Insn) (v : ℕ) → IsPiece p → Standing p i → HasGone p (gone p (returned p.machine v))
+pub return_gone : (p : PieceData) (i : Insn) (v : ℕ) → IsPiece p → Standing p i
+    → HasGone p (gone p (returned p.machine v))
 return_gone p i v h s =
     let few : p.machine.taken ≤ 32 = s.taken in
     let more : p.machine.program < length p.stack = s.running in

@@ -12,7 +12,8 @@ use Rattle.sf_sym.specs.declared.pool.NodeId.{NodeId}
 use Rattle.sf_sym.specs.declared.pool.Cond.{Cond}
 use Rattle.sf_sym.specs.Pool.{IsPool, ArePlainNodes, value_of, is_met}
 use Rattle.sf_sym.specs.ValueLaws.{passes-met}
-use Rattle.sf_dom.specs.Facts.{FactsView, Covers, Agrees, KeepsInputs, KeepsOnly, NoInput, TakesIn}
+use Rattle.sf_dom.specs.Facts.{FactsView, Covers, Agrees, AreNarrower, DecidesTest, KeepsInputs, KeepsOnly, NoInput, TakesIn}
+use Rattle.sf_dom.specs.Rules.{IsTold}
 use Rattle.sf_dom.specs.Facts.{IsPlain as IsPlainCond}
 use Rattle.sf_piece.specs.declared.machine.Machine.{Machine}
 use Rattle.sf_piece.specs.Pieces.{PieceData, is_member}
@@ -29,18 +30,27 @@ use Rattle.sf_piece.proofs.Plain.{plain_kept, plain_grown, plain_child, sensed_p
 lawful : (p : PieceData) → IsPiece p → (IsPlain p.stack → IsPlainPiece p) → IsLawfulPiece p
 lawful p h plain = record { named = piece_named p h; run = h; plain = plain }
 
-pub lawful_gone : (p : PieceData) (i : Insn) (m : Machine) → IsLawfulPiece p → Standing p i → Goes p i m → IsLawfulPiece (gone p m)
+pub lawful_gone : (p : PieceData) (i : Insn) (m : Machine) → IsLawfulPiece p → Standing p i → Goes p i m
+    → IsLawfulPiece (gone p m)
 lawful_gone p i m h s g = lawful (gone p m) (go_piece p i m h.run s g) (λ is. plain_kept p p.name m (h.plain is))
 
-pub lawful_returned : (p : PieceData) (i : Insn) (v : ℕ) → IsLawfulPiece p → Standing p i → ReturnsNow p i v → IsLawfulPiece (gone p (returned p.machine v))
-lawful_returned p i v h s r = lawful (gone p (returned p.machine v)) (return_piece p i v h.run s r) (λ is. plain_kept p p.name (returned p.machine v) (h.plain is))
+pub lawful_returned : (p : PieceData) (i : Insn) (v : ℕ) → IsLawfulPiece p → Standing p i → ReturnsNow p i v
+    → IsLawfulPiece (gone p (returned p.machine v))
+lawful_returned p i v h s r = lawful (gone p (returned p.machine v)) (return_piece p i v h.run s r)
+    (λ is. plain_kept p p.name (returned p.machine v) (h.plain is))
 
-pub lawful_taken : (p : PieceData) (i : Insn) (cond : Cond) (b : Bool) (m : Machine) → IsLawfulPiece p → Standing p i → IsEntry p i cond → IsImplied p cond b → AfterEntry p i b m → IsLawfulPiece (taken_on p b m)
-lawful_taken p i cond b m h s e imp after = lawful (taken_on p b m) (take_piece p i cond b m h.run s e imp after) (λ is. plain_kept p (p.name ++ b ∷ []) m (h.plain is))
+pub lawful_taken : (p : PieceData) (i : Insn) (cond : Cond) (b : Bool) (m : Machine) → IsLawfulPiece p → Standing p i
+    → IsEntry p i cond → IsImplied p cond b → AfterEntry p i b m → IsLawfulPiece (taken_on p b m)
+lawful_taken p i cond b m h s e imp after =
+    lawful (taken_on p b m) (take_piece p i cond b m h.run s e imp after)
+    (λ is. plain_kept p (p.name ++ b ∷ []) m (h.plain is))
 
-pub lawful_child : (p : PieceData) (i : Insn) (cond : Cond) (b : Bool) (m : Machine) (fs : FactsView) → IsLawfulPiece p → Standing p i → IsEntry p i cond → AreChildFacts p cond b fs → AfterEntry p i b m → IsLawfulPiece (child_of p cond b m fs)
+pub lawful_child : (p : PieceData) (i : Insn) (cond : Cond) (b : Bool) (m : Machine) (fs : FactsView) → IsLawfulPiece p
+    → Standing p i → IsEntry p i cond → AreChildFacts p cond b fs → AfterEntry p i b m
+    → IsLawfulPiece (child_of p cond b m fs)
 lawful_child p i cond b m fs h s e facts after =
-    lawful (child_of p cond b m fs) (child_piece p i cond b m fs h.run s e facts after) (λ is. plain_child p cond b m fs (h.plain is) (e.plain is) facts (facts.plain is))
+    lawful (child_of p cond b m fs) (child_piece p i cond b m fs h.run s e facts after)
+    (λ is. plain_child p cond b m fs (h.plain is) (e.plain is) facts (facts.plain is))
 
 -- where two words have one number each on every member, every member has the entry as their test says
 pub implied_by_numbers : (p : PieceData) (cond : Cond) (m n : ℕ) (b : Bool) → IsPiece p
@@ -52,22 +62,36 @@ implied_by_numbers p cond m n b h left right is d inp member =
     passes-met p.pool d (sensed cond b) (rw (left d inp known, right d inp known) (sym is))
 
 -- what is learnt from the piece's facts
-pub learnt_child : (p : PieceData) (cond : Cond) (b : Bool) (o : Option FactsView) → IsPiece p → (IsPlain p.stack → IsPlainCond p.pool cond) → IfSome o (λ fs. Covers fs p.pool)
-    → MatchOption o (NoInput p.facts p.pool (λ d. is_met p.pool d (sensed cond b))) (λ fs. KeepsInputs p.facts fs p.pool (λ d. is_met p.pool d (sensed cond b)))
-    → (IsPlainCond p.pool (sensed cond b) → IfSome o (λ fs. KeepsOnly p.facts fs p.pool (λ d. is_met p.pool d (sensed cond b))))
+pub learnt_child : (p : PieceData) (cond : Cond) (b : Bool) (o : Option FactsView) → IsPiece p
+    → (IsPlain p.stack → IsPlainCond p.pool cond) → IfSome o (λ fs. Covers fs p.pool)
+    → MatchOption o (NoInput p.facts p.pool (λ d. is_met p.pool d (sensed cond b)))
+    (λ fs. KeepsInputs p.facts fs p.pool (λ d. is_met p.pool d (sensed cond b)))
+    → IfSome o (λ fs. AreNarrower p.facts fs) → IfSome o (λ fs. IsTold p.facts fs p.pool (sensed cond b))
+    → IfSome o (λ fs. DecidesTest p.facts (sensed cond b))
+    → (IsPlainCond p.pool (sensed cond b) → IfSome o
+    (λ fs. KeepsOnly p.facts fs p.pool (λ d. is_met p.pool d (sensed cond b))))
     → MatchOption o (IsNever p cond b) (λ fs. AreChildFacts p cond b fs)
-learnt_child p cond b None h plain covers sound only = λ d inp member. sound d inp (h.known d inp member)
-learnt_child p cond b (Some fs) h plain covers sound only = record {
+learnt_child p cond b None h plain covers sound narrower told decided only =
+    λ d inp member. sound d inp (h.known d inp member)
+learnt_child p cond b (Some fs) h plain covers sound narrower told decided only = record {
   covers = covers;
   known = λ d inp member. sound d inp (h.known d inp member);
+  narrower = narrower;
+  told = told;
+  decided = decided;
   plain = λ is. only (sensed_plain p.pool cond b (plain is));
 }
 
-pub right_child : (p : PieceData) (i : Insn) (cond : Cond) (b : Bool) (m : Machine) (fs : FactsView) → IsLawfulPiece p → Standing p i → IsEntry p i cond → AreChildFacts p cond b fs → AfterEntry p i b m → IsChild p cond b (child_of p cond b m fs)
-right_child p i cond b m fs h s e facts after = child_is p cond b m fs (lawful_child p i cond b m fs h s e facts after)
+pub right_child : (p : PieceData) (i : Insn) (cond : Cond) (b : Bool) (m : Machine) (fs : FactsView) → IsLawfulPiece p
+    → Standing p i → IsEntry p i cond → AreChildFacts p cond b fs → AfterEntry p i b m
+    → IsChild p cond b (child_of p cond b m fs)
+right_child p i cond b m fs h s e facts after =
+    child_is p cond b m fs facts (lawful_child p i cond b m fs h s e facts after)
 
-pub lawful_grown : (p : PieceData) (added : List Node) (fs : FactsView) → IsLawfulPiece p → IsPool (p.pool ++ added) → Covers fs (p.pool ++ added) → TakesIn p.facts fs p.pool (p.pool ++ added)
-    → (IsPlain p.stack → ArePlainNodes (p.pool ++ added)) → TakesIn fs p.facts (p.pool ++ added) p.pool → IsLawfulPiece (grown p added fs)
+pub lawful_grown : (p : PieceData) (added : List Node) (fs : FactsView) → IsLawfulPiece p → IsPool (p.pool ++ added)
+    → Covers fs (p.pool ++ added) → TakesIn p.facts fs p.pool (p.pool ++ added)
+    → (IsPlain p.stack → ArePlainNodes (p.pool ++ added)) → TakesIn fs p.facts (p.pool ++ added) p.pool
+    → IsLawfulPiece (grown p added fs)
 lawful_grown p added fs h pool covers takes nodes only =
     lawful (grown p added fs) (grown_piece p added fs h.run pool covers takes)
     (λ is. plain_grown p added fs h.run (h.plain is) (nodes is) only)
@@ -86,7 +110,9 @@ zeros_input = record { sixteen = refl; each = λ i. small 16 i }
     small (suc n) zero = omega arith
     small (suc n) (suc i) = small n i
 
-pub lawful_first : (stack : List (List Insn)) (pool : List Node) (zero_id : NodeId) (fs : FactsView) → IsLawfulStack stack → IsPool pool → zero_id.0 < length pool → ((d : Input) → value_of pool d zero_id.0 ≡ 0) → Covers fs pool → ((d : Input) → IsInput d → Agrees fs pool d)
+pub lawful_first : (stack : List (List Insn)) (pool : List Node) (zero_id : NodeId) (fs : FactsView)
+    → IsLawfulStack stack → IsPool pool → zero_id.0 < length pool → ((d : Input) → value_of pool d zero_id.0 ≡ 0)
+    → Covers fs pool → ((d : Input) → IsInput d → Agrees fs pool d)
     → ArePlainNodes pool → IsLawfulPiece (first_piece stack pool zero_id fs)
 unfolding is_member
 lawful_first stack pool zero_id fs stacked is within value covers known nodes =

@@ -26,11 +26,14 @@ made p name cs m fs = record { stack = p.stack; name = name; pool = p.pool; cond
 
 -- ---- on in the same program
 
-pub stands_moved : (p : PieceData) (code : List Insn) (later : List (List Insn)) (base pre met : List Bool) (i : Insn) (name : List Bool) (cs : List Cond) (m : Machine) (fs : FactsView)
-    → StandsAt p (code ∷ later) base pre → IsAt code p.machine.place i → MayMeet p.machine.place i met (Some m.place) → name ≡ base ++ met
+pub stands_moved : (p : PieceData) (code : List Insn) (later : List (List Insn)) (base pre met : List Bool) (i : Insn)
+    (name : List Bool) (cs : List Cond) (m : Machine) (fs : FactsView)
+    → StandsAt p (code ∷ later) base pre → IsAt code p.machine.place i → MayMeet p.machine.place i met (Some m.place)
+    → name ≡ base ++ met
     → m.program ≡ p.machine.program → m.so_far ≡ p.machine.so_far → m.taken ≡ 0 → m.value ≡ 0
     → ((d : Input) → Safe code (valued p.pool m d))
-    → ((d : Input) → IsInput d → is_member (made p name cs m fs) d ≡ true → (is_member p d ≡ true) × (executed d (valued p.pool p.machine d) i ≡ goes met (valued p.pool m d)))
+    → ((d : Input) → IsInput d → is_member (made p name cs m fs) d ≡ true → (is_member p d ≡ true)
+    × (executed d (valued p.pool p.machine d) i ≡ goes met (valued p.pool m d)))
     → StandsAt (made p name cs m fs) (code ∷ later) (base ++ met) []
 stands_moved p code later base pre met i name cs m fs s at may named program so_far taken value safe run = record {
   rest_is = ap (λ (n : ℕ). drop n (reverse p.stack)) program ∙ s.rest_is;
@@ -40,24 +43,43 @@ stands_moved p code later base pre met i name cs m fs s at may named program so_
   inside = record { safe = safe; pending = inl (taken, refl) };
   route = λ more (way, on, first, others, e).
       subst (IsWholeRoute p.stack) (sym (append_assoc base met more))
-      (s.route (met ++ more) (met ++ way, on, goes_on i met m.place way at may first refl, others, ap (λ (l : List Bool). met ++ l) e ∙ sym (append_assoc met way on)));
+      (s.route (met ++ more) (
+        met ++ way,
+        on,
+        goes_on i met m.place way at may first refl,
+        others,
+        ap (λ (l : List Bool). met ++ l) e ∙ sym (append_assoc met way on),
+      ));
   runs = λ d inp member.
       let h = run d inp member in
       let f = s.runs d inp h.0 in
       record {
         ends = λ more vs (n, o, ran, e, v).
-            let all = f.ends (met ++ more) vs (suc n, (met ++ o.0, o.1), run_more n code d (valued p.pool p.machine d) i met (valued p.pool m d) o at h.1 ran, ap (λ (l : List Bool). met ++ l) e ∙ sym (append_assoc met o.0 (flat_map (λ q. met_by q d) later)), v) in
-            (all.0 ∙ sym (append_assoc base met more), (all.1.0, all.1.1, subst (λ (a : Answer). IsAnswer all.1.0 a) (sym so_far) all.1.2));
+            let all = f.ends (met ++ more) vs (
+              suc n,
+              (met ++ o.0, o.1),
+              run_more n code d (valued p.pool p.machine d) i met (valued p.pool m d) o at h.1 ran,
+              ap (λ (l : List Bool). met ++ l) e ∙ sym (append_assoc met o.0 (flat_map (λ q. met_by q d) later)),
+              v,
+            ) in (
+              all.0 ∙ sym (append_assoc base met more),
+              (all.1.0, all.1.1, subst (λ (a : Answer). IsAnswer all.1.0 a) (sym so_far) all.1.2),
+            );
         taken = ap (λ (k : ℕ). take k (met_of (step code d (valued p.pool m d)))) (sym taken);
       };
 }
 
 -- ---- more truth values of the instruction at hand
 
-pub stands_kept : (p : PieceData) (code : List Insn) (later : List (List Insn)) (base pre : List Bool) (b : Bool) (name : List Bool) (cs : List Cond) (fs : FactsView) (taken value : ℕ)
-    → StandsAt p (code ∷ later) base pre → name ≡ p.name ++ b ∷ [] → value ≡ number_from 0 (pre ++ b ∷ []) → IsPending code p.machine.place taken (pre ++ b ∷ [])
-    → ((d : Input) → IsInput d → is_member (made p name cs (record p.machine { taken = taken; value = value }) fs) d ≡ true → (is_member p d ≡ true) × (pre ++ b ∷ [] ≡ take taken (met_of (step code d (valued p.pool p.machine d)))))
-    → StandsAt (made p name cs (record p.machine { taken = taken; value = value }) fs) (code ∷ later) base (pre ++ b ∷ [])
+pub stands_kept : (p : PieceData) (code : List Insn) (later : List (List Insn)) (base pre : List Bool) (b : Bool)
+    (name : List Bool) (cs : List Cond) (fs : FactsView) (taken value : ℕ)
+    → StandsAt p (code ∷ later) base pre → name ≡ p.name ++ b ∷ [] → value ≡ number_from 0 (pre ++ b ∷ [])
+    → IsPending code p.machine.place taken (pre ++ b ∷ [])
+    → ((d : Input) → IsInput d → is_member (made p name cs (record p.machine { taken = taken; value = value }) fs) d
+    ≡ true → (is_member p d ≡ true) × (pre ++ b ∷ [] ≡ take taken
+    (met_of (step code d (valued p.pool p.machine d)))))
+    → StandsAt (made p name cs (record p.machine { taken = taken; value = value }) fs)
+    (code ∷ later) base (pre ++ b ∷ [])
 stands_kept p code later base pre b name cs fs taken value s named number pending run = record {
   rest_is = s.rest_is;
   laws = s.laws;
@@ -73,7 +95,8 @@ stands_kept p code later base pre b name cs fs taken value s named number pendin
 
 -- ---- on to the next program
 
-pub outcome_same : (code : List Insn) (d : Input) (n : ℕ) (o : List Bool × ℕ) → IsLawful code → run_for n code d start ≡ Some o → (o.0 ≡ met_by code d) × (o.1 ≡ return_of code d)
+pub outcome_same : (code : List Insn) (d : Input) (n : ℕ) (o : List Bool × ℕ) → IsLawful code
+    → run_for n code d start ≡ Some o → (o.0 ≡ met_by code d) × (o.1 ≡ return_of code d)
 unfolding outcome_of
 outcome_same code d n o lawful e = by (outcome_of code d) refl (lawful_ends code d lawful)
   where
@@ -84,26 +107,35 @@ outcome_same code d n o lawful e = by (outcome_of code d) refl (lawful_ends code
         (rw is (ap (λ (q : List Bool × ℕ). q.0) alike), rw is (ap (λ (q : List Bool × ℕ). q.1) alike))
 
 -- what programs that start meet and return
-pub runs_whole : (later : List (List Insn)) (d : Input) (s : State) (more : List Bool) (vs : List ℕ) → s ≡ start → AllByRecursion IsLawful later → RunsOn later d s more vs → (more ≡ flat_map (λ q. met_by q d) later) × (vs ≡ map (λ q. return_of q d) later)
+pub runs_whole : (later : List (List Insn)) (d : Input) (s : State) (more : List Bool) (vs : List ℕ) → s ≡ start
+    → AllByRecursion IsLawful later → RunsOn later d s more vs → (more ≡ flat_map (λ q. met_by q d) later)
+    × (vs ≡ map (λ q. return_of q d) later)
 runs_whole [] d s more vs at laws (e, v) = (e, v)
 runs_whole (code ∷ later) d s more vs at laws (n, o, ran, e, v) =
-    let alike = outcome_same code d n o laws.0 (subst (λ (t : State). run_for n code d t ≡ Some o) at ran) in
-    (e ∙ ap (λ (l : List Bool). l ++ flat_map (λ q. met_by q d) later) alike.0, v ∙ ap (λ (n : ℕ). n ∷ map (λ q. return_of q d) later) alike.1)
+    let alike = outcome_same code d n o laws.0 (subst (λ (t : State). run_for n code d t ≡ Some o) at ran) in (
+      e ∙ ap (λ (l : List Bool). l ++ flat_map (λ q. met_by q d) later) alike.0,
+      v ∙ ap (λ (n : ℕ). n ∷ map (λ q. return_of q d) later) alike.1,
+    )
 
 route_whole : (later : List (List Insn)) (more : List Bool) → RouteFrom later 0 more → AreWays later more
 route_whole [] more r = r
 route_whole (code ∷ later) more r = r
 
-drop_tail : (n : ℕ) (xs : List (List Insn)) (x : List Insn) (ys : List (List Insn)) → drop n xs ≡ x ∷ ys → drop (n + 1) xs ≡ ys
+drop_tail : (n : ℕ) (xs : List (List Insn)) (x : List Insn) (ys : List (List Insn)) → drop n xs ≡ x ∷ ys
+    → drop (n + 1) xs ≡ ys
 drop_tail zero [] x ys e = absurd cc
 drop_tail zero (z ∷ xs) x ys e = let f : z ∷ xs ≡ x ∷ ys = e in let g : xs ≡ ys = cc in g
 drop_tail (suc n) [] x ys e = absurd cc
-drop_tail (suc n) (z ∷ xs) x ys e = let k : suc n + 1 ≡ suc (n + 1) = omega arith in ap (λ (j : ℕ). drop j (z ∷ xs)) k ∙ drop_tail n xs x ys e
+drop_tail (suc n) (z ∷ xs) x ys e = let k : suc n + 1 ≡ suc (n + 1) = omega arith in
+    ap (λ (j : ℕ). drop j (z ∷ xs)) k ∙ drop_tail n xs x ys e
 
-pub stands_returned : (p : PieceData) (code : List Insn) (later : List (List Insn)) (base pre met : List Bool) (i : Insn) (v : ℕ) (name : List Bool) (cs : List Cond) (fs : FactsView)
-    → StandsAt p (code ∷ later) base pre → IsAt code p.machine.place i → MayMeet p.machine.place i met None → name ≡ base ++ met
+pub stands_returned : (p : PieceData) (code : List Insn) (later : List (List Insn)) (base pre met : List Bool)
+    (i : Insn) (v : ℕ) (name : List Bool) (cs : List Cond) (fs : FactsView)
+    → StandsAt p (code ∷ later) base pre → IsAt code p.machine.place i → MayMeet p.machine.place i met None
+    → name ≡ base ++ met
     → ((d : Input) → value_of p.pool d p.machine.zero.0 ≡ 0)
-    → ((d : Input) → IsInput d → is_member (made p name cs (returned p.machine v) fs) d ≡ true → (is_member p d ≡ true) × (executed d (valued p.pool p.machine d) i ≡ returns met v))
+    → ((d : Input) → IsInput d → is_member (made p name cs (returned p.machine v) fs) d ≡ true → (is_member p d ≡ true)
+    × (executed d (valued p.pool p.machine d) i ≡ returns met v))
     → StandsAt (made p name cs (returned p.machine v) fs) later (base ++ met) []
 stands_returned p code later base pre met i v name cs fs s at may named zeros run = record {
   rest_is = drop_tail p.machine.program (reverse p.stack) code later s.rest_is;
@@ -120,8 +152,20 @@ stands_returned p code later base pre met i v name cs fs s at may named zeros ru
       record {
         ends = λ more vs r.
             let whole = runs_whole later d (valued p.pool (returned p.machine v) d) more vs (at_start d) s.laws.1 r in
-            let all = f.ends (met ++ more) (v ∷ vs) (1, (met, v), run_ends code d (valued p.pool p.machine d) i met v at h.1, ap (λ (l : List Bool). met ++ l) whole.0, ap (λ (l : List ℕ). v ∷ l) whole.1) in
-            (all.0 ∙ sym (append_assoc base met more), (all.1.0 ++ v ∷ [], all.1.1 ∙ sym (append_assoc all.1.0 (v ∷ []) vs), answer_more all.1.0 p.machine.so_far v all.1.2));
+            let all = f.ends (met ++ more) (v ∷ vs) (
+              1,
+              (met, v),
+              run_ends code d (valued p.pool p.machine d) i met v at h.1,
+              ap (λ (l : List Bool). met ++ l) whole.0,
+              ap (λ (l : List ℕ). v ∷ l) whole.1,
+            ) in (
+              all.0 ∙ sym (append_assoc base met more),
+              (
+                all.1.0 ++ v ∷ [],
+                all.1.1 ∙ sym (append_assoc all.1.0 (v ∷ []) vs),
+                answer_more all.1.0 p.machine.so_far v all.1.2,
+              ),
+            );
         taken = none_taken later d;
       };
 }
@@ -131,7 +175,10 @@ stands_returned p code later base pre met i v name cs fs s at may named zeros ru
 
     by : (rest : List (List Insn)) → AllByRecursion IsLawful rest → InProgram rest p.pool (returned p.machine v) []
     by [] laws = refl
-    by (c ∷ rest) laws = record { safe = λ d. subst (Safe c) (sym (at_start d)) (safe_start c laws.0.some); pending = inl (refl, refl) }
+    by (c ∷ rest) laws = record {
+      safe = λ d. subst (Safe c) (sym (at_start d)) (safe_start c laws.0.some);
+      pending = inl (refl, refl);
+    }
 
     none_taken : (rest : List (List Insn)) (d : Input) → HasTaken rest d (valued p.pool (returned p.machine v) d) 0 []
     none_taken [] d = tt

@@ -46,17 +46,22 @@ all_at P [] k x h at = absurd cc
 all_at P (y ∷ xs) zero x h at = subst P (same_Some y x at) (All-head P y xs h)
 all_at P (y ∷ xs) (suc k) x h at = all_at P xs k x (All-tail P y xs h) at
 
-plain_code : (stack : List (List Insn)) (n : ℕ) (code : List Insn) (later : List (List Insn)) → IsPlain stack → drop n (reverse stack) ≡ code ∷ later → All IsPlainInsn code
+plain_code : (stack : List (List Insn)) (n : ℕ) (code : List Insn) (later : List (List Insn)) → IsPlain stack
+    → drop n (reverse stack) ≡ code ∷ later → All IsPlainInsn code
 plain_code stack n code later plain e =
-    All-head (λ p. All IsPlainInsn p) code later (subst (λ (l : List (List Insn)). All (λ p. All IsPlainInsn p) l) e (All-drop (λ p. All IsPlainInsn p) n (reverse stack) (all_reverse (λ p. All IsPlainInsn p) stack plain)))
+    All-head (λ p. All IsPlainInsn p) code later
+    (subst (λ (l : List (List Insn)). All (λ p. All IsPlainInsn p) l) e
+    (All-drop (λ p. All IsPlainInsn p) n (reverse stack) (all_reverse (λ p. All IsPlainInsn p) stack plain)))
 
 -- the instruction at hand of a plain stack is plain
 pub plain_insn : (p : PieceData) (i : Insn) → IsPlain p.stack → Standing p i → IsPlainInsn i
-plain_insn p i plain s = all_at IsPlainInsn s.code p.machine.place i (plain_code p.stack p.machine.program s.code s.later plain s.stands.rest_is) s.at
+plain_insn p i plain s = all_at IsPlainInsn s.code p.machine.place i
+    (plain_code p.stack p.machine.program s.code s.later plain s.stands.rest_is) s.at
 
 -- ---- nodes of a plain pool
 
-pub word_or_const : (ns : List Node) (i : ℕ) → IsPool ns → ArePlainNodes ns → i < length ns → IsWordOrConst (node_at ns i)
+pub word_or_const : (ns : List Node) (i : ℕ) → IsPool ns → ArePlainNodes ns → i < length ns
+    → IsWordOrConst (node_at ns i)
 word_or_const ns i pool plain less =
     elim (cases_lt i 16) [
       | inl word ↦ subst IsWordOrConst (sym (pool.word i word)) tt
@@ -64,14 +69,18 @@ word_or_const ns i pool plain less =
     ]
 
 -- a pool stays plain where a word or a constant is pushed
-pub pushed_plain : (old new : List Node) (node : Node) → IsPool old → OperandsBelow (length old) node → IsWordOrConst node → ArePlainNodes old
-    → ((c : ℕ) → node ≡ Const c → ArePlainNodes old → ArePlainNodes new) → ((i : ℕ) → i < length old → node_at old i ≡ folded old node → new ≡ old) → ArePlainNodes new
+pub pushed_plain : (old new : List Node) (node : Node) → IsPool old → OperandsBelow (length old) node
+    → IsWordOrConst node → ArePlainNodes old
+    → ((c : ℕ) → node ≡ Const c → ArePlainNodes old → ArePlainNodes new)
+    → ((i : ℕ) → i < length old → node_at old i ≡ folded old node → new ≡ old) → ArePlainNodes new
 pushed_plain old new (Const c) pool below is plain constant again = constant c refl plain
-pushed_plain old new (Word i) pool below is plain constant again = subst ArePlainNodes (sym (again i (omega (arith, pool.words)) (pool.word i below))) plain
+pushed_plain old new (Word i) pool below is plain constant again =
+    subst ArePlainNodes (sym (again i (omega (arith, pool.words)) (pool.word i below))) plain
 pushed_plain old new (Bin op a b) pool below is plain constant again = absurd is
 pushed_plain old new (Neg a) pool below is plain constant again = absurd is
 
-cond_grown : (ns added : List Node) (c : Cond) → IsCondBelow (length ns) c → IsPlainCond ns c → IsPlainCond (ns ++ added) c
+cond_grown : (ns added : List Node) (c : Cond) → IsCondBelow (length ns) c → IsPlainCond ns c
+    → IsPlainCond (ns ++ added) c
 cond_grown ns added c below h = record {
   node = subst IsWordOrConst (sym (get_or_append_left ns added (Const 0) c.node.0 below.0)) h.node;
   number = h.number;
@@ -79,21 +88,26 @@ cond_grown ns added c below h = record {
   test = h.test;
 }
 
-conds_grown : (ns added : List Node) (cs : List Cond) → AllByRecursion (IsCondBelow (length ns)) cs → All (IsPlainCond ns) cs → All (IsPlainCond (ns ++ added)) cs
-conds_grown ns added cs below h = All-from_recursion (IsPlainCond (ns ++ added)) cs (by cs below (recursion_from_All (IsPlainCond ns) cs h))
+conds_grown : (ns added : List Node) (cs : List Cond) → AllByRecursion (IsCondBelow (length ns)) cs
+    → All (IsPlainCond ns) cs → All (IsPlainCond (ns ++ added)) cs
+conds_grown ns added cs below h = All-from_recursion (IsPlainCond (ns ++ added)) cs
+    (by cs below (recursion_from_All (IsPlainCond ns) cs h))
   where
-    by : (cs : List Cond) → AllByRecursion (IsCondBelow (length ns)) cs → AllByRecursion (IsPlainCond ns) cs → AllByRecursion (IsPlainCond (ns ++ added)) cs
+    by : (cs : List Cond) → AllByRecursion (IsCondBelow (length ns)) cs → AllByRecursion (IsPlainCond ns) cs
+        → AllByRecursion (IsPlainCond (ns ++ added)) cs
     by [] below h = tt
     by (c ∷ cs) below h = (cond_grown ns added c below.0 h.0, by cs below.1 h.1)
 
 -- ---- what becomes of a plain piece
 
 -- the piece's name and machine may change
-pub plain_kept : (p : PieceData) (name : List Bool) (m : Machine) → IsPlainPiece p → IsPlainPiece (made p name p.conditions m p.facts)
+pub plain_kept : (p : PieceData) (name : List Bool) (m : Machine) → IsPlainPiece p
+    → IsPlainPiece (made p name p.conditions m p.facts)
 unfolding is_member
 plain_kept p name m h = record { nodes = h.nodes; conditions = h.conditions; exact = h.exact; some = h.some }
 
-pub plain_grown : (p : PieceData) (added : List Node) (fs : FactsView) → IsPiece p → IsPlainPiece p → ArePlainNodes (p.pool ++ added) → TakesIn fs p.facts (p.pool ++ added) p.pool → IsPlainPiece (grown p added fs)
+pub plain_grown : (p : PieceData) (added : List Node) (fs : FactsView) → IsPiece p → IsPlainPiece p
+    → ArePlainNodes (p.pool ++ added) → TakesIn fs p.facts (p.pool ++ added) p.pool → IsPlainPiece (grown p added fs)
 plain_grown p added fs k h nodes only = record {
   nodes = nodes;
   conditions = conds_grown p.pool added p.conditions k.bounded h.conditions;
@@ -108,16 +122,20 @@ and_is : (a b : Bool) → a ≡ true → b ≡ true → (a && b) ≡ true
 and_is a b e f = rw (e, f) refl
 
 -- the members that have the entry so, where the facts learnt are exact and some input agrees
-pub plain_child : (p : PieceData) (cond : Cond) (b : Bool) (m : Machine) (fs : FactsView) → IsPlainPiece p → IsPlainCond p.pool cond → AreChildFacts p cond b fs → KeepsOnly p.facts fs p.pool (λ d. is_met p.pool d (sensed cond b)) → IsPlainPiece (child_of p cond b m fs)
+pub plain_child : (p : PieceData) (cond : Cond) (b : Bool) (m : Machine) (fs : FactsView) → IsPlainPiece p
+    → IsPlainCond p.pool cond → AreChildFacts p cond b fs
+    → KeepsOnly p.facts fs p.pool (λ d. is_met p.pool d (sensed cond b)) → IsPlainPiece (child_of p cond b m fs)
 plain_child p cond b m fs h plain f only =
     let some = some-input fs p.pool f.covers h.nodes in
     let member : (d : Input) → IsInput d → Agrees fs p.pool d → is_member (child_of p cond b m fs) d ≡ true
     = λ d inp agrees.
     let both = only d inp agrees in
-    child_members p cond b m fs d ∙ and_is (is_member p d) (is_met p.pool d (sensed cond b)) (h.exact d inp both.0) both.1 in
+    child_members p cond b m fs d ∙ and_is (is_member p d) (is_met p.pool d (sensed cond b))
+    (h.exact d inp both.0) both.1 in
     record {
       nodes = h.nodes;
-      conditions = All-push (IsPlainCond p.pool) p.conditions (sensed cond b) h.conditions (sensed_plain p.pool cond b plain);
+      conditions = All-push (IsPlainCond p.pool) p.conditions (sensed cond b) h.conditions
+          (sensed_plain p.pool cond b plain);
       exact = member;
       some = (some.0, some.1, member some.0 some.1 some.2);
     }
@@ -127,7 +145,8 @@ pub plain_some : (p : PieceData) → IsPlainPiece p → HasNoMember p → ⊥
 plain_some p h none = let clash : true ≡ false = sym h.some.2 ∙ none.none h.some.0 h.some.1 in absurd cc
 
 -- a region of a plain stack has a member, whose trace is the region's name
-pub plain_settled : (p : PieceData) (whole : List Bool) (a : Answer) → IsPlainPiece p → IsRightAnswer p whole a → (d : Input) × IsInput d × (is_member p d ≡ true) × (trace_of p.stack d ≡ whole)
+pub plain_settled : (p : PieceData) (whole : List Bool) (a : Answer) → IsPlainPiece p → IsRightAnswer p whole a
+    → (d : Input) × IsInput d × (is_member p d ≡ true) × (trace_of p.stack d ≡ whole)
 plain_settled p whole a h r = (h.some.0, h.some.1, h.some.2, r.trace h.some.0 h.some.1 h.some.2)
 
 -- ---- the condition of a plain test
@@ -138,7 +157,9 @@ plain_test Greater k t f h = tt
 plain_test GreaterOrEqual k t f h = tt
 plain_test AnyBit k t f h = h
 
-pub plain_asked : (q : PieceData) (test : Test) (o : Operand) (t f : ℕ) (id : NodeId) → IsPiece q → IsPlainPiece q → IsPlainInsn (Branch test o t f) → ((k : ℕ) → o ≡ Constant k → node_at q.pool id.0 ≡ Const k) → IsPlainCond q.pool (record { node = q.machine.a; test = test; other = id; sense = true })
+pub plain_asked : (q : PieceData) (test : Test) (o : Operand) (t f : ℕ) (id : NodeId) → IsPiece q → IsPlainPiece q
+    → IsPlainInsn (Branch test o t f) → ((k : ℕ) → o ≡ Constant k → node_at q.pool id.0 ≡ Const k)
+    → IsPlainCond q.pool (record { node = q.machine.a; test = test; other = id; sense = true })
 plain_asked q test (Constant k) t f id h plain insn constant = record {
   node = word_or_const q.pool q.machine.a.0 h.pool plain.nodes h.nodes.a;
   number = k;

@@ -1,6 +1,6 @@
 -- What pieces and works of plain stacks keep besides. On a plain stack only words of the input are tested, against
--- constants, by tests that intervals, known bits and excluded numbers keep exactly. So nothing is lost: each piece has a
--- member, and no step is empty.
+-- constants, by tests that intervals, known bits and excluded numbers keep exactly. So nothing is lost: each piece has
+-- a member, and no step is empty.
 use Rattle.std.specs.Prelude.{◌≡◌, Bool, true, List, All}
 use Rattle.sf_insn.specs.declared.input.Input.{Input}
 use Rattle.sf_insn.specs.Inputs.{IsInput}
@@ -11,8 +11,8 @@ use Rattle.sf_dom.specs.Facts.{Agrees}
 use Rattle.sf_dom.specs.Facts.{IsPlain as IsPlainCond}
 use Rattle.sf_piece.specs.Pieces.{PieceData, StepData, Split, Settled, Empty, WorkData, is_member, IsRightWork}
 
--- The pool has words of the input and constants alone; each path condition sets one of these against a constant by a plain
--- test; the facts are exact (an input that agrees with them is a member); and some input is a member.
+-- The pool has words of the input and constants alone; each path condition sets one of these against a constant by a
+-- plain test; the facts are exact (an input that agrees with them is a member); and some input is a member.
 pub record IsPlainPiece (p : PieceData) : Type 0 where
   pub nodes : ArePlainNodes p.pool
   pub conditions : All (IsPlainCond p.pool) p.conditions

@@ -1,7 +1,7 @@
 -- The symbolic run behind a piece: the invariant that the type of pieces keeps. What a reader must believe stands in
--- Pieces; this is what proves it. A machine's symbolic state means a concrete one on each input (`valued`), and for every
--- member the concrete run of the stack, along the piece's name, comes to just that state: whatever the rest of the run
--- meets and returns from there, the trace is the name so far and then that (`Follows`, `StandsAt`).
+-- Pieces; this is what proves it. A machine's symbolic state means a concrete one on each input (`valued`), and for
+-- every member the concrete run of the stack, along the piece's name, comes to just that state: whatever the rest of
+-- the run meets and returns from there, the trace is the name so far and then that (`Follows`, `StandsAt`).
 use Rattle.std.specs.Prelude.{◌≡◌, ℕ, ◌+◌, ◌*◌, ◌<◌, ◌≤◌, ◌⊎◌, Bool, true, false, List, [], ◌∷◌, ◌++◌, length, take, drop, reverse, map, Some, option_map, slice_get, if◌then◌else◌}
 use Rattle.std.specs.List.{flat_map, AllByRecursion}
 use Rattle.sf_insn.specs.declared.input.Input.{Input}
@@ -55,13 +55,15 @@ number_from n (b ∷ bs) = number_from (2 * n + (if b then 1 else 0)) bs
 -- is not 0.
 abbrev pub IsPending : List Insn → ℕ → ℕ → List Bool → Type 0
 IsPending code place taken pre =
-    ((taken ≡ 0) × (pre ≡ [])) ⊎ ((IsAt code place ReturnA × (taken ≤ 32) × (length pre ≡ taken)) ⊎ (IsAt code place (Alu Div X) × (taken ≡ 1) × (pre ≡ false ∷ [])))
+    ((taken ≡ 0) × (pre ≡ [])) ⊎ ((IsAt code place ReturnA × (taken ≤ 32) × (length pre ≡ taken))
+    ⊎ (IsAt code place (Alu Div X) × (taken ≡ 1) × (pre ≡ false ∷ [])))
 
 -- the machine stands in this program
 pub record IsIn (code : List Insn) (pool : List Node) (m : Machine) (pre : List Bool) : Type 0 where
   pub safe : (d : Input) → Safe code (valued pool m d)
   pub pending : IsPending code m.place m.taken pre
 
+-- the machine stands in the first of the programs that are left; where none is, no truth value is pending
 abbrev pub InProgram : List (List Insn) → List Node → Machine → List Bool → Type 0
 InProgram [] pool m pre = pre ≡ []
 InProgram (code ∷ later) pool m pre = IsIn code pool m pre
@@ -69,13 +71,15 @@ InProgram (code ∷ later) pool m pre = IsIn code pool m pre
 -- what control alone may still meet
 abbrev pub RouteFrom : List (List Insn) → ℕ → List Bool → Type 0
 RouteFrom [] place more = more ≡ []
-RouteFrom (code ∷ later) place more = (met : List Bool) × (on : List Bool) × IsWay code place met × AreWays later on × (more ≡ met ++ on)
+RouteFrom (code ∷ later) place more = (met : List Bool) × (on : List Bool) × IsWay code place met × AreWays later on
+    × (more ≡ met ++ on)
 
 -- what the run of the programs that are left meets and returns
 abbrev pub RunsOn : List (List Insn) → Input → State → List Bool → List ℕ → Type 0
 RunsOn [] d s more vs = (more ≡ []) × (vs ≡ [])
 RunsOn (code ∷ later) d s more vs =
-    (n : ℕ) × (o : List Bool × ℕ) × (run_for n code d s ≡ Some o) × (more ≡ o.0 ++ flat_map (λ p. met_by p d) later) × (vs ≡ o.1 ∷ map (λ p. return_of p d) later)
+    (n : ℕ) × (o : List Bool × ℕ) × (run_for n code d s ≡ Some o) × (more ≡ o.0 ++ flat_map (λ p. met_by p d) later)
+    × (vs ≡ o.1 ∷ map (λ p. return_of p d) later)
 
 -- the truth values taken are those that the step at hand meets first
 abbrev pub HasTaken : List (List Insn) → Input → State → ℕ → List Bool → Type 0
@@ -84,7 +88,9 @@ HasTaken (code ∷ later) d s taken pre = pre ≡ take taken (met_of (step code 
 
 -- the run of a member has come to the machine's state
 pub record Follows (p : PieceData) (rest : List (List Insn)) (base pre : List Bool) (d : Input) : Type 0 where
-  pub ends : (more : List Bool) (vs : List ℕ) → RunsOn rest d (valued p.pool p.machine d) more vs → (trace_of p.stack d ≡ base ++ more) × ((earlier : List ℕ) × (returns_of p.stack d ≡ earlier ++ vs) × IsAnswer earlier p.machine.so_far)
+  pub ends : (more : List Bool) (vs : List ℕ) → RunsOn rest d (valued p.pool p.machine d) more vs
+      → (trace_of p.stack d ≡ base ++ more) × ((earlier : List ℕ) × (returns_of p.stack d ≡ earlier ++ vs)
+      × IsAnswer earlier p.machine.so_far)
   pub taken : HasTaken rest d (valued p.pool p.machine d) p.machine.taken pre
 
 -- where a piece's run stands, among the programs that have not returned, newest first

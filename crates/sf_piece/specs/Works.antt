@@ -1,5 +1,5 @@
--- The parts of a step of the symbolic run: what the functions that work a piece tell each other. Nothing above this crate
--- speaks of these.
+-- The parts of a step of the symbolic run: what the functions that work a piece tell each other. Nothing above this
+-- crate speaks of these.
 use Rattle.std.specs.Prelude.{◌≡◌, ℕ, ◌+◌, ◌-◌, ◌*◌, ◌&&◌, not, ◌<◌, ◌≤◌, ◌^◌, ◌⊎◌, Bool, true, false, List, [], ◌∷◌, ◌++◌, length, Option, Some, None, slice_get, if◌then◌else◌, ◌==◌}
 use Rattle.sf_insn.specs.declared.input.Input.{Input}
 use Rattle.sf_insn.specs.Inputs.{IsInput}
@@ -20,7 +20,8 @@ use Rattle.sf_sym.specs.declared.pool.Node.TheVariants.{Const, Bin}
 use Rattle.sf_sym.specs.Pool.{node_at, number_of, value_of, values_of, node_value, is_met, IsCondBelow}
 use Rattle.sf_sym.specs.declared.pool.Cond.{Cond}
 use Rattle.sf_insn.specs.Words.{apply, passes}
-use Rattle.sf_dom.specs.Facts.{FactsView, Covers, Agrees, KeepsOnly, known_at}
+use Rattle.sf_dom.specs.Facts.{FactsView, Covers, Agrees, AreNarrower, DecidesTest, KeepsOnly, known_at}
+use Rattle.sf_dom.specs.Rules.{IsTold}
 use Rattle.sf_dom.specs.Facts.{IsPlain as IsPlainCond}
 use Rattle.sf_piece.specs.declared.machine.Machine.{Machine}
 use Rattle.sf_piece.specs.Machines.{returned}
@@ -57,6 +58,7 @@ pub record IsOn (p q : PieceData) : Type 0 where
   pub name : q.name ≡ p.name ++ on
   pub members : (d : Input) → IsInput d → is_member q d ≡ is_member p d
 
+-- the piece has gone on, and less is left to be done
 pub record HasGone (p q : PieceData) : Type 0 where
   pub is_on : IsOn p q
   pub falls : left q < left p
@@ -89,7 +91,11 @@ pub record IsOperand (p : PieceData) (other : Operand) (q : PieceData) (id : Nod
 abbrev pub GoesBy : PieceData → Insn → Machine → Type 0
 GoesBy p i m =
     ((d : Input) → executed d (valued p.pool p.machine d) i ≡ goes [] (valued p.pool m d))
-    ⊎ ((i ≡ Alu Div X) × (p.machine.taken ≡ 1) × ((d : Input) → valued p.pool m d ≡ record (valued p.pool p.machine d) { place = p.machine.place + 1; a = apply Div (value_of p.pool d p.machine.a.0) (value_of p.pool d p.machine.x.0) }))
+    ⊎ ((i ≡ Alu Div X) × (p.machine.taken ≡ 1)
+    × ((d : Input) → valued p.pool m d ≡ record (valued p.pool p.machine d) {
+      place = p.machine.place + 1;
+      a = apply Div (value_of p.pool d p.machine.a.0) (value_of p.pool d p.machine.x.0);
+    }))
 
 -- The instruction goes to this state on each member, whatever else it meets is in the name already.
 pub record Goes (p : PieceData) (i : Insn) (m : Machine) : Type 0 where
@@ -104,9 +110,13 @@ pub record Goes (p : PieceData) (i : Insn) (m : Machine) : Type 0 where
 -- the instruction puts the value of a node in A
 abbrev pub SetsA : PieceData → Insn → Node → Type 0
 SetsA p i node =
-    ((d : Input) → executed d (valued p.pool p.machine d) i ≡ with_a (valued p.pool p.machine d) (node_value d (values_of p.pool d) node))
-    ⊎ ((i ≡ Alu Div X) × (p.machine.taken ≡ 1) × ((d : Input) → node_value d (values_of p.pool d) node ≡ apply Div (value_of p.pool d p.machine.a.0) (value_of p.pool d p.machine.x.0)))
+    ((d : Input) → executed d (valued p.pool p.machine d) i ≡ with_a (valued p.pool p.machine d)
+    (node_value d (values_of p.pool d) node))
+    ⊎ ((i ≡ Alu Div X) × (p.machine.taken ≡ 1)
+    × ((d : Input) → node_value d (values_of p.pool d) node ≡ apply Div (value_of p.pool d p.machine.a.0)
+    (value_of p.pool d p.machine.x.0)))
 
+-- the instruction puts this number in X
 abbrev pub SetsX : PieceData → Insn → ℕ → Type 0
 SetsX p i k = (d : Input) → executed d (valued p.pool p.machine d) i ≡ with_x (valued p.pool p.machine d) k
 
@@ -147,11 +157,15 @@ pub record IsEntry (p : PieceData) (i : Insn) (cond : Cond) : Type 0 where
 -- where the machine stands after it
 abbrev pub AfterEntry : PieceData → Insn → Bool → Machine → Type 0
 AfterEntry p (Branch test other t f) b m = m ≡ record p.machine { place = p.machine.place + 1 + (if b then t else f) }
-AfterEntry p ReturnA b m = m ≡ record p.machine { taken = p.machine.taken + 1; value = 2 * p.machine.value + (if b then 1 else 0) }
+AfterEntry p ReturnA b m = m ≡ record p.machine {
+  taken = p.machine.taken + 1;
+  value = 2 * p.machine.value + (if b then 1 else 0);
+}
 AfterEntry p (Alu Div X) true m = m ≡ returned p.machine 0
 AfterEntry p (Alu Div X) false m = m ≡ record p.machine { taken = 1 }
 AfterEntry p _ b m = ⊥
 
+-- the condition that the same test has this result
 abbrev pub sensed : Cond → Bool → Cond
 sensed cond b = record cond { sense = b }
 
@@ -177,7 +191,8 @@ is_one_constant (Some x) None = true
 is_one_constant None (Some y) = true
 is_one_constant _ _ = false
 
--- known bits go back from a node to an operand: it is an AND, an OR or an XOR, and its other operand alone is a constant
+-- known bits go back from a node to an operand: it is an AND, an OR or an XOR, and its other operand alone is a
+-- constant
 abbrev pub is_walked_back : List Node → Node → Bool
 is_walked_back ns (Bin And a b) = is_one_constant (number_of (node_at ns a.0)) (number_of (node_at ns b.0))
 is_walked_back ns (Bin Or a b) = is_one_constant (number_of (node_at ns a.0)) (number_of (node_at ns b.0))
@@ -201,19 +216,24 @@ passed_by test (Some m) (Some n) = Some (passes test m n)
 abbrev pub told_by_numbers : PieceData → Cond → Option Bool
 told_by_numbers p cond = passed_by cond.test (settled_number_of p cond.node) (settled_number_of p cond.other)
 
--- Facts of the members that have the entry so. On a plain stack these are exact: what agrees with them agreed before, and
--- has the entry so.
+-- Facts of the members that have the entry so: nothing known is lost, and what the entry tells is known. On a plain
+-- stack these are exact: what agrees with them agreed before, and has the entry so.
 pub record AreChildFacts (p : PieceData) (cond : Cond) (b : Bool) (facts : FactsView) : Type 0 where
   pub covers : Covers facts p.pool
-  pub known : (d : Input) → IsInput d → is_member p d ≡ true → is_met p.pool d (sensed cond b) ≡ true → Agrees facts p.pool d
+  pub known : (d : Input) → IsInput d → is_member p d ≡ true → is_met p.pool d (sensed cond b) ≡ true
+      → Agrees facts p.pool d
+  pub narrower : AreNarrower p.facts facts
+  pub told : IsTold p.facts facts p.pool (sensed cond b)
+  pub decided : DecidesTest p.facts (sensed cond b)
   pub plain : IsPlain p.stack → KeepsOnly p.facts facts p.pool (λ d. is_met p.pool d (sensed cond b))
 
--- the members that have the entry so
+-- the members that have the entry so, with facts of just these
 pub record IsChild (p : PieceData) (cond : Cond) (b : Bool) (c : PieceData) : Type 0 where
   pub of : c.stack ≡ p.stack
   pub name : c.name ≡ p.name ++ b ∷ []
   pub named : IsTrulyNamed c
   pub members : (d : Input) → IsInput d → is_member c d ≡ (is_member p d && is_met p.pool d (sensed cond b))
+  pub facts : AreChildFacts p cond b c.facts
   pub plain : IsPlain p.stack → IsPlainPiece c
 
 -- whether an operation asks first whether X is 0

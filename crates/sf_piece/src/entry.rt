@@ -115,7 +115,8 @@ fn learnt(alloc: Global, run: &Run, cond: Cond, sense: bool) -> Result<Option<Fa
     requires lawful { IsLawfulPiece run.now }
     requires below { IsCondBelow (length run.now.pool) cond }
     requires plain { IsPlain run.now.stack → IsPlainCond run.now.pool cond }
-    ensures { IfOk result (λ o. MatchOption o (IsNever run.now cond sense) (λ fs. AreChildFacts run.now cond sense fs)) }
+    ensures { IfOk result (λ o. MatchOption o (IsNever run.now cond sense)
+        (λ fs. AreChildFacts run.now cond sense fs)) }
 {
     let learnt = run.facts.learnt(alloc, &run.pool, &Cond { sense, ..cond })?;
     Ok(learnt)

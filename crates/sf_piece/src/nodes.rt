@@ -19,7 +19,8 @@ pub(crate) fn push(alloc: Global, run: &mut Run, node: Node) -> Result<Option<No
     requires lawful { IsLawfulPiece run.old }
     requires below { OperandsBelow (length run.old.pool) node }
     requires plain { IsPlain run.old.stack → IsWordOrConst node }
-    ensures { IfOk result (λ o. MatchOption o (HasNoMember run.old) (λ id. IsPushed run.old node run.new id)) }
+    ensures { IfOk result (λ o. MatchOption o (HasNoMember run.old)
+        (λ id. IsPushed run.old node run.new id)) }
 {
     let id = run.pool.push(node)?;
     if !run.facts.grow(alloc, &run.pool)? {
@@ -31,7 +32,8 @@ pub(crate) fn push(alloc: Global, run: &mut Run, node: Node) -> Result<Option<No
 /// The second word of an operation or a test.
 pub(crate) fn operand(alloc: Global, run: &mut Run, other: Operand) -> Result<Option<NodeId>, Fault>
     requires { IsLawfulPiece run.old }
-    ensures { IfOk result (λ o. MatchOption o (HasNoMember run.old) (λ id. IsOperand run.old other run.new id)) }
+    ensures { IfOk result (λ o. MatchOption o (HasNoMember run.old)
+        (λ id. IsOperand run.old other run.new id)) }
 {
     match other {
         Operand::Constant(k) => push(alloc, run, Node::Const(k)),

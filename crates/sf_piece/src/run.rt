@@ -33,7 +33,14 @@ impl Model for Run {
 
     ghost Value = { PieceData };
 
-    ghost view = { λ r. record { stack = r.stack.value; name = r.name.items; pool = r.pool; conditions = r.conditions; machine = r.machine; facts = r.facts } };
+    ghost view = { λ r. record {
+      stack = r.stack.value;
+      name = r.name.items;
+      pool = r.pool;
+      conditions = r.conditions;
+      machine = r.machine;
+      facts = r.facts;
+    } };
 }
 
 impl Run {
@@ -58,7 +65,8 @@ impl Run {
     /// The instruction at hand, or none where the last program has returned.
     pub(crate) fn insn(&self) -> Option<Insn>
         requires { IsLawfulPiece self.now }
-        ensures { MatchOption result (IsRightAnswer self.now self.now.name self.now.machine.so_far) (λ i. Standing self.now i) }
+        ensures { MatchOption result (IsRightAnswer self.now self.now.name
+            self.now.machine.so_far) (λ i. Standing self.now i) }
     {
         let programs = self.stack.programs();
         if self.machine.program < programs.len() {

@@ -1,2 +1,3 @@
-pub mod Meeting
+pub mod MeetingLemmas
 pub mod Steps
+pub mod WalkLemmas

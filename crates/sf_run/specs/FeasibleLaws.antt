@@ -27,7 +27,8 @@ before_one_way (true ∷ a) (false ∷ b) p q = cc
 before_one_way (true ∷ a) (true ∷ b) p q = before_one_way a b p q
 
 -- the first name of a list in order comes before any other
-first_before : (x y : List Bool) (xs : List (List Bool)) → AllByRecursion (λ z. slice_cmp bool_cmp x z ≡ Less) xs → Contains xs y → slice_cmp bool_cmp x y ≡ Less
+first_before : (x y : List Bool) (xs : List (List Bool)) → AllByRecursion (λ z. slice_cmp bool_cmp x z ≡ Less) xs
+    → Contains xs y → slice_cmp bool_cmp x y ≡ Less
 first_before x y [] all c = absurd (contains_nil y c)
 first_before x y (z ∷ zs) all c =
     elim (contains_cons z zs y c) [
@@ -36,25 +37,29 @@ first_before x y (z ∷ zs) all c =
     ]
 
 -- a later name of a list in order is a member of another list where it is one of that list with the first name
-later_in : (x : List Bool) (xs ys : List (List Bool)) → AreInNameOrder (x ∷ xs) → ((t : List Bool) → Contains (x ∷ xs) t → Contains (x ∷ ys) t) → (t : List Bool) → Contains xs t → Contains ys t
+later_in : (x : List Bool) (xs ys : List (List Bool)) → AreInNameOrder (x ∷ xs)
+    → ((t : List Bool) → Contains (x ∷ xs) t → Contains (x ∷ ys) t) → (t : List Bool) → Contains xs t → Contains ys t
 unfolding IsStrictlySortedBy
 later_in x xs ys order within t c =
     elim (contains_cons x ys t (within t (contains_there x xs t c))) [
       | inl e ↦
           let before = first_before x t xs order.0 c in
-          let self : slice_cmp bool_cmp x x ≡ Less = subst (λ (u : List Bool). slice_cmp bool_cmp x u ≡ Less) (sym e) before in
+          let self : slice_cmp bool_cmp x x ≡ Less =
+          subst (λ (u : List Bool). slice_cmp bool_cmp x u ≡ Less) (sym e) before in
           absurd (before_one_way x x self self)
       | inr found ↦ found
     ]
 
 -- lists in name order with the same members are equal
-pub one_order : (a b : List (List Bool)) → AreInNameOrder a → AreInNameOrder b → ((t : List Bool) → Contains a t → Contains b t) → ((t : List Bool) → Contains b t → Contains a t) → a ≡ b
+pub one_order : (a b : List (List Bool)) → AreInNameOrder a → AreInNameOrder b
+    → ((t : List Bool) → Contains a t → Contains b t) → ((t : List Bool) → Contains b t → Contains a t) → a ≡ b
 unfolding IsStrictlySortedBy
 one_order [] [] p q ab ba = refl
 one_order [] (y ∷ ys) p q ab ba = absurd (contains_nil y (ba y (contains_here y ys y refl)))
 one_order (x ∷ xs) [] p q ab ba = absurd (contains_nil x (ab x (contains_here x xs x refl)))
 one_order (x ∷ xs) (y ∷ ys) p q ab ba =
-    let head : x ≡ y = first (contains_cons y ys x (ab x (contains_here x xs x refl))) (contains_cons x xs y (ba y (contains_here y ys y refl))) in
+    let head : x ≡ y = first (contains_cons y ys x (ab x (contains_here x xs x refl)))
+    (contains_cons x xs y (ba y (contains_here y ys y refl))) in
     let ab' = subst (λ (u : List Bool). (t : List Bool) → Contains (x ∷ xs) t → Contains (u ∷ ys) t) (sym head) ab in
     let ba' = subst (λ (u : List Bool). (t : List Bool) → Contains (y ∷ ys) t → Contains (u ∷ xs) t) head ba in
     let tail : xs ≡ ys = one_order xs ys p.1 q.1 (later_in x xs ys p ab') (later_in y ys xs q ba') in
@@ -65,9 +70,11 @@ one_order (x ∷ xs) (y ∷ ys) p q ab ba =
     first (inr c) (inl e) = e
     first (inr c) (inr c') = absurd (before_one_way x y (first_before x y xs p.0 c') (first_before y x ys q.0 c))
 
-pub one_list : (programs : List (List Insn)) (a b : List (List Bool)) → AreFeasibleTraces programs a → AreFeasibleTraces programs b → a ≡ b
+pub one_list : (programs : List (List Insn)) (a b : List (List Bool)) → AreFeasibleTraces programs a
+    → AreFeasibleTraces programs b → a ≡ b
 one_list programs a b p q =
-    one_order a b p.order q.order (λ t c. (q.exactly t).1 ((p.exactly t).0 c)) (λ t c. (p.exactly t).1 ((q.exactly t).0 c))
+    one_order a b p.order q.order (λ t c. (q.exactly t).1 ((p.exactly t).0 c))
+    (λ t c. (p.exactly t).1 ((q.exactly t).0 c))
 
 -- ---- there is one
 
@@ -88,7 +95,8 @@ names_exact (false ∷ a) (false ∷ b) h = ap (λ l. false ∷ l) (names_exact 
 abbrev IsBeforeAll : List Bool → List (List Bool) → Type 0
 IsBeforeAll t us = AllByRecursion (λ u. slice_cmp bool_cmp t u ≡ Less) us
 
-pub before_all : (t u : List Bool) (us : List (List Bool)) → slice_cmp bool_cmp t u ≡ Less → IsBeforeAll u us → IsBeforeAll t us
+pub before_all : (t u : List Bool) (us : List (List Bool)) → slice_cmp bool_cmp t u ≡ Less → IsBeforeAll u us
+    → IsBeforeAll t us
 before_all t u [] less all = tt
 before_all t u (v ∷ us) less all = (names_total.trans t u v less all.0, before_all t u us less all.1)
 
@@ -97,16 +105,19 @@ turned : (t u : List Bool) → slice_cmp bool_cmp t u ≡ Greater → slice_cmp 
 turned t u e = names_total.antisymm u t ∙ ap ordering_reverse e
 
 -- what holds of each of three lists holds of the one that an order chooses
-chosen : (P : List (List Bool) → Type 0) (o : Ordering) (a b c : List (List Bool)) → (o ≡ Less → P a) → (o ≡ Equal → P b) → (o ≡ Greater → P c) → P (match_ordering o a b c)
+chosen : (P : List (List Bool) → Type 0) (o : Ordering) (a b c : List (List Bool)) → (o ≡ Less → P a)
+    → (o ≡ Equal → P b) → (o ≡ Greater → P c) → P (match_ordering o a b c)
 chosen P Less a b c x y z = x refl
 chosen P Equal a b c x y z = y refl
 chosen P Greater a b c x y z = z refl
 
-before_put : (u t : List Bool) (us : List (List Bool)) → slice_cmp bool_cmp u t ≡ Less → IsBeforeAll u us → IsBeforeAll u (put_in t us)
+before_put : (u t : List Bool) (us : List (List Bool)) → slice_cmp bool_cmp u t ≡ Less → IsBeforeAll u us
+    → IsBeforeAll u (put_in t us)
 before_put u t [] less all = (less, tt)
 before_put u t (v ∷ us) less all =
     let rest = before_put u t us less all.1 in
-    chosen (IsBeforeAll u) (slice_cmp bool_cmp t v) (t ∷ v ∷ us) (v ∷ us) (v ∷ put_in t us) (λ e. (less, all)) (λ e. all) (λ e. (all.0, rest))
+    chosen (IsBeforeAll u) (slice_cmp bool_cmp t v) (t ∷ v ∷ us) (v ∷ us) (v ∷ put_in t us) (λ e. (less, all))
+    (λ e. all) (λ e. (all.0, rest))
 
 put_ordered : (t : List Bool) (us : List (List Bool)) → AreInNameOrder us → AreInNameOrder (put_in t us)
 unfolding IsStrictlySortedBy
@@ -145,7 +156,8 @@ put_adds : (t : List Bool) (us : List (List Bool)) (v : List Bool) → Contains 
 put_adds t [] v c = contains_cons t [] v c
 put_adds t (u ∷ us) v c =
     let rest : Contains (put_in t us) v → (t ≡ v) ⊎ Contains us v = λ d. put_adds t us v d in
-    chosen (λ vs. Contains vs v → (t ≡ v) ⊎ Contains (u ∷ us) v) (slice_cmp bool_cmp t u) (t ∷ u ∷ us) (u ∷ us) (u ∷ put_in t us)
+    chosen (λ vs. Contains vs v → (t ≡ v) ⊎ Contains (u ∷ us) v) (slice_cmp bool_cmp t u) (t ∷ u ∷ us) (u ∷ us)
+    (u ∷ put_in t us)
     (λ less d. contains_cons t (u ∷ us) v d)
     (λ same d. inr d)
     (λ more d. later rest (contains_cons u (put_in t us) v d))
@@ -155,7 +167,8 @@ put_adds t (u ∷ us) v c =
     among (inl e) = inl e
     among (inr d) = inr (contains_there u us v d)
 
-    later : (Contains (put_in t us) v → (t ≡ v) ⊎ Contains us v) → (u ≡ v) ⊎ Contains (put_in t us) v → (t ≡ v) ⊎ Contains (u ∷ us) v
+    later : (Contains (put_in t us) v → (t ≡ v) ⊎ Contains us v) → (u ≡ v) ⊎ Contains (put_in t us) v → (t ≡ v)
+        ⊎ Contains (u ∷ us) v
     later rest (inl e) = inr (contains_here u us v e)
     later rest (inr d) = among (rest d)
 

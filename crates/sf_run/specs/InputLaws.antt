@@ -30,7 +30,8 @@ module _ {A B : Type 0} where
         | inr later ↦ let r = map_contains f zs y later in (r.0, contains_there z zs r.0 r.1, r.2)
       ]
 
-  contains_flat : (f : A → List B) (xs : List A) (x : A) (y : B) → Contains xs x → Contains (f x) y → Contains (flat_map f xs) y
+  contains_flat : (f : A → List B) (xs : List A) (x : A) (y : B) → Contains xs x → Contains (f x) y
+      → Contains (flat_map f xs) y
   contains_flat f [] x y c d = absurd (contains_nil x c)
   contains_flat f (z ∷ zs) x y c d =
       elim (contains_cons z zs x c) [
@@ -38,7 +39,8 @@ module _ {A B : Type 0} where
         | inr later ↦ Contains-append_right (f z) (flat_map f zs) y (contains_flat f zs x y later d)
       ]
 
-  flat_contains : (f : A → List B) (xs : List A) (y : B) → Contains (flat_map f xs) y → (x : A) × Contains xs x × Contains (f x) y
+  flat_contains : (f : A → List B) (xs : List A) (y : B) → Contains (flat_map f xs) y → (x : A) × Contains xs x
+      × Contains (f x) y
   flat_contains f [] y c = absurd (contains_nil y c)
   flat_contains f (z ∷ zs) y c =
       elim (Contains-append_cases (f z) (flat_map f zs) y c) [
@@ -77,7 +79,8 @@ list_there (suc n) m (w ∷ ws) fits =
     let long = fits.0 in
     let rest = list_there n m ws (omega arith, λ i less. fits.1 (suc i) (omega arith)) in
     let first : w < m = fits.1 0 (omega arith) in
-    let here : Contains (longer m ws) (w ∷ ws) = contains_map (λ (k : ℕ). k ∷ ws) (range_with_len 0 m) w (number_there m w first) in
+    let here : Contains (longer m ws) (w ∷ ws) =
+    contains_map (λ (k : ℕ). k ∷ ws) (range_with_len 0 m) w (number_there m w first) in
     contains_flat (longer m) (lists_below n m) ws (w ∷ ws) rest here
 
 fits_more : (n m w : ℕ) (ws : List ℕ) → w < m → Fits n m ws → Fits (suc n) m (w ∷ ws)
@@ -104,7 +107,8 @@ each_below : (n m : ℕ) (ws : List ℕ) → 0 < m → Fits n m ws → (i : ℕ)
 each_below n m ws some fits i =
     elim (cases_lt i n) [
       | inl within ↦ fits.1 i within
-      | inr past ↦ let long = fits.0 in let zero_there : get_or ws i 0 ≡ 0 = get_or_past ws i 0 (omega arith) in omega arith
+      | inr past ↦ let long = fits.0 in let zero_there : get_or ws i 0 ≡ 0 =
+          get_or_past ws i 0 (omega arith) in omega arith
     ]
 
 -- ---- all inputs
@@ -112,7 +116,8 @@ each_below n m ws some fits i =
 input_there : (d : Input) → IsInput d → Contains all_inputs d
 unfolding all_inputs
 input_there d is =
-    contains_map input_of (lists_below 16 (2 ^ 32)) d.words (list_there 16 (2 ^ 32) d.words (is.sixteen, λ i within. is.each i))
+    contains_map input_of (lists_below 16 (2 ^ 32)) d.words
+    (list_there 16 (2 ^ 32) d.words (is.sixteen, λ i within. is.each i))
 
 there_input : (d : Input) → Contains all_inputs d → IsInput d
 unfolding all_inputs

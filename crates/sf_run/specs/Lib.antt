@@ -1,6 +1,7 @@
 pub mod Machine
 pub mod Answers
 pub mod Code
+pub mod Walks
 pub mod Feasible
 pub mod InputLaws
 pub mod FeasibleLaws

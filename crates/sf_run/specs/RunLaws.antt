@@ -20,7 +20,8 @@ use Rattle.sf_run.specs.Machine.{State, Progress, goes, returns, stuck, start, o
 
 -- ---- one end
 
-pub option_map_some : {X Y : Type 0} (f : X → Y) (o : Option X) (y : Y) → option_map f o ≡ Some y → (x : X) × (o ≡ Some x) × (f x ≡ y)
+pub option_map_some : {X Y : Type 0} (f : X → Y) (o : Option X) (y : Y) → option_map f o ≡ Some y → (x : X)
+    × (o ≡ Some x) × (f x ≡ y)
 option_map_some f None y e = absurd cc
 option_map_some f (Some x) y e = (x, refl, same_Some (f x) y e)
 
@@ -28,7 +29,9 @@ option_map_some f (Some x) y e = (x, refl, same_Some (f x) y e)
 abbrev pub put : List Bool → List Bool × ℕ → List Bool × ℕ
 put met o = (met ++ o.0, o.1)
 
-same_continued : (p : Progress) (f g : State → Outcome) → ((s : State) (o o' : List Bool × ℕ) → f s ≡ Some o → g s ≡ Some o' → o ≡ o') → (o o' : List Bool × ℕ) → continued f p ≡ Some o → continued g p ≡ Some o' → o ≡ o'
+same_continued : (p : Progress) (f g : State → Outcome)
+    → ((s : State) (o o' : List Bool × ℕ) → f s ≡ Some o → g s ≡ Some o' → o ≡ o') → (o o' : List Bool × ℕ)
+    → continued f p ≡ Some o → continued g p ≡ Some o' → o ≡ o'
 same_continued (goes met next) f g same o o' e e' =
     let a = option_map_some (put met) (f next) o e in
     let b = option_map_some (put met) (g next) o' e' in
@@ -37,7 +40,8 @@ same_continued (returns met v) f g same o o' e e' = sym (same_Some (met, v) o e)
 same_continued stuck f g same o o' e e' = absurd cc
 
 -- runs of any numbers of steps that come to an end come to the same
-pub run_same : (n m : ℕ) (code : List Insn) (d : Input) (s : State) (o o' : List Bool × ℕ) → run_for n code d s ≡ Some o → run_for m code d s ≡ Some o' → o ≡ o'
+pub run_same : (n m : ℕ) (code : List Insn) (d : Input) (s : State) (o o' : List Bool × ℕ) → run_for n code d s ≡ Some o
+    → run_for m code d s ≡ Some o' → o ≡ o'
 unfolding run_for
 run_same zero m code d s o o' e e' = absurd cc
 run_same (suc n) zero code d s o o' e e' = absurd cc
@@ -47,7 +51,8 @@ run_same (suc n) (suc m) code d s o o' e e' =
 -- ---- one step
 
 -- at the place of an instruction the step executes it
-pub step_is : (code : List Insn) (d : Input) (s : State) (i : Insn) → IsAt code s.place i → step code d s ≡ executed d s i
+pub step_is : (code : List Insn) (d : Input) (s : State) (i : Insn) → IsAt code s.place i
+    → step code d s ≡ executed d s i
 step_is code d s i at = rw at refl
 
 pub goes_is : (met met' : List Bool) (s t : State) → goes met s ≡ goes met' t → s ≡ t
@@ -62,23 +67,38 @@ pub record Keeps (i : Insn) (old new : List (Option ℕ)) : Type 0 where
 keeps_same : (i : Insn) (old : List (Option ℕ)) → stored_by i ≡ None → Keeps i old old
 keeps_same i old none = record { size = refl; kept = λ k n h. (n, h); stored = λ k h lt. absurd cc }
 
-set_here : (old : List (Option ℕ)) (k : ℕ) (n : ℕ) → k < length old → slice_get (slice_set old k (Some n)) k ≡ Some (Some n)
+set_here : (old : List (Option ℕ)) (k : ℕ) (n : ℕ) → k < length old
+    → slice_get (slice_set old k (Some n)) k ≡ Some (Some n)
 set_here old k n lt =
-    slice_get-get_or (set old k (Some n)) k None (omega (arith, length-set old k (Some n))) ∙ ap (λ (w : Option ℕ). Some w) (get_or-set_same old k (Some n) None lt)
+    slice_get-get_or (set old k (Some n)) k None (omega (arith, length-set old k (Some n)))
+    ∙ ap (λ (w : Option ℕ). Some w) (get_or-set_same old k (Some n) None lt)
 
-keeps_store : (i : Insn) (old : List (Option ℕ)) (k n : ℕ) → stored_by i ≡ Some k → Keeps i old (slice_set old k (Some n))
+keeps_store : (i : Insn) (old : List (Option ℕ)) (k n : ℕ) → stored_by i ≡ Some k
+    → Keeps i old (slice_set old k (Some n))
 keeps_store i old k n at = record {
   size = length-set old k (Some n);
   kept = λ j m h. kept j m h (cases_eq j k);
-  stored = λ j h lt. let same : k ≡ j = same_Some k j (sym at ∙ h) in (n, subst (λ (x : ℕ). slice_get (slice_set old k (Some n)) x ≡ Some (Some n)) same (set_here old k n (omega arith)));
+  stored = λ j h lt. let same : k ≡ j = same_Some k j (sym at ∙ h) in (
+    n,
+    subst (λ (x : ℕ). slice_get (slice_set old k (Some n)) x ≡ Some (Some n)) same
+        (set_here old k n (omega arith)),
+  );
 }
   where
-    kept : (j m : ℕ) → slice_get old j ≡ Some (Some m) → (j ≡ k) ⊎ (j ≡ k → ⊥) → (m' : ℕ) × (slice_get (slice_set old k (Some n)) j ≡ Some (Some m'))
-    kept j m h (inl e) =
-        (n, subst (λ (x : ℕ). slice_get (slice_set old k (Some n)) x ≡ Some (Some n)) (sym e) (set_here old k n (omega (arith, slice_get_within old j (Some m) h))))
+    kept : (j m : ℕ) → slice_get old j ≡ Some (Some m) → (j ≡ k) ⊎ (j ≡ k → ⊥) → (m' : ℕ)
+        × (slice_get (slice_set old k (Some n)) j ≡ Some (Some m'))
+    kept j m h (inl e) = (
+      n,
+      subst (λ (x : ℕ). slice_get (slice_set old k (Some n)) x ≡ Some (Some n)) (sym e)
+          (set_here old k n (omega (arith, slice_get_within old j (Some m) h))),
+    )
     kept j m h (inr ne) =
-        let lt = slice_get_within old j (Some m) h in
-        (m, slice_get-get_or (set old k (Some n)) j None (omega (arith, length-set old k (Some n))) ∙ ap (λ (w : Option ℕ). Some w) (get_or-set_other old k j (Some n) None ne ∙ get_or_from_slice_get old j (Some m) None h))
+        let lt = slice_get_within old j (Some m) h in (
+          m,
+          slice_get-get_or (set old k (Some n)) j None (omega (arith, length-set old k (Some n)))
+              ∙ ap (λ (w : Option ℕ). Some w) (get_or-set_other old k j (Some n) None ne
+              ∙ get_or_from_slice_get old j (Some m) None h),
+        )
 
 -- where a step goes, and what it keeps
 pub record Moves (i : Insn) (s next : State) : Type 0 where
@@ -86,26 +106,32 @@ pub record Moves (i : Insn) (s next : State) : Type 0 where
   pub keeps : Keeps i s.scratch next.scratch
 
 -- a load of a set word goes on, and one of an unset word does not
-loaded_goes : (s : State) (k : ℕ) (f : ℕ → Progress) (met : List Bool) (next : State) → loaded s k f ≡ goes met next → (n : ℕ) × (f n ≡ goes met next)
+loaded_goes : (s : State) (k : ℕ) (f : ℕ → Progress) (met : List Bool) (next : State) → loaded s k f ≡ goes met next
+    → (n : ℕ) × (f n ≡ goes met next)
 loaded_goes s k f met next e = by (slice_get s.scratch k) refl e
   where
-    by : (w : Option (Option ℕ)) → slice_get s.scratch k ≡ w → loaded s k f ≡ goes met next → (n : ℕ) × (f n ≡ goes met next)
+    by : (w : Option (Option ℕ)) → slice_get s.scratch k ≡ w → loaded s k f ≡ goes met next → (n : ℕ)
+        × (f n ≡ goes met next)
     by (Some (Some n)) at e = (n, rw at at e)
     by (Some None) at e = let clash : stuck ≡ goes met next = rw at at e in absurd cc
     by None at e = let clash : stuck ≡ goes met next = rw at at e in absurd cc
 
-pub moves : (d : Input) (s : State) (i : Insn) (met : List Bool) (next : State) → executed d s i ≡ goes met next → Moves i s next
+pub moves : (d : Input) (s : State) (i : Insn) (met : List Bool) (next : State) → executed d s i ≡ goes met next
+    → Moves i s next
 moves d s i met next e = by i e
   where
     -- to the next instruction, with other words in A or X
-    on : (i : Insn) (a x : ℕ) (met' : List Bool) → Contains (successors s.place i) (s.place + 1) → stored_by i ≡ None → goes met' (record { place = s.place + 1; a = a; x = x; scratch = s.scratch }) ≡ goes met next → Moves i s next
+    on : (i : Insn) (a x : ℕ) (met' : List Bool) → Contains (successors s.place i) (s.place + 1) → stored_by i ≡ None
+        → goes met' (record { place = s.place + 1; a = a; x = x; scratch = s.scratch }) ≡ goes met next → Moves i s next
     on i a x met' leads none e =
         subst (Moves i s) (goes_is met' met _ next e) (record { leads = leads; keeps = keeps_same i s.scratch none })
 
     one : (n : ℕ) → Contains (n ∷ []) n
     one n = contains_here n [] n refl
 
-    store : (i : Insn) (k n : ℕ) → Contains (successors s.place i) (s.place + 1) → stored_by i ≡ Some k → goes [] (record s { place = s.place + 1; scratch = slice_set s.scratch k (Some n) }) ≡ goes met next → Moves i s next
+    store : (i : Insn) (k n : ℕ) → Contains (successors s.place i) (s.place + 1) → stored_by i ≡ Some k
+        → goes [] (record s { place = s.place + 1; scratch = slice_set s.scratch k (Some n) }) ≡ goes met next
+        → Moves i s next
     store i k n leads at e =
         subst (Moves i s) (goes_is [] met _ next e) (record { leads = leads; keeps = keeps_store i s.scratch k n at })
 
@@ -125,7 +151,9 @@ moves d s i met next e = by i e
     by (StoreX k) e = store (StoreX k) k s.x (one (s.place + 1)) refl e
     by (Alu op other) e = alu op other e
       where
-        div : (b : Bool) → (if b then returns (true ∷ []) 0 else goes (false ∷ []) (record s { place = s.place + 1; a = apply Div s.a s.x })) ≡ goes met next → Moves (Alu Div X) s next
+        div : (b : Bool) → (if b then returns (true ∷ []) 0
+            else goes (false ∷ []) (record s { place = s.place + 1; a = apply Div s.a s.x })) ≡ goes met next
+            → Moves (Alu Div X) s next
         div true e = absurd cc
         div false e = on (Alu Div X) _ _ (false ∷ []) (one (s.place + 1)) refl e
 
@@ -142,14 +170,24 @@ moves d s i met next e = by i e
         alu Xor other e = on (Alu Xor other) _ _ [] (one (s.place + 1)) refl e
     by Negate e = on Negate _ _ [] (one (s.place + 1)) refl e
     by (Jump k) e =
-        subst (Moves (Jump k) s) (goes_is [] met _ next e) (record { leads = one (s.place + 1 + k); keeps = keeps_same (Jump k) s.scratch refl })
+        subst (Moves (Jump k) s) (goes_is [] met _ next e)
+        (record { leads = one (s.place + 1 + k); keeps = keeps_same (Jump k) s.scratch refl })
     by (Branch test other t f) e = tested' (passes test s.a (operand_of s other)) e
       where
         tested' : (b : Bool) → tested s b t f ≡ goes met next → Moves (Branch test other t f) s next
         tested' true e =
-            subst (Moves (Branch test other t f) s) (goes_is (true ∷ []) met _ next e) (record { leads = contains_here (s.place + 1 + t) ((s.place + 1 + f) ∷ []) (s.place + 1 + t) refl; keeps = keeps_same (Branch test other t f) s.scratch refl })
+            subst (Moves (Branch test other t f) s) (goes_is (true ∷ []) met _ next e)
+            (record {
+              leads = contains_here (s.place + 1 + t) ((s.place + 1 + f) ∷ []) (s.place + 1 + t) refl;
+              keeps = keeps_same (Branch test other t f) s.scratch refl;
+            })
         tested' false e =
-            subst (Moves (Branch test other t f) s) (goes_is (false ∷ []) met _ next e) (record { leads = contains_there (s.place + 1 + t) ((s.place + 1 + f) ∷ []) (s.place + 1 + f) (one (s.place + 1 + f)); keeps = keeps_same (Branch test other t f) s.scratch refl })
+            subst (Moves (Branch test other t f) s) (goes_is (false ∷ []) met _ next e)
+            (record {
+              leads = contains_there (s.place + 1 + t) ((s.place + 1 + f) ∷ []) (s.place + 1 + f)
+                  (one (s.place + 1 + f));
+              keeps = keeps_same (Branch test other t f) s.scratch refl;
+            })
     by (ReturnConstant k) e = absurd cc
     by ReturnA e = absurd cc
     by Tax e = on Tax _ _ [] (one (s.place + 1)) refl e
@@ -166,10 +204,17 @@ pub record Safe (code : List Insn) (s : State) : Type 0 where
   pub set_words : (k : ℕ) → Any (Stores code k) earlier → (n : ℕ) × (slice_get s.scratch k ≡ Some (Some n))
 
 pub safe_start : (code : List Insn) → 0 < length code → Safe code start
-safe_start code some = record { inside = some; sixteen = refl; earlier = []; path = refl; set_words = λ k any. absurd (any_nil (Stores code k) any) }
+safe_start code some = record {
+  inside = some;
+  sixteen = refl;
+  earlier = [];
+  path = refl;
+  set_words = λ k any. absurd (any_nil (Stores code k) any);
+}
 
 -- the instruction there may load what it loads
-pub load_is_set : (code : List Insn) (s : State) (i : Insn) (k : ℕ) → IsLawful code → Safe code s → IsAt code s.place i → loaded_by i ≡ Some k → (n : ℕ) × (slice_get s.scratch k ≡ Some (Some n))
+pub load_is_set : (code : List Insn) (s : State) (i : Insn) (k : ℕ) → IsLawful code → Safe code s → IsAt code s.place i
+    → loaded_by i ≡ Some k → (n : ℕ) × (slice_get s.scratch k ≡ Some (Some n))
 load_is_set code s i k lawful safe at loads =
     safe.set_words k (lawful.set s.place k safe.earlier (i, at, loads) safe.path)
 
@@ -178,36 +223,46 @@ stored_small (StoreA j) k small e = let same : j ≡ k = same_Some j k e in omeg
 stored_small (StoreX j) k small e = let same : j ≡ k = same_Some j k e in omega (arith, small)
 stored_small _ k small e = absurd cc
 
-pub safe_next : (code : List Insn) (d : Input) (s : State) (i : Insn) (met : List Bool) (next : State) → IsLawful code → Safe code s → IsAt code s.place i → executed d s i ≡ goes met next → Safe code next × (s.place < next.place)
+pub safe_next : (code : List Insn) (d : Input) (s : State) (i : Insn) (met : List Bool) (next : State) → IsLawful code
+    → Safe code s → IsAt code s.place i → executed d s i ≡ goes met next → Safe code next × (s.place < next.place)
 safe_next code d s i met next lawful safe at e =
     let m = moves d s i met next e in (
       record {
-        inside = below_in (length code) (successors s.place i) next.place (successors_inside code s.place i at (lawful.inside s.place i at) lawful.ends) m.leads;
+        inside = below_in (length code) (successors s.place i) next.place
+            (successors_inside code s.place i at (lawful.inside s.place i at) lawful.ends) m.leads;
         sixteen = m.keeps.size ∙ safe.sixteen;
         earlier = s.place ∷ safe.earlier;
         path = ((i, at, m.leads), safe.path);
         set_words = λ k any. elim (any_cons (Stores code k) s.place safe.earlier any) [
           | inl here ↦
               let stores : stored_by i ≡ Some k = ap stored_by (same_Some i here.0 (sym at ∙ here.1)) ∙ here.2 in
-              m.keeps.stored k stores (omega (arith, stored_small i k (lawful.in_range s.place i at) stores, safe.sixteen))
+              m.keeps.stored k stores (omega (
+                arith,
+                stored_small i k (lawful.in_range s.place i at) stores,
+                safe.sixteen,
+              ))
           | inr later ↦ let old = safe.set_words k later in m.keeps.kept k old.0 old.1
         ];
       },
       successor_after s.place i next.place m.leads,
     )
 
-loaded_not_stuck : (s : State) (k : ℕ) (f : ℕ → Progress) → ((n : ℕ) → f n ≡ stuck → ⊥) → (n : ℕ) × (slice_get s.scratch k ≡ Some (Some n)) → loaded s k f ≡ stuck → ⊥
+loaded_not_stuck : (s : State) (k : ℕ) (f : ℕ → Progress) → ((n : ℕ) → f n ≡ stuck → ⊥) → (n : ℕ)
+    × (slice_get s.scratch k ≡ Some (Some n)) → loaded s k f ≡ stuck → ⊥
 loaded_not_stuck s k f fine (n, at) e = fine n (rw at at e)
 
-pub not_stuck : (d : Input) (s : State) (i : Insn) → ((k : ℕ) → loaded_by i ≡ Some k → (n : ℕ) × (slice_get s.scratch k ≡ Some (Some n))) → executed d s i ≡ stuck → ⊥
+pub not_stuck : (d : Input) (s : State) (i : Insn)
+    → ((k : ℕ) → loaded_by i ≡ Some k → (n : ℕ) × (slice_get s.scratch k ≡ Some (Some n))) → executed d s i ≡ stuck → ⊥
 not_stuck d s i fine e = by i fine e
   where
-    by : (i : Insn) → ((k : ℕ) → loaded_by i ≡ Some k → (n : ℕ) × (slice_get s.scratch k ≡ Some (Some n))) → executed d s i ≡ stuck → ⊥
+    by : (i : Insn) → ((k : ℕ) → loaded_by i ≡ Some k → (n : ℕ) × (slice_get s.scratch k ≡ Some (Some n)))
+        → executed d s i ≡ stuck → ⊥
     by (LoadScratch k) fine e = loaded_not_stuck s k (with_a s) (λ n e. cc) (fine k refl) e
     by (LoadXScratch k) fine e = loaded_not_stuck s k (with_x s) (λ n e. cc) (fine k refl) e
     by (Alu op other) fine e = alu op other e
       where
-        div : (b : Bool) → (if b then returns (true ∷ []) 0 else goes (false ∷ []) (record s { place = s.place + 1; a = apply Div s.a s.x })) ≡ stuck → ⊥
+        div : (b : Bool) → (if b then returns (true ∷ []) 0
+            else goes (false ∷ []) (record s { place = s.place + 1; a = apply Div s.a s.x })) ≡ stuck → ⊥
         div true e = cc
         div false e = cc
 
@@ -219,10 +274,12 @@ not_stuck d s i fine e = by i fine e
 
 -- ---- comes to an end
 
-pub ends_from : (n : ℕ) (code : List Insn) (d : Input) (s : State) → IsLawful code → Safe code s → length code ≤ n + s.place → IsSome (run_for n code d s)
+pub ends_from : (n : ℕ) (code : List Insn) (d : Input) (s : State) → IsLawful code → Safe code s
+    → length code ≤ n + s.place → IsSome (run_for n code d s)
 unfolding run_for
 ends_from zero code d s lawful safe room = absurd (omega (arith, safe.inside))
-ends_from (suc n) code d s lawful safe room = rw (step_is code d s i at) (by (λ t. ends_from n code d t lawful) (executed d s i) refl)
+ends_from (suc n) code d s lawful safe room =
+    rw (step_is code d s i at) (by (λ t. ends_from n code d t lawful) (executed d s i) refl)
   where
     i : Insn
     i = get_or code s.place Negate
@@ -234,7 +291,8 @@ ends_from (suc n) code d s lawful safe room = rw (step_is code d s i at) (by (λ
     mapped f None h = absurd cc
     mapped f (Some x) h = refl
 
-    by : ((t : State) → Safe code t → length code ≤ n + t.place → IsSome (run_for n code d t)) → (p : Progress) → executed d s i ≡ p → IsSome (continued (run_for n code d) p)
+    by : ((t : State) → Safe code t → length code ≤ n + t.place → IsSome (run_for n code d t)) → (p : Progress)
+        → executed d s i ≡ p → IsSome (continued (run_for n code d) p)
     by rest (goes met next) e =
         let on = safe_next code d s i met next lawful safe at e in
         mapped (put met) (run_for n code d next) (rest next on.0 (omega (arith, on.1)))
@@ -246,7 +304,8 @@ unfolding outcome_of
 lawful_ends code d lawful = ends_from (length code) code d start lawful (safe_start code lawful.some) (omega arith)
 
 -- any run from the start that comes to an end is that of the program
-pub outcome_is : (n : ℕ) (code : List Insn) (d : Input) (o : List Bool × ℕ) → IsLawful code → run_for n code d start ≡ Some o → outcome_of code d ≡ Some o
+pub outcome_is : (n : ℕ) (code : List Insn) (d : Input) (o : List Bool × ℕ) → IsLawful code
+    → run_for n code d start ≡ Some o → outcome_of code d ≡ Some o
 unfolding outcome_of
 outcome_is n code d o lawful e = by (outcome_of code d) refl (lawful_ends code d lawful)
   where
@@ -257,17 +316,22 @@ outcome_is n code d o lawful e = by (outcome_of code d) refl (lawful_ends code d
         rw e' (ap (λ (p : List Bool × ℕ). Some p) (sym same))
 
 -- so it returns the program's value, and meets what the program meets
-pub value_is : (n : ℕ) (code : List Insn) (d : Input) (o : List Bool × ℕ) → IsLawful code → run_for n code d start ≡ Some o → o.1 ≡ return_of code d
+pub value_is : (n : ℕ) (code : List Insn) (d : Input) (o : List Bool × ℕ) → IsLawful code
+    → run_for n code d start ≡ Some o → o.1 ≡ return_of code d
 value_is n code d o lawful e = rw (outcome_is n code d o lawful e) refl
 
-pub met_is : (n : ℕ) (code : List Insn) (d : Input) (o : List Bool × ℕ) → IsLawful code → run_for n code d start ≡ Some o → o.0 ≡ met_by code d
+pub met_is : (n : ℕ) (code : List Insn) (d : Input) (o : List Bool × ℕ) → IsLawful code
+    → run_for n code d start ≡ Some o → o.0 ≡ met_by code d
 met_is n code d o lawful e = rw (outcome_is n code d o lawful e) refl
 
 -- a run goes on by a step
-pub run_more : (n : ℕ) (code : List Insn) (d : Input) (s : State) (i : Insn) (met : List Bool) (next : State) (o : List Bool × ℕ) → IsAt code s.place i → executed d s i ≡ goes met next → run_for n code d next ≡ Some o → run_for (suc n) code d s ≡ Some (met ++ o.0, o.1)
+pub run_more : (n : ℕ) (code : List Insn) (d : Input) (s : State) (i : Insn) (met : List Bool) (next : State)
+    (o : List Bool × ℕ) → IsAt code s.place i → executed d s i ≡ goes met next → run_for n code d next ≡ Some o
+    → run_for (suc n) code d s ≡ Some (met ++ o.0, o.1)
 unfolding run_for
 run_more n code d s i met next o at e rest = rw (step_is code d s i at, e, rest) refl
 
-pub run_ends : (code : List Insn) (d : Input) (s : State) (i : Insn) (met : List Bool) (v : ℕ) → IsAt code s.place i → executed d s i ≡ returns met v → run_for 1 code d s ≡ Some (met, v)
+pub run_ends : (code : List Insn) (d : Input) (s : State) (i : Insn) (met : List Bool) (v : ℕ) → IsAt code s.place i
+    → executed d s i ≡ returns met v → run_for 1 code d s ≡ Some (met, v)
 unfolding run_for
 run_ends code d s i met v at e = rw (step_is code d s i at, e) refl

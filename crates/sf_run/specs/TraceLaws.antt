@@ -26,7 +26,8 @@ Allowed at i (goes met next) = MayMeet at i met (Some next.place)
 Allowed at i (returns met value) = MayMeet at i met None
 Allowed at i stuck = Unit {0}
 
-loaded_allowed : (s : State) (k : ℕ) (f : ℕ → Progress) (i : Insn) → ((n : ℕ) → Allowed s.place i (f n)) → Allowed s.place i (loaded s k f)
+loaded_allowed : (s : State) (k : ℕ) (f : ℕ → Progress) (i : Insn) → ((n : ℕ) → Allowed s.place i (f n))
+    → Allowed s.place i (loaded s k f)
 loaded_allowed s k f i fine = by (slice_get s.scratch k) refl
   where
     by : (w : Option (Option ℕ)) → slice_get s.scratch k ≡ w → Allowed s.place i (loaded s k f)
@@ -46,7 +47,8 @@ step_allowed d s (StoreA k) = (refl, refl)
 step_allowed d s (StoreX k) = (refl, refl)
 step_allowed d s (Alu op other) = alu op other
   where
-    div : (b : Bool) → Allowed s.place (Alu Div X) (if b then returns (true ∷ []) 0 else goes (false ∷ []) (record s { place = s.place + 1; a = apply Div s.a s.x }))
+    div : (b : Bool) → Allowed s.place (Alu Div X) (if b then returns (true ∷ []) 0
+        else goes (false ∷ []) (record s { place = s.place + 1; a = apply Div s.a s.x }))
     div true = inl (refl, refl)
     div false = inr (refl, refl)
 
@@ -63,7 +65,8 @@ step_allowed d s Tax = (refl, refl)
 step_allowed d s Txa = (refl, refl)
 
 -- what a run that comes to an end meets is a way
-pub run_is_way : (n : ℕ) (code : List Insn) (d : Input) (s : State) (o : List Bool × ℕ) → run_for n code d s ≡ Some o → IsWay code s.place o.0
+pub run_is_way : (n : ℕ) (code : List Insn) (d : Input) (s : State) (o : List Bool × ℕ) → run_for n code d s ≡ Some o
+    → IsWay code s.place o.0
 unfolding run_for
 run_is_way zero code d s o e = absurd cc
 run_is_way (suc n) code d s o e = at_place (slice_get code s.place) refl (λ t p q. run_is_way n code d t p q) e
@@ -71,16 +74,21 @@ run_is_way (suc n) code d s o e = at_place (slice_get code s.place) refl (λ t p
     Rest : Type 0
     Rest = (t : State) (p : List Bool × ℕ) → run_for n code d t ≡ Some p → IsWay code t.place p.0
 
-    by : (i : Insn) → IsAt code s.place i → ((t : State) (p : List Bool × ℕ) → run_for n code d t ≡ Some p → IsWay code t.place p.0) → (p : Progress) → Allowed s.place i p → continued (run_for n code d) p ≡ Some o → IsWay code s.place o.0
+    by : (i : Insn) → IsAt code s.place i → ((t : State) (p : List Bool × ℕ) → run_for n code d t ≡ Some p
+        → IsWay code t.place p.0) → (p : Progress) → Allowed s.place i p → continued (run_for n code d) p ≡ Some o
+        → IsWay code s.place o.0
     by i at rest (goes met next) allowed e =
         let tail = option_map_some (put met) (run_for n code d next) o e in
-        goes_on i met next.place tail.0.0 at allowed (rest next tail.0 tail.1) (ap (λ (p : List Bool × ℕ). p.0) (sym tail.2))
+        goes_on i met next.place tail.0.0 at allowed (rest next tail.0 tail.1)
+        (ap (λ (p : List Bool × ℕ). p.0) (sym tail.2))
     by i at rest (returns met v) allowed e =
         let same : met ≡ o.0 = ap (λ (p : List Bool × ℕ). p.0) (same_Some (met, v) o e) in
         subst (λ (l : List Bool). IsWay code s.place l) same (returns_at i at allowed)
     by i at rest stuck allowed e = absurd cc
 
-    at_place : (w : Option Insn) → slice_get code s.place ≡ w → ((t : State) (p : List Bool × ℕ) → run_for n code d t ≡ Some p → IsWay code t.place p.0) → continued (run_for n code d) (step code d s) ≡ Some o → IsWay code s.place o.0
+    at_place : (w : Option Insn) → slice_get code s.place ≡ w
+        → ((t : State) (p : List Bool × ℕ) → run_for n code d t ≡ Some p → IsWay code t.place p.0)
+        → continued (run_for n code d) (step code d s) ≡ Some o → IsWay code s.place o.0
     at_place None at rest e = let clash : None ≡ Some o = rw at at e in absurd cc
     at_place (Some i) at rest e = by i at rest (executed d s i) (step_allowed d s i) (rw (step_is code d s i at) at e)
 
@@ -92,18 +100,27 @@ trace_is_way code d lawful = by (outcome_of code d) refl (lawful_ends code d law
     by None e some = absurd cc
     by (Some o) e some = rw e (run_is_way (length code) code d start o e)
 
-pub traces_are_ways : (codes : List (List Insn)) (d : Input) → AllByRecursion IsLawful codes → AreWays codes (flat_map (λ p. met_by p d) codes)
+pub traces_are_ways : (codes : List (List Insn)) (d : Input) → AllByRecursion IsLawful codes
+    → AreWays codes (flat_map (λ p. met_by p d) codes)
 traces_are_ways [] d lawful = refl
-traces_are_ways (code ∷ codes) d lawful =
-    (met_by code d, flat_map (λ p. met_by p d) codes, trace_is_way code d lawful.0, traces_are_ways codes d lawful.1, refl)
+traces_are_ways (code ∷ codes) d lawful = (
+  met_by code d,
+  flat_map (λ p. met_by p d) codes,
+  trace_is_way code d lawful.0,
+  traces_are_ways codes d lawful.1,
+  refl,
+)
 
 pub newest_first : (programs : List (List Insn)) → IsLawfulStack programs → AllByRecursion IsLawful (reverse programs)
 newest_first programs lawful =
     recursion_from_All IsLawful (reverse programs) (λ k d lt.
     let lt' : k < length programs = omega (arith, length-reverse programs) in
-    subst IsLawful (sym (get_or-reverse programs k d lt')) (lawful.each (length programs - 1 - k) (get_or programs (length programs - 1 - k) d) (slice_get-get_or programs (length programs - 1 - k) d (omega arith))))
+    subst IsLawful (sym (get_or-reverse programs k d lt'))
+    (lawful.each (length programs - 1 - k) (get_or programs (length programs - 1 - k) d)
+    (slice_get-get_or programs (length programs - 1 - k) d (omega arith))))
 
-pub trace_is_whole_route : (programs : List (List Insn)) (d : Input) → IsLawfulStack programs → IsWholeRoute programs (trace_of programs d)
+pub trace_is_whole_route : (programs : List (List Insn)) (d : Input) → IsLawfulStack programs
+    → IsWholeRoute programs (trace_of programs d)
 trace_is_whole_route programs d lawful = traces_are_ways (reverse programs) d (newest_first programs lawful)
 
 -- ---- how long traces are
@@ -127,7 +144,8 @@ step_short d s (LoadScratch k) = loaded_short s k (with_a s) (λ n. omega arith)
 step_short d s (LoadXScratch k) = loaded_short s k (with_x s) (λ n. omega arith)
 step_short d s (Alu op other) = alu op other
   where
-    div : (b : Bool) → IsShort s (if b then returns (true ∷ []) 0 else goes (false ∷ []) (record s { place = s.place + 1; a = apply Div s.a s.x }))
+    div : (b : Bool) → IsShort s (if b then returns (true ∷ []) 0
+        else goes (false ∷ []) (record s { place = s.place + 1; a = apply Div s.a s.x }))
     div true = omega arith
     div false = omega arith
 
@@ -140,12 +158,15 @@ step_short d s (ReturnConstant k) = omega arith
 step_short d s ReturnA = lit≤ tt
 step_short d s _ = omega arith
 
-pub run_short : (n : ℕ) (code : List Insn) (d : Input) (s : State) (o : List Bool × ℕ) → run_for n code d s ≡ Some o → length o.0 + s.place ≤ length code + 31
+pub run_short : (n : ℕ) (code : List Insn) (d : Input) (s : State) (o : List Bool × ℕ) → run_for n code d s ≡ Some o
+    → length o.0 + s.place ≤ length code + 31
 unfolding run_for
 run_short zero code d s o e = absurd cc
 run_short (suc n) code d s o e = at_place (slice_get code s.place) refl (λ t p q. run_short n code d t p q) e
   where
-    by : (i : Insn) → IsAt code s.place i → ((t : State) (p : List Bool × ℕ) → run_for n code d t ≡ Some p → length p.0 + t.place ≤ length code + 31) → (p : Progress) → IsShort s p → continued (run_for n code d) p ≡ Some o → length o.0 + s.place ≤ length code + 31
+    by : (i : Insn) → IsAt code s.place i → ((t : State) (p : List Bool × ℕ) → run_for n code d t ≡ Some p
+        → length p.0 + t.place ≤ length code + 31) → (p : Progress) → IsShort s p
+        → continued (run_for n code d) p ≡ Some o → length o.0 + s.place ≤ length code + 31
     by i at rest (goes met next) short e =
         let tail = option_map_some (put met) (run_for n code d next) o e in
         let whole = ap (λ (p : List Bool × ℕ). length p.0) tail.2 in
@@ -155,7 +176,9 @@ run_short (suc n) code d s o e = at_place (slice_get code s.place) refl (λ t p 
         omega (arith, short, same, slice_get_within code s.place i at)
     by i at rest stuck short e = absurd cc
 
-    at_place : (w : Option Insn) → slice_get code s.place ≡ w → ((t : State) (p : List Bool × ℕ) → run_for n code d t ≡ Some p → length p.0 + t.place ≤ length code + 31) → continued (run_for n code d) (step code d s) ≡ Some o → length o.0 + s.place ≤ length code + 31
+    at_place : (w : Option Insn) → slice_get code s.place ≡ w
+        → ((t : State) (p : List Bool × ℕ) → run_for n code d t ≡ Some p → length p.0 + t.place ≤ length code + 31)
+        → continued (run_for n code d) (step code d s) ≡ Some o → length o.0 + s.place ≤ length code + 31
     at_place None at rest e = let clash : None ≡ Some o = rw at at e in absurd cc
     at_place (Some i) at rest e = by i at rest (executed d s i) (step_short d s i) (rw (step_is code d s i at) at e)
 
@@ -170,19 +193,38 @@ met_short code d = by (outcome_of code d) refl
 abbrev counted : List Insn → ℕ
 counted p = length p + 4
 
-all_short : (codes : List (List Insn)) (d : Input) → length (flat_map (λ p. met_by p d) codes) ≤ sum_by counted codes + 27 * length codes
+all_short : (codes : List (List Insn)) (d : Input) → length (flat_map (λ p. met_by p d) codes) ≤ sum_by counted codes
+    + 27 * length codes
 all_short [] d = omega arith
 all_short (code ∷ codes) d =
-    let whole : length (flat_map (λ p. met_by p d) (code ∷ codes)) ≡ length (met_by code d) + length (flat_map (λ p. met_by p d) codes) = length-append (met_by code d) (flat_map (λ p. met_by p d) codes) in
+    let whole : length (flat_map (λ p. met_by p d) (code ∷ codes)) ≡ length (met_by code d)
+    + length (flat_map (λ p. met_by p d) codes) = length-append (met_by code d)
+    (flat_map (λ p. met_by p d) codes) in
     omega (arith, whole, sum_by-cons counted code codes, met_short code d, all_short codes d)
 
 -- the path length counts the programs in any order
 sum-reverse : (codes : List (List Insn)) → sum_by counted (reverse codes) ≡ sum_by counted codes
 sum-reverse [] = refl
 sum-reverse (code ∷ codes) =
-    let turned : sum_by counted (reverse (code ∷ codes)) ≡ sum_by counted (reverse codes ++ code ∷ []) = ap (sum_by counted) (reverse-append (code ∷ []) codes) in
-    omega (arith, turned, sum_by-append counted (reverse codes) (code ∷ []), sum_by-cons counted code codes, sum_by-cons counted code [], sum-reverse codes)
+    let turned : sum_by counted (reverse (code ∷ codes)) ≡ sum_by counted (reverse codes ++ code ∷ []) =
+    ap (sum_by counted) (reverse-append (code ∷ []) codes) in
+    omega (
+      arith,
+      turned,
+      sum_by-append counted (reverse codes) (code ∷ []),
+      sum_by-cons counted code codes,
+      sum_by-cons counted code [],
+      sum-reverse codes,
+    )
 
-pub trace_is_short : (programs : List (List Insn)) (d : Input) → IsLawfulStack programs → length (trace_of programs d) ≤ 32768 + 32 * 64
+pub trace_is_short : (programs : List (List Insn)) (d : Input) → IsLawfulStack programs
+    → length (trace_of programs d) ≤ 32768 + 32 * 64
 trace_is_short programs d lawful =
-    omega (arith, all_short (reverse programs) d, length-reverse programs, sum-reverse programs, lawful.few, lawful.short)
+    omega (
+      arith,
+      all_short (reverse programs) d,
+      length-reverse programs,
+      sum-reverse programs,
+      lawful.few,
+      lawful.short,
+    )

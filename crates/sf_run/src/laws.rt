@@ -47,7 +47,8 @@ pub fn all_inputs_are_listed()
 
 /// Each stack has its list of feasible traces.
 pub fn each_stack_has_its_feasible_traces()
-    ensures { (programs : List (List Insn)) → AreFeasibleTraces programs (feasible_traces programs) }
+    ensures { (programs : List (List Insn)) → AreFeasibleTraces programs
+        (feasible_traces programs) }
 {}
 
 /// A stack has at most one list of feasible traces.

@@ -23,7 +23,8 @@ fn push_bits(met: &mut Vec<bool>, word: u32) -> Result<(), Fault>
 
 // Adds the truth values that the instruction meets.
 fn push_met(met: &mut Vec<bool>, machine: &Machine, insn: &Insn) -> Result<(), Fault>
-    ensures pushed { OnOk result (met.new.items ≡ met.old.items ++ met_at (state_of 0 machine.now) insn.now) }
+    ensures pushed { OnOk result (met.new.items ≡ met.old.items
+        ++ met_at (state_of 0 machine.now) insn.now) }
     ensures only { MatchResult result (λ _. Unit {0}) (λ e. e ≡ Fault.Memory) }
 {
     match insn {

@@ -14,17 +14,22 @@ use Rattle.sf_sym.specs.declared.pool.NodeId.{NodeId}
 constant-small : (ns : List Node) (i x : ℕ) → IsPool ns → i < length ns → number_of (node_at ns i) ≡ Some x → x < 2 ^ 32
 constant-small ns i x p h e = rw (number_of-is (node_at ns i) x e) at (OperandsBelow-at 0 ns i p.ordered h)
 
-combined-value : (ns : List Node) (d : Input) (op : BinOp) (a b : NodeId) → IsPool ns → a.0 < length ns → b.0 < length ns
+combined-value : (ns : List Node) (d : Input) (op : BinOp) (a b : NodeId) → IsPool ns → a.0 < length ns
+    → b.0 < length ns
     → (x y : Option ℕ) → number_of (node_at ns a.0) ≡ x → number_of (node_at ns b.0) ≡ y
     → node_value d (values_of ns d) (combined op a b x y) ≡ apply op (value_of ns d a.0) (value_of ns d b.0)
 combined-value ns d op a b p k l (Some x) (Some y) e f =
-    rw (value-constant ns d a.0 x p k (number_of-is (node_at ns a.0) x e), value-constant ns d b.0 y p l (number_of-is (node_at ns b.0) y f)) refl
+    rw (
+      value-constant ns d a.0 x p k (number_of-is (node_at ns a.0) x e),
+      value-constant ns d b.0 y p l (number_of-is (node_at ns b.0) y f),
+    ) refl
 combined-value ns d op a b p k l (Some x) None e f = refl
 combined-value ns d op a b p k l None (Some y) e f = refl
 combined-value ns d op a b p k l None None e f = refl
 
 opposite-value : (ns : List Node) (d : Input) (a : NodeId) → IsPool ns → a.0 < length ns
-    → (x : Option ℕ) → number_of (node_at ns a.0) ≡ x → node_value d (values_of ns d) (opposite a x) ≡ negated (value_of ns d a.0)
+    → (x : Option ℕ) → number_of (node_at ns a.0) ≡ x → node_value d (values_of ns d) (opposite a x)
+    ≡ negated (value_of ns d a.0)
 opposite-value ns d a p k (Some x) e = rw (value-constant ns d a.0 x p k (number_of-is (node_at ns a.0) x e)) refl
 opposite-value ns d a p k None e = refl
 
@@ -32,22 +37,28 @@ pub folded-value : (ns : List Node) (d : Input) (node : Node) → IsPool ns → 
     → node_value d (values_of ns d) (folded ns node) ≡ node_value d (values_of ns d) node
 folded-value ns d (Const c) p o = refl
 folded-value ns d (Word i) p o = refl
-folded-value ns d (Bin op a b) p o = combined-value ns d op a b p o.0 o.1 (number_of (node_at ns a.0)) (number_of (node_at ns b.0)) refl refl
+folded-value ns d (Bin op a b) p o = combined-value ns d op a b p o.0 o.1 (number_of (node_at ns a.0))
+    (number_of (node_at ns b.0)) refl refl
 folded-value ns d (Neg a) p o = opposite-value ns d a p o (number_of (node_at ns a.0)) refl
 
 combined-operands : (ns : List Node) (op : BinOp) (a b : NodeId) → IsPool ns → a.0 < length ns → b.0 < length ns
-    → (x y : Option ℕ) → number_of (node_at ns a.0) ≡ x → number_of (node_at ns b.0) ≡ y → OperandsBelow (length ns) (combined op a b x y)
-combined-operands ns op a b p k l (Some x) (Some y) e f = apply-small op x y (constant-small ns a.0 x p k e) (constant-small ns b.0 y p l f)
+    → (x y : Option ℕ) → number_of (node_at ns a.0) ≡ x → number_of (node_at ns b.0) ≡ y
+    → OperandsBelow (length ns) (combined op a b x y)
+combined-operands ns op a b p k l (Some x) (Some y) e f =
+    apply-small op x y (constant-small ns a.0 x p k e) (constant-small ns b.0 y p l f)
 combined-operands ns op a b p k l (Some x) None e f = (k, l)
 combined-operands ns op a b p k l None (Some y) e f = (k, l)
 combined-operands ns op a b p k l None None e f = (k, l)
 
-opposite-operands : (ns : List Node) (a : NodeId) → a.0 < length ns → (x : Option ℕ) → OperandsBelow (length ns) (opposite a x)
+opposite-operands : (ns : List Node) (a : NodeId) → a.0 < length ns → (x : Option ℕ)
+    → OperandsBelow (length ns) (opposite a x)
 opposite-operands ns a k (Some x) = omega arith
 opposite-operands ns a k None = k
 
-pub folded-operands : (ns : List Node) (node : Node) → IsPool ns → OperandsBelow (length ns) node → OperandsBelow (length ns) (folded ns node)
+pub folded-operands : (ns : List Node) (node : Node) → IsPool ns → OperandsBelow (length ns) node
+    → OperandsBelow (length ns) (folded ns node)
 folded-operands ns (Const c) p o = o
 folded-operands ns (Word i) p o = o
-folded-operands ns (Bin op a b) p o = combined-operands ns op a b p o.0 o.1 (number_of (node_at ns a.0)) (number_of (node_at ns b.0)) refl refl
+folded-operands ns (Bin op a b) p o = combined-operands ns op a b p o.0 o.1 (number_of (node_at ns a.0))
+    (number_of (node_at ns b.0)) refl refl
 folded-operands ns (Neg a) p o = opposite-operands ns a o (number_of (node_at ns a.0))

@@ -1,3 +1,4 @@
+-- How a pool finds the nodes that it has: each is linked to the last older one of the same mark.
 use Rattle.std.specs.Prelude.{◌≡◌, ◌≢◌, ℕ, suc, ◌+◌, ◌*◌, ◌%◌, ◌<◌, ◌≤◌, List, length, map, slice_index, slice_index_or}
 use Rattle.sf_sym.specs.Pool.{node_at}
 use Rattle.sf_sym.specs.declared.index.Entry.{Entry}
@@ -15,6 +16,7 @@ mark_of (Neg a) = (a.0 % 251 + 5) % 251
 abbrev pub nodes_of : List Entry → List Node
 nodes_of es = map (λ e. e.node) es
 
+-- where the last older node of the same mark stands, counted from 1; 0 where there is none
 abbrev pub older_at : List Entry → ℕ → ℕ
 older_at es i = (slice_index_or es i (record { node = Const 0; older = 0 })).older
 

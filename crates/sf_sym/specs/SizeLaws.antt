@@ -31,7 +31,8 @@ apply-small Xor a b p q = xor_lt 32 a b p q
 pub AreWords : List ℕ → Type 0
 AreWords xs = (i : ℕ) → slice_index xs i < 2 ^ 32
 
-node-small : (d : Input) (older : List ℕ) (k : ℕ) (n : Node) → IsInput d → AreWords older → OperandsBelow k n → node_value d older n < 2 ^ 32
+node-small : (d : Input) (older : List ℕ) (k : ℕ) (n : Node) → IsInput d → AreWords older → OperandsBelow k n
+    → node_value d older n < 2 ^ 32
 unfolding AreWords
 node-small d older k (Const c) i w o = o
 node-small d older k (Word j) i w o = i.each j
@@ -45,9 +46,11 @@ push-words [] v w l (suc i) = w i
 push-words (x ∷ xs) v w l zero = w zero
 push-words (x ∷ xs) v w l (suc i) = push-words xs v (λ j. w (suc j)) l i
 
-values-small : (d : Input) (older : List ℕ) (k : ℕ) (ns : List Node) → IsInput d → AreWords older → AreOrdered k ns → AreWords (values_after d older ns)
+values-small : (d : Input) (older : List ℕ) (k : ℕ) (ns : List Node) → IsInput d → AreWords older → AreOrdered k ns
+    → AreWords (values_after d older ns)
 values-small d older k [] i w o = w
-values-small d older k (n ∷ ns) i w o = values-small d (older ++ node_value d older n ∷ []) (suc k) ns i (push-words older (node_value d older n) w (node-small d older k n i w o.0)) o.1
+values-small d older k (n ∷ ns) i w o = values-small d (older ++ node_value d older n ∷ []) (suc k) ns i
+    (push-words older (node_value d older n) w (node-small d older k n i w o.0)) o.1
 
 no-words : AreWords []
 unfolding AreWords

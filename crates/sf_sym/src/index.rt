@@ -55,8 +55,10 @@ fn is_same(a: Node, b: Node) -> bool
 /// The place of a node that is there, looked for from the newest node of its mark on.
 pub fn place_of(entries: &Entries, newest: &[u32], node: Node) -> Option<usize>
     requires { IsIndexed entries.now newest.now }
-    ensures found { (i : ℕ) → result ≡ Some i → (i < length entries.now) × (node_at (nodes_of entries.now) i ≡ node) }
-    ensures absent { result ≡ None → (i : ℕ) → i < length entries.now → node_at (nodes_of entries.now) i ≢ node }
+    ensures found { (i : ℕ) → result ≡ Some i → (i < length entries.now)
+        × (node_at (nodes_of entries.now) i ≡ node) }
+    ensures absent { result ≡ None → (i : ℕ) → i < length entries.now
+        → node_at (nodes_of entries.now) i ≢ node }
 {
     let mut next = newest[mark(node)] as usize;
     while next > 0 {

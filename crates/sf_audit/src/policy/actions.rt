@@ -107,7 +107,8 @@ fn set_in(value: &Value) -> Option<ActionSet>
 
 /// The set of the actions that a question names, without one where a name isn't that of an action.
 pub(super) fn actions_in(table: &Table) -> Option<ActionSet>
-    ensures { result ≡ option_map encoded_set (names_at (get_member (codes "actions") (table_view table.now))) }
+    ensures { result ≡ option_map encoded_set
+        (names_at (get_member (codes "actions") (table_view table.now))) }
 {
     match value_at(table, "actions") {
         None => Some(ActionSet::LET_THROUGH),

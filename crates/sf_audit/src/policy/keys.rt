@@ -66,7 +66,8 @@ pub(crate) fn is_among(text: &str, texts: &[&str]) -> bool
 }
 
 fn has_only_keys(table: &Table, known: &[&str]) -> bool
-    ensures { result ≡ list_all (λ key. list_any (λ k. bytes_eq (string_bytes key) k.now) known.now) (keys table.now) }
+    ensures { result ≡ list_all (λ key. list_any (λ k. bytes_eq (string_bytes key) k.now)
+        known.now) (keys table.now) }
 {
     table.keys().all(|key| is_among(key.as_str(), known))
 }

@@ -35,7 +35,9 @@ fn question_of_parts(
     entries: &[WordEntry; 16],
     actions: ActionSet,
 ) -> Result<Question, Fault>
-    ensures { Gives (λ q. q) result (with_number number (question_of name.now (map encoded_range entries.now) (map encoded_mask entries.now) actions)) }
+    ensures { Gives (λ q. q) result (with_number number
+        (question_of name.now (map encoded_range entries.now)
+        (map encoded_mask entries.now) actions)) }
 {
     match Question::of_masked(alloc, name, ranges_of(entries), masks_of(entries), actions) {
         Ok(question) => Ok(question),
@@ -72,7 +74,8 @@ fn question_of_value(
     number: usize,
     value: &Value,
 ) -> Result<Question, Fault>
-    ensures { Gives (λ q. q) result (question_of_table version number (table_or_empty (view value.now))) }
+    ensures { Gives (λ q. q) result (question_of_table version number
+        (table_or_empty (view value.now))) }
 {
     match value {
         Value::Table(table) => question_of_table(alloc, version, number, table),
@@ -87,7 +90,8 @@ pub(super) fn questions_in(
     items: &[Value],
 ) -> Result<Vec<Question>, Fault>
     requires { length items.now ≤ 256 }
-    ensures { Gives (λ v. v.items) result (questions_from version 1 (map (λ v. table_or_empty (view v)) items.now)) }
+    ensures { Gives (λ v. v.items) result (questions_from version 1
+        (map (λ v. table_or_empty (view v)) items.now)) }
 {
     let mut questions = Vec::new(alloc);
     for (i, value) in items.iter().enumerate() {

@@ -94,7 +94,8 @@ fn entry_in(version: Version, table: &Table, key: &str) -> Option<WordEntry>
 }
 
 fn entries_at(version: Version, table: &Table, keys: &[&str; 16]) -> Option<[WordEntry; 16]>
-    ensures { result ≡ each_of (λ key. entry_at version (get_member key (table_view table.now))) (map (λ key. key.now) keys.now) }
+    ensures { result ≡ each_of (λ key. entry_at version (get_member key (table_view table.now)))
+        (map (λ key. key.now) keys.now) }
 {
     let mut words = [ANY_NUMBER; 16];
     for (i, key) in keys.iter().enumerate() {
@@ -105,7 +106,8 @@ fn entries_at(version: Version, table: &Table, keys: &[&str; 16]) -> Option<[Wor
 
 /// What the table of a question says of the sixteen words.
 pub(super) fn entries_in(version: Version, table: &Table) -> Option<[WordEntry; 16]>
-    ensures { result ≡ each_of (λ key. entry_at version (get_member key (table_view table.now))) word_keys }
+    ensures { result ≡ each_of (λ key. entry_at version
+        (get_member key (table_view table.now))) word_keys }
 {
     entries_at(version, table, &WORD_KEYS)
 }

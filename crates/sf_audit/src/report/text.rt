@@ -25,7 +25,8 @@ fn push_trace(text: &mut String, name: &[bool]) -> Result<(), AllocError>
 }
 
 fn push_region(text: &mut String, number: usize, region: &Region) -> Result<(), AllocError>
-    ensures { OnOk result (string_bytes text.new ≡ string_bytes text.old ++ region_line number region.now) }
+    ensures { OnOk result (string_bytes text.new ≡ string_bytes text.old
+        ++ region_line number region.now) }
 {
     write!(text, "region {number} ")?;
     push_trace(text, region.name())?;
@@ -37,7 +38,8 @@ fn push_region(text: &mut String, number: usize, region: &Region) -> Result<(), 
 }
 
 fn push_regions(text: &mut String, settled: &Settled) -> Result<(), AllocError>
-    ensures { OnOk result (string_bytes text.new ≡ string_bytes text.old ++ region_lines 1 settled.now.regions) }
+    ensures { OnOk result (string_bytes text.new ≡ string_bytes text.old
+        ++ region_lines 1 settled.now.regions) }
 {
     for i in 0..settled.region_count() {
         push_region(text, i + 1, settled.region(i))?;
@@ -46,7 +48,8 @@ fn push_regions(text: &mut String, settled: &Settled) -> Result<(), AllocError>
 }
 
 fn push_shown_regions(text: &mut String, shown: bool, settled: &Settled) -> Result<(), AllocError>
-    ensures { OnOk result (string_bytes text.new ≡ string_bytes text.old ++ shown_lines shown settled.now.regions) }
+    ensures { OnOk result (string_bytes text.new ≡ string_bytes text.old
+        ++ shown_lines shown settled.now.regions) }
 {
     if shown {
         push_regions(text, settled)?;
@@ -68,7 +71,8 @@ fn push_question(
     name: &str,
     reply: Reply,
 ) -> Result<(), AllocError>
-    ensures { OnOk result (string_bytes text.new ≡ string_bytes text.old ++ question_line number name.now reply) }
+    ensures { OnOk result (string_bytes text.new ≡ string_bytes text.old
+        ++ question_line number name.now reply) }
 {
     match reply {
         Reply::Never => write!(text, "question {number} {name} never\n"),
@@ -87,7 +91,8 @@ fn push_questions(
     replies: &[Reply],
 ) -> Result<(), AllocError>
     requires { length questions.now ≡ length replies.now }
-    ensures { OnOk result (string_bytes text.new ≡ string_bytes text.old ++ question_lines 1 questions.now replies.now) }
+    ensures { OnOk result (string_bytes text.new ≡ string_bytes text.old
+        ++ question_lines 1 questions.now replies.now) }
 {
     for (i, question) in questions.iter().enumerate() {
         push_question(alloc, text, i + 1, question.name(), replies[i])?;
@@ -101,7 +106,8 @@ fn push_size(
     path: usize,
     questions: usize,
 ) -> Result<(), AllocError>
-    ensures { OnOk result (string_bytes text.new ≡ string_bytes text.old ++ size_line filters path questions) }
+    ensures { OnOk result (string_bytes text.new ≡ string_bytes text.old
+        ++ size_line filters path questions) }
 {
     write!(
         text,
@@ -124,14 +130,16 @@ fn push_counts(text: &mut String, counts: Counts) -> Result<(), AllocError>
 }
 
 fn push_stack(text: &mut String, settled: &Settled, questions: usize) -> Result<(), AllocError>
-    ensures { OnOk result (string_bytes text.new ≡ string_bytes text.old ++ size_line (length settled.now.stack) (path_length settled.now.stack) questions) }
+    ensures { OnOk result (string_bytes text.new ≡ string_bytes text.old
+        ++ size_line (length settled.now.stack) (path_length settled.now.stack) questions) }
 {
     let stack = settled.stack();
     push_size(text, stack.programs().len(), stack.path_length(), questions)
 }
 
 fn push_head(text: &mut String, settled: &Settled, questions: usize) -> Result<(), AllocError>
-    ensures { OnOk result (string_bytes text.new ≡ string_bytes text.old ++ head_text settled.now questions) }
+    ensures { OnOk result (string_bytes text.new ≡ string_bytes text.old
+        ++ head_text settled.now questions) }
 {
     text.push_str("seccomp_audit report 2\n")?;
     push_stack(text, settled, questions)?;
@@ -144,7 +152,8 @@ fn push_total(
     allowed: usize,
     unsettled: usize,
 ) -> Result<(), AllocError>
-    ensures { OnOk result (string_bytes text.new ≡ string_bytes text.old ++ total_line never allowed unsettled) }
+    ensures { OnOk result (string_bytes text.new ≡ string_bytes text.old
+        ++ total_line never allowed unsettled) }
 {
     write!(
         text,
@@ -153,7 +162,8 @@ fn push_total(
 }
 
 fn push_totals(text: &mut String, replies: &[Reply]) -> Result<(), AllocError>
-    ensures { OnOk result (string_bytes text.new ≡ string_bytes text.old ++ totals_line replies.now) }
+    ensures { OnOk result (string_bytes text.new ≡ string_bytes text.old
+        ++ totals_line replies.now) }
 {
     push_total(
         text,

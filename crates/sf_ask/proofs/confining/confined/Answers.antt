@@ -4,8 +4,11 @@ use Rattle.sf_ask.proofs.confining.confined.Goals as goal
 
 pub loop-word-preserved : goal.loop-word-preserved
 loop-word-preserved c =
-    before-more c.args.question.now c.loop-word.word c.args.facts.now c.loop-word.confined c.confine_word.new.facts c.args.pool.now
-    c.requires c.loop-word.invariant (of-true _ c.in_ok-confine_word.field-0 c.if-not-branch.false c.in_ok-confine_word.ensures.confined)
+    before-more c.args.question.now c.loop-word.word c.args.facts.now c.loop-word.confined
+    c.confine_word.new.facts c.args.pool.now
+    c.requires c.loop-word.invariant (of-true _ c.in_ok-confine_word.field-0 c.if-not-branch.false
+    c.in_ok-confine_word.ensures.confined)
 
 pub returns-clause-confined : goal.returns-clause-confined
-returns-clause-confined c = before-all c.args.question.now c.loop-word.word c.args.facts.now c.loop-word.confined c.args.pool.now (omega arith) c.loop-word.invariant
+returns-clause-confined c = before-all c.args.question.now c.loop-word.word c.args.facts.now c.loop-word.confined
+    c.args.pool.now (omega arith) c.loop-word.invariant

@@ -3,4 +3,5 @@ use Rattle.sf_ask.specs.Trying.{AreConfined, IsNumberBefore}
 use Rattle.sf_ask.proofs.confining.confined.Given as goal
 
 abbrev pub invariant-loop-word : goal.invariant-loop-word
-invariant-loop-word l = AreConfined l.facts l.confined l.pool (IsInBefore l.question l.word) (IsNumberBefore l.question l.word)
+invariant-loop-word l = AreConfined l.facts l.confined l.pool (IsInBefore l.question l.word)
+    (IsNumberBefore l.question l.word)

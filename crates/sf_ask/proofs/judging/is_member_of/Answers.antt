@@ -10,15 +10,19 @@ unfolding is_member
 returns-then-not-is_met-clause-tells c =
     let p = c.args.piece.now in
     let on = rw c.pool.ensures.value at (c.as_slice.ensures.value ∙ c.in_ok-values.ensures.values) in
-    let met : c.is_met.result ≡ is_met p.pool c.args.input.now c.cond.result = c.is_met.ensures ∙ ap (λ v. is_met_by v c.cond.result) on in
-    sym (not-met (is_met p.pool c.args.input.now) p.conditions c.loop-i.i c.cond.result c.cond.ensures.value (sym met ∙ c.if-not-is_met.true))
+    let met : c.is_met.result ≡ is_met p.pool c.args.input.now c.cond.result =
+    c.is_met.ensures ∙ ap (λ v. is_met_by v c.cond.result) on in
+    sym (not-met (is_met p.pool c.args.input.now) p.conditions c.loop-i.i c.cond.result c.cond.ensures.value
+    (sym met ∙ c.if-not-is_met.true))
 
 pub loop-i-preserved : goal.loop-i-preserved
 loop-i-preserved c =
     let p = c.args.piece.now in
     let on = rw c.pool.ensures.value at (c.as_slice.ensures.value ∙ c.in_ok-values.ensures.values) in
-    let met : c.is_met.result ≡ is_met p.pool c.args.input.now c.cond.result = c.is_met.ensures ∙ ap (λ v. is_met_by v c.cond.result) on in
-    met-more (is_met p.pool c.args.input.now) p.conditions c.loop-i.i c.cond.result c.cond.ensures.value c.loop-i.invariant (sym met ∙ c.if-not-is_met.false)
+    let met : c.is_met.result ≡ is_met p.pool c.args.input.now c.cond.result =
+    c.is_met.ensures ∙ ap (λ v. is_met_by v c.cond.result) on in
+    met-more (is_met p.pool c.args.input.now) p.conditions c.loop-i.i c.cond.result c.cond.ensures.value
+    c.loop-i.invariant (sym met ∙ c.if-not-is_met.false)
 
 pub returns-clause-tells : goal.returns-clause-tells
 unfolding is_member

@@ -7,7 +7,8 @@ use Rattle.sf_ask.proofs.judging.judge.Goals as goal
 pub returns-then-not-has-clause-right : goal.returns-then-not-has-clause-right
 returns-then-not-has-clause-right c =
     let s = c.args.settled.now in
-    not-asked s c.args.region c.args.question.now c.region-settled_region.result.now c.region-settled_region.ensures.value c.region-settled_region.ensures.right
+    not-asked s c.args.region c.args.question.now c.region-settled_region.result.now
+    c.region-settled_region.ensures.value c.region-settled_region.ensures.right
     (rw (c.actions.ensures, c.answer.ensures) at (sym c.has.ensures ∙ c.if-not-has.true))
 
 pub returns-clause-right : goal.returns-clause-right
@@ -17,7 +18,8 @@ returns-clause-right c =
     let r = c.region-settled_region.result.now in
     let e = c.region-settled_region.ensures in
     if-ok (IsRightSearch r.piece q) (IsRightVerdict s c.args.region q) c.search.result
-    (λ v. region-right s c.args.region q r v e.value e.right (rw (c.actions.ensures, c.answer.ensures) at (sym c.has.ensures ∙ c.if-not-has.false)))
+    (λ v. region-right s c.args.region q r v e.value e.right
+    (rw (c.actions.ensures, c.answer.ensures) at (sym c.has.ensures ∙ c.if-not-has.false)))
     (rw (c.deref.ensures, c.piece.ensures) at c.search.ensures.right)
 
 pub returns-clause-tried : goal.returns-clause-tried
@@ -25,7 +27,8 @@ returns-clause-tried c =
     let s = c.args.settled.now in
     let q = c.args.question.now in
     let r = c.region-settled_region.result.now in
-    if-both-ok (IsRightVerdict s c.args.region q) (TellsTried r.piece q) (TellsTriedAt s c.args.region q) c.search.result
+    if-both-ok (IsRightVerdict s c.args.region q) (TellsTried r.piece q)
+    (TellsTriedAt s c.args.region q) c.search.result
     (λ v. region-tried s c.args.region q r v c.region-settled_region.ensures.value)
     (returns-clause-right c)
     (rw (c.deref.ensures, c.piece.ensures) at c.search.ensures.tried)

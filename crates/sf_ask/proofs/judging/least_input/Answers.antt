@@ -13,10 +13,12 @@ loop-word-preserved c =
     record {
       long = length-set words at number ∙ long;
       small = small-more words at number (omega arith) invariant.small;
-      lows = lows-more c.args.facts.now words at number (omega arith) invariant.lows (some-same number _ c.in_ok-number.ensures.low);
+      lows = lows-more c.args.facts.now words at number (omega arith) invariant.lows
+          (some-same number _ c.in_ok-number.ensures.low);
     }
 
 pub returns : goal.returns
 returns c =
     let invariant = c.loop-word.invariant in
-    lows-all c.args.facts.now c.loop-word.words invariant.long invariant.small (λ word w. invariant.lows word (omega arith))
+    lows-all c.args.facts.now c.loop-word.words invariant.long invariant.small
+    (λ word w. invariant.lows word (omega arith))

@@ -4,4 +4,6 @@ use Rattle.sf_audit.proofs.report.write_report.Goals as goal
 
 pub returns-in-Ok-clause-begun : goal.returns-in-Ok-clause-begun
 returns-in-Ok-clause-begun g c =
-    subst (λ t. OnErr c.write_bytes.result (AppendsFront (g.W.Write.contents c.args.out.now) (g.W.Write.contents c.write_bytes.new.out) t)) (c.as_bytes.ensures.value ∙ c.in-Ok.ensures) c.write_bytes.ensures.err
+    subst (λ t. OnErr c.write_bytes.result (AppendsFront (g.W.Write.contents c.args.out.now)
+    (g.W.Write.contents c.write_bytes.new.out) t)) (c.as_bytes.ensures.value
+    ∙ c.in-Ok.ensures) c.write_bytes.ensures.err

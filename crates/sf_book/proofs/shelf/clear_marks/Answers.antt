@@ -4,4 +4,5 @@ use Rattle.sf_book.specs.declared.shelf.Mark.{Mark}
 use Rattle.sf_book.proofs.shelf.clear_marks.Goals as goal
 
 pub returns : goal.returns
-returns c = map_same_pairs _ (λ (m : Mark). record { id = m.id; leased = false }) _ (λ k v b w f' t. search rules) _ _ c.retain.ensures.filtered
+returns c = map_same_pairs _ (λ (m : Mark). record { id = m.id; leased = false }) _
+    (λ k v b w f' t. search rules) _ _ c.retain.ensures.filtered

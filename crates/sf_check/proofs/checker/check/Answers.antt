@@ -20,7 +20,11 @@ unfolding no_raw
 returns-in-Err-UnknownCode-clause-refused c =
     let raws = c.args.raws.now in
     let at = c.loop-place.place in
-    let before : AreFineBefore raws at = record { some = omega arith; short = omega arith; each = c.loop-place.invariant.fine } in
+    let before : AreFineBefore raws at = record {
+      some = omega arith;
+      short = omega arith;
+      each = c.loop-place.invariant.fine;
+    } in
     let read : insn_of (get_or raws at no_raw) ≡ Err UnknownCode = cc in
     inr (before, get_or raws at no_raw, slice_get-get_or raws at no_raw c.loop-place-test.true, read)
 
@@ -29,7 +33,11 @@ unfolding no_raw
 returns-in-Err-BadField-clause-refused c =
     let raws = c.args.raws.now in
     let at = c.loop-place.place in
-    let before : AreFineBefore raws at = record { some = omega arith; short = omega arith; each = c.loop-place.invariant.fine } in
+    let before : AreFineBefore raws at = record {
+      some = omega arith;
+      short = omega arith;
+      each = c.loop-place.invariant.fine;
+    } in
     let read : insn_of (get_or raws at no_raw) ≡ Err BadField = cc in
     inr (before, get_or raws at no_raw, slice_get-get_or raws at no_raw c.loop-place-test.true, read)
 
@@ -39,9 +47,20 @@ unfolding no_raw
 returns-then-not-leads_inside-clause-refused c =
     let raws = c.args.raws.now in
     let at = c.loop-place.place in
-    let before : AreFineBefore raws at = record { some = omega arith; short = omega arith; each = c.loop-place.invariant.fine } in
+    let before : AreFineBefore raws at = record {
+      some = omega arith;
+      short = omega arith;
+      each = c.loop-place.invariant.fine;
+    } in
     let read : insn_of (get_or raws at no_raw) ≡ Ok c.in-Ok.insn = cc in
-    inr (before, get_or raws at no_raw, c.in-Ok.insn, slice_get-get_or raws at no_raw c.loop-place-test.true, read, λ inside. let t = c.leads_inside.ensures.1 inside in absurd cc)
+    inr (
+      before,
+      get_or raws at no_raw,
+      c.in-Ok.insn,
+      slice_get-get_or raws at no_raw c.loop-place-test.true,
+      read,
+      λ inside. let t = c.leads_inside.ensures.1 inside in absurd cc,
+    )
 
 pub loop-place-preserved : goal.loop-place-preserved
 unfolding no_raw
@@ -49,7 +68,10 @@ loop-place-preserved c =
     let raws = c.args.raws.now in
     let at = c.loop-place.place in
     let read : insn_of (get_or raws at no_raw) ≡ Ok c.in-Ok.insn = cc in
-    read_more raws c.loop-place.insns.items c.push.new.self.items at (get_or raws at no_raw) c.in-Ok.insn c.loop-place.invariant (slice_get-get_or raws at no_raw c.loop-place-test.true) read c.in-Ok.ensures.in_range (c.leads_inside.ensures.0 c.if-not-leads_inside.false) c.in_ok-push-in-Ok.ensures.items
+    read_more raws c.loop-place.insns.items c.push.new.self.items at
+    (get_or raws at no_raw) c.in-Ok.insn c.loop-place.invariant
+    (slice_get-get_or raws at no_raw c.loop-place-test.true) read c.in-Ok.ensures.in_range
+    (c.leads_inside.ensures.0 c.if-not-leads_inside.false) c.in_ok-push-in-Ok.ensures.items
 
 pub returns-then-not-ends_in_return-clause-refused : goal.returns-then-not-ends_in_return-clause-refused
 returns-then-not-ends_in_return-clause-refused c =
@@ -57,18 +79,27 @@ returns-then-not-ends_in_return-clause-refused c =
     let code = c.loop-place.insns.items in
     let place = c.loop-place.place in
     let some : 0 < length raws = grind (arith, nat_tests) in
-    let bad = λ (ends : EndsInReturn code). let t = c.ends_in_return.ensures.1 (rw c.deref.ensures.value ends) in let f : ⊥ = absurd cc in f in
-    inr (all_fine raws code place c.loop-place.invariant (omega arith) (omega arith) some (omega arith), code, all_spelled raws code place c.loop-place.invariant (omega arith) (omega arith), bad)
+    let bad = λ (ends : EndsInReturn code). let t = c.ends_in_return.ensures.1 (rw c.deref.ensures.value ends) in
+    let f : ⊥ = absurd cc in f in
+    inr (
+      all_fine raws code place c.loop-place.invariant (omega arith) (omega arith) some (omega arith),
+      code,
+      all_spelled raws code place c.loop-place.invariant (omega arith) (omega arith),
+      bad,
+    )
 
 pub first_unset-requires-clause-inside : goal.first_unset-requires-clause-inside
 first_unset-requires-clause-inside c =
     let raws = c.args.raws.now in
     let code = c.loop-place.insns.items in
     let place = c.loop-place.place in
-    let ends : EndsInReturn code = subst EndsInReturn c.deref.ensures.value (c.ends_in_return.ensures.0 c.if-not-ends_in_return.false) in
+    let ends : EndsInReturn code = subst EndsInReturn c.deref.ensures.value
+    (c.ends_in_return.ensures.0 c.if-not-ends_in_return.false) in
     let size = size_is raws code place c.loop-place.invariant (omega arith) (omega arith) in
-    let inside : (at : ℕ) (i : Insn) → IsAt code at i → AllBelow (length code) (successors at i) = λ at i h. successors_inside code at i h (rw size (c.loop-place.invariant.inside at i h)) ends in
-    subst (λ (p : List Insn). (at : ℕ) (i : Insn) → IsAt p at i → AllBelow (length p) (successors at i)) (sym c.deref-2.ensures.value) inside
+    let inside : (at : ℕ) (i : Insn) → IsAt code at i → AllBelow (length code) (successors at i) =
+    λ at i h. successors_inside code at i h (rw size (c.loop-place.invariant.inside at i h)) ends in
+    subst (λ (p : List Insn). (at : ℕ) (i : Insn) → IsAt p at i → AllBelow (length p) (successors at i))
+    (sym c.deref-2.ensures.value) inside
 
 pub returns-in-Some-clause-refused : goal.returns-in-Some-clause-refused
 returns-in-Some-clause-refused c =
@@ -76,11 +107,21 @@ returns-in-Some-clause-refused c =
     let code = c.loop-place.insns.items in
     let place = c.loop-place.place in
     let some : 0 < length raws = grind (arith, nat_tests) in
-    let ends : EndsInReturn code = subst EndsInReturn c.deref.ensures.value (c.ends_in_return.ensures.0 c.if-not-ends_in_return.false) in
+    let ends : EndsInReturn code = subst EndsInReturn c.deref.ensures.value
+    (c.ends_in_return.ensures.0 c.if-not-ends_in_return.false) in
     let at = c.in-Some.place in
-    let found : IsUnsetAt c.deref-2.result.now at × ((j : ℕ) → j < at → IsSetAt c.deref-2.result.now j) = rw c.in-Some.is at c.in_ok-place.ensures.some in
-    let here : IsUnsetAt code at × ((j : ℕ) → j < at → IsSetAt code j) = subst (λ (p : List Insn). IsUnsetAt p at × ((j : ℕ) → j < at → IsSetAt p j)) c.deref-2.ensures.value found in
-    inr (all_fine raws code place c.loop-place.invariant (omega arith) (omega arith) some (omega arith), code, all_spelled raws code place c.loop-place.invariant (omega arith) (omega arith), ends, here.0, here.1)
+    let found : IsUnsetAt c.deref-2.result.now at × ((j : ℕ) → j < at → IsSetAt c.deref-2.result.now j) =
+    rw c.in-Some.is at c.in_ok-place.ensures.some in
+    let here : IsUnsetAt code at × ((j : ℕ) → j < at → IsSetAt code j) =
+    subst (λ (p : List Insn). IsUnsetAt p at × ((j : ℕ) → j < at → IsSetAt p j)) c.deref-2.ensures.value found in
+    inr (
+      all_fine raws code place c.loop-place.invariant (omega arith) (omega arith) some (omega arith),
+      code,
+      all_spelled raws code place c.loop-place.invariant (omega arith) (omega arith),
+      ends,
+      here.0,
+      here.1,
+    )
 
 pub invariant_of-result : goal.invariant_of-result
 invariant_of-result c =
@@ -88,9 +129,11 @@ invariant_of-result c =
     let code = c.loop-place.insns.items in
     let place = c.loop-place.place in
     let some : 0 < length raws = grind (arith, nat_tests) in
-    let ends : EndsInReturn code = subst EndsInReturn c.deref.ensures.value (c.ends_in_return.ensures.0 c.if-not-ends_in_return.false) in
+    let ends : EndsInReturn code = subst EndsInReturn c.deref.ensures.value
+    (c.ends_in_return.ensures.0 c.if-not-ends_in_return.false) in
     let none : (at : ℕ) → IsSetAt c.deref-2.result.now at = rw c.in_default.is at c.in_ok-place.ensures.none in
-    let set : (at : ℕ) → IsSetAt code at = subst (λ (p : List Insn). (at : ℕ) → IsSetAt p at) c.deref-2.ensures.value none in
+    let set : (at : ℕ) → IsSetAt code at = subst (λ (p : List Insn). (at : ℕ)
+    → IsSetAt p at) c.deref-2.ensures.value none in
     record {
       raws = raws;
       fields = c.in_ok-file_of.ensures.fields;
@@ -105,7 +148,11 @@ returns-clause-accepted c =
     let code = c.loop-place.insns.items in
     let place = c.loop-place.place in
     let some : 0 < length raws = grind (arith, nat_tests) in
-    let ends : EndsInReturn code = subst EndsInReturn c.deref.ensures.value (c.ends_in_return.ensures.0 c.if-not-ends_in_return.false) in
+    let ends : EndsInReturn code = subst EndsInReturn c.deref.ensures.value
+    (c.ends_in_return.ensures.0 c.if-not-ends_in_return.false) in
     let none : (at : ℕ) → IsSetAt c.deref-2.result.now at = rw c.in_default.is at c.in_ok-place.ensures.none in
-    let set : (at : ℕ) → IsSetAt code at = subst (λ (p : List Insn). (at : ℕ) → IsSetAt p at) c.deref-2.ensures.value none in
-    (all_spelled raws code place c.loop-place.invariant (omega arith) (omega arith), lawful raws code place c.loop-place.invariant (omega arith) (omega arith) some (omega arith) ends set)
+    let set : (at : ℕ) → IsSetAt code at = subst (λ (p : List Insn). (at : ℕ)
+    → IsSetAt p at) c.deref-2.ensures.value none in (
+      all_spelled raws code place c.loop-place.invariant (omega arith) (omega arith),
+      lawful raws code place c.loop-place.invariant (omega arith) (omega arith) some (omega arith) ends set,
+    )

@@ -17,10 +17,13 @@ returns-clause-written g c = record {
 
 pub returns-in_err-questions-clause-refused : goal.returns-in_err-questions-clause-refused
 returns-in_err-questions-clause-refused g c =
-    handed_on _ c.from_residual.result c.in_err-questions.field-0.0 c.from_residual.ensures.1 (policy_why _ _ _ _ c.in_err-questions.ensures.refused)
+    handed_on _ c.from_residual.result c.in_err-questions.field-0.0 c.from_residual.ensures.1
+    (policy_why _ _ _ _ c.in_err-questions.ensures.refused)
 
 pub returns-in_err-outcome-clause-refused : goal.returns-in_err-outcome-clause-refused
 returns-in_err-outcome-clause-refused g c =
     let read = read_same _ _ _ _ c.in_ok-questions.ensures.same c.in_ok-filters.ensures.read in
-    let why = audit_why _ _ _ _ _ _ c.in_ok-questions.ensures.asked read (rw c.deref.ensures.value at c.in_err-outcome.ensures.refused) in
-    handed_on _ c.from_residual-in_err-outcome.result c.in_err-outcome.field-0.0 c.from_residual-in_err-outcome.ensures.1 why
+    let why = audit_why _ _ _ _ _ _ c.in_ok-questions.ensures.asked read
+    (rw c.deref.ensures.value at c.in_err-outcome.ensures.refused) in
+    handed_on _ c.from_residual-in_err-outcome.result c.in_err-outcome.field-0.0
+    c.from_residual-in_err-outcome.ensures.1 why

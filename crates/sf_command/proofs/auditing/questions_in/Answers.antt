@@ -6,13 +6,15 @@ pub returns-in-Ok-clause-asked : goal.returns-in-Ok-clause-asked
 returns-in-Ok-clause-asked g c =
     let text : c.in-Ok.text.now ≡ c.in_ok-bytes.bytes.items = c.in-Ok.ensures.cases.0 ∙ c.deref.ensures.value in
     let agrees = rw (sym text) at c.in_ok-bytes.ensures.bytes in
-    policy_asked (λ v. v.items) c.read_policy.result _ _ c.read_policy.ensures.read c.read_policy.ensures.no_syntax agrees
+    policy_asked (λ v. v.items) c.read_policy.result _ _ c.read_policy.ensures.read
+    c.read_policy.ensures.no_syntax agrees
 
 pub returns-in-Ok-clause-refused : goal.returns-in-Ok-clause-refused
 returns-in-Ok-clause-refused g c =
     let text : c.in-Ok.text.now ≡ c.in_ok-bytes.bytes.items = c.in-Ok.ensures.cases.0 ∙ c.deref.ensures.value in
     let agrees = rw (sym text) at c.in_ok-bytes.ensures.bytes in
-    policy_refused (λ v. v.items) c.read_policy.result _ _ c.read_policy.ensures.read c.read_policy.ensures.no_syntax agrees
+    policy_refused (λ v. v.items) c.read_policy.result _ _ c.read_policy.ensures.read
+    c.read_policy.ensures.no_syntax agrees
 
 pub returns-clause-refused : goal.returns-clause-refused
 returns-clause-refused g c =

@@ -7,7 +7,8 @@ use Rattle.sf_command.proofs.dispatch.run_audit.Goals as goal
 pub returns-clause-done : goal.returns-clause-done
 returns-clause-done g c = IfOk-weaker c.audit.result _ _ (λ s written. record {
   paths = c.unwrap_or-paths.result.now;
-  named = rw c.unwrap_or-paths.ensures (paths_found (found_of c.args.found.now) c.get_strs.result _ c.get_strs.ensures refl);
+  named = rw c.unwrap_or-paths.ensures (paths_found (found_of c.args.found.now) c.get_strs.result _
+      c.get_strs.ensures refl);
   budget = c.budget_of.result;
   counted = c.budget_of.ensures;
   regions = c.regions_of.result;

@@ -12,7 +12,8 @@ unfolding no_path
 loop-path-preserved g c =
     let so_far = c.loop-path.invariant in
     let here = slice_get-get_or c.args.paths.now c.loop-path.path-index no_path c.loop-path-test.true in
-    let agrees = subst (λ known. AgreesWith known c.in_ok-bytes.bytes.items) (so_far.same _) c.in_ok-bytes.ensures.bytes in
+    let agrees = subst (λ known. AgreesWith known c.in_ok-bytes.bytes.items)
+    (so_far.same _) c.in_ok-bytes.ensures.bytes in
     record {
       paired = paired_more _ _ _ _ _ _ _ so_far.paired here agrees c.in_ok-push.ensures.items;
       same = λ p. c.read.ensures.same p ∙ so_far.same p;
@@ -20,5 +21,6 @@ loop-path-preserved g c =
 
 pub returns-clause-read : goal.returns-clause-read
 returns-clause-read g c =
-    let all = paired_all _ _ _ _ _ (λ path file h. h) c.loop-path.invariant.paired c.loop-path-test.false c.loop-path.auto.path-index-end in
+    let all = paired_all _ _ _ _ _ (λ path file h. h) c.loop-path.invariant.paired c.loop-path-test.false
+    c.loop-path.auto.path-index-end in
     paired_mapped _ (λ file. file.items) _ _ all

@@ -5,6 +5,7 @@ use Rattle.sf_command.proofs.files.read_all.Given as goal
 
 abbrev pub invariant-loop-path : goal.invariant-loop-path
 invariant-loop-path g l = record {
-  paired : PairedSoFar (λ path file. AgreesWith (g.F.Files.holds l.initial.files path.now) file.items) l.paths l.read.items l.path-index;
+  paired : PairedSoFar (λ path file. AgreesWith (g.F.Files.holds l.initial.files path.now) file.items) l.paths
+      l.read.items l.path-index;
   same : (p : List ℕ) → g.F.Files.holds l.files p ≡ g.F.Files.holds l.initial.files p;
 }

@@ -9,11 +9,15 @@ use Rattle.sf_crew.proofs.benches.bench.Goals as goal
 pub loop-given-preserved : goal.loop-given-preserved
 loop-given-preserved c =
     let i = c.loop-given.invariant in
-    let seen : thief_end c.in_ok-thief.thief ≡ end (c.loop-given.given + 1) 0 [] = c.in_ok-thief.ensures.thief ∙ ap (λ (e : End). end e.made 0 []) i.owner in
+    let seen : thief_end c.in_ok-thief.thief ≡ end (c.loop-given.given + 1) 0 [] =
+    c.in_ok-thief.ensures.thief ∙ ap (λ (e : End). end e.made 0 []) i.owner in
     let long : length c.loop-given.hired.items ≡ c.loop-given.given = i.long in
     record {
       owner = c.in_ok-thief.ensures.owner ∙ ap (λ (e : End). end e.me (e.made + 1) []) i.owner;
       count = omega (arith, c.in_ok-push.ensures.len, i.count);
-      long = ap (λ (l : List Thief). length l) c.in_ok-push.ensures.items ∙ omega (arith, length-append c.loop-given.hired.items (c.in_ok-thief.thief ∷ []), long);
-      thieves = subst (AreThieves 1) (sym c.in_ok-push.ensures.items) (hired_more 1 (c.loop-given.given + 1) c.loop-given.hired.items c.in_ok-thief.thief i.thieves (omega (arith, long)) seen);
+      long = ap (λ (l : List Thief). length l) c.in_ok-push.ensures.items
+          ∙ omega (arith, length-append c.loop-given.hired.items (c.in_ok-thief.thief ∷ []), long);
+      thieves = subst (AreThieves 1) (sym c.in_ok-push.ensures.items)
+          (hired_more 1 (c.loop-given.given + 1) c.loop-given.hired.items c.in_ok-thief.thief i.thieves
+          (omega (arith, long)) seen);
     }

@@ -14,10 +14,13 @@ loop-q-preserved c =
     elim c.if-place-regions.branch [
       | then-place-regions w ↦ rw w.least-is (record {
         long = length-set c.loop-q.least m (Some c.word-place.result) ∙ c.loop-q.invariant.long;
-        is = least_put words c.args.regions m c.word-place.result c.loop-q.least (omega (arith, c.loop-q.invariant.long, c.loop-q-test.true, c.requires.few)) (sym found) w.if-place-regions.true c.loop-q.invariant.is;
+        is = least_put words c.args.regions m c.word-place.result c.loop-q.least
+            (omega (arith, c.loop-q.invariant.long, c.loop-q-test.true, c.requires.few))
+            (sym found) w.if-place-regions.true c.loop-q.invariant.is;
       })
       | else-place-regions w ↦ rw w.least-is (record {
         long = c.loop-q.invariant.long;
-        is = least_skip words c.args.regions m c.loop-q.least (omega (arith, found, w.if-place-regions.false)) c.loop-q.invariant.is;
+        is = least_skip words c.args.regions m c.loop-q.least (omega (arith, found, w.if-place-regions.false))
+            c.loop-q.invariant.is;
       })
     ]

@@ -1,4 +1,4 @@
-use Rattle.std.proofs.Common.{rules, ◌≡◌, ◌≤◌, inr, arith}
+use Rattle.std.proofs.Common.{◌≡◌, ◌≤◌, inr, arith}
 use Rattle.sf_crew.proofs.exploring.work_off.Goals as goal
 
 pub returns-clause-end : goal.returns-clause-end

@@ -6,5 +6,6 @@ use Rattle.sf_crew.proofs.replying.sweep.Given as goal
 abbrev pub invariant-loop-q : goal.invariant-loop-q
 invariant-loop-q g l = record {
   count : length l.replies.items ≡ l.q;
-  each : (q : ℕ) (reply : Reply) → slice_get l.replies.items q ≡ Some reply → IsRightReplyAt l.settled l.questions q reply;
+  each : (q : ℕ) (reply : Reply) → slice_get l.replies.items q ≡ Some reply
+      → IsRightReplyAt l.settled l.questions q reply;
 }

@@ -6,14 +6,22 @@ use Rattle.sf_crew.proofs.FullLemmas.{full_tally, last_of}
 use Rattle.sf_crew.proofs.sweeping.tally.Goals as goal
 
 pub join_all-requires-clause-others : goal.join_all-requires-clause-others
-join_all-requires-clause-others g c = λ k d lt. let same : length c.in_ok-worked.worked.items ≡ length c.in_ok-parts.parts.items = search rules in let below : k < length c.in_ok-parts.parts.items = omega (arith, lt, same) in let y = (c.in_ok-worked.ensures.each k d below).1.call.met in search rules
+join_all-requires-clause-others g c = λ k d lt. let same : length c.in_ok-worked.worked.items
+    ≡ length c.in_ok-parts.parts.items = search rules in
+    let below : k < length c.in_ok-parts.parts.items = omega (arith, lt, same) in
+    let y = (c.in_ok-worked.ensures.each k d below).1.call.met in search rules
 
 pub returns-clause-ok : goal.returns-clause-ok
 returns-clause-ok g c =
-    let j = c.in-Some-join_all.ensures in let new = c.in_ok-board.ensures in let v : View = seat_view c.in-Some-join_all.all in
-    let mine : IsNewSeat c.in_ok-board.board c.in-Some.mine = last_of (λ (s : Seat). IsNewSeat c.in_ok-board.board s) _ _ (subst (λ (l : List Seat). All (λ (s : Seat). IsNewSeat c.in_ok-board.board s) l) c.in-Some.ensures.items new.seats.1) in
+    let j = c.in-Some-join_all.ensures in let new = c.in_ok-board.ensures in
+    let v : View = seat_view c.in-Some-join_all.all in
+    let mine : IsNewSeat c.in_ok-board.board c.in-Some.mine =
+    last_of (λ (s : Seat). IsNewSeat c.in_ok-board.board s) _ _
+    (subst (λ (l : List Seat). All (λ (s : Seat). IsNewSeat c.in_ok-board.board s) l)
+    c.in-Some.ensures.items new.seats.1) in
     let one : (seat_view c.in-Some.mine).parts ≡ 1 = ap (λ (y : View). y.parts) mine.1 in
     let many : vec_len c.in_ok-worked.worked ≡ c.args.workers = search rules in
     let parts : v.parts ≡ c.args.workers + 1 = omega (arith, one, many, j.2, c.work-mine.ensures.parts) in
     let past = j.3 (omega (arith, many, c.requires.workers.0)) in
-    full_tally c.args.settled.now c.args.questions.now (about c.in_ok-board.board) v _ c.close.ensures j.0.1 j.1 (parts ∙ sym new.about.2) past.0 past.1 new.about.0 new.about.1
+    full_tally c.args.settled.now c.args.questions.now (about c.in_ok-board.board) v _ c.close.ensures j.0.1 j.1
+    (parts ∙ sym new.about.2) past.0 past.1 new.about.0 new.about.1 c.requires.questions

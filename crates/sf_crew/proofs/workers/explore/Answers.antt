@@ -1,4 +1,3 @@
-use Rattle.std.proofs.Common.{rules, ◌≡◌}
 use Rattle.sf_crew.proofs.Free.{recalled_free}
 use Rattle.sf_crew.proofs.workers.explore.Goals as goal
 

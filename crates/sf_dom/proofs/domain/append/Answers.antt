@@ -28,7 +28,9 @@ returns-in-None-clause-grown c = λ d p a.
     let longer = inv.longer in
     let agrees = inv.keeps d p a in
     let by_rule = rw c.node-node.ensures.node at (c.rule-known.ensures.value d (values_of ns d) p) in
-    let left = grown-left ks ex ns d i c.rule-known.result c.node-node.ensures.lawful (omega arith) (still-none c.args.nodes.now.known ks ex longer c.requires.none) agrees (by_rule (λ j l. (agrees j l).admitted)) in
+    let left = grown-left ks ex ns d i c.rule-known.result c.node-node.ensures.lawful (omega arith)
+    (still-none c.args.nodes.now.known ks ex longer c.requires.none) agrees
+    (by_rule (λ j l. (agrees j l).admitted)) in
     rw c.node-node.ensures.node at c.in-None.ensures (value_of ns d i) left
 
 pub loop-i-preserved : goal.loop-i-preserved
@@ -52,12 +54,14 @@ loop-i-preserved c =
       keeps = λ d p a.
           let agrees = inv.keeps d p a in
           let by_rule = rw c.node-node.ensures.node at (c.rule-known.ensures.value d (values_of ns d) p) in
-          let left = grown-left ks ex ns d i c.rule-known.result lawful (omega arith) (still-none old ks ex longer c.requires.none) agrees (by_rule (λ j l. (agrees j l).admitted)) in
+          let left = grown-left ks ex ns d i c.rule-known.result lawful (omega arith)
+          (still-none old ks ex longer c.requires.none) agrees (by_rule (λ j l. (agrees j l).admitted)) in
           agrees-push ks ex ns d i next count agrees (t.same (value_of ns d i) left);
       passed = λ settled.
           passed-push ks ex ns (length old) i c.rule-known.result next lawful count (omega arith) (omega arith)
           (λ k l. elim (cases_lt k (length old)) [
-            | inl b ↦ (let same : known_at old k ≡ known_at ks k = ap (λ xs. known_at xs k) (sym inv.kept) ∙ get_or-take (length old) ks k (known_of 0 0 0 0) b in rw same at (settled k b))
+            | inl b ↦ (let same : known_at old k ≡ known_at ks k = ap (λ xs. known_at xs k) (sym inv.kept)
+                ∙ get_or-take (length old) ks k (known_of 0 0 0 0) b in rw same at (settled k b))
             | inr g ↦ (inv.passed settled k g l).settled
           ])
           (inv.passed settled)

@@ -11,5 +11,6 @@ invariant-loop-i l = record {
   longer : length l.fn.nodes.known ≤ length l.nodes.known;
   untouched : l.i ≡ length l.fn.nodes.known → l.nodes ≡ l.fn.nodes;
   keeps : KeepsAgreeing l.fn.nodes.known l.nodes.known l.excluded l.pool;
-  passed : ((k : ℕ) → k < length l.fn.nodes.known → IsSettled (known_at l.fn.nodes.known k)) → (k : ℕ) → length l.fn.nodes.known ≤ k → k < l.i → IsPassed l.nodes.known l.excluded l.pool k;
+  passed : ((k : ℕ) → k < length l.fn.nodes.known → IsSettled (known_at l.fn.nodes.known k)) → (k : ℕ)
+      → length l.fn.nodes.known ≤ k → k < l.i → IsPassed l.nodes.known l.excluded l.pool k;
 }

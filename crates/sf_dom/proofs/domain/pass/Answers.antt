@@ -14,12 +14,15 @@ returns-in-None c = λ d p a.
     let ex = c.args.excluded.now in
     let inv = c.loop-rank.invariant in
     let i = c.variable-i.result in
-    let told : c.loop-rank.rank < length n.variables = omega (arith, ap length inv.variables, c.variable_count-rank-end.ensures.count) in
+    let told : c.loop-rank.rank < length n.variables =
+    omega (arith, ap length inv.variables, c.variable_count-rank-end.ensures.count) in
     let below : i < length n.known = omega (arith, inv.laid_out.within c.loop-rank.rank told, c.variable-i.ensures) in
     let agrees = inv.keeps d p a in
-    let by_rule = rw c.node-node.ensures.node at (c.rule.ensures.value d (values_of ns d) p (λ j l. (agrees j l).admitted)) in
+    let by_rule = rw c.node-node.ensures.node at
+    (c.rule.ensures.value d (values_of ns d) p (λ j l. (agrees j l).admitted)) in
     let both = rw c.get.ensures at c.meet-known.ensures in
-    let left = pass-left n.known ex ns d i c.rule.result c.meet-known.result c.node-node.ensures.lawful inv.ready.count below agrees by_rule both in
+    let left = pass-left n.known ex ns d i c.rule.result c.meet-known.result c.node-node.ensures.lawful inv.ready.count
+    below agrees by_rule both in
     rw c.node-node.ensures.node at c.in-None.ensures (value_of ns d i) left
 
 pub loop-rank-preserved : goal.loop-rank-preserved
@@ -34,25 +37,35 @@ loop-rank-preserved c =
     let next = c.in-Some.next in
     let count = inv.ready.count in
     let before = c.requires.ready.count in
-    let told : rank < length n.variables = omega (arith, ap length inv.variables, c.variable_count-rank-end.ensures.count) in
+    let told : rank < length n.variables = omega (
+      arith,
+      ap length inv.variables,
+      c.variable_count-rank-end.ensures.count,
+    ) in
     let at : slice_index n.variables rank ≡ i = sym c.variable-i.ensures in
     let below : i < length n.known = omega (arith, inv.laid_out.within rank told, at) in
     let t = rw c.node-node.ensures.node at c.in-Some.ensures in
     let both = rw c.get.ensures at c.meet-known.ensures in
     let narrower = IsNarrower-trans (known_at n.known i) c.meet-known.result next both.left t.narrower in
-    let ready : IsReady m.known ns = rw c.set.ensures.known (IsReady-set n.known ns i next below inv.ready narrower t.settled) in
+    let ready : IsReady m.known ns = rw c.set.ensures.known
+    (IsReady-set n.known ns i next below inv.ready narrower t.settled) in
     record {
       keeps = rw c.set.ensures.known (λ d p a.
           let agrees = inv.keeps d p a in
-          let by_rule = rw c.node-node.ensures.node at (c.rule.ensures.value d (values_of ns d) p (λ j l. (agrees j l).admitted)) in
-          let left = pass-left n.known ex ns d i c.rule.result c.meet-known.result c.node-node.ensures.lawful count below agrees by_rule both in
+          let by_rule = rw c.node-node.ensures.node at
+          (c.rule.ensures.value d (values_of ns d) p (λ j l. (agrees j l).admitted)) in
+          let left = pass-left n.known ex ns d i c.rule.result c.meet-known.result c.node-node.ensures.lawful count
+          below agrees by_rule both in
           pass-set n.known ex ns d i next below agrees (t.same (value_of ns d i) left));
-      narrower = rw c.set.ensures.known (AllNarrower-set c.args.nodes.now.known n.known i next (omega arith) below inv.narrower narrower);
+      narrower = rw c.set.ensures.known (AllNarrower-set c.args.nodes.now.known n.known i next
+          (omega arith) below inv.narrower narrower);
       ready = ready;
       variables = c.set.ensures.variables ∙ inv.variables;
       laid_out = c.set.ensures.laid_out;
       passed = passed-up_to n m ex ns rank i ready inv.laid_out c.set.ensures.laid_out c.set.ensures.variables told at
-          (rw c.set.ensures.known (passed-set n.known ex ns i c.rule.result c.meet-known.result next c.node-node.ensures.lawful count below
+          (rw c.set.ensures.known (passed-set n.known ex ns i c.rule.result c.meet-known.result next
+          c.node-node.ensures.lawful count below
           (λ k b. inv.passed k (omega arith) (λ j a l. variable-before n rank j k inv.laid_out a l (omega (arith, at))))
-          (rw c.node-node.ensures.node at c.rule.ensures.forced) (rw c.node-node.ensures.node at c.rule.ensures.constant) both.right t));
+          (rw c.node-node.ensures.node at c.rule.ensures.forced)
+          (rw c.node-node.ensures.node at c.rule.ensures.constant) both.right t));
     }

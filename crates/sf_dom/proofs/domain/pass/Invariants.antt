@@ -12,5 +12,7 @@ invariant-loop-rank l = record {
   ready : IsReady l.nodes.known l.pool;
   variables : l.nodes.variables ≡ l.fn.nodes.variables;
   laid_out : IsLaidOut l.nodes;
-  passed : (k : ℕ) → k < length l.nodes.known → ((j : ℕ) → l.rank ≤ j → j < length l.nodes.variables → k < slice_index l.nodes.variables j) → IsPassed l.nodes.known l.excluded l.pool k;
+  passed : (k : ℕ) → k < length l.nodes.known
+      → ((j : ℕ) → l.rank ≤ j → j < length l.nodes.variables → k < slice_index l.nodes.variables j)
+      → IsPassed l.nodes.known l.excluded l.pool k;
 }

@@ -4,7 +4,8 @@ use Rattle.sf_dom.specs.FactsLaws.{constant-admits}
 use Rattle.sf_dom.proofs.domain.rule.Goals as goal
 
 pub returns-in-Const-clause-value : goal.returns-in-Const-clause-value
-returns-in-Const-clause-value c = λ d older p h. rw (c.in-Const.is, c.number.ensures) (constant-admits c.in-Const.c (rw c.in-Const.is at c.requires))
+returns-in-Const-clause-value c = λ d older p h. rw (c.in-Const.is, c.number.ensures)
+    (constant-admits c.in-Const.c (rw c.in-Const.is at c.requires))
 
 pub returns-in-Word-clause-value : goal.returns-in-Word-clause-value
 returns-in-Word-clause-value c = λ d older p h.

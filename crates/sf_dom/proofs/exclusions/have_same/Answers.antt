@@ -11,7 +11,8 @@ returns-then-not-has_same c =
     let left = get_or_read c.args.left.now w c.index-left-w.result (omega arith) c.index-left-w.is [] in
     let right = get_or_read c.args.right.now w c.index-right-w.result (omega arith) c.index-right-w.is [] in (
       (λ t. absurd (false≢true t)),
-      (λ h. absurd (false≢true (sym c.if-not-has_same.true ∙ c.has_same.ensures.1 (rw (left, right) (h w (omega arith)))))),
+      (λ h. absurd (false≢true (sym c.if-not-has_same.true ∙ c.has_same.ensures.1
+          (rw (left, right) (h w (omega arith)))))),
     )
 
 pub loop-w-preserved : goal.loop-w-preserved

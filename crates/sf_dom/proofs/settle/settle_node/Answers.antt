@@ -21,4 +21,5 @@ pub returns-in-Some-clause-ready : goal.returns-in-Some-clause-ready
 returns-in-Some-clause-ready c =
     let left = c.in-Some.ensures in
     let count = c.requires.ready.count in
-    rw c.set.ensures.known (IsReady-set c.args.nodes.now.known c.args.pool.now c.args.at c.in-Some.next (omega arith) c.requires.ready left.narrower left.settled)
+    rw c.set.ensures.known (IsReady-set c.args.nodes.now.known c.args.pool.now c.args.at c.in-Some.next
+    (omega arith) c.requires.ready left.narrower left.settled)

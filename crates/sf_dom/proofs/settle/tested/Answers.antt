@@ -8,7 +8,8 @@ use Rattle.sf_dom.proofs.settle.tested.Goals as goal
 pub returns-in-Greater-true-clause-pair : goal.returns-in-Greater-true-clause-pair
 returns-in-Greater-true-clause-pair c =
     rw (c.in-Greater-true.is-0, c.in-Greater-true.is-1)
-    (fewer_pairs c.greater.result c.args.v c.args.w (λ x y. y < x) (λ x y. Gives Greater x y true) gives-greater c.greater.ensures.pair)
+    (fewer_pairs c.greater.result c.args.v c.args.w (λ x y. y < x)
+    (λ x y. Gives Greater x y true) gives-greater c.greater.ensures.pair)
 
 pub returns-in-Greater-false-clause-pair : goal.returns-in-Greater-false-clause-pair
 returns-in-Greater-false-clause-pair c =
@@ -20,7 +21,9 @@ returns-in-GreaterOrEqual-true-clause-pair c =
     rw (c.in-GreaterOrEqual-true.is-0, c.in-GreaterOrEqual-true.is-1)
     (λ x y hx hy g. c.at_least.ensures.pair x y hx hy (gives-at_least x y g))
 
-pub returns-in_ok-swapped-in-GreaterOrEqual-false-clause-pair : goal.returns-in_ok-swapped-in-GreaterOrEqual-false-clause-pair
+pub returns-in_ok-swapped-in-GreaterOrEqual-false-clause-pair
+    : goal.returns-in_ok-swapped-in-GreaterOrEqual-false-clause-pair
 returns-in_ok-swapped-in-GreaterOrEqual-false-clause-pair c =
     rw (c.in-GreaterOrEqual-false.is-0, c.in-GreaterOrEqual-false.is-1)
-    (λ x y hx hy g. let both = c.in_ok-swapped-in-GreaterOrEqual-false.ensures.pair y x hy hx (gives-less x y g) in (both.1, both.0))
+    (λ x y hx hy g. let both = c.in_ok-swapped-in-GreaterOrEqual-false.ensures.pair y x hy hx (gives-less x y g) in
+    (both.1, both.0))

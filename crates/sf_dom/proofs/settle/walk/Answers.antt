@@ -1,13 +1,20 @@
-use Rattle.std.proofs.Common.{arith}
+use Rattle.std.proofs.Common.{arith, sym}
 use Rattle.sf_sym.specs.Pool.{value_of}
 use Rattle.sf_dom.proofs.Passes.{pass-set, AllNarrower-set, AllNarrower-refl, IsReady-set}
 use Rattle.sf_dom.proofs.Rounds.{IsNarrower-trans}
 use Rattle.sf_dom.specs.Facts.{known_at}
 use Rattle.sf_dom.proofs.Settles.{walked}
+use Rattle.sf_dom.proofs.Backs.{carries-step, hands-on-narrower, carried, walked-end, walked-other}
 use Rattle.sf_dom.proofs.settle.walk.Goals as goal
 
 pub loop-op-init : goal.loop-op-init
-loop-op-init c = record { within = omega arith; keeps = λ d p a. a; narrower = AllNarrower-refl c.args.nodes.now.known; ready = c.requires.ready }
+loop-op-init c = record {
+  within = omega arith;
+  keeps = λ d p a. a;
+  narrower = AllNarrower-refl c.args.nodes.now.known;
+  ready = c.requires.ready;
+  carries = λ last same narrower more. more;
+}
 
 pub returns-in-None-tightened-clause-kept : goal.returns-in-None-tightened-clause-kept
 returns-in-None-tightened-clause-kept c = λ d p a.
@@ -20,7 +27,8 @@ returns-in-None-tightened-clause-kept c = λ d p a.
     let within = inv.within in
     let count = inv.ready.count in
     let bits = rw (c.get.ensures, c.get-in-Some.ensures) at c.in-Some-back.ensures.bits in
-    let left = walked ks ex ns d c.loop-op.at o.x o.c o.op c.in-Some-back.gained (omega arith) (omega (arith, o.ensures.smaller)) agrees (o.ensures.value d p c.in-Some-back.ensures.swappable) bits in
+    let left = walked ks ex ns d c.loop-op.at o.x o.c o.op c.in-Some-back.gained (omega arith)
+    (omega (arith, o.ensures.smaller)) agrees (o.ensures.value d p c.in-Some-back.ensures.swappable) bits in
     rw c.node-node.ensures.node at c.in-None-tightened.ensures (value_of ns d o.x) left
 
 pub loop-op-preserved : goal.loop-op-preserved
@@ -41,8 +49,29 @@ loop-op-preserved c =
       within = omega (arith, o.ensures.smaller);
       keeps = λ d p a.
           let agrees = inv.keeps d p a in
-          let left = walked ks ex ns d c.loop-op.at o.x o.c o.op c.in-Some-back.gained (omega arith) (omega (arith, o.ensures.smaller)) agrees (o.ensures.value d p c.in-Some-back.ensures.swappable) bits in
+          let left = walked ks ex ns d c.loop-op.at o.x o.c o.op c.in-Some-back.gained (omega arith)
+          (omega (arith, o.ensures.smaller)) agrees (o.ensures.value d p c.in-Some-back.ensures.swappable) bits in
           pass-set ks ex ns d o.x next (omega (arith, o.ensures.smaller)) agrees (t.same (value_of ns d o.x) left);
-      narrower = AllNarrower-set c.args.nodes.now.known ks o.x next (omega arith) (omega (arith, o.ensures.smaller)) inv.narrower narrower;
+      narrower = AllNarrower-set c.args.nodes.now.known ks o.x next (omega arith)
+          (omega (arith, o.ensures.smaller)) inv.narrower narrower;
       ready = IsReady-set ks ns o.x next (omega (arith, o.ensures.smaller)) inv.ready narrower t.settled;
+      carries = carries-step ks ns c.args.from c.loop-op.at o.x o.c o.op next o.ensures.smaller
+          (omega (arith, o.ensures.smaller)) (sym o.ensures.told)
+          (hands-on-narrower o.op o.c (known_at ks c.loop-op.at) c.in-Some-back.gained next t.narrower
+          (rw c.get.ensures at c.in-Some-back.ensures.told)) inv.carries;
     })
+
+pub returns-in-None-clause-back : goal.returns-in-None-clause-back
+returns-in-None-clause-back c = λ t.
+    let ks = c.loop-op.nodes.known in
+    let ns = c.args.pool.now in
+    let o = c.in-Some in
+    carried ks ns c.args.from c.loop-op.at c.loop-op.invariant.carries
+    (walked-other ks ns c.loop-op.at o.x o.c o.op (sym o.ensures.told) (c.back.ensures.none c.in-None.is))
+
+pub returns-clause-back : goal.returns-clause-back
+returns-clause-back c = λ t.
+    let ks = c.loop-op.nodes.known in
+    let ns = c.args.pool.now in
+    carried ks ns c.args.from c.loop-op.at c.loop-op.invariant.carries
+    (walked-end ks ns c.loop-op.at (sym c.in_default.ensures.told))

@@ -1,5 +1,6 @@
 use Rattle.std.proofs.Common.{◌<◌, length}
 use Rattle.sf_dom.specs.Rules.{KeepsAgreeing, AllNarrower, IsReady}
+use Rattle.sf_dom.specs.Walks.{Carries}
 use Rattle.sf_dom.proofs.settle.walk.Given as goal
 
 abbrev pub invariant-loop-op : goal.invariant-loop-op
@@ -8,6 +9,7 @@ invariant-loop-op l = record {
   keeps : KeepsAgreeing l.fn.nodes.known l.nodes.known l.excluded l.pool;
   narrower : AllNarrower l.fn.nodes.known l.nodes.known;
   ready : IsReady l.nodes.known l.pool;
+  carries : Carries l.nodes.known l.pool l.fn.from l.at;
 }
 
 abbrev pub decreases-loop-op : goal.decreases-loop-op

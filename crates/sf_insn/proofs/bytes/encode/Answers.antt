@@ -13,5 +13,6 @@ pub loop-insn-preserved : goal.loop-insn-preserved
 unfolding no_raw
 loop-insn-preserved c = record {
   so_far = grind (arith, common_steps);
-  fields = rw (take_more c.args.insns.now c.loop-insn.insn-index no_raw c.loop-insn-test.true) (All-push IsInsn _ _ c.loop-insn.invariant.fields c.put_insn.ensures.fields);
+  fields = rw (take_more c.args.insns.now c.loop-insn.insn-index no_raw c.loop-insn-test.true)
+      (All-push IsInsn _ _ c.loop-insn.invariant.fields c.put_insn.ensures.fields);
 }

@@ -27,7 +27,8 @@ pub execute-requires-clause-set : goal.execute-requires-clause-set
 execute-requires-clause-set c k loads =
     let code = c.insns-code.result.now in
     let lawful : IsLawful code = subst IsLawful (sym c.insns-code.ensures.same) c.insns-code.ensures.lawful in
-    load_is_set code (state_of c.loop-next.place c.loop-next.machine) _ k lawful c.loop-next.invariant.safe (slice_get-get_or code c.loop-next.place _ c.loop-next.invariant.safe.inside) loads
+    load_is_set code (state_of c.loop-next.place c.loop-next.machine) _ k lawful c.loop-next.invariant.safe
+    (slice_get-get_or code c.loop-next.place _ c.loop-next.invariant.safe.inside) loads
 
 pub loop-next-preserved : goal.loop-next-preserved
 loop-next-preserved c =
@@ -41,7 +42,8 @@ loop-next-preserved c =
     let on = safe_next code d s _ took.0 next lawful c.loop-next.invariant.safe at took.1 in
     record {
       safe = on.0;
-      same = λ n o rest. c.loop-next.invariant.same (suc n) (took.0 ++ o.0, o.1) (run_more n code d s _ took.0 next o at took.1 rest);
+      same = λ n o rest. c.loop-next.invariant.same (suc n) (took.0 ++ o.0, o.1)
+          (run_more n code d s _ took.0 next o at took.1 rest);
     }
 
 pub returns-in-Returns : goal.returns-in-Returns
@@ -51,4 +53,5 @@ returns-in-Returns c =
     let s = state_of c.loop-next.place c.loop-next.machine in
     let at = slice_get-get_or code c.loop-next.place _ c.loop-next.invariant.safe.inside in
     let took = took_returns _ c.in-Returns.value c.execute.new.machine c.in-Returns.ensures in
-    c.loop-next.invariant.same 1 (took.0, c.in-Returns.value) (run_ends code d s _ took.0 c.in-Returns.value at took.1) ∙ ap (λ (p : List Insn). return_of p d) c.insns-code.ensures.same
+    c.loop-next.invariant.same 1 (took.0, c.in-Returns.value) (run_ends code d s _ took.0 c.in-Returns.value at took.1)
+    ∙ ap (λ (p : List Insn). return_of p d) c.insns-code.ensures.same

@@ -7,7 +7,8 @@ use Rattle.sf_run.proofs.running.run.Given as goal
 abbrev pub invariant-loop-next : goal.invariant-loop-next
 invariant-loop-next l = record {
   safe : Safe l.code (state_of l.place l.machine);
-  same : (n : ℕ) (o : List Bool × ℕ) → run_for n l.code l.fn.input (state_of l.place l.machine) ≡ Some o → o.1 ≡ return_of l.code l.fn.input;
+  same : (n : ℕ) (o : List Bool × ℕ) → run_for n l.code l.fn.input (state_of l.place l.machine) ≡ Some o
+      → o.1 ≡ return_of l.code l.fn.input;
 }
 
 abbrev pub decreases-loop-next : goal.decreases-loop-next

@@ -16,7 +16,8 @@ pub loop-next-smaller : goal.loop-next-smaller
 loop-next-smaller c =
     let es = c.args.entries.now in
     let within : c.loop-next.next - 1 < length es = omega (arith, c.loop-next.invariant.within, length-nodes es) in
-    let older : c.get-entry.result.older ≡ older_at es (c.loop-next.next - 1) = ap (λ x. x.older) (c.get-entry.ensures blank) in
+    let older : c.get-entry.result.older ≡ older_at es (c.loop-next.next - 1) =
+    ap (λ x. x.older) (c.get-entry.ensures blank) in
     let low = (c.requires.linked (c.loop-next.next - 1) within).within in
     omega (arith, older, low)
 
@@ -28,4 +29,5 @@ loop-next-preserved c =
     let older : c.get-entry.result.older ≡ older_at es p = ap (λ x. x.older) (c.get-entry.ensures blank) in
     let read = node-read es p c.get-entry.result within (c.get-entry.ensures blank) in
     let next : c.loop-next.next ≡ p + 1 = omega arith in
-    rw older (IsSearched-step (nodes_of es) c.args.node p (older_at es p) (rw next at c.loop-next.invariant) (λ e. c.is_same.ensures.differ c.if-is_same.false (sym read ∙ e)) (c.requires.linked p within))
+    rw older (IsSearched-step (nodes_of es) c.args.node p (older_at es p) (rw next at c.loop-next.invariant)
+    (λ e. c.is_same.ensures.differ c.if-is_same.false (sym read ∙ e)) (c.requires.linked p within))

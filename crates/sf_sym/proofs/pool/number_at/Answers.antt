@@ -5,4 +5,5 @@ use Rattle.sf_sym.proofs.pool.number_at.Goals as goal
 
 pub returns : goal.returns
 returns c =
-    c.constant_of.ensures ∙ ap number_of (sym (node-read c.args.entries.now c.args.id.0 c.get.result c.requires (c.get.ensures blank)))
+    c.constant_of.ensures
+    ∙ ap number_of (sym (node-read c.args.entries.now c.args.id.0 c.get.result c.requires (c.get.ensures blank)))

@@ -10,4 +10,5 @@ abbrev pub invariant-loop-i : goal.invariant-loop-i
 invariant-loop-i l =
     (length l.words ≡ 16)
     × (each_of (λ key. entry_at l.version (get_member key (table_view l.table))) (texts_now l.keys)
-    ≡ with_front (take l.i l.words) (each_of (λ key. entry_at l.version (get_member key (table_view l.table))) (drop l.i (texts_now l.keys))))
+    ≡ with_front (take l.i l.words) (each_of (λ key. entry_at l.version (get_member key (table_view l.table)))
+    (drop l.i (texts_now l.keys))))

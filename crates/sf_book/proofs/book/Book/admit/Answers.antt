@@ -4,10 +4,26 @@ use Rattle.sf_book.proofs.book.Book.admit.Goals as goal
 pub returns-then-self-clause-err : goal.returns-then-self-clause-err
 returns-then-self-clause-err c =
     let e = c.in-Some.ensures in
-    rw (← c.self.view_is) (record { same_stack = c.if-not-is_of.ensures.0 refl; entry = _; there = e.1; same_name = sym (c.if-not-has_name.ensures.0 refl) }, c.if-self.true)
+    rw (← c.self.view_is) (
+      record {
+        same_stack = c.if-not-is_of.ensures.0 refl;
+        entry = _;
+        there = e.1;
+        same_name = sym (c.if-not-has_name.ensures.0 refl);
+      },
+      c.if-self.true,
+    )
 
 pub returns-clause-ok : goal.returns-clause-ok
 returns-clause-ok c =
     let e = c.in-Some.ensures in
     let le : c.self.inside.commits ≤ c.self.inside.budget = c.self.invariant.kept.lawful.within in
-    rw (← c.self.view_is) (record { same_stack = c.if-not-is_of.ensures.0 refl; entry = _; there = e.1; same_name = sym (c.if-not-has_name.ensures.0 refl) }, omega arith)
+    rw (← c.self.view_is) (
+      record {
+        same_stack = c.if-not-is_of.ensures.0 refl;
+        entry = _;
+        there = e.1;
+        same_name = sym (c.if-not-has_name.ensures.0 refl);
+      },
+      omega arith,
+    )

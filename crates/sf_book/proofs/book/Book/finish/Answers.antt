@@ -6,6 +6,9 @@ pub invariant_of-result : goal.invariant_of-result
 invariant_of-result c =
     let moved = c.put_in_order.ensures.permutation in
     record {
-      settled = record { lawful = permuted_lawful _ _ moved c.self.invariant.kept.lawful; order = c.put_in_order.ensures.sorted };
+      settled = record {
+        lawful = permuted_lawful _ _ moved c.self.invariant.kept.lawful;
+        order = c.put_in_order.ensures.sorted;
+      };
       plain = record { book = λ h. plain_permuted _ _ moved (c.self.invariant.plain.book h) };
     }

@@ -4,4 +4,5 @@ use Rattle.sf_book.specs.Changes.{with_lease_at}
 use Rattle.sf_book.proofs.book.Book.give_back.Goals as goal
 
 pub invariant_of-self : goal.invariant_of-self
-invariant_of-self c = rw c.give_back.ensures (marks_book _ _ (with_lease_at c.args.id false) (λ e. refl) (λ e. refl) c.self.invariant)
+invariant_of-self c = rw c.give_back.ensures
+    (marks_book _ _ (with_lease_at c.args.id false) (λ e. refl) (λ e. refl) c.self.invariant)

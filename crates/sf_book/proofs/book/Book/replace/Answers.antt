@@ -6,29 +6,43 @@ use Rattle.sf_book.proofs.Plain.{split_book, answer_book, empty_book}
 use Rattle.sf_book.proofs.book.Book.replace.Goals as goal
 
 pub split-requires-clause-ids : goal.split-requires-clause-ids
-split-requires-clause-ids c =
-    (low_id _ c.self.inside.next_id c.args.id c.args.work c.self.invariant.kept (rw (← c.self.view_is) at c.requires.may), omega arith)
+split-requires-clause-ids c = (
+  low_id _ c.self.inside.next_id c.args.id c.args.work c.self.invariant.kept
+      (rw (← c.self.view_is) at c.requires.may),
+  omega arith,
+)
 
 pub split-requires-clause-apart : goal.split-requires-clause-apart
 split-requires-clause-apart c =
     let parts = c.into_parts-piece.ensures in
-    let is : c.args.work.step ≡ Split c.in-Split.f.value c.in-Split.t.value = sym parts.step ∙ ap step_data c.in-Split.is in
-    child_names _ c.args.id c.args.work _ _ c.self.invariant.kept.lawful (rw (← c.self.view_is) at c.requires.may) (rw is at parts.right.1)
+    let is : c.args.work.step ≡ Split c.in-Split.f.value c.in-Split.t.value =
+    sym parts.step ∙ ap step_data c.in-Split.is in
+    child_names _ c.args.id c.args.work _ _ c.self.invariant.kept.lawful (rw (← c.self.view_is) at c.requires.may)
+    (rw is at parts.right.1)
 
 pub invariant_of-self-in-Split-1 : goal.invariant_of-self-in-Split-1
 invariant_of-self-in-Split-1 c =
     let parts = c.into_parts-piece.ensures in
-    let is : c.args.work.step ≡ Split c.in-Split.f.value c.in-Split.t.value = sym parts.step ∙ ap step_data c.in-Split.is in
-    rw c.in_ok-split-in-Split.ensures.ok (split_book _ c.self.inside.next_id c.args.id c.args.work _ _ c.self.invariant (rw (← c.self.view_is) at c.requires.may) (rw (← c.self.view_is) at c.requires.room) (record { right = parts.right; plain = parts.plain; is = is }))
+    let is : c.args.work.step ≡ Split c.in-Split.f.value c.in-Split.t.value =
+    sym parts.step ∙ ap step_data c.in-Split.is in
+    rw c.in_ok-split-in-Split.ensures.ok (split_book _ c.self.inside.next_id c.args.id c.args.work _ _ c.self.invariant
+    (rw (← c.self.view_is) at c.requires.may) (rw (← c.self.view_is) at c.requires.room)
+    (record { right = parts.right; plain = parts.plain; is = is }))
 
 pub invariant_of-self-in-Settled : goal.invariant_of-self-in-Settled
 invariant_of-self-in-Settled c =
     let parts = c.into_parts-piece.ensures in
     let is : c.args.work.step ≡ Settled c.in-Settled.answer = sym parts.step ∙ ap step_data c.in-Settled.is in
-    rw (c.take.ensures, c.in_ok-add-in-Settled.ensures.ok, parts.piece, parts.name) (answer_book _ c.self.inside.next_id c.args.id c.args.work c.in-Settled.answer c.self.invariant (rw (← c.self.view_is) at c.requires.may) (rw (← c.self.view_is) at c.requires.room) (record { right = parts.right; plain = parts.plain; is = is }))
+    rw (c.take.ensures, c.in_ok-add-in-Settled.ensures.ok, parts.piece, parts.name)
+    (answer_book _ c.self.inside.next_id c.args.id c.args.work c.in-Settled.answer c.self.invariant
+    (rw (← c.self.view_is) at c.requires.may) (rw (← c.self.view_is) at c.requires.room)
+    (record { right = parts.right; plain = parts.plain; is = is }))
 
 pub invariant_of-self-in-Empty-1 : goal.invariant_of-self-in-Empty-1
 invariant_of-self-in-Empty-1 c =
     let parts = c.into_parts-piece.ensures in
     let is : c.args.work.step ≡ Empty = sym parts.step ∙ ap step_data c.in-Empty.is in
-    rw (c.take-in-Empty.ensures, c.in_ok-add-in-Empty.ensures.ok, parts.piece) (empty_book _ c.self.inside.next_id c.args.id c.args.work c.self.invariant (rw (← c.self.view_is) at c.requires.may) (rw (← c.self.view_is) at c.requires.room) (record { right = parts.right; plain = parts.plain; is = is }))
+    rw (c.take-in-Empty.ensures, c.in_ok-add-in-Empty.ensures.ok, parts.piece)
+    (empty_book _ c.self.inside.next_id c.args.id c.args.work c.self.invariant
+    (rw (← c.self.view_is) at c.requires.may) (rw (← c.self.view_is) at c.requires.room)
+    (record { right = parts.right; plain = parts.plain; is = is }))

@@ -20,24 +20,36 @@ loop-q-preserved c =
       | then-is_doubt w ↦ (
           let f = w.fetch_or in let went = f.ensures.2 in let old : View = c.loop-q.seat.me.0 in
           let now : f.new.seat.me.0 ≡ marking old n = went.0 n (omega arith) refl in
-          let marks : MarksDoubts vs (n + 1) c.args.seat.now.me.0.marked (n ∷ old.marked) = marks_more vs n _ _ (sym c.is_doubt.ensures ∙ w.if-is_doubt.true) i.marks in
+          let marks : MarksDoubts vs (n + 1) c.args.seat.now.me.0.marked (n ∷ old.marked) =
+          marks_more vs n _ _ (sym c.is_doubt.ensures ∙ w.if-is_doubt.true) i.marks in
           rw w.seat-is (record {
             table = f.ensures.0 ∙ i.table;
             carried = went.1 ∙ i.carried;
-            view = now ∙ ap (λ (v : View). marking v n) i.view ∙ ap (λ (qs : List ℕ). with_marks c.args.seat.now.me.0 qs) (sym (ap (λ (v : View). v.marked) now));
-            marks = subst (λ (qs : List ℕ). MarksDoubts vs (n + 1) c.args.seat.now.me.0.marked qs) (sym (ap (λ (v : View). v.marked) now)) marks;
+            view = now ∙ ap (λ (v : View). marking v n) i.view ∙ ap
+                (λ (qs : List ℕ). with_marks c.args.seat.now.me.0 qs) (sym (ap (λ (v : View). v.marked) now));
+            marks = subst (λ (qs : List ℕ). MarksDoubts vs (n + 1) c.args.seat.now.me.0.marked qs)
+                (sym (ap (λ (v : View). v.marked) now)) marks;
           })
           )
-      | else-is_doubt w ↦ rw w.seat-is (record { table = i.table; carried = i.carried; view = i.view; marks = marks_same vs n _ _ (λ is. true≢false (sym is ∙ sym c.is_doubt.ensures ∙ w.if-is_doubt.false)) i.marks })
+      | else-is_doubt w ↦ rw w.seat-is (record {
+        table = i.table;
+        carried = i.carried;
+        view = i.view;
+        marks = marks_same vs n _ _ (λ is. true≢false (sym is ∙ sym c.is_doubt.ensures
+            ∙ w.if-is_doubt.false)) i.marks;
+      })
     ]
 
 pub fetch_or-requires : goal.fetch_or-requires
 fetch_or-requires c =
     let n : ℕ = c.loop-q.q in
-    let lt : n < length c.args.sheet.now.questions = omega (arith, c.loop-q-test.true, c.question_count-q-end.ensures.count) in
-    let many : length c.args.sheet.now.questions ≡ length (asked (about c.args.self.now)) = ap (λ (y : List Asked). length y) c.requires.questions in
+    let lt : n < length c.args.sheet.now.questions =
+    omega (arith, c.loop-q-test.true, c.question_count-q-end.ensures.count) in
+    let many : length c.args.sheet.now.questions ≡ length (asked (about c.args.self.now)) =
+    ap (λ (y : List Asked). length y) c.requires.questions in
     let few : n < 256 = (let f = c.args.self.now.few in omega arith) in
-    let owing : c.loop-q.seat.me.0.owes ≡ Some c.args.sheet.now.job = ap (λ (v : View). v.owes) c.loop-q.invariant.view ∙ c.requires.owes in (
+    let owing : c.loop-q.seat.me.0.owes ≡ Some c.args.sheet.now.job =
+    ap (λ (v : View). v.owes) c.loop-q.invariant.view ∙ c.requires.owes in (
       c.loop-q.invariant.table ∙ c.requires.table,
       omega (arith, lt, many),
       marks _ _ n _ _ _ owing few,

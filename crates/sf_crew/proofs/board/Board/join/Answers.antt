@@ -4,9 +4,16 @@ use Rattle.sf_crew.proofs.Joins.{joins, glances}
 use Rattle.sf_crew.proofs.board.Board.join.Goals as goal
 
 pub join_seat-requires : goal.join_seat-requires
-join_seat-requires c = (c.requires.seats.0.0, c.requires.seats.1.0, c.args.second.bare, omega arith, joins _ _ _ _ _ c.requires.free.0 c.requires.free.1 c.requires.seats.0.1 c.args.first.present)
+join_seat-requires c = (
+  c.requires.seats.0.0,
+  c.requires.seats.1.0,
+  c.args.second.bare,
+  omega arith,
+  joins _ _ _ _ _ c.requires.free.0 c.requires.free.1 c.requires.seats.0.1 c.args.first.present,
+)
 
 pub load-requires : goal.load-requires
 load-requires c =
-    let is : c.join_seat.new.seat.me.0.about ≡ Some (about c.args.self.now) = ap (λ m. m.0.about) c.join_seat.ensures.2 ∙ c.requires.seats.0.1 in
+    let is : c.join_seat.new.seat.me.0.about ≡ Some (about c.args.self.now) =
+    ap (λ m. m.0.about) c.join_seat.ensures.2 ∙ c.requires.seats.0.1 in
     (c.join_seat.ensures.0 ∙ c.requires.seats.0.0, omega arith, glances _ _ _ _ is)

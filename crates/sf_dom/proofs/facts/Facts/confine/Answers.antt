@@ -31,4 +31,5 @@ returns-in-None-clause-exact c = λ plain. exact-none c.args.self.now c.args.poo
 pub returns-in-Some-clause-exact : goal.returns-in-Some-clause-exact
 returns-in-Some-clause-exact c = λ plain.
     let told = rw c.in-Some.is at c.in_ok-narrow_word.ensures in
-    exact-some c.args.self.now c.in-Some.next c.args.pool.now _ (some-input c.in-Some.next c.args.pool.now told.covers plain) (returns-in-Some-clause-only c refl)
+    exact-some c.args.self.now c.in-Some.next c.args.pool.now _
+    (some-input c.in-Some.next c.args.pool.now told.covers plain) (returns-in-Some-clause-only c refl)

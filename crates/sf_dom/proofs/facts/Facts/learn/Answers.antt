@@ -6,4 +6,5 @@ pub returns-in-Some-clause-exact : goal.returns-in-Some-clause-exact
 returns-in-Some-clause-exact c = λ nodes plain.
     let told = rw c.in-Some.is at c.in_ok-learnt.ensures.covers in
     let only = rw c.in-Some.is at (c.in_ok-learnt.ensures.only plain) in
-    exact-some c.args.self.now c.in-Some.next c.args.pool.now _ (some-input c.in-Some.next c.args.pool.now told nodes) only
+    exact-some c.args.self.now c.in-Some.next c.args.pool.now _
+    (some-input c.in-Some.next c.args.pool.now told nodes) only

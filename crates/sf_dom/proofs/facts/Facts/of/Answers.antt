@@ -26,8 +26,10 @@ loop-cond-preserved c =
     record {
       covers = c.in_ok-learn.ensures.covers;
       sound = λ d p all.
-          let before = rw (take-take i (i + 1) xs (omega arith)) at (All-take (λ (k : Cond). is_met ns d k ≡ true) i (take (i + 1) xs) all) in
-          let here = λ (e : Cond). rw (get_or-take (i + 1) xs i e (omega arith)) at (all i e (omega (arith, length-take-le (i + 1) xs (omega arith)))) in
+          let before = rw (take-take i (i + 1) xs (omega arith)) at
+          (All-take (λ (k : Cond). is_met ns d k ≡ true) i (take (i + 1) xs) all) in
+          let here = λ (e : Cond). rw (get_or-take (i + 1) xs i e (omega arith)) at
+          (all i e (omega (arith, length-take-le (i + 1) xs (omega arith)))) in
           (rw c.if-not-branch.false at c.in_ok-learn.ensures.sound) d p (old.sound d p before) (here _);
       exact = λ plain d p a.
           let k = c.in_ok-learn.ensures.only (plain i _ (omega arith)) (ap Ok c.if-not-branch.false) d p a in
@@ -40,5 +42,9 @@ returns-clause-exact c = λ nodes plain d p a.
 
 pub returns-clause-attained : goal.returns-clause-attained
 returns-clause-attained c = λ nodes plain.
-    let s = some-input c.loop-cond.facts c.args.pool.now c.loop-cond.invariant.covers nodes in
-    (s.0, s.1, rw (take_all c.loop-cond.cond-index c.args.conds.now (omega arith)) at (c.loop-cond.invariant.exact plain s.0 s.1 s.2))
+    let s = some-input c.loop-cond.facts c.args.pool.now c.loop-cond.invariant.covers nodes in (
+      s.0,
+      s.1,
+      rw (take_all c.loop-cond.cond-index c.args.conds.now (omega arith)) at
+          (c.loop-cond.invariant.exact plain s.0 s.1 s.2),
+    )

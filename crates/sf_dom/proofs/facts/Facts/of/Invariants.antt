@@ -10,5 +10,6 @@ abbrev pub invariant-loop-cond : goal.invariant-loop-cond
 invariant-loop-cond l = record {
   covers : Covers l.facts l.pool;
   sound : (d : Input) → IsInput d → AllMet l.pool (take l.cond-index l.conds) d → Agrees l.facts l.pool d;
-  exact : All (IsPlain l.pool) l.conds → (d : Input) → IsInput d → Agrees l.facts l.pool d → AllMet l.pool (take l.cond-index l.conds) d;
+  exact : All (IsPlain l.pool) l.conds → (d : Input) → IsInput d → Agrees l.facts l.pool d
+      → AllMet l.pool (take l.cond-index l.conds) d;
 }

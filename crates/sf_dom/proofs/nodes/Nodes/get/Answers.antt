@@ -13,7 +13,8 @@ index-requires c =
     let os = c.self.inside.variables.items in
     let within = rw (← c.self.view_is) at c.requires in
     let below : c.args.i < length slots = omega (arith, within, known-length slots os) in
-    let kept = c.self.invariant.variables c.args.i c.in-Variable.rank below (sym (c.get.ensures (Number 0)) ∙ c.in-Variable.is) in
+    let kept = c.self.invariant.variables c.args.i c.in-Variable.rank below
+    (sym (c.get.ensures (Number 0)) ∙ c.in-Variable.is) in
     omega (arith, kept.0)
 
 pub returns-in-Number : goal.returns-in-Number
@@ -22,7 +23,8 @@ returns-in-Number c =
     let os = c.self.inside.variables.items in
     let within = rw (← c.self.view_is) at c.requires in
     let below : c.args.i < length slots = omega (arith, within, known-length slots os) in
-    rw (← c.self.view_is) (c.number.ensures ∙ sym (known-slot slots os c.args.i below ∙ ap (slot_known os) (sym (c.get.ensures (Number 0)) ∙ c.in-Number.is)))
+    rw (← c.self.view_is) (c.number.ensures ∙ sym (known-slot slots os c.args.i below
+    ∙ ap (slot_known os) (sym (c.get.ensures (Number 0)) ∙ c.in-Number.is)))
 
 pub returns-in-Variable : goal.returns-in-Variable
 returns-in-Variable c =
@@ -32,5 +34,7 @@ returns-in-Variable c =
     let below : c.args.i < length slots = omega (arith, within, known-length slots os) in
     let at = sym (c.get.ensures (Number 0)) ∙ c.in-Variable.is in
     let kept = c.self.invariant.variables c.args.i c.in-Variable.rank below at in
-    let read = get_or_read os c.in-Variable.rank c.index.result.now kept.0 c.index.ensures (variable_of 0 (known_of 0 0 0 0)) in
-    rw (← c.self.view_is) (ap (λ (o : Variable). o.known) read ∙ sym (known-slot slots os c.args.i below ∙ ap (slot_known os) at))
+    let read = get_or_read os c.in-Variable.rank c.index.result.now kept.0 c.index.ensures
+    (variable_of 0 (known_of 0 0 0 0)) in
+    rw (← c.self.view_is) (ap (λ (o : Variable). o.known) read
+    ∙ sym (known-slot slots os c.args.i below ∙ ap (slot_known os) at))

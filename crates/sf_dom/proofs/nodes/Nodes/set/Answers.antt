@@ -12,7 +12,8 @@ index_mut-requires c =
     let os = c.self.inside.variables.items in
     let within = rw (← c.self.view_is) at c.requires.within in
     let below : c.args.i < length slots = omega (arith, within, known-length slots os) in
-    let kept = c.self.invariant.variables c.args.i c.in-Variable.rank below (sym (c.get.ensures (Number 0)) ∙ c.in-Variable.is) in
+    let kept = c.self.invariant.variables c.args.i c.in-Variable.rank below
+    (sym (c.get.ensures (Number 0)) ∙ c.in-Variable.is) in
     omega (arith, kept.0)
 
 pub invariant_of-self : goal.invariant_of-self
@@ -21,7 +22,8 @@ invariant_of-self c =
     let os = c.self.inside.variables.items in
     let within = rw (← c.self.view_is) at c.requires.within in
     let below : c.args.i < length slots = omega (arith, within, known-length slots os) in
-    let kept = c.self.invariant.variables c.args.i c.in-Variable.rank below (sym (c.get.ensures (Number 0)) ∙ c.in-Variable.is) in
+    let kept = c.self.invariant.variables c.args.i c.in-Variable.rank below
+    (sym (c.get.ensures (Number 0)) ∙ c.in-Variable.is) in
     kept-set slots os c.in-Variable.rank c.args.i c.args.known kept.1 c.self.invariant
 
 pub returns-in-Variable-clause-known : goal.returns-in-Variable-clause-known
@@ -30,7 +32,8 @@ returns-in-Variable-clause-known c =
     let os = c.self.inside.variables.items in
     let within = rw (← c.self.view_is) at c.requires.within in
     let below : c.args.i < length slots = omega (arith, within, known-length slots os) in
-    rw (← c.self.view_is) (known-set slots os c.in-Variable.rank c.args.i c.args.known c.self.invariant below (sym (c.get.ensures (Number 0)) ∙ c.in-Variable.is))
+    rw (← c.self.view_is) (known-set slots os c.in-Variable.rank c.args.i c.args.known c.self.invariant below
+    (sym (c.get.ensures (Number 0)) ∙ c.in-Variable.is))
 
 pub returns-in-Variable-clause-variables : goal.returns-in-Variable-clause-variables
 returns-in-Variable-clause-variables c =
@@ -38,7 +41,8 @@ returns-in-Variable-clause-variables c =
     let os = c.self.inside.variables.items in
     let within = rw (← c.self.view_is) at c.requires.within in
     let below : c.args.i < length slots = omega (arith, within, known-length slots os) in
-    let kept = c.self.invariant.variables c.args.i c.in-Variable.rank below (sym (c.get.ensures (Number 0)) ∙ c.in-Variable.is) in
+    let kept = c.self.invariant.variables c.args.i c.in-Variable.rank below
+    (sym (c.get.ensures (Number 0)) ∙ c.in-Variable.is) in
     rw (← c.self.view_is) (places-set os c.in-Variable.rank c.args.i c.args.known kept.1)
 
 pub returns-in_default-clause-known : goal.returns-in_default-clause-known
@@ -56,4 +60,5 @@ pub returns-in-Variable-clause-laid_out : goal.returns-in-Variable-clause-laid_o
 returns-in-Variable-clause-laid_out c = laid-out c.self.inside.slots _ (invariant_of-self c)
 
 pub returns-in_default-clause-laid_out : goal.returns-in_default-clause-laid_out
-returns-in_default-clause-laid_out c = rw (← c.self.view_is) (laid-out c.self.inside.slots c.self.inside.variables.items c.self.invariant)
+returns-in_default-clause-laid_out c = rw (← c.self.view_is)
+    (laid-out c.self.inside.slots c.self.inside.variables.items c.self.invariant)

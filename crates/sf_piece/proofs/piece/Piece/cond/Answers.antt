@@ -6,10 +6,13 @@ use Rattle.sf_piece.proofs.piece.Piece.cond.Goals as goal
 pub returns-clause-value : goal.returns-clause-value
 returns-clause-value c =
     let inside = rw (← c.self.view_is, ← c.run.view_is) at c.requires in
-    rw (← c.self.view_is, ← c.run.view_is) (slice_get-get_or c.run.inside.conditions c.args.i c.get.result inside ∙ ap Some (sym (c.get.ensures c.get.result)))
+    rw (← c.self.view_is, ← c.run.view_is) (slice_get-get_or c.run.inside.conditions c.args.i c.get.result inside
+    ∙ ap Some (sym (c.get.ensures c.get.result)))
 
 pub returns-clause-below : goal.returns-clause-below
 returns-clause-below c =
     let inside = rw (← c.self.view_is, ← c.run.view_is) at c.requires in
     let lawful = rw (← c.run.view_is) at c.self.invariant in
-    rw (← c.self.view_is, ← c.run.view_is) (below_at _ c.run.inside.conditions c.args.i c.get.result lawful.run.bounded (slice_get-get_or c.run.inside.conditions c.args.i c.get.result inside ∙ ap Some (sym (c.get.ensures c.get.result))))
+    rw (← c.self.view_is, ← c.run.view_is) (below_at _ c.run.inside.conditions c.args.i c.get.result lawful.run.bounded
+    (slice_get-get_or c.run.inside.conditions c.args.i c.get.result inside
+    ∙ ap Some (sym (c.get.ensures c.get.result))))

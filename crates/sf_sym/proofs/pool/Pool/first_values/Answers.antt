@@ -5,7 +5,8 @@ use Rattle.sf_sym.proofs.pool.Pool.first_values.Goals as goal
 pub compute-value-requires : goal.compute-value-requires
 compute-value-requires c =
     let count = length-values_of c.args.self.now c.args.input.now c.loop-i.i (omega arith) in
-    let e : length c.as_slice.result.now ≡ c.loop-i.i = ap length (c.as_slice.ensures.value ∙ c.loop-i.invariant) ∙ count in
+    let e : length c.as_slice.result.now ≡ c.loop-i.i =
+    ap length (c.as_slice.ensures.value ∙ c.loop-i.invariant) ∙ count in
     rw e c.node.ensures.operands
 
 pub loop-i-preserved : goal.loop-i-preserved
@@ -20,4 +21,5 @@ loop-i-preserved c =
 
 pub returns-clause-count : goal.returns-clause-count
 returns-clause-count c =
-    ap length c.loop-i.invariant ∙ length-values_of c.args.self.now c.args.input.now c.loop-i.i (omega arith) ∙ omega arith
+    ap length c.loop-i.invariant ∙ length-values_of c.args.self.now c.args.input.now c.loop-i.i
+    (omega arith) ∙ omega arith

@@ -15,7 +15,8 @@ loop-i-preserved c =
     record {
       count = rw nodes (length_push ns (Word i) ∙ omega arith);
       word = rw nodes (below_more (λ k. node_at (ns ++ Word i ∷ []) k ≡ Word k) i
-          (λ k h. let l : k < length ns = omega arith in get_or_append_left ns (Word i ∷ []) (Const 0) k l ∙ old.word k h)
+          (λ k h. let l : k < length ns = omega arith in
+          get_or_append_left ns (Word i ∷ []) (Const 0) k l ∙ old.word k h)
           (get_or_push ns (Word i) (Const 0) i old.count));
       ordered = rw nodes (AreOrdered-push 0 ns (Word i) old.ordered (omega arith));
       indexed = c.in_ok-add.ensures.indexed;

@@ -18,18 +18,25 @@ returns-in-Some-clause-value c = λ d.
     let there = c.in-Some.ensures.found c.in-Some.at refl in
     let within : c.in-Some.at < length ns = omega (arith, there.0, length-nodes c.self.inside.entries) in
     let operands : OperandsBelow (length ns) c.args.node = rw (← c.self.view_is) at c.requires in
-    rw (← c.self.view_is) (value-node ns d c.in-Some.at lawful within ∙ ap (node_value d (values_of ns d)) (there.1 ∙ c.fold-node.ensures) ∙ folded-value ns d c.args.node lawful operands)
+    rw (← c.self.view_is) (value-node ns d c.in-Some.at lawful within
+    ∙ ap (node_value d (values_of ns d)) (there.1 ∙ c.fold-node.ensures)
+    ∙ folded-value ns d c.args.node lawful operands)
 
 pub returns-in-Some-clause-added : goal.returns-in-Some-clause-added
 returns-in-Some-clause-added c = λ absent.
     let there = c.in-Some.ensures.found c.in-Some.at refl in
-    absurd (rw (← c.self.view_is) at absent c.in-Some.at (omega (arith, there.0, length-nodes c.self.inside.entries)) (there.1 ∙ c.fold-node.ensures))
+    absurd (rw (← c.self.view_is) at absent c.in-Some.at (omega (arith, there.0, length-nodes c.self.inside.entries))
+    (there.1 ∙ c.fold-node.ensures))
 
 pub invariant_of-self-2 : goal.invariant_of-self-2
 invariant_of-self-2 c =
     let ns = nodes_of c.self.inside.entries in
-    let given : OperandsBelow (length ns) c.args.node = rw (← c.self.view_is) at c.requires in
-    (rw (c.in_ok-at.ensures.ok, c.fold-node.ensures) (IsPool-push ns (folded ns c.args.node) c.self.invariant.0 (folded-operands ns c.args.node c.self.invariant.0 given)), c.in_ok-at.ensures.indexed)
+    let given : OperandsBelow (length ns) c.args.node = rw (← c.self.view_is) at c.requires in (
+      rw (c.in_ok-at.ensures.ok, c.fold-node.ensures)
+          (IsPool-push ns (folded ns c.args.node) c.self.invariant.0
+          (folded-operands ns c.args.node c.self.invariant.0 given)),
+      c.in_ok-at.ensures.indexed,
+    )
 
 pub returns-clause-value : goal.returns-clause-value
 returns-clause-value c = λ d.
@@ -37,14 +44,18 @@ returns-clause-value c = λ d.
     let ns = nodes_of es in
     let given : OperandsBelow (length ns) c.args.node = rw (← c.self.view_is) at c.requires in
     let at : c.in_ok-at.at ≡ length ns = c.in_ok-at.ensures.place ∙ sym (length-nodes es) in
-    rw (← c.self.view_is, c.in_ok-at.ensures.ok, c.fold-node.ensures, at) (value-pushed ns (folded ns c.args.node) d ∙ folded-value ns d c.args.node c.self.invariant.0 given)
+    rw (← c.self.view_is, c.in_ok-at.ensures.ok, c.fold-node.ensures, at)
+    (value-pushed ns (folded ns c.args.node) d ∙ folded-value ns d c.args.node c.self.invariant.0 given)
 
 pub returns-clause-plain : goal.returns-clause-plain
 returns-clause-plain c = λ k e plain.
-    rw (c.in_ok-at.ensures.ok, c.fold-node.ensures, e) (ArePlainNodes-push (nodes_of c.self.inside.entries) k (rw (← c.self.view_is) at plain))
+    rw (c.in_ok-at.ensures.ok, c.fold-node.ensures, e)
+    (ArePlainNodes-push (nodes_of c.self.inside.entries) k (rw (← c.self.view_is) at plain))
 
 pub returns-clause-lawful : goal.returns-clause-lawful
 returns-clause-lawful c =
     let ns = nodes_of c.self.inside.entries in
     let given : OperandsBelow (length ns) c.args.node = rw (← c.self.view_is) at c.requires in
-    rw (c.in_ok-at.ensures.ok, c.fold-node.ensures) (IsPool-push ns (folded ns c.args.node) c.self.invariant.0 (folded-operands ns c.args.node c.self.invariant.0 given))
+    rw (c.in_ok-at.ensures.ok, c.fold-node.ensures)
+    (IsPool-push ns (folded ns c.args.node) c.self.invariant.0
+    (folded-operands ns c.args.node c.self.invariant.0 given))

@@ -4,7 +4,8 @@ use Rattle.sf_sym.proofs.pool.Pool.value.Goals as goal
 
 pub compute-requires : goal.compute-requires
 compute-requires c =
-    let e : length c.as_slice.result.now ≡ c.args.id.0 = ap length c.as_slice.ensures.value ∙ c.in_ok-values.ensures.count in
+    let e : length c.as_slice.result.now ≡ c.args.id.0 = ap length c.as_slice.ensures.value
+    ∙ c.in_ok-values.ensures.count in
     rw e c.node.ensures.operands
 
 pub returns : goal.returns

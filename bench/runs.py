@@ -1,0 +1,62 @@
+"""Runs of a program, and what each of them costs."""
+
+import ctypes
+import os
+import re
+import subprocess
+import tempfile
+import time
+from collections import namedtuple
+
+# How a run ended, what it wrote to standard output, the seconds that it lasted, the seconds of processors that it took (its own and
+# the system's for it), and its greatest resident memory in kilobytes.
+Run = namedtuple("Run", "status output seconds processor peak")
+
+PR_SET_CHILD_SUBREAPER = 36
+
+# The greatest budget that an audit takes.
+MOST_BUDGET = 1000000
+
+
+def adopt():
+    """Makes orphans of this process's children its own children."""
+    if ctypes.CDLL(None, use_errno=True).prctl(PR_SET_CHILD_SUBREAPER, 1, 0, 0, 0) != 0:
+        raise OSError(ctypes.get_errno(), "prctl")
+
+
+def run(command):
+    """Runs a program. The system counts the memory of what started it to its peak, and this script has some 14 MB. So setsid,
+    with 2 MB, starts it and leaves it to this process."""
+    adopt()
+    with tempfile.TemporaryFile() as output:
+        start = time.perf_counter()
+        subprocess.run(["setsid", "--fork", *command], stdout=output, check=True)
+        _, status, used = os.wait4(-1, 0)
+        seconds = time.perf_counter() - start
+        output.seek(0)
+        processor = used.ru_utime + used.ru_stime
+        return Run(os.waitstatus_to_exitcode(status), output.read(), seconds, processor, used.ru_maxrss)
+
+
+def instructions(command):
+    """The instructions of a run, as valgrind counts them."""
+    counter = ["valgrind", "--tool=callgrind", "--callgrind-out-file=/dev/null"]
+    said = subprocess.run(counter + command, stdout=subprocess.DEVNULL, stderr=subprocess.PIPE, text=True).stderr
+    return int(re.search(r"Collected : (\d+)", said).group(1))
+
+
+def audit_of(folder, policy, filters, budget=MOST_BUDGET, workers=1):
+    """The words after a program's path that make it audit these filters; the files for it are written into the folder."""
+    words = ["audit", "--budget", str(budget), "--workers", str(workers), "--policy", os.path.join(folder, "policy.toml")]
+    with open(words[-1], "w", encoding="utf-8") as file:
+        file.write(policy)
+    for number, data in enumerate(filters, 1):
+        words.append(os.path.join(folder, f"{number:02}.bpf"))
+        with open(words[-1], "wb") as file:
+            file.write(data)
+    return words
+
+
+def commits_of(report):
+    """The commits that a report tells: the last number of its third line."""
+    return int(report.splitlines()[2].split()[-1])

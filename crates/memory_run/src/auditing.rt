@@ -1,0 +1,121 @@
+//! Audits and their reports.
+
+ghost use Rattle.std.specs.Prelude.{◌≤◌, ◌<◌};
+
+use crate::refused::{MEMORY, Refused, Tally};
+use crate::stacks::POLICY;
+use sf_audit::{Fault, audit, read_policy, stack_of, write_report};
+use sf_crew::Open;
+use std::io;
+use std::io::Write;
+use std::sync::Wait;
+use std::thread::Threads;
+
+/// A writer that takes no memory and one byte a call.
+#[derive(Drop)]
+pub struct Page {
+    held: [u8; 8192],
+    len: usize,
+}
+
+impl Page {
+    pub fn new() -> Page {
+        Page {
+            held: [0; 8192],
+            len: 0,
+        }
+    }
+
+    fn bytes(&self) -> &[u8] {
+        self.held.get(..self.len).unwrap_or(&[])
+    }
+
+    /// What was written.
+    pub fn text(&self) -> &str {
+        std::str::from_utf8(self.bytes()).unwrap_or("no text\n")
+    }
+}
+
+impl Write for Page {
+    fn write(&mut self, bytes: &[u8]) -> io::Result<usize> {
+        let Some(byte) = bytes.first() else {
+            return Ok(0);
+        };
+        let Some(place) = self.held.get_mut(self.len) else {
+            return Ok(0);
+        };
+        *place = *byte;
+        self.len = self.len.saturating_add(1);
+        Ok(1)
+    }
+
+    fn flush(&mut self) -> io::Result<()> {
+        Ok(())
+    }
+}
+
+/// Audits the stack of these filters and writes the report.
+fn report<R: Threads + Wait + Sync + AllocGlobal>(
+    rt: &R,
+    filters: &[Vec<u8>],
+    workers: usize,
+    page: &mut Page,
+) -> Result<(), Refused>
+    requires { (0 < workers) × (workers ≤ 64) }
+{
+    let alloc = rt.alloc();
+    let questions = read_policy(alloc, POLICY)?;
+    let outcome = audit(rt, alloc, filters, questions, 1000, workers, &Open)?;
+    write_report(alloc, &outcome, true, page)?;
+    Ok(())
+}
+
+/// The report of an audit by one worker, which has to be that of two and of eight.
+pub fn audited<R: Threads + Wait + Sync + AllocGlobal>(
+    rt: &R,
+    tally: &mut Tally,
+    files: &[&[u8]],
+    page: &mut Page,
+) -> Result<(), Refused> {
+    let alloc = rt.alloc();
+    let mut filters = Vec::new(alloc);
+    for file in files {
+        let mut filter = Vec::new(alloc);
+        filter.extend_from_slice(file)?;
+        filters.push(filter)?;
+    }
+    report(rt, &filters, 1, page)?;
+    let mut by_two = Page::new();
+    report(rt, &filters, 2, &mut by_two)?;
+    tally.expect(by_two.bytes() == page.bytes());
+    let mut by_eight = Page::new();
+    report(rt, &filters, 8, &mut by_eight)?;
+    tally.expect(by_eight.bytes() == page.bytes());
+    Ok(())
+}
+
+/// Adds a fault's text, where it isn't want of memory.
+fn push_fault(text: &mut String, fault: Option<Fault>) -> Result<(), Refused> {
+    match fault {
+        Some(Fault::Memory) => Err(Refused { number: MEMORY }),
+        Some(fault) => Ok(write!(text, "{fault}\n")?),
+        None => Ok(text.push_str("no fault\n")?),
+    }
+}
+
+/// What audits refuse that no command line can ask for, no filter and no question, and texts of faults that none shows.
+pub fn refusals<R: Threads + Wait + Sync + AllocGlobal>(rt: &R) -> Result<String, Refused> {
+    let alloc = rt.alloc();
+    let mut text = String::new(alloc);
+    let none = Vec::new(alloc);
+    push_fault(&mut text, stack_of(alloc, &none).err())?;
+    let mut filter = Vec::new(alloc);
+    filter.extend_from_slice(&[6, 0, 0, 0, 0, 0, 0, 0])?;
+    let mut filters = Vec::new(alloc);
+    filters.push(filter)?;
+    let refused = audit(rt, alloc, &filters, Vec::new(alloc), 1000, 1, &Open).err();
+    push_fault(&mut text, refused)?;
+    let (foreign, memory) = (Fault::Foreign, Fault::Memory);
+    write!(&mut text, "{foreign}\n{memory}\n")?;
+    Ok(text)
+}

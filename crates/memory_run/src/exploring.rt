@@ -1,0 +1,172 @@
+//! Books, benches and sheets, and what becomes of them where a growth is refused.
+
+use crate::refused::{MEMORY, Refused, Tally};
+use crate::stacks::POLICY;
+use crate::trying::{grow_pools, try_facts};
+use crossbeam_deque::Steal;
+use sf_ask::{Sheet, Verdict};
+use sf_audit::read_policy;
+use sf_book::{Book, Lease, Settled};
+use sf_check::Stack;
+use sf_crew::{Owner, Thief, bench};
+use sf_piece::{Piece, advance};
+use std::alloc::{AllocError, Global};
+use std::sync::Arc;
+
+/// Leases the first free piece.
+fn lease(tally: &mut Tally, book: &mut Book) -> Result<Option<Lease>, Refused> {
+    let before = book.counts();
+    match book.lease() {
+        Ok(lease) => Ok(lease),
+        Err(fault) => {
+            tally.refuse(fault.into(), book.counts() == before);
+            Ok(book.lease()?)
+        }
+    }
+}
+
+/// Works a piece and commits the work. Where a growth is refused, nothing that was put in is left, or free.
+fn commit(
+    alloc: Global,
+    tally: &mut Tally,
+    book: &mut Book,
+    id: u64,
+    piece: &Arc<Piece>,
+) -> Result<(), Refused> {
+    let before = book.counts();
+    let ids = match book.commit(id, advance(alloc, piece)?) {
+        Ok(ids) => ids,
+        Err(fault) => {
+            tally.refuse(fault.into(), book.counts() == before);
+            book.commit(id, advance(alloc, piece)?)?
+        }
+    };
+    if let Some((f, t)) = ids {
+        tally.expect(id < f && f < t);
+        book.give_back(f);
+        book.give_back(t);
+    }
+    Ok(())
+}
+
+/// Works a book off, one piece after the other, and tries each piece's pool and facts: on how many pieces word 0 may be
+/// above word 1.
+fn work_off(alloc: Global, tally: &mut Tally, book: &mut Book) -> Result<u32, Refused> {
+    let mut above = 0u32;
+    for _ in 0..1000 {
+        let Some(Lease { id, piece }) = lease(tally, book)? else {
+            break;
+        };
+        if piece.name().is_empty() {
+            grow_pools(alloc, tally, &piece)?;
+        }
+        if try_facts(alloc, tally, &piece)? {
+            above = above.saturating_add(1);
+        }
+        commit(alloc, tally, book, id, &piece)?;
+    }
+    Ok(above)
+}
+
+/// All regions of a stack, and the line of what the book counted and of what was tried.
+pub fn explored(
+    alloc: Global,
+    tally: &mut Tally,
+    stack: &Arc<Stack>,
+    text: &mut String,
+) -> Result<Settled, Refused> {
+    let mut book = Book::open(alloc, Arc::try_clone(stack)?, 1000)?;
+    let above = work_off(alloc, tally, &mut book)?;
+    let settled = book.finish(stack)?;
+    let counts = settled.counts();
+    let (left, emptied, commits) = (counts.left, counts.emptied, counts.commits);
+    let regions = settled.region_count();
+    write!(
+        text,
+        "regions {regions} open {left} emptied {emptied} commits {commits} above {above}\n"
+    )?;
+    Ok(settled)
+}
+
+/// Adds a letter for each verdict of a sheet.
+fn push_verdicts(text: &mut String, sheet: &Sheet) -> Result<(), AllocError> {
+    for q in 0..sheet.question_count() {
+        let letter = match sheet.verdict(q) {
+            None => "-",
+            Some(Verdict::Clear) => "c",
+            Some(Verdict::Hit(_)) => "h",
+            Some(Verdict::Doubt) => "d",
+        };
+        text.push_str(letter)?;
+    }
+    Ok(())
+}
+
+/// The line of the verdicts on each region, in the order of names, on all questions and on the second and the fourth alone.
+pub fn judged(alloc: Global, settled: &Settled, text: &mut String) -> Result<(), Refused> {
+    let questions = read_policy(alloc, POLICY)?;
+    text.push_str("verdicts")?;
+    for job in 0..settled.region_count() {
+        if questions.len() <= 256 {
+            let all = Sheet::of(alloc, settled, job, &questions, [u64::MAX; 4])?;
+            text.push_str(" ")?;
+            push_verdicts(text, &all)?;
+            let two = Sheet::of(alloc, settled, job, &questions, [10, 0, 0, 0])?;
+            text.push_str("/")?;
+            push_verdicts(text, &two)?;
+        }
+    }
+    text.push_str("\n")?;
+    Ok(())
+}
+
+/// Puts a lease, which has to come back as it was where a growth is refused.
+fn put(tally: &mut Tally, owner: &mut Owner, lease: Lease) -> Result<(), Refused> {
+    let id = lease.id;
+    let Err(back) = owner.put(lease) else {
+        return Ok(());
+    };
+    let refused = Refused { number: MEMORY };
+    tally.refuse(refused, back.id == id && back.piece.name().is_empty());
+    match owner.put(back) {
+        Ok(()) => Ok(()),
+        Err(_) => Err(refused),
+    }
+}
+
+/// More leases than a new bench has room for.
+const LEASES: u64 = 150;
+
+/// Gets all leases of the bench, by the owner and the thief in turn.
+fn get_all(tally: &mut Tally, owner: &mut Owner, thief: &mut Thief) {
+    for id in 0..LEASES {
+        let got = if id % 2 == 0 {
+            owner.take().map(|lease| lease.id)
+        } else {
+            match thief.steal() {
+                Steal::Success(lease) => Some(lease.id),
+                _ => None,
+            }
+        };
+        tally.expect(got == Some(id));
+    }
+    tally.expect(owner.take().is_none());
+}
+
+/// Puts the root of the stack on a bench, under one id after the other, and gets all again.
+pub fn bench_of(alloc: Global, tally: &mut Tally, stack: &Arc<Stack>) -> Result<(), Refused> {
+    let mut book = Book::open(alloc, Arc::try_clone(stack)?, 1)?;
+    let Some(root) = lease(tally, &mut book)? else {
+        tally.expect(false);
+        return Ok(());
+    };
+    let (mut owner, mut thieves) = bench(alloc, 1)?;
+    for id in 0..LEASES {
+        let piece = Arc::try_clone(&root.piece)?;
+        put(tally, &mut owner, Lease { id, piece })?;
+    }
+    if let Some(mut thief) = thieves.pop() {
+        get_all(tally, &mut owner, &mut thief);
+    }
+    Ok(())
+}

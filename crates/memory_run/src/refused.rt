@@ -1,0 +1,109 @@
+//! Calls that answer a fault, and how many there were.
+
+use std::alloc::{AllocError, AllocFailed};
+
+/// A call that answered a fault, and the fault's number.
+#[derive(Clone, Copy)]
+pub struct Refused {
+    pub number: u16,
+}
+
+/// The number of want of memory.
+pub const MEMORY: u16 = 60;
+
+/// How many calls found no memory, and how many answered or left something wrong.
+#[derive(Drop)]
+pub struct Tally {
+    pub refused: u64,
+    pub wrong: u64,
+}
+
+impl Tally {
+    /// Counts a fault, which has to be want of memory, and after which all has to be as it was.
+    pub fn refuse(&mut self, refused: Refused, is_same: bool) {
+        self.refused = self.refused.saturating_add(1);
+        self.expect(refused.number == MEMORY && is_same);
+    }
+
+    /// Counts what has to hold, where it doesn't.
+    pub fn expect(&mut self, holds: bool) {
+        if !holds {
+            self.wrong = self.wrong.saturating_add(1);
+        }
+    }
+}
+
+impl From<AllocError> for Refused {
+    fn from(_error: AllocError) -> Refused {
+        Refused { number: MEMORY }
+    }
+}
+
+impl<T: Drop> From<AllocFailed<T>> for Refused {
+    fn from(_error: AllocFailed<T>) -> Refused {
+        Refused { number: MEMORY }
+    }
+}
+
+impl From<sf_insn::Fault> for Refused {
+    fn from(fault: sf_insn::Fault) -> Refused {
+        let number = fault.number();
+        Refused { number }
+    }
+}
+
+impl From<sf_check::Fault> for Refused {
+    fn from(fault: sf_check::Fault) -> Refused {
+        let number = fault.number();
+        Refused { number }
+    }
+}
+
+impl From<sf_sym::Fault> for Refused {
+    fn from(fault: sf_sym::Fault) -> Refused {
+        let number = fault.number();
+        Refused { number }
+    }
+}
+
+impl From<sf_dom::Fault> for Refused {
+    fn from(fault: sf_dom::Fault) -> Refused {
+        let number = fault.number();
+        Refused { number }
+    }
+}
+
+impl From<sf_piece::Fault> for Refused {
+    fn from(fault: sf_piece::Fault) -> Refused {
+        let number = fault.number();
+        Refused { number }
+    }
+}
+
+impl From<sf_book::Fault> for Refused {
+    fn from(fault: sf_book::Fault) -> Refused {
+        let number = fault.number();
+        Refused { number }
+    }
+}
+
+impl From<sf_ask::Fault> for Refused {
+    fn from(fault: sf_ask::Fault) -> Refused {
+        let number = fault.number();
+        Refused { number }
+    }
+}
+
+impl From<sf_crew::Fault> for Refused {
+    fn from(fault: sf_crew::Fault) -> Refused {
+        let number = fault.number();
+        Refused { number }
+    }
+}
+
+impl From<sf_audit::Fault> for Refused {
+    fn from(fault: sf_audit::Fault) -> Refused {
+        let number = fault.number();
+        Refused { number }
+    }
+}

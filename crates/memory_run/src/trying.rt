@@ -1,0 +1,171 @@
+//! Pools and facts of pieces, and what becomes of them where a growth is refused.
+
+ghost use Rattle.std.specs.Prelude.{length};
+ghost use Rattle.sf_sym.specs.Pool.{IsCondBelow};
+ghost use Rattle.sf_dom.specs.Facts.{Covers};
+
+use crate::refused::{Refused, Tally};
+use sf_dom::Facts;
+use sf_insn::Test;
+use sf_piece::Piece;
+use sf_sym::{Cond, Node, NodeId, Pool};
+use std::alloc::Global;
+
+/// Whether two pools have the same nodes under the same ids.
+fn are_same(left: &Pool, right: &Pool) -> bool {
+    if left.len() != right.len() {
+        return false;
+    }
+    for i in 0..left.len() {
+        if i >= right.len() || left.node(NodeId(i)) != right.node(NodeId(i)) {
+            return false;
+        }
+    }
+    true
+}
+
+/// Pushes a number. The pool is the same as the other one before, which has to be so too where a growth is refused.
+fn push(tally: &mut Tally, pool: &mut Pool, before: &Pool, number: u32) -> Result<NodeId, Refused> {
+    match pool.push(Node::Const(number)) {
+        Ok(id) => Ok(id),
+        Err(fault) => {
+            tally.refuse(fault.into(), are_same(&*pool, before));
+            Ok(pool.push(Node::Const(number))?)
+        }
+    }
+}
+
+/// More numbers than a block of nodes has.
+const NUMBERS: u32 = 70;
+
+/// Two forks that grow alike stay the same.
+pub fn grow_pools(alloc: Global, tally: &mut Tally, piece: &Piece) -> Result<(), Refused> {
+    let mut left = piece.pool().fork(alloc)?;
+    let mut right = left.fork(alloc)?;
+    for number in 0..NUMBERS {
+        let one = push(tally, &mut left, &right, number + 1000)?;
+        let before = right.len();
+        let other = match right.push(Node::Const(number + 1000)) {
+            Ok(id) => id,
+            Err(fault) => {
+                tally.refuse(fault.into(), right.len() == before);
+                right.push(Node::Const(number + 1000))?
+            }
+        };
+        tally.expect(one == other);
+    }
+    tally.expect(are_same(&left, &right));
+    Ok(())
+}
+
+/// Learns a condition. False: no input meets it, and the facts are as they were.
+fn learn(
+    alloc: Global,
+    tally: &mut Tally,
+    facts: &mut Facts,
+    pool: &Pool,
+    cond: &Cond,
+) -> Result<bool, Refused>
+    requires covers { Covers facts.old pool.now }
+    requires below { IsCondBelow (length pool.now) cond.now }
+    ensures { Covers facts.new pool.now }
+{
+    let before = facts.fork(alloc)?;
+    match facts.learn(alloc, pool, cond) {
+        Ok(taken) => {
+            tally.expect(taken || facts.equals(&before));
+            Ok(taken)
+        }
+        Err(fault) => {
+            tally.refuse(fault.into(), facts.equals(&before));
+            Ok(facts.learn(alloc, pool, cond)?)
+        }
+    }
+}
+
+/// Takes in that word 3 lies from 0 to 1000.
+fn confine(
+    alloc: Global,
+    tally: &mut Tally,
+    facts: &mut Facts,
+    pool: &Pool,
+) -> Result<bool, Refused>
+    requires { Covers facts.old pool.now }
+    ensures { Covers facts.new pool.now }
+{
+    let before = facts.fork(alloc)?;
+    match facts.confine(alloc, pool, 3, 0, 1000) {
+        Ok(taken) => Ok(taken),
+        Err(fault) => {
+            tally.refuse(fault.into(), facts.equals(&before));
+            Ok(facts.confine(alloc, pool, 3, 0, 1000)?)
+        }
+    }
+}
+
+/// Takes in that word 3 is even.
+fn confine_bits(
+    alloc: Global,
+    tally: &mut Tally,
+    facts: &mut Facts,
+    pool: &Pool,
+) -> Result<bool, Refused>
+    requires { Covers facts.old pool.now }
+    ensures { Covers facts.new pool.now }
+{
+    let before = facts.fork(alloc)?;
+    match facts.confine_bits(alloc, pool, 3, 1, 0) {
+        Ok(taken) => Ok(taken),
+        Err(fault) => {
+            tally.refuse(fault.into(), facts.equals(&before));
+            Ok(facts.confine_bits(alloc, pool, 3, 1, 0)?)
+        }
+    }
+}
+
+/// Takes in the numbers that a pool has gained, which the facts of the pool afresh know as well.
+fn grow(alloc: Global, tally: &mut Tally, piece: &Piece) -> Result<(), Refused> {
+    let mut pool = piece.pool().fork(alloc)?;
+    let before = pool.fork(alloc)?;
+    let _id = push(tally, &mut pool, &before, 2000)?;
+    let mut facts = piece.facts().fork(alloc)?;
+    let grown = match facts.grow(alloc, &pool) {
+        Ok(grown) => grown,
+        Err(fault) => {
+            tally.refuse(fault.into(), facts.equals(piece.facts()));
+            facts.grow(alloc, &pool)?
+        }
+    };
+    tally.expect(grown && !facts.equals(piece.facts()));
+    Ok(())
+}
+
+/// Learns of a fork of the piece's facts that word 3 is even, at most 1000 and not 0, which leaves 2 as the least number; and
+/// whether word 0 may be above word 1. The piece reads no word 3.
+pub fn try_facts(alloc: Global, tally: &mut Tally, piece: &Piece) -> Result<bool, Refused> {
+    grow(alloc, tally, piece)?;
+    let pool = piece.pool();
+    if pool.len() < 17 {
+        tally.expect(false);
+        return Ok(false);
+    }
+    tally.expect(pool.node(NodeId(16)) == Node::Const(0));
+    let mut facts = piece.facts().fork(alloc)?;
+    let is_low = confine(alloc, tally, &mut facts, pool)?;
+    let is_even = confine_bits(alloc, tally, &mut facts, pool)?;
+    let not_0 = Cond {
+        node: NodeId(3),
+        test: Test::Equal,
+        other: NodeId(16),
+        sense: false,
+    };
+    let is_more = learn(alloc, tally, &mut facts, pool, &not_0)?;
+    tally.expect(is_low && is_even && is_more && facts.least(3) == Some(2));
+    let above = Cond {
+        node: NodeId(0),
+        test: Test::Greater,
+        other: NodeId(1),
+        sense: true,
+    };
+    learn(alloc, tally, &mut facts, pool, &above)
+}

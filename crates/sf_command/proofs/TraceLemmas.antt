@@ -1,0 +1,47 @@
+-- The text of a trace, one filter longer.
+use Rattle.std.proofs.Common.{◌≡◌, ℕ, suc, ◌+◌, ◌<◌, Bool, List, [], ◌∷◌, ◌++◌, codes, Some, get_or, length, slice_get, append_assoc, ap, sym, ◌∙◌, refl}
+use Rattle.std.proofs.lemmas.Option.{slice_get-get_or}
+use Rattle.std.specs.Prelude.{not, ◌&&◌, ◌||◌, ◌==◌}
+use Rattle.sf_insn.specs.declared.input.Input.{Input}
+use Rattle.sf_check.specs.declared.insn.Insn.{Insn}
+use Rattle.sf_run.specs.Answers.{action_bits}
+use Rattle.sf_run.specs.Walks.{Walked, walk_of}
+use Rattle.sf_command.specs.Traces.{filters_text, walk_text}
+
+pub one_more_filter : (brief : Bool) (n action : ℕ) (stood stands : Bool) (programs : List (List Insn)) (d : Input)
+    (code : List Insn) (w : Walked) (old new whole : List ℕ)
+    → slice_get programs n ≡ Some code → walk_of code d ≡ Some w
+    → stands ≡ (not stood && (action_bits w.value == action))
+    → new ≡ old ++ walk_text brief (n + 1) stands w
+    → old ++ filters_text brief (suc n) action programs d stood ≡ whole
+    → new ++ filters_text brief n action programs d (stood || stands) ≡ whole
+one_more_filter brief n action stood stands programs d code w old new whole at ran stands_is pushed so_far =
+    let so_far' : old ++ (walk_text brief (n + 1) stands w ++ filters_text brief n action programs d (stood || stands))
+    ≡ whole = rw (stands_is, ← so_far, at, ran) refl in
+    rw (pushed, append_assoc old) so_far'
+
+-- the program that was read at a place
+pub program_at : (programs : List (List Insn)) (n k : ℕ) (code : List Insn) → code ≡ get_or programs k code → k ≡ n
+    → n < length programs → slice_get programs n ≡ Some code
+program_at programs n k code read same within =
+    let read' : code ≡ get_or programs n code = rw same at read in
+    slice_get-get_or programs n code within ∙ ap (λ (c : List Insn). Some c) (sym read')
+
+-- the parts of a line, added one after the other
+pub test_parts : (old head worded new number place word rest : List ℕ)
+    → head ≡ old ++ (codes "filter " ++ (number ++ (codes " instruction " ++ (place ++ 32 ∷ []))))
+    → worded ≡ head ++ word → new ≡ worded ++ rest
+    → new ≡ old ++ (codes "filter " ++ (number ++ (codes " instruction " ++ (place ++ 32 ∷ (word ++ rest)))))
+test_parts old head worded new number place word rest p q r = rw (r, q, p) (simp append_assoc)
+
+pub return_parts : (old head acted new number action info place mark marked : List ℕ)
+    → head ≡ old ++ (codes "filter " ++ (number ++ 32 ∷ []))
+    → acted ≡ head ++ action → mark ≡ marked
+    → new ≡ acted ++ 32 ∷ (info ++ (codes " instruction " ++ (place ++ (mark ++ 10 ∷ []))))
+    → new ≡ old ++ (codes "filter " ++ (number ++ 32
+    ∷ (action ++ 32 ∷ (info ++ (codes " instruction " ++ (place ++ (marked ++ 10 ∷ [])))))))
+return_parts old head acted new number action info place mark marked p q same r = rw (r, q, p, same) (simp append_assoc)
+
+-- a text to which three parts were added
+pub three_added : (old t u new a b c : List ℕ) → t ≡ old ++ a → u ≡ t ++ b → new ≡ u ++ c → new ≡ old ++ (a ++ (b ++ c))
+three_added old t u new a b c p q r = rw (r, q, p) (simp append_assoc)

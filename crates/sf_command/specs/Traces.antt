@@ -1,0 +1,157 @@
+-- The text of `eval --trace`: the input, and how each filter comes to its return value.
+use Rattle.std.specs.Prelude.{ℕ, zero, suc, ◌+◌, ◌-◌, ◌^◌, Bool, true, false, ◌==◌, ◌&&◌, ◌||◌, not, if◌then◌else◌, List, [], ◌∷◌, ◌++◌, codes, length, Option, Some, None, slice_get, slice_index}
+use Rattle.std.specs.Fmt.{decimal, digits, padded_integral, format_spec}
+use Rattle.sf_insn.specs.declared.input.Input.{Input}
+use Rattle.sf_insn.specs.declared.ops.Test.{Test}
+use Rattle.sf_insn.specs.declared.ops.Test.TheVariants.{Equal, Greater, GreaterOrEqual, AnyBit}
+use Rattle.sf_check.specs.declared.insn.Insn.{Insn}
+use Rattle.sf_run.specs.declared.action.Action.{Action}
+use Rattle.sf_run.specs.declared.action.Answer.{Answer}
+use Rattle.sf_run.specs.declared.walking.Meeting.{Meeting}
+use Rattle.sf_run.specs.declared.walking.Met.{Met}
+use Rattle.sf_run.specs.declared.walking.Met.TheVariants.{Tested, Divided, Returned}
+use Rattle.sf_run.specs.Answers.{action_bits, action_of, data_bits, number_of}
+use Rattle.sf_run.specs.Walks.{Walked, walk_of}
+use Rattle.sf_audit.specs.Reports.{action_text, line}
+use Rattle.sf_command.specs.Texts.{answer_text}
+
+-- the eight hexadecimal digits of a word
+abbrev pub word_digits : ℕ → List ℕ
+word_digits n = padded_integral (format_spec 32 0 4 8 (2 ^ 64 - 1)) false [] (digits 16 true n)
+
+-- a word as a number
+abbrev pub word_text : ℕ → List ℕ
+word_text n = codes "0x" ++ word_digits n
+
+-- ---- the input
+
+-- a field of 64 bits, from its low and its high half
+abbrev pub field_line : List ℕ → ℕ → ℕ → List ℕ
+field_line name low high = name ++ (codes " 0x" ++ (word_digits high ++ (word_digits low ++ 10 ∷ [])))
+
+-- the number of the call in both ways that a policy may spell it, the architecture, and the instruction pointer
+abbrev pub call_text : Input → List ℕ
+call_text d =
+    line (codes "nr" ∷ word_text (slice_index d.words 0) ∷ decimal (slice_index d.words 0) ∷ [])
+    ++ (line (codes "arch" ∷ word_text (slice_index d.words 1) ∷ [])
+    ++ field_line (codes "ip") (slice_index d.words 2) (slice_index d.words 3))
+
+-- the first three arguments, by 64 bits
+abbrev pub first_arguments : Input → List ℕ
+first_arguments d =
+    field_line (codes "arg0") (slice_index d.words 4) (slice_index d.words 5)
+    ++ (field_line (codes "arg1") (slice_index d.words 6) (slice_index d.words 7)
+    ++ field_line (codes "arg2") (slice_index d.words 8) (slice_index d.words 9))
+
+-- and the others
+abbrev pub last_arguments : Input → List ℕ
+last_arguments d =
+    field_line (codes "arg3") (slice_index d.words 10) (slice_index d.words 11)
+    ++ (field_line (codes "arg4") (slice_index d.words 12) (slice_index d.words 13)
+    ++ field_line (codes "arg5") (slice_index d.words 14) (slice_index d.words 15))
+
+-- the input
+abbrev pub input_text : Input → List ℕ
+input_text d = call_text d ++ (first_arguments d ++ last_arguments d)
+
+-- ---- a filter
+
+-- how two words are compared
+abbrev pub sign_text : Test → List ℕ
+sign_text Equal = codes "="
+sign_text Greater = codes ">"
+sign_text GreaterOrEqual = codes ">="
+sign_text AnyBit = codes "&"
+
+-- a truth value as a trace shows it
+abbrev pub truth_text : Bool → List ℕ
+truth_text true = codes "true"
+truth_text false = codes "false"
+
+-- how a word is compared, with which other one, and what comes of it
+abbrev pub compared_text : List ℕ → ℕ → Bool → List ℕ
+compared_text sign other truth = 32 ∷ (sign ++ 32 ∷ (word_text other ++ 32 ∷ (truth_text truth ++ 10 ∷ [])))
+
+-- two words that are compared by an instruction of a filter
+abbrev pub test_line : ℕ → ℕ → ℕ → List ℕ → ℕ → Bool → List ℕ
+test_line number place a sign other truth =
+    codes "filter " ++ (decimal number ++ (codes " instruction "
+    ++ (decimal place ++ 32 ∷ (word_text a ++ compared_text sign other truth))))
+
+-- What a filter meets: a test; at a division by X, whether X is 0; at a return of A, that A.
+abbrev pub meeting_line : ℕ → Meeting → List ℕ
+meeting_line number m = by m.met
+  where
+    by : Met → List ℕ
+    by (Tested test a other passed) = test_line number m.place a (sign_text test) other passed
+    by (Divided x) = test_line number m.place x (codes "=") 0 (x == 0)
+    by (Returned a) = line (codes "filter" ∷ decimal number ∷ codes "instruction" ∷ decimal m.place ∷ word_text a
+        ∷ codes "returned" ∷ [])
+
+-- a test that is false, or a division by an X that isn't 0
+abbrev pub is_false : Met → Bool
+is_false (Tested test a other passed) = not passed
+is_false (Divided x) = not (x == 0)
+is_false (Returned a) = false
+
+-- the line, which a brief trace has not where what is met is false
+abbrev pub shown_line : Bool → ℕ → Meeting → List ℕ
+shown_line brief number m = if brief && is_false m.met then [] else meeting_line number m
+
+-- the lines of all that is met
+abbrev pub meeting_lines : Bool → ℕ → List Meeting → List ℕ
+meeting_lines brief number [] = []
+meeting_lines brief number (m ∷ ms) = shown_line brief number m ++ meeting_lines brief number ms
+
+-- the mark of the filter whose answer stands
+abbrev pub mark_text : Bool → List ℕ
+mark_text stands = if stands then codes " stands" else []
+
+-- what a filter returns, and where
+abbrev pub returned_line : ℕ → ℕ → Action → ℕ → Bool → List ℕ
+returned_line number place action info stands =
+    codes "filter " ++ (decimal number ++ 32 ∷ (action_text action ++ 32 ∷ (decimal info
+    ++ (codes " instruction " ++ (decimal place ++ (mark_text stands ++ 10 ∷ []))))))
+
+-- the same of a return value
+abbrev pub return_line : ℕ → ℕ → ℕ → Bool → List ℕ
+return_line number place value stands =
+    returned_line number place (action_of (action_bits value)) (data_bits value) stands
+
+-- a filter with this number: what it returns, and under it what it meets
+abbrev pub walk_text : Bool → ℕ → Bool → Walked → List ℕ
+walk_text brief number stands w = return_line number w.place w.value stands ++ meeting_lines brief number w.met
+
+-- ---- the stack
+
+-- the run of the filter with this place, counted from 0 in order of installation; a lawful one always comes to a return
+abbrev pub walk_at : List (List Insn) → Input → ℕ → Option Walked
+walk_at programs d place = from (slice_get programs place)
+  where
+    from : Option (List Insn) → Option Walked
+    from (Some code) = walk_of code d
+    from None = None
+
+-- a filter, of which it is told whether it stands, and the older ones
+abbrev pub next_text : Bool → ℕ → ℕ → Bool → (Bool → List ℕ) → Option Walked → List ℕ
+next_text brief number action stood older (Some w) =
+    let stands = not stood && (action_bits w.value == action) in
+    walk_text brief number stands w ++ older (stood || stands)
+next_text brief number action stood older None = older stood
+
+-- The first n filters, newest first. The one that stands is the newest that returns this action, if none that is newer
+-- than these does.
+abbrev pub filters_text : Bool → ℕ → ℕ → List (List Insn) → Input → Bool → List ℕ
+filters_text brief zero action programs d stood = []
+filters_text brief (suc n) action programs d stood =
+    next_text brief (n + 1) action stood (filters_text brief n action programs d) (walk_at programs d n)
+
+-- the input, and all filters of the stack, for its answer
+abbrev pub trace_text : Bool → List (List Insn) → Input → Answer → List ℕ
+trace_text brief programs d answer =
+    input_text d ++ filters_text brief (length programs) (number_of answer.action) programs d false
+
+-- the answer, and under it where it comes from, if that is asked for, in full or in brief
+abbrev pub eval_text : (traced brief : Bool) → List (List Insn) → Input → Answer → List ℕ
+eval_text false false programs d answer = answer_text answer
+eval_text traced brief programs d answer = answer_text answer ++ trace_text brief programs d answer

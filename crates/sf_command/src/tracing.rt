@@ -1,0 +1,266 @@
+//! The text of `eval --trace`: the input, and how each filter comes to its return value.
+ghost use Rattle.std.specs.Prelude.{◌≡◌, ◌<◌, ◌++◌, ◌==◌, ◌&&◌, ◌||◌, not, false, OnOk, IfOk, Some, length, string_bytes};
+ghost use Rattle.sf_run.specs.Answers.{action_bits, number_of};
+ghost use Rattle.sf_run.specs.Walks.{Walked, walk_of};
+ghost use Rattle.sf_command.specs.Traces.{call_text, compared_text, field_line, filters_text, first_arguments, input_text, is_false, last_arguments, mark_text, meeting_line, meeting_lines, returned_line, shown_line, sign_text, test_line, trace_text, truth_text, walk_text, word_text};
+
+use sf_audit::push_action;
+use sf_check::{Program, Stack};
+use sf_insn::{Input, Test};
+use sf_run::{Action, Answer, Course, Fault, Meeting, Met, walk};
+use std::alloc::{AllocError, Global};
+
+/// A word as a number.
+fn push_word(text: &mut String, word: u32) -> Result<(), AllocError>
+    ensures { OnOk result (string_bytes text.new ≡ string_bytes text.old ++ word_text word) }
+{
+    write!(text, "0x{word:08X}")
+}
+
+fn push_field(text: &mut String, name: &str, low: u32, high: u32) -> Result<(), AllocError>
+    ensures { OnOk result (string_bytes text.new ≡ string_bytes text.old
+        ++ field_line name.now low high) }
+{
+    write!(text, "{name} ")?;
+    push_word(text, high)?;
+    write!(text, "{low:08X}\n")
+}
+
+fn push_call(text: &mut String, input: &Input) -> Result<(), AllocError>
+    ensures { OnOk result (string_bytes text.new ≡ string_bytes text.old ++ call_text input.now) }
+{
+    let nr = input.words[0];
+    write!(text, "nr 0x{nr:08X} {nr}\n")?;
+    let arch = input.words[1];
+    write!(text, "arch 0x{arch:08X}\n")?;
+    push_field(text, "ip", input.words[2], input.words[3])
+}
+
+fn push_first_arguments(text: &mut String, input: &Input) -> Result<(), AllocError>
+    ensures { OnOk result (string_bytes text.new ≡ string_bytes text.old
+        ++ first_arguments input.now) }
+{
+    push_field(text, "arg0", input.words[4], input.words[5])?;
+    push_field(text, "arg1", input.words[6], input.words[7])?;
+    push_field(text, "arg2", input.words[8], input.words[9])
+}
+
+fn push_last_arguments(text: &mut String, input: &Input) -> Result<(), AllocError>
+    ensures { OnOk result (string_bytes text.new ≡ string_bytes text.old
+        ++ last_arguments input.now) }
+{
+    push_field(text, "arg3", input.words[10], input.words[11])?;
+    push_field(text, "arg4", input.words[12], input.words[13])?;
+    push_field(text, "arg5", input.words[14], input.words[15])
+}
+
+fn push_input(text: &mut String, input: &Input) -> Result<(), AllocError>
+    ensures { OnOk result (string_bytes text.new ≡ string_bytes text.old ++ input_text input.now) }
+{
+    push_call(text, input)?;
+    push_first_arguments(text, input)?;
+    push_last_arguments(text, input)
+}
+
+/// How a test compares two words.
+fn sign_of(test: Test) -> &'static str
+    ensures { result.now ≡ sign_text test }
+{
+    match test {
+        Test::Equal => "=",
+        Test::Greater => ">",
+        Test::GreaterOrEqual => ">=",
+        Test::AnyBit => "&",
+    }
+}
+
+fn truth_of(truth: bool) -> &'static str
+    ensures { result.now ≡ truth_text truth }
+{
+    if truth { "true" } else { "false" }
+}
+
+fn push_compared(text: &mut String, sign: &str, other: u32, truth: bool) -> Result<(), AllocError>
+    ensures { OnOk result (string_bytes text.new ≡ string_bytes text.old
+        ++ compared_text sign.now other truth) }
+{
+    let truth = truth_of(truth);
+    write!(text, " {sign} 0x{other:08X} {truth}\n")
+}
+
+fn push_test(
+    text: &mut String,
+    number: usize,
+    place: usize,
+    a: u32,
+    sign: &str,
+    other: u32,
+    truth: bool,
+) -> Result<(), AllocError>
+    ensures { OnOk result (string_bytes text.new ≡ string_bytes text.old
+        ++ test_line number place a sign.now other truth) }
+{
+    write!(text, "filter {number} instruction {place} ")?;
+    push_word(text, a)?;
+    push_compared(text, sign, other, truth)
+}
+
+fn push_meeting(text: &mut String, number: usize, meeting: Meeting) -> Result<(), AllocError>
+    ensures { OnOk result (string_bytes text.new ≡ string_bytes text.old
+        ++ meeting_line number meeting) }
+{
+    let place = meeting.place;
+    match meeting.met {
+        Met::Tested(test, a, other, passed) => {
+            push_test(text, number, place, a, sign_of(test), other, passed)
+        }
+        Met::Divided(x) => push_test(text, number, place, x, "=", 0, x == 0),
+        Met::Returned(a) => write!(
+            text,
+            "filter {number} instruction {place} 0x{a:08X} returned\n"
+        ),
+    }
+}
+
+/// Whether a test is false, or an X that divides isn't 0.
+fn is_false(met: Met) -> bool
+    ensures { result ≡ is_false met }
+{
+    match met {
+        Met::Tested(_, _, _, passed) => !passed,
+        Met::Divided(x) => x != 0,
+        Met::Returned(_) => false,
+    }
+}
+
+fn push_shown(
+    text: &mut String,
+    brief: bool,
+    number: usize,
+    meeting: Meeting,
+) -> Result<(), AllocError>
+    ensures { OnOk result (string_bytes text.new ≡ string_bytes text.old
+        ++ shown_line brief number meeting) }
+{
+    if brief && is_false(meeting.met) {
+        return Ok(());
+    }
+    push_meeting(text, number, meeting)
+}
+
+fn push_meetings(
+    text: &mut String,
+    brief: bool,
+    number: usize,
+    met: &[Meeting],
+) -> Result<(), AllocError>
+    ensures { OnOk result (string_bytes text.new ≡ string_bytes text.old
+        ++ meeting_lines brief number met.now) }
+{
+    for meeting in met {
+        push_shown(text, brief, number, *meeting)?;
+    }
+    Ok(())
+}
+
+/// The mark of the filter whose answer stands.
+fn mark_of(stands: bool) -> &'static str
+    ensures { result.now ≡ mark_text stands }
+{
+    if stands { " stands" } else { "" }
+}
+
+/// What a filter returns, and where.
+fn push_return(
+    text: &mut String,
+    number: usize,
+    place: usize,
+    action: Action,
+    info: u32,
+    stands: bool,
+) -> Result<(), AllocError>
+    ensures { OnOk result (string_bytes text.new ≡ string_bytes text.old
+        ++ returned_line number place action info stands) }
+{
+    write!(text, "filter {number} ")?;
+    push_action(text, action)?;
+    let mark = mark_of(stands);
+    write!(text, " {info} instruction {place}{mark}\n")
+}
+
+/// A filter, and whether its answer is that of the stack: whether it returns this action, and no newer one stood.
+fn push_filter(
+    alloc: Global,
+    text: &mut String,
+    brief: bool,
+    number: usize,
+    program: &Program,
+    input: &Input,
+    action: u32,
+    stood: bool,
+) -> Result<bool, Fault>
+    ensures { IfOk result (λ b. (w : Walked) × (walk_of program.now input.now ≡ Some w)
+        × (b ≡ (not stood && (action_bits w.value == action)))
+        × (string_bytes text.new ≡ string_bytes text.old ++ walk_text brief number b w)) }
+{
+    let run = walk(alloc, program, input)?;
+    let stands = !stood && run.value & 0xffff0000 == action;
+    let action_met = Action::named(run.value & 0xffff0000);
+    push_return(
+        text,
+        number,
+        run.place,
+        action_met,
+        run.value & 0xffff,
+        stands,
+    )?;
+    push_meetings(text, brief, number, &run.met)?;
+    Ok(stands)
+}
+
+fn either(one: bool, other: bool) -> bool
+    ensures { result ≡ (one || other) }
+{
+    one || other
+}
+
+/// All filters, newest first.
+fn push_filters(
+    alloc: Global,
+    text: &mut String,
+    brief: bool,
+    programs: &[Program],
+    input: &Input,
+    action: u32,
+) -> Result<(), Fault>
+    ensures { OnOk result (string_bytes text.new ≡ string_bytes text.old
+        ++ filters_text brief (length programs.now) action programs.now input.now false) }
+{
+    let mut stood = false;
+    for i in 0..programs.len() {
+        let number = programs.len() - i;
+        let program = &programs[number - 1];
+        let stands = push_filter(alloc, text, brief, number, program, input, action, stood)?;
+        stood = either(stood, stands);
+    }
+    Ok(())
+}
+
+/// Adds the lines of `eval --trace`: the fields of the input; then for each filter, newest first, what it returns and at
+/// which instruction, and whether the answer of the stack is its own, and under it all that it met, in order, and in brief
+/// nothing that is false.
+pub fn push_trace(
+    alloc: Global,
+    text: &mut String,
+    stack: &Stack,
+    input: &Input,
+    answer: Answer,
+    brief: bool,
+) -> Result<(), Fault>
+    ensures { OnOk result (string_bytes text.new ≡ string_bytes text.old
+        ++ trace_text brief stack.now input.now answer) }
+{
+    push_input(text, input)?;
+    let action = answer.action.number();
+    push_filters(alloc, text, brief, stack.programs(), input, action)
+}

@@ -1,0 +1,92 @@
+-- The truth values that the code's steps meet.
+use Rattle.std.proofs.Common.{◌≡◌, ℕ, suc, ◌+◌, ◌-◌, ◌/◌, ◌^◌, ◌<◌, Bool, true, false, List, [], ◌∷◌, ◌++◌, Option, Some, None, slice_get, bit_and, refl, ◌∙◌, arith, append_assoc}
+use Rattle.std.specs.Prelude.{if◌then◌else◌, ◌==◌}
+use Rattle.std.proofs.lemmas.Nat.Bits.{shr_and_one}
+use Rattle.sf_insn.specs.declared.input.Input.{Input}
+use Rattle.sf_insn.specs.declared.ops.BinOp.{BinOp}
+use Rattle.sf_insn.specs.declared.ops.BinOp.TheVariants.{Div}
+use Rattle.sf_insn.specs.Words.{apply}
+use Rattle.sf_check.specs.declared.insn.Insn.{Insn}
+use Rattle.sf_check.specs.declared.insn.Insn.TheVariants.{LoadScratch, LoadXScratch, Alu, Branch}
+use Rattle.sf_check.specs.declared.insn.Operand.{Operand}
+use Rattle.sf_check.specs.declared.insn.Operand.TheVariants.{Constant, X}
+use Rattle.sf_run.specs.Machine.{State, Progress, goes, returns, stuck, bits, loaded, operated, executed, with_a, with_x}
+use Rattle.sf_run.specs.Code.{met_at}
+
+-- one more bit of a word
+pub bits_more : (xs ys whole : List Bool) (i a : ℕ) → i < 32 → ys ≡ xs ++ (bit_and (a / 2 ^ (31 - i)) 1 == 1) ∷ []
+    → xs ++ bits (32 - i) a ≡ whole → ys ++ bits (32 - (i + 1)) a ≡ whole
+bits_more xs ys whole i a lt pushed so_far =
+    let more : 32 - i ≡ suc (31 - i) = omega arith in
+    let rest : 32 - (i + 1) ≡ 31 - i = omega arith in
+    let so_far' : xs ++ bits (suc (31 - i)) a ≡ whole = rw more at so_far in
+    rw (pushed, rest, shr_and_one a (31 - i), append_assoc xs) so_far'
+
+-- a step meets these truth values
+abbrev Meets : List Bool → Progress → Type 0
+Meets expected (goes met next) = met ≡ expected
+Meets expected (returns met value) = met ≡ expected
+Meets expected stuck = Unit {0}
+
+loaded_meets : (s : State) (k : ℕ) (f : ℕ → Progress) → ((n : ℕ) → Meets [] (f n)) → Meets [] (loaded s k f)
+loaded_meets s k f none = by (slice_get s.scratch k) refl
+  where
+    by : (w : Option (Option ℕ)) → slice_get s.scratch k ≡ w → Meets [] (loaded s k f)
+    by (Some (Some n)) at = rw at (none n)
+    by (Some None) at = rw at tt
+    by None at = rw at tt
+
+step_meets : (d : Input) (s : State) (i : Insn) → Meets (met_at s i) (executed d s i)
+step_meets d s (LoadScratch k) = loaded_meets s k (with_a s) (λ n. refl)
+step_meets d s (LoadXScratch k) = loaded_meets s k (with_x s) (λ n. refl)
+step_meets d s (Alu op other) = alu op other
+  where
+    div : (b : Bool) → Meets (b ∷ []) (if b then returns (true ∷ []) 0
+        else goes (false ∷ []) (record s { place = s.place + 1; a = apply Div s.a s.x }))
+    div true = refl
+    div false = refl
+
+    alu : (op : BinOp) (other : Operand) → Meets (met_at s (Alu op other)) (operated s op other)
+    alu Div X = div (s.x == 0)
+    alu Div (Constant k) = refl
+    alu _ other = refl
+step_meets d s _ = refl
+
+pub goes_meets : (d : Input) (s : State) (i : Insn) (met : List Bool) (next : State) → executed d s i ≡ goes met next
+    → met ≡ met_at s i
+goes_meets d s i met next e = rw e at (step_meets d s i)
+
+pub returns_meets : (d : Input) (s : State) (i : Insn) (met : List Bool) (value : ℕ)
+    → executed d s i ≡ returns met value → met ≡ met_at s i
+returns_meets d s i met value e = rw e at (step_meets d s i)
+
+-- what is met does not depend on the place
+pub met_anywhere : (p q a x : ℕ) (scratch : List (Option ℕ)) (i : Insn)
+    → met_at (record { place = p; a = a; x = x; scratch = scratch }) i
+    ≡ met_at (record { place = q; a = a; x = x; scratch = scratch }) i
+met_anywhere p q a x scratch (Branch test (Constant k) on_true on_false) = refl
+met_anywhere p q a x scratch (Branch test X on_true on_false) = refl
+met_anywhere p q a x scratch (Alu Div X) = refl
+met_anywhere p q a x scratch (Alu Div (Constant k)) = refl
+met_anywhere p q a x scratch (Alu _ other) = refl
+met_anywhere p q a x scratch _ = refl
+
+-- what the code has met, and the rest of the run, after a step that goes on or returns
+pub met_goes_on : (code : List Insn) (d : Input) (place a x : ℕ) (scratch : List (Option ℕ)) (i : Insn)
+    (met : List Bool) (next : State) (xs ys more whole : List Bool)
+    → executed d (record { place = place; a = a; x = x; scratch = scratch }) i ≡ goes met next
+    → ys ≡ xs ++ met_at (record { place = 0; a = a; x = x; scratch = scratch }) i → xs ++ (met ++ more) ≡ whole
+    → ys ++ more ≡ whole
+met_goes_on code d place a x scratch i met next xs ys more whole e pushed so_far =
+    let same = goes_meets d (record { place = place; a = a; x = x; scratch = scratch }) i met next e
+    ∙ met_anywhere place 0 a x scratch i in
+    rw (pushed, ← same, append_assoc xs met more) so_far
+
+pub met_ends : (code : List Insn) (d : Input) (place a x : ℕ) (scratch : List (Option ℕ)) (i : Insn) (met : List Bool)
+    (value : ℕ) (xs ys whole : List Bool) → executed d (record { place = place; a = a; x = x; scratch = scratch }) i
+    ≡ returns met value → ys ≡ xs ++ met_at (record { place = 0; a = a; x = x; scratch = scratch }) i
+    → xs ++ met ≡ whole → ys ≡ whole
+met_ends code d place a x scratch i met value xs ys whole e pushed so_far =
+    let same = returns_meets d (record { place = place; a = a; x = x; scratch = scratch }) i met value e
+    ∙ met_anywhere place 0 a x scratch i in
+    rw (pushed, ← same) so_far

@@ -1,0 +1,92 @@
+//! The run of a program on one input, with all that it meets and the words that it compares.
+
+ghost use Rattle.std.specs.Prelude.{◌≡◌, ◌++◌, Some, IfOk, OnOk, MatchResult};
+ghost use Rattle.sf_run.specs.Code.{state_of};
+ghost use Rattle.std.specs.List.{flat_map};
+ghost use Rattle.sf_run.specs.Machine.{met_by, return_of};
+ghost use Rattle.sf_run.specs.Walks.{course, meeting_at, truths, walk_of};
+
+use crate::fault::Fault;
+use crate::machine::{Machine, Next, execute, operand};
+use sf_check::{Insn, Operand, Program};
+use sf_insn::{BinOp, Input, Test};
+use std::alloc::Global;
+
+/// What an instruction meets.
+#[derive(Clone, Copy, Debug)]
+pub enum Met {
+    /// A conditional test of A against a second word, and its result.
+    Tested(Test, u32, u32, bool),
+    /// A division by this X, at which it is met whether X is 0.
+    Divided(u32),
+    /// A return of this A, at which its 32 bits are met.
+    Returned(u32),
+}
+
+/// What is met at the instruction with this place, which counts from 0.
+#[derive(Clone, Copy, Debug)]
+pub struct Meeting {
+    pub place: usize,
+    pub met: Met,
+}
+
+/// A run of a program.
+#[derive(Debug, Drop)]
+pub struct Course {
+    /// What was met, in order.
+    pub met: Vec<Meeting>,
+    /// The place of the instruction that returned.
+    pub place: usize,
+    /// The value that it returned.
+    pub value: u32,
+}
+
+// Adds what the instruction meets.
+fn push_meeting(
+    met: &mut Vec<Meeting>,
+    machine: &Machine,
+    place: usize,
+    insn: &Insn,
+) -> Result<(), Fault>
+    ensures pushed { OnOk result (met.new.items ≡ met.old.items
+        ++ meeting_at (state_of place machine.now) insn.now) }
+    ensures only { MatchResult result (λ _. Unit {0}) (λ e. e ≡ Fault.Memory) }
+{
+    let here = match insn {
+        Insn::Branch(test, other, _, _) => {
+            let word = operand(machine, *other);
+            Met::Tested(*test, machine.a, word, test.passes(machine.a, word))
+        }
+        Insn::Alu(BinOp::Div, Operand::X) => Met::Divided(machine.x),
+        Insn::ReturnA => Met::Returned(machine.a),
+        _ => return Ok(()),
+    };
+    met.push(Meeting { place, met: here })?;
+    Ok(())
+}
+
+/// The run of the program on the input: what it meets, with the words that it compares, and where it returns which value.
+/// `Memory` where a growth is refused.
+pub fn walk(alloc: Global, program: &Program, input: &Input) -> Result<Course, Fault>
+    // It is the run of the definition.
+    ensures told { IfOk result (λ w. walk_of program.now input.now
+        ≡ Some (course w.met.items w.place w.value)) }
+
+    // So it has the value that the program returns, and the truth values that it meets.
+    ensures run { IfOk result (λ w. (w.value ≡ return_of program.now input.now)
+        × (flat_map truths w.met.items ≡ met_by program.now input.now)) }
+    ensures only { MatchResult result (λ _. Unit {0}) (λ e. e ≡ Fault.Memory) }
+{
+    let code = program.insns();
+    let mut met = Vec::new(alloc);
+    let mut machine = Machine::start();
+    let mut place = 0;
+    'steps: loop {
+        let insn = &code[place];
+        push_meeting(&mut met, &machine, place, insn)?;
+        match execute(&mut machine, input, place, insn) {
+            Next::Goes(next) => place = next,
+            Next::Returns(value) => return Ok(Course { met, place, value }),
+        }
+    }
+}
