@@ -2,6 +2,7 @@
  *
  * REFUSE_GROWTH=N        the Nth growth is refused, a call of malloc, calloc, realloc, memalign, aligned_alloc or posix_memalign
  * REFUSE_GROWTHS_FROM=N  each growth from the Nth on is refused
+ * REFUSE_MARK=SIZE       a thread that asks for SIZE bytes is refused them, and each growth after that
  * REFUSE_THREAD=N        the Nth thread can't be started
  * REFUSE_THREADS_FROM=N  each thread from the Nth on can't be started
  * REFUSE_COUNTS=FILE     FILE, 32 bytes, gets four 64-bit numbers: growths asked for and refused, threads asked for and refused
@@ -25,7 +26,10 @@ struct Counts {
 
 static struct Counts own;
 static struct Counts *counts = &own;
-static long growth, growths_from, thread, threads_from;
+static long growth, growths_from, mark, thread, threads_from;
+
+/* Whether the thread has asked for the size of the mark. (Another model would ask malloc for the variable's room.) */
+static _Thread_local int is_marked __attribute__((tls_model("initial-exec")));
 
 /* The number in a variable of the environment; 0 where there is none. */
 static long number(const char *name) {
@@ -46,22 +50,26 @@ __attribute__((constructor)) static void start(void) {
     }
     growth = number("REFUSE_GROWTH");
     growths_from = number("REFUSE_GROWTHS_FROM");
+    mark = number("REFUSE_MARK");
     thread = number("REFUSE_THREAD");
     threads_from = number("REFUSE_THREADS_FROM");
 }
 
-/* Counts one more, and whether it is to be refused: the one alone, or each from the other on. */
-static int is_refused(atomic_long *asked, atomic_long *refused, long alone, long from) {
+/* Counts one more, and whether it is to be refused: the one alone, each from the other on, or this one for a reason of its own. */
+static int is_refused(atomic_long *asked, atomic_long *refused, long alone, long from, int is_barred) {
     long n = atomic_fetch_add(asked, 1) + 1;
-    if (n != alone && (from == 0 || n < from)) {
+    if (n != alone && (from == 0 || n < from) && !is_barred) {
         return 0;
     }
     atomic_fetch_add(refused, 1);
     return 1;
 }
 
-static int is_growth_refused(void) {
-    if (!is_refused(&counts->growths, &counts->refused_growths, growth, growths_from)) {
+static int is_growth_refused(size_t size) {
+    if (mark != 0 && size == (size_t)mark) {
+        is_marked = 1;
+    }
+    if (!is_refused(&counts->growths, &counts->refused_growths, growth, growths_from, is_marked)) {
         return 0;
     }
     errno = ENOMEM;
@@ -73,13 +81,13 @@ extern void *__libc_calloc(size_t, size_t);
 extern void *__libc_realloc(void *, size_t);
 extern void *__libc_memalign(size_t, size_t);
 
-void *malloc(size_t size) { return is_growth_refused() ? NULL : __libc_malloc(size); }
+void *malloc(size_t size) { return is_growth_refused(size) ? NULL : __libc_malloc(size); }
 
-void *calloc(size_t count, size_t size) { return is_growth_refused() ? NULL : __libc_calloc(count, size); }
+void *calloc(size_t count, size_t size) { return is_growth_refused(count * size) ? NULL : __libc_calloc(count, size); }
 
-void *realloc(void *old, size_t size) { return is_growth_refused() ? NULL : __libc_realloc(old, size); }
+void *realloc(void *old, size_t size) { return is_growth_refused(size) ? NULL : __libc_realloc(old, size); }
 
-void *memalign(size_t align, size_t size) { return is_growth_refused() ? NULL : __libc_memalign(align, size); }
+void *memalign(size_t align, size_t size) { return is_growth_refused(size) ? NULL : __libc_memalign(align, size); }
 
 void *aligned_alloc(size_t align, size_t size) { return memalign(align, size); }
 
@@ -94,7 +102,7 @@ int posix_memalign(void **out, size_t align, size_t size) {
 
 int pthread_create(pthread_t *made, const pthread_attr_t *attributes, void *(*run)(void *), void *argument) {
     typedef int Create(pthread_t *, const pthread_attr_t *, void *(*)(void *), void *);
-    if (is_refused(&counts->threads, &counts->refused_threads, thread, threads_from)) {
+    if (is_refused(&counts->threads, &counts->refused_threads, thread, threads_from, 0)) {
         return EAGAIN;
     }
     Create *create = (Create *)dlsym(RTLD_NEXT, "pthread_create");

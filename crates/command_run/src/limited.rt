@@ -1,4 +1,4 @@
-//! A writer that takes one byte a call, and only so many; and one that counts its calls.
+//! A writer that takes a few bytes a call, and only so many; and one that counts its calls.
 
 ghost use Rattle.std.specs.Prelude.{◌≡◌, IfOk};
 
@@ -14,10 +14,11 @@ pub enum Full {
     Interrupted,
 }
 
-/// Takes one byte a call, until it holds `limit` bytes.
+/// Takes at most `most` bytes a call, until it holds `limit` bytes.
 #[derive(Drop)]
 pub struct Limited {
     pub held: Vec<u8>,
+    pub most: usize,
     pub limit: usize,
     pub full: Full,
 }
@@ -45,8 +46,10 @@ impl Write for Limited {
         if self.limit <= self.held.len() {
             return self.no_more();
         }
-        self.held.push(bytes[0])?;
-        Ok(1)
+        let room = self.limit - self.held.len();
+        let count = bytes.len().min(self.most).min(room);
+        self.held.extend_from_slice(&bytes[..count])?;
+        Ok(count)
     }
 
     fn flush(&mut self) -> io::Result<()> {

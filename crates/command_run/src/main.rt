@@ -2,8 +2,8 @@
 //!
 //! A script comes on standard input. `file NAME PIECE ..` makes a file of hexadecimal digits, and `text NAME LINE | LINE ..` one of
 //! lines; a later file of a name takes the place of an earlier one. `run WORD ..` runs a command line, `limit WORD ..` runs one
-//! over writers that take so many bytes and no more, and `interrupt WORD ..` over one that a signal interrupts. A line that begins
-//! with `#` says what the next ones are about.
+//! over writers that take so many bytes and no more, and `interrupt WORD ..` over one that a signal interrupts: one byte a call, and
+//! what comes of it has to be the same by five and by seven. A line that begins with `#` says what the next ones are about.
 #![tactic(auto)]
 
 mod limited;

@@ -45,7 +45,44 @@ pub fn run<R: Print + Threads + Wait + Sync + AllocGlobal>(
     show_end(rt, &err, status)
 }
 
-/// Runs a command line over a writer that takes so many bytes, and shows what it took. False: it wasn't enough.
+/// What came of a command line over a limited writer.
+#[derive(Drop)]
+struct Ended {
+    out: Limited,
+    err: Counted,
+    status: u8,
+}
+
+/// Runs a command line over a writer that takes at most so many bytes a call, and so many in all.
+fn run_over<R: Print + Threads + Wait + Sync + AllocGlobal>(
+    rt: &R,
+    shelf: &mut Shelf,
+    words: &[String],
+    most: usize,
+    limit: usize,
+    full: Full,
+) -> Ended {
+    let alloc = rt.alloc();
+    let mut out = Limited {
+        held: Vec::new(alloc),
+        most,
+        limit,
+        full,
+    };
+    let mut err = no_errors(alloc);
+    let status = command(rt, alloc, words, shelf, &mut out, &mut err);
+    Ended { out, err, status }
+}
+
+/// Whether two runs wrote the same and ended with the same status.
+fn ended_alike(left: &Ended, right: &Ended) -> bool {
+    left.status == right.status
+        && left.out.held.as_slice() == right.out.held.as_slice()
+        && left.err.held.as_slice() == right.err.held.as_slice()
+}
+
+/// Runs a command line over a writer that takes one byte a call, and so many in all, and shows what it took. Over writers that
+/// take five and seven bytes a call it has to end alike. False: it wasn't enough.
 fn run_limited<R: Print + Threads + Wait + Sync + AllocGlobal>(
     rt: &R,
     shelf: &mut Shelf,
@@ -53,18 +90,17 @@ fn run_limited<R: Print + Threads + Wait + Sync + AllocGlobal>(
     limit: usize,
     full: Full,
 ) -> Result<bool, Fail> {
-    let alloc = rt.alloc();
-    let mut out = Limited {
-        held: Vec::new(alloc),
-        limit,
-        full,
-    };
-    let mut err = no_errors(alloc);
-    let status = command(rt, alloc, words, shelf, &mut out, &mut err);
-    let held = std::str::from_utf8(&out.held)?;
+    let ended = run_over(rt, shelf, words, 1, limit, full);
+    let held = std::str::from_utf8(&ended.out.held)?;
     println!(rt; "{limit} bytes, {full:?}: {held:?}")?;
-    show_end(rt, &err, status)?;
-    Ok(status < 5)
+    show_end(rt, &ended.err, ended.status)?;
+    for most in [5, 7] {
+        let other = run_over(rt, shelf, words, most, limit, full);
+        if !ended_alike(&ended, &other) {
+            println!(rt; "by {most} bytes a call it ends otherwise")?;
+        }
+    }
+    Ok(ended.status < 5)
 }
 
 /// Runs a command line over a writer that takes five bytes, is interrupted by a signal, and then would take all.

@@ -66,4 +66,8 @@ impl Files for Shelf {
         }
         Err(Fault::Read)
     }
+
+    fn reason(&self) -> &str {
+        "not on the shelf"
+    }
 }

@@ -233,8 +233,8 @@ impl Gate for Alone {
     }
 }
 
-/// The first work isn't committed before its call has gone, so there is nothing else to work. The calling thread has
-/// nothing to do after the workers.
+/// The first work isn't committed before its call has gone, so there is nothing else to work. The calling thread, whose
+/// number is the workers' count, has nothing to do after them.
 #[test]
 fn no_call_comes_before_the_first_has_gone(rt: HostRuntime) -> Result<(), Fail> {
     let alloc = rt.alloc();

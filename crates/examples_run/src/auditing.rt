@@ -2,8 +2,9 @@
 
 ghost use Rattle.std.specs.Prelude.{◌<◌, ◌≤◌};
 
+use crate::meeting::Meeting;
 use sf_audit::{audit, read_policy, write_report};
-use sf_crew::Open;
+use sf_crew::{Gate, Open};
 use std::alloc::Global;
 use std::sync::Wait;
 use std::test::Fail;
@@ -13,40 +14,48 @@ use std::thread::Threads;
 const BUDGET: u32 = 100_000;
 
 /// The report, with its regions where they are asked for, of an audit by so many workers.
-fn report_of<R: Threads + Wait + Sync>(
+fn report_of<R: Threads + Wait + Sync, G: Gate>(
     rt: &R,
     alloc: Global,
     policy: &str,
     filters: &[Vec<u8>],
     workers: usize,
+    gate: &G,
     regions: bool,
 ) -> Result<Vec<u8>, Fail>
     requires { (0 < workers) × (workers ≤ 64) }
 {
     let questions = read_policy(alloc, policy)?;
-    let outcome = audit(rt, alloc, filters, questions, BUDGET, workers, &Open)?;
+    let outcome = audit(rt, alloc, filters, questions, BUDGET, workers, gate)?;
     let mut report = Vec::new(alloc);
     write_report(alloc, &outcome, regions, &mut report)?;
     Ok(report)
 }
 
-/// Shows the report without its regions, and whether audits by 1, 2, 8 and 64 workers tell the same regions.
+/// Shows the report without its regions, whether audits by 1, 2, 8 and 64 workers tell the same regions, and whether the two
+/// workers met.
 pub fn show_audit<R: Threads + Wait + Sync + Print>(
     rt: &R,
     alloc: Global,
     policy: &str,
     filters: &[Vec<u8>],
 ) -> Result<(), Fail> {
-    let report = report_of(rt, alloc, policy, filters, 4, false)?;
+    let report = report_of(rt, alloc, policy, filters, 4, &Open, false)?;
     print!(rt; "{}", std::str::from_utf8(&report)?)?;
-    let alone = report_of(rt, alloc, policy, filters, 1, true)?;
-    let two = report_of(rt, alloc, policy, filters, 2, true)?;
-    let eight = report_of(rt, alloc, policy, filters, 8, true)?;
-    let many = report_of(rt, alloc, policy, filters, 64, true)?;
+    let alone = report_of(rt, alloc, policy, filters, 1, &Open, true)?;
+    let gate = Meeting::new();
+    let two = report_of(rt, alloc, policy, filters, 2, &gate, true)?;
+    let eight = report_of(rt, alloc, policy, filters, 8, &Open, true)?;
+    let many = report_of(rt, alloc, policy, filters, 64, &Open, true)?;
     if alone == two && alone == eight && alone == many {
         println!(rt; "the same with 1, 2, 8 and 64 workers")?;
     } else {
         println!(rt; "not the same with 1, 2, 8 and 64 workers")?;
+    }
+    if gate.is_met() {
+        println!(rt; "two workers met in the exploration and in the sweep")?;
+    } else {
+        println!(rt; "two workers did not meet")?;
     }
     Ok(())
 }

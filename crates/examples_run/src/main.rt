@@ -3,6 +3,7 @@
 #![tactic(auto)]
 
 mod auditing;
+mod meeting;
 
 use crate::auditing::show_audit;
 use hex::FromHex;

@@ -74,7 +74,7 @@ fn constants_are_found_among_many(rt: HostRuntime) -> Result<(), Fail> {
 fn a_fork_grows_alone(rt: HostRuntime) -> Result<(), Fail> {
     let mut pool = Pool::new(rt.alloc())?;
     push_constants(&mut pool, 100)?;
-    let mut copy = pool.fork(rt.alloc())?;
+    let mut copy = pool.fork()?;
     let id = copy.push(Node::Const(1000))?;
     assert_eq!(rt; id, NodeId(116));
     assert_eq!(rt; pool.len(), 116);

@@ -1,5 +1,6 @@
 //! Books, benches and sheets, and what becomes of them where a growth is refused.
 
+use crate::books::{BUDGET, are_alike, are_same_pieces, worked};
 use crate::refused::{MEMORY, Refused, Tally};
 use crate::stacks::POLICY;
 use crate::trying::{grow_pools, try_facts};
@@ -25,47 +26,50 @@ fn lease(tally: &mut Tally, book: &mut Book) -> Result<Option<Lease>, Refused> {
     }
 }
 
-/// Works a piece and commits the work. Where a growth is refused, nothing that was put in is left, or free.
+/// Works a piece and commits the work, and takes the children off lease. Where a growth is refused, the book has to be as one
+/// that took the same works before, and then to take this one.
 fn commit(
     alloc: Global,
     tally: &mut Tally,
-    book: &mut Book,
+    mut book: Book,
     id: u64,
     piece: &Arc<Piece>,
-) -> Result<(), Refused> {
-    let before = book.counts();
-    let ids = match book.commit(id, advance(alloc, piece)?) {
-        Ok(ids) => ids,
-        Err(fault) => {
-            tally.refuse(fault.into(), book.counts() == before);
-            book.commit(id, advance(alloc, piece)?)?
+) -> Result<Book, Refused> {
+    let commits = book.counts().commits;
+    match book.commit(id, advance(alloc, piece)?) {
+        Ok(None) => Ok(book),
+        Ok(Some((f, t))) => {
+            tally.expect(id < f && f < t);
+            book.give_back(f);
+            book.give_back(t);
+            Ok(book)
         }
-    };
-    if let Some((f, t)) = ids {
-        tally.expect(id < f && f < t);
-        book.give_back(f);
-        book.give_back(t);
+        Err(fault) => {
+            let twin = worked(alloc, piece.stack(), commits)?;
+            let is_as_before = are_alike(alloc, book, twin, id, piece)?;
+            tally.expect(is_as_before);
+            Err(fault.into())
+        }
     }
-    Ok(())
 }
 
 /// Works a book off, one piece after the other, and tries each piece's pool and facts: on how many pieces word 0 may be
 /// above word 1.
-fn work_off(alloc: Global, tally: &mut Tally, book: &mut Book) -> Result<u32, Refused> {
+fn work_off(alloc: Global, tally: &mut Tally, mut book: Book) -> Result<(Book, u32), Refused> {
     let mut above = 0u32;
-    for _ in 0..1000 {
-        let Some(Lease { id, piece }) = lease(tally, book)? else {
+    for _ in 0..BUDGET {
+        let Some(Lease { id, piece }) = lease(tally, &mut book)? else {
             break;
         };
         if piece.name().is_empty() {
-            grow_pools(alloc, tally, &piece)?;
+            grow_pools(tally, &piece)?;
         }
         if try_facts(alloc, tally, &piece)? {
             above = above.saturating_add(1);
         }
-        commit(alloc, tally, book, id, &piece)?;
+        book = commit(alloc, tally, book, id, &piece)?;
     }
-    Ok(above)
+    Ok((book, above))
 }
 
 /// All regions of a stack, and the line of what the book counted and of what was tried.
@@ -75,8 +79,8 @@ pub fn explored(
     stack: &Arc<Stack>,
     text: &mut String,
 ) -> Result<Settled, Refused> {
-    let mut book = Book::open(alloc, Arc::try_clone(stack)?, 1000)?;
-    let above = work_off(alloc, tally, &mut book)?;
+    let opened = Book::open(alloc, Arc::try_clone(stack)?, BUDGET)?;
+    let (book, above) = work_off(alloc, tally, opened)?;
     let settled = book.finish(stack)?;
     let counts = settled.counts();
     let (left, emptied, commits) = (counts.left, counts.emptied, counts.commits);
@@ -102,7 +106,8 @@ fn push_verdicts(text: &mut String, sheet: &Sheet) -> Result<(), AllocError> {
     Ok(())
 }
 
-/// The line of the verdicts on each region, in the order of names, on all questions and on the second and the fourth alone.
+/// The line of the verdicts on each region, in the order of names, on all questions and on the second and the fourth
+/// alone.
 pub fn judged(alloc: Global, settled: &Settled, text: &mut String) -> Result<(), Refused> {
     let questions = read_policy(alloc, POLICY)?;
     text.push_str("verdicts")?;
@@ -120,14 +125,20 @@ pub fn judged(alloc: Global, settled: &Settled, text: &mut String) -> Result<(),
     Ok(())
 }
 
-/// Puts a lease, which has to come back as it was where a growth is refused.
-fn put(tally: &mut Tally, owner: &mut Owner, lease: Lease) -> Result<(), Refused> {
-    let id = lease.id;
+/// Puts a lease of the piece, which has to come back as it was where a growth is refused.
+fn put(tally: &mut Tally, owner: &mut Owner, id: u64, piece: &Arc<Piece>) -> Result<(), Refused> {
+    let lease = Lease {
+        id,
+        piece: Arc::try_clone(piece)?,
+    };
     let Err(back) = owner.put(lease) else {
         return Ok(());
     };
     let refused = Refused { number: MEMORY };
-    tally.refuse(refused, back.id == id && back.piece.name().is_empty());
+    tally.refuse(
+        refused,
+        back.id == id && are_same_pieces(&back.piece, piece),
+    );
     match owner.put(back) {
         Ok(()) => Ok(()),
         Err(_) => Err(refused),
@@ -162,8 +173,7 @@ pub fn bench_of(alloc: Global, tally: &mut Tally, stack: &Arc<Stack>) -> Result<
     };
     let (mut owner, mut thieves) = bench(alloc, 1)?;
     for id in 0..LEASES {
-        let piece = Arc::try_clone(&root.piece)?;
-        put(tally, &mut owner, Lease { id, piece })?;
+        put(tally, &mut owner, id, &root.piece)?;
     }
     if let Some(mut thief) = thieves.pop() {
         get_all(tally, &mut owner, &mut thief);

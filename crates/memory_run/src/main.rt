@@ -1,35 +1,48 @@
-//! Makes the calls of the libraries that take memory, on three stacks, and shows what they answer.
+//! Makes the calls of the libraries that take memory, on three stacks, and shows what they answer; and explores a fourth one by
+//! workers of which one may find no more memory.
 //!
 //! Where a call on a value finds no memory, the value is compared with what it was, and the call is made once more; where another
-//! call finds none, all is made once more for that stack. So if one growth is refused, whichever it is, the answers are the same,
+//! call finds none, all is made once more for that stack. (A book can be compared whole only once: with another one that took the
+//! same works, and all is made once more then too.) So if one growth is refused, whichever it is, the answers are the same,
 //! and only the last line differs: it counts the calls that found no memory, and what was wrong. `tools/memory_sweep` refuses
 //! this program one growth after the other.
 #![tactic(auto)]
 
 mod auditing;
+mod books;
 mod exploring;
+mod failing;
 mod refused;
 mod stacks;
 mod trying;
 
 use crate::auditing::{Page, audited, refusals};
 use crate::exploring::{bench_of, explored, judged};
+use crate::failing::starve_all;
 use crate::refused::{Refused, Tally};
 use crate::stacks::{DIVIDES, LOGIN, MASKS, NO_X32, TWO_BITS, stack_in};
 use std::io;
 use std::sync::{Arc, Wait};
 use std::thread::Threads;
 
-/// What all calls on the stack of these files answer; where there are none, what is refused.
-fn all_of<R: Threads + Wait + Sync + AllocGlobal>(
+/// What calls are made.
+#[derive(Clone, Copy)]
+enum Part {
+    /// Those that are refused for what they are handed.
+    Refusals,
+    /// All on one stack.
+    Calls,
+    /// Explorations of which one worker finds no memory.
+    Workers,
+}
+
+/// What all calls on the stack of these files answer.
+fn calls_on<R: Threads + Wait + Sync + AllocGlobal>(
     rt: &R,
     tally: &mut Tally,
     files: &[&[u8]],
     page: &mut Page,
 ) -> Result<String, Refused> {
-    if files.is_empty() {
-        return refusals(rt);
-    }
     let alloc = rt.alloc();
     let mut text = String::new(alloc);
     let stack = Arc::new(alloc, stack_in(alloc, files, &mut text)?)?;
@@ -40,16 +53,32 @@ fn all_of<R: Threads + Wait + Sync + AllocGlobal>(
     Ok(text)
 }
 
-/// Shows what all calls on the stack of these files answer, at the second time where memory ran out at the first.
+/// What the calls of a part answer, of which some are about the stack of these files.
+fn all_of<R: Threads + Wait + Sync + AllocGlobal>(
+    rt: &R,
+    tally: &mut Tally,
+    part: Part,
+    files: &[&[u8]],
+    page: &mut Page,
+) -> Result<String, Refused> {
+    match part {
+        Part::Refusals => refusals(rt),
+        Part::Calls => calls_on(rt, tally, files, page),
+        Part::Workers => starve_all(rt, tally),
+    }
+}
+
+/// Shows what the calls of a part answer, at the second time where memory ran out at the first.
 fn show<R: Print + Threads + Wait + Sync + AllocGlobal>(
     rt: &R,
     tally: &mut Tally,
+    part: Part,
     name: &str,
     files: &[&[u8]],
 ) -> io::Result<()> {
     for _time in 0..2 {
         let mut page = Page::new();
-        match all_of(rt, tally, files, &mut page) {
+        match all_of(rt, tally, part, files, &mut page) {
             Ok(text) => {
                 print!(rt; "{name}\n{text}{}", page.text())?;
                 return Ok(());
@@ -65,9 +94,15 @@ fn main(rt: HostRuntime) -> io::Result<()> {
         refused: 0,
         wrong: 0,
     };
-    show(&rt, &mut tally, "none", &[])?;
-    show(&rt, &mut tally, "login", &[LOGIN.as_slice()])?;
-    show(&rt, &mut tally, "divides", &[DIVIDES.as_slice()])?;
+    show(&rt, &mut tally, Part::Refusals, "none", &[])?;
+    show(&rt, &mut tally, Part::Calls, "login", &[LOGIN.as_slice()])?;
+    show(
+        &rt,
+        &mut tally,
+        Part::Calls,
+        "divides",
+        &[DIVIDES.as_slice()],
+    )?;
     let five = [
         LOGIN.as_slice(),
         MASKS.as_slice(),
@@ -75,6 +110,7 @@ fn main(rt: HostRuntime) -> io::Result<()> {
         TWO_BITS.as_slice(),
         LOGIN.as_slice(),
     ];
-    show(&rt, &mut tally, "five", &five)?;
+    show(&rt, &mut tally, Part::Calls, "five", &five)?;
+    show(&rt, &mut tally, Part::Workers, "workers", &[])?;
     println!(rt; "{} refused, {} wrong", tally.refused, tally.wrong)
 }

@@ -19,7 +19,7 @@ pub const DIVIDES: [u8; 40] = [
     0, 0, 0, 0x16, 0, 0, 0, 0, 0, 0, 0,
 ];
 
-/// Refuses an odd multiple of four and what follows it: `ld [16]; and #7; jge 4 0 1; ret 0x00050002; ret 0x7fff0000`.
+/// Refuses where word 4 has the bit 4: `ld [16]; and #7; jge 4 0 1; ret 0x00050002; ret 0x7fff0000`.
 pub const MASKS: [u8; 40] = [
     0x20, 0, 0, 0, 0x10, 0, 0, 0, 0x54, 0, 0, 0, 7, 0, 0, 0, 0x35, 0, 0, 1, 4, 0, 0, 0, 6, 0, 0, 0,
     2, 0, 5, 0, 6, 0, 0, 0, 0, 0, 0xff, 0x7f,
@@ -35,6 +35,13 @@ pub const NO_X32: [u8; 32] = [
 pub const TWO_BITS: [u8; 32] = [
     0x20, 0, 0, 0, 0, 0, 0, 0, 0x45, 0, 0, 1, 5, 0, 0, 0, 6, 0, 0, 0, 0, 0, 0, 0, 6, 0, 0, 0, 0, 0,
     0xff, 0x7f,
+];
+
+/// Returns the lowest four bits of word 4 as the data of ERRNO: `ld [16]; and #15; or #0x50000; ret a`. Sixteen regions, by 31
+/// works.
+pub const FOUR_BITS: [u8; 32] = [
+    0x20, 0, 0, 0, 0x10, 0, 0, 0, 0x54, 0, 0, 0, 0xf, 0, 0, 0, 0x44, 0, 0, 0, 0, 0, 5, 0, 0x16, 0,
+    0, 0, 0, 0, 0, 0,
 ];
 
 /// Questions of version 2, with masks.

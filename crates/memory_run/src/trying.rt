@@ -12,7 +12,7 @@ use sf_sym::{Cond, Node, NodeId, Pool};
 use std::alloc::Global;
 
 /// Whether two pools have the same nodes under the same ids.
-fn are_same(left: &Pool, right: &Pool) -> bool {
+pub fn are_same(left: &Pool, right: &Pool) -> bool {
     if left.len() != right.len() {
         return false;
     }
@@ -39,9 +39,9 @@ fn push(tally: &mut Tally, pool: &mut Pool, before: &Pool, number: u32) -> Resul
 const NUMBERS: u32 = 70;
 
 /// Two forks that grow alike stay the same.
-pub fn grow_pools(alloc: Global, tally: &mut Tally, piece: &Piece) -> Result<(), Refused> {
-    let mut left = piece.pool().fork(alloc)?;
-    let mut right = left.fork(alloc)?;
+pub fn grow_pools(tally: &mut Tally, piece: &Piece) -> Result<(), Refused> {
+    let mut left = piece.pool().fork()?;
+    let mut right = left.fork()?;
     for number in 0..NUMBERS {
         let one = push(tally, &mut left, &right, number + 1000)?;
         let before = right.len();
@@ -123,10 +123,10 @@ fn confine_bits(
     }
 }
 
-/// Takes in the numbers that a pool has gained, which the facts of the pool afresh know as well.
+/// Takes in a number that a fork of the piece's pool has gained, after which the facts aren't the piece's any more.
 fn grow(alloc: Global, tally: &mut Tally, piece: &Piece) -> Result<(), Refused> {
-    let mut pool = piece.pool().fork(alloc)?;
-    let before = pool.fork(alloc)?;
+    let mut pool = piece.pool().fork()?;
+    let before = pool.fork()?;
     let _id = push(tally, &mut pool, &before, 2000)?;
     let mut facts = piece.facts().fork(alloc)?;
     let grown = match facts.grow(alloc, &pool) {
@@ -140,8 +140,8 @@ fn grow(alloc: Global, tally: &mut Tally, piece: &Piece) -> Result<(), Refused> 
     Ok(())
 }
 
-/// Learns of a fork of the piece's facts that word 3 is even, at most 1000 and not 0, which leaves 2 as the least number; and
-/// whether word 0 may be above word 1. The piece reads no word 3.
+/// Learns of a fork of the piece's facts that word 3 is even, at most 1000 and not 0, which leaves 2 as the least
+/// number; and whether word 0 may be above word 1. The piece reads no word 3.
 pub fn try_facts(alloc: Global, tally: &mut Tally, piece: &Piece) -> Result<bool, Refused> {
     grow(alloc, tally, piece)?;
     let pool = piece.pool();

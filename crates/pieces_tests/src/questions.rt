@@ -1,4 +1,5 @@
-//! What a question keeps. Why one is refused, and what regions tell of it, stands among the command lines of `command_run`.
+//! What a question keeps. Why one is refused, and what regions tell of it, stands among the command lines of
+//! `command_run`.
 use sf_ask::{ActionSet, Question};
 use sf_run::Action;
 use std::test::Fail;

@@ -4,15 +4,20 @@
 use sf_audit::Fault;
 use sf_command::{Files, MOST_BYTES, command, tell_fault};
 use std::env::{Env, FillError};
+use std::fmt::InlineText;
 use std::fs::File;
 use std::io::{ErrorKind, Read, Write};
 use std::process::ExitCode;
 use std::rt::Files as FileSystem;
 use std::{env, io};
 
-/// The files of the system.
+/// The most bytes of the system's reason that are kept.
+const REASON: usize = 256;
+
+/// The files of the system, and why the last one wasn't read.
 struct Disk<'a, R> {
     rt: &'a R,
+    reason: InlineText<REASON>,
 }
 
 /// The bytes of a file, and of one that is too long so many that this is seen.
@@ -30,10 +35,12 @@ impl<R: FileSystem + AllocGlobal> Files for Disk<'_, R> {
                 if bytes.len() <= MOST_BYTES {
                     Ok(bytes)
                 } else {
+                    self.reason = InlineText::of(format_args!("more than {MOST_BYTES} bytes"));
                     Err(Fault::Read)
                 }
             }
             Err(error) => {
+                self.reason = InlineText::of(format_args!("{error}"));
                 if error.kind() == ErrorKind::OutOfMemory {
                     Err(Fault::Memory)
                 } else {
@@ -41,6 +48,10 @@ impl<R: FileSystem + AllocGlobal> Files for Disk<'_, R> {
                 }
             }
         }
+    }
+
+    fn reason(&self) -> &str {
+        self.reason.as_str()
     }
 }
 
@@ -90,9 +101,12 @@ fn main(rt: HostRuntime) -> ExitCode {
         Ok(words) => words,
         Err(error) => return ExitCode::from(no_words(&error, &mut err)),
     };
-    let mut disk = Disk { rt: &rt };
+    let mut disk = Disk {
+        rt: &rt,
+        reason: InlineText::new(),
+    };
     let mut out = rt.stdout();
     let status = command(&rt, rt.alloc(), &words, &mut disk, &mut out, &mut err);
-    let Disk { rt: _ } = disk;
+    let Disk { rt: _, reason: _ } = disk;
     ExitCode::from(status)
 }

@@ -33,25 +33,27 @@ filters_rule = record (new_rule (codes "filters")) {
   action = Some Append;
 }
 
--- `audit --policy FILE [--budget N] [--workers N] [--regions] FILTER..`
+-- `audit --policy FILE [--budget N] [--workers N] [--regions] [--explain-errors] FILTER..`
 abbrev pub audit_line : App
-audit_line = with_rule (with_rule (with_rule (with_rule (with_rule (new_app (codes "audit"))
+audit_line = with_rule (with_rule (with_rule (with_rule (with_rule (with_rule (new_app (codes "audit"))
     (needed_rule (codes "policy")))
     (number_rule (codes "budget") 1000000 (codes "100000")))
     (number_rule (codes "workers") 64 (codes "4")))
     (switch_rule (codes "regions")))
+    (switch_rule (codes "explain-errors")))
     filters_rule
 
--- `check FILTER..`
+-- `check [--explain-errors] FILTER..`
 abbrev pub check_line : App
-check_line = with_rule (new_app (codes "check")) filters_rule
+check_line = with_rule (with_rule (new_app (codes "check")) (switch_rule (codes "explain-errors"))) filters_rule
 
--- `eval --input HEX [--trace] [--trace-true] FILTER..`
+-- `eval --input HEX [--trace] [--trace-true] [--explain-errors] FILTER..`
 abbrev pub eval_line : App
-eval_line = with_rule (with_rule (with_rule (with_rule (new_app (codes "eval"))
+eval_line = with_rule (with_rule (with_rule (with_rule (with_rule (new_app (codes "eval"))
     (needed_rule (codes "input")))
     (switch_rule (codes "trace")))
     (switch_rule (codes "trace-true")))
+    (switch_rule (codes "explain-errors")))
     filters_rule
 
 -- the program without its name: a subcommand that must be given, and none for help; it knows its version

@@ -40,6 +40,11 @@ IsNumberOf (Some text) greatest usual n =
 abbrev pub IsSwitch : Option Text → Bool → Type 0
 IsSwitch text on = (text ≡ Some (codes "true") → on ≡ true) × (text ≡ Some (codes "false") → on ≡ false)
 
+-- what explains an error isn't asked for: where a subcommand is named, its switch is off
+abbrev pub IsUnasked : Option (Text × List Row) → Type 0
+IsUnasked named =
+    (found : Text × List Row) → named ≡ Some found → one_of (codes "explain-errors") found.1 ≡ Some (codes "false")
+
 -- these are the paths
 abbrev pub ArePaths : List Row → List (Bor Text) → Type 0
 ArePaths rows paths = map (λ p. p.now) paths ≡ paths_of rows

@@ -57,3 +57,10 @@ pub fn brief_of(found: &ArgMatches<'_>) -> bool
 {
     found.get_flag("trace-true")
 }
+
+/// Whether it is told where an error lies.
+pub fn explains_of(found: &ArgMatches<'_>) -> bool
+    ensures { IsSwitch (one_of (codes "explain-errors") (rows_of (found_of found.now))) result }
+{
+    found.get_flag("explain-errors")
+}

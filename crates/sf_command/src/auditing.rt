@@ -6,6 +6,7 @@ ghost use Rattle.sf_audit.specs.declared.fault.Fault.TheVariants.{Memory as Memo
 ghost use Rattle.sf_command.specs.Audits.{AuditsFiles, IsPolicyFile, RefusesAudit, RefusesPolicyFile};
 ghost use Rattle.sf_command.specs.Status.{fault_status};
 
+use crate::explaining::Notes;
 use crate::files::{Files, read_all};
 use crate::status::status_of_replies;
 use sf_ask::Question;
@@ -27,16 +28,23 @@ pub struct Options {
     pub regions: bool,
 }
 
-/// The questions of the policy file at a path. `Read` where it can't be read, `Syntax` where it isn't UTF-8, and then
-/// what `read_policy` refuses.
-fn questions_in<F: Files>(alloc: Global, path: &str, files: &mut F) -> Result<Vec<Question>, Fault>
+/// The questions of the policy file at a path, whose bytes are noted. `Read` where it can't be read, `Syntax` where it isn't
+/// UTF-8, and then what `read_policy` refuses.
+fn questions_in<F: Files>(
+    alloc: Global,
+    path: &str,
+    files: &mut F,
+    notes: &mut Notes,
+) -> Result<Vec<Question>, Fault>
     ensures asked { IfOk result (λ v. IsPolicyFile (F.holds files.old path.now) v.items) }
     ensures refused { IfErr result (λ e. (e ≡ ReadFault) ⊎ (e ≡ MemoryFault)
         ⊎ RefusesPolicyFile (F.holds files.old path.now) e) }
     ensures same { (p : List ℕ) → F.holds files.new p ≡ F.holds files.old p }
 {
     let bytes = files.read(path)?;
-    match std::str::from_utf8(&bytes) {
+    notes.files = notes.files.saturating_add(1);
+    notes.policy = bytes;
+    match std::str::from_utf8(&notes.policy) {
         Ok(text) => read_policy(alloc, text),
         Err(_) => Err(Fault::Syntax),
     }
@@ -53,6 +61,7 @@ pub fn audit<R: Threads + Wait + Sync, F: Files, O: Write>(
     paths: &[&str],
     options: Options,
     files: &mut F,
+    notes: &mut Notes,
     out: &mut O,
 ) -> Result<u8, Fault>
     requires workers { (0 < options.workers) × (options.workers ≤ 64) }
@@ -62,8 +71,8 @@ pub fn audit<R: Threads + Wait + Sync, F: Files, O: Write>(
     ensures refused { IfErr result (RefusesAudit (F.holds files.old) policy.now paths.now) }
     ensures quiet { IfErr result (λ e. (fault_status (fault_number e) ≡ 5) ⊎ (out.new ≡ out.old)) }
 {
-    let questions = questions_in(alloc, policy, files)?;
-    let filters = read_all(alloc, paths, files)?;
+    let questions = questions_in(alloc, policy, files, notes)?;
+    let filters = read_all(alloc, paths, files, notes)?;
     let workers = usize::from(options.workers);
     let outcome = sf_audit::audit(
         rt,

@@ -11,6 +11,7 @@ ghost use Rattle.sf_command.specs.Outputs.{ChecksFiles, EvaluatesFiles, RefusesE
 ghost use Rattle.sf_audit.specs.Filters.{IsFirstRefusal};
 ghost use Rattle.sf_audit.specs.declared.fault.Fault.TheVariants.{Memory as MemoryFault, Input as InputFault, Write as WriteFault};
 
+use crate::explaining::Notes;
 use crate::files::{Files, read_all};
 use crate::texts::{answer_text, check_text};
 use crate::tracing::push_trace;
@@ -105,6 +106,7 @@ pub fn check<F: Files, O: Write>(
     alloc: Global,
     paths: &[&str],
     files: &mut F,
+    notes: &mut Notes,
     out: &mut O,
 ) -> Result<(), Fault>
     ensures written { OnOk result (ChecksFiles (F.holds files.old) paths.now (O.contents out.old)
@@ -112,13 +114,13 @@ pub fn check<F: Files, O: Write>(
     ensures refused { IfErr result (λ e. (e ≡ WriteFault)
         ⊎ (RefusesFiles (F.holds files.old) paths.now e × (out.new ≡ out.old))) }
 {
-    let filters = read_all(alloc, paths, files)?;
+    let filters = read_all(alloc, paths, files, notes)?;
     check_filters(alloc, &filters, out)
 }
 
 /// Reads the input from its hexadecimal digits and the filter files, in order of installation, and writes what the stack
-/// of the filters answers to the input, and where that comes from, if it is traced in full or in brief. `Input` where the
-/// digits spell no input, before a file is read; else as `check`.
+/// of the filters answers to the input, and where that comes from, if it is traced in full or in brief. `Input` where
+/// the digits spell no input, before a file is read; else as `check`.
 pub fn evaluate<F: Files, O: Write>(
     alloc: Global,
     digits: &str,
@@ -126,6 +128,7 @@ pub fn evaluate<F: Files, O: Write>(
     brief: bool,
     paths: &[&str],
     files: &mut F,
+    notes: &mut Notes,
     out: &mut O,
 ) -> Result<(), Fault>
     ensures written { OnOk result (EvaluatesFiles digits.now traced brief
@@ -138,6 +141,6 @@ pub fn evaluate<F: Files, O: Write>(
     ensures explained { IfErr result (RefusesEval digits.now (F.holds files.old) paths.now) }
 {
     let input = input_of(digits)?;
-    let filters = read_all(alloc, paths, files)?;
+    let filters = read_all(alloc, paths, files, notes)?;
     evaluate_filters(alloc, &input, traced, brief, &filters, out)
 }

@@ -11,8 +11,9 @@ ghost use Rattle.sf_command.specs.Status.{fault_status};
 use crate::asked::{brief_of, budget_of, regions_of, text_of, traced_of, workers_of};
 use crate::auditing::{Options, audit};
 use crate::checking::{check, evaluate, print};
+use crate::explaining::{Notes, explanation};
 use crate::files::Files;
-use crate::telling::tell_fault;
+use crate::telling::tell;
 use crate::words;
 use clap::ArgMatches;
 use clap::error::ErrorKind;
@@ -28,6 +29,7 @@ fn run_audit<R: Threads + Wait + Sync, F: Files, O: Write>(
     alloc: Global,
     found: &ArgMatches<'_>,
     files: &mut F,
+    notes: &mut Notes,
     out: &mut O,
 ) -> Result<u8, Fault>
     ensures done { IfOk result (λ s. Audits (F.holds files.old) (rows_of (found_of found.now)) s
@@ -45,7 +47,7 @@ fn run_audit<R: Threads + Wait + Sync, F: Files, O: Write>(
         regions: regions_of(found),
     };
     let policy = text_of(found, "policy");
-    audit(rt, alloc, policy, paths, options, files, out)
+    audit(rt, alloc, policy, paths, options, files, notes, out)
 }
 
 /// Checks the filters that the matches of the subcommand name.
@@ -53,6 +55,7 @@ fn run_check<F: Files, O: Write>(
     alloc: Global,
     found: &ArgMatches<'_>,
     files: &mut F,
+    notes: &mut Notes,
     out: &mut O,
 ) -> Result<u8, Fault>
     ensures done { IfOk result (λ s. Checks (F.holds files.old) (rows_of (found_of found.now)) s
@@ -62,7 +65,7 @@ fn run_check<F: Files, O: Write>(
         (λ paths. RefusesCheck (F.holds files.old) paths e)) }
 {
     let paths = found.get_strs("filters").unwrap_or(&[]);
-    check(alloc, paths, files, out)?;
+    check(alloc, paths, files, notes, out)?;
     Ok(0)
 }
 
@@ -71,6 +74,7 @@ fn run_eval<F: Files, O: Write>(
     alloc: Global,
     found: &ArgMatches<'_>,
     files: &mut F,
+    notes: &mut Notes,
     out: &mut O,
 ) -> Result<u8, Fault>
     ensures done { IfOk result (λ s. Evaluates (F.holds files.old)
@@ -84,7 +88,7 @@ fn run_eval<F: Files, O: Write>(
     let digits = text_of(found, "input");
     let traced = traced_of(found);
     let brief = brief_of(found);
-    evaluate(alloc, digits, traced, brief, paths, files, out)?;
+    evaluate(alloc, digits, traced, brief, paths, files, notes, out)?;
     Ok(0)
 }
 
@@ -94,6 +98,7 @@ fn run<R: Threads + Wait + Sync, F: Files, O: Write>(
     alloc: Global,
     matches: &ArgMatches<'_>,
     files: &mut F,
+    notes: &mut Notes,
     out: &mut O,
 ) -> Result<u8, Fault>
     ensures status { IfOk result (λ s. (s ≤ 2) ⊎ (s ≡ 4)) }
@@ -109,9 +114,9 @@ fn run<R: Threads + Wait + Sync, F: Files, O: Write>(
         return Ok(4);
     };
     match name {
-        "audit" => run_audit(rt, alloc, found, files, out),
-        "check" => run_check(alloc, found, files, out),
-        "eval" => run_eval(alloc, found, files, out),
+        "audit" => run_audit(rt, alloc, found, files, notes, out),
+        "check" => run_check(alloc, found, files, notes, out),
+        "eval" => run_eval(alloc, found, files, notes, out),
         _ => Ok(4),
     }
 }
@@ -154,6 +159,7 @@ fn reply<R: Threads + Wait + Sync, F: Files, O: Write, E: Write>(
     alloc: Global,
     words: &[String],
     files: &mut F,
+    notes: &mut Notes,
     out: &mut O,
     err: &mut E,
 ) -> Result<u8, Fault>
@@ -167,7 +173,7 @@ fn reply<R: Threads + Wait + Sync, F: Files, O: Write, E: Write>(
         (map string_bytes words.now)) }
 {
     match words::form(alloc)?.try_get_matches_from(words) {
-        Ok(matches) => run(rt, alloc, &matches, files, out),
+        Ok(matches) => run(rt, alloc, &matches, files, notes, out),
         Err(error) => explain(alloc, &error, out, err),
     }
 }
@@ -178,7 +184,7 @@ fn reply<R: Threads + Wait + Sync, F: Files, O: Write, E: Write>(
 /// 3: the filters, the policy or the input are refused; standard output is left as it was. 4: the command line is refused; no
 /// file was read, standard output is left as it was, and standard error has the text of `clap`. 5: reading, writing or
 /// memory failed. At 3 and 5 one line on standard error says what: `error`, the number, the name and the place of the
-/// fault.
+/// fault. With `--explain-errors` lines for a person follow.
 pub fn command<R: Threads + Wait + Sync, F: Files, O: Write, E: Write>(
     rt: &R,
     alloc: Global,
@@ -196,8 +202,12 @@ pub fn command<R: Threads + Wait + Sync, F: Files, O: Write, E: Write>(
         × ((e : Fault) × (fault_status (fault_number e) ≡ 3)
         × RefusesAsTold (F.holds files.old) (map string_bytes words.now) e) }
 {
-    match reply(rt, alloc, words, files, out, err) {
+    let mut notes = Notes::new(alloc);
+    match reply(rt, alloc, words, files, &mut notes, out, err) {
         Ok(status) => status,
-        Err(fault) => tell_fault(&fault, err),
+        Err(fault) => {
+            let more = explanation(alloc, words, &fault, &notes, files.reason());
+            tell(alloc, &fault, more, err)
+        }
     }
 }

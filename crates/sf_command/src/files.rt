@@ -4,6 +4,7 @@ ghost use Rattle.std.specs.Prelude.{◌≡◌, ◌⊎◌, ◌≤◌, ℕ, List, 
 ghost use Rattle.sf_command.specs.Files.{AgreesWith, AreRead};
 ghost use Rattle.sf_audit.specs.declared.fault.Fault.TheVariants.{Memory, Read};
 
+use crate::explaining::Notes;
 use sf_audit::Fault;
 use std::alloc::Global;
 
@@ -25,13 +26,19 @@ pub trait Files {
         ensures few { IfOk result (λ v. length v.items ≤ 0x100000) }
         ensures refused { IfErr result (λ e. (e ≡ Read) ⊎ (e ≡ Memory)) }
         ensures same { (p : List ℕ) → holds self.new p ≡ holds self.old p };
+
+    /// Why the last file was refused, in the system's words, or nothing where they aren't known. It is for a person, so
+    /// nothing is promised of it.
+    fn reason(&self) -> &str;
 }
 
-/// The bytes of the files at these paths, in their order. A refusal is that of the first file that can't be read.
+/// The bytes of the files at these paths, in their order. A refusal is that of the first file that can't be read. It is noted
+/// how many were.
 pub fn read_all<F: Files>(
     alloc: Global,
     paths: &[&str],
     files: &mut F,
+    notes: &mut Notes,
 ) -> Result<Vec<Vec<u8>>, Fault>
     ensures read { IfOk result (λ v. AreRead (F.holds files.old) paths.now
         (map (λ f. f.items) v.items)) }
@@ -40,6 +47,7 @@ pub fn read_all<F: Files>(
     let mut read = Vec::new(alloc);
     for path in paths {
         let bytes = files.read(path)?;
+        notes.files = notes.files.saturating_add(1);
         read.push(bytes)?;
     }
     Ok(read)

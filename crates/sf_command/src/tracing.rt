@@ -246,9 +246,9 @@ fn push_filters(
     Ok(())
 }
 
-/// Adds the lines of `eval --trace`: the fields of the input; then for each filter, newest first, what it returns and at
-/// which instruction, and whether the answer of the stack is its own, and under it all that it met, in order, and in brief
-/// nothing that is false.
+/// Adds the lines of `eval --trace`: the fields of the input; then for each filter, newest first, what it returns and
+/// at which instruction, and whether the answer of the stack is its own, and under it all that it met, in order, and in
+/// brief nothing that is false. `Memory` where a growth is refused.
 pub fn push_trace(
     alloc: Global,
     text: &mut String,

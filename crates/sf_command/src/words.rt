@@ -105,6 +105,16 @@ fn trace_true<'a>(alloc: Global) -> Arg<'a>
         .help("The same without the comparisons that are false")
 }
 
+fn explain<'a>(alloc: Global) -> Arg<'a>
+    ensures rule { rule_of result ≡ switch_rule (codes "explain-errors") }
+    ensures own { result.global ≡ false }
+{
+    Arg::new(alloc, "explain-errors")
+        .long("explain-errors")
+        .action(ArgAction::SetTrue)
+        .help("Explain an error under its line")
+}
+
 fn filters<'a>(alloc: Global) -> Arg<'a>
     ensures rule { rule_of result ≡ filters_rule }
     ensures own { result.global ≡ false }
@@ -127,15 +137,18 @@ pub(crate) fn form<'a>(alloc: Global) -> Result<Command<'a>, AllocError>
         .arg(budget(alloc))?
         .arg(workers(alloc))?
         .arg(regions(alloc))?
+        .arg(explain(alloc))?
         .arg(filters(alloc))?;
     let check = Command::new(alloc, "check")
         .about("Check whether files are lawful filters that make a lawful stack")
+        .arg(explain(alloc))?
         .arg(filters(alloc))?;
     let eval = Command::new(alloc, "eval")
         .about("Show what a stack of filters answers to one input")
         .arg(input(alloc))?
         .arg(trace(alloc))?
         .arg(trace_true(alloc))?
+        .arg(explain(alloc))?
         .arg(filters(alloc))?;
     let program = Command::new(alloc, "seccomp_audit")
         .about("Audit a stack of seccomp filters")

@@ -25,7 +25,7 @@ abbrev pub AllBelow : ℕ → List Event → Type 0
 AllBelow n [] = Unit {0}
 AllBelow n (e ∷ es) = (by e < n) × AllBelow n es
 
--- steps of other ends. The owner has made all of them, so it knows which there are; a thief doesn't
+-- Steps of other ends. The owner has made all of them, so it knows which there are; a thief doesn't.
 abbrev pub OfOthers : End → List Event → Type 0
 OfOthers v es = NotBy v.me es × (v.me ≡ 0 → AllBelow v.made es)
 

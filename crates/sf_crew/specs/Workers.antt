@@ -80,13 +80,13 @@ PutsOrNot v x w = Puts v x w ⊎ (w ≡ v)
 abbrev pub PutsPiece : End → PieceData → End → Type 0
 PutsPiece v p w = (x : Lease) × (arc_value x.piece ≡ p) × PutsOrNot v x w
 
--- the pieces of a split were put, the false one first
+-- the pieces of a split were put, the false one first; or the put was refused
 abbrev pub PutsChildren : End → StepData → End → Type 0
 PutsChildren v (Split f t) w = (u : End) × PutsPiece v f u × PutsPiece u t w
 PutsChildren v (Settled a) w = w ≡ v
 PutsChildren v Empty w = w ≡ v
 
--- a right work of the lease's piece was made, and its children were put on the worker's own bench
+-- a right work of the lease's piece was made, and its children were put on the worker's own bench, or refused there
 pub record WorksOn (x : Lease) (v w : Worker) : Type 0 where
   pub work : WorkData
   pub piece : work.piece ≡ arc_value x.piece

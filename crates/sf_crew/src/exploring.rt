@@ -16,7 +16,8 @@ use sf_piece::{Piece, Work, advance};
 use std::alloc::Global;
 use std::sync::Arc;
 
-/// The lease that the last turn left, or else one of the first piece. None where nothing is left to do.
+/// The lease that the last turn left, or else one of the first piece. `None` where no piece is left, or the budget is
+/// spent.
 fn next_lease(book: &mut Book, left: Option<Lease>) -> Result<Option<Lease>, Fault>
     requires { HasOnly book.old left }
     ensures same { IsSameExploration book.old book.new }

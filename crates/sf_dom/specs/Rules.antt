@@ -114,8 +114,8 @@ pub record IsMovedPast (other old new : Known) : Type 0 where
   pub low : IsDecided other → old.low ≡ other.low → other.low < new.low
   pub high : IsDecided other → old.high ≡ other.low → new.high < other.low
 
--- what a test with this result tells of two words, v and w before and v' and w' after: two equal words have what is
--- known of both, no end is left that the other word's ends rule out, and bits are told by a word that is decided
+-- What a test with this result tells of two words, v and w before and v' and w' after: two equal words have what is
+-- known of both; no end is left that the other word's ends rule out; and a decided w tells v of its bits.
 abbrev pub Tells : Test → Bool → Known → Known → Known → Known → Type 0
 Tells Equal true v w v' w' = IsNarrower w v' × IsNarrower v w'
 Tells Equal false v w v' w' = IsMovedPast w v v' × IsMovedPast v w w'

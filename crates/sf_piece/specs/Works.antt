@@ -227,7 +227,7 @@ pub record AreChildFacts (p : PieceData) (cond : Cond) (b : Bool) (facts : Facts
   pub decided : DecidesTest p.facts (sensed cond b)
   pub plain : IsPlain p.stack → KeepsOnly p.facts facts p.pool (λ d. is_met p.pool d (sensed cond b))
 
--- the members that have the entry so, with facts of just these
+-- the members that have the entry so, with facts that hold of these
 pub record IsChild (p : PieceData) (cond : Cond) (b : Bool) (c : PieceData) : Type 0 where
   pub of : c.stack ≡ p.stack
   pub name : c.name ≡ p.name ++ b ∷ []

@@ -102,7 +102,7 @@ fn child(
     let next = Run {
         stack: Arc::try_clone(&run.stack)?,
         name: longer,
-        pool: run.pool.fork(alloc)?,
+        pool: run.pool.fork()?,
         conditions,
         machine: to,
         facts,

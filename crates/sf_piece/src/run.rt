@@ -55,7 +55,7 @@ impl Run {
         Ok(Run {
             stack: Arc::try_clone(&self.stack)?,
             name: Vec::from_slice(alloc, &self.name)?,
-            pool: self.pool.fork(alloc)?,
+            pool: self.pool.fork()?,
             conditions: self.conditions.fork()?,
             machine: self.machine,
             facts: self.facts.fork(alloc)?,

@@ -11,7 +11,7 @@ use Rattle.sf_run.specs.declared.walking.Meeting.{Meeting}
 use Rattle.sf_run.specs.declared.walking.Met.{Met}
 use Rattle.sf_run.specs.declared.walking.Met.TheVariants.{Tested, Divided, Returned}
 
--- at this place
+-- the one thing that is met at this place
 abbrev pub at_place : ℕ → Met → List Meeting
 at_place place met = record { place = place; met = met } ∷ []
 

@@ -65,8 +65,8 @@ fn push_meeting(
     Ok(())
 }
 
-/// The run of the program on the input: what it meets, with the words that it compares, and where it returns which value.
-/// `Memory` where a growth is refused.
+/// The run of the program on the input: what it meets, with the words that it compares, and where it returns which
+/// value. `Memory` where a growth is refused.
 pub fn walk(alloc: Global, program: &Program, input: &Input) -> Result<Course, Fault>
     // It is the run of the definition.
     ensures told { IfOk result (λ w. walk_of program.now input.now

@@ -16,7 +16,7 @@ returns-in-Ok-clause-refused g c =
     policy_refused (λ v. v.items) c.read_policy.result _ _ c.read_policy.ensures.read
     c.read_policy.ensures.no_syntax agrees
 
-pub returns-clause-refused : goal.returns-clause-refused
-returns-clause-refused g c =
+pub returns-in-Err-clause-refused : goal.returns-in-Err-clause-refused
+returns-in-Err-clause-refused g c =
     let agrees = rw (sym c.deref.ensures.value) at c.in_ok-bytes.ensures.bytes in
     inr (inr (c.deref.result.now, agrees, inl (refl, inl c.in-Err.ensures.cases.0)))

@@ -25,16 +25,22 @@ returns c =
     ∙ ap₂ with_rule with_budget c.workers.ensures.rule in
     let with_regions = c.in_ok-arg-4.ensures.shape c.regions.ensures.own
     ∙ ap₂ with_rule with_workers c.regions.ensures.rule in
+    let audit_explains = c.in_ok-arg-5.ensures.shape c.explain.ensures.own
+    ∙ ap₂ with_rule with_regions c.explain.ensures.rule in
     let audit_is : app_of c.in_ok-audit.audit ≡ audit_line = c.in_ok-audit.ensures.shape c.filters.ensures.own
-    ∙ ap₂ with_rule with_regions c.filters.ensures.rule in
+    ∙ ap₂ with_rule audit_explains c.filters.ensures.rule in
+    let check_explains = c.in_ok-arg-6.ensures.shape c.explain-2.ensures.own
+    ∙ ap₂ with_rule new_check c.explain-2.ensures.rule in
     let check_is : app_of c.in_ok-check.check ≡ check_line = c.in_ok-check.ensures.shape c.filters-2.ensures.own
-    ∙ ap₂ with_rule new_check c.filters-2.ensures.rule in
-    let with_input = c.in_ok-arg-5.ensures.shape c.input.ensures.own ∙ ap₂ with_rule new_eval c.input.ensures.rule in
-    let with_trace = c.in_ok-arg-6.ensures.shape c.trace.ensures.own ∙ ap₂ with_rule with_input c.trace.ensures.rule in
-    let with_trace_true = c.in_ok-arg-7.ensures.shape c.trace_true.ensures.own
+    ∙ ap₂ with_rule check_explains c.filters-2.ensures.rule in
+    let with_input = c.in_ok-arg-7.ensures.shape c.input.ensures.own ∙ ap₂ with_rule new_eval c.input.ensures.rule in
+    let with_trace = c.in_ok-arg-8.ensures.shape c.trace.ensures.own ∙ ap₂ with_rule with_input c.trace.ensures.rule in
+    let with_trace_true = c.in_ok-arg-9.ensures.shape c.trace_true.ensures.own
     ∙ ap₂ with_rule with_trace c.trace_true.ensures.rule in
+    let eval_explains = c.in_ok-arg-10.ensures.shape c.explain-3.ensures.own
+    ∙ ap₂ with_rule with_trace_true c.explain-3.ensures.rule in
     let eval_is : app_of c.in_ok-eval.eval ≡ eval_line = c.in_ok-eval.ensures.shape c.filters-3.ensures.own
-    ∙ ap₂ with_rule with_trace_true c.filters-3.ensures.rule in
+    ∙ ap₂ with_rule eval_explains c.filters-3.ensures.rule in
     let unnamed = ap app_of_fields c.no_binary_name.ensures ∙ ap
     (on_top (λ s. record s { no_binary_name = true })) new_program in
     let demanding = ap app_of_fields c.subcommand_required.ensures

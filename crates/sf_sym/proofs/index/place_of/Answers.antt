@@ -10,7 +10,8 @@ returns-then-is_same-clause-found c = λ i e.
     let within : c.loop-next.next - 1 < length es = omega (arith, c.loop-next.invariant.within, length-nodes es) in
     let read = node-read es (c.loop-next.next - 1) c.get-entry.result within (c.get-entry.ensures blank) in
     let same = c.is_same.ensures.same c.if-is_same.true in
-    rw (← at) (within, read ∙ same)
+    let there : c.loop-next.next - 1 < length (nodes_of es) = omega (arith, within, length-nodes es) in
+    rw (← at) (there, read ∙ same)
 
 pub loop-next-smaller : goal.loop-next-smaller
 loop-next-smaller c =

@@ -2,13 +2,12 @@ use Rattle.std.proofs.Common.{◌≡◌, ◌<◌, length, [], ◌∷◌, ◌++�
 use Rattle.std.proofs.lemmas.List.{length_push, get_or_append_left, get_or_push}
 use Rattle.sf_sym.specs.ValueLaws.{AreOrdered-push}
 use Rattle.sf_sym.specs.Pool.{node_at}
-use Rattle.sf_sym.specs.Index.{nodes_of}
 use Rattle.sf_sym.specs.declared.pool.Node.TheVariants.{Const, Word}
 use Rattle.sf_sym.proofs.pool.Pool.new.Goals as goal
 
 pub loop-i-preserved : goal.loop-i-preserved
 loop-i-preserved c =
-    let ns = nodes_of c.loop-i.entries in
+    let ns = c.loop-i.nodes in
     let i = c.loop-i.i in
     let old = c.loop-i.invariant in
     let nodes = c.in_ok-add.ensures.ok in
@@ -19,5 +18,4 @@ loop-i-preserved c =
           get_or_append_left ns (Word i ∷ []) (Const 0) k l ∙ old.word k h)
           (get_or_push ns (Word i) (Const 0) i old.count));
       ordered = rw nodes (AreOrdered-push 0 ns (Word i) old.ordered (omega arith));
-      indexed = c.in_ok-add.ensures.indexed;
     }

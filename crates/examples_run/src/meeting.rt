@@ -1,0 +1,102 @@
+//! A gate at which the two workers of an audit have to meet, once in its exploration and once in its sweep.
+
+use sf_crew::Gate;
+use std::hint::spin_loop;
+use std::sync::atomic::{AtomicUsize, Ordering};
+
+/// How often a worker looks for the other one.
+const TURNS: usize = 100_000_000;
+
+/// Which of two workers have come.
+#[derive(Drop)]
+struct Place {
+    come: [AtomicUsize; 2],
+}
+
+impl Place {
+    fn new() -> Place {
+        Place {
+            come: [AtomicUsize::new(0), AtomicUsize::new(0)],
+        }
+    }
+
+    fn has_come(&self, worker: usize) -> bool {
+        match self.come.get(worker) {
+            Some(come) => come.load(Ordering::SeqCst) != 0,
+            None => false,
+        }
+    }
+
+    /// The first time a worker comes it waits for the other one. False where that doesn't come.
+    fn meet(&self, worker: usize) -> bool {
+        let Some(mine) = self.come.get(worker) else {
+            return false;
+        };
+        if mine.swap(1, Ordering::SeqCst) != 0 {
+            return true;
+        }
+        for _ in 0..TURNS {
+            if self.has_come(1 - worker) {
+                return true;
+            }
+            spin_loop();
+        }
+        false
+    }
+}
+
+/// Each worker's first call in the exploration, and again in the sweep, is held until the other one has made its own. The first
+/// call of all goes through, since until then there is but one piece; its worker's second call is held.
+#[derive(Drop)]
+pub struct Meeting {
+    begun: AtomicUsize,
+    /// How many calls each worker has made under the number 1.
+    firsts: [AtomicUsize; 2],
+    exploration: Place,
+    sweep: Place,
+    failed: AtomicUsize,
+}
+
+impl Meeting {
+    pub fn new() -> Meeting {
+        Meeting {
+            begun: AtomicUsize::new(0),
+            firsts: [AtomicUsize::new(0), AtomicUsize::new(0)],
+            exploration: Place::new(),
+            sweep: Place::new(),
+            failed: AtomicUsize::new(0),
+        }
+    }
+
+    /// Whether both have met in the exploration and in the sweep, and no third one came.
+    pub fn is_met(&self) -> bool {
+        self.failed.load(Ordering::SeqCst) == 0
+            && self.exploration.has_come(0)
+            && self.exploration.has_come(1)
+            && self.sweep.has_come(0)
+            && self.sweep.has_come(1)
+    }
+}
+
+impl Gate for Meeting {
+    fn pass(&self, worker: usize, call: usize) {
+        let Some(firsts) = self.firsts.get(worker) else {
+            self.failed.store(1, Ordering::SeqCst);
+            return;
+        };
+        if call == 1 {
+            firsts.fetch_add(1, Ordering::SeqCst);
+        }
+        if self.begun.swap(1, Ordering::SeqCst) == 0 {
+            return;
+        }
+        let is_met = if firsts.load(Ordering::SeqCst) < 2 {
+            self.exploration.meet(worker)
+        } else {
+            self.sweep.meet(worker)
+        };
+        if !is_met {
+            self.failed.store(1, Ordering::SeqCst);
+        }
+    }
+}
