@@ -3,6 +3,8 @@
 //! A gate asks for a growth of an odd size on that worker's thread. `tools/refuse.c` can be told the size: then it refuses that
 //! growth, and all that the thread asks for later. Else nothing comes of it, and the explorations find the same.
 
+ghost use Rattle.std.specs.Prelude.{◌<◌, ◌≤◌};
+
 use crate::refused::{MEMORY, Refused, Tally};
 use crate::stacks::{FOUR_BITS, stack_in};
 use sf_book::Settled;
