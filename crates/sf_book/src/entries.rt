@@ -90,7 +90,7 @@ pub(crate) fn add<T: Drop>(v: &mut Vec<T>, x: T) -> Result<(), Fault>
 pub(crate) fn has_name(piece: &Arc<Piece>, work: &Work) -> bool
     ensures { IsTrue result ↔ ((arc_value piece.now).name ≡ work.now.piece.name) }
 {
-    piece.name() == work.piece().name()
+    piece.name_order(work.piece()).is_eq()
 }
 
 /// Whether the work is of the stack.

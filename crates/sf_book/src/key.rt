@@ -79,6 +79,6 @@ impl Ord for Named {
     ghost matches_eq = { λ x y. name_ties x y };
 
     fn cmp(&self, other: &Named) -> Ordering {
-        self.piece.name().cmp(other.piece.name())
+        self.piece.name_order(&other.piece)
     }
 }

@@ -95,7 +95,7 @@ fn child(
     ensures { IfOk result (λ c. IsChild run.now cond sense (arc_value c)) }
 {
     let to = after(run, insn, sense);
-    let mut longer = Vec::from_slice(alloc, run.name.as_slice())?;
+    let mut longer = run.name.fork(alloc)?;
     longer.push(sense)?;
     let mut conditions = run.conditions.fork()?;
     conditions.push(Cond { sense, ..cond })?;

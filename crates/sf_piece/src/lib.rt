@@ -8,6 +8,7 @@ mod entry;
 mod fault;
 mod first;
 mod machine;
+mod name;
 mod nodes;
 mod piece;
 mod run;

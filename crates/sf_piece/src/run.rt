@@ -4,6 +4,7 @@ ghost use Rattle.std.specs.Prelude.{◌≡◌, ◌<◌, IfOk, MatchOption, lengt
 
 use crate::fault::Fault;
 use crate::machine::Machine;
+use crate::name::Name;
 use sf_blocks::shared::SharedList;
 use sf_check::{Insn, Stack};
 use sf_dom::Facts;
@@ -21,7 +22,7 @@ pub(crate) type Conditions = SharedList<Cond, 8>;
 #[derive(Drop)]
 pub struct Run {
     pub(crate) stack: Arc<Stack>,
-    pub(crate) name: Vec<bool>,
+    pub(crate) name: Name,
     pub(crate) pool: Pool,
     pub(crate) conditions: Conditions,
     pub(crate) machine: Machine,
@@ -35,7 +36,7 @@ impl Model for Run {
 
     ghost view = { λ r. record {
       stack = r.stack.value;
-      name = r.name.items;
+      name = r.name;
       pool = r.pool;
       conditions = r.conditions;
       machine = r.machine;
@@ -54,7 +55,7 @@ impl Run {
     {
         Ok(Run {
             stack: Arc::try_clone(&self.stack)?,
-            name: Vec::from_slice(alloc, &self.name)?,
+            name: self.name.fork(alloc)?,
             pool: self.pool.fork()?,
             conditions: self.conditions.fork()?,
             machine: self.machine,
@@ -90,6 +91,6 @@ impl Run {
             machine,
             facts: _,
         } = self;
-        (name, machine.so_far)
+        (name.into_entries(), machine.so_far)
     }
 }

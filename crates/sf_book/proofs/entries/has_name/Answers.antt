@@ -1,13 +1,10 @@
-use Rattle.std.proofs.Common.{rules, ◌∙◌, ap}
-use Rattle.std.specs.Cmp.{booleans_Decides}
-use Rattle.std.proofs.lemmas.Slice.Eq.{slice_eq-Decides}
-use Rattle.sf_piece.specs.Pieces.{PieceData}
+use Rattle.std.proofs.Common.{◌∙◌}
+use Rattle.sf_book.proofs.Shelves.{same_name, name_yes}
 use Rattle.sf_book.proofs.entries.has_name.Goals as goal
 
 pub returns : goal.returns
 returns c =
-    let h = slice_eq-Decides booleans_Decides c.name.result.now c.name-2.result.now c.eq.result c.eq.ensures in
-    let p = c.name.ensures.value ∙ ap (λ (d : PieceData). d.name) c.deref.ensures in
-    let q = c.name-2.ensures.value ∙ ap (λ (d : PieceData). d.name) (c.deref-2.ensures ∙ c.piece.ensures.value) in
-    let k = rw (p, q) at h in
-    search (rules, k)
+    let p = c.deref.ensures in
+    let q = c.deref-2.ensures ∙ c.piece.ensures.value in
+    let order = rw (p, q) at c.name_order.ensures in
+    rw (c.is_eq.ensures, order) (λ same. same_name _ _ same, λ same. name_yes _ _ same)

@@ -1,0 +1,20 @@
+-- Names by the runs of false in them.
+use Rattle.std.specs.Prelude.{◌≡◌, ℕ, ◌+◌, ◌-◌, ◌≤◌, Bool, true, false, List, [], ◌∷◌, length}
+
+-- of a name behind so many falses: for each true the falses right before it, counted down from the most
+abbrev pub runs_of : List Bool → ℕ → List ℕ
+runs_of [] n = []
+runs_of (false ∷ name) n = runs_of name (n + 1)
+runs_of (true ∷ name) n = (4294967295 - n) ∷ runs_of name 0
+
+-- of a name behind so many falses: those at its end
+abbrev pub rest_of : List Bool → ℕ → ℕ
+rest_of [] n = n
+rest_of (false ∷ name) n = rest_of name (n + 1)
+rest_of (true ∷ name) n = rest_of name 0
+
+-- these are the runs of the name
+pub record AreRuns (name : List Bool) (runs : List ℕ) (rest : ℕ) : Type 0 where
+  pub short : length name ≤ 4294967295
+  pub ended : runs ≡ runs_of name 0
+  pub last : rest ≡ rest_of name 0

@@ -1,0 +1,132 @@
+//! Names, kept so that they are soon compared.
+
+ghost use Rattle.std.specs.Prelude.{◌≡◌, ◌<◌, [], ◌∷◌, ◌++◌, length, true, false, IfOk, OnOk, OnErr};
+ghost use Rattle.std.specs.Ordering.{bool_cmp};
+ghost use Rattle.std.specs.Cmp.Lexicographic.{slice_cmp};
+
+use smallvec::SmallVec;
+use std::alloc::{AllocError, Global};
+use std::cmp::Ordering;
+use std::marker::Model;
+
+/// The most truth values that a name may have, so that a run of them is counted in a `u32`.
+const LONGEST: u32 = 0xFFFF_FFFF;
+
+/// For how many more truth values a fork has room: each gets one at least, and would be copied again for it.
+const SPARE: usize = 16;
+
+/// A name beside the lengths of its runs of false, by which names are compared: a path meets false far more often than
+/// true, so these are few, and where two names share a long run one comparison passes it.
+#[derive(Drop)]
+pub(crate) struct Name {
+    entries: Vec<bool>,
+    // For each true the falses right before it, counted down from `LONGEST`, since more of them come first.
+    runs: SmallVec<u32, 8>,
+    // The falses at the end.
+    rest: u32,
+}
+
+impl Model for Name {
+    ghost use Rattle.std.specs.Prelude.{List, Bool};
+    ghost use Rattle.sf_piece.specs.Names.{AreRuns};
+
+    ghost Value = { List Bool };
+
+    ghost view = { λ n. n.entries.items };
+
+    ghost invariant = { λ n. AreRuns n.entries.items n.runs.items n.rest };
+}
+
+impl Name {
+    /// The name of no truth values.
+    pub(crate) fn new(alloc: Global) -> Name
+        ensures { result ≡ [] }
+    {
+        Name {
+            entries: Vec::new(alloc),
+            runs: SmallVec::new(alloc),
+            rest: 0,
+        }
+    }
+
+    /// The truth values, the first one first.
+    pub(crate) fn as_slice(&self) -> &[bool]
+        ensures { result.now ≡ self.now }
+    {
+        self.entries.as_slice()
+    }
+
+    /// The truth values alone.
+    pub(crate) fn into_entries(self) -> Vec<bool>
+        ensures { result.items ≡ self }
+    {
+        let Name {
+            entries,
+            runs: _,
+            rest: _,
+        } = self;
+        entries
+    }
+
+    /// The same name again, with some room to grow. `AllocError` where a growth is refused.
+    pub(crate) fn fork(&self, alloc: Global) -> Result<Name, AllocError>
+        ensures { IfOk result (λ n. n ≡ self.now) }
+    {
+        let mut entries = Vec::with_capacity(alloc, self.entries.len() + SPARE)?;
+        entries.extend_from_slice(self.entries.as_slice())?;
+        let runs = SmallVec::from_slice(alloc, self.runs.as_slice())?;
+        Ok(Name {
+            entries,
+            runs,
+            rest: self.rest,
+        })
+    }
+
+    /// How two names compare: false is before true, and a name before what goes on from it.
+    pub(crate) fn order(&self, other: &Name) -> Ordering
+        ensures { result ≡ slice_cmp bool_cmp self.now other.now }
+    {
+        let runs = self.runs.as_slice().cmp(other.runs.as_slice());
+        runs.then(self.rest.cmp(&other.rest))
+    }
+
+    /// Adds a truth value at the end. `AllocError` where a growth is refused, or at 2^32 - 1 truth values: the name is as
+    /// it was then.
+    pub(crate) fn push(&mut self, entry: bool) -> Result<(), AllocError>
+        ensures ok { OnOk result (self.new ≡ self.old ++ entry ∷ []) }
+        ensures err { OnErr result (self.new ≡ self.old) }
+    {
+        if self.entries.len() >= LONGEST as usize {
+            return Err(AllocError);
+        }
+        if entry {
+            self.push_true()
+        } else {
+            self.push_false()
+        }
+    }
+
+    /// Adds a false, which makes the last run longer.
+    fn push_false(&mut self) -> Result<(), AllocError>
+        requires { length self.old < 4294967295 }
+        ensures ok { OnOk result (self.new ≡ self.old ++ false ∷ []) }
+        ensures err { OnErr result (self.new ≡ self.old) }
+    {
+        self.entries.push(false)?;
+        self.rest += 1;
+        Ok(())
+    }
+
+    /// Adds a true, which ends the last run.
+    fn push_true(&mut self) -> Result<(), AllocError>
+        requires { length self.old < 4294967295 }
+        ensures ok { OnOk result (self.new ≡ self.old ++ true ∷ []) }
+        ensures err { OnErr result (self.new ≡ self.old) }
+    {
+        self.entries.reserve(1)?;
+        self.runs.push(LONGEST - self.rest)?;
+        self.rest = 0;
+        self.entries.push_reserved(true);
+        Ok(())
+    }
+}
