@@ -34,7 +34,7 @@ fn with_bits(known: Known, zeros: u32, ones: u32) -> Known
 }
 
 /// What is known of an operand, with the bits that it gains from those of its node, whose other operand is a constant.
-fn back(op: BinOp, node: Known, c: u32, operand: Known) -> Option<Known>
+pub fn back(op: BinOp, node: Known, c: u32, operand: Known) -> Option<Known>
     ensures bits { IfSome result (λ g. (x : ℕ) → Admits operand x
         → Admits node (apply op x c) → Admits g x) }
     ensures swappable { IfSome result (λ g. IsSwappable op) }
@@ -55,7 +55,7 @@ fn back(op: BinOp, node: Known, c: u32, operand: Known) -> Option<Known>
 }
 
 /// The constant operand of a node and its other operand, where exactly one is constant.
-fn constant_operand(pool: &Pool, at: usize) -> Option<(BinOp, usize, u32)>
+pub fn constant_operand(pool: &Pool, at: usize) -> Option<(BinOp, usize, u32)>
     requires { at < length pool.now }
     ensures told { result ≡ constant_operand_of pool.now (node_at pool.now at) }
     ensures smaller { IfSome result (λ o. o.1 < at) }

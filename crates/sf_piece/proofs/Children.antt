@@ -1,9 +1,11 @@
 -- Pieces with one more truth value in their names; names are routes.
-use Rattle.std.proofs.Common.{◌≡◌, ℕ, zero, suc, ◌+◌, ◌-◌, ◌<◌, ◌&&◌, Bool, true, false, List, [], ◌∷◌, ◌++◌, length, refl, sym, ap, subst, ◌∙◌, inl, inr, arith, append_assoc, append-nil, length-append}
+use Rattle.std.proofs.Common.{◌≡◌, ℕ, zero, suc, ◌+◌, ◌-◌, ◌<◌, ◌&&◌, not, Bool, true, false, List, [], ◌∷◌, ◌++◌, length, refl, sym, ap, subst, ◌∙◌, inl, inr, arith, append_assoc, append-nil, length-append}
 use Rattle.std.specs.List.{AllByRecursion, list_all}
+use Rattle.std.specs.Prelude.{if◌then◌else◌}
 use Rattle.sf_insn.specs.declared.input.Input.{Input}
 use Rattle.sf_insn.specs.Inputs.{IsInput}
 use Rattle.sf_insn.specs.Words.{passes}
+use Rattle.sf_insn.specs.declared.ops.Test.{Test}
 use Rattle.sf_insn.specs.declared.ops.BinOp.{BinOp}
 use Rattle.sf_insn.specs.declared.ops.BinOp.TheVariants.{Div}
 use Rattle.sf_check.specs.declared.insn.Insn.{Insn}
@@ -12,7 +14,7 @@ use Rattle.sf_check.specs.declared.insn.Operand.{Operand}
 use Rattle.sf_check.specs.declared.insn.Operand.TheVariants.{Constant, X}
 use Rattle.sf_check.specs.Programs.{IsLawful}
 use Rattle.sf_check.specs.ProgramLaws.{successors_inside}
-use Rattle.sf_run.specs.Machine.{bits, trace_of}
+use Rattle.sf_run.specs.Machine.{bits, trace_of, executed}
 use Rattle.sf_run.specs.Routes.{IsWay, returns_at, goes_on, AreWays, IsWholeRoute, IsRoute}
 use Rattle.sf_run.specs.CompletionLaws.{some_way}
 use Rattle.sf_sym.specs.declared.pool.Node.{Node}
@@ -21,37 +23,37 @@ use Rattle.sf_sym.specs.Pool.{value_of, is_met, same, IsCondBelow}
 use Rattle.sf_dom.specs.Facts.{FactsView}
 use Rattle.sf_piece.specs.declared.machine.Machine.{Machine}
 use Rattle.sf_piece.specs.Pieces.{PieceData, is_member, is_prefix, IsTrulyNamed}
-use Rattle.sf_piece.specs.SymbolicRun.{IsPending, StandsAt, IsPiece, IsLawfulPiece}
-use Rattle.sf_piece.specs.Works.{Standing, IsEntry, AfterEntry, sensed, IsImplied, AreChildFacts, IsChild, HasGone}
+use Rattle.sf_piece.specs.SymbolicRun.{IsPending, StandsAt, IsPiece, IsLawfulPiece, valued}
+use Rattle.sf_piece.specs.Works.{Standing, Asks, NextIs, IsEntry, IsForeseen, AfterEntry, sensed, IsNever, IsImplied, AreChildFacts, IsChild, HasGone}
 use Rattle.sf_piece.proofs.Moves.{made}
 use Rattle.sf_piece.proofs.Kept.{assembled, returned_nodes, some_input}
-use Rattle.sf_piece.proofs.Entries.{Turned, Narrows, branch_turned, return_turned, zero_turned, nonzero_turned, entry_trace}
+use Rattle.sf_piece.proofs.Entries.{Turned, Meets, branch_turned, return_turned, zero_turned, nonzero_turned, entry_trace}
 use Rattle.sf_piece.proofs.Prefixes.{prefix_next, same-true, and-true}
 
 -- ---- after any entry
 
-turned : (p : PieceData) (i : Insn) (cond : Cond) (b : Bool) (cs : List Cond) (fs : FactsView) (m : Machine) → IsPiece p
-    → Standing p i → IsEntry p i cond → AfterEntry p i b m → Narrows p cs cond b
+turned : (p : PieceData) (i : Insn) (b : Bool) (cs : List Cond) (fs : FactsView) (m : Machine) → IsPiece p
+    → Standing p i → Asks p i → AfterEntry p i b m → Meets p i cs b
     → Turned p (made p (p.name ++ b ∷ []) cs m fs)
-turned p (Branch test other t f) cond b cs fs m h s e after narrow =
+turned p (Branch test other t f) b cs fs m h s asks after meets =
     subst (λ (k : Machine). Turned p (made p (p.name ++ b ∷ []) cs k fs)) (sym after)
-    (branch_turned p test other t f cond b cs fs h s e narrow)
-turned p ReturnA cond b cs fs m h s e after narrow =
+    (branch_turned p test other t f b cs fs h s meets)
+turned p ReturnA b cs fs m h s asks after meets =
     subst (λ (k : Machine). Turned p (made p (p.name ++ b ∷ []) cs k fs)) (sym after)
-    (return_turned p cond b cs fs h s e narrow)
-turned p (Alu op other) cond b cs fs m h s e after narrow = alu op other b s e after narrow
+    (return_turned p b cs fs h s asks meets)
+turned p (Alu op other) b cs fs m h s asks after meets = alu op other b s asks after meets
   where
-    alu : (op : BinOp) (other : Operand) (b : Bool) → Standing p (Alu op other) → IsEntry p (Alu op other) cond
-        → AfterEntry p (Alu op other) b m → Narrows p cs cond b → Turned p (made p (p.name ++ b ∷ []) cs m fs)
-    alu Div X true s e after narrow =
+    alu : (op : BinOp) (other : Operand) (b : Bool) → Standing p (Alu op other) → Asks p (Alu op other)
+        → AfterEntry p (Alu op other) b m → Meets p (Alu op other) cs b → Turned p (made p (p.name ++ b ∷ []) cs m fs)
+    alu Div X true s asks after meets =
         subst (λ (k : Machine). Turned p (made p (p.name ++ true ∷ []) cs k fs)) (sym after)
-        (zero_turned p cond cs fs (returned_nodes p 0 h.nodes) h s e narrow)
-    alu Div X false s e after narrow =
+        (zero_turned p cs fs (returned_nodes p 0 h.nodes) h s asks meets)
+    alu Div X false s asks after meets =
         subst (λ (k : Machine). Turned p (made p (p.name ++ false ∷ []) cs k fs)) (sym after)
-        (nonzero_turned p cond cs fs h s e narrow)
-    alu Div (Constant k) b s e after narrow = absurd after
-    alu _ other b s e after narrow = absurd after
-turned p _ cond b cs fs m h s e after narrow = absurd after
+        (nonzero_turned p cs fs h s asks meets)
+    alu Div (Constant k) b s asks after meets = absurd after
+    alu _ other b s asks after meets = absurd after
+turned p _ b cs fs m h s asks after meets = absurd after
 
 -- ---- members
 
@@ -67,41 +69,68 @@ sense_is pool d cond b e =
     ap (λ (v : Bool). same v b) (sym plain)
 
 -- the name with one more truth value
-named_next : (p : PieceData) (i : Insn) (cond : Cond) (b : Bool) → IsPiece p → Standing p i → IsEntry p i cond
-    → (d : Input) → IsInput d
-    → (is_member p d && same (is_met p.pool d cond) b) ≡ is_prefix (p.name ++ b ∷ []) (trace_of p.stack d)
-named_next p i cond b h s e d inp =
-    prefix_next p.name (trace_of p.stack d) b (is_met p.pool d cond) (is_member p d) (h.members d inp)
-    (λ member. entry_trace p i cond s e d inp member)
+named_next : (p : PieceData) (i : Insn) (x b : Bool) → IsPiece p → Standing p i → (d : Input) → IsInput d
+    → (is_member p d ≡ true → NextIs (executed d (valued p.pool p.machine d) i) p.machine.taken x)
+    → (is_member p d && same x b) ≡ is_prefix (p.name ++ b ∷ []) (trace_of p.stack d)
+named_next p i x b h s d inp next =
+    prefix_next p.name (trace_of p.stack d) b x (is_member p d) (h.members d inp)
+    (λ member. entry_trace p i x s d (next member) inp member)
 
-implied_and : (v x : Bool) → (v ≡ true → x ≡ true) → v ≡ (v && x)
-implied_and true x h = sym (h refl)
-implied_and false x h = refl
+-- what the facts tell of a condition is the next truth value on every member
+pub entry_foreseen : (p : PieceData) (i : Insn) (cond : Cond) (b : Bool) → IsEntry p i cond → IsImplied p cond b
+    → IsForeseen p i b
+entry_foreseen p i cond b e imp = record {
+  asks = e.asks;
+  next = λ d inp member.
+      let is : is_met p.pool d cond ≡ b = same-true (is_met p.pool d cond) b
+      (sym (sense_is p.pool d cond b e.sense) ∙ imp d inp member) in
+      subst (λ (v : Bool). NextIs (executed d (valued p.pool p.machine d) i) p.machine.taken v) is (e.next d);
+}
 
-implied_narrows : (p : PieceData) (i : Insn) (cond : Cond) (b : Bool) → IsEntry p i cond → IsImplied p cond b
-    → Narrows p p.conditions cond b
+other_way : (x b : Bool) → same x (not b) ≡ false → same x b ≡ true
+other_way true true h = refl
+other_way false false h = refl
+other_way true false h = absurd cc
+other_way false true h = absurd cc
+
+-- no member has the entry the other way
+pub never_implies : (p : PieceData) (cond : Cond) (b : Bool) → IsNever p cond (not b) → IsImplied p cond b
+never_implies p cond b h d inp member = other_way
+    (passes cond.test (value_of p.pool d cond.node.0) (value_of p.pool d cond.other.0)) b (h d inp member)
+
+-- after a test
+pub branch_after : (p : PieceData) (i : Insn) (test : Test) (other : Operand) (t f next : ℕ) (b : Bool)
+    → i ≡ Branch test other t f → next ≡ (if b then t else f)
+    → AfterEntry p i b (record p.machine { place = p.machine.place + 1 + next })
+branch_after p i test other t f next b e h =
+    rw e (ap (λ (n : ℕ). record p.machine { place = p.machine.place + 1 + n }) h)
+
+foreseen_meets : (p : PieceData) (i : Insn) (b : Bool) → IsForeseen p i b → Meets p i p.conditions b
 unfolding is_member
-implied_narrows p i cond b e imp d inp member =
-    (member, same-true (is_met p.pool d cond) b (sym (sense_is p.pool d cond b e.sense) ∙ imp d inp member))
+foreseen_meets p i b fore d inp member = (member, fore.next d inp member)
+
+and_same : (v b : Bool) → v ≡ (v && same b b)
+and_same true true = refl
+and_same true false = refl
+and_same false b = refl
 
 abbrev pub taken_on : PieceData → Bool → Machine → PieceData
 taken_on p b m = made p (p.name ++ b ∷ []) p.conditions m p.facts
 
-pub take_piece : (p : PieceData) (i : Insn) (cond : Cond) (b : Bool) (m : Machine) → IsPiece p → Standing p i
-    → IsEntry p i cond → IsImplied p cond b → AfterEntry p i b m → IsPiece (taken_on p b m)
+pub take_piece : (p : PieceData) (i : Insn) (b : Bool) (m : Machine) → IsPiece p → Standing p i → IsForeseen p i b
+    → AfterEntry p i b m → IsPiece (taken_on p b m)
 unfolding is_member
-take_piece p i cond b m h s e imp after =
-    let t = turned p i cond b p.conditions p.facts m h s e after (implied_narrows p i cond b e imp) in
+take_piece p i b m h s fore after =
+    let t = turned p i b p.conditions p.facts m h s fore.asks after (foreseen_meets p i b fore) in
     assembled p (p.name ++ b ∷ []) p.conditions m p.facts h h.bounded t.nodes t.zero_is h.covers h.known
-    (λ d inp. implied_and (is_member p d) (same (is_met p.pool d cond) b)
-    (λ member. sym (sense_is p.pool d cond b e.sense) ∙ imp d inp member) ∙ named_next p i cond b h s e d inp)
+    (λ d inp. and_same (is_member p d) b ∙ named_next p i b b h s d inp (fore.next d inp))
     t.rest t.base t.pre t.stands
 
-pub take_gone : (p : PieceData) (i : Insn) (cond : Cond) (b : Bool) (m : Machine) → IsPiece p → Standing p i
-    → IsEntry p i cond → IsImplied p cond b → AfterEntry p i b m → HasGone p (taken_on p b m)
+pub take_gone : (p : PieceData) (i : Insn) (b : Bool) (m : Machine) → IsPiece p → Standing p i → IsForeseen p i b
+    → AfterEntry p i b m → HasGone p (taken_on p b m)
 unfolding is_member
-take_gone p i cond b m h s e imp after =
-    let t = turned p i cond b p.conditions p.facts m h s e after (implied_narrows p i cond b e imp) in
+take_gone p i b m h s fore after =
+    let t = turned p i b p.conditions p.facts m h s fore.asks after (foreseen_meets p i b fore) in
     record { is_on = record { of = refl; on = b ∷ []; name = refl; members = λ d inp. refl }; falls = t.falls }
 
 -- ---- children
@@ -129,24 +158,25 @@ child_both : (p : PieceData) (cond : Cond) (b : Bool) (m : Machine) (fs : FactsV
 child_both p cond b m fs d member = and-true (is_member p d) (is_met p.pool d (sensed cond b))
     (sym (child_members p cond b m fs d) ∙ member)
 
-child_narrows : (p : PieceData) (cond : Cond) (b : Bool) (m : Machine) (fs : FactsView) → cond.sense ≡ true
-    → Narrows p (p.conditions ++ sensed cond b ∷ []) cond b
+child_meets : (p : PieceData) (i : Insn) (cond : Cond) (b : Bool) (m : Machine) (fs : FactsView) → IsEntry p i cond
+    → Meets p i (p.conditions ++ sensed cond b ∷ []) b
 unfolding is_member
-child_narrows p cond b m fs sense d inp member =
+child_meets p i cond b m fs e d inp member =
     let both = child_both p cond b m fs d member in
-    (both.0, same-true (is_met p.pool d cond) b (sym (sense_is p.pool d cond b sense) ∙ both.1))
+    let is : is_met p.pool d cond ≡ b = same-true (is_met p.pool d cond) b
+    (sym (sense_is p.pool d cond b e.sense) ∙ both.1) in
+    (both.0, subst (λ (v : Bool). NextIs (executed d (valued p.pool p.machine d) i) p.machine.taken v) is (e.next d))
 
 pub child_piece : (p : PieceData) (i : Insn) (cond : Cond) (b : Bool) (m : Machine) (fs : FactsView) → IsPiece p
     → Standing p i → IsEntry p i cond → AreChildFacts p cond b fs → AfterEntry p i b m
     → IsPiece (child_of p cond b m fs)
 child_piece p i cond b m fs h s e facts after =
-    let t = turned p i cond b (p.conditions ++ sensed cond b ∷ []) fs m h s e after
-    (child_narrows p cond b m fs e.sense) in
+    let t = turned p i b (p.conditions ++ sensed cond b ∷ []) fs m h s e.asks after (child_meets p i cond b m fs e) in
     assembled p (p.name ++ b ∷ []) (p.conditions ++ sensed cond b ∷ []) m fs h
     (below_push (length p.pool) p.conditions (sensed cond b) h.bounded e.below) t.nodes t.zero_is facts.covers
     (λ d inp member. let both = child_both p cond b m fs d member in facts.known d inp both.0 both.1)
     (λ d inp. child_members p cond b m fs d ∙ ap (λ (v : Bool). is_member p d && v) (sense_is p.pool d cond b e.sense)
-    ∙ named_next p i cond b h s e d inp)
+    ∙ named_next p i (is_met p.pool d cond) b h s d inp (λ member. e.next d))
     t.rest t.base t.pre t.stands
 
 -- ---- names are routes

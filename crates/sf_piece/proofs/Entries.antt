@@ -23,7 +23,7 @@ use Rattle.sf_dom.specs.Facts.{FactsView}
 use Rattle.sf_piece.specs.Machines.{returned}
 use Rattle.sf_piece.specs.Pieces.{PieceData, is_member}
 use Rattle.sf_piece.specs.SymbolicRun.{valued, met_of, number_from, IsPending, AreNodesBelow, StandsAt, IsPiece}
-use Rattle.sf_piece.specs.Works.{Standing, IsEntry, NextIs, left}
+use Rattle.sf_piece.specs.Works.{Standing, NextIs, left}
 use Rattle.sf_piece.proofs.Moves.{made, stands_moved, stands_kept, stands_returned}
 use Rattle.sf_piece.proofs.Kept.{at_same, safe_moved}
 
@@ -65,27 +65,26 @@ taken_is p i s d inp member =
     (s.stands.runs d inp member).taken ∙ ap (λ (q : Progress). take p.machine.taken (met_of q))
     (step_is s.code d (valued p.pool p.machine d) i s.at)
 
-pub entry_trace : (p : PieceData) (i : Insn) (cond : Cond) → (s : Standing p i) → IsEntry p i cond → (d : Input)
-    → IsInput d → is_member p d ≡ true → (more : List Bool)
-    × (trace_of p.stack d ≡ p.name ++ is_met p.pool d cond ∷ more)
-entry_trace p i cond s e d inp member = by (run_for (length s.code) s.code d st) refl
+pub entry_trace : (p : PieceData) (i : Insn) (b : Bool) → (s : Standing p i) → (d : Input)
+    → NextIs (executed d (valued p.pool p.machine d) i) p.machine.taken b → IsInput d → is_member p d ≡ true
+    → (more : List Bool) × (trace_of p.stack d ≡ p.name ++ b ∷ more)
+entry_trace p i b s d next inp member = by (run_for (length s.code) s.code d st) refl
     (ends_from (length s.code) s.code d st s.stands.laws.0 (s.stands.inside.safe d) (omega arith))
   where
     st : State
     st = valued p.pool p.machine d
 
     by : (r : Option (List Bool × ℕ)) → run_for (length s.code) s.code d (valued p.pool p.machine d) ≡ r → IsSome r
-        → (more : List Bool) × (trace_of p.stack d ≡ p.name ++ is_met p.pool d cond ∷ more)
+        → (more : List Bool) × (trace_of p.stack d ≡ p.name ++ b ∷ more)
     by None ran some = absurd cc
     by (Some o) ran some =
         let l = met_of (executed d (valued p.pool p.machine d) i) in
         let k = p.machine.taken in
-        let b = is_met p.pool d cond in
         let first = first_met (length s.code) s.code d (valued p.pool p.machine d) i o s.at ran in
         let flat = flat_map (λ (q : List Insn). met_by q d) s.later in
         let all = (s.stands.runs d inp member).ends (o.0 ++ flat) (o.1 ∷ map (λ (q : List Insn). return_of q d) s.later)
         (length s.code, o, ran, refl, refl) in
-        let whole : l ≡ s.pre ++ b ∷ drop (suc k) l = split_there l k b (e.next d)
+        let whole : l ≡ s.pre ++ b ∷ drop (suc k) l = split_there l k b next
         ∙ ap (λ (t : List Bool). t ++ b ∷ drop (suc k) l) (sym (taken_is p i s d inp member)) in
         let met : o.0 ≡ (s.pre ++ b ∷ drop (suc k) l) ++ first.0 =
         first.1 ∙ ap (λ (t : List Bool). t ++ first.0) whole in (
@@ -106,10 +105,10 @@ pub record Turned (p q : PieceData) : Type 0 where
   pub zero_is : q.machine.zero ≡ p.machine.zero
   pub falls : left q < left p
 
--- the new piece's members are those of the old one that have the entry so
-abbrev pub Narrows : PieceData → List Cond → Cond → Bool → Type 0
-Narrows p cs cond b = (d : Input) → IsInput d → list_all (is_met p.pool d) cs ≡ true → (is_member p d ≡ true)
-    × (is_met p.pool d cond ≡ b)
+-- the new piece's members are members of the old one, on which the next truth value is this
+abbrev pub Meets : PieceData → Insn → List Cond → Bool → Type 0
+Meets p i cs b = (d : Input) → IsInput d → list_all (is_met p.pool d) cs ≡ true → (is_member p d ≡ true)
+    × NextIs (executed d (valued p.pool p.machine d) i) p.machine.taken b
 
 number_push : (n : ℕ) (bs : List Bool) (b : Bool) → number_from n (bs ++ b ∷ []) ≡ 2 * number_from n bs
     + (if b then 1 else 0)
@@ -130,13 +129,12 @@ div_false : (b e : Bool) (u : State) → NextIs (if b then returns (true ∷ [])
 div_false true e u n is = let clash : true ≡ false = same_Some true e n ∙ is in absurd cc
 div_false false e u n is = refl
 
-pub branch_turned : (p : PieceData) (test : Test) (other : Operand) (t f : ℕ) (cond : Cond) (b : Bool) (cs : List Cond)
-    (fs : FactsView) → IsPiece p → (s : Standing p (Branch test other t f)) → IsEntry p (Branch test other t f) cond
-    → Narrows p cs cond b
+pub branch_turned : (p : PieceData) (test : Test) (other : Operand) (t f : ℕ) (b : Bool) (cs : List Cond)
+    (fs : FactsView) → IsPiece p → (s : Standing p (Branch test other t f)) → Meets p (Branch test other t f) cs b
     → Turned p (made p (p.name ++ b ∷ []) cs (record p.machine
     { place = p.machine.place + 1 + (if b then t else f) }) fs)
 unfolding is_member
-branch_turned p test other t f cond b cs fs h s e narrow =
+branch_turned p test other t f b cs fs h s narrow =
     let small : p.machine.place < 4096 = s.small in
     let none = pending s.stands.inside.pending in
     record {
@@ -154,9 +152,8 @@ branch_turned p test other t f cond b cs fs h s e narrow =
           (λ d inp member.
           let g = narrow d inp member in
           let r = passes test (value_of p.pool d p.machine.a.0) (operand_of (valued p.pool p.machine d) other) in
-          let next : slice_get (r ∷ []) 0 ≡ Some (is_met p.pool d cond) =
-          subst (λ (k : ℕ). slice_get (r ∷ []) k ≡ Some (is_met p.pool d cond)) none.0 (e.next d) in
-          let is : r ≡ b = same_Some r (is_met p.pool d cond) next ∙ g.1 in
+          let next : slice_get (r ∷ []) 0 ≡ Some b = subst (λ (k : ℕ). slice_get (r ∷ []) k ≡ Some b) none.0 g.1 in
+          let is : r ≡ b = same_Some r b next in
           (g.0, ap (λ (v : Bool). tested (valued p.pool p.machine d) v t f) is));
       nodes = same_nodes p (p.machine.place + 1 + (if b then t else f)) p.machine.taken p.machine.value h.nodes;
       zero_is = refl;
@@ -181,15 +178,14 @@ branch_turned p test other t f cond b cs fs h s e narrow =
         < 524288 * (length p.stack - p.machine.program) + 64 * (4096 - p.machine.place) + (33 - p.machine.taken)
     less n small = omega arith
 
-pub return_turned : (p : PieceData) (cond : Cond) (b : Bool) (cs : List Cond) (fs : FactsView) → IsPiece p
-    → (s : Standing p ReturnA) → IsEntry p ReturnA cond → Narrows p cs cond b
+pub return_turned : (p : PieceData) (b : Bool) (cs : List Cond) (fs : FactsView) → IsPiece p → (s : Standing p ReturnA)
+    → p.machine.taken < 32 → Meets p ReturnA cs b
     → Turned p (made p (p.name ++ b ∷ []) cs (record p.machine {
       taken = p.machine.taken + 1;
       value = 2 * p.machine.value + (if b then 1 else 0);
     }) fs)
 unfolding is_member
-return_turned p cond b cs fs h s e narrow =
-    let more : p.machine.taken < 32 = e.asks in
+return_turned p b cs fs h s more narrow =
     let len = pending s.stands.inside.pending in
     record {
       rest = s.code ∷ s.later;
@@ -205,8 +201,7 @@ return_turned p cond b cs fs h s e narrow =
           let one : suc p.machine.taken ≡ p.machine.taken + 1 = omega arith in (
             g.0,
             ap (λ (t : List Bool). t ++ b ∷ []) (taken_is p ReturnA s d inp g.0)
-                ∙ ap (λ (v : Bool). take p.machine.taken l ++ v ∷ []) (sym g.1)
-                ∙ sym (take_there l p.machine.taken (is_met p.pool d cond) (e.next d))
+                ∙ sym (take_there l p.machine.taken b g.1)
                 ∙ ap (λ (k : ℕ). take k l) one ∙ ap (λ (q : Progress). take (p.machine.taken + 1) (met_of q))
                 (sym (step_is s.code d (valued p.pool p.machine d) ReturnA s.at)),
           ));
@@ -230,13 +225,12 @@ div_pending p s none = by s.stands.inside.pending
         at_same s.code p.machine.place ReturnA (Alu Div X) q.0 s.at in absurd cc
     by (inr (inr q)) = absurd (omega (arith, q.1))
 
-pub zero_turned : (p : PieceData) (cond : Cond) (cs : List Cond) (fs : FactsView)
+pub zero_turned : (p : PieceData) (cs : List Cond) (fs : FactsView)
     → AreNodesBelow (length p.pool) (returned p.machine 0) → IsPiece p → (s : Standing p (Alu Div X))
-    → IsEntry p (Alu Div X) cond → Narrows p cs cond true
+    → p.machine.taken ≡ 0 → Meets p (Alu Div X) cs true
     → Turned p (made p (p.name ++ true ∷ []) cs (returned p.machine 0) fs)
 unfolding is_member
-zero_turned p cond cs fs nodes h s e narrow =
-    let none : p.machine.taken ≡ 0 = e.asks in
+zero_turned p cs fs nodes h s none narrow =
     let pre = div_pending p s none in
     let running : p.machine.program < length p.stack = s.running in
     record {
@@ -254,21 +248,19 @@ zero_turned p cond cs fs nodes h s e narrow =
             a = apply Div (value_of p.pool d p.machine.a.0) (value_of p.pool d p.machine.x.0);
           } in (
             g.0,
-            div_true (value_of p.pool d p.machine.x.0 == 0) (is_met p.pool d cond) u
-                (subst (λ (k : ℕ). NextIs (executed d (valued p.pool p.machine d) (Alu Div X)) k (is_met p.pool d cond))
-                none (e.next d)) g.1,
+            div_true (value_of p.pool d p.machine.x.0 == 0) true u
+                (subst (λ (k : ℕ). NextIs (executed d (valued p.pool p.machine d) (Alu Div X)) k true) none g.1) refl,
           ));
       nodes = nodes;
       zero_is = refl;
       falls = omega arith;
     }
 
-pub nonzero_turned : (p : PieceData) (cond : Cond) (cs : List Cond) (fs : FactsView) → IsPiece p
-    → (s : Standing p (Alu Div X)) → IsEntry p (Alu Div X) cond → Narrows p cs cond false
+pub nonzero_turned : (p : PieceData) (cs : List Cond) (fs : FactsView) → IsPiece p → (s : Standing p (Alu Div X))
+    → p.machine.taken ≡ 0 → Meets p (Alu Div X) cs false
     → Turned p (made p (p.name ++ false ∷ []) cs (record p.machine { taken = 1 }) fs)
 unfolding is_member
-nonzero_turned p cond cs fs h s e narrow =
-    let none : p.machine.taken ≡ 0 = e.asks in
+nonzero_turned p cs fs h s none narrow =
     let pre = div_pending p s none in
     let one : s.pre ++ false ∷ [] ≡ false ∷ [] = ap (λ (l : List Bool). l ++ false ∷ []) pre in
     record {
@@ -285,9 +277,8 @@ nonzero_turned p cond cs fs h s e narrow =
             a = apply Div (value_of p.pool d p.machine.a.0) (value_of p.pool d p.machine.x.0);
           } in (
             g.0,
-            one ∙ div_false (value_of p.pool d p.machine.x.0 == 0) (is_met p.pool d cond) u
-                (subst (λ (k : ℕ). NextIs (executed d (valued p.pool p.machine d) (Alu Div X)) k (is_met p.pool d cond))
-                none (e.next d)) g.1
+            one ∙ div_false (value_of p.pool d p.machine.x.0 == 0) false u
+                (subst (λ (k : ℕ). NextIs (executed d (valued p.pool p.machine d) (Alu Div X)) k false) none g.1) refl
                 ∙ ap (λ (q : Progress). take 1 (met_of q))
                 (sym (step_is s.code d (valued p.pool p.machine d) (Alu Div X) s.at)),
           ));

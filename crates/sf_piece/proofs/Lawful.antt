@@ -1,11 +1,15 @@
 -- Pieces stay lawful: the symbolic run stands where it should, and on a plain stack nothing is lost.
-use Rattle.std.proofs.Common.{◌≡◌, ℕ, zero, suc, ◌^◌, ◌<◌, Bool, List, [], ◌∷◌, ◌++◌, length, replicate, refl, sym, arith}
+use Rattle.std.proofs.Common.{◌≡◌, ℕ, zero, suc, ◌^◌, ◌<◌, Bool, List, [], ◌∷◌, ◌++◌, length, replicate, refl, sym, ap, ◌∙◌, arith}
 use Rattle.std.specs.Prelude.{slice_index, Option, Some, None, IfSome, MatchOption}
 use Rattle.std.proofs.lemmas.List.Elements.{All-nil}
 use Rattle.sf_insn.specs.declared.input.Input.{Input}
 use Rattle.sf_insn.specs.Inputs.{IsInput}
 use Rattle.sf_insn.specs.Words.{passes}
+use Rattle.sf_insn.specs.declared.ops.Test.{Test}
 use Rattle.sf_check.specs.declared.insn.Insn.{Insn}
+use Rattle.sf_check.specs.declared.insn.Operand.{Operand}
+use Rattle.sf_check.specs.declared.insn.Operand.TheVariants.{Constant}
+use Rattle.sf_run.specs.Machine.{operand_of}
 use Rattle.sf_check.specs.Stacks.{IsLawfulStack, IsPlain}
 use Rattle.sf_sym.specs.declared.pool.Node.{Node}
 use Rattle.sf_sym.specs.declared.pool.NodeId.{NodeId}
@@ -18,8 +22,8 @@ use Rattle.sf_dom.specs.Facts.{IsPlain as IsPlainCond}
 use Rattle.sf_piece.specs.declared.machine.Machine.{Machine}
 use Rattle.sf_piece.specs.Pieces.{PieceData, is_member}
 use Rattle.sf_piece.specs.PlainPieces.{IsPlainPiece}
-use Rattle.sf_piece.specs.SymbolicRun.{IsPiece, IsLawfulPiece}
-use Rattle.sf_piece.specs.Works.{Standing, Goes, ReturnsNow, IsEntry, IsImplied, AfterEntry, AreChildFacts, IsChild, IsNever, sensed}
+use Rattle.sf_piece.specs.SymbolicRun.{IsPiece, IsLawfulPiece, valued}
+use Rattle.sf_piece.specs.Works.{Standing, Goes, ReturnsNow, IsEntry, IsForeseen, PassesAlways, IsImplied, AfterEntry, AreChildFacts, IsChild, IsNever, sensed}
 use Rattle.sf_piece.specs.Machines.{returned}
 use Rattle.sf_piece.proofs.Kept.{gone, go_piece, return_piece}
 use Rattle.sf_piece.proofs.Children.{taken_on, take_piece, child_of, child_piece, child_is, piece_named}
@@ -39,10 +43,9 @@ pub lawful_returned : (p : PieceData) (i : Insn) (v : ℕ) → IsLawfulPiece p �
 lawful_returned p i v h s r = lawful (gone p (returned p.machine v)) (return_piece p i v h.run s r)
     (λ is. plain_kept p p.name (returned p.machine v) (h.plain is))
 
-pub lawful_taken : (p : PieceData) (i : Insn) (cond : Cond) (b : Bool) (m : Machine) → IsLawfulPiece p → Standing p i
-    → IsEntry p i cond → IsImplied p cond b → AfterEntry p i b m → IsLawfulPiece (taken_on p b m)
-lawful_taken p i cond b m h s e imp after =
-    lawful (taken_on p b m) (take_piece p i cond b m h.run s e imp after)
+pub lawful_taken : (p : PieceData) (i : Insn) (b : Bool) (m : Machine) → IsLawfulPiece p → Standing p i
+    → IsForeseen p i b → AfterEntry p i b m → IsLawfulPiece (taken_on p b m)
+lawful_taken p i b m h s fore after = lawful (taken_on p b m) (take_piece p i b m h.run s fore after)
     (λ is. plain_kept p (p.name ++ b ∷ []) m (h.plain is))
 
 pub lawful_child : (p : PieceData) (i : Insn) (cond : Cond) (b : Bool) (m : Machine) (fs : FactsView) → IsLawfulPiece p
@@ -60,6 +63,17 @@ pub implied_by_numbers : (p : PieceData) (cond : Cond) (m n : ℕ) (b : Bool) �
 implied_by_numbers p cond m n b h left right is d inp member =
     let known = h.known d inp member in
     passes-met p.pool d (sensed cond b) (rw (left d inp known, right d inp known) (sym is))
+
+-- what the facts tell of a test of A against a number
+pub foretold : (p : PieceData) (test : Test) (other : Operand) (n : ℕ) (o : Option Bool) → IsPiece p
+    → other ≡ Constant n
+    → IfSome o (λ b. (d : Input) → IsInput d → Agrees p.facts p.pool d
+    → passes test (value_of p.pool d p.machine.a.0) n ≡ b)
+    → IfSome o (λ b. PassesAlways p test other b)
+foretold p test other n None h e told = told
+foretold p test other n (Some b) h e told = λ d inp member.
+    ap (λ (r : Operand). passes test (value_of p.pool d p.machine.a.0) (operand_of (valued p.pool p.machine d) r)) e
+    ∙ told d inp (h.known d inp member)
 
 -- what is learnt from the piece's facts
 pub learnt_child : (p : PieceData) (cond : Cond) (b : Bool) (o : Option FactsView) → IsPiece p

@@ -154,6 +154,17 @@ pub record IsEntry (p : PieceData) (i : Insn) (cond : Cond) : Type 0 where
   pub next : (d : Input) → NextIs (executed d (valued p.pool p.machine d) i) p.machine.taken (is_met p.pool d cond)
   pub plain : IsPlain p.stack → IsPlainCond p.pool cond
 
+-- A passes a test against an operand, or doesn't, on every member
+abbrev pub PassesAlways : PieceData → Test → Operand → Bool → Type 0
+PassesAlways p test other b = (d : Input) → IsInput d → is_member p d ≡ true
+    → passes test (value_of p.pool d p.machine.a.0) (operand_of (valued p.pool p.machine d) other) ≡ b
+
+-- the next truth value is this on every member
+pub record IsForeseen (p : PieceData) (i : Insn) (b : Bool) : Type 0 where
+  pub asks : Asks p i
+  pub next : (d : Input) → IsInput d → is_member p d ≡ true
+      → NextIs (executed d (valued p.pool p.machine d) i) p.machine.taken b
+
 -- where the machine stands after it
 abbrev pub AfterEntry : PieceData → Insn → Bool → Machine → Type 0
 AfterEntry p (Branch test other t f) b m = m ≡ record p.machine { place = p.machine.place + 1 + (if b then t else f) }

@@ -1,10 +1,11 @@
 //! The instructions that may ask for a truth value of the trace.
 
-ghost use Rattle.std.specs.Prelude.{◌≡◌, ℕ, IfOk};
+ghost use Rattle.std.specs.Prelude.{◌≡◌, ℕ, IfOk, IfSome};
 ghost use Rattle.sf_piece.specs.SymbolicRun.{IsLawfulPiece};
-ghost use Rattle.sf_piece.specs.Works.{Standing, divides_at};
+ghost use Rattle.sf_piece.specs.Works.{Standing, PassesAlways, divides_at};
 ghost use Rattle.sf_piece.specs.Turns.{IsMet};
 
+use crate::entry::take;
 use crate::fault::Fault;
 use crate::nodes::{operand, push};
 use crate::run::Run;
@@ -21,6 +22,18 @@ fn asks_zero(op: BinOp, other: Operand, taken: usize) -> bool
     match (op, other) {
         (BinOp::Div, Operand::X) => taken == 0,
         _ => false,
+    }
+}
+
+/// Whether A passes a test on every member, where the facts tell it and nothing could be learnt from it. It is asked of a
+/// test against a number alone.
+fn foreseen(run: &Run, test: Test, other: Operand) -> Option<bool>
+    requires { IsLawfulPiece run.now }
+    ensures { IfSome result (λ b. PassesAlways run.now test other b) }
+{
+    match other {
+        Operand::Constant(number) => run.facts.told(&run.pool, run.machine.a, test, number),
+        Operand::X => None,
     }
 }
 
@@ -66,6 +79,10 @@ pub(crate) fn branch(
     requires is { (t : ℕ) × (f : ℕ) × (insn ≡ Insn.Branch test other t f) }
     ensures { IfOk result (IsMet run.old run.new) }
 {
+    if let Some(sense) = foreseen(run, test, other) {
+        take(run, insn, sense)?;
+        return Ok(Met::Done);
+    }
     let Some(right) = operand(alloc, run, other)? else {
         return Ok(Met::Contradiction);
     };
@@ -89,7 +106,12 @@ pub(crate) fn return_a(alloc: Global, run: &mut Run) -> Result<Met, Fault>
         give_back(run, Insn::ReturnA, value);
         return Ok(Met::Done);
     }
-    let Some(bit) = push(alloc, run, Node::Const(1 << (31 - taken as u32)))? else {
+    let number = 1 << (31 - taken as u32);
+    if let Some(sense) = foreseen(run, Test::AnyBit, Operand::Constant(number)) {
+        take(run, Insn::ReturnA, sense)?;
+        return Ok(Met::Done);
+    }
+    let Some(bit) = push(alloc, run, Node::Const(number))? else {
         return Ok(Met::Contradiction);
     };
     let cond = Cond {

@@ -1,12 +1,12 @@
 //! A truth value of the trace, taken as true, as false or as both.
 
-ghost use Rattle.std.specs.Prelude.{◌≡◌, ◌<◌, IfOk, IfSome, length, MatchOption};
+ghost use Rattle.std.specs.Prelude.{◌≡◌, ◌<◌, if◌then◌else◌, IfOk, IfSome, length, MatchOption};
 ghost use Rattle.std.specs.Arc.{arc_value};
 ghost use Rattle.sf_check.specs.Stacks.{IsPlain};
 ghost use Rattle.sf_sym.specs.Pool.{IsCondBelow, node_at};
 ghost use Rattle.sf_dom.specs.Facts.{IsPlain as IsPlainCond};
 ghost use Rattle.sf_piece.specs.SymbolicRun.{IsLawfulPiece};
-ghost use Rattle.sf_piece.specs.Works.{Standing, IsEntry, AfterEntry, IsChild, Asks, IsImplied, AreChildFacts, IsNever, HasOneValue, is_walked_back, settled_number_of, told_by_numbers};
+ghost use Rattle.sf_piece.specs.Works.{Standing, IsEntry, AfterEntry, HasGone, IsChild, IsForeseen, Asks, IsImplied, AreChildFacts, IsNever, HasOneValue, is_walked_back, settled_number_of, told_by_numbers};
 ghost use Rattle.sf_piece.specs.Turns.{IsTurn};
 
 use crate::fault::Fault;
@@ -34,6 +34,13 @@ pub(crate) enum Turn {
     Empty,
 }
 
+/// How many instructions a test skips.
+fn skipped(on_true: u8, on_false: u8, sense: bool) -> u8
+    ensures { result ≡ (if sense then on_true else on_false) }
+{
+    if sense { on_true } else { on_false }
+}
+
 /// Where the machine stands after the truth value.
 fn after(run: &Run, insn: Insn, sense: bool) -> Machine
     requires standing { Standing run.now insn }
@@ -43,9 +50,9 @@ fn after(run: &Run, insn: Insn, sense: bool) -> Machine
     let m = run.machine;
     match insn {
         Insn::Branch(_, _, on_true, on_false) => {
-            let skipped = if sense { on_true } else { on_false };
+            let next = skipped(on_true, on_false, sense);
             Machine {
-                place: m.place + 1 + skipped as usize,
+                place: m.place + 1 + next as usize,
                 ..m
             }
         }
@@ -65,18 +72,23 @@ fn after(run: &Run, insn: Insn, sense: bool) -> Machine
 }
 
 /// The truth value is this on every member: it goes into the name alone, and nothing is learnt from it.
-fn take(run: &mut Run, insn: Insn, cond: Cond, sense: bool) -> Result<Turn, Fault>
+pub(crate) fn take(run: &mut Run, insn: Insn, sense: bool) -> Result<(), Fault>
     requires lawful { IsLawfulPiece run.old }
     requires standing { Standing run.old insn }
-    requires entry { IsEntry run.old insn cond }
-    requires implied { IsImplied run.old cond sense }
-    ensures { IfOk result (IsTurn run.old run.new) }
+    requires foreseen { IsForeseen run.old insn sense }
+    ensures gone { IfOk result (λ _. HasGone run.old run.new) }
+    ensures lawful { IfOk result (λ _. IsLawfulPiece run.new) }
 {
-    let _cond = cond;
+    if let Insn::Branch(_, _, on_true, on_false) = insn {
+        let next = skipped(on_true, on_false, sense);
+        run.name.push(sense)?;
+        run.machine.place = run.machine.place + 1 + next as usize;
+        return Ok(());
+    }
     let to = after(run, insn, sense);
     run.name.push(sense)?;
     run.machine = to;
-    Ok(Turn::On)
+    Ok(())
 }
 
 /// The members on which the truth value is this.
@@ -173,16 +185,19 @@ fn decide(alloc: Global, run: &mut Run, insn: Insn, cond: Cond) -> Result<Turn, 
     ensures { IfOk result (IsTurn run.old run.new) }
 {
     if let Some(sense) = decided(run, cond) {
-        return take(run, insn, cond, sense);
+        take(run, insn, sense)?;
+        return Ok(Turn::On);
     }
     let Some(on_false) = learnt(alloc, run, cond, false)? else {
         let Some(_on_true) = learnt(alloc, run, cond, true)? else {
             return Ok(Turn::Empty);
         };
-        return take(run, insn, cond, true);
+        take(run, insn, true)?;
+        return Ok(Turn::On);
     };
     let Some(on_true) = learnt(alloc, run, cond, true)? else {
-        return take(run, insn, cond, false);
+        take(run, insn, false)?;
+        return Ok(Turn::On);
     };
     Ok(Turn::Split(
         child(alloc, run, insn, cond, false, on_false)?,

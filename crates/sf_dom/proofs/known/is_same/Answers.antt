@@ -3,7 +3,7 @@ use Rattle.std.specs.Bool.{Decides}
 use Rattle.std.proofs.lemmas.Bool.Decides.{Decides-eqb}
 use Rattle.sf_dom.specs.declared.known.Known.{Known}
 use Rattle.sf_dom.proofs.Rounds.{all_true}
-use Rattle.sf_dom.proofs.facts.is_same.Goals as goal
+use Rattle.sf_dom.proofs.known.is_same.Goals as goal
 
 known-decides : (a b : Known) → Decides (eqb a.low b.low
     && (eqb a.high b.high && (eqb a.zeros b.zeros && eqb a.ones b.ones))) (a ≡ b)

@@ -1,0 +1,34 @@
+use Rattle.std.proofs.Common.{arith, refl, sym, subst, ◌∙◌}
+use Rattle.sf_dom.specs.declared.known.Known.{Known}
+use Rattle.sf_dom.specs.Walks.{HandsOn}
+use Rattle.sf_dom.specs.Facts.{known_at}
+use Rattle.sf_dom.proofs.Backs.{walked-step, walked-end, walked-other}
+use Rattle.sf_dom.proofs.telling.are_walked_back.Goals as goal
+
+pub returns-in-None : goal.returns-in-None
+returns-in-None c = λ t.
+    let ks = c.args.nodes.now.known in
+    let ns = c.args.pool.now in
+    let o = c.in-Some in
+    c.loop-op.invariant.back (walked-other ks ns c.loop-op.at o.x o.c o.op (sym o.ensures.told)
+    (c.back.ensures.none c.in-None.is))
+
+pub loop-op-preserved : goal.loop-op-preserved
+loop-op-preserved c =
+    let ks = c.args.nodes.now.known in
+    let ns = c.args.pool.now in
+    let o = c.in-Some in
+    let within = c.loop-op.invariant.within in
+    let same = c.if-not-is_same.ensures.0 refl in
+    let told = rw c.get.ensures at c.in-Some-back.ensures.told in
+    let hands : HandsOn o.op o.c (known_at ks c.loop-op.at) (known_at ks o.x) =
+    subst (λ (k : Known). HandsOn o.op o.c (known_at ks c.loop-op.at) k) (same ∙ c.get-operand.ensures) told in
+    record {
+      within = omega (arith, o.ensures.smaller);
+      back = λ more. c.loop-op.invariant.back (walked-step ks ns c.loop-op.at o.x o.c o.op
+          (sym o.ensures.told) hands more);
+    }
+
+pub returns : goal.returns
+returns c = λ t. c.loop-op.invariant.back (walked-end c.args.nodes.now.known c.args.pool.now c.loop-op.at
+    (sym c.in_default.ensures.told))

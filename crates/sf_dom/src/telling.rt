@@ -1,0 +1,173 @@
+//! What is known of a node tells whether it passes a test against a number, and nothing could be learnt from that.
+
+ghost use Rattle.std.specs.Prelude.{◌≡◌, ◌≢◌, ℕ, ◌<◌, ◌≤◌, ◌-◌, length, Contains, MatchBool, IfSome, IsTrue, bit_and, true, false};
+ghost use Rattle.sf_insn.specs.Inputs.{IsInput};
+ghost use Rattle.sf_insn.specs.declared.input.Input.{Input};
+ghost use Rattle.sf_sym.specs.declared.pool.Node.{Node as ANode};
+ghost use Rattle.sf_sym.specs.Pool.{OperandsBelow, node_at, value_of};
+ghost use Rattle.sf_dom.specs.Known.{Admits, HasBits};
+ghost use Rattle.sf_dom.specs.Rules.{Gives};
+ghost use Rattle.sf_dom.specs.Walks.{IsWalkedBack};
+ghost use Rattle.sf_dom.specs.Facts.{known_at, excluded_of, AgreesWith};
+
+use crate::exclusions::Exclusions;
+use crate::known::{Known, is_same};
+use crate::nodes::Nodes;
+use crate::settle::{back, constant_operand};
+use sf_insn::Test;
+use sf_sym::{Node, NodeId, Pool};
+
+/// Whether a word equals a number, where its interval tells it.
+fn told_equal(known: Known, number: u32) -> Option<bool>
+    ensures { IfSome result (λ b. (x : ℕ) → Admits known x → Gives Test.Equal x number b) }
+{
+    if number < known.low || known.high < number {
+        return Some(false);
+    }
+    if known.low == known.high {
+        return Some(true);
+    }
+    None
+}
+
+/// Whether a word is greater than a number, where its interval tells it.
+fn told_greater(known: Known, number: u32) -> Option<bool>
+    ensures { IfSome result (λ b. (x : ℕ) → Admits known x → Gives Test.Greater x number b) }
+{
+    if number < known.low {
+        return Some(true);
+    }
+    if known.high <= number {
+        return Some(false);
+    }
+    None
+}
+
+/// Whether a word is at least a number, where its interval tells it.
+fn told_at_least(known: Known, number: u32) -> Option<bool>
+    ensures { IfSome result (λ b. (x : ℕ) → Admits known x → Gives Test.GreaterOrEqual x number b) }
+{
+    if number <= known.low {
+        return Some(true);
+    }
+    if known.high < number {
+        return Some(false);
+    }
+    None
+}
+
+/// Whether a word has a common bit with a number, where its known bits tell it.
+fn told_common(known: Known, number: u32) -> Option<bool>
+    ensures { IfSome result (λ b. (x : ℕ) → Admits known x → Gives Test.AnyBit x number b) }
+{
+    if known.ones & number != 0 {
+        return Some(true);
+    }
+    if number & !known.zeros == 0 {
+        return Some(false);
+    }
+    None
+}
+
+/// Whether a word passes a test against a number, where its interval and known bits tell it. They are tight, so a result
+/// that they tell moves no end and adds no bit, and the other one leaves no number.
+fn told_by(known: Known, test: Test, number: u32) -> Option<bool>
+    ensures { IfSome result (λ b. (x : ℕ) → Admits known x → Gives test x number b) }
+{
+    match test {
+        Test::Equal => told_equal(known, number),
+        Test::Greater => told_greater(known, number),
+        Test::GreaterOrEqual => told_at_least(known, number),
+        Test::AnyBit => told_common(known, number),
+    }
+}
+
+/// Whether a number is excluded for a node.
+fn is_excluded(excluded: &[Exclusions], node: Node, number: u32) -> bool
+    requires words { length excluded.now ≡ 16 }
+    requires word { (i : ℕ) → node ≡ Node.Word i → i < 16 }
+    ensures { IsTrue result → Contains (excluded_of excluded.now node) number }
+{
+    match node {
+        Node::Word(i) => excluded[i as usize].has(number),
+        _ => false,
+    }
+}
+
+/// Whether the known bits of a node are known of its operand, through a constant, and so on: none would go back.
+fn are_walked_back(nodes: &Nodes, pool: &Pool, from: usize) -> bool
+    requires count { length nodes.now.known ≡ length pool.now }
+    requires start { from < length pool.now }
+    ensures { IsTrue result → (n : ℕ) → IsWalkedBack n nodes.now.known pool.now from }
+{
+    let mut at = from;
+    while let Some((op, x, c)) = constant_operand(pool, at) {
+        let operand = nodes.get(x);
+        match back(op, nodes.get(at), c, operand) {
+            None => return true,
+            Some(gained) => {
+                if !is_same(gained, operand) {
+                    return false;
+                }
+            }
+        }
+        at = x;
+    }
+    true
+}
+
+/// Whether a node passes a test against a number on every input that agrees, where what is known of it alone tells that.
+fn told_at(
+    nodes: &Nodes,
+    excluded: &[Exclusions],
+    pool: &Pool,
+    at: usize,
+    test: Test,
+    number: u32,
+) -> Option<bool>
+    requires count { length nodes.now.known ≡ length pool.now }
+    requires words { length excluded.now ≡ 16 }
+    requires place { at < length pool.now }
+    ensures { IfSome result (λ b. (d : Input) → IsInput d
+        → AgreesWith nodes.now.known excluded.now pool.now d
+        → Gives test (value_of pool.now d at) number b) }
+{
+    if let Some(sense) = told_by(nodes.get(at), test, number) {
+        return Some(sense);
+    }
+    match test {
+        Test::Equal => {
+            if is_excluded(excluded, pool.node(NodeId(at)), number) {
+                Some(false)
+            } else {
+                None
+            }
+        }
+        _ => None,
+    }
+}
+
+/// Whether a node passes a test against a number on every input that agrees, where that is told by what is known of it and
+/// nothing could be learnt from it: one result leaves the node no number, and the other changes nothing that is known.
+pub fn told_of(
+    nodes: &Nodes,
+    excluded: &[Exclusions],
+    pool: &Pool,
+    at: usize,
+    test: Test,
+    number: u32,
+) -> Option<bool>
+    requires count { length nodes.now.known ≡ length pool.now }
+    requires words { length excluded.now ≡ 16 }
+    requires place { at < length pool.now }
+    ensures told { IfSome result (λ b. (d : Input) → IsInput d
+        → AgreesWith nodes.now.known excluded.now pool.now d
+        → Gives test (value_of pool.now d at) number b) }
+    ensures walked { IfSome result (λ b. (n : ℕ) → IsWalkedBack n nodes.now.known pool.now at) }
+{
+    let sense = told_at(nodes, excluded, pool, at, test, number)?;
+    if !are_walked_back(nodes, pool, at) {
+        return None;
+    }
+    Some(sense)
+}
