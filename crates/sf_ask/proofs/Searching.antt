@@ -129,15 +129,15 @@ region-right s place q r Doubt there right asked found =
     λ d low h. found d h.member.input low (in-piece s place r d there h.member)
 
 pub region-tried : (s : BookData) (place : ℕ) (q : Asked) (r : RegionData) (v : Verdict)
-    → slice_get s.regions place ≡ Some r → IsRightVerdict s place q v → TellsTried r.piece q v
-    → TellsTriedAt s place q v
-region-tried s place q r Clear there right least = tt
-region-tried s place q r (Hit d) there right least = record {
+    → slice_get s.regions place ≡ Some r → has_action q.actions r.answer.action ≡ true → IsRightVerdict s place q v
+    → TellsTried r.piece q v → TellsTriedAt s place q v
+region-tried s place q r Clear there asked right least = tt
+region-tried s place q r (Hit d) there asked right least = record {
   breaks = right;
   least = λ other member inside. least other member.input (in-piece s place r other there member) inside;
 }
-region-tried s place q r Doubt there right doubt =
-    record { region = r; there = there; tried = doubt.0; is = doubt.1; outside = doubt.2 }
+region-tried s place q r Doubt there asked right doubt =
+    record { region = r; there = there; asked = asked; tried = doubt.0; is = doubt.1; outside = doubt.2 }
 
 pub if-ok : (P Q : Verdict → Type 0) (result : Result Verdict Fault) → ((v : Verdict) → P v → Q v)
     → IfOk result P → IfOk result Q

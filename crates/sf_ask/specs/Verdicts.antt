@@ -8,6 +8,7 @@ use Rattle.sf_ask.specs.declared.verdict.Verdict.{Verdict}
 use Rattle.sf_ask.specs.declared.verdict.Verdict.TheVariants.{Clear, Hit, Doubt}
 use Rattle.sf_ask.specs.declared.verdict.Reply.{Reply}
 use Rattle.sf_ask.specs.declared.verdict.Reply.TheVariants.{Never, Allowed, Unsettled}
+use Rattle.sf_ask.specs.Actions.{has_action}
 use Rattle.sf_ask.specs.Asked.{Asked}
 use Rattle.sf_ask.specs.Breaking.{IsNumberOf, IsInQuestion, Breaks}
 use Rattle.sf_ask.specs.Trying.{IsTried}
@@ -54,10 +55,11 @@ pub record IsPlainExample (s : BookData) (place : ℕ) (q : Asked) (d : Input) :
   pub least : (other : Input) → IsMemberAt s place other → IsInQuestion q other → (word : ℕ) → word < 16
       → slice_index d.words word ≤ slice_index other.words word
 
--- the region at a place is in doubt: an input that was tried isn't a member of it
+-- the region at a place is in doubt: its action is asked about, and an input that was tried isn't a member of it
 pub record IsDoubtful (s : BookData) (place : ℕ) (q : Asked) : Type 0 where
   pub region : RegionData
   pub there : slice_get s.regions place ≡ Some region
+  pub asked : has_action q.actions region.answer.action ≡ true
   pub tried : Input
   pub is : IsTried region.piece q tried
   pub outside : is_member region.piece tried ≡ false

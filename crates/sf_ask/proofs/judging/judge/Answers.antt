@@ -29,6 +29,7 @@ returns-clause-tried c =
     let r = c.region-settled_region.result.now in
     if-both-ok (IsRightVerdict s c.args.region q) (TellsTried r.piece q)
     (TellsTriedAt s c.args.region q) c.search.result
-    (λ v. region-tried s c.args.region q r v c.region-settled_region.ensures.value)
+    (λ v. region-tried s c.args.region q r v c.region-settled_region.ensures.value
+    (rw (c.actions.ensures, c.answer.ensures) at (sym c.has.ensures ∙ c.if-not-has.false)))
     (returns-clause-right c)
     (rw (c.deref.ensures, c.piece.ensures) at c.search.ensures.tried)
