@@ -57,7 +57,7 @@ policy_asked view (Err e) known text read none agrees = tt
 pub policy_refused : {X : Type 0} (view : X → List Asked) (r : Result X Fault) (known : Option (List ℕ)) (text : List ℕ)
     → ((tree : Members) → parse_document text ≡ Some tree → Gives view r (policy_of tree))
     → (parse_document text ≡ None → (r ≡ Err faults.Syntax) ⊎ (r ≡ Err faults.Memory)) → AgreesWith known text
-    → IfErr r (λ e. (e ≡ faults.Read) ⊎ (e ≡ faults.Memory) ⊎ RefusesPolicyFile known e)
+    → IfErr r (λ e. ((e ≡ faults.Read) × (known ≡ None)) ⊎ (e ≡ faults.Memory) ⊎ RefusesPolicyFile known e)
 policy_refused view (Ok x) known text read none agrees = tt
 policy_refused view (Err e) known text read none agrees = elim (option_cases (parse_document text)) [
   | inl h ↦ elim (none h) [

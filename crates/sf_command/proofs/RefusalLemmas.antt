@@ -1,12 +1,13 @@
 -- Why an audit of files is refused.
-use Rattle.std.proofs.Common.{◌≡◌, ◌⊎◌, inl, inr, ℕ, List, Option, Bor, Result, Ok, Err, sym, subst}
+use Rattle.std.proofs.Common.{◌≡◌, ◌⊎◌, ◌∙◌, inl, inr, ℕ, List, None, Option, Bor, Result, Ok, Err, sym, subst}
+use Rattle.std.specs.Prelude.{slice_get, Some}
 use Rattle.std.specs.Result.{IfErr, IsErrAnd}
 use Rattle.sf_ask.specs.Asked.{Asked}
 use Rattle.sf_audit.specs.declared.fault.Fault.{Fault}
 use Rattle.sf_audit.specs.declared.fault.Fault.TheVariants.{Foreign, Memory, Read}
 use Rattle.sf_audit.specs.Audits.{IsAuditRefusal}
 use Rattle.sf_command.specs.Audits.{IsPolicyFile, RefusesAudit, RefusesPolicyFile}
-use Rattle.sf_command.specs.Files.{AreRead}
+use Rattle.sf_command.specs.Files.{AreRead, HasUnknown}
 
 -- what holds of an error holds of the one that is handed on
 pub handed_on : {T E : Type 0} (P : E → Type 0) (r : Result T E) (e : E) → IsErrAnd r (λ y. y ≡ e) → P e → IfErr r P
@@ -15,10 +16,28 @@ handed_on P (Err y) e same why = subst P (sym same) why
 
 -- the file of the policy is refused
 pub policy_why : (holds : List ℕ → Option (List ℕ)) (policy : List ℕ) (paths : List (Bor (List ℕ))) (e : Fault)
-    → (e ≡ Read) ⊎ (e ≡ Memory) ⊎ RefusesPolicyFile (holds policy) e → RefusesAudit holds policy paths e
-policy_why holds policy paths e (inl read) = inl read
+    → ((e ≡ Read) × (holds policy ≡ None)) ⊎ (e ≡ Memory) ⊎ RefusesPolicyFile (holds policy) e
+    → RefusesAudit holds policy paths e
+policy_why holds policy paths e (inl read) = inl (read.0, inl read.1)
 policy_why holds policy paths e (inr (inl memory)) = inr (inr (inl memory))
 policy_why holds policy paths e (inr (inr why)) = inr (inr (inr (inr (inl why))))
+
+-- the file at a path can't be read
+pub read_why : (before after : List ℕ → Option (List ℕ)) (paths : List (Bor (List ℕ))) (n : ℕ) (path : Bor (List ℕ))
+    (e : Fault) → ((p : List ℕ) → after p ≡ before p) → slice_get paths n ≡ Some path
+    → ((e ≡ Read) × (after path.now ≡ None)) ⊎ (e ≡ Memory)
+    → ((e ≡ Read) × HasUnknown before paths) ⊎ (e ≡ Memory)
+read_why before after paths n path e same at (inl (read, none)) =
+    inl (read, n, path, at, sym (same path.now) ∙ none)
+read_why before after paths n path e same at (inr memory) = inr memory
+
+-- a file of a filter can't be read
+pub filters_why : (before after : List ℕ → Option (List ℕ)) (policy : List ℕ) (paths : List (Bor (List ℕ))) (e : Fault)
+    → ((p : List ℕ) → after p ≡ before p) → ((e ≡ Read) × HasUnknown after paths) ⊎ (e ≡ Memory)
+    → RefusesAudit before policy paths e
+filters_why before after policy paths e same (inl (read, n, path, at, none)) =
+    inl (read, inr (n, path, at, sym (same path.now) ∙ none))
+filters_why before after policy paths e same (inr memory) = inr (inr (inl memory))
 
 -- the audit of what the files hold is refused
 pub audit_why : (holds : List ℕ → Option (List ℕ)) (policy : List ℕ) (paths : List (Bor (List ℕ)))

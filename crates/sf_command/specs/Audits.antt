@@ -12,7 +12,7 @@ use Rattle.sf_audit.specs.Policies.{policy_of}
 use Rattle.sf_audit.specs.Outcomes.{Found}
 use Rattle.sf_audit.specs.Audits.{IsAudit, IsAuditRefusal}
 use Rattle.sf_audit.specs.Reports.{report_text}
-use Rattle.sf_command.specs.Files.{AgreesWith, AreRead}
+use Rattle.sf_command.specs.Files.{AgreesWith, AreRead, HasUnknown}
 use Rattle.sf_command.specs.Status.{replies_status}
 
 -- the bytes are a policy with these questions
@@ -46,12 +46,13 @@ pub record AuditsFiles (holds : List ℕ → Option (List ℕ)) (policy : List �
   pub written : Appends old new (report_text found regions)
   pub told : status ≡ replies_status found.replies
 
--- Why an audit is refused, after the file of the policy and then those of the filters were read: reading, writing or
--- memory failed, or the workers left another exploration's book; the policy file is no policy; or the audit of what the
--- files hold is refused.
+-- Why an audit is refused, after the file of the policy and then those of the filters were read: one of these, which
+-- isn't known, can't be read; writing or memory failed, or the workers left another exploration's book; the policy file
+-- is no policy; or the audit of what the files hold is refused.
 abbrev pub RefusesAudit : (List ℕ → Option (List ℕ)) → List ℕ → List (Bor (List ℕ)) → Fault → Type 0
 RefusesAudit holds policy paths fault =
-    (fault ≡ Read) ⊎ (fault ≡ Write) ⊎ (fault ≡ Memory) ⊎ (fault ≡ Foreign) ⊎ RefusesPolicyFile (holds policy) fault
+    ((fault ≡ Read) × ((holds policy ≡ None) ⊎ HasUnknown holds paths))
+    ⊎ (fault ≡ Write) ⊎ (fault ≡ Memory) ⊎ (fault ≡ Foreign) ⊎ RefusesPolicyFile (holds policy) fault
     ⊎ ((questions : List Asked) × (files : List (List ℕ)) × IsPolicyFile (holds policy) questions
     × AreRead holds paths files
     × IsAuditRefusal files questions fault)

@@ -1,5 +1,5 @@
 -- Files by their paths.
-use Rattle.std.specs.Prelude.{◌≡◌, ℕ, List, Option, Some, None}
+use Rattle.std.specs.Prelude.{◌≡◌, ℕ, List, Option, Some, None, slice_get}
 use Rattle.std.specs.Borrow.{Bor}
 use Rattle.sf_command.specs.Pairs.{Pairwise}
 
@@ -11,3 +11,8 @@ AgreesWith (Some known) bytes = bytes ≡ known
 -- the bytes are those of the files at the paths, path by path
 abbrev pub AreRead : (List ℕ → Option (List ℕ)) → List (Bor (List ℕ)) → List (List ℕ) → Type 0
 AreRead holds paths files = Pairwise (λ path file. AgreesWith (holds path.now) file) paths files
+
+-- one of the paths is that of a file whose bytes aren't known: it may be that it can't be read
+abbrev pub HasUnknown : (List ℕ → Option (List ℕ)) → List (Bor (List ℕ)) → Type 0
+HasUnknown holds paths =
+    (n : ℕ) × (path : Bor (List ℕ)) × (slice_get paths n ≡ Some path) × (holds path.now ≡ None)

@@ -11,7 +11,7 @@ use Rattle.sf_run.specs.Answers.{Answers}
 use Rattle.sf_audit.specs.declared.fault.Fault.{Fault}
 use Rattle.sf_audit.specs.declared.fault.Fault.TheVariants.{Input as InputFault, Memory, Read, Write}
 use Rattle.sf_audit.specs.Filters.{IsFirstRefusal, SpellStack}
-use Rattle.sf_command.specs.Files.{AreRead}
+use Rattle.sf_command.specs.Files.{AreRead, HasUnknown}
 use Rattle.sf_command.specs.Texts.{check_text}
 use Rattle.sf_command.specs.Traces.{eval_text}
 
@@ -38,12 +38,12 @@ EvaluatesFiles digits traced brief holds paths old new =
     (input : Input) × (files : List (List ℕ)) × (decode_sized digits 64 ≡ Ok (input_bytes input))
     × AreRead holds paths files × WritesAnswer files input traced brief old new
 
--- Why the files at the paths are refused: one can't be read, or else all were read and make no lawful stack. Want of
--- memory can come at any time.
+-- Why the files at the paths are refused: one, which isn't known, can't be read, or else all were read and make no
+-- lawful stack. Want of memory can come at any time.
 abbrev pub RefusesFiles : (List ℕ → Option (List ℕ)) → List (Bor (List ℕ)) → Fault → Type 0
 RefusesFiles holds paths fault =
-    (fault ≡ Read) ⊎ (fault ≡ Memory) ⊎ ((files : List (List ℕ)) × AreRead holds paths files
-    × IsFirstRefusal files fault)
+    ((fault ≡ Read) × HasUnknown holds paths) ⊎ (fault ≡ Memory)
+    ⊎ ((files : List (List ℕ)) × AreRead holds paths files × IsFirstRefusal files fault)
 
 -- why `check` is refused
 abbrev pub RefusesCheck : (List ℕ → Option (List ℕ)) → List (Bor (List ℕ)) → Fault → Type 0

@@ -1,6 +1,6 @@
 //! What `audit` does.
 
-ghost use Rattle.std.specs.Prelude.{◌≡◌, ◌<◌, ◌≤◌, ◌⊎◌, ℕ, List, IfOk, IfErr};
+ghost use Rattle.std.specs.Prelude.{◌≡◌, ◌<◌, ◌≤◌, ◌⊎◌, ℕ, List, None, IfOk, IfErr};
 ghost use Rattle.sf_audit.specs.Faults.{fault_number};
 ghost use Rattle.sf_audit.specs.declared.fault.Fault.TheVariants.{Memory as MemoryFault, Read as ReadFault};
 ghost use Rattle.sf_command.specs.Audits.{AuditsFiles, IsPolicyFile, RefusesAudit, RefusesPolicyFile};
@@ -37,8 +37,8 @@ fn questions_in<F: Files>(
     notes: &mut Notes,
 ) -> Result<Vec<Question>, Fault>
     ensures asked { IfOk result (λ v. IsPolicyFile (F.holds files.old path.now) v.items) }
-    ensures refused { IfErr result (λ e. (e ≡ ReadFault) ⊎ (e ≡ MemoryFault)
-        ⊎ RefusesPolicyFile (F.holds files.old path.now) e) }
+    ensures refused { IfErr result (λ e. ((e ≡ ReadFault) × (F.holds files.old path.now ≡ None))
+        ⊎ (e ≡ MemoryFault) ⊎ RefusesPolicyFile (F.holds files.old path.now) e) }
     ensures same { (p : List ℕ) → F.holds files.new p ≡ F.holds files.old p }
 {
     let bytes = files.read(path)?;

@@ -1,7 +1,7 @@
 //! Where files come from.
 
-ghost use Rattle.std.specs.Prelude.{◌≡◌, ◌⊎◌, ◌≤◌, ℕ, List, length, map, IfOk, IfErr};
-ghost use Rattle.sf_command.specs.Files.{AgreesWith, AreRead};
+ghost use Rattle.std.specs.Prelude.{◌≡◌, ◌⊎◌, ◌≤◌, ℕ, List, None, length, map, IfOk, IfErr};
+ghost use Rattle.sf_command.specs.Files.{AgreesWith, AreRead, HasUnknown};
 ghost use Rattle.sf_audit.specs.declared.fault.Fault.TheVariants.{Memory, Read};
 
 use crate::explaining::Notes;
@@ -16,7 +16,7 @@ pub const MOST_BYTES: usize = 0x100000;
 pub trait Files {
     ghost use Rattle.std.specs.Prelude.{List, ℕ, Option, None};
 
-    // The bytes of the file at a path, where they are known.
+    // The bytes of the file at a path, where they are known: it can be read then.
     ghost holds: { Self → List ℕ → Option (List ℕ) } = { λ _ _. None };
 
     /// The bytes of the file at a path. `Read` where it can't be read or has more than `MOST_BYTES`, `Memory` where a
@@ -24,7 +24,8 @@ pub trait Files {
     fn read(&mut self, path: &str) -> Result<Vec<u8>, Fault>
         ensures bytes { IfOk result (λ v. AgreesWith (holds self.old path.now) v.items) }
         ensures few { IfOk result (λ v. length v.items ≤ 0x100000) }
-        ensures refused { IfErr result (λ e. (e ≡ Read) ⊎ (e ≡ Memory)) }
+        ensures refused { IfErr result (λ e. ((e ≡ Read) × (holds self.old path.now ≡ None))
+            ⊎ (e ≡ Memory)) }
         ensures same { (p : List ℕ) → holds self.new p ≡ holds self.old p };
 
     /// Why the last file was refused, in the system's words, or nothing where they aren't known. It is for a person, so
@@ -42,7 +43,8 @@ pub fn read_all<F: Files>(
 ) -> Result<Vec<Vec<u8>>, Fault>
     ensures read { IfOk result (λ v. AreRead (F.holds files.old) paths.now
         (map (λ f. f.items) v.items)) }
-    ensures refused { IfErr result (λ e. (e ≡ Read) ⊎ (e ≡ Memory)) }
+    ensures refused { IfErr result (λ e. ((e ≡ Read)
+        × HasUnknown (F.holds files.old) paths.now) ⊎ (e ≡ Memory)) }
 {
     let mut read = Vec::new(alloc);
     for path in paths {
