@@ -1,5 +1,5 @@
-//! What gates see of two and more workers: whose calls come and how they are numbered, and that no call waits for one
-//! that is held.
+//! What gates see of two and more workers: whose calls come and how they are numbered, that as many work as are asked for,
+//! and that no call waits for one that is held.
 use crate::kit::{anything, counts};
 use samples::{low_bits, stack_of};
 use sf_ask::Reply;
@@ -252,5 +252,137 @@ fn no_call_comes_before_the_first_has_gone(rt: HostRuntime) -> Result<(), Fail> 
         assert_eq!(rt; gate.early.load(Ordering::SeqCst), 0);
         assert_eq!(rt; gate.strays.load(Ordering::SeqCst), 0);
     }
+    Ok(())
+}
+
+/// Lets the first calls of all through, and then holds each call until each of four workers has made one more.
+#[derive(Drop)]
+struct Gathering {
+    free: usize,
+    begun: AtomicUsize,
+    come: [AtomicUsize; 4],
+    /// Calls under another number than 0 to 3.
+    strays: AtomicUsize,
+    /// Calls for which not all the others came.
+    lonely: AtomicUsize,
+}
+
+impl Gathering {
+    fn after(free: usize) -> Gathering {
+        Gathering {
+            free,
+            begun: AtomicUsize::new(0),
+            come: [
+                AtomicUsize::new(0),
+                AtomicUsize::new(0),
+                AtomicUsize::new(0),
+                AtomicUsize::new(0),
+            ],
+            strays: AtomicUsize::new(0),
+            lonely: AtomicUsize::new(0),
+        }
+    }
+
+    fn hold(&self) {
+        for come in &self.come {
+            if self.lonely.load(Ordering::SeqCst) == 0 && !is_reached(come, 1) {
+                add_one(&self.lonely);
+            }
+        }
+    }
+
+    /// The strays, and the lonely ones.
+    fn seen(&self) -> [usize; 2] {
+        [
+            self.strays.load(Ordering::SeqCst),
+            self.lonely.load(Ordering::SeqCst),
+        ]
+    }
+}
+
+impl Gate for Gathering {
+    fn pass(&self, worker: usize, _call: usize) {
+        let Some(mine) = self.come.get(worker) else {
+            add_one(&self.strays);
+            return;
+        };
+        if add_one(&self.begun) > self.free {
+            add_one(mine);
+            self.hold();
+        }
+    }
+}
+
+/// Whichever seven works came first, four pieces or more are left then.
+#[test]
+fn four_workers_have_a_piece_and_then_a_region_each_at_once(rt: HostRuntime) -> Result<(), Fail> {
+    let alloc = rt.alloc();
+    let gate = Gathering::after(7);
+    let settled = sixteen(&rt, alloc, 31, 4, &gate)?;
+    assert_eq!(rt; settled.counts(), counts(0, 16, 0, 15, 31));
+    assert_eq!(rt; gate.seen(), [0, 0]);
+    let gate = Gathering::after(0);
+    let replies = sweep(&rt, alloc, &settled, &[anything(alloc)?], 4, &gate)?;
+    assert_eq!(rt; replies.first(), Some(&Reply::Never));
+    assert_eq!(rt; gate.seen(), [0, 0]);
+    Ok(())
+}
+
+/// Lets the first call of all through, and the next one of the same worker, and then holds each call until each of three
+/// workers has made one. So the other two find their leases on the bench of that worker alone.
+#[derive(Drop)]
+struct OneBench {
+    begun: AtomicUsize,
+    first: AtomicUsize,
+    come: [AtomicUsize; 3],
+    failed: AtomicUsize,
+}
+
+impl OneBench {
+    fn is_free(&self, worker: usize, call: usize) -> bool {
+        if add_one(&self.begun) == 1 {
+            self.first.store(worker, Ordering::SeqCst);
+            return true;
+        }
+        call == 2 && self.first.load(Ordering::SeqCst) == worker
+    }
+}
+
+impl Gate for OneBench {
+    fn pass(&self, worker: usize, call: usize) {
+        let Some(mine) = self.come.get(worker) else {
+            add_one(&self.failed);
+            return;
+        };
+        add_one(mine);
+        if self.is_free(worker, call) {
+            return;
+        }
+        for come in &self.come {
+            if self.failed.load(Ordering::SeqCst) == 0 && !is_reached(come, 1) {
+                add_one(&self.failed);
+            }
+        }
+    }
+}
+
+/// A worker that is held has an empty bench: so each of the two others steals from the first one, whichever stands next
+/// to it.
+#[test]
+fn two_workers_steal_from_a_third(rt: HostRuntime) -> Result<(), Fail> {
+    let alloc = rt.alloc();
+    let gate = OneBench {
+        begun: AtomicUsize::new(0),
+        first: AtomicUsize::new(0),
+        come: [
+            AtomicUsize::new(0),
+            AtomicUsize::new(0),
+            AtomicUsize::new(0),
+        ],
+        failed: AtomicUsize::new(0),
+    };
+    let settled = sixteen(&rt, alloc, 31, 3, &gate)?;
+    assert_eq!(rt; settled.counts(), counts(0, 16, 0, 15, 31));
+    assert_eq!(rt; gate.failed.load(Ordering::SeqCst), 0);
     Ok(())
 }
