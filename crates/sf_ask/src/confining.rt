@@ -25,8 +25,11 @@ fn misses(facts: &Facts, question: &Question, word: usize) -> bool
     ensures { result ≡ true → (pool : List ANode) → Covers facts.now pool
         → NonePasses facts.now pool (IsInQuestion question.now) }
 {
-    let known = facts.known(NodeId(word));
     let (low, high) = question.range(word);
+    if low == 0 && high == u32::MAX {
+        return false;
+    }
+    let known = facts.known(NodeId(word));
     known.high < low || high < known.low
 }
 

@@ -107,8 +107,7 @@ fn child(
     ensures { IfOk result (λ c. IsChild run.now cond sense (arc_value c)) }
 {
     let to = after(run, insn, sense);
-    let mut longer = run.name.fork(alloc)?;
-    longer.push(sense)?;
+    let longer = run.name.with(alloc, sense)?;
     let mut conditions = run.conditions.fork()?;
     conditions.push(Cond { sense, ..cond })?;
     let next = Run {

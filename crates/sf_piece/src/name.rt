@@ -82,6 +82,15 @@ impl Name {
         })
     }
 
+    /// The name with one truth value more. `AllocError` where a growth is refused, or at 2^32 - 1 truth values.
+    pub(crate) fn with(&self, alloc: Global, entry: bool) -> Result<Name, AllocError>
+        ensures { IfOk result (λ n. n ≡ self.now ++ entry ∷ []) }
+    {
+        let mut longer = self.fork(alloc)?;
+        longer.push(entry)?;
+        Ok(longer)
+    }
+
     /// How two names compare: false is before true, and a name before what goes on from it.
     pub(crate) fn order(&self, other: &Name) -> Ordering
         ensures { result ≡ slice_cmp bool_cmp self.now other.now }
