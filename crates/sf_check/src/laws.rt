@@ -7,20 +7,16 @@ ghost use Rattle.sf_check.specs.declared.fault.Fault.{Fault};
 ghost use Rattle.sf_check.specs.Programs.{IsLawful, Spells, SpellsProgram};
 ghost use Rattle.sf_check.specs.Refusals.{IsFirstFault};
 
-use sf_insn::laws::one_spelling;
-
 /// Instructions spell at most one program.
 pub fn one_program()
     ensures { (raws : List RawInsn) (a b : List Insn) → Spells raws a → Spells raws b → a ≡ b }
 {}
 
-/// The bytes of a filter file spell at most one lawful program.
-pub fn one_program_of_a_file()
-    ensures { (bytes : List ℕ) (a b : List Insn) → SpellsProgram bytes a
-        → SpellsProgram bytes b → a ≡ b }
-{
-    one_spelling();
-}
+/// Instructions as numbers spell at most one lawful program.
+pub fn one_program_of_words()
+    ensures { (words : List ℕ) (a b : List Insn) → SpellsProgram words a
+        → SpellsProgram words b → a ≡ b }
+{}
 
 /// Instructions with a first fault spell no lawful program, so `check` accepts exactly those that spell one.
 pub fn a_fault_spells_no_lawful_program()

@@ -136,8 +136,8 @@ invariant_of-result c =
     → IsSetAt p at) c.deref-2.ensures.value none in
     record {
       raws = raws;
-      fields = c.in_ok-file_of.ensures.fields;
-      spelled = c.in_ok-file_of.ensures.spelled;
+      fields = c.in_ok-words_of.ensures.fields;
+      spelled = c.in_ok-words_of.ensures.words;
       read = all_spelled raws code place c.loop-place.invariant (omega arith) (omega arith);
       lawful = lawful raws code place c.loop-place.invariant (omega arith) (omega arith) some (omega arith) ends set;
     }
