@@ -131,7 +131,10 @@ pub take_gone : (p : PieceData) (i : Insn) (b : Bool) (m : Machine) → IsPiece 
 unfolding is_member
 take_gone p i b m h s fore after =
     let t = turned p i b p.conditions p.facts m h s fore.asks after (foreseen_meets p i b fore) in
-    record { is_on = record { of = refl; on = b ∷ []; name = refl; members = λ d inp. refl }; falls = t.falls }
+    record {
+      is_on = record { of = refl; conditions = refl; on = b ∷ []; name = refl; members = λ d inp. refl };
+      falls = t.falls;
+    }
 
 -- ---- children
 
@@ -240,6 +243,7 @@ pub child_is : (p : PieceData) (cond : Cond) (b : Bool) (m : Machine) (fs : Fact
     → IsLawfulPiece (child_of p cond b m fs) → IsChild p cond b (child_of p cond b m fs)
 child_is p cond b m fs facts h = record {
   of = refl;
+  conditions = refl;
   name = refl;
   named = h.named;
   members = λ d inp. child_members p cond b m fs d;

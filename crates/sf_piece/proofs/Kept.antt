@@ -104,7 +104,8 @@ assembled p name cs m fs h bounded nodes zero_is covers known members rest base 
 
 pub same_members : (p : PieceData) (m : Machine) → IsOn p (made p p.name p.conditions m p.facts)
 unfolding is_member
-same_members p m = record { of = refl; on = []; name = sym (append-nil p.name); members = λ d inp. refl }
+same_members p m =
+    record { of = refl; conditions = refl; on = []; name = sym (append-nil p.name); members = λ d inp. refl }
 
 abbrev pub gone : PieceData → Machine → PieceData
 gone p m = made p p.name p.conditions m p.facts

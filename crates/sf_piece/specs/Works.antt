@@ -51,9 +51,10 @@ pub record Standing (p : PieceData) (i : Insn) : Type 0 where
   pub taken : p.machine.taken ≤ 32
   pub value : p.machine.taken < 32 → p.machine.value < 2 ^ 31
 
--- the same members of the same stack, and a name that goes on
+-- the same members of the same stack, by the same conditions, and a name that goes on
 pub record IsOn (p q : PieceData) : Type 0 where
   pub of : q.stack ≡ p.stack
+  pub conditions : q.conditions ≡ p.conditions
   pub on : List Bool
   pub name : q.name ≡ p.name ++ on
   pub members : (d : Input) → IsInput d → is_member q d ≡ is_member p d
@@ -238,9 +239,10 @@ pub record AreChildFacts (p : PieceData) (cond : Cond) (b : Bool) (facts : Facts
   pub decided : DecidesTest p.facts (sensed cond b)
   pub plain : IsPlain p.stack → KeepsOnly p.facts facts p.pool (λ d. is_met p.pool d (sensed cond b))
 
--- the members that have the entry so, with facts that hold of these
+-- the members that have the entry so, by one condition more, with facts of just these
 pub record IsChild (p : PieceData) (cond : Cond) (b : Bool) (c : PieceData) : Type 0 where
   pub of : c.stack ≡ p.stack
+  pub conditions : c.conditions ≡ p.conditions ++ sensed cond b ∷ []
   pub name : c.name ≡ p.name ++ b ∷ []
   pub named : IsTrulyNamed c
   pub members : (d : Input) → IsInput d → is_member c d ≡ (is_member p d && is_met p.pool d (sensed cond b))
