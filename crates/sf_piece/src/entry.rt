@@ -107,12 +107,11 @@ fn child(
     ensures { IfOk result (λ c. IsChild run.now cond sense (arc_value c)) }
 {
     let to = after(run, insn, sense);
-    let longer = run.name.with(alloc, sense)?;
     let mut conditions = run.conditions.fork()?;
     conditions.push(Cond { sense, ..cond })?;
     let next = Run {
         stack: Arc::try_clone(&run.stack)?,
-        name: longer,
+        name: run.name.with(alloc, sense)?,
         pool: run.pool.fork()?,
         conditions,
         machine: to,
