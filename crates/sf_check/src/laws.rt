@@ -5,17 +5,28 @@ ghost use Rattle.sf_insn.specs.declared.raw.RawInsn.{RawInsn};
 ghost use Rattle.sf_check.specs.declared.insn.Insn.{Insn};
 ghost use Rattle.sf_check.specs.declared.fault.Fault.{Fault};
 ghost use Rattle.sf_check.specs.Programs.{IsLawful, Spells, SpellsProgram};
+ghost use Rattle.sf_check.specs.Packing.{ArePacked};
 ghost use Rattle.sf_check.specs.Refusals.{IsFirstFault};
+
+use sf_insn::laws::one_spelling;
 
 /// Instructions spell at most one program.
 pub fn one_program()
     ensures { (raws : List RawInsn) (a b : List Insn) → Spells raws a → Spells raws b → a ≡ b }
 {}
 
-/// Instructions as numbers spell at most one lawful program.
-pub fn one_program_of_words()
-    ensures { (words : List ℕ) (a b : List Insn) → SpellsProgram words a
-        → SpellsProgram words b → a ≡ b }
+/// The bytes of a filter file spell at most one lawful program.
+pub fn one_program_of_a_file()
+    ensures { (bytes : List ℕ) (a b : List Insn) → SpellsProgram bytes a
+        → SpellsProgram bytes b → a ≡ b }
+{
+    one_spelling();
+}
+
+/// Instructions, each as one number, spell at most one lawful program.
+pub(crate) fn one_program_of_packed()
+    ensures { (packed : List ℕ) (a b : List Insn) → ArePacked a packed
+        → ArePacked b packed → a ≡ b }
 {}
 
 /// Instructions with a first fault spell no lawful program, so `check` accepts exactly those that spell one.

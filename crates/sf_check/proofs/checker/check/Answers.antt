@@ -136,8 +136,8 @@ invariant_of-result c =
     → IsSetAt p at) c.deref-2.ensures.value none in
     record {
       raws = raws;
-      fields = c.in_ok-words_of.ensures.fields;
-      spelled = c.in_ok-words_of.ensures.words;
+      fields = c.in_ok-pack_all.ensures.fields;
+      numbered = c.in_ok-pack_all.ensures.packed;
       read = all_spelled raws code place c.loop-place.invariant (omega arith) (omega arith);
       lawful = lawful raws code place c.loop-place.invariant (omega arith) (omega arith) some (omega arith) ends set;
     }

@@ -7,8 +7,8 @@ pub returns-then-eq : goal.returns-then-eq
 returns-then-eq c =
     let equal = (slice_eq-Decides unsigned_Decides c.as_slice.result.now c.as_slice-2.result.now c.eq.result
     c.eq.ensures).0 c.if-eq.true in
-    let words : c.self.inside.words.items ≡ c.other.inside.words.items =
+    let packed : c.self.inside.packed.items ≡ c.other.inside.packed.items =
     sym c.as_slice.ensures.value ∙ equal ∙ c.as_slice-2.ensures.value in
-    let same = c.one_program_of_words.ensures c.other.inside.words.items c.self.inside.insns.items
-    c.other.inside.insns.items (rw words at c.self.invariant) c.other.invariant in
+    let same = c.one_program_of_packed.ensures c.other.inside.packed.items c.self.inside.insns.items
+    c.other.inside.insns.items (rw packed at c.self.invariant) c.other.invariant in
     (λ t. rw (← c.self.view_is, ← c.other.view_is) same, λ e. c.if-eq.true)
