@@ -28,15 +28,23 @@ pub read_why : (before after : List ℕ → Option (List ℕ)) (paths : List (Bo
     → ((e ≡ Read) × (after path.now ≡ None)) ⊎ (e ≡ Memory)
     → ((e ≡ Read) × HasUnknown before paths) ⊎ (e ≡ Memory)
 read_why before after paths n path e same at (inl (read, none)) =
-    inl (read, n, path, at, sym (same path.now) ∙ none)
+    inl (read, record { place = n; path = path; at = at; unknown = sym (same path.now) ∙ none })
 read_why before after paths n path e same at (inr memory) = inr memory
 
 -- a file of a filter can't be read
 pub filters_why : (before after : List ℕ → Option (List ℕ)) (policy : List ℕ) (paths : List (Bor (List ℕ))) (e : Fault)
     → ((p : List ℕ) → after p ≡ before p) → ((e ≡ Read) × HasUnknown after paths) ⊎ (e ≡ Memory)
     → RefusesAudit before policy paths e
-filters_why before after policy paths e same (inl (read, n, path, at, none)) =
-    inl (read, inr (n, path, at, sym (same path.now) ∙ none))
+filters_why before after policy paths e same (inl (read, left)) =
+    inl (
+      read,
+      inr (record {
+        place = left.place;
+        path = left.path;
+        at = left.at;
+        unknown = sym (same left.path.now) ∙ left.unknown;
+      }),
+    )
 filters_why before after policy paths e same (inr memory) = inr (inr (inl memory))
 
 -- the audit of what the files hold is refused

@@ -13,6 +13,8 @@ abbrev pub AreRead : (List ℕ → Option (List ℕ)) → List (Bor (List ℕ)) 
 AreRead holds paths files = Pairwise (λ path file. AgreesWith (holds path.now) file) paths files
 
 -- one of the paths is that of a file whose bytes aren't known: it may be that it can't be read
-abbrev pub HasUnknown : (List ℕ → Option (List ℕ)) → List (Bor (List ℕ)) → Type 0
-HasUnknown holds paths =
-    (n : ℕ) × (path : Bor (List ℕ)) × (slice_get paths n ≡ Some path) × (holds path.now ≡ None)
+pub record HasUnknown (holds : List ℕ → Option (List ℕ)) (paths : List (Bor (List ℕ))) : Type 0 where
+  pub place : ℕ
+  pub path : Bor (List ℕ)
+  pub at : slice_get paths place ≡ Some path
+  pub unknown : holds path.now ≡ None
