@@ -48,18 +48,16 @@ fn is_member_of(alloc: Global, piece: &Piece, input: &Input) -> Result<bool, Fau
     Ok(true)
 }
 
-/// Looks for a member of the piece that is in the question. One input is tried: it has in each word the least number
-/// that the piece's facts, confined to the question, leave for it, and it may be no member.
-fn search(alloc: Global, piece: &Piece, question: &Question) -> Result<Verdict, Fault>
+/// Tries one input: it has in each word the least number that the piece's facts, confined to the question, leave for it,
+/// and it may be no member. Out of line, since most questions are ruled out before, and room is made for the facts here.
+#[inline(never)]
+fn try_least(alloc: Global, piece: &Piece, question: &Question) -> Result<Verdict, Fault>
     ensures right { IfOk result (IsRightSearch piece.now question.now) }
     ensures tried { IfOk result (TellsTried piece.now question.now) }
     ensures decisive { IsPlain piece.now.stack → IfOk result IsDecisive }
     ensures err { IfErr result (λ f. f ≡ Memory) }
 {
     let known = piece.facts();
-    if rules_out(known, question) {
-        return Ok(Verdict::Clear);
-    }
     let Some(facts) = confined(alloc, known, piece.pool(), question)? else {
         return Ok(Verdict::Clear);
     };
@@ -70,6 +68,19 @@ fn search(alloc: Global, piece: &Piece, question: &Question) -> Result<Verdict, 
         return Ok(Verdict::Doubt);
     }
     Ok(Verdict::Hit(input))
+}
+
+/// Looks for a member of the piece that is in the question: one input is tried where the facts don't rule it out at once.
+fn search(alloc: Global, piece: &Piece, question: &Question) -> Result<Verdict, Fault>
+    ensures right { IfOk result (IsRightSearch piece.now question.now) }
+    ensures tried { IfOk result (TellsTried piece.now question.now) }
+    ensures decisive { IsPlain piece.now.stack → IfOk result IsDecisive }
+    ensures err { IfErr result (λ f. f ≡ Memory) }
+{
+    if rules_out(piece.facts(), question) {
+        return Ok(Verdict::Clear);
+    }
+    try_least(alloc, piece, question)
 }
 
 /// The verdict on the settled region at this place in the order of names. The caller's condition: there is a region at

@@ -49,7 +49,7 @@ fn snapshots(alloc: Global, questions: &[Question]) -> Result<Vec<Snapshot<Quest
     ensures each { IfOk result (λ v. map (λ q. q.value) v.items ≡ questions.now) }
     ensures err { IfErr result (λ f. f ≡ Memory) }
 {
-    let mut all = Vec::new(alloc);
+    let mut all = Vec::with_capacity(alloc, questions.len())?;
     for question in questions {
         all.push(Snapshot::of(question))?;
     }
@@ -105,7 +105,7 @@ impl Sheet {
         ensures wanted { IfOk result (HasWanted wanted) }
         ensures err { IfErr result (λ f. f ≡ Memory) }
     {
-        let mut verdicts = Vec::new(alloc);
+        let mut verdicts = Vec::with_capacity(alloc, questions.len())?;
         for q in 0..questions.len() {
             verdicts.push(entry(alloc, settled, job, questions, q, &wanted)?)?;
         }

@@ -128,7 +128,7 @@ impl Exclusions {
 pub fn copy_all(alloc: Global, lists: &[Exclusions]) -> Result<Vec<Exclusions>, Fault>
     ensures { IfOk result (λ v. v.items ≡ lists.now) }
 {
-    let mut copies = Vec::new(alloc);
+    let mut copies = Vec::with_capacity(alloc, lists.len())?;
     for list in lists {
         copies.push(list.copy()?)?;
     }
@@ -140,7 +140,7 @@ pub fn no_exclusions(alloc: Global) -> Result<Vec<Exclusions>, Fault>
     ensures { IfOk result (λ v. (length v.items ≡ 16) × ((w : ℕ) → numbers_at v.items w ≡ [])) }
 {
     let none = Exclusions::new(alloc)?;
-    let mut lists = Vec::new(alloc);
+    let mut lists = Vec::with_capacity(alloc, 16)?;
     for _i in 0..16u8 {
         lists.push(none.copy()?)?;
     }
