@@ -3,39 +3,64 @@
 ghost use Rattle.std.specs.Prelude.{◌≡◌, ℕ, ◌<◌, ◌≤◌, length, slice_index, MatchBool, MatchOption, IfOk, IfSome};
 ghost use Rattle.sf_sym.specs.Pool.{IsCondBelow};
 ghost use Rattle.sf_dom.specs.Known.{Admits};
-ghost use Rattle.sf_dom.specs.Rules.{NoneAgreesOn, Holds, IsReady, IsNarrow, IsTaken};
+ghost use Rattle.sf_dom.specs.Rules.{NoneAgreesOn, Holds, IsReady, IsNarrow, IsTaken, AreBothExcluded};
 
 use crate::domain::pass;
-use crate::exclusions::{Exclusions, copy_all};
+use crate::exclusions::{Excluded, Exclusions, copy_all};
 use crate::fault::Fault;
 use crate::known::Known;
 use crate::nodes::Nodes;
 use crate::settle::{exclude_both, is_ruled_out, settle, settle_node};
+use sf_insn::Test;
 use sf_sym::{Cond, Pool};
 use std::alloc::Global;
+
+/// The excluded numbers, with those that a condition tells: they are copied only where it tells one.
+fn with_told(
+    alloc: Global,
+    excluded: &Excluded,
+    nodes: &Nodes,
+    pool: &Pool,
+    cond: &Cond,
+) -> Result<Excluded, Fault>
+    requires covers { length nodes.now.known ≡ length pool.now }
+    requires words { length excluded.now ≡ 16 }
+    requires below { IsCondBelow (length pool.now) cond.now }
+    ensures told { IfOk result (λ e. AreBothExcluded nodes.now.known excluded.now e
+        pool.now cond.now) }
+    ensures words { IfOk result (λ e. length e ≡ 16) }
+{
+    match (cond.test, cond.sense) {
+        (Test::Equal, false) => {
+            let mut lists = copy_all(alloc, excluded.as_slice())?;
+            exclude_both(alloc, lists.as_mut_slice(), nodes, pool, cond)?;
+            Excluded::of(alloc, lists)
+        }
+        _ => excluded.copy(),
+    }
+}
 
 /// What a condition leaves, or none where no input that agrees meets it.
 pub fn taken(
     alloc: Global,
     nodes: &Nodes,
-    excluded: &[Exclusions],
+    excluded: &Excluded,
     pool: &Pool,
     cond: &Cond,
-) -> Result<Option<(Nodes, Vec<Exclusions>)>, Fault>
+) -> Result<Option<(Nodes, Excluded)>, Fault>
     requires ready { IsReady nodes.now.known pool.now }
     requires words { length excluded.now ≡ 16 }
     requires below { IsCondBelow (length pool.now) cond.now }
     ensures { IfOk result (λ o. MatchOption o
         (NoneAgreesOn nodes.now.known excluded.now pool.now (Holds pool.now cond.now))
-        (λ r. IsTaken nodes.now.known excluded.now r.0.known r.1.items pool.now cond.now)) }
+        (λ r. IsTaken nodes.now.known excluded.now r.0.known r.1 pool.now cond.now)) }
 {
     let _count = pool.len();
-    if is_ruled_out(nodes, excluded, pool, cond) {
+    if is_ruled_out(nodes, excluded.as_slice(), pool, cond) {
         return Ok(None);
     }
     let mut left = nodes.fork(alloc)?;
-    let mut lists = copy_all(alloc, excluded)?;
-    exclude_both(alloc, lists.as_mut_slice(), nodes, pool, cond)?;
+    let lists = with_told(alloc, excluded, nodes, pool, cond)?;
     if !settle(&mut left, lists.as_slice(), pool, cond) {
         return Ok(None);
     }

@@ -11,6 +11,7 @@ ghost use Rattle.sf_dom.specs.Tightening.{IsForced, IsMeet};
 
 use crate::exclusions::Exclusions;
 use crate::fault::Fault;
+use crate::fitting::is_tight;
 use crate::forward::{forward, full, negated};
 use crate::known::{Known, number, tighten, tighten_word};
 use crate::nodes::Nodes;
@@ -62,7 +63,8 @@ pub fn meet(a: Known, b: Known) -> Known
     }
 }
 
-/// Takes what is known of the older nodes on to each node that may gain. False: no input agrees.
+/// Takes what is known of the older nodes on to each node that may gain. False: no input agrees. A word whose ends are left
+/// for it is as tight as it gets, since nothing follows of it from older nodes.
 pub fn pass(nodes: &mut Nodes, excluded: &[Exclusions], pool: &Pool) -> bool
     requires ready { IsReady nodes.old.known pool.now }
     requires words { length excluded.now ≡ 16 }
@@ -72,8 +74,12 @@ pub fn pass(nodes: &mut Nodes, excluded: &[Exclusions], pool: &Pool) -> bool
 {
     for rank in 0..nodes.variable_count() {
         let i = nodes.variable(rank);
+        let before = nodes.get(i);
+        if i < excluded.len() && is_tight(before, &excluded[i]) {
+            continue;
+        }
         let node = pool.node(NodeId(i));
-        let known = meet(nodes.get(i), rule(nodes, node));
+        let known = meet(before, rule(nodes, node));
         match tightened(known, node, excluded) {
             None => return false,
             Some(next) => nodes.set(i, next),

@@ -136,7 +136,7 @@ pub fn copy_all(alloc: Global, lists: &[Exclusions]) -> Result<Vec<Exclusions>, 
 }
 
 /// A list without numbers for each word.
-pub fn no_exclusions(alloc: Global) -> Result<Vec<Exclusions>, Fault>
+fn no_exclusions(alloc: Global) -> Result<Vec<Exclusions>, Fault>
     ensures { IfOk result (λ v. (length v.items ≡ 16) × ((w : ℕ) → numbers_at v.items w ≡ [])) }
 {
     let none = Exclusions::new(alloc)?;
@@ -145,6 +145,56 @@ pub fn no_exclusions(alloc: Global) -> Result<Vec<Exclusions>, Fault>
         lists.push(none.copy()?)?;
     }
     Ok(lists)
+}
+
+/// The numbers that each word does not have. Copies share all lists, until a word gets another number.
+#[derive(Drop)]
+pub struct Excluded {
+    lists: Arc<Vec<Exclusions>>,
+}
+
+impl Model for Excluded {
+    ghost use Rattle.std.specs.Prelude.{List, ℕ};
+    ghost use Rattle.std.specs.Arc.{arc_value};
+
+    ghost Value = { List (List ℕ) };
+
+    ghost view = { λ e. (arc_value e.lists).items };
+}
+
+impl Excluded {
+    /// These lists. `Memory` where a growth is refused.
+    pub fn of(alloc: Global, lists: Vec<Exclusions>) -> Result<Excluded, Fault>
+        ensures { IfOk result (λ e. e ≡ lists.items) }
+    {
+        Ok(Excluded {
+            lists: Arc::new(alloc, lists)?,
+        })
+    }
+
+    /// A list without numbers for each word. `Memory` where a growth is refused.
+    pub fn none(alloc: Global) -> Result<Excluded, Fault>
+        ensures { IfOk result (λ e. (length e ≡ 16) × ((w : ℕ) → numbers_at e w ≡ [])) }
+    {
+        let lists = no_exclusions(alloc)?;
+        Excluded::of(alloc, lists)
+    }
+
+    /// The lists, that of the first word first.
+    pub fn as_slice(&self) -> &[Exclusions]
+        ensures value { result.now ≡ self.now }
+    {
+        self.lists.as_slice()
+    }
+
+    /// The same lists, shared. `Memory` where a growth is refused.
+    pub fn copy(&self) -> Result<Excluded, Fault>
+        ensures { IfOk result (λ e. e ≡ self.now) }
+    {
+        Ok(Excluded {
+            lists: self.lists.clone()?,
+        })
+    }
 }
 
 /// Whether each list has the same numbers as the other's at its place.
