@@ -1,6 +1,6 @@
 //! Instructions packed into 64 bits, by which programs are compared.
 
-ghost use Rattle.std.specs.Prelude.{◌≡◌, length, map, IfOk, OnOk, IfErr};
+ghost use Rattle.std.specs.Prelude.{◌≡◌, ◌↔◌, length, map, IfOk, OnOk, IfErr, IsTrue};
 ghost use Rattle.sf_insn.specs.Spelling.{IsInsn, AreInsns};
 ghost use Rattle.sf_check.specs.Packing.{packed_insn};
 
@@ -29,4 +29,18 @@ pub(crate) fn pack_all(alloc: Global, insns: &[RawInsn]) -> Result<Vec<u64>, Fau
         packed.push(pack(*insn))?;
     }
     Ok(packed)
+}
+
+/// Whether two lists of numbers are the same. It goes on past a difference, so that several numbers are compared at a time.
+pub(crate) fn are_same(left: &[u64], right: &[u64]) -> bool
+    ensures { IsTrue result ↔ (left.now ≡ right.now) }
+{
+    if left.len() != right.len() {
+        return false;
+    }
+    let mut same = true;
+    for (i, number) in left.iter().enumerate() {
+        same &= *number == right[i];
+    }
+    same
 }
