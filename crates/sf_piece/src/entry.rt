@@ -1,6 +1,6 @@
 //! A truth value of the trace, taken as true, as false or as both.
 
-ghost use Rattle.std.specs.Prelude.{◌≡◌, ◌<◌, if◌then◌else◌, IfOk, IfSome, length, MatchOption};
+ghost use Rattle.std.specs.Prelude.{◌≡◌, ◌<◌, if◌then◌else◌, IfOk, IfSome, length, MatchOption, true, false};
 ghost use Rattle.std.specs.Arc.{arc_value};
 ghost use Rattle.sf_check.specs.Stacks.{IsPlain};
 ghost use Rattle.sf_sym.specs.Pool.{IsCondBelow, node_at};
@@ -26,8 +26,8 @@ use std::sync::Arc;
 pub(crate) enum Turn {
     /// The run goes on.
     On,
-    /// The facts leave both ways open: the members on which the truth value is false, and those on which it is true.
-    Split(Arc<Piece>, Arc<Piece>),
+    /// The facts leave both ways open: the members on which the truth value is false. The run is that of the others.
+    Split(Arc<Piece>),
     /// The last program has returned: the name is whole, and the answer is that of all programs.
     Settled,
     /// There is no member.
@@ -91,33 +91,55 @@ pub(crate) fn take(run: &mut Run, insn: Insn, sense: bool) -> Result<(), Fault>
     Ok(())
 }
 
-/// The members on which the truth value is this.
+/// The members on which the truth value is false.
 fn child(
     alloc: Global,
     run: &Run,
     insn: Insn,
     cond: Cond,
-    sense: bool,
     facts: Facts,
 ) -> Result<Arc<Piece>, Fault>
     requires lawful { IsLawfulPiece run.now }
     requires standing { Standing run.now insn }
     requires entry { IsEntry run.now insn cond }
-    requires facts { AreChildFacts run.now cond sense facts }
-    ensures { IfOk result (λ c. IsChild run.now cond sense (arc_value c)) }
+    requires facts { AreChildFacts run.now cond false facts }
+    ensures { IfOk result (λ c. IsChild run.now cond false (arc_value c)) }
 {
-    let to = after(run, insn, sense);
+    let to = after(run, insn, false);
     let mut conditions = run.conditions.fork()?;
-    conditions.push(Cond { sense, ..cond })?;
+    conditions.push(Cond {
+        sense: false,
+        ..cond
+    })?;
     let next = Run {
         stack: Arc::try_clone(&run.stack)?,
-        name: run.name.with(alloc, sense)?,
+        name: run.name.with(alloc, false)?,
         pool: run.pool.fork()?,
         conditions,
         machine: to,
         facts,
     };
     Ok(Arc::new(alloc, Piece { run: next })?)
+}
+
+/// The run becomes that of the members on which the truth value is true: nothing is copied for them.
+fn become_child(run: &mut Run, insn: Insn, cond: Cond, facts: Facts) -> Result<(), Fault>
+    requires lawful { IsLawfulPiece run.old }
+    requires standing { Standing run.old insn }
+    requires entry { IsEntry run.old insn cond }
+    requires facts { AreChildFacts run.old cond true facts }
+    ensures child { IfOk result (λ _. IsChild run.old cond true run.new) }
+    ensures lawful { IfOk result (λ _. IsLawfulPiece run.new) }
+{
+    let to = after(run, insn, true);
+    run.name.push(true)?;
+    run.conditions.push(Cond {
+        sense: true,
+        ..cond
+    })?;
+    run.machine = to;
+    run.facts = facts;
+    Ok(())
 }
 
 /// The piece's facts with the truth value as this, or none where that contradicts them.
@@ -197,10 +219,9 @@ fn decide(alloc: Global, run: &mut Run, insn: Insn, cond: Cond) -> Result<Turn, 
         take(run, insn, false)?;
         return Ok(Turn::On);
     };
-    Ok(Turn::Split(
-        child(alloc, run, insn, cond, false, on_false)?,
-        child(alloc, run, insn, cond, true, on_true)?,
-    ))
+    let apart = child(alloc, run, insn, cond, on_false)?;
+    become_child(run, insn, cond, on_true)?;
+    Ok(Turn::Split(apart))
 }
 
 /// One instruction, or one truth value of it.
