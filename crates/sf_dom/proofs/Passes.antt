@@ -8,7 +8,7 @@ use Rattle.sf_sym.specs.declared.pool.Node.{Node}
 use Rattle.sf_insn.specs.declared.input.Input.{Input}
 use Rattle.sf_sym.specs.ValueLaws.{value-node}
 use Rattle.sf_dom.specs.declared.known.Known.{Known}
-use Rattle.sf_dom.specs.Known.{Admits, Leaves, IsNarrower, IsSettled, IsDecided, known_of}
+use Rattle.sf_dom.specs.Known.{Admits, Leaves, IsNarrower, IsSettled, IsTight, IsDecided, known_of}
 use Rattle.sf_dom.proofs.Rounds.{narrowed}
 use Rattle.sf_dom.specs.Nodes.{NodesView, IsLaidOut}
 use Rattle.sf_dom.specs.Rules.{AreSettledOperands, IsTightNode, IsReady, IsPassed, AllNarrower}
@@ -252,6 +252,18 @@ variable-before n r j k laid b l h = elim (cases_eq j r) [
   | inl e ↦ rw e h
   | inr ne ↦ omega (arith, laid.rising r j (omega arith) l)
 ]
+
+-- a word whose ends are left for it needs no step of a pass
+pub tight-passed : (ks : List Known) (ex : List (List ℕ)) (ns : List Node) (i : ℕ) → IsPool ns → i < 16
+    → IsSettled (known_at ks i) → IsTight (known_at ks i) (numbers_at ex i) → IsPassed ks ex ns i
+tight-passed ks ex ns i p l settled tight =
+    let here = p.word i l in
+    record {
+      settled = settled;
+      tight = λ b. tight;
+      decided = λ o. absurd (rw here at o);
+      constant = λ c n. let clash : Const c ≡ Word i = sym n ∙ here in absurd cc;
+    }
 
 -- what was gone over, and the node at hand, and those up to the next variable
 pub passed-up_to : (n m : NodesView) (ex : List (List ℕ)) (ns : List Node) (rank i : ℕ) → IsReady m.known ns

@@ -72,6 +72,7 @@ pub fn pass(nodes: &mut Nodes, excluded: &[Exclusions], pool: &Pool) -> bool
         (IsPass nodes.old.known nodes.new.known excluded.now pool.now)
         (NoneAgreesWith nodes.old.known excluded.now pool.now) }
 {
+    let _count = pool.len();
     for rank in 0..nodes.variable_count() {
         let i = nodes.variable(rank);
         let before = nodes.get(i);

@@ -1,9 +1,11 @@
-use Rattle.std.proofs.Common.{◌≡◌, ◌<◌, length, arith, sym, ap, ◌∙◌}
+use Rattle.std.proofs.Common.{◌≡◌, ◌<◌, length, arith, refl, sym, ap, ◌∙◌, inl, inr, []}
+use Rattle.std.proofs.lemmas.Bool.{cases_lt}
+use Rattle.std.proofs.lemmas.List.{get_or_read}
 use Rattle.std.specs.Prelude.{slice_index}
 use Rattle.sf_sym.specs.Pool.{values_of, value_of}
 use Rattle.sf_dom.specs.Facts.{known_at}
 use Rattle.sf_dom.specs.Rules.{IsReady}
-use Rattle.sf_dom.proofs.Passes.{variable-before, passed-up_to, pass-left, pass-set, passed-set, AllNarrower-set, IsReady-set}
+use Rattle.sf_dom.proofs.Passes.{variable-before, passed-up_to, tight-passed, pass-left, pass-set, passed-set, AllNarrower-set, IsReady-set}
 use Rattle.sf_dom.proofs.Rounds.{IsNarrower-trans}
 use Rattle.sf_dom.proofs.domain.pass.Goals as goal
 
@@ -20,7 +22,7 @@ returns-in-None c = λ d p a.
     let agrees = inv.keeps d p a in
     let by_rule = rw c.node-node.ensures.node at
     (c.rule.ensures.value d (values_of ns d) p (λ j l. (agrees j l).admitted)) in
-    let both = rw c.get.ensures at c.meet-known.ensures in
+    let both = rw c.get-before.ensures at c.meet-known.ensures in
     let left = pass-left n.known ex ns d i c.rule.result c.meet-known.result c.node-node.ensures.lawful inv.ready.count
     below agrees by_rule both in
     rw c.node-node.ensures.node at c.in-None.ensures (value_of ns d i) left
@@ -45,7 +47,7 @@ loop-rank-preserved c =
     let at : slice_index n.variables rank ≡ i = sym c.variable-i.ensures in
     let below : i < length n.known = omega (arith, inv.laid_out.within rank told, at) in
     let t = rw c.node-node.ensures.node at c.in-Some.ensures in
-    let both = rw c.get.ensures at c.meet-known.ensures in
+    let both = rw c.get-before.ensures at c.meet-known.ensures in
     let narrower = IsNarrower-trans (known_at n.known i) c.meet-known.result next both.left t.narrower in
     let ready : IsReady m.known ns = rw c.set.ensures.known
     (IsReady-set n.known ns i next below inv.ready narrower t.settled) in
@@ -68,4 +70,38 @@ loop-rank-preserved c =
           (λ k b. inv.passed k (omega arith) (λ j a l. variable-before n rank j k inv.laid_out a l (omega (arith, at))))
           (rw c.node-node.ensures.node at c.rule.ensures.forced)
           (rw c.node-node.ensures.node at c.rule.ensures.constant) both.right t));
+    }
+
+pub loop-rank-preserved-then-is_tight : goal.loop-rank-preserved-then-is_tight
+loop-rank-preserved-then-is_tight c =
+    let n = c.loop-rank.nodes in
+    let ns = c.args.pool.now in
+    let ex = c.args.excluded.now in
+    let inv = c.loop-rank.invariant in
+    let rank = c.loop-rank.rank in
+    let i = c.variable-i.result in
+    let words = c.requires.words in
+    let told : rank < length n.variables = omega (
+      arith,
+      ap length inv.variables,
+      c.variable_count-rank-end.ensures.count,
+    ) in
+    let at : slice_index n.variables rank ≡ i = sym c.variable-i.ensures in
+    let below : i < length n.known = omega (arith, inv.laid_out.within rank told, at) in
+    let small : i < 16 = omega arith in
+    let here = get_or_read ex i c.index-excluded-i.result (omega arith) c.index-excluded-i.is [] in
+    let tight = rw (c.get-before.ensures, here) at (c.is_tight.ensures c.if-is_tight.true) in
+    record {
+      keeps = inv.keeps;
+      narrower = inv.narrower;
+      ready = inv.ready;
+      variables = inv.variables;
+      laid_out = inv.laid_out;
+      passed = passed-up_to n n ex ns rank i inv.ready inv.laid_out inv.laid_out refl told at (λ k b.
+          elim (cases_lt k i) [
+            | inl l ↦ inv.passed k (omega arith) (λ j a m. variable-before n rank j k inv.laid_out a m
+                (omega (arith, at)))
+            | inr g ↦ (let e : k ≡ i = omega arith in
+                rw e (tight-passed n.known ex ns i c.len-count.ensures.lawful small (inv.ready.settled i below) tight))
+          ]);
     }

@@ -10,6 +10,8 @@ returns c =
     let facts = rw (← c.run.view_is) at c.requires.facts in
     let after = rw (← c.run.view_is) at c.after-to.ensures in
     rw (← c.run.view_is, c.in_ok-push.ensures.ok, c.in_ok-push-2.ensures.ok) (record {
-      child = right_child _ c.args.insn c.args.cond true c.after-to.result c.args.facts lawful standing entry facts after;
-      lawful = lawful_child _ c.args.insn c.args.cond true c.after-to.result c.args.facts lawful standing entry facts after;
+      child = right_child _ c.args.insn c.args.cond true c.after-to.result c.args.facts lawful standing
+          entry facts after;
+      lawful = lawful_child _ c.args.insn c.args.cond true c.after-to.result c.args.facts lawful standing
+          entry facts after;
     })
