@@ -1,7 +1,7 @@
 //! The board, on one thread and on several.
 ghost use Rattle.std.specs.Prelude.{◌≡◌, ◌<◌, ℕ, false, length, All, IfSome, IsTrue, None, Some};
 ghost use Rattle.sf_ask.specs.Sheets.{is_skipped, verdict_at};
-ghost use Rattle.sf_crew.specs.Views.{asked, regions_of};
+ghost use Rattle.sf_crew.specs.Views.{questions_of, regions_of};
 ghost use Rattle.sf_crew.specs.Boards.{about, seat_view, IsSeatOf, IsNewSeat};
 
 use crate::kit::{anything, calls};
@@ -59,7 +59,7 @@ fn enter(
     requires seat { IsSeatOf board.now seat.old }
     requires owes { (seat_view seat.old).owes ≡ Some job }
     requires matter { (regions_of (about board.now) ≡ settled.now)
-        × (asked (about board.now) ≡ questions.now) }
+        × (questions_of (about board.now) ≡ questions.now) }
     ensures same { IsSeatOf board.now seat.new }
     ensures free { IfSome result (λ _. (seat_view seat.new).owes ≡ None) }
 {
@@ -94,7 +94,7 @@ fn worked(
 ) -> Option<Joined>
     requires seats { IsNewSeat board.now first × IsNewSeat board.now second }
     requires matter { (regions_of (about board.now) ≡ settled.now)
-        × (asked (about board.now) ≡ questions.now) × (length questions.now ≡ 2) }
+        × (questions_of (about board.now) ≡ questions.now) × (length questions.now ≡ 2) }
     ensures { IfSome result (λ w. IsSeatOf board.now w.all) }
 {
     let a = board.draw(&mut first)?;
@@ -122,7 +122,7 @@ fn draw_all(
 ) -> Option<Vec<usize>>
     requires seat { IsSeatOf board.now seat × ((seat_view seat).owes ≡ None) }
     requires matter { (regions_of (about board.now) ≡ settled.now)
-        × (asked (about board.now) ≡ questions.now) }
+        × (questions_of (about board.now) ≡ questions.now) }
 {
     let mut jobs = Vec::new(alloc);
     for _turn in 0..5 {
@@ -147,7 +147,7 @@ fn eight_seats_draw_four_jobs_once_each(rt: HostRuntime) -> Result<(), Fail> {
         seats,
         &|seat: Seat| -> Option<Vec<usize>>
             requires { IsNewSeat shared.now seat × (regions_of (about shared.now) ≡ of.now)
-                × (asked (about shared.now) ≡ about_them.now) }
+                × (questions_of (about shared.now) ≡ about_them.now) }
         { draw_all(alloc, shared, seat, of, about_them) },
     )?;
     let mut all = Vec::new(alloc);
@@ -187,7 +187,7 @@ fn one_each(
 ) -> Option<Seat>
     requires seats { IsNewSeat board.now first × IsNewSeat board.now second }
     requires matter { (regions_of (about board.now) ≡ settled.now)
-        × (asked (about board.now) ≡ questions.now) }
+        × (questions_of (about board.now) ≡ questions.now) }
     ensures { IfSome result (λ s. IsSeatOf board.now s) }
 {
     let a = board.draw(&mut first)?;

@@ -20,7 +20,7 @@ use Rattle.sf_ask.specs.declared.verdict.Verdict.TheVariants.{Clear, Hit, Doubt}
 use Rattle.sf_ask.specs.Actions.{has_action}
 use Rattle.sf_piece.specs.Pieces.{PieceData, is_member}
 use Rattle.sf_piece.specs.PlainPieces.{IsPlainPiece}
-use Rattle.sf_ask.specs.Asked.{Asked}
+use Rattle.sf_ask.specs.QuestionData.{QuestionData}
 use Rattle.sf_ask.specs.Breaking.{IsInQuestion}
 use Rattle.sf_ask.specs.Verdicts.{IsLowInput, IsMemberAt, IsBreakAt, IsRightVerdict, TellsTriedAt}
 use Rattle.sf_ask.proofs.Leasts.{least-admitted, least-below, least-agrees}
@@ -46,13 +46,13 @@ abbrev MembersAgree : PieceData → FactsView → List Node → Type 0
 MembersAgree p f ns = (d : Input) → IsInput d → is_member p d ≡ true → Agrees f ns d
 
 -- it is in the question
-pub least-inside : (q : Asked) (f g : FactsView) (ns : List Node) (d : Input)
+pub least-inside : (q : QuestionData) (f g : FactsView) (ns : List Node) (d : Input)
     → AreConfined f g ns (IsInQuestion q) (IsNumberBefore q 16) → IsLeastInput g d → IsInQuestion q d
 least-inside q f g ns d a h = λ word w. a.numbers word (slice_index d.words word) w (h.input.each word)
     (least-admitted g ns d a.covers h word w) w
 
 -- where the low input is a member, it is that
-pub low-is-least : (p : PieceData) (q : Asked) (f g : FactsView) (ns : List Node) (d low : Input) → MembersAgree p f ns
+pub low-is-least : (p : PieceData) (q : QuestionData) (f g : FactsView) (ns : List Node) (d low : Input) → MembersAgree p f ns
     → AreConfined f g ns (IsInQuestion q) (IsNumberBefore q 16) → IsLeastInput g d → IsInput low → IsLowInput q low
     → is_member p low ≡ true → d ≡ low
 low-is-least p q f g ns d low known a h input is member =
@@ -71,19 +71,19 @@ low-is-least p q f g ns d low known a h input is member =
 
 -- ---- what the steps of a search tell
 
-pub ruled-out : (p : PieceData) (q : Asked) (f : FactsView) (ns : List Node) → MembersAgree p f ns
+pub ruled-out : (p : PieceData) (q : QuestionData) (f : FactsView) (ns : List Node) → MembersAgree p f ns
     → NonePasses f ns (IsInQuestion q)
     → (d : Input) → IsInput d → is_member p d ≡ true → ¬ IsInQuestion q d
 ruled-out p q f ns known none = λ d input member. none d input (known d input member)
 
-pub doubtful : (p : PieceData) (q : Asked) (f g : FactsView) (ns : List Node) (d : Input) → MembersAgree p f ns
+pub doubtful : (p : PieceData) (q : QuestionData) (f g : FactsView) (ns : List Node) (d : Input) → MembersAgree p f ns
     → AreConfined f g ns (IsInQuestion q) (IsNumberBefore q 16) → IsLeastInput g d → is_member p d ≡ false
     → (low : Input) → IsInput low → IsLowInput q low → ¬ (is_member p low ≡ true)
 doubtful p q f g ns d known a h none low input is member =
     let same = low-is-least p q f g ns d low known a h input is member in
     cc (ap (is_member p) same)
 
-pub least-hit : (p : PieceData) (q : Asked) (f g : FactsView) (ns : List Node) (d : Input) → MembersAgree p f ns
+pub least-hit : (p : PieceData) (q : QuestionData) (f g : FactsView) (ns : List Node) (d : Input) → MembersAgree p f ns
     → AreConfined f g ns (IsInQuestion q) (IsNumberBefore q 16) → IsLeastInput g d
     → (other : Input) → IsInput other → is_member p other ≡ true → IsInQuestion q other → (word : ℕ) → word < 16
     → slice_index d.words word ≤ slice_index other.words word
@@ -91,14 +91,14 @@ least-hit p q f g ns d known a h other input member inside =
     least-below g ns d other a.covers h (a.keeps other input (known other input member) inside)
 
 -- over words and constants the input of the least numbers is a member
-pub exact-hit : (p : PieceData) (q : Asked) (g : FactsView) (d : Input) → IsPlainPiece p
+pub exact-hit : (p : PieceData) (q : QuestionData) (g : FactsView) (d : Input) → IsPlainPiece p
     → AreConfined p.facts g p.pool (IsInQuestion q) (IsNumberBefore q 16) → IsLeastInput g d → is_member p d ≡ true
 exact-hit p q g d exact a h = exact.exact d h.input
     (a.only d h.input (least-agrees g p.pool d a.covers exact.nodes h)).0
 
 -- ---- from a piece to its region
 
-pub not-asked : (s : BookData) (place : ℕ) (q : Asked) (r : RegionData) → slice_get s.regions place ≡ Some r
+pub not-asked : (s : BookData) (place : ℕ) (q : QuestionData) (r : RegionData) → slice_get s.regions place ≡ Some r
     → IsRightRegion s.stack r → has_action q.actions r.answer.action ≡ false
     → (d : Input) → ¬ IsBreakAt s place q d
 not-asked s place q r there right none d h =
@@ -116,7 +116,7 @@ in-piece s place r d there member =
     let same : member.region ≡ r = cc (member.there, there) in
     subst (λ (x : RegionData). is_member x.piece d ≡ true) same member.member
 
-pub region-right : (s : BookData) (place : ℕ) (q : Asked) (r : RegionData) (v : Verdict)
+pub region-right : (s : BookData) (place : ℕ) (q : QuestionData) (r : RegionData) (v : Verdict)
     → slice_get s.regions place ≡ Some r → IsRightRegion s.stack r → has_action q.actions r.answer.action ≡ true
     → IsRightSearch r.piece q v → IsRightVerdict s place q v
 region-right s place q r Clear there right asked found =
@@ -128,7 +128,7 @@ region-right s place q r (Hit d) there right asked found = record {
 region-right s place q r Doubt there right asked found =
     λ d low h. found d h.member.input low (in-piece s place r d there h.member)
 
-pub region-tried : (s : BookData) (place : ℕ) (q : Asked) (r : RegionData) (v : Verdict)
+pub region-tried : (s : BookData) (place : ℕ) (q : QuestionData) (r : RegionData) (v : Verdict)
     → slice_get s.regions place ≡ Some r → has_action q.actions r.answer.action ≡ true → IsRightVerdict s place q v
     → TellsTried r.piece q v → TellsTriedAt s place q v
 region-tried s place q r Clear there asked right least = tt

@@ -1,6 +1,6 @@
 pub mod Numbers
 pub mod Actions
-pub mod Asked
+pub mod QuestionData
 pub mod Questions
 pub mod Breaking
 pub mod Trying

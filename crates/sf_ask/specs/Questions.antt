@@ -5,7 +5,7 @@ use Rattle.sf_ask.specs.declared.actions.ActionSet.{ActionSet}
 use Rattle.sf_ask.specs.declared.fault.Fault.{Fault}
 use Rattle.sf_ask.specs.declared.fault.Fault.TheVariants as faults
 use Rattle.sf_ask.specs.Actions.{is_no_action}
-use Rattle.sf_ask.specs.Asked.{Asked}
+use Rattle.sf_ask.specs.QuestionData.{QuestionData}
 
 -- a printable character other than the blank
 abbrev pub is_printable : ℕ → Bool
@@ -24,7 +24,7 @@ abbrev pub is_inside_mask : ℕ × ℕ → Bool
 is_inside_mask mask = bit_and mask.1 mask.0 == mask.1
 
 -- the question of these parts, or its first fault: the name, then a range, then a mask, then the actions
-abbrev pub question_of : List ℕ → List (ℕ × ℕ) → List (ℕ × ℕ) → ActionSet → Result Asked Fault
+abbrev pub question_of : List ℕ → List (ℕ × ℕ) → List (ℕ × ℕ) → ActionSet → Result QuestionData Fault
 question_of name ranges masks actions =
     if not (is_name name) then Err faults.Name
     else if not (list_all is_in_order ranges) then Err faults.Range
@@ -33,18 +33,18 @@ question_of name ranges masks actions =
     else Ok (record { name = name; ranges = ranges; masks = masks; actions = actions })
 
 -- its own parts make the question
-abbrev pub IsQuestion : Asked → Type 0
+abbrev pub IsQuestion : QuestionData → Type 0
 IsQuestion q = (length q.ranges ≡ 16) × (length q.masks ≡ 16) × (question_of q.name q.ranges q.masks q.actions ≡ Ok q)
 
 -- a fault is the one that is due; want of memory comes only where no other is
-abbrev pub Fails : {X : Type 0} → Fault → Result X Fault → Type 0
-Fails faults.Memory due = IsOk due
-Fails faults.Name due = due ≡ Err faults.Name
-Fails faults.Range due = due ≡ Err faults.Range
-Fails faults.Mask due = due ≡ Err faults.Mask
-Fails faults.Actions due = due ≡ Err faults.Actions
+abbrev pub IsDueFault : {X : Type 0} → Fault → Result X Fault → Type 0
+IsDueFault faults.Memory due = IsOk due
+IsDueFault faults.Name due = due ≡ Err faults.Name
+IsDueFault faults.Range due = due ≡ Err faults.Range
+IsDueFault faults.Mask due = due ≡ Err faults.Mask
+IsDueFault faults.Actions due = due ≡ Err faults.Actions
 
 -- the result is the one that is due, unless memory ran out
-abbrev pub Gives : {X : Type 0} → Result X Fault → Result X Fault → Type 0
-Gives (Ok x) due = due ≡ Ok x
-Gives (Err fault) due = Fails fault due
+abbrev pub MakesQuestion : {X : Type 0} → Result X Fault → Result X Fault → Type 0
+MakesQuestion (Ok x) due = due ≡ Ok x
+MakesQuestion (Err fault) due = IsDueFault fault due

@@ -6,13 +6,13 @@ use Rattle.sf_check.specs.Stacks.{IsPlain}
 use Rattle.sf_book.specs.Books.{BookData}
 use Rattle.sf_ask.specs.declared.verdict.Verdict.{Verdict}
 use Rattle.sf_ask.specs.declared.verdict.Verdict.TheVariants.{Clear, Hit, Doubt}
-use Rattle.sf_ask.specs.Asked.{Asked}
+use Rattle.sf_ask.specs.QuestionData.{QuestionData}
 use Rattle.sf_ask.specs.Verdicts.{IsBreakAt, IsRightVerdict, TellsTriedAt, IsDecisive}
 
 -- a sheet: the regions and questions that it is of, the place of its region, and for each question a verdict or none
 pub record SheetData : Type 0 where
   pub settled : BookData
-  pub questions : List Asked
+  pub questions : List QuestionData
   pub job : ℕ
   pub verdicts : List (Option Verdict)
 
@@ -44,37 +44,37 @@ abbrev pub is_wanted : List ℕ → ℕ → Bool
 is_wanted wanted q = bit_at (slice_index wanted (q / 64)) (q % 64) == 1
 
 -- a member of the region at a place breaks the question of a number
-pub record IsBreakOf (s : BookData) (questions : List Asked) (place q : ℕ) (d : Input) : Type 0 where
-  pub question : Asked
+pub record IsBreakOf (s : BookData) (questions : List QuestionData) (place q : ℕ) (d : Input) : Type 0 where
+  pub question : QuestionData
   pub asked : slice_get questions q ≡ Some question
   pub breaks : IsBreakAt s place question d
 
 -- some member of the region breaks the question
-abbrev pub HasBreak : BookData → List Asked → ℕ → ℕ → Type 0
+abbrev pub HasBreak : BookData → List QuestionData → ℕ → ℕ → Type 0
 HasBreak s questions place q = (d : Input) × IsBreakOf s questions place q d
 
 -- no member of the region breaks the question
-abbrev pub HasNoBreak : BookData → List Asked → ℕ → ℕ → Type 0
+abbrev pub HasNoBreak : BookData → List QuestionData → ℕ → ℕ → Type 0
 HasNoBreak s questions place q = (d : Input) → ¬ IsBreakOf s questions place q d
 
 -- a verdict on the question of a number is right, and tells what was tried; on a plain stack there is no doubt
-pub record IsRightOn (s : BookData) (questions : List Asked) (place q : ℕ) (v : Verdict) : Type 0 where
-  pub question : Asked
+pub record IsRightOn (s : BookData) (questions : List QuestionData) (place q : ℕ) (v : Verdict) : Type 0 where
+  pub question : QuestionData
   pub asked : slice_get questions q ≡ Some question
   pub right : IsRightVerdict s place question v
   pub tried : TellsTriedAt s place question v
   pub decisive : IsPlain s.stack → IsDecisive v
 
 -- the same where there is a verdict
-abbrev pub IsRightEntry : BookData → List Asked → ℕ → ℕ → Option Verdict → Type 0
-IsRightEntry s questions place q None = Unit {0}
-IsRightEntry s questions place q (Some v) = IsRightOn s questions place q v
+abbrev pub IsRightWhereGiven : BookData → List QuestionData → ℕ → ℕ → Option Verdict → Type 0
+IsRightWhereGiven s questions place q None = Unit {0}
+IsRightWhereGiven s questions place q (Some v) = IsRightOn s questions place q v
 
 -- a sheet is right: its region is there, and each of its verdicts is right
 pub record IsRightSheet (s : SheetData) : Type 0 where
   pub there : s.job < length s.settled.regions
   pub each : length s.verdicts ≡ length s.questions
-  pub right : (q : ℕ) → q < length s.questions → IsRightEntry s.settled s.questions s.job q (verdict_at s.verdicts q)
+  pub right : (q : ℕ) → q < length s.questions → IsRightWhereGiven s.settled s.questions s.job q (verdict_at s.verdicts q)
 
 -- a verdict stands exactly for each question that is asked for
 abbrev pub HasWanted : List ℕ → SheetData → Type 0

@@ -6,7 +6,7 @@ use Rattle.sf_sym.specs.declared.pool.Node.{Node}
 use Rattle.sf_dom.specs.Known.{Admits}
 use Rattle.sf_dom.specs.Facts.{FactsView, Agrees, Covers, known_at, AreNarrower}
 use Rattle.sf_piece.specs.Pieces.{PieceData}
-use Rattle.sf_ask.specs.Asked.{Asked}
+use Rattle.sf_ask.specs.QuestionData.{QuestionData}
 use Rattle.sf_ask.specs.Breaking.{IsNumberOf, IsInQuestion}
 
 -- facts are confined: of the inputs that agreed those that pass agree still, and what a word may have is kept to some
@@ -20,7 +20,7 @@ pub record AreConfined (old new : FactsView) (ns : List Node) (passes : Input �
   pub numbers : (word n : ℕ) → word < 16 → n < 2 ^ 32 → Admits (known_at new.known word) n → may_have word n
 
 -- the numbers that the words before a place may have are those of the question
-abbrev pub IsNumberBefore : Asked → ℕ → ℕ → ℕ → Type 0
+abbrev pub IsNumberBefore : QuestionData → ℕ → ℕ → ℕ → Type 0
 IsNumberBefore q end word n = word < end → IsNumberOf q word n
 
 -- the input of the least numbers that facts leave for the words
@@ -29,7 +29,7 @@ pub record IsLeastInput (f : FactsView) (d : Input) : Type 0 where
   pub is : (word : ℕ) → word < 16 → slice_index d.words word ≡ (known_at f.known word).low
 
 -- an input that is tried of a piece: that of the least numbers which the piece's facts, confined to the question, leave
-pub record IsTried (p : PieceData) (q : Asked) (d : Input) : Type 0 where
+pub record IsTried (p : PieceData) (q : QuestionData) (d : Input) : Type 0 where
   pub facts : FactsView
   pub confined : AreConfined p.facts facts p.pool (IsInQuestion q) (IsNumberBefore q 16)
   pub least : IsLeastInput facts d

@@ -6,9 +6,9 @@ ghost use Rattle.sf_insn.specs.declared.input.Input.{Input as AnInput};
 ghost use Rattle.sf_sym.specs.declared.pool.Node.{Node as ANode};
 ghost use Rattle.sf_dom.specs.Known.{Admits};
 ghost use Rattle.sf_dom.specs.Facts.{known_at, Agrees, Covers, lies_in, has_masked};
-ghost use Rattle.sf_ask.specs.Asked.{range_at, mask_at};
+ghost use Rattle.sf_ask.specs.QuestionData.{range_at, mask_at};
 ghost use Rattle.sf_ask.specs.Breaking.{IsNumberOf, IsInQuestion};
-ghost use Rattle.sf_ask.specs.Searches.{NonePasses, IsInRange, HasBits, HasNumber, IsRangeNumber, IsMaskNumber, IsWordNumber};
+ghost use Rattle.sf_ask.specs.Searches.{NonePasses, WordIsInRange, WordHasBits, WordHasNumber, IsRangeNumber, IsMaskNumber, IsWordNumber};
 ghost use Rattle.sf_ask.specs.Trying.{AreConfined, IsNumberBefore};
 ghost use Rattle.sf_ask.specs.declared.fault.Fault.TheVariants.{Memory};
 
@@ -58,9 +58,9 @@ fn confine_range(
     requires covers { Covers facts.old pool.now }
     requires word { word < 16 }
     ensures confined { IfOk result (λ b. MatchBool b
-        (AreConfined facts.old facts.new pool.now (IsInRange question.now word)
+        (AreConfined facts.old facts.new pool.now (WordIsInRange question.now word)
         (IsRangeNumber question.now word))
-        (NonePasses facts.old pool.now (IsInRange question.now word))) }
+        (NonePasses facts.old pool.now (WordIsInRange question.now word))) }
     ensures err { IfErr result (λ f. f ≡ Memory) }
 {
     let (low, high) = question.range(word);
@@ -81,9 +81,9 @@ fn confine_mask(
     requires covers { Covers facts.old pool.now }
     requires word { word < 16 }
     ensures confined { IfOk result (λ b. MatchBool b
-        (AreConfined facts.old facts.new pool.now (HasBits question.now word)
+        (AreConfined facts.old facts.new pool.now (WordHasBits question.now word)
         (IsMaskNumber question.now word))
-        (NonePasses facts.old pool.now (HasBits question.now word))) }
+        (NonePasses facts.old pool.now (WordHasBits question.now word))) }
     ensures err { IfErr result (λ f. f ≡ Memory) }
 {
     let (mask, value) = question.mask(word);
@@ -104,9 +104,9 @@ fn confine_word(
     requires covers { Covers facts.old pool.now }
     requires word { word < 16 }
     ensures confined { IfOk result (λ b. MatchBool b
-        (AreConfined facts.old facts.new pool.now (HasNumber question.now word)
+        (AreConfined facts.old facts.new pool.now (WordHasNumber question.now word)
         (IsWordNumber question.now word))
-        (NonePasses facts.old pool.now (HasNumber question.now word))) }
+        (NonePasses facts.old pool.now (WordHasNumber question.now word))) }
     ensures err { IfErr result (λ f. f ≡ Memory) }
 {
     if !confine_range(alloc, facts, pool, question, word)? {

@@ -2,8 +2,8 @@
 
 ghost use Rattle.std.specs.Prelude.{◌≡◌, ◌<◌, List, ℕ, true};
 ghost use Rattle.std.specs.List.{list_all};
-ghost use Rattle.sf_ask.specs.Asked.{range_at, mask_at, no_masks};
-ghost use Rattle.sf_ask.specs.Questions.{is_name, is_printable, is_in_order, is_inside_mask, question_of, Gives};
+ghost use Rattle.sf_ask.specs.QuestionData.{range_at, mask_at, no_masks};
+ghost use Rattle.sf_ask.specs.Questions.{is_name, is_printable, is_in_order, is_inside_mask, question_of, MakesQuestion};
 
 use crate::actions::ActionSet;
 use crate::fault::Fault;
@@ -24,10 +24,10 @@ pub struct Question {
 
 impl Model for Question {
     ghost use Rattle.std.specs.Prelude.{string_bytes};
-    ghost use Rattle.sf_ask.specs.Asked.{Asked};
+    ghost use Rattle.sf_ask.specs.QuestionData.{QuestionData};
     ghost use Rattle.sf_ask.specs.Questions.{IsQuestion};
 
-    ghost Value = { Asked };
+    ghost Value = { QuestionData };
 
     ghost view = { λ q. record {
       name = string_bytes q.name;
@@ -79,7 +79,7 @@ impl Question {
         ranges: [(u32, u32); 16],
         actions: ActionSet,
     ) -> Result<Question, Fault>
-        ensures { Gives result (question_of name.now ranges no_masks actions) }
+        ensures { MakesQuestion result (question_of name.now ranges no_masks actions) }
     {
         Question::of_masked(alloc, name, ranges, [(0, 0); 16], actions)
     }
@@ -96,7 +96,7 @@ impl Question {
         masks: [(u32, u32); 16],
         actions: ActionSet,
     ) -> Result<Question, Fault>
-        ensures { Gives result (question_of name.now ranges masks actions) }
+        ensures { MakesQuestion result (question_of name.now ranges masks actions) }
     {
         if !is_name_text(name) {
             return Err(Fault::Name);

@@ -1,7 +1,7 @@
 //! Sheets of verdicts.
 
 ghost use Rattle.std.specs.Prelude.{◌≡◌, ◌<◌, ◌≤◌, ℕ, not, length, map, IfOk, IfErr, Some, None, slice_get};
-ghost use Rattle.sf_ask.specs.Sheets.{SheetData, verdict_at, is_skipped, is_hit, is_doubt, is_wanted, IsRightEntry, IsRightSheet, HasWanted};
+ghost use Rattle.sf_ask.specs.Sheets.{SheetData, verdict_at, is_skipped, is_hit, is_doubt, is_wanted, IsRightWhereGiven, IsRightSheet, HasWanted};
 ghost use Rattle.sf_ask.specs.declared.fault.Fault.TheVariants.{Memory};
 
 use crate::fault::Fault;
@@ -65,7 +65,7 @@ fn asks_for(wanted: &[u64; 4], q: usize) -> bool
 }
 
 /// The verdict on a question that is asked for, and none on another.
-fn entry(
+fn verdict_if_wanted(
     alloc: Global,
     settled: &Settled,
     job: usize,
@@ -75,7 +75,7 @@ fn entry(
 ) -> Result<Option<Verdict>, Fault>
     requires job { job < length settled.now.regions }
     requires question { (q < length questions.now) × (q < 256) }
-    ensures right { IfOk result (IsRightEntry settled.now questions.now job q) }
+    ensures right { IfOk result (IsRightWhereGiven settled.now questions.now job q) }
     ensures wanted { IfOk result (λ e. is_skipped e ≡ not (is_wanted wanted.now q)) }
     ensures err { IfErr result (λ f. f ≡ Memory) }
 {
@@ -107,7 +107,7 @@ impl Sheet {
     {
         let mut verdicts = Vec::with_capacity(alloc, questions.len())?;
         for q in 0..questions.len() {
-            verdicts.push(entry(alloc, settled, job, questions, q, &wanted)?)?;
+            verdicts.push(verdict_if_wanted(alloc, settled, job, questions, q, &wanted)?)?;
         }
         Ok(Sheet {
             settled: Snapshot::of(settled),
@@ -137,7 +137,7 @@ impl Sheet {
     pub fn verdict(&self, q: usize) -> Option<Verdict>
         requires { q < length self.now.questions }
         ensures value { result ≡ verdict_at self.now.verdicts q }
-        ensures right { IsRightEntry self.now.settled self.now.questions self.now.job q result }
+        ensures right { IsRightWhereGiven self.now.settled self.now.questions self.now.job q result }
     {
         self.verdicts[q]
     }

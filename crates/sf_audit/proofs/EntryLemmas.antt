@@ -4,7 +4,7 @@ use Rattle.std.proofs.Common.{inl, inr}
 use Rattle.std.specs.List.{list_all}
 use Rattle.sf_ask.specs.declared.fault.Fault.{Fault as AskFault}
 use Rattle.sf_ask.specs.Actions.{is_no_action}
-use Rattle.sf_ask.specs.Asked.{Asked}
+use Rattle.sf_ask.specs.QuestionData.{QuestionData}
 use Rattle.sf_ask.specs.Questions.{is_name, is_in_order, is_inside_mask, question_of}
 use Rattle.sf_ask.specs.declared.fault.Fault.TheVariants as ask
 use Rattle.sf_audit.specs.declared.fault.Fault.{Fault}
@@ -21,8 +21,8 @@ use Rattle.sf_audit.specs.declared.policy.Version.{Version}
 use Rattle.sf_audit.specs.Keys.{has_only, question_keys, word_keys}
 use Rattle.sf_audit.specs.Trees.{each_of, text_at}
 use Rattle.sf_audit.specs.Actions.{is_action, are_actions, is_named, set_of, names_at}
-use Rattle.sf_audit.specs.Encoding.{no_actions, word_in, four_of, encoded, encoded_range, encoded_mask, encoded_set, numbered, with_number, table_or_empty}
-use Rattle.sf_audit.specs.Policies.{Entry, entry_of_parts, question_of_entry, question_where_read, question_of_table, question_cons, questions_from}
+use Rattle.sf_audit.specs.Encoding.{no_actions, word_in, four_of, encoded_word, encoded_range, encoded_mask, encoded_set, numbered_fault, with_number, table_or_empty}
+use Rattle.sf_audit.specs.Policies.{Entry, question_entry_of_parts, question_of_entry, question_where_read, question_of_table, question_cons, questions_from}
 
 word_in_cases : (z : ℤ) → word_in z ≡ if is_word z then Some (word_of z) else None
 word_in_cases (pos n) = refl
@@ -38,7 +38,7 @@ four_cases true true false d k l m n = refl
 four_cases true false c d k l m n = refl
 four_cases false b c d k l m n = refl
 
-encoded_cases : (w : WordEntry) → encoded w ≡ if has_words w then (range_of w, mask_of w) else ((1, 0), (0, 0))
+encoded_cases : (w : WordEntry) → encoded_word w ≡ if has_words w then (range_of w, mask_of w) else ((1, 0), (0, 0))
 encoded_cases w =
     rw (word_in_cases w.low, word_in_cases w.high, word_in_cases w.mask, word_in_cases w.value)
     (four_cases (is_word w.low) (is_word w.high) (is_word w.mask) (is_word w.value) (word_of w.low) (word_of w.high)
@@ -63,7 +63,7 @@ pick_both true b e f h = refl
 pick_both false b e f h = cc
 
 -- an entry with a range is handed on as it is
-in_range : (w : WordEntry) → has_range w ≡ true → encoded w ≡ (range_of w, mask_of w)
+in_range : (w : WordEntry) → has_range w ≡ true → encoded_word w ≡ (range_of w, mask_of w)
 in_range w h = encoded_cases w ∙ pick_both (has_words w) _ _ _ h
 
 both_true : (a b : Bool) → (a && b) ≡ true → (a ≡ true) × (b ≡ true)
@@ -130,13 +130,13 @@ set_same true set h = refl
 set_same false set h = cc
 
 -- a test that both make, and then the same
-same_test : (number : ℕ) (fault : AskFault) (b b' : Bool) (r : Result Asked AskFault) (due : Result Asked Fault)
+same_test : (number : ℕ) (fault : AskFault) (b b' : Bool) (r : Result QuestionData AskFault) (due : Result QuestionData Fault)
     → b' ≡ b → (b ≡ true → with_number number r ≡ due)
-    → with_number number (if not b' then Err fault else r) ≡ (if not b then Err (numbered number fault) else due)
+    → with_number number (if not b' then Err fault else r) ≡ (if not b then Err (numbered_fault number fault) else due)
 same_test number fault true b' r due e h = rw e (h refl)
 same_test number fault false b' r due e h = rw e refl
 
-same_actions : (number : ℕ) (b none : Bool) (q q' : Asked) → none ≡ not b → (b ≡ true → q' ≡ q)
+same_actions : (number : ℕ) (b none : Bool) (q q' : QuestionData) → none ≡ not b → (b ≡ true → q' ≡ q)
     → with_number number (if none then Err ask.Actions else Ok q')
     ≡ (if not b then Err (faults.Actions number) else Ok q)
 same_actions number true none q q' e h = rw e (ap Ok (h refl))
@@ -144,7 +144,7 @@ same_actions number false none q q' e h = rw e refl
 
 asked : (name : List ℕ) (ranges ranges' masks masks' : List (ℕ × ℕ)) (set set' : ActionSet) → ranges' ≡ ranges
     → masks' ≡ masks → set' ≡ set
-    → let question : List (ℕ × ℕ) → List (ℕ × ℕ) → ActionSet → Asked =
+    → let question : List (ℕ × ℕ) → List (ℕ × ℕ) → ActionSet → QuestionData =
     λ r m s. record { name = name; ranges = r; masks = m; actions = s } in
     question ranges' masks' set' ≡ question ranges masks set
 asked name ranges ranges' masks masks' set set' p q r = rw (p, q, r) refl
@@ -167,7 +167,7 @@ parts_due : (number : ℕ) (only : Bool) (name' : Option (List ℕ)) (words' : O
     (texts' : Option (List (List ℕ))) (name : List ℕ) (words : List WordEntry) (set : ActionSet)
     → only ≡ true → Some name ≡ name' → Some words ≡ words' → Some set ≡ option_map encoded_set texts'
     → with_number number (question_of name (map encoded_range words) (map encoded_mask words) set)
-    ≡ question_where_read number (if only then entry_of_parts name' words' texts' else None)
+    ≡ question_where_read number (if only then question_entry_of_parts name' words' texts' else None)
 parts_due number false name' words' texts' name words set h k l m = cc
 parts_due number true None words' texts' name words set h k l m = cc
 parts_due number true (Some name') None texts' name words set h k l m = cc
@@ -190,18 +190,18 @@ pub table_due : (version : Version) (number : ℕ) (ms : Members) (name : List �
 table_due version number ms name words set h k l m = parts_due number _ _ _ _ name words set h k l m
 
 -- the questions that were read, in front of those that are left
-abbrev pub with_questions : List Asked → Result (List Asked) Fault → Result (List Asked) Fault
+abbrev pub with_questions : List QuestionData → Result (List QuestionData) Fault → Result (List QuestionData) Fault
 with_questions front (Ok rest) = Ok (front ++ rest)
 with_questions front (Err fault) = Err fault
 
-with_questions_cons : (front : List Asked) (q : Asked) (rest : Result (List Asked) Fault)
+with_questions_cons : (front : List QuestionData) (q : QuestionData) (rest : Result (List QuestionData) Fault)
     → with_questions front (question_cons (Ok q) rest) ≡ with_questions (front ++ q ∷ []) rest
 with_questions_cons front q (Ok rest) = ap Ok (sym (append_assoc front (q ∷ []) rest))
 with_questions_cons front q (Err fault) = refl
 
 -- One more question was read.
-pub one_more_question : (version : Version) (whole : Result (List Asked) Fault) (front : List Asked) (vs : List Value)
-    (i : ℕ) (v : Value) (q : Asked)
+pub one_more_question : (version : Version) (whole : Result (List QuestionData) Fault) (front : List QuestionData) (vs : List Value)
+    (i : ℕ) (v : Value) (q : QuestionData)
     → i < length vs → v ≡ get_or vs i v
     → question_of_table version (i + 1) (table_or_empty (view v)) ≡ Ok q
     → whole ≡ with_questions front (questions_from version (i + 1) (map (λ v. table_or_empty (view v)) (drop i vs)))

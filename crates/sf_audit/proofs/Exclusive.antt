@@ -1,7 +1,7 @@
 -- An audit and a refusal exclude each other.
 use Rattle.std.proofs.Common.{◌≡◌, ℕ, ◌<◌, ◌≤◌, ◌⊎◌, List, length, inl, inr, ⊎_elim, arith}
 use Rattle.sf_check.specs.declared.insn.Insn.{Insn}
-use Rattle.sf_ask.specs.Asked.{Asked}
+use Rattle.sf_ask.specs.QuestionData.{QuestionData}
 use Rattle.sf_audit.specs.declared.fault.Fault.{Fault}
 use Rattle.sf_audit.specs.declared.fault.Fault.TheVariants as faults
 use Rattle.sf_audit.specs.Filters.{SpellStack, IsFirstRefusal}
@@ -14,7 +14,7 @@ NoStack = (files : List (List ℕ)) (e : Fault) (programs : List (List Insn)) �
     → SpellStack files programs → ⊥
 
 -- a refusal is of the number of questions, or of the files
-by_kind : (files : List (List ℕ)) (questions : List Asked) (e : Fault) → IsAuditRefusal files questions e
+by_kind : (files : List (List ℕ)) (questions : List QuestionData) (e : Fault) → IsAuditRefusal files questions e
     → IsMiscounted files questions ⊎ IsFirstRefusal files e
 by_kind files questions faults.Count r = inl r
 by_kind files questions e r = inr r
@@ -24,7 +24,7 @@ never_both : (n : ℕ) → (0 < n) × (n ≤ 256) → (n ≡ 0) ⊎ (256 < n) �
 never_both n h (inl none) = let some = h.0 in omega arith
 never_both n h (inr many) = let few = h.1 in omega arith
 
-pub audited_not_refused : NoStack → (files : List (List ℕ)) (questions : List Asked) (budget : ℕ)
+pub audited_not_refused : NoStack → (files : List (List ℕ)) (questions : List QuestionData) (budget : ℕ)
     (o : Found) (e : Fault)
     → IsAudit files questions budget o → IsAuditRefusal files questions e → ⊥
 audited_not_refused none files questions budget o e audit refused = ⊎_elim

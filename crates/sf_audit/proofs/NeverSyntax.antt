@@ -3,7 +3,7 @@ use Rattle.std.proofs.Common.{◌≡◌, ℕ, ◌+◌, Bool, true, false, not, �
 use Rattle.std.proofs.lemmas.Bool.{false≢true}
 use Rattle.std.specs.List.{list_all}
 use Rattle.toml.specs.Data.{Members, get_member}
-use Rattle.sf_ask.specs.Asked.{Asked}
+use Rattle.sf_ask.specs.QuestionData.{QuestionData}
 use Rattle.sf_ask.specs.Questions.{is_name}
 use Rattle.sf_audit.specs.declared.fault.Fault.{Fault}
 use Rattle.sf_audit.specs.declared.fault.Fault.TheVariants as faults
@@ -36,7 +36,7 @@ where_read : (number : ℕ) (e : Option Entry) → is_syntax (question_where_rea
 where_read number (Some e) = of_entry number e
 where_read number None = refl
 
-in_front : (q : Result Asked Fault) (qs : Result (List Asked) Fault) → is_syntax q ≡ false → is_syntax qs ≡ false
+in_front : (q : Result QuestionData Fault) (qs : Result (List QuestionData) Fault) → is_syntax q ≡ false → is_syntax qs ≡ false
     → is_syntax (question_cons q qs) ≡ false
 in_front (Ok q) (Ok qs) p r = refl
 in_front (Ok q) (Err fault) p r = r
@@ -60,7 +60,7 @@ where_version (Some version) ms = choice (has_only top_keys ms) _ _
 where_version None ms = refl
 
 -- a function that gives what a tree means never answers `Syntax`
-pub not_syntax : {X : Type 0} (view : X → List Asked) (r : Result X Fault) (ms : Members) → Gives view r (policy_of ms)
+pub not_syntax : {X : Type 0} (view : X → List QuestionData) (r : Result X Fault) (ms : Members) → Gives view r (policy_of ms)
     → r ≡ Err faults.Syntax → ⊥
 not_syntax view r ms gives e = false≢true (sym (where_version (version_of (number_at (codes "version") ms)) ms)
     ∙ ap (λ l. is_syntax l) (rw e at gives))

@@ -18,18 +18,18 @@ use Rattle.sf_run.specs.FeasibleLaws.{feasible_are}
 use Rattle.sf_run.specs.InputLaws.{contains_map}
 use Rattle.sf_piece.specs.Pieces.{is_member, is_prefix}
 use Rattle.sf_book.specs.declared.book.Counts.{Counts}
-use Rattle.sf_book.specs.Books.{RegionData, BookData, IsRightRegion, IsLawful, counts_of}
+use Rattle.sf_book.specs.Books.{RegionData, BookData, IsRightRegion, IsLawfulBook, counts_of}
 use Rattle.sf_book.specs.Exact.{IsWorkedOff}
 use Rattle.sf_book.specs.PartitionLaws.{prefix-refl}
-use Rattle.sf_ask.specs.Asked.{Asked}
+use Rattle.sf_ask.specs.QuestionData.{QuestionData}
 use Rattle.sf_ask.specs.Breaking.{Breaks}
 use Rattle.sf_ask.specs.declared.verdict.Reply.{Reply}
 use Rattle.sf_ask.specs.declared.verdict.Reply.TheVariants.{Never, Allowed, Unsettled}
-use Rattle.sf_ask.specs.Verdicts.{IsMemberAt, IsBreakAt, IsFirstBreak, IsPlainExample}
+use Rattle.sf_ask.specs.Verdicts.{IsMemberAt, IsBreakAt, IsFirstBreak, IsLeastExample}
 use Rattle.sf_crew.specs.Sweeps.{IsReplyTo, IsRightReplyAt, AreRightReplies}
 use Rattle.sf_audit.specs.Audits.{IsAudit}
 use Rattle.sf_audit.specs.Outcomes.{Found}
-use Rattle.sf_audit.specs.Reports.{line, size_line, trace_text, action_text, region_line, region_lines, shown_lines, title_line, counts_line, question_lines, totals_line, head_text, report_text}
+use Rattle.sf_audit.specs.Reports.{line, size_line, name_text, action_text, region_line, region_lines, shown_lines, title_line, counts_line, question_lines, totals_line, head_text, report_text}
 use Rattle.sf_audit.proofs.RefusalLemmas.{OneStack}
 
 -- the names of regions, in order
@@ -38,8 +38,8 @@ names rs = map (λ (r : RegionData). r.name) rs
 
 -- two books of one stack that are worked off
 record AreAlike (b c : BookData) : Type 0 where
-  lawful : IsLawful b
-  lawful' : IsLawful c
+  lawful : IsLawfulBook b
+  lawful' : IsLawfulBook c
   stack : b.stack ≡ c.stack
   done : b.outstanding ≡ []
   done' : c.outstanding ≡ []
@@ -65,7 +65,7 @@ same_names b c h = h.worked.names ∙ same_traces b c h ∙ sym h.worked'.names
 
 -- ---- the regions at a place
 
-right_at : (b : BookData) (i : ℕ) (r : RegionData) → IsLawful b → slice_get b.regions i ≡ Some r
+right_at : (b : BookData) (i : ℕ) (r : RegionData) → IsLawfulBook b → slice_get b.regions i ≡ Some r
     → IsRightRegion b.stack r
 right_at b i r h at = subst (IsRightRegion b.stack) (get_or_from_slice_get b.regions i r r at)
     (h.regions i r (slice_get_within b.regions i r at))
@@ -101,13 +101,13 @@ member_too b c h i d m =
     ∙ ap (λ (s : List (List Insn)). is_prefix m.region.name (trace_of s d)) (sym h.stack) in
     record { region = t.region; there = t.there; input = m.input; member = right'.members d m.input ∙ named ∙ begins }
 
-break_too : (b c : BookData) → AreAlike b c → (i : ℕ) (q : Asked) (d : Input) → IsBreakAt b i q d → IsBreakAt c i q d
+break_too : (b c : BookData) → AreAlike b c → (i : ℕ) (q : QuestionData) (d : Input) → IsBreakAt b i q d → IsBreakAt c i q d
 break_too b c h i q d k = record {
   member = member_too b c h i d k.member;
   breaks = subst (λ (s : List (List Insn)). Breaks s q d) h.stack k.breaks;
 }
 
-same_first : (b c : BookData) → AreAlike b c → (q : Asked) (i j : ℕ) → IsFirstBreak b q i → IsFirstBreak c q j → i ≡ j
+same_first : (b c : BookData) → AreAlike b c → (q : QuestionData) (i j : ℕ) → IsFirstBreak b q i → IsFirstBreak c q j → i ≡ j
 same_first b c h q i j f g =
     elim (cases_lt i j) [
       | inl less ↦ absurd (g.none_earlier i less f.here.0 (break_too b c h i q f.here.0 f.here.1))
@@ -128,8 +128,8 @@ same_input d e p q each =
     let long : length d.words ≡ 16 = p.sixteen in
     input_is d.words e.words (ext_get_or 0 d.words e.words (p.sixteen ∙ sym q.sixteen) (λ i less. each i (omega arith)))
 
-same_example : (b c : BookData) → AreAlike b c → (q : Asked) (i : ℕ) (d e : Input) → IsPlainExample b i q d
-    → IsPlainExample c i q e → d ≡ e
+same_example : (b c : BookData) → AreAlike b c → (q : QuestionData) (i : ℕ) (d e : Input) → IsLeastExample b i q d
+    → IsLeastExample c i q e → d ≡ e
 same_example b c h q i d e f g =
     same_input d e f.breaks.member.input g.breaks.member.input (λ w less.
     let low : slice_index d.words w ≤ slice_index e.words w =
@@ -143,7 +143,7 @@ same_example b c h q i d e f g =
 none_left : (b : BookData) → b.outstanding ≡ [] → 0 < length b.outstanding → ⊥
 none_left b none some = let left : length b.outstanding ≡ 0 = ap length none in omega arith
 
-same_reply : (b c : BookData) → AreAlike b c → IsPlain b.stack → (q : Asked) (x y : Reply) → IsReplyTo b q x
+same_reply : (b c : BookData) → AreAlike b c → IsPlain b.stack → (q : QuestionData) (x y : Reply) → IsReplyTo b q x
     → IsReplyTo c q y → x ≡ y
 same_reply b c h plain q Unsettled y f g = absurd (none_left b h.done (f.plain plain))
 same_reply b c h plain q x Unsettled f g = absurd (none_left c h.done' (g.plain (subst IsPlain h.stack plain)))
@@ -156,9 +156,9 @@ same_reply b c h plain q (Allowed d) (Allowed e) f g =
     let p = f.plain plain in
     let r = g.plain (subst IsPlain h.stack plain) in
     let place : p.0 ≡ r.0 = same_first b c h q p.0 r.0 p.1 r.1 in
-    ap Allowed (same_example b c h q p.0 d e p.2 (subst (λ k. IsPlainExample c k q e) (sym place) r.2))
+    ap Allowed (same_example b c h q p.0 d e p.2 (subst (λ k. IsLeastExample c k q e) (sym place) r.2))
 
-same_replies : (b c : BookData) → AreAlike b c → IsPlain b.stack → (qs : List Asked) (xs ys : List Reply)
+same_replies : (b c : BookData) → AreAlike b c → IsPlain b.stack → (qs : List QuestionData) (xs ys : List Reply)
     → AreRightReplies b qs xs → AreRightReplies c qs ys → xs ≡ ys
 same_replies b c h plain qs xs ys f g =
     let long : length xs ≡ length qs = f.count in
@@ -169,7 +169,7 @@ same_replies b c h plain qs xs ys f g =
     let r : IsRightReplyAt c qs k (get_or ys k d) = g.each k (get_or ys k d) (slice_get-get_or ys k d less') in
     let asked : p.question ≡ r.question = same_Some p.question r.question (sym p.asked ∙ r.asked) in
     same_reply b c h plain p.question (get_or xs k d) (get_or ys k d) p.replies
-    (subst (λ (a : Asked). IsReplyTo c a (get_or ys k d)) (sym asked) r.replies))
+    (subst (λ (a : QuestionData). IsReplyTo c a (get_or ys k d)) (sym asked) r.replies))
 
 -- ---- the same answers
 
@@ -205,7 +205,7 @@ same_answer b c h i r s at at' =
 -- ---- the same lines
 
 abbrev told : ℕ → List Bool → Answer → List ℕ
-told n name a = line (codes "region" ∷ decimal n ∷ trace_text name ∷ action_text a.action ∷ decimal a.info ∷ [])
+told n name a = line (codes "region" ∷ decimal n ∷ name_text name ∷ action_text a.action ∷ decimal a.info ∷ [])
 
 same_line : (n : ℕ) (r s : RegionData) → r.name ≡ s.name → r.answer ≡ s.answer → region_line n r ≡ region_line n s
 same_line n r s name answer = ap (λ (t : List Bool). told n t r.answer) name
@@ -262,7 +262,7 @@ whole_is : {a a' b b' c c' d d' : List ℕ} → a ≡ a' → b ≡ b' → c ≡ 
 whole_is p q r s = cc
 
 -- what two audits of the files ended with is alike
-alike : OneStack → (files : List (List ℕ)) (questions : List Asked) (m n : ℕ) (o p : Found)
+alike : OneStack → (files : List (List ℕ)) (questions : List QuestionData) (m n : ℕ) (o p : Found)
     → IsAudit files questions m o → IsAudit files questions n p → IsPlain o.settled.stack
     → o.settled.outstanding ≡ [] → p.settled.outstanding ≡ [] → AreAlike o.settled p.settled
 alike one_stack files questions m n o p f g plain none none' =
@@ -278,7 +278,7 @@ alike one_stack files questions m n o p f g plain none none' =
       worked' = (g.found.plain (subst IsPlain stack plain)).worked none';
     }
 
-pub same_report : OneStack → (files : List (List ℕ)) (questions : List Asked) (m n : ℕ) (o p : Found)
+pub same_report : OneStack → (files : List (List ℕ)) (questions : List QuestionData) (m n : ℕ) (o p : Found)
     → IsAudit files questions m o → IsAudit files questions n p → IsPlain o.settled.stack
     → o.settled.outstanding ≡ [] → p.settled.outstanding ≡ [] → (shown : Bool)
     → report_text o shown ≡ report_text p shown
@@ -286,16 +286,16 @@ same_report one_stack files questions m n o p f g plain none none' shown =
     let h = alike one_stack files questions m n o p f g plain none none' in
     let asked : o.questions ≡ p.questions = f.found.questions ∙ sym g.found.questions in
     let theirs : AreRightReplies p.settled o.questions p.replies =
-    subst (λ (qs : List Asked). AreRightReplies p.settled qs p.replies) (sym asked) g.found.replies in
+    subst (λ (qs : List QuestionData). AreRightReplies p.settled qs p.replies) (sym asked) g.found.replies in
     let replies : o.replies ≡ p.replies = same_replies o.settled p.settled h plain o.questions o.replies p.replies
     f.found.replies theirs in
     let heads : head o.settled.stack (length o.questions) (counts_of o.settled)
     ≡ head p.settled.stack (length p.questions) (counts_of p.settled) =
     ap (λ (s : List (List Insn)). head s (length o.questions) (counts_of o.settled)) h.stack
-    ∙ (ap (λ (qs : List Asked). head p.settled.stack (length qs) (counts_of o.settled)) asked
+    ∙ (ap (λ (qs : List QuestionData). head p.settled.stack (length qs) (counts_of o.settled)) asked
     ∙ ap (λ (c : Counts). head p.settled.stack (length p.questions) c) (same_counts o.settled p.settled h)) in
     let answers : question_lines 1 o.questions o.replies ≡ question_lines 1 p.questions p.replies =
-    ap (λ (qs : List Asked). question_lines 1 qs o.replies) asked
+    ap (λ (qs : List QuestionData). question_lines 1 qs o.replies) asked
     ∙ ap (λ (rs : List Reply). question_lines 1 p.questions rs) replies in
     let regions : region_lines 1 o.settled.regions ≡ region_lines 1 p.settled.regions =
     same_lines 1 o.settled.regions p.settled.regions (same_names o.settled p.settled h)

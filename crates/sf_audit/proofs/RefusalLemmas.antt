@@ -7,7 +7,7 @@ use Rattle.sf_insn.specs.Spelling.{insn_bytes, spelling, AreInsns}
 use Rattle.sf_check.specs.declared.insn.Insn.{Insn}
 use Rattle.sf_check.specs.declared.fault.Fault.{Fault as CheckFault}
 use Rattle.sf_check.specs.Codes.{insn_of}
-use Rattle.sf_check.specs.Programs.{IsLawful, Spells, SpellsProgram}
+use Rattle.sf_check.specs.Programs.{IsLawfulProgram, Spells, SpellsProgram}
 use Rattle.sf_check.specs.Refusals.{IsFirstFault}
 use Rattle.sf_check.specs.Stacks.{path_length}
 use Rattle.sf_audit.specs.declared.fault.Fault.{Fault}
@@ -23,7 +23,7 @@ OneProgram = (bytes : List ℕ) (a b : List Insn) → SpellsProgram bytes a → 
 
 abbrev pub FaultsAreNot : Type 0
 FaultsAreNot = (raws : List RawInsn) (e : CheckFault) (code : List Insn) → IsFirstFault raws e → Spells raws code
-    → IsLawful code → ⊥
+    → IsLawfulProgram code → ⊥
 
 abbrev pub OneStack : Type 0
 OneStack = (files : List (List ℕ)) (a b : List (List Insn)) → SpellPrograms files a → SpellPrograms files b → a ≡ b

@@ -9,7 +9,7 @@ use Rattle.toml.specs.Data.{Data, no_members, as_str, as_table}
 use Rattle.toml.specs.View.{view, items_view, members_view}
 use Rattle.toml.specs.declared.value.Value.{Value}
 use Rattle.sf_audit.specs.Keys.{has_only, question_keys, top_keys, mask_keys}
-use Rattle.sf_audit.specs.Trees.{option_cons, each_of, listed, texts_of, tables_of}
+use Rattle.sf_audit.specs.Trees.{option_cons, each_of, item_list, texts_of, tables_of}
 use Rattle.sf_audit.specs.Words.{entry_of_array}
 use Rattle.sf_audit.specs.Encoding.{text_or_empty, table_or_empty}
 use Rattle.sf_audit.specs.declared.policy.keys.TheConstants.{QUESTION_KEYS, TOP_KEYS, MASK_KEYS}
@@ -44,7 +44,7 @@ long_array (v ∷ []) h = refl
 long_array (v ∷ w ∷ []) h = absurd (omega arith)
 long_array (v ∷ w ∷ x ∷ vs) h = refl
 
-listed_view : (vs : List Value) → listed (items_view vs) ≡ map view vs
+listed_view : (vs : List Value) → item_list (items_view vs) ≡ map view vs
 listed_view [] = refl
 listed_view (v ∷ vs) = ap (λ ds. view v ∷ ds) (listed_view vs)
 

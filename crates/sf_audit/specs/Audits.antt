@@ -1,9 +1,9 @@
 -- What an audit finds, and why it is refused.
 use Rattle.std.specs.Prelude.{◌≡◌, ℕ, ◌<◌, ◌≤◌, ◌⊎◌, List, length}
 use Rattle.sf_check.specs.declared.insn.Insn.{Insn}
-use Rattle.sf_ask.specs.Asked.{Asked}
+use Rattle.sf_ask.specs.QuestionData.{QuestionData}
 use Rattle.sf_check.specs.Stacks.{IsPlain}
-use Rattle.sf_crew.specs.Ends.{IsEndOf, IsExactEnd}
+use Rattle.sf_crew.specs.Explorations.{IsExplorationOf, IsExactExploration}
 use Rattle.sf_crew.specs.Sweeps.{AreRightReplies}
 use Rattle.sf_crew.specs.declared.fault.Fault.{Fault as CrewFault}
 use Rattle.sf_crew.specs.declared.fault.Fault.TheVariants as crew
@@ -14,26 +14,26 @@ use Rattle.sf_audit.specs.Outcomes.{Found}
 
 -- An exploration of the stack came to its end, with nothing outstanding or all of the budget spent; the questions are
 -- those that were asked, and each has a right reply. On a plain stack the end is the exact one, whoever worked.
-pub record IsFoundOn (stack : List (List Insn)) (budget : ℕ) (asked : List Asked) (o : Found) : Type 0 where
-  pub end : IsEndOf stack budget o.settled
-  pub plain : IsPlain stack → IsExactEnd stack budget o.settled
+pub record IsFoundOn (stack : List (List Insn)) (budget : ℕ) (asked : List QuestionData) (o : Found) : Type 0 where
+  pub end : IsExplorationOf stack budget o.settled
+  pub plain : IsPlain stack → IsExactExploration stack budget o.settled
   pub questions : o.questions ≡ asked
   pub replies : AreRightReplies o.settled o.questions o.replies
 
 -- it was found on the stack that the files spell, and there are 1 to 256 questions
-pub record IsAudit (files : List (List ℕ)) (questions : List Asked) (budget : ℕ) (o : Found) : Type 0 where
+pub record IsAudit (files : List (List ℕ)) (questions : List QuestionData) (budget : ℕ) (o : Found) : Type 0 where
   pub stack : SpellStack files o.settled.stack
   pub counted : (0 < length questions) × (length questions ≤ 256)
   pub found : IsFoundOn o.settled.stack budget questions o
 
 -- the files spell a stack, but there is no question or there are too many
-pub record IsMiscounted (files : List (List ℕ)) (questions : List Asked) : Type 0 where
+pub record IsMiscounted (files : List (List ℕ)) (questions : List QuestionData) : Type 0 where
   pub stack : List (List Insn)
   pub spelled : SpellStack files stack
   pub count : (length questions ≡ 0) ⊎ (256 < length questions)
 
 -- the first refusal: of the files, then of the questions by their number
-abbrev pub IsAuditRefusal : List (List ℕ) → List Asked → Fault → Type 0
+abbrev pub IsAuditRefusal : List (List ℕ) → List QuestionData → Fault → Type 0
 IsAuditRefusal files questions faults.Count = IsMiscounted files questions
 IsAuditRefusal files questions fault = IsFirstRefusal files fault
 

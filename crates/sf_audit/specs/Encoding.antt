@@ -21,16 +21,16 @@ four_of (Some low) (Some high) (Some mask) (Some value) = ((low, high), (mask, v
 four_of _ _ _ _ = ((1, 0), (0, 0))
 
 -- what is handed in of a word's entry; the range has no number where one of the four isn't of 32 bits
-abbrev pub encoded : WordEntry → (ℕ × ℕ) × (ℕ × ℕ)
-encoded w = four_of (word_in w.low) (word_in w.high) (word_in w.mask) (word_in w.value)
+abbrev pub encoded_word : WordEntry → (ℕ × ℕ) × (ℕ × ℕ)
+encoded_word w = four_of (word_in w.low) (word_in w.high) (word_in w.mask) (word_in w.value)
 
 -- the ends that are handed in: of no number, where the entry has one outside 32 bits
 abbrev pub encoded_range : WordEntry → ℕ × ℕ
-encoded_range w = (encoded w).0
+encoded_range w = (encoded_word w).0
 
 -- the mask and the value that are handed in, both 0 where the entry has a number outside 32 bits
 abbrev pub encoded_mask : WordEntry → ℕ × ℕ
-encoded_mask w = (encoded w).1
+encoded_mask w = (encoded_word w).1
 
 -- the set without an action
 abbrev pub no_actions : ActionSet
@@ -59,14 +59,14 @@ abbrev pub table_or_empty : Data → Members
 table_or_empty d = unwrap_or (as_table d) no_members
 
 -- a fault of a question, with the question's number
-abbrev pub numbered : ℕ → AskFault → Fault
-numbered number ask.Name = faults.Name number
-numbered number ask.Range = faults.Range number
-numbered number ask.Mask = faults.Mask number
-numbered number ask.Actions = faults.Actions number
-numbered number ask.Memory = faults.Memory
+abbrev pub numbered_fault : ℕ → AskFault → Fault
+numbered_fault number ask.Name = faults.Name number
+numbered_fault number ask.Range = faults.Range number
+numbered_fault number ask.Mask = faults.Mask number
+numbered_fault number ask.Actions = faults.Actions number
+numbered_fault number ask.Memory = faults.Memory
 
 -- what was made, or its fault with the question's number
 abbrev pub with_number : {X : Type 0} → ℕ → Result X AskFault → Result X Fault
 with_number number (Ok x) = Ok x
-with_number number (Err fault) = Err (numbered number fault)
+with_number number (Err fault) = Err (numbered_fault number fault)

@@ -1,13 +1,13 @@
 -- What an audit found.
 use Rattle.std.specs.Prelude.{◌≡◌, List, length}
 use Rattle.sf_book.specs.Books.{BookData}
-use Rattle.sf_ask.specs.Asked.{Asked}
+use Rattle.sf_ask.specs.QuestionData.{QuestionData}
 use Rattle.sf_ask.specs.declared.verdict.Reply.{Reply}
 
 -- how the exploration ended, the questions, and a reply to each
 pub record Found : Type 0 where
   pub settled : BookData
-  pub questions : List Asked
+  pub questions : List QuestionData
   pub replies : List Reply
 
 -- each question has a reply

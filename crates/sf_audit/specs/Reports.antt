@@ -10,7 +10,7 @@ use Rattle.sf_run.specs.declared.action.Action.{Action}
 use Rattle.sf_run.specs.declared.action.Action.TheVariants.{KillProcess, KillThread, Trap, Errno, UserNotif, Trace, Log, Allow, Other}
 use Rattle.sf_book.specs.declared.book.Counts.{Counts}
 use Rattle.sf_book.specs.Books.{BookData, RegionData, counts_of}
-use Rattle.sf_ask.specs.Asked.{Asked}
+use Rattle.sf_ask.specs.QuestionData.{QuestionData}
 use Rattle.sf_ask.specs.declared.verdict.Reply.{Reply}
 use Rattle.sf_ask.specs.declared.verdict.Reply.TheVariants.{Never, Allowed, Unsettled}
 use Rattle.sf_audit.specs.Outcomes.{Found}
@@ -49,7 +49,7 @@ question_line number name (Allowed input) =
 question_line number name Unsettled = line (codes "question" ∷ decimal number ∷ name ∷ codes "unsettled" ∷ [])
 
 -- a line for each question and its reply, the first of them with this number
-abbrev pub question_lines : ℕ → List Asked → List Reply → List ℕ
+abbrev pub question_lines : ℕ → List QuestionData → List Reply → List ℕ
 question_lines number (q ∷ qs) (r ∷ rs) = question_line number q.name r ++ question_lines (number + 1) qs rs
 question_lines number _ _ = []
 
@@ -59,8 +59,8 @@ letter true = 84
 letter false = 70
 
 -- truth values by T and F, none by -
-abbrev pub trace_text : List Bool → List ℕ
-trace_text name = if length name == 0 then codes "-" else map letter name
+abbrev pub name_text : List Bool → List ℕ
+name_text name = if length name == 0 then codes "-" else map letter name
 
 -- the action's name, or OTHER with its number by eight hexadecimal digits
 abbrev pub action_text : Action → List ℕ
@@ -78,7 +78,7 @@ action_text (Other value) = codes "OTHER:0x" ++ padded_integral (format_spec 32 
 -- a region's number and name, and the action and data that it is answered with
 abbrev pub region_line : ℕ → RegionData → List ℕ
 region_line number r =
-    line (codes "region" ∷ decimal number ∷ trace_text r.name ∷ action_text r.answer.action
+    line (codes "region" ∷ decimal number ∷ name_text r.name ∷ action_text r.answer.action
     ∷ decimal r.answer.info ∷ [])
 
 -- a line for each region, the first of them with this number

@@ -13,17 +13,17 @@ each_of read [] = Some []
 each_of read (x ∷ xs) = option_cons (read x) (each_of read xs)
 
 -- the items of an array
-abbrev pub listed : Items → List Data
-listed no_items = []
-listed (item d ds) = d ∷ listed ds
+abbrev pub item_list : Items → List Data
+item_list no_items = []
+item_list (item d ds) = d ∷ item_list ds
 
 -- an array of texts
 abbrev pub texts_of : Items → Option (List (List ℕ))
-texts_of ds = each_of as_str (listed ds)
+texts_of ds = each_of as_str (item_list ds)
 
 -- an array of tables
 abbrev pub tables_of : Items → Option (List Members)
-tables_of ds = each_of as_table (listed ds)
+tables_of ds = each_of as_table (item_list ds)
 
 -- the whole number at a key
 abbrev pub number_at : List ℕ → Members → Option ℤ

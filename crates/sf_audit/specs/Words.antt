@@ -31,16 +31,16 @@ entry_of_array (item low (item high no_items)) = entry_between (as_integer low) 
 entry_of_array _ = None
 
 -- a mask, a value and a range, where all four numbers could be read
-abbrev pub entry_of_parts : Option ℤ → Option ℤ → Option ℤ → Option ℤ → Option WordEntry
-entry_of_parts (Some mask) (Some value) (Some low) (Some high) =
+abbrev pub word_entry_of_parts : Option ℤ → Option ℤ → Option ℤ → Option ℤ → Option WordEntry
+word_entry_of_parts (Some mask) (Some value) (Some low) (Some high) =
     Some (record { low = low; high = high; mask = mask; value = value })
-entry_of_parts _ _ _ _ = None
+word_entry_of_parts _ _ _ _ = None
 
 -- a table with a mask, a value and, where they are named, the ends of a range
 abbrev pub entry_of_table : Members → Option WordEntry
 entry_of_table ms =
     if has_only mask_keys ms
-    then entry_of_parts (number_at (codes "mask") ms) (number_at (codes "value") ms)
+    then word_entry_of_parts (number_at (codes "mask") ms) (number_at (codes "value") ms)
     (number_or (pos 0) (get_member (codes "low") ms)) (number_or most (get_member (codes "high") ms))
     else None
 

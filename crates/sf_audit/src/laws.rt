@@ -3,7 +3,7 @@
 ghost use Rattle.std.specs.Prelude.{◌≡◌, ℕ, Bool, List, []};
 ghost use Rattle.sf_check.specs.declared.insn.Insn.{Insn};
 ghost use Rattle.sf_check.specs.Stacks.{IsPlain};
-ghost use Rattle.sf_ask.specs.Asked.{Asked};
+ghost use Rattle.sf_ask.specs.QuestionData.{QuestionData};
 ghost use Rattle.sf_audit.specs.declared.fault.Fault.{Fault};
 ghost use Rattle.sf_audit.specs.Audits.{IsAudit, IsAuditRefusal};
 ghost use Rattle.sf_audit.specs.Filters.{SpellPrograms, SpellStack, IsFirstRefusal};
@@ -44,7 +44,7 @@ pub fn one_refusal()
 /// What is audited is not refused: its files have no refusal, and there are 1 to 256 questions. So `audit` refuses exactly
 /// what its definition says, but for want of memory.
 pub fn an_audit_is_not_refused()
-    ensures { (files : List (List ℕ)) (questions : List Asked) (budget : ℕ)
+    ensures { (files : List (List ℕ)) (questions : List QuestionData) (budget : ℕ)
         (o : Found) (e : Fault) →
         IsAudit files questions budget o → IsAuditRefusal files questions e → ⊥ }
 {
@@ -54,7 +54,7 @@ pub fn an_audit_is_not_refused()
 /// Two audits of one plain stack with the same questions that leave nothing outstanding have the same report, whatever
 /// their budgets, and whoever worked.
 pub fn one_report()
-    ensures { (files : List (List ℕ)) (questions : List Asked) (b c : ℕ) (o p : Found) →
+    ensures { (files : List (List ℕ)) (questions : List QuestionData) (b c : ℕ) (o p : Found) →
         IsAudit files questions b o → IsAudit files questions c p → IsPlain o.settled.stack →
         o.settled.outstanding ≡ [] → p.settled.outstanding ≡ [] →
         (shown : Bool) → report_text o shown ≡ report_text p shown }

@@ -10,24 +10,24 @@ use Rattle.sf_check.specs.declared.insn.Insn.{Insn}
 use Rattle.sf_check.specs.Stacks.{IsLawfulStack}
 use Rattle.sf_book.specs.PartitionLaws.{bit, hits, prefix-refl}
 use Rattle.sf_book.proofs.Names.{prefix-append}
-use Rattle.sf_book.proofs.Shelves.{some_inj}
+use Rattle.sf_book.proofs.MapLemmas.{some_inj}
 use Rattle.sf_piece.specs.Pieces.{PieceData, WorkData, is_prefix, IsTrulyNamed, IsRightSplit, IsRightAnswer, HasNoMember, IsRoot}
-use Rattle.sf_book.specs.Books.{EntryData, BookData, IsLawful, IsKept, fresh}
-use Rattle.sf_book.specs.Changes.{entry_at, without, MayCommit, IsStale, Refuses}
+use Rattle.sf_book.specs.Books.{OutstandingData, BookData, IsLawfulBook, IsKept, fresh}
+use Rattle.sf_book.specs.Changes.{outstanding_at, without, MayCommit, IsStale, Refuses}
 use Rattle.sf_book.specs.declared.fault.Fault.{Fault}
 use Rattle.sf_book.specs.declared.fault.Fault.TheVariants.{Memory}
 use Rattle.std.specs.Prelude.{Result, Ok, Err, IfErr}
 use Rattle.sf_book.proofs.Lists.{remove_without}
-use Rattle.sf_book.proofs.Lawful.{fresh_lawful, IsReplaced, entry, after_split, after_answer, after_empty, split_lawful, answer_lawful, empty_lawful, marks_lawful}
+use Rattle.sf_book.proofs.Lawful.{fresh_lawful, IsReplaced, leased_piece, after_split, after_answer, after_empty, split_lawful, answer_lawful, empty_lawful, marks_lawful}
 
 -- where in the list the work's piece is
-pub record IsPlace (es : List EntryData) (id : ℕ) (w : WorkData) (place : ℕ) : Type 0 where
+pub record IsPlace (es : List OutstandingData) (id : ℕ) (w : WorkData) (place : ℕ) : Type 0 where
   pub there : place < length es
   pub has_id : HoldsAt (λ e. e.id ≡ id) es place
   pub has_name : HoldsAt (λ e. e.piece.name ≡ w.piece.name) es place
 
-pub kept_marks : (b : BookData) (next : ℕ) (g : EntryData → EntryData) → ((e : EntryData) → (g e).id ≡ e.id)
-    → ((e : EntryData) → (g e).piece ≡ e.piece) → IsKept b next
+pub kept_marks : (b : BookData) (next : ℕ) (g : OutstandingData → OutstandingData) → ((e : OutstandingData) → (g e).id ≡ e.id)
+    → ((e : OutstandingData) → (g e).piece ≡ e.piece) → IsKept b next
     → IsKept (record b { outstanding = map g b.outstanding }) next
 kept_marks b next g ids pieces h = record {
   lawful = marks_lawful b g ids pieces h.lawful;
@@ -36,9 +36,9 @@ kept_marks b next g ids pieces h = record {
   few = h.few;
 }
 
-pub kept_split : (b : BookData) (p f t : PieceData) (i next : ℕ) (e : EntryData) → IsKept b next → IsReplaced b p i e
+pub kept_split : (b : BookData) (p f t : PieceData) (i next : ℕ) (e : OutstandingData) → IsKept b next → IsReplaced b p i e
     → IsRightSplit p f t
-    → IsKept (after_split b ((remove b.outstanding i ++ entry next f ∷ []) ++ entry (next + 1) t ∷ [])) (next + 2)
+    → IsKept (after_split b ((remove b.outstanding i ++ leased_piece next f ∷ []) ++ leased_piece (next + 1) t ∷ [])) (next + 2)
 kept_split b p f t i next e h r s =
     let few = h.few in
     let es = remove b.outstanding i in
@@ -47,17 +47,17 @@ kept_split b p f t i next e h r s =
     (All-filter _ (λ x. x.id < next + 2) b.outstanding (λ k d l. let o = h.below k d l in omega arith)) in
     record {
       lawful = split_lawful b p f t i next (next + 1) e h.lawful r s h.below (omega arith);
-      below = All-push (λ x. x.id < next + 2) (es ++ entry next f ∷ []) (entry (next + 1) t)
-          (All-push (λ x. x.id < next + 2) es (entry next f) low (omega arith)) (omega arith);
+      below = All-push (λ x. x.id < next + 2) (es ++ leased_piece next f ∷ []) (leased_piece (next + 1) t)
+          (All-push (λ x. x.id < next + 2) es (leased_piece next f) low (omega arith)) (omega arith);
       few = omega arith;
     }
 
-below_less : (b : BookData) (i next : ℕ) (e : EntryData) → IsKept b next → i < length b.outstanding
+below_less : (b : BookData) (i next : ℕ) (e : OutstandingData) → IsKept b next → i < length b.outstanding
     → All (λ x. x.id < next) (remove b.outstanding i)
 below_less b i next e h l = rw (remove_without b.outstanding i e h.lawful.ids l)
     (All-filter _ (λ x. x.id < next) b.outstanding h.below)
 
-pub kept_answer : (b : BookData) (p : PieceData) (n : List Bool) (a : Answer) (i next : ℕ) (e : EntryData)
+pub kept_answer : (b : BookData) (p : PieceData) (n : List Bool) (a : Answer) (i next : ℕ) (e : OutstandingData)
     → IsKept b next → IsReplaced b p i e → IsRightAnswer p n a
     → IsKept (after_answer b (remove b.outstanding i) (record { piece = p; name = n; answer = a })) next
 kept_answer b p n a i next e h r s =
@@ -68,14 +68,14 @@ kept_answer b p n a i next e h r s =
       few = omega arith;
     }
 
-pub kept_empty : (b : BookData) (p : PieceData) (i next : ℕ) (e : EntryData) → IsKept b next
+pub kept_empty : (b : BookData) (p : PieceData) (i next : ℕ) (e : OutstandingData) → IsKept b next
     → IsReplaced b p i e → HasNoMember p
     → IsKept (after_empty b (remove b.outstanding i) p.name) next
 kept_empty b p i next e h r s =
     let few = h.few in
     record { lawful = empty_lawful b p i e h.lawful r s; below = below_less b i next e h r.there; few = omega arith }
 
-two_places : (m : EntryData → ℕ) (es : List EntryData) (i j : ℕ) (d e : EntryData) → i < length es → j < length es
+two_places : (m : OutstandingData → ℕ) (es : List OutstandingData) (i j : ℕ) (d e : OutstandingData) → i < length es → j < length es
     → (i ≡ j → ⊥) → m (get_or es i d) + m (get_or es j e) ≤ sum_by m es
 two_places m [] i j d e li lj n = absurd (omega arith)
 two_places m (x ∷ es) zero zero d e li lj n = absurd (n refl)
@@ -93,13 +93,13 @@ two_places m (x ∷ es) (suc i) (suc j) d e li lj n =
     omega arith
 
 -- no outstanding piece has a longer name that begins with another's
-no_child : (b : BookData) (p : PieceData) (i : ℕ) (d : EntryData) (n : List Bool) → IsLawful b
+no_child : (b : BookData) (p : PieceData) (i : ℕ) (d : OutstandingData) (n : List Bool) → IsLawfulBook b
     → i < length b.outstanding → (get_or b.outstanding i d).piece.name ≡ p.name
     → is_prefix p.name n ≡ true → (p.name ≡ n → ⊥) → All (λ e. e.piece.name ≡ n → ⊥) b.outstanding
 no_child b p i d n h l is begins other = λ j e lj same.
-    let m : EntryData → ℕ = λ x. hits x.piece.name n in
+    let m : OutstandingData → ℕ = λ x. hits x.piece.name n in
     let apart : i ≡ j → ⊥ =
-    λ k. other (sym is ∙ (ap (λ (x : EntryData). x.piece.name) (get_or_default b.outstanding i d e l)
+    λ k. other (sym is ∙ (ap (λ (x : OutstandingData). x.piece.name) (get_or_default b.outstanding i d e l)
     ∙ (ap (λ k. (get_or b.outstanding k e).piece.name) k ∙ same))) in
     let two : m (get_or b.outstanding i d) + m (get_or b.outstanding j e) ≤ sum_by m b.outstanding =
     two_places m b.outstanding i j d e l lj apart in
@@ -119,7 +119,7 @@ longer xs on b h =
     absurd (omega arith)
 
 -- the children's names are new
-pub new_names : (b : BookData) (p f t : PieceData) (i : ℕ) (d : EntryData) → IsLawful b → i < length b.outstanding
+pub new_names : (b : BookData) (p f t : PieceData) (i : ℕ) (d : OutstandingData) → IsLawfulBook b → i < length b.outstanding
     → (get_or b.outstanding i d).piece.name ≡ p.name → IsRightSplit p f t
     → All (λ e. (e.piece.name ≡ f.name → ⊥) × (e.piece.name ≡ t.name → ⊥)) b.outstanding
 new_names b p f t i d h l is s = λ j e lj. (
@@ -132,17 +132,17 @@ new_names b p f t i d h l is s = λ j e lj. (
 pub two_names : (p f t : PieceData) → IsRightSplit p f t → f.name ≡ t.name → ⊥
 two_names p f t s h = last_differs (p.name ++ s.on) (sym s.false_name ∙ (h ∙ s.true_name))
 
--- where the entry under an id is
-find_place : (es : List EntryData) (id : ℕ) (x : EntryData) → entry_at id es ≡ Some x → (i : ℕ) × (i < length es)
+-- where the piece under an id is
+find_place : (es : List OutstandingData) (id : ℕ) (x : OutstandingData) → outstanding_at id es ≡ Some x → (i : ℕ) × (i < length es)
     × (get_or es i x ≡ x) × (x.id ≡ id)
 find_place [] id x h = absurd (cc)
 find_place (e ∷ es) id x h =
     ⊎_elim
-    (λ (k : (e ≡ x) × (e.id ≡ id)). (zero, omega arith, k.0, ap (λ (y : EntryData). y.id) (sym k.0) ∙ k.1))
-    (λ (k : entry_at id es ≡ Some x). let r = find_place es id x k in (suc r.0, let l = r.1 in omega arith, r.2, r.3))
-    (found_here (e.id == id) e x (entry_at id es) id refl h)
+    (λ (k : (e ≡ x) × (e.id ≡ id)). (zero, omega arith, k.0, ap (λ (y : OutstandingData). y.id) (sym k.0) ∙ k.1))
+    (λ (k : outstanding_at id es ≡ Some x). let r = find_place es id x k in (suc r.0, let l = r.1 in omega arith, r.2, r.3))
+    (found_here (e.id == id) e x (outstanding_at id es) id refl h)
   where
-    found_here : (b : Bool) (e x : EntryData) (o : Option EntryData) (id : ℕ) → (e.id == id) ≡ b
+    found_here : (b : Bool) (e x : OutstandingData) (o : Option OutstandingData) (id : ℕ) → (e.id == id) ≡ b
         → cond b (Some e) o ≡ Some x → ((e ≡ x) × (e.id ≡ id)) ⊎ (o ≡ Some x)
     found_here true e x o id is h = inl (some_inj e x h, grind (arith, nat_tests))
     found_here false e x o id is h = inr h
@@ -150,14 +150,14 @@ find_place (e ∷ es) id x h =
 -- the place of a piece that may be committed
 pub may_place : (b : BookData) (id : ℕ) (w : WorkData) → MayCommit b id w → (i : ℕ) × IsPlace b.outstanding id w i
 may_place b id w m =
-    let r = find_place b.outstanding id m.entry m.there in
-    let at : (d : EntryData) → get_or b.outstanding r.0 d ≡ m.entry =
-    λ d. get_or_default b.outstanding r.0 d m.entry r.1 ∙ r.2 in (
+    let r = find_place b.outstanding id m.under_id m.there in
+    let at : (d : OutstandingData) → get_or b.outstanding r.0 d ≡ m.under_id =
+    λ d. get_or_default b.outstanding r.0 d m.under_id r.1 ∙ r.2 in (
       r.0,
       record {
         there = r.1;
-        has_id = λ d. ap (λ (e : EntryData). e.id) (at d) ∙ r.3;
-        has_name = λ d. ap (λ (e : EntryData). e.piece.name) (at d) ∙ sym m.same_name;
+        has_id = λ d. ap (λ (e : OutstandingData). e.id) (at d) ∙ r.3;
+        has_name = λ d. ap (λ (e : OutstandingData). e.piece.name) (at d) ∙ sym m.same_name;
       },
     )
 
@@ -165,22 +165,22 @@ may_place b id w m =
 pub low_id : (b : BookData) (next id : ℕ) (w : WorkData) → IsKept b next → MayCommit b id w → id < next
 low_id b next id w h m =
     let r = may_place b id w m in
-    let low : (get_or b.outstanding r.0 m.entry).id < next = h.below r.0 m.entry r.1.there in
-    let is = r.1.has_id m.entry in
+    let low : (get_or b.outstanding r.0 m.under_id).id < next = h.below r.0 m.under_id r.1.there in
+    let is = r.1.has_id m.under_id in
     omega arith
 
--- the entry under the id has another name
-pub stale_name : (es : List EntryData) (id : ℕ) (e : EntryData) (w : WorkData) → entry_at id es ≡ Some e
+-- the piece under the id has another name
+pub stale_name : (es : List OutstandingData) (id : ℕ) (e : OutstandingData) (w : WorkData) → outstanding_at id es ≡ Some e
     → (e.piece.name ≡ w.piece.name → ⊥) → IsStale id es w
 stale_name es id e w at other = rw at other
 
 -- what a commit replaces, from the place that was found
-pub replaced : (b : BookData) (id : ℕ) (w : WorkData) (i : ℕ) (d : EntryData) → IsPlace b.outstanding id w i
+pub replaced : (b : BookData) (id : ℕ) (w : WorkData) (i : ℕ) (d : OutstandingData) → IsPlace b.outstanding id w i
     → w.piece.stack ≡ b.stack → b.commits < b.budget → IsTrulyNamed w.piece → IsReplaced b w.piece i d
 replaced b id w i d p s r n = record { there = p.there; of = s; named = n; same_name = p.has_name d; room = r }
 
--- the entries that are left, by place and by id
-pub left_over : (b : BookData) (id : ℕ) (w : WorkData) (i : ℕ) (d : EntryData) → IsLawful b
+-- the pieces that are left, by place and by id
+pub left_over : (b : BookData) (id : ℕ) (w : WorkData) (i : ℕ) (d : OutstandingData) → IsLawfulBook b
     → IsPlace b.outstanding id w i → remove b.outstanding i ≡ without id b.outstanding
 left_over b id w i d h p = subst (λ (k : ℕ). remove b.outstanding i ≡ without k b.outstanding) (p.has_id d)
     (remove_without b.outstanding i d h.ids p.there)
@@ -189,34 +189,34 @@ left_over b id w i d h p = subst (λ (k : ℕ). remove b.outstanding i ≡ witho
 
 pub split_kept : (b : BookData) (next id : ℕ) (w : WorkData) (f t : PieceData) → IsKept b next → MayCommit b id w
     → b.commits < b.budget → IsTrulyNamed w.piece → IsRightSplit w.piece f t
-    → IsKept (after_split b ((without id b.outstanding ++ entry next f ∷ []) ++ entry (next + 1) t ∷ [])) (next + 2)
+    → IsKept (after_split b ((without id b.outstanding ++ leased_piece next f ∷ []) ++ leased_piece (next + 1) t ∷ [])) (next + 2)
 split_kept b next id w f t h m room named right =
     let r = may_place b id w m in
-    rw (← left_over b id w r.0 m.entry h.lawful r.1)
-    (kept_split b w.piece f t r.0 next m.entry h (replaced b id w r.0 m.entry r.1 m.same_stack room named) right)
+    rw (← left_over b id w r.0 m.under_id h.lawful r.1)
+    (kept_split b w.piece f t r.0 next m.under_id h (replaced b id w r.0 m.under_id r.1 m.same_stack room named) right)
 
 pub answer_kept : (b : BookData) (next id : ℕ) (w : WorkData) (a : Answer) → IsKept b next → MayCommit b id w
     → b.commits < b.budget → IsTrulyNamed w.piece → IsRightAnswer w.piece w.name a
     → IsKept (after_answer b (without id b.outstanding) (record { piece = w.piece; name = w.name; answer = a })) next
 answer_kept b next id w a h m room named right =
     let r = may_place b id w m in
-    rw (← left_over b id w r.0 m.entry h.lawful r.1)
-    (kept_answer b w.piece w.name a r.0 next m.entry h
-    (replaced b id w r.0 m.entry r.1 m.same_stack room named) right)
+    rw (← left_over b id w r.0 m.under_id h.lawful r.1)
+    (kept_answer b w.piece w.name a r.0 next m.under_id h
+    (replaced b id w r.0 m.under_id r.1 m.same_stack room named) right)
 
 pub empty_kept : (b : BookData) (next id : ℕ) (w : WorkData) → IsKept b next → MayCommit b id w → b.commits < b.budget
     → IsTrulyNamed w.piece → HasNoMember w.piece
     → IsKept (after_empty b (without id b.outstanding) w.piece.name) next
 empty_kept b next id w h m room named right =
     let r = may_place b id w m in
-    rw (← left_over b id w r.0 m.entry h.lawful r.1)
-    (kept_empty b w.piece r.0 next m.entry h (replaced b id w r.0 m.entry r.1 m.same_stack room named) right)
+    rw (← left_over b id w r.0 m.under_id h.lawful r.1)
+    (kept_empty b w.piece r.0 next m.under_id h (replaced b id w r.0 m.under_id r.1 m.same_stack room named) right)
 
-pub child_names : (b : BookData) (id : ℕ) (w : WorkData) (f t : PieceData) → IsLawful b → MayCommit b id w
+pub child_names : (b : BookData) (id : ℕ) (w : WorkData) (f t : PieceData) → IsLawfulBook b → MayCommit b id w
     → IsRightSplit w.piece f t → All (λ e. (e.piece.name ≡ f.name → ⊥) × (e.piece.name ≡ t.name → ⊥)) b.outstanding
 child_names b id w f t h m right =
     let r = may_place b id w m in
-    new_names b w.piece f t r.0 m.entry h r.1.there (r.1.has_name m.entry) right
+    new_names b w.piece f t r.0 m.under_id h r.1.there (r.1.has_name m.under_id) right
 
 pub kept_fresh : (stack : List (List Insn)) (r : PieceData) (budget : ℕ) → IsLawfulStack stack → IsRoot stack r
     → IsKept (fresh stack r budget) 1

@@ -14,54 +14,54 @@ use Rattle.sf_check.specs.Stacks.{IsLawfulStack}
 use Rattle.sf_run.specs.declared.action.Answer.{Answer}
 use Rattle.sf_run.specs.Machine.{trace_of}
 use Rattle.sf_piece.specs.Pieces.{PieceData, is_member, is_prefix, IsTrulyNamed, IsRightSplit, IsRightAnswer, HasNoMember, IsRoot}
-use Rattle.sf_book.specs.Books.{EntryData, RegionData, BookData, IsOutstanding, IsRightRegion, IsNoBeginning, IsRising, IsLawful, fresh}
+use Rattle.sf_book.specs.Books.{OutstandingData, RegionData, BookData, IsOutstanding, IsRightRegion, IsNoBeginning, HasRisingIds, IsLawfulBook, fresh}
 use Rattle.sf_book.specs.PartitionLaws.{bit, hits}
 use Rattle.sf_book.proofs.Names.{split_members, split_names, same_members, answer_members, answer_begins, hits-le}
-use Rattle.sf_book.proofs.Lists.{remove_without, IsRising-filter, IsRising-push, IsRising-map, sum_by-map_same}
+use Rattle.sf_book.proofs.Lists.{remove_without, HasRisingIds-filter, HasRisingIds-push, HasRisingIds-map, sum_by-map_same}
 
 -- what is known of the place whose piece a commit replaces
-pub record IsReplaced (b : BookData) (p : PieceData) (i : ℕ) (d : EntryData) : Type 0 where
+pub record IsReplaced (b : BookData) (p : PieceData) (i : ℕ) (d : OutstandingData) : Type 0 where
   pub there : i < length b.outstanding
   pub of : p.stack ≡ b.stack
   pub named : IsTrulyNamed p
   pub same_name : (get_or b.outstanding i d).piece.name ≡ p.name
   pub room : b.commits < b.budget
 
--- the entry at the place has the members of the piece
-same_there : (b : BookData) (p : PieceData) (i : ℕ) (e : EntryData) → IsLawful b → IsReplaced b p i e → (d : Input)
+-- the outstanding piece at the place has the members of the piece
+same_there : (b : BookData) (p : PieceData) (i : ℕ) (e : OutstandingData) → IsLawfulBook b → IsReplaced b p i e → (d : Input)
     → IsInput d → is_member (get_or b.outstanding i e).piece d ≡ is_member p d
 same_there b p i e h r d n =
     let o = All-get_or (IsOutstanding b.stack) b.outstanding i e r.there h.outstanding in
     same_members (get_or b.outstanding i e).piece p o.named r.named (o.of ∙ sym r.of) r.same_name d n
 
-all_without : (b : BookData) (i : ℕ) (e : EntryData) → IsLawful b → i < length b.outstanding
+all_without : (b : BookData) (i : ℕ) (e : OutstandingData) → IsLawfulBook b → i < length b.outstanding
     → All (IsOutstanding b.stack) (remove b.outstanding i)
 all_without b i e h l = rw (remove_without b.outstanding i e h.ids l)
     (All-filter _ (IsOutstanding b.stack) b.outstanding h.outstanding)
 
-rising_without : (b : BookData) (i : ℕ) (e : EntryData) → IsLawful b → i < length b.outstanding
-    → IsRising (remove b.outstanding i)
-rising_without b i e h l = rw (remove_without b.outstanding i e h.ids l) (IsRising-filter _ b.outstanding h.ids)
+rising_without : (b : BookData) (i : ℕ) (e : OutstandingData) → IsLawfulBook b → i < length b.outstanding
+    → HasRisingIds (remove b.outstanding i)
+rising_without b i e h l = rw (remove_without b.outstanding i e h.ids l) (HasRisingIds-filter _ b.outstanding h.ids)
 
-below_without : (b : BookData) (i k : ℕ) (e : EntryData) → IsLawful b → i < length b.outstanding
+below_without : (b : BookData) (i k : ℕ) (e : OutstandingData) → IsLawfulBook b → i < length b.outstanding
     → All (λ f. f.id < k) b.outstanding → All (λ f. f.id < k) (remove b.outstanding i)
 below_without b i k e h l a = rw (remove_without b.outstanding i e h.ids l)
     (All-filter _ (λ f. f.id < k) b.outstanding a)
 
-abbrev pub entry : ℕ → PieceData → EntryData
-entry k p = record { id = k; piece = p; leased = true }
+abbrev pub leased_piece : ℕ → PieceData → OutstandingData
+leased_piece k p = record { id = k; piece = p; leased = true }
 
-abbrev pub after_split : BookData → List EntryData → BookData
+abbrev pub after_split : BookData → List OutstandingData → BookData
 after_split b es = record b { outstanding = es; splits = b.splits + 1; commits = b.commits + 1 }
 
-pub split_lawful : (b : BookData) (p f t : PieceData) (i j k : ℕ) (e : EntryData) → IsLawful b → IsReplaced b p i e
+pub split_lawful : (b : BookData) (p f t : PieceData) (i j k : ℕ) (e : OutstandingData) → IsLawfulBook b → IsReplaced b p i e
     → IsRightSplit p f t
     → All (λ x. x.id < j) b.outstanding → j < k
-    → IsLawful (after_split b ((remove b.outstanding i ++ entry j f ∷ []) ++ entry k t ∷ []))
+    → IsLawfulBook (after_split b ((remove b.outstanding i ++ leased_piece j f ∷ []) ++ leased_piece k t ∷ []))
 split_lawful b p f t i j k e h r s below jk =
     let es = remove b.outstanding i in
-    let F = entry j f in
-    let T = entry k t in
+    let F = leased_piece j f in
+    let T = leased_piece k t in
     let of_f : IsOutstanding b.stack F = record { of = s.false_stack ∙ r.of; named = s.false_named } in
     let of_t : IsOutstanding b.stack T = record { of = s.true_stack ∙ r.of; named = s.true_named } in
     let low : All (λ x. x.id < j) es = below_without b i j e h r.there below in
@@ -75,7 +75,7 @@ split_lawful b p f t i j k e h r s below jk =
           (All-push (IsOutstanding b.stack) es F (all_without b i e h r.there) of_f) of_t;
       regions = h.regions;
       one = λ d n.
-          let m : EntryData → ℕ = λ x. bit (is_member x.piece d) in
+          let m : OutstandingData → ℕ = λ x. bit (is_member x.piece d) in
           let out : sum_by m es + m (get_or b.outstanding i e) ≡ sum_by m b.outstanding =
           sum_by-remove m b.outstanding i e r.there in
           let first : sum_by m (es ++ F ∷ []) ≡ sum_by m es + m F = sum_by_push m es F in
@@ -87,7 +87,7 @@ split_lawful b p f t i j k e h r s below jk =
           omega arith;
       emptied = h.emptied;
       apart = λ l.
-          let m : EntryData → ℕ = λ x. hits x.piece.name l in
+          let m : OutstandingData → ℕ = λ x. hits x.piece.name l in
           let out : sum_by m es + m (get_or b.outstanding i e) ≡ sum_by m b.outstanding =
           sum_by-remove m b.outstanding i e r.there in
           let first : sum_by m (es ++ F ∷ []) ≡ sum_by m es + m F = sum_by_push m es F in
@@ -100,15 +100,15 @@ split_lawful b p f t i j k e h r s below jk =
       pieces = let before = h.pieces in omega arith;
       committed = let before = h.committed in omega arith;
       within = let before = r.room in omega arith;
-      ids = IsRising-push (es ++ F ∷ []) T (IsRising-push es F (rising_without b i e h r.there) low) low_k;
+      ids = HasRisingIds-push (es ++ F ∷ []) T (HasRisingIds-push es F (rising_without b i e h r.there) low) low_k;
     }
 
-abbrev pub after_answer : BookData → List EntryData → RegionData → BookData
+abbrev pub after_answer : BookData → List OutstandingData → RegionData → BookData
 after_answer b es r = record b { outstanding = es; regions = b.regions ++ r ∷ []; commits = b.commits + 1 }
 
-pub answer_lawful : (b : BookData) (p : PieceData) (n : List Bool) (a : Answer) (i : ℕ) (e : EntryData) → IsLawful b
+pub answer_lawful : (b : BookData) (p : PieceData) (n : List Bool) (a : Answer) (i : ℕ) (e : OutstandingData) → IsLawfulBook b
     → IsReplaced b p i e → IsRightAnswer p n a
-    → IsLawful (after_answer b (remove b.outstanding i) (record { piece = p; name = n; answer = a }))
+    → IsLawfulBook (after_answer b (remove b.outstanding i) (record { piece = p; name = n; answer = a }))
 answer_lawful b p n a i e h r s =
     let es = remove b.outstanding i in
     let R : RegionData = record { piece = p; name = n; answer = a } in
@@ -125,7 +125,7 @@ answer_lawful b p n a i e h r s =
       outstanding = all_without b i e h r.there;
       regions = All-push (IsRightRegion b.stack) b.regions R h.regions right;
       one = λ d k.
-          let m : EntryData → ℕ = λ x. bit (is_member x.piece d) in
+          let m : OutstandingData → ℕ = λ x. bit (is_member x.piece d) in
           let g : RegionData → ℕ = λ x. bit (is_member x.piece d) in
           let out : sum_by m es + m (get_or b.outstanding i e) ≡ sum_by m b.outstanding =
           sum_by-remove m b.outstanding i e r.there in
@@ -135,7 +135,7 @@ answer_lawful b p n a i e h r s =
           omega arith;
       emptied = h.emptied;
       apart = λ l.
-          let m : EntryData → ℕ = λ x. hits x.piece.name l in
+          let m : OutstandingData → ℕ = λ x. hits x.piece.name l in
           let g : RegionData → ℕ = λ x. hits x.name l in
           let out : sum_by m es + m (get_or b.outstanding i e) ≡ sum_by m b.outstanding =
           sum_by-remove m b.outstanding i e r.there in
@@ -150,12 +150,12 @@ answer_lawful b p n a i e h r s =
       ids = rising_without b i e h r.there;
     }
 
-abbrev pub after_empty : BookData → List EntryData → List Bool → BookData
+abbrev pub after_empty : BookData → List OutstandingData → List Bool → BookData
 after_empty b es n = record b { outstanding = es; emptied = b.emptied ++ n ∷ []; commits = b.commits + 1 }
 
-pub empty_lawful : (b : BookData) (p : PieceData) (i : ℕ) (e : EntryData) → IsLawful b
+pub empty_lawful : (b : BookData) (p : PieceData) (i : ℕ) (e : OutstandingData) → IsLawfulBook b
     → IsReplaced b p i e → HasNoMember p
-    → IsLawful (after_empty b (remove b.outstanding i) p.name)
+    → IsLawfulBook (after_empty b (remove b.outstanding i) p.name)
 empty_lawful b p i e h r s =
     let es = remove b.outstanding i in
     let gone : IsNoBeginning b.stack p.name =
@@ -170,7 +170,7 @@ empty_lawful b p i e h r s =
       outstanding = all_without b i e h r.there;
       regions = h.regions;
       one = λ d k.
-          let m : EntryData → ℕ = λ x. bit (is_member x.piece d) in
+          let m : OutstandingData → ℕ = λ x. bit (is_member x.piece d) in
           let out : sum_by m es + m (get_or b.outstanding i e) ≡ sum_by m b.outstanding =
           sum_by-remove m b.outstanding i e r.there in
           let same : m (get_or b.outstanding i e) ≡ bit (is_member p d) = ap bit (same_there b p i e h r d k) in
@@ -179,7 +179,7 @@ empty_lawful b p i e h r s =
           omega arith;
       emptied = All-push (IsNoBeginning b.stack) b.emptied p.name h.emptied gone;
       apart = λ l.
-          let m : EntryData → ℕ = λ x. hits x.piece.name l in
+          let m : OutstandingData → ℕ = λ x. hits x.piece.name l in
           let g : List Bool → ℕ = λ x. hits x l in
           let out : sum_by m es + m (get_or b.outstanding i e) ≡ sum_by m b.outstanding =
           sum_by-remove m b.outstanding i e r.there in
@@ -194,9 +194,9 @@ empty_lawful b p i e h r s =
       ids = rising_without b i e h r.there;
     }
 
--- a change of marks alone
-pub marks_lawful : (b : BookData) (g : EntryData → EntryData) → ((e : EntryData) → (g e).id ≡ e.id)
-    → ((e : EntryData) → (g e).piece ≡ e.piece) → IsLawful b → IsLawful (record b { outstanding = map g b.outstanding })
+-- a change of leases alone
+pub marks_lawful : (b : BookData) (g : OutstandingData → OutstandingData) → ((e : OutstandingData) → (g e).id ≡ e.id)
+    → ((e : OutstandingData) → (g e).piece ≡ e.piece) → IsLawfulBook b → IsLawfulBook (record b { outstanding = map g b.outstanding })
 marks_lawful b g ids pieces h =
     let len : length (map g b.outstanding) ≡ length b.outstanding = length-map b.outstanding g in
     record {
@@ -209,14 +209,14 @@ marks_lawful b g ids pieces h =
           });
       regions = h.regions;
       one = λ d n.
-          let m : EntryData → ℕ = λ x. bit (is_member x.piece d) in
+          let m : OutstandingData → ℕ = λ x. bit (is_member x.piece d) in
           let same : sum_by m (map g b.outstanding) ≡ sum_by m b.outstanding =
           sum_by-map_same m g (λ e. ap (λ p. bit (is_member p d)) (pieces e)) b.outstanding in
           let before = h.one d n in
           omega arith;
       emptied = h.emptied;
       apart = λ l.
-          let m : EntryData → ℕ = λ x. hits x.piece.name l in
+          let m : OutstandingData → ℕ = λ x. hits x.piece.name l in
           let same : sum_by m (map g b.outstanding) ≡ sum_by m b.outstanding =
           sum_by-map_same m g (λ e. ap (λ p. hits p.name l) (pieces e)) b.outstanding in
           let before = h.apart l in
@@ -224,11 +224,11 @@ marks_lawful b g ids pieces h =
       pieces = let before = h.pieces in omega arith;
       committed = h.committed;
       within = h.within;
-      ids = IsRising-map g ids b.outstanding h.ids;
+      ids = HasRisingIds-map g ids b.outstanding h.ids;
     }
 
 pub fresh_lawful : (stack : List (List Insn)) (r : PieceData) (budget : ℕ) → IsLawfulStack stack → IsRoot stack r
-    → IsLawful (fresh stack r budget)
+    → IsLawfulBook (fresh stack r budget)
 fresh_lawful stack r budget lawful h =
     let O : IsOutstanding stack (record { id = 0; piece = r; leased = false }) =
     record { of = h.of; named = h.named } in
@@ -247,8 +247,8 @@ fresh_lawful stack r budget lawful h =
     }
 
 -- the regions in another order
-pub permuted_lawful : (b : BookData) (rs : List RegionData) → IsPermutation b.regions rs → IsLawful b
-    → IsLawful (record b { regions = rs })
+pub permuted_lawful : (b : BookData) (rs : List RegionData) → IsPermutation b.regions rs → IsLawfulBook b
+    → IsLawfulBook (record b { regions = rs })
 permuted_lawful b rs p h =
     let len : length rs ≡ length b.regions = length_permutation b.regions rs p in
     record {

@@ -7,11 +7,11 @@ use Rattle.sf_run.specs.declared.action.Answer.{Answer}
 use Rattle.sf_piece.specs.Pieces.{PieceData, WorkData, StepData, Split, Settled, Empty, IsRightStep, IsRightWork, IsRoot}
 use Rattle.sf_piece.specs.PlainPieces.{IsPlainPiece, IsPlainWork}
 use Rattle.std.proofs.Common.{subst, sym}
-use Rattle.sf_book.specs.Books.{EntryData, BookData, fresh}
+use Rattle.sf_book.specs.Books.{OutstandingData, BookData, fresh}
 use Rattle.sf_book.specs.Changes.{without, MayCommit}
 use Rattle.sf_book.specs.PlainBooks.{IsBook}
 use Rattle.sf_book.specs.PlainLaws.{plain_fresh, plain_marks, split_plain, answer_plain, empty_plain}
-use Rattle.sf_book.proofs.Lawful.{entry, after_split, after_answer, after_empty}
+use Rattle.sf_book.proofs.Lawful.{leased_piece, after_split, after_answer, after_empty}
 use Rattle.sf_book.proofs.Kept.{kept_fresh, kept_marks, split_kept, answer_kept, empty_kept}
 
 pub fresh_book : (stack : List (List Insn)) (r : PieceData) (budget : ℕ) → IsLawfulStack stack → IsRoot stack r
@@ -21,8 +21,8 @@ fresh_book stack r budget lawful root plain = record {
   plain = record { book = λ h. plain_fresh stack r budget (plain (subst IsPlain (sym root.of) h)) };
 }
 
-pub marks_book : (b : BookData) (next : ℕ) (g : EntryData → EntryData) → ((e : EntryData) → (g e).id ≡ e.id)
-    → ((e : EntryData) → (g e).piece ≡ e.piece) → IsBook b next
+pub marks_book : (b : BookData) (next : ℕ) (g : OutstandingData → OutstandingData) → ((e : OutstandingData) → (g e).id ≡ e.id)
+    → ((e : OutstandingData) → (g e).piece ≡ e.piece) → IsBook b next
     → IsBook (record b { outstanding = map g b.outstanding }) next
 marks_book b next g ids pieces h = record {
   kept = kept_marks b next g ids pieces h.kept;
@@ -40,7 +40,7 @@ right_step w step h = subst (λ (s : StepData). IsRightStep w.piece s w.name) h.
 
 pub split_book : (b : BookData) (next id : ℕ) (w : WorkData) (f t : PieceData) → IsBook b next → MayCommit b id w
     → b.commits < b.budget → IsLawfulWork w (Split f t)
-    → IsBook (after_split b ((without id b.outstanding ++ entry next f ∷ []) ++ entry (next + 1) t ∷ [])) (next + 2)
+    → IsBook (after_split b ((without id b.outstanding ++ leased_piece next f ∷ []) ++ leased_piece (next + 1) t ∷ [])) (next + 2)
 split_book b next id w f t h m room work = record {
   kept = split_kept b next id w f t h.kept m room work.right.0 (right_step w (Split f t) work);
   plain = split_plain b id next (next + 1) w f t h.plain m work.plain work.is;

@@ -16,7 +16,7 @@ use Rattle.sf_piece.specs.Pieces.{PieceData, is_member, is_prefix, IsTrulyNamed}
 use Rattle.sf_book.specs.declared.book.Counts.{Counts}
 
 -- an outstanding piece, under its id, on lease or not
-pub record EntryData : Type 0 where
+pub record OutstandingData : Type 0 where
   pub id : ℕ
   pub piece : PieceData
   pub leased : Bool
@@ -31,7 +31,7 @@ pub record RegionData : Type 0 where
 pub record BookData : Type 0 where
   pub stack : List (List Insn)
   -- in the order of their ids
-  pub outstanding : List EntryData
+  pub outstanding : List OutstandingData
   -- of a book in the order in which they settled, of an ended exploration in name order
   pub regions : List RegionData
   -- names of pieces that turned out to have no member
@@ -41,21 +41,21 @@ pub record BookData : Type 0 where
   pub budget : ℕ
 
 -- of how many outstanding pieces and regions the input is a member
-abbrev pub members_of : List EntryData → List RegionData → Input → ℕ
+abbrev pub members_of : List OutstandingData → List RegionData → Input → ℕ
 members_of es rs d = count_by (λ e. is_member e.piece d) es + count_by (λ r. is_member r.piece d) rs
 
 -- how many of the names the list of truth values begins with
-abbrev pub names_before : List EntryData → List RegionData → List (List Bool) → List Bool → ℕ
+abbrev pub names_before : List OutstandingData → List RegionData → List (List Bool) → List Bool → ℕ
 names_before es rs ns t = count_by (λ e. is_prefix e.piece.name t) es + count_by (λ r. is_prefix r.name t) rs
     + count_by (λ n. is_prefix n t) ns
 
 -- each id is below all later ones
-abbrev pub IsRising : List EntryData → Type 0
-IsRising [] = Unit {0}
-IsRising (e ∷ es) = AllByRecursion (λ f. e.id < f.id) es × IsRising es
+abbrev pub HasRisingIds : List OutstandingData → Type 0
+HasRisingIds [] = Unit {0}
+HasRisingIds (e ∷ es) = AllByRecursion (λ f. e.id < f.id) es × HasRisingIds es
 
 -- a piece of the stack, truly named
-pub record IsOutstanding (stack : List (List Insn)) (e : EntryData) : Type 0 where
+pub record IsOutstanding (stack : List (List Insn)) (e : OutstandingData) : Type 0 where
   pub of : e.piece.stack ≡ stack
   pub named : IsTrulyNamed e.piece
 
@@ -71,7 +71,7 @@ pub record IsNoBeginning (stack : List (List Insn)) (n : List Bool) : Type 0 whe
   pub none : (d : Input) → IsInput d → is_prefix n (trace_of stack d) ≡ false
 
 -- a book of a lawful stack that is a partition of all inputs
-pub record IsLawful (b : BookData) : Type 0 where
+pub record IsLawfulBook (b : BookData) : Type 0 where
   pub stack : IsLawfulStack b.stack
   pub outstanding : All (IsOutstanding b.stack) b.outstanding
   pub regions : All (IsRightRegion b.stack) b.regions
@@ -84,7 +84,7 @@ pub record IsLawful (b : BookData) : Type 0 where
   pub pieces : length b.outstanding + length b.regions + length b.emptied ≡ 1 + b.splits
   pub committed : b.commits ≡ b.splits + length b.regions + length b.emptied
   pub within : b.commits ≤ b.budget
-  pub ids : IsRising b.outstanding
+  pub ids : HasRisingIds b.outstanding
 
 -- a new book, with the root outstanding
 abbrev pub fresh : List (List Insn) → PieceData → ℕ → BookData
@@ -100,7 +100,7 @@ fresh stack r budget = record {
 
 -- what a book keeps: it is lawful, and the next id is above all ids
 pub record IsKept (b : BookData) (next : ℕ) : Type 0 where
-  pub lawful : IsLawful b
+  pub lawful : IsLawfulBook b
   pub below : All (λ e. e.id < next) b.outstanding
   pub few : next ≤ 2 * b.commits + 1
 
@@ -120,5 +120,5 @@ IsInNameOrder rs = IsSortedByKey (λ r. r.name) (slice_cmp bool_cmp) rs
 
 -- how an exploration ends: a lawful book, with its regions in name order
 pub record IsSettled (b : BookData) : Type 0 where
-  pub lawful : IsLawful b
+  pub lawful : IsLawfulBook b
   pub order : IsInNameOrder b.regions

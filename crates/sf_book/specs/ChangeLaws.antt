@@ -4,43 +4,43 @@ use Rattle.std.specs.List.{All}
 use Rattle.std.proofs.lemmas.Option.{same_Some}
 use Rattle.std.proofs.lemmas.List.Elements.{All-head, All-tail}
 use Rattle.sf_piece.specs.Pieces.{PieceData, WorkData}
-use Rattle.sf_book.specs.Books.{EntryData, BookData, IsLawful, IsOutstanding}
-use Rattle.sf_book.specs.Changes.{entry_at, with_lease_at, MayCommit, Refuses, Leases}
+use Rattle.sf_book.specs.Books.{OutstandingData, BookData, IsLawfulBook, IsOutstanding}
+use Rattle.sf_book.specs.Changes.{outstanding_at, with_lease_at, MayCommit, Refuses, Leases}
 use Rattle.sf_book.specs.declared.fault.Fault.{Fault}
 use Rattle.sf_book.specs.declared.fault.Fault.TheVariants.{Foreign, Stale, Spent, Memory}
 
--- what holds of all entries holds of the one under an id
-all_at : (P : EntryData → Type 0) (es : List EntryData) (id : ℕ) (e : EntryData) → All P es
-    → entry_at id es ≡ Some e → P e
+-- what holds of all outstanding pieces holds of the one under an id
+all_at : (P : OutstandingData → Type 0) (es : List OutstandingData) (id : ℕ) (e : OutstandingData) → All P es
+    → outstanding_at id es ≡ Some e → P e
 all_at P [] id e h at = absurd cc
 all_at P (x ∷ es) id e h at = by (x.id == id) at (All-head P x es h) (λ k. all_at P es id e (All-tail P x es h) k)
   where
-    by : (b : Bool) → cond b (Some x) (entry_at id es) ≡ Some e → P x → (entry_at id es ≡ Some e → P e) → P e
+    by : (b : Bool) → cond b (Some x) (outstanding_at id es) ≡ Some e → P x → (outstanding_at id es ≡ Some e → P e) → P e
     by true at here rest = subst P (same_Some x e at) here
     by false at here rest = rest at
 
--- the entry under an id, with another mark
-leased_at : (es : List EntryData) (id : ℕ) (e : EntryData) → entry_at id es ≡ Some e
-    → entry_at id (map (with_lease_at id true) es) ≡ Some (with_lease_at id true e)
+-- the piece under an id, on lease
+leased_at : (es : List OutstandingData) (id : ℕ) (e : OutstandingData) → outstanding_at id es ≡ Some e
+    → outstanding_at id (map (with_lease_at id true) es) ≡ Some (with_lease_at id true e)
 leased_at [] id e at = absurd cc
 leased_at (x ∷ es) id e at = by (x.id == id) at (λ k. leased_at es id e k)
   where
-    by : (b : Bool) → cond b (Some x) (entry_at id es) ≡ Some e
-        → (entry_at id es ≡ Some e → entry_at id (map (with_lease_at id true) es) ≡ Some (with_lease_at id true e))
-        → cond b (Some (with_lease_at id true x)) (entry_at id (map (with_lease_at id true) es))
+    by : (b : Bool) → cond b (Some x) (outstanding_at id es) ≡ Some e
+        → (outstanding_at id es ≡ Some e → outstanding_at id (map (with_lease_at id true) es) ≡ Some (with_lease_at id true e))
+        → cond b (Some (with_lease_at id true x)) (outstanding_at id (map (with_lease_at id true) es))
         ≡ Some (with_lease_at id true e)
     by true at rest = ap (λ k. Some (with_lease_at id true k)) (same_Some x e at)
     by false at rest = rest at
 
 -- the work of the leased piece may be committed
-pub lease_may_commit : (b c : BookData) (id : ℕ) (p : PieceData) (w : WorkData) → IsLawful b → Leases b id p c
+pub lease_may_commit : (b c : BookData) (id : ℕ) (p : PieceData) (w : WorkData) → IsLawfulBook b → Leases b id p c
     → w.piece ≡ p → MayCommit c id w
 lease_may_commit b c id p w h l is =
-    let e : EntryData = record { id = id; piece = p; leased = false } in
+    let e : OutstandingData = record { id = id; piece = p; leased = false } in
     let o : IsOutstanding b.stack e = all_at (IsOutstanding b.stack) b.outstanding id e h.outstanding l.there in
     rw l.after (record {
       same_stack = ap (λ (q : PieceData). q.stack) is ∙ o.of;
-      entry = with_lease_at id true e;
+      under_id = with_lease_at id true e;
       there = leased_at b.outstanding id e l.there;
       same_name = ap (λ (q : PieceData). q.name) is;
     })
@@ -54,7 +54,7 @@ only_memory b id w Spent m room r = let k = r.1 in absurd (omega arith)
 only_memory b id w Memory m room r = refl
 
 -- within the budget the work of the leased piece is refused only for want of memory
-pub lease_refused : (b c : BookData) (id : ℕ) (p : PieceData) (w : WorkData) (f : Fault) → IsLawful b → Leases b id p c
+pub lease_refused : (b c : BookData) (id : ℕ) (p : PieceData) (w : WorkData) (f : Fault) → IsLawfulBook b → Leases b id p c
     → w.piece ≡ p → (b.commits ≡ b.budget → ⊥) → Refuses c id w f → f ≡ Memory
 lease_refused b c id p w f h l is unspent r =
     let commits : c.commits ≡ b.commits = ap (λ (x : BookData). x.commits) l.after in

@@ -4,24 +4,24 @@ use Rattle.std.specs.Ordering.{bool_cmp}
 use Rattle.std.specs.declared.cmp.Ordering.TheVariants.{Less}
 use Rattle.std.specs.Cmp.Lexicographic.{slice_cmp}
 use Rattle.sf_piece.specs.Pieces.{PieceData, StepData, WorkData, Split, Settled, Empty}
-use Rattle.sf_book.specs.Books.{EntryData, BookData}
+use Rattle.sf_book.specs.Books.{OutstandingData, BookData}
 use Rattle.sf_book.specs.declared.fault.Fault.{Fault}
 use Rattle.sf_book.specs.declared.fault.Fault.TheVariants.{Foreign, Stale, Spent, Memory}
 
 -- the outstanding piece under an id
-abbrev pub entry_at : ℕ → List EntryData → Option EntryData
-entry_at id es = find (λ e. e.id == id) es
+abbrev pub outstanding_at : ℕ → List OutstandingData → Option OutstandingData
+outstanding_at id es = find (λ e. e.id == id) es
 
--- the entry, on lease or not
-abbrev pub with_lease : Bool → EntryData → EntryData
+-- the outstanding piece, on lease or not
+abbrev pub with_lease : Bool → OutstandingData → OutstandingData
 with_lease on e = record { id = e.id; piece = e.piece; leased = on }
 
 -- the same where it has the id
-abbrev pub with_lease_at : ℕ → Bool → EntryData → EntryData
+abbrev pub with_lease_at : ℕ → Bool → OutstandingData → OutstandingData
 with_lease_at id on e = record { id = e.id; piece = e.piece; leased = (if e.id == id then on else e.leased) }
 
 -- the others
-abbrev pub without : ℕ → List EntryData → List EntryData
+abbrev pub without : ℕ → List OutstandingData → List OutstandingData
 without id es = filter (λ e. not (e.id == id)) es
 
 -- the first name comes before the second in name order
@@ -29,19 +29,19 @@ abbrev pub IsBefore : List Bool → List Bool → Type 0
 IsBefore m n = slice_cmp bool_cmp m n ≡ Less
 
 -- no outstanding piece that isn't on lease has a name before this one
-abbrev pub IsFirstFree : List Bool → List EntryData → Type 0
+abbrev pub IsFirstFree : List Bool → List OutstandingData → Type 0
 IsFirstFree n es = All (λ e. e.leased ≡ false → ¬ IsBefore e.piece.name n) es
 
 -- the work is of the book's stack, and for the outstanding piece under the id
 pub record MayCommit (b : BookData) (id : ℕ) (w : WorkData) : Type 0 where
   pub same_stack : w.piece.stack ≡ b.stack
-  pub entry : EntryData
-  pub there : entry_at id b.outstanding ≡ Some entry
-  pub same_name : w.piece.name ≡ entry.piece.name
+  pub under_id : OutstandingData
+  pub there : outstanding_at id b.outstanding ≡ Some under_id
+  pub same_name : w.piece.name ≡ under_id.piece.name
 
 -- there is no outstanding piece under the id, or it has another name
-abbrev pub IsStale : ℕ → List EntryData → WorkData → Type 0
-IsStale id es w = MatchOption (entry_at id es) (Unit {0}) (λ e. e.piece.name ≢ w.piece.name)
+abbrev pub IsStale : ℕ → List OutstandingData → WorkData → Type 0
+IsStale id es w = MatchOption (outstanding_at id es) (Unit {0}) (λ e. e.piece.name ≢ w.piece.name)
 
 -- why a commit is refused
 abbrev pub Refuses : BookData → ℕ → WorkData → Fault → Type 0
@@ -51,7 +51,7 @@ Refuses b id w Spent = MayCommit b id w × (b.commits ≡ b.budget)
 Refuses b id w Memory = MayCommit b id w × (b.commits < b.budget)
 
 -- the ids are new and rise
-abbrev pub AreNewIds : List EntryData → ℕ → ℕ → Type 0
+abbrev pub AreNewIds : List OutstandingData → ℕ → ℕ → Type 0
 AreNewIds es i j = All (λ e. e.id < i) es × (i < j)
 
 -- the book with the piece under the id replaced by its work's result
@@ -78,7 +78,7 @@ CommitsAs b id p n Empty (Some ids) c = ⊥
 
 -- the first piece that isn't on lease is leased, and nothing else changes
 pub record Leases (b : BookData) (id : ℕ) (p : PieceData) (c : BookData) : Type 0 where
-  pub there : entry_at id b.outstanding ≡ Some (record { id = id; piece = p; leased = false })
+  pub there : outstanding_at id b.outstanding ≡ Some (record { id = id; piece = p; leased = false })
   pub first : IsFirstFree p.name b.outstanding
   pub after : c ≡ record b { outstanding = map (with_lease_at id true) b.outstanding }
 

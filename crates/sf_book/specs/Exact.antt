@@ -3,7 +3,7 @@ use Rattle.std.specs.Prelude.{◌≡◌, ◌+◌, ◌*◌, Bool, true, List, [],
 use Rattle.sf_insn.specs.declared.input.Input.{Input}
 use Rattle.sf_insn.specs.Inputs.{IsInput}
 use Rattle.sf_piece.specs.Pieces.{PieceData, is_member}
-use Rattle.sf_book.specs.Books.{EntryData, RegionData, BookData}
+use Rattle.sf_book.specs.Books.{OutstandingData, RegionData, BookData}
 
 -- some input is a member
 abbrev pub HasMember : PieceData → Type 0
@@ -11,7 +11,7 @@ HasMember p = (d : Input) × IsInput d × (is_member p d ≡ true)
 
 -- each outstanding piece and each region has a member, and no piece was emptied
 pub record HasMembers (b : BookData) : Type 0 where
-  pub outstanding : All (λ (e : EntryData). HasMember e.piece) b.outstanding
+  pub outstanding : All (λ (e : OutstandingData). HasMember e.piece) b.outstanding
   pub regions : All (λ (r : RegionData). HasMember r.piece) b.regions
   pub emptied : b.emptied ≡ []
 

@@ -11,14 +11,14 @@ use Rattle.sf_insn.specs.declared.input.Input.{Input}
 use Rattle.sf_insn.specs.Inputs.{IsInput}
 use Rattle.sf_check.specs.declared.insn.Insn.{Insn}
 use Rattle.sf_check.specs.Stacks.{IsLawfulStack}
-use Rattle.sf_check.specs.MemberLaws.{contains_cons, contains_here, contains_there, contains_nil}
+use Rattle.sf_check.specs.ContainsLaws.{contains_cons, contains_here, contains_there, contains_nil}
 use Rattle.sf_run.specs.Machine.{trace_of}
 use Rattle.sf_run.specs.RouteLaws.{one_whole}
 use Rattle.sf_run.specs.TraceLaws.{trace_is_whole_route}
 use Rattle.sf_run.specs.Feasible.{AreFeasibleTraces, feasible_traces}
 use Rattle.sf_run.specs.FeasibleLaws.{one_order, feasible_are}
 use Rattle.sf_piece.specs.Pieces.{is_member, is_prefix}
-use Rattle.sf_book.specs.Books.{EntryData, RegionData, BookData, IsOutstanding, IsRightRegion, IsLawful, IsSettled, members_of}
+use Rattle.sf_book.specs.Books.{OutstandingData, RegionData, BookData, IsOutstanding, IsRightRegion, IsLawfulBook, IsSettled, members_of}
 use Rattle.sf_book.specs.Exact.{HasMember, HasMembers, IsWorkedOff}
 use Rattle.sf_book.specs.PartitionLaws.{bit, hits, some_there}
 use Rattle.sf_book.specs.NameOrderLaws.{strictly_in_order}
@@ -77,8 +77,8 @@ some_hit name ts t c begins =
     let one : hits name (get_or ts c.0 t) ≡ 1 = ap (λ k. hits name k) c.2 ∙ ap bit begins in
     omega arith
 
-outstanding_hit : (b : BookData) (ts : List (List Bool)) → IsLawful b → HasMembers b → AreFeasibleTraces b.stack ts
-    → All (λ (e : EntryData). 1 ≤ sum_by (λ t. hits e.piece.name t) ts) b.outstanding
+outstanding_hit : (b : BookData) (ts : List (List Bool)) → IsLawfulBook b → HasMembers b → AreFeasibleTraces b.stack ts
+    → All (λ (e : OutstandingData). 1 ≤ sum_by (λ t. hits e.piece.name t) ts) b.outstanding
 outstanding_hit b ts h m f = λ k d less.
     let e = get_or b.outstanding k d in
     let o : IsOutstanding b.stack e = h.outstanding k d less in
@@ -89,7 +89,7 @@ outstanding_hit b ts h m f = λ k d less.
     some_hit e.piece.name ts (trace_of b.stack some.0)
     ((f.exactly (trace_of b.stack some.0)).1 (some.0, some.1, refl)) begins
 
-regions_hit : (b : BookData) (ts : List (List Bool)) → IsLawful b → HasMembers b → AreFeasibleTraces b.stack ts
+regions_hit : (b : BookData) (ts : List (List Bool)) → IsLawfulBook b → HasMembers b → AreFeasibleTraces b.stack ts
     → All (λ (r : RegionData). 1 ≤ sum_by (λ t. hits r.name t) ts) b.regions
 regions_hit b ts h m f = λ k d less.
     let r = get_or b.regions k d in
@@ -98,23 +98,23 @@ regions_hit b ts h m f = λ k d less.
     some_hit r.name ts (trace_of b.stack some.0) ((f.exactly (trace_of b.stack some.0)).1 (some.0, some.1, refl))
     (sym (right.members some.0 some.1) ∙ some.2)
 
-pub one_for_each_trace : (b : BookData) → IsLawful b → HasMembers b
+pub one_for_each_trace : (b : BookData) → IsLawfulBook b → HasMembers b
     → length b.outstanding + length b.regions ≤ length (feasible_traces b.stack)
 one_for_each_trace b h m =
     let ts = feasible_traces b.stack in
     let f = feasible_are b.stack in
-    let es : length b.outstanding ≤ sum_by (λ (e : EntryData). sum_by (λ t. hits e.piece.name t) ts) b.outstanding =
-    at_least_one_each (λ (e : EntryData). sum_by (λ t. hits e.piece.name t) ts) b.outstanding
+    let es : length b.outstanding ≤ sum_by (λ (e : OutstandingData). sum_by (λ t. hits e.piece.name t) ts) b.outstanding =
+    at_least_one_each (λ (e : OutstandingData). sum_by (λ t. hits e.piece.name t) ts) b.outstanding
     (outstanding_hit b ts h m f) in
     let rs : length b.regions ≤ sum_by (λ (r : RegionData). sum_by (λ t. hits r.name t) ts) b.regions =
     at_least_one_each (λ (r : RegionData). sum_by (λ t. hits r.name t) ts) b.regions (regions_hit b ts h m f) in
-    let ec = sum_of_sums (λ (e : EntryData) t. hits e.piece.name t) b.outstanding ts in
+    let ec = sum_of_sums (λ (e : OutstandingData) t. hits e.piece.name t) b.outstanding ts in
     let rc = sum_of_sums (λ (r : RegionData) t. hits r.name t) b.regions ts in
-    let both = sum_of_both (λ t. sum_by (λ (e : EntryData). hits e.piece.name t) b.outstanding)
+    let both = sum_of_both (λ t. sum_by (λ (e : OutstandingData). hits e.piece.name t) b.outstanding)
     (λ t. sum_by (λ (r : RegionData). hits r.name t) b.regions)
-    (λ t. sum_by (λ (e : EntryData). hits e.piece.name t) b.outstanding
+    (λ t. sum_by (λ (e : OutstandingData). hits e.piece.name t) b.outstanding
     + sum_by (λ (r : RegionData). hits r.name t) b.regions) (λ t. refl) ts in
-    let few = at_most_one_each (λ t. sum_by (λ (e : EntryData). hits e.piece.name t) b.outstanding
+    let few = at_most_one_each (λ t. sum_by (λ (e : OutstandingData). hits e.piece.name t) b.outstanding
     + sum_by (λ (r : RegionData). hits r.name t) b.regions)
     (λ t. let a = h.apart t in omega arith) ts in
     omega arith
@@ -159,7 +159,7 @@ at_place : (P : RegionData → Type 0) (rs : List RegionData) (i : ℕ) (r : Reg
 at_place P rs i r all at = subst P (get_or_from_slice_get rs i r r at) (all i r (slice_get_within rs i r at))
 
 -- each name of a region is a feasible trace
-name_feasible : (b : BookData) (ts : List (List Bool)) → IsLawful b → HasMembers b → AreFeasibleTraces b.stack ts
+name_feasible : (b : BookData) (ts : List (List Bool)) → IsLawfulBook b → HasMembers b → AreFeasibleTraces b.stack ts
     → (n : List Bool) → Contains (map (λ (r : RegionData). r.name) b.regions) n → Contains ts n
 name_feasible b ts h m f n c =
     let r = map_contains (λ (r : RegionData). r.name) b.regions n c in
@@ -168,12 +168,12 @@ name_feasible b ts h m f n c =
     (f.exactly n).1 (some.0, some.1, sym (member_trace b.stack r.1 some.0 h.stack right some.1 some.2) ∙ r.3)
 
 -- with nothing outstanding, each feasible trace is the name of a region
-trace_named : (b : BookData) (ts : List (List Bool)) → IsLawful b → AreFeasibleTraces b.stack ts → b.outstanding ≡ []
+trace_named : (b : BookData) (ts : List (List Bool)) → IsLawfulBook b → AreFeasibleTraces b.stack ts → b.outstanding ≡ []
     → (n : List Bool) → Contains ts n → Contains (map (λ (r : RegionData). r.name) b.regions) n
 trace_named b ts h f none n c =
     let d = (f.exactly n).0 c in
     let one : members_of [] b.regions d.0 ≡ 1 =
-    subst (λ (es : List EntryData). members_of es b.regions d.0 ≡ 1) none (h.one d.0 d.1) in
+    subst (λ (es : List OutstandingData). members_of es b.regions d.0 ≡ 1) none (h.one d.0 d.1) in
     let r = some_there (λ (r : RegionData). is_member r.piece d.0) b.regions (omega arith) in
     let right : IsRightRegion b.stack r.1 = at_place (IsRightRegion b.stack) b.regions r.0 r.1 h.regions r.2 in
     contains_map (λ (r : RegionData). r.name) b.regions r.0 r.1 n r.2
@@ -198,7 +198,7 @@ worked_off b s m none =
     record { names = same; splits = omega arith; commits = omega arith; emptied = m.emptied }
 
 -- while something is outstanding the commits are too few
-pub left_unworked : (b : BookData) → IsLawful b → HasMembers b → 0 < length b.outstanding
+pub left_unworked : (b : BookData) → IsLawfulBook b → HasMembers b → 0 < length b.outstanding
     → b.commits + 1 < 2 * length (feasible_traces b.stack)
 left_unworked b h m some =
     let room = one_for_each_trace b h m in
@@ -220,7 +220,7 @@ enough b s m end = (to, from end)
     from (inl none) room = none
     from (inr spent) room = by b.outstanding refl
       where
-        by : (es : List EntryData) → b.outstanding ≡ es → b.outstanding ≡ []
+        by : (es : List OutstandingData) → b.outstanding ≡ es → b.outstanding ≡ []
         by [] is = is
         by (e ∷ es) is =
             let len : length b.outstanding ≡ length es + 1 = ap length is ∙ omega arith in

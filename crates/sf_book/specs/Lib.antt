@@ -2,7 +2,7 @@ pub mod Numbers
 pub mod Books
 pub mod Changes
 pub mod ChangeLaws
-pub mod Shelves
+pub mod OutstandingMaps
 pub mod Partition
 pub mod PartitionLaws
 pub mod NameOrderLaws

@@ -2,15 +2,15 @@
 use Rattle.std.specs.Prelude.{◌≡◌, ℕ, Bool, true, List, ◌++◌, map, slice_get, Some}
 use Rattle.sf_insn.specs.declared.input.Input.{Input}
 use Rattle.sf_piece.specs.Pieces.{PieceData, is_member, is_prefix}
-use Rattle.sf_book.specs.Books.{EntryData, RegionData, BookData}
+use Rattle.sf_book.specs.Books.{OutstandingData, RegionData, BookData}
 
 -- the pieces among which a book parts the inputs: those that are outstanding, and those of its regions
 abbrev pub parts_of : BookData → List PieceData
-parts_of b = map (λ (e : EntryData). e.piece) b.outstanding ++ map (λ (r : RegionData). r.piece) b.regions
+parts_of b = map (λ (e : OutstandingData). e.piece) b.outstanding ++ map (λ (r : RegionData). r.piece) b.regions
 
 -- the names of a book: of outstanding pieces, of regions, and of pieces without a member
 abbrev pub names_of : BookData → List (List Bool)
-names_of b = map (λ (e : EntryData). e.piece.name) b.outstanding
+names_of b = map (λ (e : OutstandingData). e.piece.name) b.outstanding
     ++ map (λ (r : RegionData). r.name) b.regions ++ b.emptied
 
 -- the input is a member of the piece at one place, and of no other

@@ -6,7 +6,7 @@ use Rattle.std.proofs.lemmas.Option.{same_Some}
 use Rattle.sf_insn.specs.declared.input.Input.{Input}
 use Rattle.sf_insn.specs.Inputs.{IsInput}
 use Rattle.sf_piece.specs.Pieces.{PieceData, is_member, is_prefix}
-use Rattle.sf_book.specs.Books.{EntryData, RegionData, BookData, IsLawful}
+use Rattle.sf_book.specs.Books.{OutstandingData, RegionData, BookData, IsLawfulBook}
 use Rattle.sf_book.specs.Partition.{parts_of, names_of, LiesInOne, NoneBeginsAnother}
 
 -- 1 for true
@@ -68,14 +68,14 @@ sum_by-map f g (x ∷ xs) = sum_by-cons f (g x) (map g xs)
     ∙ (ap (λ k. f (g x) + k) (sum_by-map f g xs) ∙ sym (sum_by-cons (λ x. f (g x)) x xs))
 
 -- each input lies in exactly one outstanding piece or region of a lawful book
-pub lies_in_one : (b : BookData) → IsLawful b → (d : Input) → IsInput d → LiesInOne (parts_of b) d
+pub lies_in_one : (b : BookData) → IsLawfulBook b → (d : Input) → IsInput d → LiesInOne (parts_of b) d
 lies_in_one b h d n =
     let m : PieceData → ℕ = λ p. bit (is_member p d) in
-    let es = map (λ (e : EntryData). e.piece) b.outstanding in
+    let es = map (λ (e : OutstandingData). e.piece) b.outstanding in
     let rs = map (λ (r : RegionData). r.piece) b.regions in
     let both : sum_by m (es ++ rs) ≡ sum_by m es + sum_by m rs = sum_by-append m es rs in
-    let left : sum_by m es ≡ sum_by (λ (e : EntryData). m e.piece) b.outstanding =
-    sum_by-map m (λ (e : EntryData). e.piece) b.outstanding in
+    let left : sum_by m es ≡ sum_by (λ (e : OutstandingData). m e.piece) b.outstanding =
+    sum_by-map m (λ (e : OutstandingData). e.piece) b.outstanding in
     let right : sum_by m rs ≡ sum_by (λ (r : RegionData). m r.piece) b.regions =
     sum_by-map m (λ (r : RegionData). r.piece) b.regions in
     let one = h.one d n in
@@ -95,17 +95,17 @@ prefix-refl (true ∷ bs) = prefix-refl bs
 prefix-refl (false ∷ bs) = prefix-refl bs
 
 -- no name of a lawful book begins another
-pub none_begins_another : (b : BookData) → IsLawful b → NoneBeginsAnother (names_of b)
+pub none_begins_another : (b : BookData) → IsLawfulBook b → NoneBeginsAnother (names_of b)
 none_begins_another b h = record {
   one_place = λ i j m n at at' begins.
       let f : List Bool → ℕ = λ k. bit (is_prefix k n) in
-      let es = map (λ (e : EntryData). e.piece.name) b.outstanding in
+      let es = map (λ (e : OutstandingData). e.piece.name) b.outstanding in
       let rs = map (λ (r : RegionData). r.name) b.regions in
       let all : sum_by f (es ++ rs ++ b.emptied) ≡ sum_by f (es ++ rs) + sum_by f b.emptied =
       sum_by-append f (es ++ rs) b.emptied in
       let both : sum_by f (es ++ rs) ≡ sum_by f es + sum_by f rs = sum_by-append f es rs in
-      let left : sum_by f es ≡ sum_by (λ (e : EntryData). f e.piece.name) b.outstanding =
-      sum_by-map f (λ (e : EntryData). e.piece.name) b.outstanding in
+      let left : sum_by f es ≡ sum_by (λ (e : OutstandingData). f e.piece.name) b.outstanding =
+      sum_by-map f (λ (e : OutstandingData). e.piece.name) b.outstanding in
       let right : sum_by f rs ≡ sum_by (λ (r : RegionData). f r.name) b.regions =
       sum_by-map f (λ (r : RegionData). r.name) b.regions in
       let apart = h.apart n in

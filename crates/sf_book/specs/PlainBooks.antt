@@ -2,11 +2,11 @@
 use Rattle.std.specs.Prelude.{◌≡◌, ℕ, [], All}
 use Rattle.sf_check.specs.Stacks.{IsPlain}
 use Rattle.sf_piece.specs.PlainPieces.{IsPlainPiece}
-use Rattle.sf_book.specs.Books.{EntryData, RegionData, BookData, IsKept, IsSettled}
+use Rattle.sf_book.specs.Books.{OutstandingData, RegionData, BookData, IsKept, IsSettled}
 
 -- the pieces of a book of a plain stack
 pub record IsPlainBook (b : BookData) : Type 0 where
-  pub outstanding : All (λ (e : EntryData). IsPlainPiece e.piece) b.outstanding
+  pub outstanding : All (λ (e : OutstandingData). IsPlainPiece e.piece) b.outstanding
   pub regions : All (λ (r : RegionData). IsPlainPiece r.piece) b.regions
   pub emptied : b.emptied ≡ []
 

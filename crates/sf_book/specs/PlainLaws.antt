@@ -9,16 +9,16 @@ use Rattle.sf_check.specs.Stacks.{IsPlain}
 use Rattle.sf_run.specs.declared.action.Answer.{Answer}
 use Rattle.sf_piece.specs.Pieces.{PieceData, WorkData, StepData, Split, Settled, Empty}
 use Rattle.sf_piece.specs.PlainPieces.{IsPlainPiece, IsPlainWork, IsPlainStep}
-use Rattle.sf_book.specs.Books.{EntryData, RegionData, BookData, fresh}
+use Rattle.sf_book.specs.Books.{OutstandingData, RegionData, BookData, fresh}
 use Rattle.sf_book.specs.Changes.{without, MayCommit}
 use Rattle.sf_book.specs.Exact.{HasMembers}
 use Rattle.sf_book.specs.PlainBooks.{IsPlainBook, IsPlainWhereStackIs}
 
-abbrev OfPlain : EntryData → Type 0
+abbrev OfPlain : OutstandingData → Type 0
 OfPlain e = IsPlainPiece e.piece
 
-abbrev entry : ℕ → PieceData → EntryData
-entry k p = record { id = k; piece = p; leased = true }
+abbrev leased_piece : ℕ → PieceData → OutstandingData
+leased_piece k p = record { id = k; piece = p; leased = true }
 
 -- each piece and each region has a member
 pub plain_has_members : (b : BookData) → IsPlainBook b → HasMembers b
@@ -41,7 +41,7 @@ plain_fresh stack r budget h = record {
   emptied = refl;
 }
 
-pub plain_marks : (b : BookData) (g : EntryData → EntryData) → ((e : EntryData) → (g e).piece ≡ e.piece) → IsPlainBook b
+pub plain_marks : (b : BookData) (g : OutstandingData → OutstandingData) → ((e : OutstandingData) → (g e).piece ≡ e.piece) → IsPlainBook b
     → IsPlainBook (record b { outstanding = map g b.outstanding })
 plain_marks b g pieces h = record {
   outstanding = All-map OfPlain g b.outstanding
@@ -72,7 +72,7 @@ left_plain b id h = All-filter (λ e. not (e.id == id)) OfPlain b.outstanding h.
 pub split_plain : (b : BookData) (id i j : ℕ) (w : WorkData) (f t : PieceData) → IsPlainWhereStackIs b
     → MayCommit b id w → (IsPlain w.piece.stack → IsPlainWork w) → w.step ≡ Split f t
     → IsPlainWhereStackIs (record b {
-      outstanding = (without id b.outstanding ++ entry i f ∷ []) ++ entry j t ∷ [];
+      outstanding = (without id b.outstanding ++ leased_piece i f ∷ []) ++ leased_piece j t ∷ [];
       splits = b.splits + 1;
       commits = b.commits + 1;
     })
@@ -81,8 +81,8 @@ split_plain b id i j w f t keeps m plain is = record {
       let k = keeps.book h in
       let both = (of_work b id w (Split f t) m plain is h).1 in
       record {
-        outstanding = All-push OfPlain (without id b.outstanding ++ entry i f ∷ []) (entry j t)
-            (All-push OfPlain (without id b.outstanding) (entry i f) (left_plain b id k) both.0) both.1;
+        outstanding = All-push OfPlain (without id b.outstanding ++ leased_piece i f ∷ []) (leased_piece j t)
+            (All-push OfPlain (without id b.outstanding) (leased_piece i f) (left_plain b id k) both.0) both.1;
         regions = k.regions;
         emptied = k.emptied;
       };

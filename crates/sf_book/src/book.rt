@@ -5,16 +5,16 @@ ghost use Rattle.std.specs.Arc.{arc_value};
 ghost use Rattle.sf_insn.specs.declared.input.Input.{Input};
 ghost use Rattle.sf_insn.specs.Inputs.{IsInput};
 ghost use Rattle.sf_piece.specs.Pieces.{PieceData, IsRoot};
-ghost use Rattle.sf_book.specs.Books.{IsLawful, counts_of, fresh};
+ghost use Rattle.sf_book.specs.Books.{IsLawfulBook, counts_of, fresh};
 ghost use Rattle.sf_book.specs.Partition.{parts_of, names_of, LiesInOne, NoneBeginsAnother};
 ghost use Rattle.sf_book.specs.PlainBooks.{IsPlainWhereStackIs};
 ghost use Rattle.sf_book.specs.Changes.{CommitsAs, Leases, Settles, Refuses, MayCommit, with_lease, with_lease_at};
 ghost use Rattle.sf_book.specs.declared.fault.Fault.TheVariants.{Memory, Foreign};
 
-use crate::entries::{Emptied, Region, add, has_name, is_of, put_in_order};
+use crate::regions::{Emptied, Region, add, has_name, is_of, put_in_order};
 use crate::fault::Fault;
 use crate::settled::Settled;
-use crate::shelf::Shelf;
+use crate::outstanding::OutstandingPieces;
 use sf_check::Stack;
 use sf_piece::{Piece, Step, Work, root};
 use std::alloc::Global;
@@ -49,7 +49,7 @@ pub struct Lease {
 #[derive(Drop)]
 pub struct Book {
     stack: Arc<Stack>,
-    outstanding: Shelf,
+    outstanding: OutstandingPieces,
     regions: Vec<Region>,
     emptied: Vec<Emptied>,
     splits: u32,
@@ -96,7 +96,7 @@ impl Book {
         let _programs = stack.programs();
         let piece = root(alloc, &stack)?;
         let _name = piece.name();
-        let outstanding = Shelf::open(alloc, 0, piece)?;
+        let outstanding = OutstandingPieces::open(alloc, 0, piece)?;
         Ok(Book {
             stack,
             outstanding,
@@ -112,7 +112,7 @@ impl Book {
     /// How many works the book takes in all.
     pub fn budget(&self) -> u32
         ensures budget { result ≡ self.now.budget }
-        ensures lawful { IsLawful self.now }
+        ensures lawful { IsLawfulBook self.now }
     {
         self.budget
     }
@@ -121,7 +121,7 @@ impl Book {
     #[tactic(auto, using(crate::specs::PartitionLaws::lies_in_one, crate::specs::PartitionLaws::none_begins_another))]
     pub fn counts(&self) -> Counts
         ensures counts { result ≡ counts_of self.now }
-        ensures lawful { IsLawful self.now }
+        ensures lawful { IsLawfulBook self.now }
         ensures one { (d : Input) → IsInput d → LiesInOne (parts_of self.now) d }
         ensures apart { NoneBeginsAnother (names_of self.now) }
         ensures plain { IsPlainWhereStackIs self.now }

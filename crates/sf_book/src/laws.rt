@@ -4,27 +4,27 @@ ghost use Rattle.std.specs.Prelude.{◌≡◌, ◌+◌, ◌*◌, ◌<◌, ◌≤
 ghost use Rattle.sf_insn.specs.declared.input.Input.{Input};
 ghost use Rattle.sf_insn.specs.Inputs.{IsInput};
 ghost use Rattle.sf_run.specs.Feasible.{feasible_traces};
-ghost use Rattle.sf_book.specs.Books.{BookData, IsLawful, IsSettled};
+ghost use Rattle.sf_book.specs.Books.{BookData, IsLawfulBook, IsSettled};
 ghost use Rattle.sf_book.specs.Exact.{HasMembers, IsWorkedOff};
 ghost use Rattle.sf_book.specs.Partition.{parts_of, names_of, LiesInOne, NoneBeginsAnother};
 
 /// Each input lies in exactly one outstanding piece or settled region of a lawful book.
 #[tactic(auto, using(crate::specs::PartitionLaws::lies_in_one))]
 pub fn each_input_lies_in_one()
-    ensures { (b : BookData) → IsLawful b → (d : Input) → IsInput d → LiesInOne (parts_of b) d }
+    ensures { (b : BookData) → IsLawfulBook b → (d : Input) → IsInput d → LiesInOne (parts_of b) d }
 {}
 
 /// No name of a lawful book begins another: not of an outstanding piece, a region or an emptied piece.
 #[tactic(auto, using(crate::specs::PartitionLaws::none_begins_another))]
 pub fn no_name_begins_another()
-    ensures { (b : BookData) → IsLawful b → NoneBeginsAnother (names_of b) }
+    ensures { (b : BookData) → IsLawfulBook b → NoneBeginsAnother (names_of b) }
 {}
 
 /// A lawful book in which each piece and each region has a member has at most one of them for each feasible trace of
 /// its stack.
 #[tactic(auto, using(crate::specs::ExactLaws::one_for_each_trace))]
 pub fn at_most_one_for_each_trace()
-    ensures { (b : BookData) → IsLawful b → HasMembers b →
+    ensures { (b : BookData) → IsLawfulBook b → HasMembers b →
         length b.outstanding + length b.regions ≤ length (feasible_traces b.stack) }
 {}
 
@@ -37,7 +37,7 @@ pub fn what_is_worked_off_names_each_trace()
 /// While something is outstanding, fewer works were committed than make all regions.
 #[tactic(auto, using(crate::specs::ExactLaws::left_unworked))]
 pub fn what_is_left_took_fewer_works()
-    ensures { (b : BookData) → IsLawful b → HasMembers b → 0 < length b.outstanding →
+    ensures { (b : BookData) → IsLawfulBook b → HasMembers b → 0 < length b.outstanding →
         b.commits + 1 < 2 * length (feasible_traces b.stack) }
 {}
 

@@ -3,15 +3,15 @@
 #![tactic(auto)]
 
 mod book;
-mod entries;
+mod regions;
 mod fault;
-mod key;
+mod name_key;
 mod laws;
 mod settled;
-mod shelf;
+mod outstanding;
 
 pub use book::{Book, Counts, Lease};
-pub use entries::Region;
+pub use regions::Region;
 pub use fault::Fault;
 pub use laws::{each_input_lies_in_one, no_name_begins_another};
 pub use settled::Settled;

@@ -8,11 +8,11 @@ ghost use Rattle.sf_check.specs.Stacks.{IsPlain};
 ghost use Rattle.sf_piece.specs.PlainPieces.{IsPlainPiece};
 ghost use Rattle.sf_book.specs.PlainBooks.{IsPlainWhereStackIs};
 ghost use Rattle.sf_book.specs.Partition.{parts_of, names_of, LiesInOne, NoneBeginsAnother};
-ghost use Rattle.sf_book.specs.Books.{EntryData, IsSettled, IsRightRegion, counts_of};
+ghost use Rattle.sf_book.specs.Books.{OutstandingData, IsSettled, IsRightRegion, counts_of};
 
 use crate::book::Counts;
-use crate::entries::{Emptied, Region};
-use crate::shelf::Shelf;
+use crate::regions::{Emptied, Region};
+use crate::outstanding::OutstandingPieces;
 use sf_check::Stack;
 use sf_piece::Piece;
 use std::marker::Model;
@@ -22,7 +22,7 @@ use std::sync::Arc;
 #[derive(Drop)]
 pub struct Settled {
     pub(crate) stack: Arc<Stack>,
-    pub(crate) outstanding: Shelf,
+    pub(crate) outstanding: OutstandingPieces,
     pub(crate) regions: Vec<Region>,
     pub(crate) emptied: Vec<Emptied>,
     pub(crate) splits: u32,
@@ -97,7 +97,7 @@ impl Settled {
     /// The piece that is left at this place in the order of ids.
     pub fn outstanding(&self, i: usize) -> &Arc<Piece>
         requires { i < length self.now.outstanding }
-        ensures value { slice_get (map (λ (e : EntryData). e.piece) self.now.outstanding) i
+        ensures value { slice_get (map (λ (e : OutstandingData). e.piece) self.now.outstanding) i
             ≡ Some (arc_value result.now) }
         ensures lawful { IsSettled self.now }
     {

@@ -6,5 +6,5 @@ pub mod Refusals
 pub mod Masks
 pub mod Stacks
 pub mod Numbers
-pub mod MemberLaws
+pub mod ContainsLaws
 pub mod ProgramLaws

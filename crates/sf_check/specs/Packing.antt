@@ -3,7 +3,7 @@ use Rattle.std.specs.Prelude.{◌≡◌, ℕ, ◌+◌, ◌*◌, List, map}
 use Rattle.sf_insn.specs.declared.raw.RawInsn.{RawInsn}
 use Rattle.sf_insn.specs.Spelling.{AreInsns}
 use Rattle.sf_check.specs.declared.insn.Insn.{Insn}
-use Rattle.sf_check.specs.Programs.{Spells, IsLawful}
+use Rattle.sf_check.specs.Programs.{Spells, IsLawfulProgram}
 
 -- an instruction as one number: code, jt, jf and k side by side, in 16, 8, 8 and 32 bits
 abbrev pub packed_insn : RawInsn → ℕ
@@ -15,4 +15,4 @@ pub record ArePacked (program : List Insn) (packed : List ℕ) : Type 0 where
   pub fields : AreInsns raws
   pub numbered : packed ≡ map packed_insn raws
   pub read : Spells raws program
-  pub lawful : IsLawful program
+  pub lawful : IsLawfulProgram program

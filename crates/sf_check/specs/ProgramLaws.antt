@@ -7,7 +7,7 @@ use Rattle.sf_check.specs.declared.insn.Insn.{Insn}
 use Rattle.sf_check.specs.declared.insn.Insn.TheVariants.{LoadWord, LoadConstant, LoadScratch, LoadLength, LoadXConstant, LoadXScratch, LoadXLength, StoreA, StoreX, Alu, Negate, Jump, Branch, ReturnConstant, ReturnA, Tax, Txa}
 use Rattle.sf_check.specs.Insns.{IsReturn, targets, successors}
 use Rattle.sf_check.specs.Programs.{AllBelow, EndsInReturn, IsAt}
-use Rattle.sf_check.specs.MemberLaws.{contains_cons, contains_nil}
+use Rattle.sf_check.specs.ContainsLaws.{contains_cons, contains_nil}
 
 pub only_one : (n q : ℕ) → Contains (n ∷ []) q → n ≡ q
 only_one n q c = elim (contains_cons n [] q c) [ inl e ↦ e | inr none ↦ absurd (contains_nil q none) ]

@@ -4,7 +4,7 @@ ghost use Rattle.std.specs.Prelude.{◌≡◌, ℕ, List};
 ghost use Rattle.sf_insn.specs.declared.raw.RawInsn.{RawInsn};
 ghost use Rattle.sf_check.specs.declared.insn.Insn.{Insn};
 ghost use Rattle.sf_check.specs.declared.fault.Fault.{Fault};
-ghost use Rattle.sf_check.specs.Programs.{IsLawful, Spells, SpellsProgram};
+ghost use Rattle.sf_check.specs.Programs.{IsLawfulProgram, Spells, SpellsProgram};
 ghost use Rattle.sf_check.specs.Packing.{ArePacked};
 ghost use Rattle.sf_check.specs.Refusals.{IsFirstFault};
 
@@ -32,7 +32,7 @@ pub(crate) fn one_program_of_packed()
 /// Instructions with a first fault spell no lawful program, so `check` accepts exactly those that spell one.
 pub fn a_fault_spells_no_lawful_program()
     ensures { (raws : List RawInsn) (e : Fault) (code : List Insn) →
-        IsFirstFault raws e → Spells raws code → IsLawful code → ⊥ }
+        IsFirstFault raws e → Spells raws code → IsLawfulProgram code → ⊥ }
 {}
 
 /// Instructions have at most one first fault, so `check` tells the only one.

@@ -11,7 +11,7 @@ use Rattle.clap.specs.declared.parser.matches.Found.{Found}
 use Rattle.clap.proofs.OnLiterals.{clap_on_literals}
 use Rattle.clap.proofs.WalkLemmas.{one_text-rows, raw_values-rows}
 use Rattle.sf_command.specs.CommandLine.{command_line}
-use Rattle.sf_command.specs.Runs.{ArePaths, Helps, IsHelp, IsNumberOf, WritesText, errors_at, subcommand_at}
+use Rattle.sf_command.specs.Runs.{ArePaths, Helps, IsHelp, IsOptionNumber, WritesText, errors_at, subcommand_at}
 
 -- the third of tests that all hold says that a setting is off
 pub third_is_off : (a b c rest : Bool) → (a && (not b && (not c && rest))) ≡ true → c ≡ false
@@ -36,7 +36,7 @@ pub number_read : {E : Type 0} (gives : List ℕ → Result ℕ E → Type 0) (b
     → (text ≡ None → read ≡ None)
     → ((t : Text) → text ≡ Some t → ReadsOne gives t read)
     → ((bs : List ℕ) (r : Result ℕ E) → gives bs r → ParsesUnsigned bits 10 bs r)
-    → IsNumberOf text greatest usual (unwrap_or read usual)
+    → IsOptionNumber text greatest usual (unwrap_or read usual)
 number_read gives bits greatest usual None read fits none some parses = rw (none refl) refl
 number_read gives bits greatest usual (Some t) (Some n) fits none some parses =
     λ numeral positive small. (parses t (Ok n) (some t refl)).1
@@ -52,7 +52,7 @@ pub number_found : {E : Type 0} (gives : List ℕ → Result ℕ E → Type 0) (
     → (one_text f id ≡ None → read ≡ None)
     → ((t : Text) → one_text f id ≡ Some t → ReadsOne gives t read)
     → ((bs : List ℕ) (r : Result ℕ E) → gives bs r → ParsesUnsigned bits 10 bs r)
-    → IsNumberOf (one_of id (rows_of f)) greatest usual (unwrap_or read usual)
+    → IsOptionNumber (one_of id (rows_of f)) greatest usual (unwrap_or read usual)
 number_found gives bits greatest usual f id read fits none some parses =
     rw (← one_text-rows f id) (number_read gives bits greatest usual _ _ fits none some parses)
 
@@ -63,9 +63,9 @@ read_or f None p x e = rw (← e) refl
 read_or f (Some y) p x e = rw (← e) refl
 
 -- where such a number lies outside its range, it is the usual one that stands for it
-pub usual_number : (greatest usual n : ℕ) (text : Option Text) → IsNumberOf text greatest usual n
+pub usual_number : (greatest usual n : ℕ) (text : Option Text) → IsOptionNumber text greatest usual n
     → ((0 < n) × (greatest < n)) ⊎ (n ≤ 0)
-    → IsNumberOf text greatest usual usual
+    → IsOptionNumber text greatest usual usual
 usual_number greatest usual n None is outside = refl
 usual_number greatest usual n (Some t) is (inl great) =
     λ numeral some few. absurd (omega (arith, is numeral some few, great.1, few))

@@ -3,13 +3,13 @@ use Rattle.std.proofs.Common.{◌≡◌, ℕ, List, Option, Some, None, Result, 
 use Rattle.std.specs.Prelude.{IfOk, IfErr}
 use Rattle.toml.specs.Data.{Members}
 use Rattle.toml.specs.Parse.{parse_document}
-use Rattle.sf_ask.specs.Asked.{Asked}
+use Rattle.sf_ask.specs.QuestionData.{QuestionData}
 use Rattle.sf_audit.specs.declared.fault.Fault.{Fault}
 use Rattle.sf_audit.specs.declared.fault.Fault.TheVariants as faults
 use Rattle.sf_audit.specs.Faults.{Fails, Gives}
 use Rattle.sf_audit.specs.Policies.{policy_of}
 use Rattle.sf_command.specs.Audits.{IsPolicyFile, RefusesPolicyFile}
-use Rattle.sf_command.specs.Files.{AgreesWith}
+use Rattle.sf_command.specs.Files.{AreKnownBytes}
 
 option_cases : {X : Type 0} (o : Option X) → (o ≡ None) ⊎ ((x : X) × (o ≡ Some x))
 option_cases None = inl refl
@@ -44,9 +44,9 @@ fails_due faults.Read due h = inr h
 fails_due faults.Write due h = inr h
 fails_due faults.Memory due h = inl refl
 
-pub policy_asked : {X : Type 0} (view : X → List Asked) (r : Result X Fault) (known : Option (List ℕ)) (text : List ℕ)
+pub policy_asked : {X : Type 0} (view : X → List QuestionData) (r : Result X Fault) (known : Option (List ℕ)) (text : List ℕ)
     → ((tree : Members) → parse_document text ≡ Some tree → Gives view r (policy_of tree))
-    → (parse_document text ≡ None → (r ≡ Err faults.Syntax) ⊎ (r ≡ Err faults.Memory)) → AgreesWith known text
+    → (parse_document text ≡ None → (r ≡ Err faults.Syntax) ⊎ (r ≡ Err faults.Memory)) → AreKnownBytes known text
     → IfOk r (λ v. IsPolicyFile known (view v))
 policy_asked view (Ok x) known text read none agrees = elim (option_cases (parse_document text)) [
   | inl e ↦ elim (none e) [ inl h ↦ absurd cc | inr h ↦ absurd cc ]
@@ -54,9 +54,9 @@ policy_asked view (Ok x) known text read none agrees = elim (option_cases (parse
 ]
 policy_asked view (Err e) known text read none agrees = tt
 
-pub policy_refused : {X : Type 0} (view : X → List Asked) (r : Result X Fault) (known : Option (List ℕ)) (text : List ℕ)
+pub policy_refused : {X : Type 0} (view : X → List QuestionData) (r : Result X Fault) (known : Option (List ℕ)) (text : List ℕ)
     → ((tree : Members) → parse_document text ≡ Some tree → Gives view r (policy_of tree))
-    → (parse_document text ≡ None → (r ≡ Err faults.Syntax) ⊎ (r ≡ Err faults.Memory)) → AgreesWith known text
+    → (parse_document text ≡ None → (r ≡ Err faults.Syntax) ⊎ (r ≡ Err faults.Memory)) → AreKnownBytes known text
     → IfErr r (λ e. ((e ≡ faults.Read) × (known ≡ None)) ⊎ (e ≡ faults.Memory) ⊎ RefusesPolicyFile known e)
 policy_refused view (Ok x) known text read none agrees = tt
 policy_refused view (Err e) known text read none agrees = elim (option_cases (parse_document text)) [

@@ -1,6 +1,6 @@
 -- Files that hold the same read the same.
 use Rattle.std.proofs.Common.{◌≡◌, ℕ, List, Option, Bor, subst}
-use Rattle.sf_command.specs.Files.{AgreesWith, AreRead}
+use Rattle.sf_command.specs.Files.{AreKnownBytes, AreRead}
 
 pub read_same : (before after : List ℕ → Option (List ℕ)) (paths : List (Bor (List ℕ))) (files : List (List ℕ))
     → ((p : List ℕ) → after p ≡ before p) → AreRead after paths files → AreRead before paths files
@@ -8,5 +8,5 @@ read_same before after paths files same read = record {
   same = read.same;
   each = λ n path h.
       let (file, at, agrees) = read.each n path h in
-      (file, at, subst (λ known. AgreesWith known file) (same path.now) agrees);
+      (file, at, subst (λ known. AreKnownBytes known file) (same path.now) agrees);
 }

@@ -2,7 +2,7 @@
 use Rattle.std.proofs.Common.{◌≡◌, ◌⊎◌, ◌∙◌, inl, inr, ℕ, List, None, Option, Bor, Result, Ok, Err, sym, subst}
 use Rattle.std.specs.Prelude.{slice_get, Some}
 use Rattle.std.specs.Result.{IfErr, IsErrAnd}
-use Rattle.sf_ask.specs.Asked.{Asked}
+use Rattle.sf_ask.specs.QuestionData.{QuestionData}
 use Rattle.sf_audit.specs.declared.fault.Fault.{Fault}
 use Rattle.sf_audit.specs.declared.fault.Fault.TheVariants.{Foreign, Memory, Read}
 use Rattle.sf_audit.specs.Audits.{IsAuditRefusal}
@@ -49,7 +49,7 @@ filters_why before after policy paths e same (inr memory) = inr (inr (inl memory
 
 -- the audit of what the files hold is refused
 pub audit_why : (holds : List ℕ → Option (List ℕ)) (policy : List ℕ) (paths : List (Bor (List ℕ)))
-    (questions : List Asked) (files : List (List ℕ)) (e : Fault)
+    (questions : List QuestionData) (files : List (List ℕ)) (e : Fault)
     → IsPolicyFile (holds policy) questions → AreRead holds paths files → (e ≡ Memory) ⊎ (e ≡ Foreign)
     ⊎ IsAuditRefusal files questions e
     → RefusesAudit holds policy paths e

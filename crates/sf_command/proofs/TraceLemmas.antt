@@ -5,11 +5,11 @@ use Rattle.std.specs.Prelude.{not, ◌&&◌, ◌||◌, ◌==◌}
 use Rattle.sf_insn.specs.declared.input.Input.{Input}
 use Rattle.sf_check.specs.declared.insn.Insn.{Insn}
 use Rattle.sf_run.specs.Answers.{action_bits}
-use Rattle.sf_run.specs.Walks.{Walked, walk_of}
+use Rattle.sf_run.specs.Walks.{CourseData, walk_of}
 use Rattle.sf_command.specs.Traces.{filters_text, walk_text}
 
 pub one_more_filter : (brief : Bool) (n action : ℕ) (stood stands : Bool) (programs : List (List Insn)) (d : Input)
-    (code : List Insn) (w : Walked) (old new whole : List ℕ)
+    (code : List Insn) (w : CourseData) (old new whole : List ℕ)
     → slice_get programs n ≡ Some code → walk_of code d ≡ Some w
     → stands ≡ (not stood && (action_bits w.value == action))
     → new ≡ old ++ walk_text brief (n + 1) stands w

@@ -5,23 +5,23 @@ use Rattle.std.specs.Io.KnownBytes.{Appends}
 use Rattle.std.specs.Str.{IsUtf8}
 use Rattle.toml.specs.Data.{Members}
 use Rattle.toml.specs.Parse.{parse_document}
-use Rattle.sf_ask.specs.Asked.{Asked}
+use Rattle.sf_ask.specs.QuestionData.{QuestionData}
 use Rattle.sf_audit.specs.declared.fault.Fault.{Fault}
 use Rattle.sf_audit.specs.declared.fault.Fault.TheVariants.{Foreign, Memory, Read, Syntax, Write}
 use Rattle.sf_audit.specs.Policies.{policy_of}
 use Rattle.sf_audit.specs.Outcomes.{Found}
 use Rattle.sf_audit.specs.Audits.{IsAudit, IsAuditRefusal}
 use Rattle.sf_audit.specs.Reports.{report_text}
-use Rattle.sf_command.specs.Files.{AgreesWith, AreRead, HasUnknown}
+use Rattle.sf_command.specs.Files.{AreKnownBytes, AreRead, HasUnknown}
 use Rattle.sf_command.specs.Status.{replies_status}
 
 -- the bytes are a policy with these questions
-abbrev pub IsPolicy : List ℕ → List Asked → Type 0
+abbrev pub IsPolicy : List ℕ → List QuestionData → Type 0
 IsPolicy bytes asked = (tree : Members) × (parse_document bytes ≡ Some tree) × (policy_of tree ≡ Ok asked)
 
 -- the file, whose bytes may be known, is a policy with these questions
-abbrev pub IsPolicyFile : Option (List ℕ) → List Asked → Type 0
-IsPolicyFile known asked = (bytes : List ℕ) × AgreesWith known bytes × IsPolicy bytes asked
+abbrev pub IsPolicyFile : Option (List ℕ) → List QuestionData → Type 0
+IsPolicyFile known asked = (bytes : List ℕ) × AreKnownBytes known bytes × IsPolicy bytes asked
 
 -- Why the bytes are no policy: they are no UTF-8 or no TOML, or they break the rules of a policy.
 abbrev pub RefusesPolicy : List ℕ → Fault → Type 0
@@ -31,13 +31,13 @@ RefusesPolicy bytes fault =
 
 -- the file, whose bytes may be known, is no policy for this reason
 abbrev pub RefusesPolicyFile : Option (List ℕ) → Fault → Type 0
-RefusesPolicyFile known fault = (bytes : List ℕ) × AgreesWith known bytes × RefusesPolicy bytes fault
+RefusesPolicyFile known fault = (bytes : List ℕ) × AreKnownBytes known bytes × RefusesPolicy bytes fault
 
 -- `audit`: the files at the paths are read and audited by the questions of the policy file; the report is written, and
 -- the status tells the replies
 pub record AuditsFiles (holds : List ℕ → Option (List ℕ)) (policy : List ℕ) (paths : List (Bor (List ℕ))) (budget : ℕ)
     (regions : Bool) (status : ℕ) (old new : Option (List ℕ)) : Type 0 where
-  pub questions : List Asked
+  pub questions : List QuestionData
   pub asked : IsPolicyFile (holds policy) questions
   pub files : List (List ℕ)
   pub read : AreRead holds paths files
@@ -53,6 +53,6 @@ abbrev pub RefusesAudit : (List ℕ → Option (List ℕ)) → List ℕ → List
 RefusesAudit holds policy paths fault =
     ((fault ≡ Read) × ((holds policy ≡ None) ⊎ HasUnknown holds paths))
     ⊎ (fault ≡ Write) ⊎ (fault ≡ Memory) ⊎ (fault ≡ Foreign) ⊎ RefusesPolicyFile (holds policy) fault
-    ⊎ ((questions : List Asked) × (files : List (List ℕ)) × IsPolicyFile (holds policy) questions
+    ⊎ ((questions : List QuestionData) × (files : List (List ℕ)) × IsPolicyFile (holds policy) questions
     × AreRead holds paths files
     × IsAuditRefusal files questions fault)

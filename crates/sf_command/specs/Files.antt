@@ -4,13 +4,13 @@ use Rattle.std.specs.Borrow.{Bor}
 use Rattle.sf_command.specs.Pairs.{Pairwise}
 
 -- bytes that were read are those that are known
-abbrev pub AgreesWith : Option (List ℕ) → List ℕ → Type 0
-AgreesWith None bytes = Unit {0}
-AgreesWith (Some known) bytes = bytes ≡ known
+abbrev pub AreKnownBytes : Option (List ℕ) → List ℕ → Type 0
+AreKnownBytes None bytes = Unit {0}
+AreKnownBytes (Some known) bytes = bytes ≡ known
 
 -- the bytes are those of the files at the paths, path by path
 abbrev pub AreRead : (List ℕ → Option (List ℕ)) → List (Bor (List ℕ)) → List (List ℕ) → Type 0
-AreRead holds paths files = Pairwise (λ path file. AgreesWith (holds path.now) file) paths files
+AreRead holds paths files = Pairwise (λ path file. AreKnownBytes (holds path.now) file) paths files
 
 -- one of the paths is that of a file whose bytes aren't known: it may be that it can't be read
 pub record HasUnknown (holds : List ℕ → Option (List ℕ)) (paths : List (Bor (List ℕ))) : Type 0 where

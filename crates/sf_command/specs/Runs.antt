@@ -30,9 +30,9 @@ paths_of rows = unwrap_or (all_of (codes "filters") rows) []
 
 -- The number that the text of an option spells, or this one where there is no text. The form lets through no text but
 -- of a number from 1 to the greatest.
-abbrev pub IsNumberOf : Option Text → ℕ → ℕ → ℕ → Type 0
-IsNumberOf None greatest usual n = n ≡ usual
-IsNumberOf (Some text) greatest usual n =
+abbrev pub IsOptionNumber : Option Text → ℕ → ℕ → ℕ → Type 0
+IsOptionNumber None greatest usual n = n ≡ usual
+IsOptionNumber (Some text) greatest usual n =
     let digits = without_leading_plus text in
     IsNumeral 10 digits → 0 < digits_value 10 digits → digits_value 10 digits ≤ greatest → n ≡ digits_value 10 digits
 
@@ -55,7 +55,7 @@ module _ (holds : Text → Option Text) (rows : List Row) (status : ℕ) (old ne
     pub paths : List (Bor Text)
     pub named : ArePaths rows paths
     pub budget : ℕ
-    pub counted : IsNumberOf (one_of (codes "budget") rows) 1000000 100000 budget
+    pub counted : IsOptionNumber (one_of (codes "budget") rows) 1000000 100000 budget
     pub regions : Bool
     pub listed : IsSwitch (one_of (codes "regions") rows) regions
     pub audited : AuditsFiles holds (text_of (codes "policy") rows) paths budget regions status old new

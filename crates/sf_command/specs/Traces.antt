@@ -10,8 +10,8 @@ use Rattle.sf_run.specs.declared.action.Answer.{Answer}
 use Rattle.sf_run.specs.declared.walking.Meeting.{Meeting}
 use Rattle.sf_run.specs.declared.walking.Met.{Met}
 use Rattle.sf_run.specs.declared.walking.Met.TheVariants.{Tested, Divided, Returned}
-use Rattle.sf_run.specs.Answers.{action_bits, action_of, data_bits, number_of}
-use Rattle.sf_run.specs.Walks.{Walked, walk_of}
+use Rattle.sf_run.specs.Answers.{action_bits, action_of, data_bits, action_number}
+use Rattle.sf_run.specs.Walks.{CourseData, walk_of}
 use Rattle.sf_audit.specs.Reports.{action_text, line}
 use Rattle.sf_command.specs.Texts.{answer_text}
 
@@ -104,14 +104,14 @@ meeting_lines brief number [] = []
 meeting_lines brief number (m ∷ ms) = shown_line brief number m ++ meeting_lines brief number ms
 
 -- the mark of the filter whose answer stands
-abbrev pub mark_text : Bool → List ℕ
-mark_text stands = if stands then codes " stands" else []
+abbrev pub stands_text : Bool → List ℕ
+stands_text stands = if stands then codes " stands" else []
 
 -- what a filter returns, and where
 abbrev pub returned_line : ℕ → ℕ → Action → ℕ → Bool → List ℕ
 returned_line number place action info stands =
     codes "filter " ++ (decimal number ++ 32 ∷ (action_text action ++ 32 ∷ (decimal info
-    ++ (codes " instruction " ++ (decimal place ++ (mark_text stands ++ 10 ∷ []))))))
+    ++ (codes " instruction " ++ (decimal place ++ (stands_text stands ++ 10 ∷ []))))))
 
 -- the same of a return value
 abbrev pub return_line : ℕ → ℕ → ℕ → Bool → List ℕ
@@ -119,21 +119,21 @@ return_line number place value stands =
     returned_line number place (action_of (action_bits value)) (data_bits value) stands
 
 -- a filter with this number: what it returns, and under it what it meets
-abbrev pub walk_text : Bool → ℕ → Bool → Walked → List ℕ
+abbrev pub walk_text : Bool → ℕ → Bool → CourseData → List ℕ
 walk_text brief number stands w = return_line number w.place w.value stands ++ meeting_lines brief number w.met
 
 -- ---- the stack
 
 -- the run of the filter with this place, counted from 0 in order of installation; a lawful one always comes to a return
-abbrev pub walk_at : List (List Insn) → Input → ℕ → Option Walked
+abbrev pub walk_at : List (List Insn) → Input → ℕ → Option CourseData
 walk_at programs d place = from (slice_get programs place)
   where
-    from : Option (List Insn) → Option Walked
+    from : Option (List Insn) → Option CourseData
     from (Some code) = walk_of code d
     from None = None
 
 -- a filter, of which it is told whether it stands, and the older ones
-abbrev pub next_text : Bool → ℕ → ℕ → Bool → (Bool → List ℕ) → Option Walked → List ℕ
+abbrev pub next_text : Bool → ℕ → ℕ → Bool → (Bool → List ℕ) → Option CourseData → List ℕ
 next_text brief number action stood older (Some w) =
     let stands = not stood && (action_bits w.value == action) in
     walk_text brief number stands w ++ older (stood || stands)
@@ -149,7 +149,7 @@ filters_text brief (suc n) action programs d stood =
 -- the input, and all filters of the stack, for its answer
 abbrev pub trace_text : Bool → List (List Insn) → Input → Answer → List ℕ
 trace_text brief programs d answer =
-    input_text d ++ filters_text brief (length programs) (number_of answer.action) programs d false
+    input_text d ++ filters_text brief (length programs) (action_number answer.action) programs d false
 
 -- the answer, and under it where it comes from, if that is asked for, in full or in brief
 abbrev pub eval_text : (traced brief : Bool) → List (List Insn) → Input → Answer → List ℕ

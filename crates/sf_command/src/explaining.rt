@@ -4,7 +4,7 @@ ghost use Rattle.std.specs.Prelude.{◌≡◌, Some, None, codes, map, string_by
 ghost use Rattle.clap.specs.Words.{found_of, one_of, rows_of, subcommand_rows_of};
 ghost use Rattle.sf_command.specs.Runs.{IsUnasked, subcommand_at};
 
-use crate::asked::explains_of;
+use crate::options::explains_of;
 use crate::places::position_of;
 use crate::policies::push_refusal;
 use crate::words;

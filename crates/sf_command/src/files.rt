@@ -1,7 +1,7 @@
 //! Where files come from.
 
 ghost use Rattle.std.specs.Prelude.{◌≡◌, ◌⊎◌, ◌≤◌, ℕ, List, None, length, map, IfOk, IfErr};
-ghost use Rattle.sf_command.specs.Files.{AgreesWith, AreRead, HasUnknown};
+ghost use Rattle.sf_command.specs.Files.{AreKnownBytes, AreRead, HasUnknown};
 ghost use Rattle.sf_audit.specs.declared.fault.Fault.TheVariants.{Memory, Read};
 
 use crate::explaining::Notes;
@@ -22,7 +22,7 @@ pub trait Files {
     /// The bytes of the file at a path. `Read` where it can't be read or has more than `MOST_BYTES`, `Memory` where a
     /// growth is refused.
     fn read(&mut self, path: &str) -> Result<Vec<u8>, Fault>
-        ensures bytes { IfOk result (λ v. AgreesWith (holds self.old path.now) v.items) }
+        ensures bytes { IfOk result (λ v. AreKnownBytes (holds self.old path.now) v.items) }
         ensures few { IfOk result (λ v. length v.items ≤ 0x100000) }
         ensures refused { IfErr result (λ e. ((e ≡ Read) × (holds self.old path.now ≡ None))
             ⊎ (e ≡ Memory)) }

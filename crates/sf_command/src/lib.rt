@@ -1,7 +1,7 @@
 //! The command line of the program, from its words to its exit status, over traits for files and streams.
 #![tactic(auto)]
 
-mod asked;
+mod options;
 mod auditing;
 mod checking;
 mod dispatch;

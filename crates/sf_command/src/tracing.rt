@@ -1,8 +1,8 @@
 //! The text of `eval --trace`: the input, and how each filter comes to its return value.
 ghost use Rattle.std.specs.Prelude.{◌≡◌, ◌<◌, ◌++◌, ◌==◌, ◌&&◌, ◌||◌, not, false, OnOk, IfOk, Some, length, string_bytes};
-ghost use Rattle.sf_run.specs.Answers.{action_bits, number_of};
-ghost use Rattle.sf_run.specs.Walks.{Walked, walk_of};
-ghost use Rattle.sf_command.specs.Traces.{call_text, compared_text, field_line, filters_text, first_arguments, input_text, is_false, last_arguments, mark_text, meeting_line, meeting_lines, returned_line, shown_line, sign_text, test_line, trace_text, truth_text, walk_text, word_text};
+ghost use Rattle.sf_run.specs.Answers.{action_bits, action_number};
+ghost use Rattle.sf_run.specs.Walks.{CourseData, walk_of};
+ghost use Rattle.sf_command.specs.Traces.{call_text, compared_text, field_line, filters_text, first_arguments, input_text, is_false, last_arguments, stands_text, meeting_line, meeting_lines, returned_line, shown_line, sign_text, test_line, trace_text, truth_text, walk_text, word_text};
 
 use sf_audit::push_action;
 use sf_check::{Program, Stack};
@@ -165,7 +165,7 @@ fn push_meetings(
 
 /// The mark of the filter whose answer stands.
 fn mark_of(stands: bool) -> &'static str
-    ensures { result.now ≡ mark_text stands }
+    ensures { result.now ≡ stands_text stands }
 {
     if stands { " stands" } else { "" }
 }
@@ -199,7 +199,7 @@ fn push_filter(
     action: u32,
     stood: bool,
 ) -> Result<bool, Fault>
-    ensures { IfOk result (λ b. (w : Walked) × (walk_of program.now input.now ≡ Some w)
+    ensures { IfOk result (λ b. (w : CourseData) × (walk_of program.now input.now ≡ Some w)
         × (b ≡ (not stood && (action_bits w.value == action)))
         × (string_bytes text.new ≡ string_bytes text.old ++ walk_text brief number b w)) }
 {

@@ -11,12 +11,12 @@ use lib.ListN.{get_elem?, replicate}
 use Rattle.atomic_table.specs.Table.{State}
 use Rattle.sf_ask.specs.declared.verdict.Verdict.TheVariants.{Doubt}
 use Rattle.sf_ask.specs.Sheets.{HasBreak, HasNoBreak, IsRightOn}
-use Rattle.sf_crew.specs.declared.view.Matter.{Matter}
+use Rattle.sf_crew.specs.declared.view.BoardKey.{BoardKey}
 use Rattle.sf_crew.specs.declared.view.View.{View}
-use Rattle.sf_crew.specs.declared.view.Entry.{Entry}
+use Rattle.sf_crew.specs.declared.view.EnteredSheet.{EnteredSheet}
 use Rattle.sf_crew.specs.declared.view.Note.{Note}
 use Rattle.sf_crew.specs.declared.board.Tally.{Tally}
-use Rattle.sf_crew.specs.Views.{has, has_doubt, bit_of, IsInDoubt, regions_of, asked, places, jobs, owed, Noted, Covered, Each, times, once_below, total, top, doubt_at}
+use Rattle.sf_crew.specs.Views.{has, has_doubt, bit_of, IsInDoubt, regions_of, questions_of, count_of_regions, jobs, owed_jobs, Noted, Covered, Each, times, once_below, total, top, doubt_at}
 use Rattle.sf_crew.specs.BoardRule.{Kept, BoardKept, least_in, doubts_in}
 use Rattle.sf_crew.specs.Tallies.{RightTally, IsBelow, IsCleared, entered_jobs}
 use Rattle.sf_crew.specs.LeastWords.{LeastIs}
@@ -31,38 +31,38 @@ times_none : (x : ℕ) (xs : List ℕ) → length xs ≡ 0 → times x xs ≡ 0
 times_none x [] h = refl
 times_none x (y ∷ ys) h = absurd (omega arith)
 
-cleared_all : (k : Matter) (t : Tally) (words : List ℕ) (ns : List Note) (es : List Entry)
-    → ((q r : ℕ) → Noted ns q r → slice_index words (q + 6) ≤ r) → LeastIs words (places k) (length (asked k)) t.least
-    → ((q : ℕ) → q < length (asked k) → has_doubt q es ≤ bit_of t.doubts q) → Each (Covered k ns) es
-    → Each (λ e. (q : ℕ) → q < length (asked k) → IsBelow t q e.job → IsCleared k t e q) es
+cleared_all : (k : BoardKey) (t : Tally) (words : List ℕ) (ns : List Note) (es : List EnteredSheet)
+    → ((q r : ℕ) → Noted ns q r → slice_index words (q + 6) ≤ r) → LeastIs words (count_of_regions k) (length (questions_of k)) t.least
+    → ((q : ℕ) → q < length (questions_of k) → has_doubt q es ≤ bit_of t.doubts q) → Each (Covered k ns) es
+    → Each (λ e. (q : ℕ) → q < length (questions_of k) → IsBelow t q e.job → IsCleared k t e q) es
 cleared_all k t words ns [] noted least masked h = tt
 cleared_all k t words ns (e ∷ es) noted least masked h = (
   (λ q lt below. ⊎_elim
       (λ (x : (r : ℕ) × Noted ns q r × (r ≤ e.job)). let place : ℕ = slice_index words (q + 6) in
       let under = noted q x.0 x.1 in let le = x.2 in let small = h.0.there in
-      let here : place < places k = omega arith in
+      let here : place < count_of_regions k = omega arith in
       absurd (let above = below place (least.1 q lt here) in omega arith))
-      (λ x. ⊎_elim (λ (y : HasNoBreak (regions_of k) (asked k) e.job q). inl y)
+      (λ x. ⊎_elim (λ (y : HasNoBreak (regions_of k) (questions_of k) e.job q). inl y)
       (λ (y : has q e.doubts ≡ 1). let m = masked q lt in let one = bit_most (slice_index t.doubts (q / 64)) (q % 64) in
       inr (y, omega arith)) x)
       (h.0.cleared q lt)),
   cleared_all k t words ns es noted least (λ q lt. let m = masked q lt in omega arith) h.1,
 )
 
-doubts_right : (k : Matter) (ns : List Note) (es : List Entry) → Each (Covered k ns) es
+doubts_right : (k : BoardKey) (ns : List Note) (es : List EnteredSheet) → Each (Covered k ns) es
     → Each (λ e. (q : ℕ) → has q e.doubts ≡ 1 → IsInDoubt k e.job q) es
 doubts_right k ns [] h = tt
 doubts_right k ns (e ∷ es) h = (h.0.doubts, doubts_right k ns es h.1)
 
 -- no sheet has a doubt for a question past the last one
-none_past : (k : Matter) (q : ℕ) (es : List Entry) → length (asked k) ≤ q
+none_past : (k : BoardKey) (q : ℕ) (es : List EnteredSheet) → length (questions_of k) ≤ q
     → Each (λ e. (p : ℕ) → has p e.doubts ≡ 1 → IsInDoubt k e.job p) es → has_doubt q es ≡ 0
 none_past k q [] out h = refl
 none_past k q (e ∷ es) out h =
     let rest = none_past k q es out h.1 in
     let most = has_most q e.doubts in
-    let none : has q e.doubts ≢ 1 = λ one. (let d : IsRightOn (regions_of k) (asked k) e.job q Doubt = h.0 q one in
-    let there = slice_get_within (asked k) q d.question d.asked in omega arith) in
+    let none : has q e.doubts ≢ 1 = λ one. (let d : IsRightOn (regions_of k) (questions_of k) e.job q Doubt = h.0 q one in
+    let there = slice_get_within (questions_of k) q d.question d.asked in omega arith) in
     omega arith
 
 -- four words read one after another
@@ -75,54 +75,54 @@ four_words words a b c d p q r s (suc (suc zero)) lt = r
 four_words words a b c d p q r s (suc (suc (suc zero))) lt = s
 four_words words a b c d p q r s (suc (suc (suc (suc w)))) lt = absurd (omega arith)
 
-pub close_right : (k : Matter) (s : State ℕ View) (id : ℕ) (v : View) (t : Tally) → length (asked k) ≤ 256
+pub close_right : (k : BoardKey) (s : State ℕ View) (id : ℕ) (v : View) (t : Tally) → length (questions_of k) ≤ 256
     → BoardKept k s → get_elem? s.views id ≡ some v → v.marked ≡ []
     → ((w : ℕ) → w < 4 → slice_index t.doubts w ≡ doubts_in s.words w) → t.entered ≡ slice_index s.words 1
-    → LeastIs s.words (places k) (length (asked k)) t.least → RightTally k v t
+    → LeastIs s.words (count_of_regions k) (length (questions_of k)) t.least → RightTally k v t
 close_right k s id v t few h at unmarked doubts entered least =
     let n : ℕ = slice_index s.words 0 in let kept : Kept k n (slice_index s.words 1) (doubts_in s.words)
     (least_in s.words) s.views = h.1 in let mine = kept.each id v at in
     let bit : (q : ℕ) → q < 256 → bit_of t.doubts q ≡ top (doubt_at q) s.views =
     λ q lt. ap (λ y. bit_at y (q % 64)) (doubts (q / 64) (omega arith)) ∙ kept.marked q lt in
     let all : ℕ → ℕ = λ x. times x (jobs v) in
-    let parted : (x : ℕ) → times x (jobs v) ≡ times x (owed v.owes) + times x (entered_jobs v) =
-    λ x. times_append x (owed v.owes) (entered_jobs v) in
-    let long : length (jobs v) ≡ length (owed v.owes) + length (entered_jobs v) =
-    length-append (owed v.owes) (entered_jobs v) in
-    let count : length (entered_jobs v) ≡ length v.entries = length-map v.entries (λ e. e.job) in
-    let right = doubts_right k v.notes v.entries mine.covered in
-    let joined : v.parts ≡ k.seats → (q : ℕ) → q < 256 → bit_of t.doubts q ≡ has_doubt q v.entries = λ whole q lt.
-    (let only = top_only (λ u. u.parts) (doubt_at q) s.views id v
+    let parted : (x : ℕ) → times x (jobs v) ≡ times x (owed_jobs v.owes) + times x (entered_jobs v) =
+    λ x. times_append x (owed_jobs v.owes) (entered_jobs v) in
+    let long : length (jobs v) ≡ length (owed_jobs v.owes) + length (entered_jobs v) =
+    length-append (owed_jobs v.owes) (entered_jobs v) in
+    let count : length (entered_jobs v) ≡ length v.entered_sheets = length-map v.entered_sheets (λ e. e.job) in
+    let right = doubts_right k v.notes v.entered_sheets mine.covered in
+    let joined : v.joined_seats ≡ k.seats → (q : ℕ) → q < 256 → bit_of t.doubts q ≡ has_doubt q v.entered_sheets = λ whole q lt.
+    (let only = top_only (λ u. u.joined_seats) (doubt_at q) s.views id v
     (λ j u there idle. let i = (kept.each j u there).idle idle in let m = (kept.each j u there).marks i.0 in
-    subst (λ (y : List ℕ × List Entry). max (has q y.0) (has_doubt q y.1) ≡ 0) (λ l. (sym m l, sym i.1 l)) refl) at
-    (kept.parts ∙ sym whole) in
-    bit q lt ∙ only ∙ ap (λ (y : List ℕ). max (has q y) (has_doubt q v.entries)) unmarked ∙ omega arith) in record {
+    subst (λ (y : List ℕ × List EnteredSheet). max (has q y.0) (has_doubt q y.1) ≡ 0) (λ l. (sym m l, sym i.1 l)) refl) at
+    (kept.joined_seats ∙ sym whole) in
+    bit q lt ∙ only ∙ ap (λ (y : List ℕ). max (has q y) (has_doubt q v.entered_sheets)) unmarked ∙ omega arith) in record {
       each_once = λ x. (let p = parted x in let o = jobs_once k n _ _ _ s.views id v at kept x in
-          let u = once_up x (min n (places k)) (places k) (omega arith) in omega arith);
+          let u = once_up x (min n (count_of_regions k)) (count_of_regions k) (omega arith) in omega arith);
       breaks = λ q r is. (let l = least.0 q r is in
-          ⊎_elim (λ (x : slice_index s.words (q + 6) ≡ places k). absurd (let a = l.1 in let b = l.2 in omega arith))
-          (λ (x : (slice_index s.words (q + 6) < places k)
-          × HasBreak (regions_of k) (asked k) (slice_index s.words (q + 6)) q).
-          (l.2, subst (λ y. HasBreak (regions_of k) (asked k) y q) (sym l.1) x.1)) (kept.right q l.0));
-      cleared = cleared_all k t s.words v.notes v.entries mine.noted least
+          ⊎_elim (λ (x : slice_index s.words (q + 6) ≡ count_of_regions k). absurd (let a = l.1 in let b = l.2 in omega arith))
+          (λ (x : (slice_index s.words (q + 6) < count_of_regions k)
+          × HasBreak (regions_of k) (questions_of k) (slice_index s.words (q + 6)) q).
+          (l.2, subst (λ y. HasBreak (regions_of k) (questions_of k) y q) (sym l.1) x.1)) (kept.right q l.0));
+      cleared = cleared_all k t s.words v.notes v.entered_sheets mine.noted least
           (λ q lt. let a = bit q (omega arith) in let b = top_at (doubt_at q) s.views id v at in
           omega arith) mine.covered;
       doubts = right;
-      counted = (let a = total_at (λ u. length u.entries) s.views id v at in let b = kept.entered_is in omega arith);
+      counted = (let a = total_at (λ u. length u.entered_sheets) s.views id v at in let b = kept.entered_is in omega arith);
       complete = λ full x.
           (let a = total_at (λ u. length (jobs u)) s.views id v at in let b = kept.drawn_count in
           let whole : total (λ u. length (jobs u)) s.views ≡ length (jobs v) = omega arith in
           let only = total_only (λ u. length (jobs u)) (λ u. times x (jobs u)) s.views id v
           (λ j u there none. times_none x (jobs u) none) at whole in
-          let p = parted x in let none : times x (owed v.owes) ≡ 0 = times_none x (owed v.owes) (omega arith) in
-          let d = kept.drawn x in let e : once_below x (min n (places k)) ≡ once_below x (places k) =
+          let p = parted x in let none : times x (owed_jobs v.owes) ≡ 0 = times_none x (owed_jobs v.owes) (omega arith) in
+          let d = kept.drawn x in let e : once_below x (min n (count_of_regions k)) ≡ once_below x (count_of_regions k) =
           ap (once_below x) (omega arith) in omega arith);
       all_doubts = joined;
-      past = λ whole q out lt. joined whole q lt ∙ none_past k q v.entries out right;
+      past = λ whole q out lt. joined whole q lt ∙ none_past k q v.entered_sheets out right;
       all_counted = λ whole.
-          entered ∙ sym kept.entered_is ∙ total_only (λ u. u.parts) (λ u. length u.entries) s.views id v
-          (λ j u there idle. ap (λ (y : List Entry). length y) ((kept.each j u there).idle idle).1) at
-          (kept.parts ∙ sym whole);
+          entered ∙ sym kept.entered_is ∙ total_only (λ u. u.joined_seats) (λ u. length u.entered_sheets) s.views id v
+          (λ j u there idle. ap (λ (y : List EnteredSheet). length y) ((kept.each j u there).idle idle).1) at
+          (kept.joined_seats ∙ sym whole);
     }
 
 abbrev pub nones : ℕ → List (Option ℕ)

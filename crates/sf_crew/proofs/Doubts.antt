@@ -6,7 +6,7 @@ use Rattle.std.proofs.lemmas.Nat.Bits.{bit_at-lt, bit_at-zero, bit_at_set_same, 
 use Rattle.std.proofs.lemmas.List.{get_or-set_same, get_or-set_other}
 use mathlib.Core.Logic.{dite}
 use native.Mathlib.Decide.{ℕ_discrete}
-use Rattle.sf_crew.specs.declared.view.Entry.{Entry}
+use Rattle.sf_crew.specs.declared.view.EnteredSheet.{EnteredSheet}
 use Rattle.sf_crew.specs.Views.{has, has_doubt, bit_of}
 
 pub has_same : (x : ℕ) (xs : List ℕ) → has x (x ∷ xs) ≡ max 1 (has x xs)
@@ -23,11 +23,11 @@ pub has_most : (x : ℕ) (xs : List ℕ) → has x xs ≤ 1
 has_most x [] = omega arith
 has_most x (y ∷ ys) = let rest = has_most x ys in let one = one_at_most x y in omega arith
 
-pub has_doubt_most : (q : ℕ) (es : List Entry) → has_doubt q es ≤ 1
+pub has_doubt_most : (q : ℕ) (es : List EnteredSheet) → has_doubt q es ≤ 1
 has_doubt_most q [] = omega arith
 has_doubt_most q (e ∷ es) = let rest = has_doubt_most q es in let one = has_most q e.doubts in omega arith
 
-pub has_doubt_append : (q : ℕ) (xs ys : List Entry) → has_doubt q (xs ++ ys) ≡ max (has_doubt q xs) (has_doubt q ys)
+pub has_doubt_append : (q : ℕ) (xs ys : List EnteredSheet) → has_doubt q (xs ++ ys) ≡ max (has_doubt q xs) (has_doubt q ys)
 has_doubt_append q [] ys = omega arith
 has_doubt_append q (x ∷ xs) ys = let rest = has_doubt_append q xs ys in omega arith
 

@@ -7,28 +7,28 @@ use Rattle.std.specs.Option.{option_map}
 use Rattle.std.proofs.lemmas.Option.{same_Some}
 use Rattle.std.proofs.lemmas.List.Elements.{All-head, All-tail, All-cons, All-nil, All-filter, All-map}
 use Rattle.sf_piece.specs.Pieces.{PieceData, StepData, WorkData, Split, Settled, Empty, children_of}
-use Rattle.sf_book.specs.Books.{EntryData, BookData, IsLawful, IsOutstanding}
-use Rattle.sf_book.specs.Changes.{entry_at, with_lease_at, with_lease, without, CommitsAs, Leases, MayCommit, Refuses}
+use Rattle.sf_book.specs.Books.{OutstandingData, BookData, IsLawfulBook, IsOutstanding}
+use Rattle.sf_book.specs.Changes.{outstanding_at, with_lease_at, with_lease, without, CommitsAs, Leases, MayCommit, Refuses}
 use Rattle.sf_book.specs.ChangeLaws.{only_memory}
 use Rattle.sf_book.specs.declared.book.Lease.{Lease}
 use Rattle.sf_book.specs.declared.fault.Fault.{Fault}
 use Rattle.sf_book.specs.declared.fault.Fault.TheVariants.{Memory}
-use Rattle.sf_crew.specs.Ends.{IsEnd, IsFree, IsOnlyLease, MayWork, IsSameExploration, GoesOn}
+use Rattle.sf_crew.specs.Explorations.{IsExhausted, IsFree, IsOnlyLease, MayWork, IsSameExploration, GoesOn}
 
-abbrev Free : EntryData → Type 0
+abbrev Free : OutstandingData → Type 0
 Free e = e.leased ≡ false
 
-pub none_left : (es : List EntryData) → IsFree es → All (λ e. e.leased ≡ true) es → es ≡ []
+pub none_left : (es : List OutstandingData) → IsFree es → All (λ e. e.leased ≡ true) es → es ≡ []
 none_left [] h k = refl
 none_left (e ∷ es) h k =
     let off : e.leased ≡ false = All-head Free e es h in
     let on : e.leased ≡ true = All-head (λ e. e.leased ≡ true) e es k in
     absurd (cc)
 
-marked_free : (i : ℕ) (e : EntryData) → e.leased ≡ false → (with_lease_at i false e).leased ≡ false
+marked_free : (i : ℕ) (e : OutstandingData) → e.leased ≡ false → (with_lease_at i false e).leased ≡ false
 marked_free i e h = elim (e.id == i) as (λ b. cond b false e.leased ≡ false) [ true ↦ refl | false ↦ h ]
 
-left_free : (id : ℕ) (es : List EntryData) → IsFree es → IsFree (without id (map (with_lease_at id true) es))
+left_free : (id : ℕ) (es : List OutstandingData) → IsFree es → IsFree (without id (map (with_lease_at id true) es))
 left_free id [] h = All-nil Free
 left_free id (e ∷ es) h =
     let R = without id (map (with_lease_at id true) es) in
@@ -42,18 +42,18 @@ left_free id (e ∷ es) h =
 
 -- ---- a lease of the first piece, where none was on lease
 
-leased_there : (es : List EntryData) (id : ℕ) (p : PieceData)
-    → entry_at id es ≡ Some (record { id = id; piece = p; leased = false })
-    → entry_at id (map (with_lease_at id true) es) ≡ Some (record { id = id; piece = p; leased = true })
+leased_there : (es : List OutstandingData) (id : ℕ) (p : PieceData)
+    → outstanding_at id es ≡ Some (record { id = id; piece = p; leased = false })
+    → outstanding_at id (map (with_lease_at id true) es) ≡ Some (record { id = id; piece = p; leased = true })
 leased_there [] id p at = absurd cc
 leased_there (x ∷ es) id p at = by (x.id == id) at (leased_there es id p)
   where
-    by : (b : Bool) → cond b (Some x) (entry_at id es) ≡ Some (record { id = id; piece = p; leased = false })
-        → (entry_at id es ≡ Some (record { id = id; piece = p; leased = false })
-        → entry_at id (map (with_lease_at id true) es) ≡ Some (record { id = id; piece = p; leased = true }))
+    by : (b : Bool) → cond b (Some x) (outstanding_at id es) ≡ Some (record { id = id; piece = p; leased = false })
+        → (outstanding_at id es ≡ Some (record { id = id; piece = p; leased = false })
+        → outstanding_at id (map (with_lease_at id true) es) ≡ Some (record { id = id; piece = p; leased = true }))
         → cond b (Some (record { id = x.id; piece = x.piece; leased = cond b true x.leased }))
-        (entry_at id (map (with_lease_at id true) es)) ≡ Some (record { id = id; piece = p; leased = true })
-    by true at rest = ap (λ (k : EntryData). Some (record { id = k.id; piece = k.piece; leased = true }))
+        (outstanding_at id (map (with_lease_at id true) es)) ≡ Some (record { id = id; piece = p; leased = true })
+    by true at rest = ap (λ (k : OutstandingData). Some (record { id = k.id; piece = k.piece; leased = true }))
         (same_Some x (record { id = id; piece = p; leased = false }) at)
     by false at rest = rest at
 
@@ -74,31 +74,31 @@ lease_keeps b c (Some x) h = rw h.after (record { stack = refl; budget = refl },
 -- it may be worked within the budget, and where there is none, nothing is outstanding
 pub leased_or_end : (b c : BookData) (l : Option Lease) → IsFree b.outstanding → b.commits < b.budget
     → MatchOption l ((c ≡ b) × All (λ e. e.leased ≡ true) b.outstanding) (λ x. Leases b x.id (arc_value x.piece) c)
-    → MatchOption l (IsEnd c) (λ x. MayWork c x)
+    → MatchOption l (IsExhausted c) (λ x. MayWork c x)
 leased_or_end b c None free room h = rw h.0 (inl (none_left b.outstanding free h.1))
 leased_or_end b c (Some x) free room h = record { lease = only_leased b c x free h; room = rw h.after room }
 
 -- ---- a commit of the leased piece's work
 
-entry_all : (P : EntryData → Type 0) (es : List EntryData) (id : ℕ) (e : EntryData) → All P es
-    → entry_at id es ≡ Some e → P e
+entry_all : (P : OutstandingData → Type 0) (es : List OutstandingData) (id : ℕ) (e : OutstandingData) → All P es
+    → outstanding_at id es ≡ Some e → P e
 entry_all P [] id e h at = absurd cc
 entry_all P (x ∷ es) id e h at = by (x.id == id) at (All-head P x es h) (λ k. entry_all P es id e (All-tail P x es h) k)
   where
-    by : (b : Bool) → cond b (Some x) (entry_at id es) ≡ Some e → P x → (entry_at id es ≡ Some e → P e) → P e
+    by : (b : Bool) → cond b (Some x) (outstanding_at id es) ≡ Some e → P x → (outstanding_at id es ≡ Some e → P e) → P e
     by true at here rest = subst P (same_Some x e at) here
     by false at here rest = rest at
 
 -- it is refused for nothing but want of memory
-pub work_refused : (b : BookData) (x : Lease) (w : WorkData) (f : Fault) → IsLawful b → MayWork b x
+pub work_refused : (b : BookData) (x : Lease) (w : WorkData) (f : Fault) → IsLawfulBook b → MayWork b x
     → w.piece ≡ arc_value x.piece → Refuses b x.id w f → f ≡ Memory
 work_refused b x w f h m is r =
-    let e : EntryData = record { id = x.id; piece = arc_value x.piece; leased = true } in
+    let e : OutstandingData = record { id = x.id; piece = arc_value x.piece; leased = true } in
     let o : IsOutstanding b.stack e = entry_all (IsOutstanding b.stack) b.outstanding x.id e h.outstanding
     m.lease.there in
     let may : MayCommit b x.id w = record {
       same_stack = ap (λ (q : PieceData). q.stack) is ∙ o.of;
-      entry = e;
+      under_id = e;
       there = m.lease.there;
       same_name = ap (λ (q : PieceData). q.name) is;
     } in
@@ -119,8 +119,8 @@ split_has_child b c id ids p n Empty k none = k
 
 -- ---- a split, after which the second child is given back
 
-first_there : (es : List EntryData) (i j : ℕ) (f t : PieceData) → All (λ e. e.id < i) es → i < j
-    → entry_at i (map (with_lease_at j false) (es ++ record { id = i; piece = f; leased = true }
+first_there : (es : List OutstandingData) (i j : ℕ) (f t : PieceData) → All (λ e. e.id < i) es → i < j
+    → outstanding_at i (map (with_lease_at j false) (es ++ record { id = i; piece = f; leased = true }
     ∷ record { id = j; piece = t; leased = true } ∷ [])) ≡ Some (record { id = i; piece = f; leased = true })
 first_there [] i j f t h lt =
     let same : (i == i) ≡ true = grind (arith, nat_tests) in
@@ -131,13 +131,13 @@ first_there (e ∷ es) i j f t h lt =
     let other : (e.id == i) ≡ false = grind (arith, nat_tests) in
     rw other (first_there es i j f t (All-tail (λ e. e.id < i) e es h) lt)
 
-rest_free : (es : List EntryData) (i j : ℕ) (f t : PieceData) → IsFree es → All (λ e. e.id < i) es → i < j
+rest_free : (es : List OutstandingData) (i j : ℕ) (f t : PieceData) → IsFree es → All (λ e. e.id < i) es → i < j
     → IsFree (without i (map (with_lease_at j false) (es ++ record { id = i; piece = f; leased = true }
     ∷ record { id = j; piece = t; leased = true } ∷ [])))
 rest_free [] i j f t free h lt =
     let same : (i == i) ≡ true = grind (arith, nat_tests) in
     let other : (j == i) ≡ false = grind (arith, nat_tests) in
-    let T : EntryData = record { id = j; piece = t; leased = true } in
+    let T : OutstandingData = record { id = j; piece = t; leased = true } in
     let back : (with_lease_at j false T).leased ≡ false =
     (let is : (j == j) ≡ true = grind (arith, nat_tests) in rw is refl) in
     rw (same, other) (All-cons Free (with_lease_at j false T) [] back (All-nil Free))
@@ -154,7 +154,7 @@ pub goes_split : (b c : BookData) (x y : Lease) (i j : ℕ) (p : PieceData) (n :
     → y.id ≡ i → Some (arc_value y.piece) ≡ option_map (λ k. k.0) (children_of s)
     → GoesOn b (Some y) (record c { outstanding = map (with_lease_at j false) c.outstanding })
 goes_split b c x y i j p n (Split f t) m k id is =
-    let rest : List EntryData = without x.id b.outstanding in
+    let rest : List OutstandingData = without x.id b.outstanding in
     let below : All (λ e. e.id < i) rest = All-filter (λ e. not (e.id == x.id)) (λ e. e.id < i) b.outstanding k.0.0 in
     let piece : arc_value y.piece ≡ f = same_Some (arc_value y.piece) f is in
     rw (k.1, id, piece) (record {
@@ -167,5 +167,5 @@ goes_split b c x y i j p n (Split f t) m k id is =
 goes_split b c x y i j p n (Settled a) m k id is = absurd k
 goes_split b c x y i j p n Empty m k id is = absurd k
 
-pub recalled_free : (es : List EntryData) → IsFree (map (with_lease false) es)
+pub recalled_free : (es : List OutstandingData) → IsFree (map (with_lease false) es)
 recalled_free es = All-map Free (with_lease false) es (λ k d l. refl)

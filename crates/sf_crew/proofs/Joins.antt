@@ -8,13 +8,13 @@ use native.Mathlib.Decide.{dec_le}
 use lib.ListN.{get_elem?}
 use Rattle.atomic_table.specs.Table.{Me, Allows, Splits, Joins, keeps}
 use Rattle.atomic_table.proofs.Lists.{set_else, set_again}
-use Rattle.sf_crew.specs.declared.view.Matter.{Matter}
+use Rattle.sf_crew.specs.declared.view.BoardKey.{BoardKey}
 use Rattle.sf_crew.specs.declared.view.View.{View}
-use Rattle.sf_crew.specs.declared.view.Entry.{Entry}
+use Rattle.sf_crew.specs.declared.view.EnteredSheet.{EnteredSheet}
 use Rattle.sf_crew.specs.declared.view.Note.{Note}
-use Rattle.sf_crew.specs.Views.{has, has_doubt, places, jobs, owed, Noted, Covered, Each, times, once_below, total, top, doubt_at}
+use Rattle.sf_crew.specs.Views.{has, has_doubt, count_of_regions, jobs, owed_jobs, Noted, Covered, Each, times, once_below, total, top, doubt_at}
 use Rattle.sf_crew.specs.BoardRule.{Sound, Kept, BoardKept}
-use Rattle.sf_crew.specs.BoardSteps.{idle_view, keeping, sharing, joining, Whole, Knows}
+use Rattle.sf_crew.specs.BoardSteps.{idle_view, kept_view, shared_view, joined_view, HasAllJobs, Knows}
 use Rattle.sf_crew.proofs.Doubts.{has_doubt_append}
 use Rattle.sf_crew.proofs.Totals.{total_set, total_snoc, top_set, top_at, top_snoc, top_change, times_append, every_set, every_snoc}
 use Rattle.sf_crew.proofs.Moves.{noted_more}
@@ -23,14 +23,14 @@ use Rattle.sf_crew.proofs.Jobs.{jobs_once, jobs_all, count_all}
 once_at_most : (x n : ℕ) → once_below x n ≤ 1
 once_at_most x n = grind (arith, nat_tests)
 
-pub glances : (k : Matter) (slots id : ℕ) (me : Me ℕ View) → me.0.about ≡ Some k
+pub glances : (k : BoardKey) (slots id : ℕ) (me : Me ℕ View) → me.0.about ≡ Some k
     → Allows (BoardKept k) slots id me 0 (λ n. n) (λ n w. (w ≡ me) × Knows me.0)
 glances k slots id me is s h homes at fits =
     let v : View = me.0 in let n : ℕ = slice_index s.words 0 in
     let same : set s.words 0 n ≡ s.words = set-get_or s.words 0 0 in
     let stay : set s.views id v ≡ s.views = set_again s.views id v at in
-    let all : IfSome v.about (λ j. 0 < v.nones → Whole j v) =
-    subst (λ o. IfSome o (λ j. 0 < v.nones → Whole j v)) (sym is)
+    let all : IfSome v.about (λ j. 0 < v.exhausted_seats → HasAllJobs j v) =
+    subst (λ o. IfSome o (λ j. 0 < v.exhausted_seats → HasAllJobs j v)) (sym is)
     (λ past whole. let end = ((h.1).each id v at).past past in (
       count_all k n _ _ _ s.views id v at h.1 whole ∙ omega arith,
       λ x. jobs_all k n _ _ _ s.views id v at h.1 whole x ∙ ap (once_below x) (omega arith),
@@ -43,14 +43,14 @@ glances k slots id me is s h homes at fits =
       (
         refl,
         (
-          (λ x. let a = jobs_once k n _ _ _ s.views id v at h.1 x in let b = once_at_most x (min n (places k)) in
+          (λ x. let a = jobs_once k n _ _ _ s.views id v at h.1 x in let b = once_at_most x (min n (count_of_regions k)) in
               omega arith),
           all,
         ),
       ),
     )
 
-shared : (k : Matter) (least : ℕ → ℕ) (n : ℕ) (v : View) → v.about ≡ Some k → Sound k n least (sharing v)
+shared : (k : BoardKey) (least : ℕ → ℕ) (n : ℕ) (v : View) → v.about ≡ Some k → Sound k n least (shared_view v)
 shared k least n v is = record {
   about = λ _. is;
   idle = λ none. absurd (omega arith);
@@ -61,21 +61,21 @@ shared k least n v is = record {
   covered = tt;
 }
 
-split_kept : (k : Matter) (n e : ℕ) (d least : ℕ → ℕ) (views : List View) (port : ℕ) (v : View) → 1 < v.parts
-    → v.nones ≡ 0 → v.about ≡ Some k → get_elem? views port ≡ some v → Kept k n e d least views
-    → Kept k n e d least (set views port (keeping v) ++ sharing v ∷ [])
-split_kept k n e d least views port v parts fresh is at h = let w : View = keeping v in let u : View = sharing v in
+split_kept : (k : BoardKey) (n e : ℕ) (d least : ℕ → ℕ) (views : List View) (port : ℕ) (v : View) → 1 < v.joined_seats
+    → v.exhausted_seats ≡ 0 → v.about ≡ Some k → get_elem? views port ≡ some v → Kept k n e d least views
+    → Kept k n e d least (set views port (kept_view v) ++ shared_view v ∷ [])
+split_kept k n e d least views port v joined_seats fresh is at h = let w : View = kept_view v in let u : View = shared_view v in
     let mine = h.each port v at in let vs : List View = set views port w in record {
-      parts = (let s = total_set (λ y. y.parts) views port v w at in let t = total_snoc (λ y. y.parts) vs u in
-          let p = h.parts in omega arith);
+      joined_seats = (let s = total_set (λ y. y.joined_seats) views port v w at in let t = total_snoc (λ y. y.joined_seats) vs u in
+          let p = h.joined_seats in omega arith);
       drawn = λ x. (let s = total_set (λ y. times x (jobs y)) views port v w at in
           let t = total_snoc (λ y. times x (jobs y)) vs u in let p = h.drawn x in omega arith);
       drawn_count = (let s = total_set (λ y. length (jobs y)) views port v w at in
           let t = total_snoc (λ y. length (jobs y)) vs u in let p = h.drawn_count in omega arith);
-      past_end = (let s = total_set (λ y. y.nones) views port v w at in let t = total_snoc (λ y. y.nones) vs u in
+      past_end = (let s = total_set (λ y. y.exhausted_seats) views port v w at in let t = total_snoc (λ y. y.exhausted_seats) vs u in
           let p = h.past_end in omega arith);
-      entered_is = (let s = total_set (λ y. length y.entries) views port v w at in
-          let t = total_snoc (λ y. length y.entries) vs u in let p = h.entered_is in omega arith);
+      entered_is = (let s = total_set (λ y. length y.entered_sheets) views port v w at in
+          let t = total_snoc (λ y. length y.entered_sheets) vs u in let p = h.entered_is in omega arith);
       marked = λ q few. (let s = top_set (doubt_at q) views port v w at (omega arith) in
           let t = top_at (doubt_at q) views port v at in let p = h.marked q few in
           let same : doubt_at q w ≡ doubt_at q v = refl in
@@ -93,9 +93,9 @@ split_kept k n e d least views port v parts fresh is at h = let w : View = keepi
           }) (shared k least n v is);
     }
 
-pub splits : (k : Matter) (id : ℕ) (v : View) → 1 < v.parts → v.nones ≡ 0 → v.about ≡ Some k
-    → Splits {S = ℕ} (BoardKept k) id v (keeping v) (sharing v)
-splits k id v parts fresh is s h at = (h.0, split_kept k _ _ _ _ s.views id v parts fresh is at h.1)
+pub splits : (k : BoardKey) (id : ℕ) (v : View) → 1 < v.joined_seats → v.exhausted_seats ≡ 0 → v.about ≡ Some k
+    → Splits {S = ℕ} (BoardKept k) id v (kept_view v) (shared_view v)
+splits k id v joined_seats fresh is s h at = (h.0, split_kept k _ _ _ _ s.views id v joined_seats fresh is at h.1)
 
 noted_left : (ns ms : List Note) (q r : ℕ) → Noted ns q r → Noted (ns ++ ms) q r
 noted_left [] ms q r x = absurd x
@@ -112,32 +112,32 @@ noted_either (n ∷ ns) ms q r x = ⊎_elim (λ (y : (n.question ≡ q) × (n.pl
     (λ (y : Noted (ns ++ ms) q r). ⊎_elim (λ (z : Noted ns q r). inl (inr z)) (λ (z : Noted ms q r). inr z)
     (noted_either ns ms q r y)) x
 
-each_append : (P : Entry → Type 0) (xs ys : List Entry) → Each P xs → Each P ys → Each P (xs ++ ys)
+each_append : (P : EnteredSheet → Type 0) (xs ys : List EnteredSheet) → Each P xs → Each P ys → Each P (xs ++ ys)
 each_append P [] ys a b = b
 each_append P (x ∷ xs) ys a b = (a.0, each_append P xs ys a.1 b)
 
 joint_jobs : (x : ℕ) (v w : View) → v.owes ≡ None → w.owes ≡ None
-    → times x (jobs (joining v w)) ≡ times x (jobs v) + times x (jobs w)
+    → times x (jobs (joined_view v w)) ≡ times x (jobs v) + times x (jobs w)
 joint_jobs x v w a b =
-    let f : Entry → ℕ = λ e. e.job in
-    let l : times x (jobs v) ≡ times x (map f v.entries) = ap (λ o. times x (owed o ++ map f v.entries)) a in
-    let r : times x (jobs w) ≡ times x (map f w.entries) = ap (λ o. times x (owed o ++ map f w.entries)) b in
-    let both : times x (map f (v.entries ++ w.entries)) ≡ times x (map f v.entries) + times x (map f w.entries) =
-    ap (times x) (map-append f v.entries w.entries) ∙ times_append x (map f v.entries) (map f w.entries) in
+    let f : EnteredSheet → ℕ = λ e. e.job in
+    let l : times x (jobs v) ≡ times x (map f v.entered_sheets) = ap (λ o. times x (owed_jobs o ++ map f v.entered_sheets)) a in
+    let r : times x (jobs w) ≡ times x (map f w.entered_sheets) = ap (λ o. times x (owed_jobs o ++ map f w.entered_sheets)) b in
+    let both : times x (map f (v.entered_sheets ++ w.entered_sheets)) ≡ times x (map f v.entered_sheets) + times x (map f w.entered_sheets) =
+    ap (times x) (map-append f v.entered_sheets w.entered_sheets) ∙ times_append x (map f v.entered_sheets) (map f w.entered_sheets) in
     omega arith
 
-joint_count : (v w : View) → v.owes ≡ None → w.owes ≡ None → length (jobs (joining v w)) ≡ length (jobs v)
+joint_count : (v w : View) → v.owes ≡ None → w.owes ≡ None → length (jobs (joined_view v w)) ≡ length (jobs v)
     + length (jobs w)
 joint_count v w a b =
-    let f : Entry → ℕ = λ e. e.job in
-    let l : length (jobs v) ≡ length (map f v.entries) = ap (λ o. length (owed o ++ map f v.entries)) a in
-    let r : length (jobs w) ≡ length (map f w.entries) = ap (λ o. length (owed o ++ map f w.entries)) b in
+    let f : EnteredSheet → ℕ = λ e. e.job in
+    let l : length (jobs v) ≡ length (map f v.entered_sheets) = ap (λ o. length (owed_jobs o ++ map f v.entered_sheets)) a in
+    let r : length (jobs w) ≡ length (map f w.entered_sheets) = ap (λ o. length (owed_jobs o ++ map f w.entered_sheets)) b in
     omega (
       arith,
-      length-map v.entries f,
-      length-map w.entries f,
-      length-map (v.entries ++ w.entries) f,
-      length-append v.entries w.entries,
+      length-map v.entered_sheets f,
+      length-map w.entered_sheets f,
+      length-map (v.entered_sheets ++ w.entered_sheets) f,
+      length-append v.entered_sheets w.entered_sheets,
     )
 
 -- two views at different places: the first becomes b, and the second z
@@ -166,30 +166,30 @@ top_both f views i j v w b z apart at at' joined none =
     let mine = top_at f views i v at in let theirs = top_at f views j w was in
     omega arith
 
-join_kept : (k : Matter) (n e : ℕ) (d least : ℕ → ℕ) (views : List View) (i j : ℕ) (v w : View) → v.owes ≡ None
-    → w.owes ≡ None → v.about ≡ Some k → 0 < v.parts → j ≢ i → get_elem? views i ≡ some v
-    → get_elem? (set views i (joining v w)) j ≡ some w
-    → Kept k n e d least views → Kept k n e d least (set (set views i (joining v w)) j idle_view)
+join_kept : (k : BoardKey) (n e : ℕ) (d least : ℕ → ℕ) (views : List View) (i j : ℕ) (v w : View) → v.owes ≡ None
+    → w.owes ≡ None → v.about ≡ Some k → 0 < v.joined_seats → j ≢ i → get_elem? views i ≡ some v
+    → get_elem? (set views i (joined_view v w)) j ≡ some w
+    → Kept k n e d least views → Kept k n e d least (set (set views i (joined_view v w)) j idle_view)
 join_kept k n e d least views i j v w free free' is part apart at at' h =
-    let b : View = joining v w in let z : View = idle_view in
+    let b : View = joined_view v w in let z : View = idle_view in
     let was : get_elem? views j ≡ some w = sym (set_else views i j b apart) ∙ at' in
     let mine = h.each i v at in let theirs = h.each j w was in record {
-      parts = (let s = total_both (λ y. y.parts) views i j v w b z apart at at' in let p = h.parts in omega arith);
+      joined_seats = (let s = total_both (λ y. y.joined_seats) views i j v w b z apart at at' in let p = h.joined_seats in omega arith);
       drawn = λ x. (let s = total_both (λ y. times x (jobs y)) views i j v w b z apart at at' in
           let t = joint_jobs x v w free free' in let p = h.drawn x in omega arith);
       drawn_count = (let s = total_both (λ y. length (jobs y)) views i j v w b z apart at at' in
           let t = joint_count v w free free' in let p = h.drawn_count in omega arith);
-      past_end = (let s = total_both (λ y. y.nones) views i j v w b z apart at at' in
+      past_end = (let s = total_both (λ y. y.exhausted_seats) views i j v w b z apart at at' in
           let p = h.past_end in omega arith);
-      entered_is = (let s = total_both (λ y. length y.entries) views i j v w b z apart at at' in
-          let t = length-append v.entries w.entries in let p = h.entered_is in omega arith);
+      entered_is = (let s = total_both (λ y. length y.entered_sheets) views i j v w b z apart at at' in
+          let t = length-append v.entered_sheets w.entered_sheets in let p = h.entered_is in omega arith);
       marked = λ q few.
           (let none : doubt_at q z ≡ 0 = refl in
           let a : has q v.marked ≡ 0 = ap (has q) (mine.marks free) in
           let c : has q w.marked ≡ 0 = ap (has q) (theirs.marks free') in
-          let o : doubt_at q b ≡ max (has q []) (has_doubt q (v.entries ++ w.entries)) = refl in
+          let o : doubt_at q b ≡ max (has q []) (has_doubt q (v.entered_sheets ++ w.entered_sheets)) = refl in
           let y : has q [] ≡ 0 = refl in
-          let m = has_doubt_append q v.entries w.entries in
+          let m = has_doubt_append q v.entered_sheets w.entered_sheets in
           let t = top_both (doubt_at q) views i j v w b z apart at at' (omega arith) none in
           let p = h.marked q few in omega arith);
       right = h.right;
@@ -198,14 +198,14 @@ join_kept k n e d least views i j v w free free' is part apart at at' h =
             about = λ _. is;
             idle = λ none. absurd (omega arith);
             few = (let x = mine.few in let y = theirs.few in omega arith);
-            past = λ some_none. dite (dec_le 1 v.nones) (λ yes. mine.past yes)
+            past = λ some_none. dite (dec_le 1 v.exhausted_seats) (λ yes. mine.past yes)
                 (λ no. theirs.past (let lt = lt_of_not-le no in omega arith));
             marks = λ _. refl;
             noted = λ q r x. ⊎_elim (λ (y : Noted v.notes q r). mine.noted q r y)
                 (λ (y : Noted w.notes q r). theirs.noted q r y) (noted_either v.notes w.notes q r x);
-            covered = each_append (Covered k (v.notes ++ w.notes)) v.entries w.entries
-                (noted_more k v.notes (v.notes ++ w.notes) v.entries (noted_left v.notes w.notes) mine.covered)
-                (noted_more k w.notes (v.notes ++ w.notes) w.entries (noted_right v.notes w.notes) theirs.covered);
+            covered = each_append (Covered k (v.notes ++ w.notes)) v.entered_sheets w.entered_sheets
+                (noted_more k v.notes (v.notes ++ w.notes) v.entered_sheets (noted_left v.notes w.notes) mine.covered)
+                (noted_more k w.notes (v.notes ++ w.notes) w.entered_sheets (noted_right v.notes w.notes) theirs.covered);
           }) (λ y s. s) record {
             about = λ some_part. absurd (omega arith);
             idle = λ _. (refl, refl);
@@ -217,7 +217,7 @@ join_kept k n e d least views i j v w free free' is part apart at at' h =
           };
     }
 
-pub joins : (k : Matter) (id other : ℕ) (v w : View) → v.owes ≡ None → w.owes ≡ None → v.about ≡ Some k → 0 < v.parts
-    → Joins {S = ℕ} (BoardKept k) id v other w (joining v w) idle_view
+pub joins : (k : BoardKey) (id other : ℕ) (v w : View) → v.owes ≡ None → w.owes ≡ None → v.about ≡ Some k → 0 < v.joined_seats
+    → Joins {S = ℕ} (BoardKept k) id v other w (joined_view v w) idle_view
 joins k id other v w free free' is part s h at apart at' =
     (h.0, join_kept k _ _ _ _ s.views id other v w free free' is part apart at at' h.1)

@@ -8,14 +8,14 @@ use mathlib.Core.Logic.{dite}
 use native.Mathlib.Decide.{dec_le, ℕ_discrete}
 use lib.ListN.{get_elem?}
 use Rattle.atomic_table.specs.Table.{Me, Allows, keeps}
-use Rattle.sf_crew.specs.declared.view.Matter.{Matter}
+use Rattle.sf_crew.specs.declared.view.BoardKey.{BoardKey}
 use Rattle.sf_crew.specs.declared.view.View.{View}
-use Rattle.sf_crew.specs.declared.view.Entry.{Entry}
+use Rattle.sf_crew.specs.declared.view.EnteredSheet.{EnteredSheet}
 use Rattle.sf_crew.specs.declared.view.Note.{Note}
 use Rattle.sf_ask.specs.Sheets.{HasBreak}
-use Rattle.sf_crew.specs.Views.{note, entry, has, has_doubt, regions_of, asked, places, jobs, owed, Noted, Covered, Each, RightPlace, times, once_below, total, top, doubt_at}
+use Rattle.sf_crew.specs.Views.{note, entered_sheet, has, has_doubt, regions_of, questions_of, count_of_regions, jobs, owed_jobs, Noted, Covered, Each, RightPlace, times, once_below, total, top, doubt_at}
 use Rattle.sf_crew.specs.BoardRule.{Sound, Kept, BoardKept, least_in, doubts_in}
-use Rattle.sf_crew.specs.BoardSteps.{drawing, passing, with_notes, noting, marking, entering, Whole, Draws, Looks}
+use Rattle.sf_crew.specs.BoardSteps.{view_with_job, view_without_job, with_notes, view_with_note, view_with_mark, view_with_sheet, HasAllJobs, Draws, Looks}
 use Rattle.sf_crew.proofs.Jobs.{jobs_all, count_all}
 use Rattle.sf_crew.proofs.Doubts.{has_same, has_other, has_most, has_doubt_most, question_is, bit_set, bit_kept, bit_most}
 use Rattle.sf_crew.proofs.Totals.{total_set, total_at, total_le, top_set, top_at, every_set}
@@ -23,7 +23,7 @@ use Rattle.sf_crew.proofs.Totals.{total_set, total_at, total_le, top_set, top_at
 below_next : (x n : ℕ) → once_below x (n + 1) ≡ once_below x n + (if x == n then 1 else 0)
 below_next x n = grind (arith, nat_tests)
 
-pub later : (k : Matter) (n m : ℕ) (least less : ℕ → ℕ) (v : View) → n ≤ m → ((q : ℕ) → less q ≤ least q)
+pub later : (k : BoardKey) (n m : ℕ) (least less : ℕ → ℕ) (v : View) → n ≤ m → ((q : ℕ) → less q ≤ least q)
     → Sound k n least v → Sound k m less v
 later k n m least less v up down h = record {
   about = h.about;
@@ -36,10 +36,10 @@ later k n m least less v up down h = record {
 }
 
 -- the words of doubts are the first four alone
-redoubted : (k : Matter) (n e : ℕ) (d d' least : ℕ → ℕ) (views : List View) → ((w : ℕ) → w < 4 → d w ≡ d' w)
+redoubted : (k : BoardKey) (n e : ℕ) (d d' least : ℕ → ℕ) (views : List View) → ((w : ℕ) → w < 4 → d w ≡ d' w)
     → Kept k n e d least views → Kept k n e d' least views
 redoubted k n e d d' least views same h = record {
-  parts = h.parts;
+  joined_seats = h.joined_seats;
   drawn = h.drawn;
   drawn_count = h.drawn_count;
   past_end = h.past_end;
@@ -50,9 +50,9 @@ redoubted k n e d d' least views same h = record {
 }
 
 -- the job word changes
-put_next : (k : Matter) (words : List ℕ) (n : ℕ) (views : List View) → length words ≡ length (asked k) + 6
+put_next : (k : BoardKey) (words : List ℕ) (n : ℕ) (views : List View) → length words ≡ length (questions_of k) + 6
     → Kept k n (slice_index words 1) (doubts_in words) (least_in words) views
-    → (length (set words 0 n) ≡ length (asked k) + 6)
+    → (length (set words 0 n) ≡ length (questions_of k) + 6)
     × Kept k (slice_index (set words 0 n) 0) (slice_index (set words 0 n) 1) (doubts_in (set words 0 n))
     (least_in (set words 0 n)) views
 put_next k words n views long h =
@@ -67,31 +67,31 @@ put_next k words n views long h =
           (λ i. (sym p0 i, sym p1 i, λ w. sym (pd w) i, λ q. sym (pl q) i)) h,
     )
 
-draw_kept : (k : Matter) (n e : ℕ) (d least : ℕ → ℕ) (views : List View) (port : ℕ) (v : View) → n < places k
-    → v.owes ≡ None → 0 < v.parts → get_elem? views port ≡ some v → Kept k n e d least views
-    → Kept k (n + 1) e d least (set views port (drawing v n))
-draw_kept k n e d least views port v below free part at h = let w : View = drawing v n in
+draw_kept : (k : BoardKey) (n e : ℕ) (d least : ℕ → ℕ) (views : List View) (port : ℕ) (v : View) → n < count_of_regions k
+    → v.owes ≡ None → 0 < v.joined_seats → get_elem? views port ≡ some v → Kept k n e d least views
+    → Kept k (n + 1) e d least (set views port (view_with_job v n))
+draw_kept k n e d least views port v below free part at h = let w : View = view_with_job v n in
     let mine = h.each port v at in record {
-      parts = (let s = total_set (λ u. u.parts) views port v w at in let p = h.parts in omega arith);
+      joined_seats = (let s = total_set (λ u. u.joined_seats) views port v w at in let p = h.joined_seats in omega arith);
       drawn = λ x.
           let f : View → ℕ = λ u. times x (jobs u) in
           let s : total f (set views port w) + f v ≡ total f views + f w = total_set f views port v w at in
-          let mine_was : f v ≡ times x (map (λ e. e.job) v.entries) =
-          ap (λ o. times x (owed o ++ map (λ e. e.job) v.entries)) free in
-          let mine_is : f w ≡ (if x == n then 1 else 0) + times x (map (λ e. e.job) v.entries) = refl in
+          let mine_was : f v ≡ times x (map (λ e. e.job) v.entered_sheets) =
+          ap (λ o. times x (owed_jobs o ++ map (λ e. e.job) v.entered_sheets)) free in
+          let mine_is : f w ≡ (if x == n then 1 else 0) + times x (map (λ e. e.job) v.entered_sheets) = refl in
           let before : total f views ≡ once_below x n = h.drawn x ∙ ap (once_below x) (omega arith) in
-          let after : once_below x (min (n + 1) (places k)) ≡ once_below x (n + 1) = ap (once_below x) (omega arith) in
+          let after : once_below x (min (n + 1) (count_of_regions k)) ≡ once_below x (n + 1) = ap (once_below x) (omega arith) in
           let b = below_next x n in
           omega arith;
       drawn_count =
           let f : View → ℕ = λ u. length (jobs u) in
           let s : total f (set views port w) + f v ≡ total f views + f w = total_set f views port v w at in
-          let mine_was : f v ≡ length (map (λ e. e.job) v.entries) =
-          ap (λ o. length (owed o ++ map (λ e. e.job) v.entries)) free in
-          let mine_is : f w ≡ suc (length (map (λ e. e.job) v.entries)) = refl in
+          let mine_was : f v ≡ length (map (λ e. e.job) v.entered_sheets) =
+          ap (λ o. length (owed_jobs o ++ map (λ e. e.job) v.entered_sheets)) free in
+          let mine_is : f w ≡ suc (length (map (λ e. e.job) v.entered_sheets)) = refl in
           let c = h.drawn_count in omega arith;
-      past_end = (let s = total_set (λ u. u.nones) views port v w at in let p = h.past_end in omega arith);
-      entered_is = (let s = total_set (λ u. length u.entries) views port v w at in let p = h.entered_is in omega arith);
+      past_end = (let s = total_set (λ u. u.exhausted_seats) views port v w at in let p = h.past_end in omega arith);
+      entered_is = (let s = total_set (λ u. length u.entered_sheets) views port v w at in let p = h.entered_is in omega arith);
       marked = λ q few. (let s = top_set (doubt_at q) views port v w at (omega arith) in
           let t = top_at (doubt_at q) views port v at in let p = h.marked q few in
           let same : doubt_at q w ≡ doubt_at q v = refl in omega arith);
@@ -108,18 +108,18 @@ draw_kept k n e d least views port v below free part at h = let w : View = drawi
           };
     }
 
-pass_kept : (k : Matter) (n e : ℕ) (d least : ℕ → ℕ) (views : List View) (port : ℕ) (v : View) → places k ≤ n
-    → v.nones ≡ 0 → 0 < v.parts → get_elem? views port ≡ some v → Kept k n e d least views
-    → Kept k (n + 1) e d least (set views port (passing v))
-pass_kept k n e d least views port v past fresh part at h = let w : View = passing v in
+pass_kept : (k : BoardKey) (n e : ℕ) (d least : ℕ → ℕ) (views : List View) (port : ℕ) (v : View) → count_of_regions k ≤ n
+    → v.exhausted_seats ≡ 0 → 0 < v.joined_seats → get_elem? views port ≡ some v → Kept k n e d least views
+    → Kept k (n + 1) e d least (set views port (view_without_job v))
+pass_kept k n e d least views port v past fresh part at h = let w : View = view_without_job v in
     let mine = h.each port v at in record {
-      parts = (let s = total_set (λ u. u.parts) views port v w at in let p = h.parts in omega arith);
+      joined_seats = (let s = total_set (λ u. u.joined_seats) views port v w at in let p = h.joined_seats in omega arith);
       drawn = λ x.
           let f : View → ℕ = λ u. times x (jobs u) in
           let s : total f (set views port w) + f v ≡ total f views + f w = total_set f views port v w at in
           let same : f w ≡ f v = refl in
-          let before : total f views ≡ once_below x (min n (places k)) = h.drawn x in
-          let after : once_below x (min (n + 1) (places k)) ≡ once_below x (min n (places k)) =
+          let before : total f views ≡ once_below x (min n (count_of_regions k)) = h.drawn x in
+          let after : once_below x (min (n + 1) (count_of_regions k)) ≡ once_below x (min n (count_of_regions k)) =
           ap (once_below x) (omega arith) in
           omega arith;
       drawn_count =
@@ -127,8 +127,8 @@ pass_kept k n e d least views port v past fresh part at h = let w : View = passi
           let s : total f (set views port w) + f v ≡ total f views + f w = total_set f views port v w at in
           let same : f w ≡ f v = refl in
           let c = h.drawn_count in omega arith;
-      past_end = (let s = total_set (λ u. u.nones) views port v w at in let p = h.past_end in omega arith);
-      entered_is = (let s = total_set (λ u. length u.entries) views port v w at in let p = h.entered_is in omega arith);
+      past_end = (let s = total_set (λ u. u.exhausted_seats) views port v w at in let p = h.past_end in omega arith);
+      entered_is = (let s = total_set (λ u. length u.entered_sheets) views port v w at in let p = h.entered_is in omega arith);
       marked = λ q few. (let s = top_set (doubt_at q) views port v w at (omega arith) in
           let t = top_at (doubt_at q) views port v at in let p = h.marked q few in
           let same : doubt_at q w ≡ doubt_at q v = refl in omega arith);
@@ -146,31 +146,31 @@ pass_kept k n e d least views port v past fresh part at h = let w : View = passi
     }
 
 -- the job word stays far below the end of its type
-nones_below : (k : Matter) (n e : ℕ) (d least : ℕ → ℕ) (views : List View) (port : ℕ) (v : View) → v.nones ≡ 0
-    → 0 < v.parts → get_elem? views port ≡ some v → Kept k n e d least views → n + 1 ≤ places k + k.seats
+nones_below : (k : BoardKey) (n e : ℕ) (d least : ℕ → ℕ) (views : List View) (port : ℕ) (v : View) → v.exhausted_seats ≡ 0
+    → 0 < v.joined_seats → get_elem? views port ≡ some v → Kept k n e d least views → n + 1 ≤ count_of_regions k + k.seats
 nones_below k n e d least views port v fresh part at h =
-    let w : View = passing v in let mine = h.each port v at in
-    let a = total_set (λ u. u.nones) views port v w at in let b = total_set (λ u. u.parts) views port v w at in
-    let le : total (λ u. u.nones) (set views port w) ≤ total (λ u. u.parts) (set views port w) =
-    total_le (λ u. u.nones) (λ u. u.parts) (set views port w)
-    (every_set (λ u. Sound k n least u) (λ u. u.nones ≤ u.parts) views port w h.each (λ u s. s.few)
+    let w : View = view_without_job v in let mine = h.each port v at in
+    let a = total_set (λ u. u.exhausted_seats) views port v w at in let b = total_set (λ u. u.joined_seats) views port v w at in
+    let le : total (λ u. u.exhausted_seats) (set views port w) ≤ total (λ u. u.joined_seats) (set views port w) =
+    total_le (λ u. u.exhausted_seats) (λ u. u.joined_seats) (set views port w)
+    (every_set (λ u. Sound k n least u) (λ u. u.exhausted_seats ≤ u.joined_seats) views port w h.each (λ u s. s.few)
     (omega arith)) in
-    let p = h.parts in let q = h.past_end in omega arith
+    let p = h.joined_seats in let q = h.past_end in omega arith
 
-draw_step : (k : Matter) (words : List ℕ) (views : List View) (id : ℕ) (v : View) → v.owes ≡ None → v.nones ≡ 0
-    → 0 < v.parts → places k + k.seats < 18446744073709551616
-    → length words ≡ length (asked k) + 6 → Kept k (slice_index words 0) (slice_index words 1) (doubts_in words)
+draw_step : (k : BoardKey) (words : List ℕ) (views : List View) (id : ℕ) (v : View) → v.owes ≡ None → v.exhausted_seats ≡ 0
+    → 0 < v.joined_seats → count_of_regions k + k.seats < 18446744073709551616
+    → length words ≡ length (questions_of k) + 6 → Kept k (slice_index words 0) (slice_index words 1) (doubts_in words)
     (least_in words) views → get_elem? views id ≡ some v
-    → Dec (places k ≤ slice_index words 0)
+    → Dec (count_of_regions k ≤ slice_index words 0)
     → (w : View) × Kept k ((slice_index words 0 + 1) % 18446744073709551616) (slice_index words 1) (doubts_in words)
     (least_in words) (set views id w)
-    × (slice_index words 0 < places k → (times (slice_index words 0) (jobs v) ≡ 0) × (length (jobs v) < places k)
-    × (w ≡ drawing v (slice_index words 0))) × (places k ≤ slice_index words 0 → (w ≡ passing v) × Whole k w)
+    × (slice_index words 0 < count_of_regions k → (times (slice_index words 0) (jobs v) ≡ 0) × (length (jobs v) < count_of_regions k)
+    × (w ≡ view_with_job v (slice_index words 0))) × (count_of_regions k ≤ slice_index words 0 → (w ≡ view_without_job v) × HasAllJobs k w)
 draw_step k words views id v free fresh part small long h at (yes past) =
     let n = slice_index words 0 in let most = nones_below k n _ _ _ views id v fresh part at h in
     let e : n + 1 ≡ (n + 1) % 18446744073709551616 = omega arith in (
-      passing v,
-      subst (λ m. Kept k m (slice_index words 1) (doubts_in words) (least_in words) (set views id (passing v))) e
+      view_without_job v,
+      subst (λ m. Kept k m (slice_index words 1) (doubts_in words) (least_in words) (set views id (view_without_job v))) e
           (pass_kept k n _ _ _ views id v past fresh part at h),
       (λ below. absurd (omega arith)),
       (λ _. (
@@ -182,36 +182,36 @@ draw_step k words views id v free fresh part small long h at (yes past) =
       )),
     )
 draw_step k words views id v free fresh part small long h at (no not_past) =
-    let n = slice_index words 0 in let below : n < places k = lt_of_not-le not_past in
+    let n = slice_index words 0 in let below : n < count_of_regions k = lt_of_not-le not_past in
     let e : n + 1 ≡ (n + 1) % 18446744073709551616 = omega arith in
     let mine : times n (jobs v) ≤ total (λ u. times n (jobs u)) views =
     total_at (λ u. times n (jobs u)) views id v at in
-    let all : total (λ u. times n (jobs u)) views ≡ once_below n (min n (places k)) = h.drawn n in
-    let none : once_below n (min n (places k)) ≡ 0 = grind (arith, nat_tests) in
+    let all : total (λ u. times n (jobs u)) views ≡ once_below n (min n (count_of_regions k)) = h.drawn n in
+    let none : once_below n (min n (count_of_regions k)) ≡ 0 = grind (arith, nat_tests) in
     let count = total_at (λ u. length (jobs u)) views id v at in let counted = h.drawn_count in (
-      drawing v n,
+      view_with_job v n,
       subst (λ m. Kept k m (slice_index words 1) (doubts_in words) (least_in words)
-          (set views id (drawing v n))) e (draw_kept k n _ _ _ views id v below free part at h),
+          (set views id (view_with_job v n))) e (draw_kept k n _ _ _ views id v below free part at h),
       (λ _. (omega arith, omega arith, refl)),
       (λ past. absurd (omega arith)),
     )
 
-pub draws : (k : Matter) (slots id : ℕ) (me : Me ℕ View) → me.0.about ≡ Some k → me.0.owes ≡ None → me.0.nones ≡ 0
-    → 0 < me.0.parts → places k + k.seats < 18446744073709551616
+pub draws : (k : BoardKey) (slots id : ℕ) (me : Me ℕ View) → me.0.about ≡ Some k → me.0.owes ≡ None → me.0.exhausted_seats ≡ 0
+    → 0 < me.0.joined_seats → count_of_regions k + k.seats < 18446744073709551616
     → Allows (BoardKept k) slots id me 0 (λ n. (n + 1) % 18446744073709551616) (λ n w. Draws me.0 n w.0 × (w.1 ≡ me.1))
 draws k slots id me is free fresh part small s h homes at fits =
     let v : View = me.0 in let n : ℕ = slice_index s.words 0 in
-    let t = draw_step k s.words s.views id v free fresh part small h.0 h.1 at (dec_le (places k) n) in
-    let told : IfSome v.about (λ j. (n < places j → (times n (jobs v) ≡ 0) × (length (jobs v) < places j)
-    × (t.0 ≡ drawing v n)) × (places j ≤ n → (t.0 ≡ passing v) × Whole j t.0)) =
-    subst (λ o. IfSome o (λ j. (n < places j → (times n (jobs v) ≡ 0) × (length (jobs v) < places j)
-    × (t.0 ≡ drawing v n)) × (places j ≤ n → (t.0 ≡ passing v) × Whole j t.0))) (sym is) (t.2, t.3) in
+    let t = draw_step k s.words s.views id v free fresh part small h.0 h.1 at (dec_le (count_of_regions k) n) in
+    let told : IfSome v.about (λ j. (n < count_of_regions j → (times n (jobs v) ≡ 0) × (length (jobs v) < count_of_regions j)
+    × (t.0 ≡ view_with_job v n)) × (count_of_regions j ≤ n → (t.0 ≡ view_without_job v) × HasAllJobs j t.0)) =
+    subst (λ o. IfSome o (λ j. (n < count_of_regions j → (times n (jobs v) ≡ 0) × (length (jobs v) < count_of_regions j)
+    × (t.0 ≡ view_with_job v n)) × (count_of_regions j ≤ n → (t.0 ≡ view_without_job v) × HasAllJobs j t.0))) (sym is) (t.2, t.3) in
     (t.0, keeps, tt, put_next k s.words _ _ h.0 t.1, (told, refl))
 
 pub not_above : (n : ℕ) → nat_lt 0 n ≡ false → n ≡ 0
 not_above n h = grind (arith, nat_tests)
 
-pub noted_more : (k : Matter) (ns ms : List Note) (es : List Entry) → ((q r : ℕ) → Noted ns q r → Noted ms q r)
+pub noted_more : (k : BoardKey) (ns ms : List Note) (es : List EnteredSheet) → ((q r : ℕ) → Noted ns q r → Noted ms q r)
     → Each (Covered k ns) es → Each (Covered k ms) es
 noted_more k ns ms [] more h = tt
 noted_more k ns ms (e ∷ es) more h = (
@@ -225,19 +225,19 @@ noted_more k ns ms (e ∷ es) more h = (
 )
 
 -- the notes of one view, and the least places, change
-renoted : (k : Matter) (n e : ℕ) (d least less : ℕ → ℕ) (views : List View) (port : ℕ) (v : View) (ns : List Note)
+renoted : (k : BoardKey) (n e : ℕ) (d least less : ℕ → ℕ) (views : List View) (port : ℕ) (v : View) (ns : List Note)
     → get_elem? views port ≡ some v
-    → ((q : ℕ) → less q ≤ least q) → ((q : ℕ) → q < length (asked k) → RightPlace k q (less q))
+    → ((q : ℕ) → less q ≤ least q) → ((q : ℕ) → q < length (questions_of k) → RightPlace k q (less q))
     → ((q r : ℕ) → Noted ns q r → less q ≤ r) → ((q r : ℕ) → Noted v.notes q r → Noted ns q r)
     → Kept k n e d least views → Kept k n e d less (set views port (with_notes v ns))
 renoted k n e d least less views port v ns at down right noted more h = let w : View = with_notes v ns in
     let mine = h.each port v at in record {
-      parts = (let s = total_set (λ u. u.parts) views port v w at in let p = h.parts in omega arith);
+      joined_seats = (let s = total_set (λ u. u.joined_seats) views port v w at in let p = h.joined_seats in omega arith);
       drawn = λ x. (let s = total_set (λ u. times x (jobs u)) views port v w at in let p = h.drawn x in omega arith);
       drawn_count = (let s = total_set (λ u. length (jobs u)) views port v w at in
           let p = h.drawn_count in omega arith);
-      past_end = (let s = total_set (λ u. u.nones) views port v w at in let p = h.past_end in omega arith);
-      entered_is = (let s = total_set (λ u. length u.entries) views port v w at in let p = h.entered_is in omega arith);
+      past_end = (let s = total_set (λ u. u.exhausted_seats) views port v w at in let p = h.past_end in omega arith);
+      entered_is = (let s = total_set (λ u. length u.entered_sheets) views port v w at in let p = h.entered_is in omega arith);
       marked = λ q few. (let s = top_set (doubt_at q) views port v w at (omega arith) in
           let t = top_at (doubt_at q) views port v at in let p = h.marked q few in
           let same : doubt_at q w ≡ doubt_at q v = refl in omega arith);
@@ -250,17 +250,17 @@ renoted k n e d least less views port v ns at down right noted more h = let w : 
             past = mine.past;
             marks = mine.marks;
             noted = noted;
-            covered = noted_more k v.notes ns v.entries more mine.covered;
+            covered = noted_more k v.notes ns v.entered_sheets more mine.covered;
           };
     }
 
 at_least_word : (words : List ℕ) (q : ℕ) → least_in words q ≡ slice_index words (q + 6)
 at_least_word words q = refl
 
-pub looks : (k : Matter) (slots id q : ℕ) (me : Me ℕ View) → me.0.about ≡ Some k → q < length (asked k)
+pub looks : (k : BoardKey) (slots id q : ℕ) (me : Me ℕ View) → me.0.about ≡ Some k → q < length (questions_of k)
     → Allows (BoardKept k) slots id me (q + 6) (λ n. n) (λ n w. Looks me.0 q n w.0 × (w.1 ≡ me.1))
 looks k slots id q me is there s h homes at fits =
-    let v : View = me.0 in let n : ℕ = slice_index s.words (q + 6) in let w : View = noting v q n in
+    let v : View = me.0 in let n : ℕ = slice_index s.words (q + 6) in let w : View = view_with_note v q n in
     let same : set s.words (q + 6) n ≡ s.words = set-get_or s.words (q + 6) 0 in
     let mine = (h.1).each id v at in
     let kept = renoted k _ _ _ (least_in s.words) (least_in s.words) s.views id v (note q n ∷ v.notes) at
@@ -279,19 +279,19 @@ looks k slots id q me is there s h homes at fits =
       ),
     )
 
-pub hits : (k : Matter) (slots id q j : ℕ) (me : Me ℕ View) → q < length (asked k) → j < places k
-    → HasBreak (regions_of k) (asked k) j q
-    → Allows (BoardKept k) slots id me (q + 6) (λ n. min n j) (λ n w. (w.0 ≡ noting me.0 q j) × (w.1 ≡ me.1))
+pub hits : (k : BoardKey) (slots id q j : ℕ) (me : Me ℕ View) → q < length (questions_of k) → j < count_of_regions k
+    → HasBreak (regions_of k) (questions_of k) j q
+    → Allows (BoardKept k) slots id me (q + 6) (λ n. min n j) (λ n w. (w.0 ≡ view_with_note me.0 q j) × (w.1 ≡ me.1))
 hits k slots id q j me there below breaks s h homes at fits =
     let v : View = me.0 in let n : ℕ = slice_index s.words (q + 6) in let m : ℕ = min n j in
-    let w : View = noting v q j in
+    let w : View = view_with_note v q j in
     let words : List ℕ = set s.words (q + 6) m in
     let mine = (h.1).each id v at in
     let p0 : slice_index words 0 ≡ slice_index s.words 0 = get_or-set_other s.words (q + 6) 0 m 0 (λ e. omega arith) in
     let p1 : slice_index words 1 ≡ slice_index s.words 1 = get_or-set_other s.words (q + 6) 1 m 0 (λ e. omega arith) in
     let pd : (w : ℕ) → w < 4 → doubts_in s.words w ≡ doubts_in words w =
     λ w few. sym (get_or-set_other s.words (q + 6) (w + 2) m 0 (λ e. omega arith)) in
-    let long : length s.words ≡ length (asked k) + 6 = h.0 in
+    let long : length s.words ≡ length (questions_of k) + 6 = h.0 in
     let here : least_in words q ≡ m = get_or-set_same s.words (q + 6) m 0 (omega arith) in
     let others : (p : ℕ) → p ≢ q → least_in words p ≡ least_in s.words p =
     λ p ne. get_or-set_other s.words (q + 6) (p + 6) m 0 (λ e. ne (omega arith)) in
@@ -302,11 +302,11 @@ hits k slots id q j me there below breaks s h homes at fits =
     let least_n : least_in s.words q ≡ n = refl in
     let kept = renoted k _ _ _ (least_in s.words) (least_in words) s.views id v (note q j ∷ v.notes) at
     (by (λ p x. x ≤ least_in s.words p) (omega arith) (λ p ne. omega arith))
-    (by (λ p x. p < length (asked k) → RightPlace k p x) (λ _.
+    (by (λ p x. p < length (questions_of k) → RightPlace k p x) (λ _.
     dite (dec_le n j) (λ le. subst (RightPlace k q) (omega arith) ((h.1).right q there))
     (λ gt. inr (
       (let lt = lt_of_not-le gt in omega arith),
-      subst (λ x. HasBreak (regions_of k) (asked k) x q) (let lt = lt_of_not-le gt in omega arith) breaks,
+      subst (λ x. HasBreak (regions_of k) (questions_of k) x q) (let lt = lt_of_not-le gt in omega arith) breaks,
     )))
     (λ p ne. (h.1).right p))
     (by (λ p x. (r : ℕ) → Noted (note q j ∷ v.notes) p r → x ≤ r)
@@ -327,30 +327,30 @@ hits k slots id q j me there below breaks s h homes at fits =
       (refl, refl),
     )
 
-mark_kept : (k : Matter) (n e j q : ℕ) (d d' least : ℕ → ℕ) (views : List View) (port : ℕ) (v : View) → v.owes ≡ Some j
+mark_kept : (k : BoardKey) (n e j q : ℕ) (d d' least : ℕ → ℕ) (views : List View) (port : ℕ) (v : View) → v.owes ≡ Some j
     → bit_at (d' (q / 64)) (q % 64) ≡ 1 → ((p : ℕ) → p < 256 → p ≢ q
     → bit_at (d' (p / 64)) (p % 64) ≡ bit_at (d (p / 64)) (p % 64))
-    → get_elem? views port ≡ some v → Kept k n e d least views → Kept k n e d' least (set views port (marking v q))
-mark_kept k n e j q d d' least views port v owing here others at h = let w : View = marking v q in
+    → get_elem? views port ≡ some v → Kept k n e d least views → Kept k n e d' least (set views port (view_with_mark v q))
+mark_kept k n e j q d d' least views port v owing here others at h = let w : View = view_with_mark v q in
     let mine = h.each port v at in record {
-      parts = (let s = total_set (λ u. u.parts) views port v w at in let p = h.parts in omega arith);
+      joined_seats = (let s = total_set (λ u. u.joined_seats) views port v w at in let p = h.joined_seats in omega arith);
       drawn = λ x. (let s = total_set (λ u. times x (jobs u)) views port v w at in let p = h.drawn x in omega arith);
       drawn_count = (let s = total_set (λ u. length (jobs u)) views port v w at in
           let p = h.drawn_count in omega arith);
-      past_end = (let s = total_set (λ u. u.nones) views port v w at in let p = h.past_end in omega arith);
-      entered_is = (let s = total_set (λ u. length u.entries) views port v w at in let p = h.entered_is in omega arith);
+      past_end = (let s = total_set (λ u. u.exhausted_seats) views port v w at in let p = h.past_end in omega arith);
+      entered_is = (let s = total_set (λ u. length u.entered_sheets) views port v w at in let p = h.entered_is in omega arith);
       marked = λ p few. (let t = top_at (doubt_at p) views port v at in let was = h.marked p few in
           dite (ℕ_discrete p q)
-          (λ same. (let one : doubt_at q w ≡ max (max 1 (has q v.marked)) (has_doubt q v.entries) = ap
-          (λ x. max x (has_doubt q v.entries)) (has_same q v.marked) in
-          let a = has_most q v.marked in let b = has_doubt_most q v.entries in
+          (λ same. (let one : doubt_at q w ≡ max (max 1 (has q v.marked)) (has_doubt q v.entered_sheets) = ap
+          (λ x. max x (has_doubt q v.entered_sheets)) (has_same q v.marked) in
+          let a = has_most q v.marked in let b = has_doubt_most q v.entered_sheets in
           let up : doubt_at q v ≤ doubt_at q w = omega arith in
           let s = top_set (doubt_at q) views port v w at up in let most : top (doubt_at p) views ≤ 1 =
           subst (λ x. x ≤ 1) was (bit_most (d (p / 64)) (p % 64)) in
           let most' : top (doubt_at q) views ≤ 1 = subst (λ x. top (doubt_at x) views ≤ 1) same most in
           subst (λ x. bit_at (d' (x / 64)) (x % 64) ≡ top (doubt_at x) (set views port w)) (sym same)
           (here ∙ omega arith)))
-          (λ ne. (let stays : doubt_at p w ≡ doubt_at p v = ap (λ x. max x (has_doubt p v.entries))
+          (λ ne. (let stays : doubt_at p w ≡ doubt_at p v = ap (λ x. max x (has_doubt p v.entered_sheets))
           (has_other p q v.marked ne) in
           let s = top_set (doubt_at p) views port v w at (omega arith) in others p few ne ∙ was ∙ omega arith)));
       right = h.right;
@@ -365,13 +365,13 @@ mark_kept k n e j q d d' least views port v owing here others at h = let w : Vie
       };
     }
 
-pub marks : (k : Matter) (slots q j : ℕ) (id : ℕ) (me : Me ℕ View) → me.0.owes ≡ Some j → q < 256
+pub marks : (k : BoardKey) (slots q j : ℕ) (id : ℕ) (me : Me ℕ View) → me.0.owes ≡ Some j → q < 256
     → Allows (BoardKept k) slots id me (q / 64 + 2) (λ n. bit_or n (1 * 2 ^ (q % 64) % 2 ^ 64))
     (λ n w. ((p : ℕ) → q / 64 + 2 ≡ p / 64 + 2 → 1 * 2 ^ (q % 64) % 2 ^ 64 ≡ 1 * 2 ^ (p % 64) % 2 ^ 64
-    → w.0 ≡ marking me.0 p) × (w.1 ≡ me.1))
+    → w.0 ≡ view_with_mark me.0 p) × (w.1 ≡ me.1))
 marks k slots q j id me owing few s h homes at fits =
     let v : View = me.0 in let i : ℕ = q / 64 + 2 in let low : i < 6 = omega arith in
-    let long : length s.words ≡ length (asked k) + 6 = h.0 in
+    let long : length s.words ≡ length (questions_of k) + 6 = h.0 in
     let m : ℕ = bit_or (slice_index s.words i) (1 * 2 ^ (q % 64) % 2 ^ 64) in let words : List ℕ = set s.words i m in
     let p0 : slice_index words 0 ≡ slice_index s.words 0 = get_or-set_other s.words i 0 m 0 (λ e. omega arith) in
     let p1 : slice_index words 1 ≡ slice_index s.words 1 = get_or-set_other s.words i 1 m 0 (λ e. omega arith) in
@@ -385,21 +385,21 @@ marks k slots q j id me owing few s h homes at fits =
     (λ apart. ap (λ x. bit_at x (p % 64)) (get_or-set_other s.words i (p / 64 + 2) m 0 (λ e. apart (omega arith)))) in
     let kept = mark_kept k _ _ j q (doubts_in s.words) (doubts_in words) _ s.views id v owing
     (ap (λ x. bit_at x (q % 64)) here ∙ bit_set (slice_index s.words i) q) others at h.1 in (
-      marking v q,
+      view_with_mark v q,
       keeps,
       tt,
       (
         length-set s.words i m ∙ long,
         subst (λ (x : ℕ × ℕ × (ℕ → ℕ)).
-            Kept k x.0 x.1 (doubts_in words) x.2 (set s.views id (marking v q)))
+            Kept k x.0 x.1 (doubts_in words) x.2 (set s.views id (view_with_mark v q)))
             (λ l. (sym p0 l, sym p1 l, λ p. sym (pl p) l)) kept,
       ),
-      ((λ p word mask. ap (marking v) (question_is q p word mask)), refl),
+      ((λ p word mask. ap (view_with_mark v) (question_is q p word mask)), refl),
     )
 
-put_entered : (k : Matter) (words : List ℕ) (d : ℕ) (views : List View) → length words ≡ length (asked k) + 6
+put_entered : (k : BoardKey) (words : List ℕ) (d : ℕ) (views : List View) → length words ≡ length (questions_of k) + 6
     → Kept k (slice_index words 0) d (doubts_in words) (least_in words) views
-    → (length (set words 1 d) ≡ length (asked k) + 6)
+    → (length (set words 1 d) ≡ length (questions_of k) + 6)
     × Kept k (slice_index (set words 1 d) 0) (slice_index (set words 1 d) 1) (doubts_in (set words 1 d))
     (least_in (set words 1 d)) views
 put_entered k words d views long h =
@@ -414,22 +414,22 @@ put_entered k words d views long h =
           (λ i. (sym p0 i, sym p1 i, λ w. sym (pd w) i, λ q. sym (pl q) i)) h,
     )
 
-enter_kept : (k : Matter) (n e j : ℕ) (d least : ℕ → ℕ) (views : List View) (port : ℕ) (v : View) → v.owes ≡ Some j
-    → 0 < v.parts → Covered k v.notes (entry j v.marked) → get_elem? views port ≡ some v → Kept k n e d least views
-    → Kept k n (e + 1) d least (set views port (entering v j))
-enter_kept k n e j d least views port v owing part covered at h = let w : View = entering v j in
+enter_kept : (k : BoardKey) (n e j : ℕ) (d least : ℕ → ℕ) (views : List View) (port : ℕ) (v : View) → v.owes ≡ Some j
+    → 0 < v.joined_seats → Covered k v.notes (entered_sheet j v.marked) → get_elem? views port ≡ some v → Kept k n e d least views
+    → Kept k n (e + 1) d least (set views port (view_with_sheet v j))
+enter_kept k n e j d least views port v owing part covered at h = let w : View = view_with_sheet v j in
     let mine = h.each port v at in record {
-      parts = (let s = total_set (λ u. u.parts) views port v w at in let p = h.parts in omega arith);
+      joined_seats = (let s = total_set (λ u. u.joined_seats) views port v w at in let p = h.joined_seats in omega arith);
       drawn = λ x. (let s = total_set (λ u. times x (jobs u)) views port v w at in let p = h.drawn x in
           let same : times x (jobs v) ≡ times x (jobs w) =
-          ap (λ o. times x (owed o ++ map (λ y. y.job) v.entries)) owing in omega arith);
+          ap (λ o. times x (owed_jobs o ++ map (λ y. y.job) v.entered_sheets)) owing in omega arith);
       drawn_count = (let s = total_set (λ u. length (jobs u)) views port v w at in let p = h.drawn_count in
           let same : length (jobs v) ≡ length (jobs w) =
-          ap (λ o. length (owed o ++ map (λ y. y.job) v.entries)) owing in omega arith);
-      past_end = (let s = total_set (λ u. u.nones) views port v w at in let p = h.past_end in omega arith);
-      entered_is = (let s = total_set (λ u. length u.entries) views port v w at in let p = h.entered_is in omega arith);
+          ap (λ o. length (owed_jobs o ++ map (λ y. y.job) v.entered_sheets)) owing in omega arith);
+      past_end = (let s = total_set (λ u. u.exhausted_seats) views port v w at in let p = h.past_end in omega arith);
+      entered_is = (let s = total_set (λ u. length u.entered_sheets) views port v w at in let p = h.entered_is in omega arith);
       marked = λ q few.
-          (let b : doubt_at q w ≡ max (has q []) (max (has q v.marked) (has_doubt q v.entries)) = refl in
+          (let b : doubt_at q w ≡ max (has q []) (max (has q v.marked) (has_doubt q v.entered_sheets)) = refl in
           let z : has q [] ≡ 0 = refl in
           let s = top_set (doubt_at q) views port v w at (omega arith) in let t = top_at (doubt_at q) views port v at in
           let p = h.marked q few in omega arith);
@@ -445,46 +445,46 @@ enter_kept k n e j d least views port v owing part covered at h = let w : View =
       };
     }
 
-entries_few : (k : Matter) (n e j : ℕ) (d least : ℕ → ℕ) (views : List View) (port : ℕ) (v : View) → v.owes ≡ Some j
-    → get_elem? views port ≡ some v → Kept k n e d least views → e + 1 ≤ places k
-entries_few k n e j d least views port v owing at h = let w : View = entering v j in
-    let a = total_set (λ u. length u.entries) views port v w at in
+entries_few : (k : BoardKey) (n e j : ℕ) (d least : ℕ → ℕ) (views : List View) (port : ℕ) (v : View) → v.owes ≡ Some j
+    → get_elem? views port ≡ some v → Kept k n e d least views → e + 1 ≤ count_of_regions k
+entries_few k n e j d least views port v owing at h = let w : View = view_with_sheet v j in
+    let a = total_set (λ u. length u.entered_sheets) views port v w at in
     let b = total_set (λ u. length (jobs u)) views port v w at in
-    let same : length (jobs v) ≡ length (jobs w) = ap (λ o. length (owed o ++ map (λ y. y.job) v.entries)) owing in
-    let le : total (λ u. length u.entries) (set views port w) ≤ total (λ u. length (jobs u)) (set views port w) =
-    total_le (λ u. length u.entries) (λ u. length (jobs u)) (set views port w)
+    let same : length (jobs v) ≡ length (jobs w) = ap (λ o. length (owed_jobs o ++ map (λ y. y.job) v.entered_sheets)) owing in
+    let le : total (λ u. length u.entered_sheets) (set views port w) ≤ total (λ u. length (jobs u)) (set views port w) =
+    total_le (λ u. length u.entered_sheets) (λ u. length (jobs u)) (set views port w)
     (λ i u _. omega (
       arith,
-      length-append (owed u.owes) (map (λ y. y.job) u.entries),
-      length-map u.entries (λ y. y.job),
+      length-append (owed_jobs u.owes) (map (λ y. y.job) u.entered_sheets),
+      length-map u.entered_sheets (λ y. y.job),
     )) in
     let p = h.entered_is in let c = h.drawn_count in omega arith
 
-pub enters : (k : Matter) (slots id j : ℕ) (me : Me ℕ View) → me.0.owes ≡ Some j → 0 < me.0.parts
-    → places k < 18446744073709551616 → Covered k me.0.notes (entry j me.0.marked)
+pub enters : (k : BoardKey) (slots id j : ℕ) (me : Me ℕ View) → me.0.owes ≡ Some j → 0 < me.0.joined_seats
+    → count_of_regions k < 18446744073709551616 → Covered k me.0.notes (entered_sheet j me.0.marked)
     → Allows (BoardKept k) slots id me 1 (λ n. (n + 1) % 18446744073709551616)
-    (λ n w. ((i : ℕ) → me.0.owes ≡ Some i → w.0 ≡ entering me.0 i) × (w.1 ≡ me.1))
+    (λ n w. ((i : ℕ) → me.0.owes ≡ Some i → w.0 ≡ view_with_sheet me.0 i) × (w.1 ≡ me.1))
 enters k slots id j me owing part small covered s h homes at fits =
     let e : ℕ = slice_index s.words 1 in let few = entries_few k _ e j _ _ s.views id me.0 owing at h.1 in
     let same : e + 1 ≡ (e + 1) % 18446744073709551616 = omega arith in (
-      entering me.0 j,
+      view_with_sheet me.0 j,
       keeps,
       tt,
       put_entered k s.words _ _ h.0 (subst (λ x. Kept k (slice_index s.words 0) x (doubts_in s.words) (least_in s.words)
-          (set s.views id (entering me.0 j))) same (enter_kept k _ e j _ _ s.views id me.0 owing part covered at h.1)),
-      ((λ i is. ap (entering me.0) (cc (owing, is))), refl),
+          (set s.views id (view_with_sheet me.0 j))) same (enter_kept k _ e j _ _ s.views id me.0 owing part covered at h.1)),
+      ((λ i is. ap (view_with_sheet me.0) (cc (owing, is))), refl),
     )
 
 -- the same, in the words of the steps
-pub looks_at : (k : Matter) (slots id q : ℕ) (me : Me ℕ View) → me.0.about ≡ Some k → q < length (asked k)
+pub looks_at : (k : BoardKey) (slots id q : ℕ) (me : Me ℕ View) → me.0.about ≡ Some k → q < length (questions_of k)
     → Allows (BoardKept k) slots id me (q + 6) (λ n. n) (λ n w. Looks me.0 (q + 6 - 6) n w.0 × (w.1 ≡ me.1))
 looks_at k slots id q me is there = let e : q ≡ q + 6 - 6 = omega arith in
     subst (λ p. Allows (BoardKept k) slots id me (q + 6) (λ n. n) (λ n w. Looks me.0 p n w.0 × (w.1 ≡ me.1))) e
     (looks k slots id q me is there)
 
-pub hits_at : (k : Matter) (slots id q j : ℕ) (me : Me ℕ View) → q < length (asked k) → j < places k
-    → HasBreak (regions_of k) (asked k) j q
-    → Allows (BoardKept k) slots id me (q + 6) (λ n. min n j) (λ n w. (w.0 ≡ noting me.0 (q + 6 - 6) j) × (w.1 ≡ me.1))
+pub hits_at : (k : BoardKey) (slots id q j : ℕ) (me : Me ℕ View) → q < length (questions_of k) → j < count_of_regions k
+    → HasBreak (regions_of k) (questions_of k) j q
+    → Allows (BoardKept k) slots id me (q + 6) (λ n. min n j) (λ n w. (w.0 ≡ view_with_note me.0 (q + 6 - 6) j) × (w.1 ≡ me.1))
 hits_at k slots id q j me there below breaks = let e : q ≡ q + 6 - 6 = omega arith in
-    subst (λ p. Allows (BoardKept k) slots id me (q + 6) (λ n. min n j) (λ n w. (w.0 ≡ noting me.0 p j) × (w.1 ≡ me.1)))
+    subst (λ p. Allows (BoardKept k) slots id me (q + 6) (λ n. min n j) (λ n w. (w.0 ≡ view_with_note me.0 p j) × (w.1 ≡ me.1)))
     e (hits k slots id q j me there below breaks)

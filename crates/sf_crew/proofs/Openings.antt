@@ -6,8 +6,8 @@ use Rattle.std.proofs.lemmas.Bool.Decides.{nat_tests}
 use Rattle.std.proofs.lemmas.List.{get_or-append-add, get_or-replicate}
 use mathlib.Core.Option.{some, some-injective, some-ne-none}
 use lib.ListN.{get_elem?, replicate, length-replicate}
-use Rattle.sf_crew.specs.declared.view.Matter.{Matter}
-use Rattle.sf_crew.specs.Views.{asked, places, once_below}
+use Rattle.sf_crew.specs.declared.view.BoardKey.{BoardKey}
+use Rattle.sf_crew.specs.Views.{questions_of, count_of_regions, once_below}
 use Rattle.sf_crew.specs.BoardRule.{Sound, Kept, BoardKept, least_in, doubts_in}
 use Rattle.sf_crew.specs.BoardSteps.{first_view}
 
@@ -31,7 +31,7 @@ only_view : {X : Type 0} (x y : X) (port : ℕ) → get_elem? (x ∷ []) port �
 only_view x y zero e = some-injective x y e
 only_view x y (suc port) e = absurd (some-ne-none y (sym e))
 
-opened : (k : Matter) → Sound k 0 (least_in (first_words (length (asked k)) (places k))) (first_view k)
+opened : (k : BoardKey) → Sound k 0 (least_in (first_words (length (questions_of k)) (count_of_regions k))) (first_view k)
 opened k = record {
   about = λ _. refl;
   idle = λ _. (refl, refl);
@@ -42,24 +42,24 @@ opened k = record {
   covered = tt;
 }
 
-pub opens : (k : Matter) → Kept k 0 0 (doubts_in (first_words (length (asked k)) (places k)))
-    (least_in (first_words (length (asked k)) (places k))) (first_view k ∷ [])
-opens k = let words : List ℕ = first_words (length (asked k)) (places k) in record {
-  parts = omega arith;
-  drawn = λ x. (let none : once_below x (min 0 (places k)) ≡ 0 = grind (arith, nat_tests) in omega arith);
+pub opens : (k : BoardKey) → Kept k 0 0 (doubts_in (first_words (length (questions_of k)) (count_of_regions k)))
+    (least_in (first_words (length (questions_of k)) (count_of_regions k))) (first_view k ∷ [])
+opens k = let words : List ℕ = first_words (length (questions_of k)) (count_of_regions k) in record {
+  joined_seats = omega arith;
+  drawn = λ x. (let none : once_below x (min 0 (count_of_regions k)) ≡ 0 = grind (arith, nat_tests) in omega arith);
   drawn_count = omega arith;
   past_end = omega arith;
   entered_is = refl;
-  marked = λ q few. ap (λ x. bit_at x (q % 64)) (first_doubts (length (asked k)) (places k) (q / 64) (omega arith))
+  marked = λ q few. ap (λ x. bit_at x (q % 64)) (first_doubts (length (questions_of k)) (count_of_regions k) (q / 64) (omega arith))
       ∙ bit_at-zero (q % 64);
-  right = λ q there. inl (first_least (length (asked k)) (places k) q there);
+  right = λ q there. inl (first_least (length (questions_of k)) (count_of_regions k) q there);
   each = λ port v at. subst (Sound k 0 (least_in words)) (only_view (first_view k) v port at) (opened k);
 }
 
 -- the same of any words that are these
-pub opens_at : (k : Matter) (words : List ℕ) (n regions : ℕ) → words ≡ first_words n regions → n ≡ length (asked k)
-    → regions ≡ places k → BoardKept {S = ℕ} k (record { words = words; homes = []; views = first_view k ∷ [] })
+pub opens_at : (k : BoardKey) (words : List ℕ) (n regions : ℕ) → words ≡ first_words n regions → n ≡ length (questions_of k)
+    → regions ≡ count_of_regions k → BoardKept {S = ℕ} k (record { words = words; homes = []; views = first_view k ∷ [] })
 opens_at k words n regions is same small =
     subst (λ (y : List ℕ). BoardKept {S = ℕ} k (record { words = y; homes = []; views = first_view k ∷ [] }))
     (sym (is ∙ (λ i. first_words (same i) (small i))))
-    (omega (arith, length-replicate (length (asked k)) (places k)), opens k)
+    (omega (arith, length-replicate (length (questions_of k)) (count_of_regions k)), opens k)

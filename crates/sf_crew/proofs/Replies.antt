@@ -8,18 +8,18 @@ use Rattle.sf_ask.specs.declared.verdict.Reply.{Reply}
 use Rattle.sf_insn.specs.declared.input.Input.{Input}
 use Rattle.sf_insn.specs.Inputs.{IsInput}
 use Rattle.sf_piece.specs.Pieces.{PieceData, is_member}
-use Rattle.sf_book.specs.Books.{EntryData, RegionData, BookData, IsSettled}
+use Rattle.sf_book.specs.Books.{OutstandingData, RegionData, BookData, IsSettled}
 use Rattle.sf_book.specs.Partition.{parts_of, LiesInOne}
 use Rattle.sf_book.specs.PartitionLaws.{lies_in_one}
 use Rattle.sf_ask.specs.declared.verdict.Verdict.TheVariants.{Clear, Hit, Doubt}
 use Rattle.sf_ask.specs.declared.verdict.Reply.TheVariants.{Never, Allowed, Unsettled}
-use Rattle.sf_ask.specs.Asked.{Asked}
+use Rattle.sf_ask.specs.QuestionData.{QuestionData}
 use Rattle.sf_ask.specs.Verdicts.{IsMemberAt, IsBreakAt, IsRightVerdict, IsRightReply, TellsTriedAt, IsDoubtful}
 use Rattle.sf_check.specs.Stacks.{IsPlain}
-use Rattle.sf_ask.specs.Sheets.{HasNoBreak, IsRightEntry}
+use Rattle.sf_ask.specs.Sheets.{HasNoBreak, IsRightWhereGiven}
 use Rattle.sf_crew.specs.declared.board.Tally.{Tally}
 use Rattle.sf_crew.specs.Views.{bit_of}
-use Rattle.sf_crew.specs.Sweeps.{IsPassedBy, HasDoubt, IsUnbroken, IsReplyTo, IsRightReplyAt, IsFullTally}
+use Rattle.sf_crew.specs.Sweeps.{IsWithoutHit, HasDoubt, IsUnbroken, IsReplyTo, IsRightReplyAt, IsFullTally}
 use Rattle.sf_crew.specs.declared.fault.Fault.{Fault}
 
 -- what stands at a place of the pieces of all regions is a region's piece
@@ -41,7 +41,7 @@ pub in_some_region : (s : BookData) → IsSettled s → s.outstanding ≡ [] →
 in_some_region s h none d input =
     let one : LiesInOne (parts_of s) d = lies_in_one s h.lawful d input in
     let rs : List PieceData = map (λ (r : RegionData). r.piece) s.regions in
-    let same : parts_of s ≡ rs = ap (λ (es : List EntryData). map (λ (e : EntryData). e.piece) es ++ rs) none in
+    let same : parts_of s ≡ rs = ap (λ (es : List OutstandingData). map (λ (e : OutstandingData). e.piece) es ++ rs) none in
     let there = region_there s.regions one.place one.piece
     (ap (λ (ps : List PieceData). slice_get ps one.place) (sym same) ∙ one.there) in (
       one.place,
@@ -54,7 +54,7 @@ in_some_region s h none d input =
       },
     )
 
-never_right : (s : BookData) (q : Asked) → IsSettled s → s.outstanding ≡ []
+never_right : (s : BookData) (q : QuestionData) → IsSettled s → s.outstanding ≡ []
     → ((r : ℕ) → r < length s.regions → IsUnbroken s q false r) → IsRightReply s q Never
 never_right s q h none all = (
   none,
@@ -62,7 +62,7 @@ never_right s q h none all = (
       (all m.0 m.1).none refl d (record { member = m.2; breaks = breaks }),
 )
 
-pub reply_never : (s : BookData) (q : Asked) (doubt : Bool) → IsSettled s → length s.outstanding ≡ 0 → doubt ≡ false
+pub reply_never : (s : BookData) (q : QuestionData) (doubt : Bool) → IsSettled s → length s.outstanding ≡ 0 → doubt ≡ false
     → ((r : ℕ) → r < length s.regions → IsUnbroken s q doubt r) → IsReplyTo s q Never
 reply_never s q doubt h none certain all = record {
   right = never_right s q h (none_left s.outstanding none)
@@ -71,7 +71,7 @@ reply_never s q doubt h none certain all = record {
   plain = λ _. tt;
 }
 
-pub reply_unsettled : (s : BookData) (q : Asked) (doubt : Bool) → IsSettled s
+pub reply_unsettled : (s : BookData) (q : QuestionData) (doubt : Bool) → IsSettled s
     → ((r : ℕ) → r < length s.regions → IsUnbroken s q doubt r)
     → (0 < length s.outstanding) ⊎ HasDoubt s q → (IsPlain s.stack → 0 < length s.outstanding) → IsReplyTo s q Unsettled
 reply_unsettled s q doubt h all why left = record {
@@ -82,9 +82,9 @@ reply_unsettled s q doubt h all why left = record {
 }
 
 -- a hit at a place below which no region is broken
-pub reply_allowed : (s : BookData) (q : Asked) (r : ℕ) (d : Input) → IsRightVerdict s r q (Hit d)
+pub reply_allowed : (s : BookData) (q : QuestionData) (r : ℕ) (d : Input) → IsRightVerdict s r q (Hit d)
     → TellsTriedAt s r q (Hit d)
-    → ((e : ℕ) → e < r → IsPassedBy s q e) → (IsPlain s.stack → (e : ℕ) → e < r → (x : Input) → ¬ IsBreakAt s e q x)
+    → ((e : ℕ) → e < r → IsWithoutHit s q e) → (IsPlain s.stack → (e : ℕ) → e < r → (x : Input) → ¬ IsBreakAt s e q x)
     → IsReplyTo s q (Allowed d)
 reply_allowed s q r d hit example passed first = record {
   right = (hit.member.input, hit.breaks);
@@ -93,35 +93,35 @@ reply_allowed s q r d hit example passed first = record {
 }
 
 -- what a verdict that is no hit tells of its region
-pub clear_unbroken : (s : BookData) (q : Asked) (doubt : Bool) (r : ℕ) → IsRightVerdict s r q Clear
+pub clear_unbroken : (s : BookData) (q : QuestionData) (doubt : Bool) (r : ℕ) → IsRightVerdict s r q Clear
     → IsUnbroken s q doubt r
 clear_unbroken s q doubt r h = record { passed = inl h; none = λ _ d. h d; low = λ d _. h d }
 
-pub doubt_unbroken : (s : BookData) (q : Asked) (r : ℕ) → IsRightVerdict s r q Doubt → IsDoubtful s r q
+pub doubt_unbroken : (s : BookData) (q : QuestionData) (r : ℕ) → IsRightVerdict s r q Doubt → IsDoubtful s r q
     → IsUnbroken s q true r
 doubt_unbroken s q r h tried = record { passed = inr tried; none = λ e. absurd (true≢false e); low = h }
 
-pub still_unbroken : (s : BookData) (q : Asked) (doubt : Bool) (r : ℕ) → IsUnbroken s q doubt r → IsUnbroken s q true r
+pub still_unbroken : (s : BookData) (q : QuestionData) (doubt : Bool) (r : ℕ) → IsUnbroken s q doubt r → IsUnbroken s q true r
 still_unbroken s q doubt r h = record { passed = h.passed; none = λ e. absurd (true≢false e); low = h.low }
 
 -- the same of the question of a number
-pub none_unbroken : (s : BookData) (qs : List Asked) (q : ℕ) (question : Asked) (doubt : Bool) (r : ℕ)
+pub none_unbroken : (s : BookData) (qs : List QuestionData) (q : ℕ) (question : QuestionData) (doubt : Bool) (r : ℕ)
     → slice_get qs q ≡ Some question → HasNoBreak s qs r q → IsUnbroken s question doubt r
 none_unbroken s qs q question doubt r asked h = let none : (d : Input) → ¬ IsBreakAt s r question d =
     λ d b. h d (record { question = question; asked = asked; breaks = b }) in
     record { passed = inl none; none = λ _. none; low = λ d _. none d }
 
-pub entry_unbroken : (s : BookData) (qs : List Asked) (q : ℕ) (question : Asked) (r : ℕ)
-    → slice_get qs q ≡ Some question → IsRightEntry s qs r q (Some Doubt) → IsUnbroken s question true r
+pub entry_unbroken : (s : BookData) (qs : List QuestionData) (q : ℕ) (question : QuestionData) (r : ℕ)
+    → slice_get qs q ≡ Some question → IsRightWhereGiven s qs r q (Some Doubt) → IsUnbroken s question true r
 entry_unbroken s qs q question r asked h = let same : h.question ≡ question = cc (h.asked, asked) in
-    doubt_unbroken s question r (subst (λ (x : Asked). IsRightVerdict s r x Doubt) same h.right)
+    doubt_unbroken s question r (subst (λ (x : QuestionData). IsRightVerdict s r x Doubt) same h.right)
     (subst (IsDoubtful s r) same h.tried)
 
 abbrev none_place : Option ℕ
 none_place = None
 
 -- what the tally of all regions tells of the question of a number
-no_doubt_plain : (s : BookData) (qs : List Asked) (r q : ℕ) → IsPlain s.stack → IsRightEntry s qs r q (Some Doubt) → ⊥
+no_doubt_plain : (s : BookData) (qs : List QuestionData) (r q : ℕ) → IsPlain s.stack → IsRightWhereGiven s qs r q (Some Doubt) → ⊥
 no_doubt_plain s qs r q plain h = h.decisive plain
 
 marked_or_not : (n : ℕ) (b : Bool) → b ≡ (n == 1) → n ≡ 1 → b ≡ true
@@ -130,46 +130,46 @@ marked_or_not n b is one = is ∙ ap (λ x. x == 1) one
 not_marked : (n : ℕ) (b : Bool) → b ≡ (n == 1) → (n ≡ 1 → ⊥) → b ≡ false
 not_marked n b is none = let t : (n == 1) ≡ false = grind (arith, nat_tests, none) in is ∙ t
 
-pub tally_unbroken : (s : BookData) (qs : List Asked) (t : Tally) (q : ℕ) (question : Asked) (doubt : Bool)
+pub tally_unbroken : (s : BookData) (qs : List QuestionData) (t : Tally) (q : ℕ) (question : QuestionData) (doubt : Bool)
     → IsFullTally s qs t → q < length qs → slice_get qs q ≡ Some question → get_or t.least q none_place ≡ None
     → doubt ≡ (bit_of t.doubts q == 1) → (r : ℕ) → r < length s.regions → IsUnbroken s question doubt r
 tally_unbroken s qs t q question doubt h lt asked none is r below = ⊎_elim
     (λ (x : HasNoBreak s qs r q). none_unbroken s qs q question doubt r asked x)
-    (λ (x : (bit_of t.doubts q ≡ 1) × IsRightEntry s qs r q (Some Doubt)).
+    (λ (x : (bit_of t.doubts q ≡ 1) × IsRightWhereGiven s qs r q (Some Doubt)).
     subst (λ b. IsUnbroken s question b r) (sym (marked_or_not (bit_of t.doubts q) doubt is x.0))
     (entry_unbroken s qs q question r asked x.1))
     (h.cleared q r lt below (λ p found. absurd (let same : get_or t.least q none_place
     ≡ Some p = get_or_from_slice_get t.least q (Some p) none_place found in cc (same, none))))
 
-pub tally_certain : (s : BookData) (qs : List Asked) (t : Tally) (q : ℕ) (doubt : Bool) → IsFullTally s qs t
+pub tally_certain : (s : BookData) (qs : List QuestionData) (t : Tally) (q : ℕ) (doubt : Bool) → IsFullTally s qs t
     → q < length qs → doubt ≡ (bit_of t.doubts q == 1) → IsPlain s.stack → doubt ≡ false
 tally_certain s qs t q doubt h lt is plain =
     not_marked (bit_of t.doubts q) doubt is (λ one. let d = h.doubts q lt one in no_doubt_plain s qs d.0 q plain d.2)
 
-pub tally_first : (s : BookData) (qs : List Asked) (t : Tally) (q place : ℕ) (question : Asked) → IsFullTally s qs t
+pub tally_first : (s : BookData) (qs : List QuestionData) (t : Tally) (q place : ℕ) (question : QuestionData) → IsFullTally s qs t
     → q < length qs → slice_get qs q ≡ Some question → slice_get t.least q ≡ Some (Some place) → IsPlain s.stack
     → (e : ℕ) → e < place → (x : Input) → ¬ IsBreakAt s e question x
 tally_first s qs t q place question h lt asked least plain e earlier x breaks =
     let b = h.breaks q place least in ⊎_elim
     (λ (y : HasNoBreak s qs e q). y x (record { question = question; asked = asked; breaks = breaks }))
-    (λ (y : (bit_of t.doubts q ≡ 1) × IsRightEntry s qs e q (Some Doubt)). no_doubt_plain s qs e q plain y.1)
+    (λ (y : (bit_of t.doubts q ≡ 1) × IsRightWhereGiven s qs e q (Some Doubt)). no_doubt_plain s qs e q plain y.1)
     (h.cleared q e lt (omega (arith, earlier, b.0)) (λ p found. let same : p ≡ place = cc (found, least) in
     omega (arith, same, earlier)))
 
--- below the least place each region is passed by
-pub tally_passed : (s : BookData) (qs : List Asked) (t : Tally) (q place : ℕ) (question : Asked) → IsFullTally s qs t
+-- below the least place each region is without a hit
+pub tally_passed : (s : BookData) (qs : List QuestionData) (t : Tally) (q place : ℕ) (question : QuestionData) → IsFullTally s qs t
     → q < length qs → slice_get qs q ≡ Some question
-    → slice_get t.least q ≡ Some (Some place) → (e : ℕ) → e < place → IsPassedBy s question e
+    → slice_get t.least q ≡ Some (Some place) → (e : ℕ) → e < place → IsWithoutHit s question e
 tally_passed s qs t q place question h lt asked least e earlier =
     let b = h.breaks q place least in ⊎_elim
     (λ (y : HasNoBreak s qs e q). (none_unbroken s qs q question true e asked y).passed)
-    (λ (y : (bit_of t.doubts q ≡ 1) × IsRightEntry s qs e q (Some Doubt)).
+    (λ (y : (bit_of t.doubts q ≡ 1) × IsRightWhereGiven s qs e q (Some Doubt)).
     (entry_unbroken s qs q question e asked y.1).passed)
     (h.cleared q e lt (omega (arith, earlier, b.0)) (λ p found. let same : p ≡ place = cc (found, least) in
     omega (arith, same, earlier)))
 
 -- a bit that is set tells of a region in doubt
-pub tally_doubtful : (s : BookData) (qs : List Asked) (t : Tally) (q : ℕ) (question : Asked) (doubt : Bool)
+pub tally_doubtful : (s : BookData) (qs : List QuestionData) (t : Tally) (q : ℕ) (question : QuestionData) (doubt : Bool)
     → IsFullTally s qs t → q < length qs → slice_get qs q ≡ Some question
     → doubt ≡ (bit_of t.doubts q == 1) → doubt ≡ true → HasDoubt s question
 tally_doubtful s qs t q question doubt h lt asked is set =
@@ -181,11 +181,11 @@ tally_doubtful s qs t q question doubt h lt asked is set =
     marked : (n : ℕ) → (n == 1) ≡ true → n ≡ 1
     marked n e = grind (arith, nat_tests, e)
 
-pub question_there : (qs : List Asked) (q : ℕ) (x : Asked) → q < length qs → x ≡ get_or qs q x → slice_get qs q ≡ Some x
-question_there qs q x lt is = slice_get-get_or qs q x lt ∙ ap (λ (y : Asked). Some y) (sym is)
+pub question_there : (qs : List QuestionData) (q : ℕ) (x : QuestionData) → q < length qs → x ≡ get_or qs q x → slice_get qs q ≡ Some x
+question_there qs q x lt is = slice_get-get_or qs q x lt ∙ ap (λ (y : QuestionData). Some y) (sym is)
 
 -- one region more
-pub unbroken_more : (s : BookData) (q : Asked) (was is : Bool) (place : ℕ)
+pub unbroken_more : (s : BookData) (q : QuestionData) (was is : Bool) (place : ℕ)
     → ((r : ℕ) → r < place → IsUnbroken s q was r) → ((r : ℕ) → IsUnbroken s q was r → IsUnbroken s q is r)
     → IsUnbroken s q is place → (r : ℕ) → r < place + 1 → IsUnbroken s q is r
 unbroken_more s q was is place all keeps this r lt =
@@ -207,7 +207,7 @@ place_there [] q x e = absurd (cc (e))
 place_there (y ∷ l) zero x e = ap (λ (z : Option ℕ). Some z) e
 place_there (y ∷ l) (suc q) x e = place_there l q x e
 
-pub ok_replies : (s : BookData) (qs : List Asked) (q : ℕ) (question : Asked) (r : Result Reply Fault)
+pub ok_replies : (s : BookData) (qs : List QuestionData) (q : ℕ) (question : QuestionData) (r : Result Reply Fault)
     → slice_get qs q ≡ Some question → IfOk r (IsReplyTo s question) → IfOk r (IsRightReplyAt s qs q)
 ok_replies s qs q question (Ok x) asked h = record { question = question; asked = asked; replies = h }
 ok_replies s qs q question (Err f) asked h = tt

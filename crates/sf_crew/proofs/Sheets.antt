@@ -5,16 +5,16 @@ use native.Mathlib.Decide.{ℕ_discrete}
 use Rattle.sf_ask.specs.declared.verdict.Verdict.{Verdict}
 use Rattle.sf_ask.specs.declared.verdict.Verdict.TheVariants.{Clear, Hit, Doubt}
 use Rattle.sf_book.specs.Books.{BookData}
-use Rattle.sf_ask.specs.Asked.{Asked}
-use Rattle.sf_ask.specs.Sheets.{SheetData, HasNoBreak, is_hit, is_doubt, is_skipped, verdict_at, IsRightEntry, IsRightSheet}
+use Rattle.sf_ask.specs.QuestionData.{QuestionData}
+use Rattle.sf_ask.specs.Sheets.{SheetData, HasNoBreak, is_hit, is_doubt, is_skipped, verdict_at, IsRightWhereGiven, IsRightSheet}
 use Rattle.sf_ask.specs.SheetLaws.{clear-breaks-none}
-use Rattle.sf_crew.specs.declared.view.Matter.{Matter}
+use Rattle.sf_crew.specs.declared.view.BoardKey.{BoardKey}
 use Rattle.sf_crew.specs.declared.view.View.{View}
 use Rattle.sf_crew.specs.declared.view.Note.{Note}
-use Rattle.sf_crew.specs.Views.{asked, Covered, Noted, has, entry, note}
+use Rattle.sf_crew.specs.Views.{questions_of, Covered, Noted, has, entered_sheet, note}
 use Rattle.sf_crew.specs.BoardSteps.{view_of, with_notes, with_marks}
 use Rattle.sf_crew.proofs.Doubts.{has_same, has_other, has_most}
-use Rattle.sf_crew.specs.SheetEntries.{IsHit, IsDoubt, MarksDoubts, AreDoubts, NotesHits, IsSheetFor}
+use Rattle.sf_crew.specs.EnteredSheets.{IsHit, IsDoubt, MarksDoubts, AreDoubts, NotesHits, IsSheetFor}
 
 pub marks_none : (vs : List (Option Verdict)) (old : List ℕ) → MarksDoubts vs 0 old old
 marks_none vs old = record { more = λ q. omega arith; doubts = λ q lt. absurd (omega arith); only = λ q one. inl one }
@@ -58,7 +58,7 @@ hits_more vs job n old new is h = record {
 }
 
 -- each verdict is a hit, a doubt, or there is none; or no member breaks the question
-verdict_cases : (s : BookData) (qs : List Asked) (r q : ℕ) (v : Option Verdict) → IsRightEntry s qs r q v
+verdict_cases : (s : BookData) (qs : List QuestionData) (r q : ℕ) (v : Option Verdict) → IsRightWhereGiven s qs r q v
     → (is_hit v ≡ true) ⊎ (is_doubt v ≡ true) ⊎ (is_skipped v ≡ true) ⊎ HasNoBreak s qs r q
 verdict_cases s qs r q None h = inr (inr (inl refl))
 verdict_cases s qs r q (Some Clear) h = inr (inr (inr (clear-breaks-none s qs r q (Some Clear) h refl refl refl)))
@@ -66,8 +66,8 @@ verdict_cases s qs r q (Some (Hit d)) h = inl refl
 verdict_cases s qs r q (Some Doubt) h = inr (inl refl)
 
 -- a verdict that is a doubt is the doubt
-doubt_right : (s : BookData) (qs : List Asked) (r q : ℕ) (v : Option Verdict) → IsRightEntry s qs r q v
-    → is_doubt v ≡ true → IsRightEntry s qs r q (Some Doubt)
+doubt_right : (s : BookData) (qs : List QuestionData) (r q : ℕ) (v : Option Verdict) → IsRightWhereGiven s qs r q v
+    → is_doubt v ≡ true → IsRightWhereGiven s qs r q (Some Doubt)
 doubt_right s qs r q None h is = absurd (cc)
 doubt_right s qs r q (Some Clear) h is = absurd (cc)
 doubt_right s qs r q (Some (Hit d)) h is = absurd (cc)
@@ -80,12 +80,12 @@ doubt_below (v ∷ vs) zero is = omega arith
 doubt_below (v ∷ vs) (suc q) is = let rest = doubt_below vs q is in omega arith
 
 abbrev Subject : Type 0
-Subject = BookData × List Asked
+Subject = BookData × List QuestionData
 
-pub covers : (k : Matter) (v : View) (s : SheetData) (ds : List ℕ) (ns : List Note) → IsSheetFor k v s → IsRightSheet s
-    → NotesHits s.verdicts s.job (length s.questions) v.notes ns → AreDoubts s ds → Covered k ns (entry s.job ds)
+pub covers : (k : BoardKey) (v : View) (s : SheetData) (ds : List ℕ) (ns : List Note) → IsSheetFor k v s → IsRightSheet s
+    → NotesHits s.verdicts s.job (length s.questions) v.notes ns → AreDoubts s ds → Covered k ns (entered_sheet s.job ds)
 covers k v s ds ns f right notes marks =
-    let same : length s.questions ≡ length (asked k) = ap (λ (y : List Asked). length y) f.questions in
+    let same : length s.questions ≡ length (questions_of k) = ap (λ (y : List QuestionData). length y) f.questions in
     let long = right.each in record {
       there = subst (λ (y : BookData). s.job < length y.regions) f.regions right.there;
       cleared = λ q lt. (let there : q < length s.questions = omega arith in
@@ -99,13 +99,13 @@ covers k v s ds ns f right notes marks =
           (verdict_cases s.settled s.questions s.job q (verdict_at s.verdicts q) (right.right q there)));
       doubts = λ q one. ⊎_elim (λ (x : has q [] ≡ 1). absurd (cc))
           (λ (x : IsDoubt s.verdicts q). let there = doubt_below s.verdicts q x in
-          subst (λ (y : Subject). IsRightEntry y.0 y.1 s.job q (Some Doubt)) (λ i. (f.regions i, f.questions i))
+          subst (λ (y : Subject). IsRightWhereGiven y.0 y.1 s.job q (Some Doubt)) (λ i. (f.regions i, f.questions i))
           (doubt_right s.settled s.questions s.job q (verdict_at s.verdicts q) (right.right q (omega arith)) x))
           (marks.only q one);
     }
 
 -- the seat before its last step
 pub marked_view : (v m w : View) → m ≡ with_notes v m.notes → w ≡ with_marks m w.marked
-    → w ≡ view_of v.about v.parts v.nones v.owes w.marked v.entries m.notes
+    → w ≡ view_of v.about v.joined_seats v.exhausted_seats v.owes w.marked v.entered_sheets m.notes
 marked_view v m w noted marked = marked ∙ ap
-    (λ (y : View). view_of y.about y.parts y.nones y.owes w.marked y.entries m.notes) noted
+    (λ (y : View). view_of y.about y.joined_seats y.exhausted_seats y.owes w.marked y.entered_sheets m.notes) noted

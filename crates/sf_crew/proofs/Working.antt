@@ -1,4 +1,4 @@
--- What a worker's turn does to the ends of benches.
+-- What a worker's turn does to the handles of benches.
 use Rattle.std.proofs.Common.{◌≡◌, ◌⊎◌, ⊎_elim, ℕ, zero, suc, ◌<◌, Bool, List, [], ◌∷◌, arith, get_or, set, slice_get, length, Some, None, refl, ap, subst}
 use Rattle.std.specs.Arc.{arc_value}
 use Rattle.std.proofs.lemmas.Option.{same_Some}
@@ -11,26 +11,26 @@ use Rattle.sf_piece.specs.Pieces.{PieceData, StepData, Split, Settled, Empty, ch
 use Rattle.sf_book.specs.Books.{BookData}
 use Rattle.sf_book.specs.Changes.{CommitsAs}
 use Rattle.sf_book.specs.declared.book.Lease.{Lease}
-use Rattle.sf_crew.specs.declared.history.End.{End}
-use Rattle.sf_crew.specs.declared.ends.Thief.{Thief}
+use Rattle.sf_crew.specs.declared.history.HandleView.{HandleView}
+use Rattle.sf_crew.specs.declared.handles.Thief.{Thief}
 use Rattle.sf_crew.specs.History.{Gets, AllGot}
-use Rattle.sf_crew.specs.Benches.{thief_end}
-use Rattle.sf_crew.specs.Workers.{ends_of, GetsOne, PutsOrNot, PutsChildren}
+use Rattle.sf_crew.specs.Benches.{thief_view}
+use Rattle.sf_crew.specs.Workers.{thief_views, GetsOne, PutsOrNot, PutsChildren}
 
 -- a commit that tells no ids was of no split
-pub no_split : (b c : BookData) (id : ℕ) (p : PieceData) (n : List Bool) (s : StepData) (v : End)
+pub no_split : (b c : BookData) (id : ℕ) (p : PieceData) (n : List Bool) (s : StepData) (v : HandleView)
     → CommitsAs b id p n s None c → PutsChildren v s v
 no_split b c id p n (Split f t) v h = absurd h
 no_split b c id p n (Settled a) v h = refl
 no_split b c id p n Empty v h = refl
 
-pub no_children : (s : StepData) (v : End) → None ≡ children_of s → PutsChildren v s v
+pub no_children : (s : StepData) (v : HandleView) → None ≡ children_of s → PutsChildren v s v
 no_children (Split f t) v e = absurd cc
 no_children (Settled a) v e = refl
 no_children Empty v e = refl
 
 -- both pieces of a split were put
-pub both_put : (s : StepData) (x y : Lease) (v u w : End) → Some (arc_value x.piece, arc_value y.piece) ≡ children_of s
+pub both_put : (s : StepData) (x y : Lease) (v u w : HandleView) → Some (arc_value x.piece, arc_value y.piece) ≡ children_of s
     → PutsOrNot v x u → PutsOrNot u y w → PutsChildren v s w
 both_put (Split f t) x y v u w e a b =
     let same : (arc_value x.piece, arc_value y.piece) ≡ (f, t) =
@@ -40,36 +40,36 @@ both_put (Settled z) x y v u w e a b = absurd cc
 both_put Empty x y v u w e a b = absurd cc
 
 -- a thief that got nothing knows what it knew
-pub got_nothing : (v w : End) (r : Steal Lease) → (r ≡ steal.Empty) ⊎ (r ≡ steal.Retry)
+pub got_nothing : (v w : HandleView) (r : Steal Lease) → (r ≡ steal.Empty) ⊎ (r ≡ steal.Retry)
     → MatchSteal r ((w ≡ v) × AllGot v) (w ≡ v) (λ x. Gets v x w) → w ≡ v
 got_nothing v w steal.Empty e h = h.0
 got_nothing v w steal.Retry e h = h
 got_nothing v w (steal.Success x) e h = ⊎_elim (λ (k : steal.Success x ≡ steal.Empty). absurd cc)
     (λ (k : steal.Success x ≡ steal.Retry). absurd cc) e
 
-pub none_stolen : (ts : List Thief) (i : ℕ) (t d : Thief) → thief_end t ≡ thief_end (get_or ts i d)
-    → ends_of (set ts i t) ≡ ends_of ts
-none_stolen ts i t d same = map-set_same thief_end ts i t d same
+pub none_stolen : (ts : List Thief) (i : ℕ) (t d : Thief) → thief_view t ≡ thief_view (get_or ts i d)
+    → thief_views (set ts i t) ≡ thief_views ts
+none_stolen ts i t d same = map-set_same thief_view ts i t d same
 
 slice_get_map : (ts : List Thief) (i : ℕ) (d : Thief) → i < length ts
-    → slice_get (ends_of ts) i ≡ Some (thief_end (get_or ts i d))
+    → slice_get (thief_views ts) i ≡ Some (thief_view (get_or ts i d))
 slice_get_map [] i d lt = absurd (omega arith)
 slice_get_map (t ∷ ts) zero d lt = refl
 slice_get_map (t ∷ ts) (suc i) d lt = slice_get_map ts i d (omega arith)
 
 -- one thief got a lease, and the others did nothing
 pub one_stolen : (ts : List Thief) (i : ℕ) (t d : Thief) (x : Lease) → i < length ts
-    → Gets (thief_end (get_or ts i d)) x (thief_end t) → GetsOne (ends_of ts) x (ends_of (set ts i t))
+    → Gets (thief_view (get_or ts i d)) x (thief_view t) → GetsOne (thief_views ts) x (thief_views (set ts i t))
 one_stolen ts i t d x lt got = record {
   place = i;
-  before = thief_end (get_or ts i d);
-  after = thief_end t;
+  before = thief_view (get_or ts i d);
+  after = thief_view t;
   there = slice_get_map ts i d lt;
   gets = got;
-  rest = map-set thief_end ts i t;
+  rest = map-set thief_view ts i t;
 }
 
 -- the same after some did nothing
-pub later_stolen : (old ts : List Thief) (vs : List End) (x : Lease) → ends_of ts ≡ ends_of old
-    → GetsOne (ends_of ts) x vs → GetsOne (ends_of old) x vs
+pub later_stolen : (old ts : List Thief) (vs : List HandleView) (x : Lease) → thief_views ts ≡ thief_views old
+    → GetsOne (thief_views ts) x vs → GetsOne (thief_views old) x vs
 later_stolen old ts vs x same got = subst (λ us. GetsOne us x vs) same got

@@ -1,37 +1,37 @@
--- The rule of a bench, which each step of an end keeps.
+-- The rule of a bench, which each step of a handle keeps.
 use Rattle.std.specs.Prelude.{◌≡◌, ℕ, ◌+◌, List, [], ◌∷◌, ◌++◌, length, drop}
 use mathlib.Core.Option.{some}
 use lib.ListN.{get_elem?}
 use Rattle.sf_book.specs.declared.book.Lease.{Lease}
 use Rattle.sf_crew.specs.declared.history.Event.{Event}
-use Rattle.sf_crew.specs.declared.history.End.{End}
-use Rattle.sf_crew.specs.History.{end, NotBy, AllBelow, puts, gots, Lawful, Puts, Gets}
+use Rattle.sf_crew.specs.declared.history.HandleView.{HandleView}
+use Rattle.sf_crew.specs.History.{handle_view, NotBy, AllByHandlesBelow, put_leases, got_count, IsLawfulHistory, Puts, Gets}
 
--- an end has seen the history up to its last step
-abbrev pub Fits : List Event → ℕ → End → Type 0
+-- a handle has seen the history up to its last step
+abbrev pub Fits : List Event → ℕ → HandleView → Type 0
 Fits h port v = (v.me ≡ port) × ((rest : List Event) × (h ≡ v.events ++ rest) × NotBy port rest)
 
--- there is one history, which each end knows up to its own last step. The bench holds what was put and not got
-pub record BenchKept (items : List Lease) (views : List End) : Type 0 where
+-- there is one history, which each handle knows up to its own last step. The bench holds what was put and not got
+pub record BenchKept (items : List Lease) (views : List HandleView) : Type 0 where
   pub history : List Event
-  pub lawful : Lawful history
-  pub left : items ≡ drop (gots history) (puts history)
-  pub ports : AllBelow (length views) history
-  pub each : (port : ℕ) (v : End) → get_elem? views port ≡ some v → Fits history port v
-  pub hired : (v : End) → get_elem? views 0 ≡ some v → v.made ≡ length views
+  pub lawful : IsLawfulHistory history
+  pub left : items ≡ drop (got_count history) (put_leases history)
+  pub ports : AllByHandlesBelow (length views) history
+  pub each : (port : ℕ) (v : HandleView) → get_elem? views port ≡ some v → Fits history port v
+  pub hired : (v : HandleView) → get_elem? views 0 ≡ some v → v.made ≡ length views
 
--- the end put the one lease that came
-abbrev pub PutsAll : End → List Lease → End → Type 0
+-- the handle put the one lease that came
+abbrev pub PutsAll : HandleView → List Lease → HandleView → Type 0
 PutsAll v xs w = (x : Lease) → xs ≡ x ∷ [] → Puts v x w
 
--- the end got the one lease that left
-abbrev pub GetsAll : End → List Lease → End → Type 0
+-- the handle got the one lease that left
+abbrev pub GetsAll : HandleView → List Lease → HandleView → Type 0
 GetsAll v xs w = (x : Lease) → xs ≡ x ∷ [] → Gets v x w
 
 -- the owner after it made one more end
-abbrev pub hiring : End → End
-hiring v = end v.me (v.made + 1) v.events
+abbrev pub owner_with_thief : HandleView → HandleView
+owner_with_thief v = handle_view v.me (v.made + 1) v.events
 
 -- the end that the owner makes then, which knows all that the owner does of the history
-abbrev pub hired : End → End
-hired v = end v.made 0 v.events
+abbrev pub new_thief_view : HandleView → HandleView
+new_thief_view v = handle_view v.made 0 v.events

@@ -4,30 +4,30 @@ use Rattle.std.specs.Int.{bit_at}
 use mathlib.Core.Option.{some}
 use lib.ListN.{get_elem?}
 use Rattle.atomic_table.specs.Table.{State}
-use Rattle.sf_crew.specs.declared.view.Matter.{Matter}
+use Rattle.sf_crew.specs.declared.view.BoardKey.{BoardKey}
 use Rattle.sf_crew.specs.declared.view.View.{View}
-use Rattle.sf_crew.specs.Views.{asked, places, jobs, Noted, Covered, Each, RightPlace, times, once_below, total, top, doubt_at}
+use Rattle.sf_crew.specs.Views.{questions_of, count_of_regions, jobs, Noted, Covered, Each, RightPlace, times, once_below, total, top, doubt_at}
 
 -- what holds of each view, whatever the others are
-pub record Sound (k : Matter) (next : ℕ) (least : ℕ → ℕ) (v : View) : Type 0 where
-  pub about : 0 < v.parts → v.about ≡ Some k
-  pub idle : v.parts ≡ 0 → (v.owes ≡ None) × (v.entries ≡ [])
-  pub few : v.nones ≤ v.parts
-  pub past : 0 < v.nones → places k ≤ next
+pub record Sound (k : BoardKey) (next : ℕ) (least : ℕ → ℕ) (v : View) : Type 0 where
+  pub about : 0 < v.joined_seats → v.about ≡ Some k
+  pub idle : v.joined_seats ≡ 0 → (v.owes ≡ None) × (v.entered_sheets ≡ [])
+  pub few : v.exhausted_seats ≤ v.joined_seats
+  pub past : 0 < v.exhausted_seats → count_of_regions k ≤ next
   pub marks : v.owes ≡ None → v.marked ≡ []
   pub noted : (q r : ℕ) → Noted v.notes q r → least q ≤ r
-  pub covered : Each (Covered k v.notes) v.entries
+  pub covered : Each (Covered k v.notes) v.entered_sheets
 
 -- the words: the next job, the number of sheets entered, four of bits of the questions with a Doubt, and for each
 -- question its least place
-pub record Kept (k : Matter) (next entered : ℕ) (doubts least : ℕ → ℕ) (views : List View) : Type 0 where
-  pub parts : total (λ v. v.parts) views ≡ k.seats
-  pub drawn : (x : ℕ) → total (λ v. times x (jobs v)) views ≡ once_below x (min next (places k))
-  pub drawn_count : total (λ v. length (jobs v)) views ≡ min next (places k)
-  pub past_end : next ≤ places k + total (λ v. v.nones) views
-  pub entered_is : total (λ v. length v.entries) views ≡ entered
+pub record Kept (k : BoardKey) (next entered : ℕ) (doubts least : ℕ → ℕ) (views : List View) : Type 0 where
+  pub joined_seats : total (λ v. v.joined_seats) views ≡ k.seats
+  pub drawn : (x : ℕ) → total (λ v. times x (jobs v)) views ≡ once_below x (min next (count_of_regions k))
+  pub drawn_count : total (λ v. length (jobs v)) views ≡ min next (count_of_regions k)
+  pub past_end : next ≤ count_of_regions k + total (λ v. v.exhausted_seats) views
+  pub entered_is : total (λ v. length v.entered_sheets) views ≡ entered
   pub marked : (q : ℕ) → q < 256 → bit_at (doubts (q / 64)) (q % 64) ≡ top (doubt_at q) views
-  pub right : (q : ℕ) → q < length (asked k) → RightPlace k q (least q)
+  pub right : (q : ℕ) → q < length (questions_of k) → RightPlace k q (least q)
   pub each : (port : ℕ) (v : View) → get_elem? views port ≡ some v → Sound k next least v
 
 -- the least region with a hit that the board has for a question
@@ -39,6 +39,6 @@ abbrev pub doubts_in : List ℕ → ℕ → ℕ
 doubts_in words w = slice_index words (w + 2)
 
 -- the board's words, and the views of all seats, keep its rule
-abbrev pub BoardKept : {S : Type 0} → Matter → State S View → Type 0
-BoardKept k s = (length s.words ≡ length (asked k) + 6)
+abbrev pub BoardKept : {S : Type 0} → BoardKey → State S View → Type 0
+BoardKept k s = (length s.words ≡ length (questions_of k) + 6)
     × Kept k (slice_index s.words 0) (slice_index s.words 1) (doubts_in s.words) (least_in s.words) s.views

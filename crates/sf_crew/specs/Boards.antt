@@ -1,14 +1,14 @@
 -- A board and its seats, as contracts see them.
 use Rattle.std.specs.Prelude.{◌≡◌, Some, None, []}
 use Rattle.atomic_table.specs.Seated.{TableId}
-use Rattle.sf_crew.specs.declared.view.Matter.{Matter}
+use Rattle.sf_crew.specs.declared.view.BoardKey.{BoardKey}
 use Rattle.sf_crew.specs.declared.view.View.{View}
 use Rattle.sf_crew.specs.BoardSteps.{view_of}
 use Rattle.sf_crew.specs.declared.board.Board.{Board}
 use Rattle.sf_crew.specs.declared.board.Seat.{Seat}
 
 -- the regions and questions that a board is of
-abbrev pub about : Board → Matter
+abbrev pub about : Board → BoardKey
 about b = b.table.shared.key
 
 -- which board it is, among all that there are

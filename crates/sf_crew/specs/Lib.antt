@@ -1,5 +1,5 @@
 pub mod Numbers
-pub mod Ends
+pub mod Explorations
 pub mod History
 pub mod Benches
 pub mod Workers
@@ -7,7 +7,7 @@ pub mod BenchRule
 pub mod Views
 pub mod Boards
 pub mod BoardSteps
-pub mod SheetEntries
+pub mod EnteredSheets
 pub mod Tallies
 pub mod BoardRule
 pub mod LeastWords

@@ -1,13 +1,13 @@
 -- What a sweep does: the jobs of each worker, and the tally of all regions.
 use Rattle.std.specs.Prelude.{◌≡◌, ℕ, ◌<◌, ◌≤◌, ◌⊎◌, Bool, false, IsTrue, List, length, Some, None, slice_get}
 use Rattle.sf_book.specs.Books.{BookData}
-use Rattle.sf_ask.specs.Asked.{Asked}
+use Rattle.sf_ask.specs.QuestionData.{QuestionData}
 use Rattle.sf_insn.specs.declared.input.Input.{Input}
 use Rattle.sf_ask.specs.declared.verdict.Reply.{Reply}
-use Rattle.sf_ask.specs.Verdicts.{IsLowInput, IsBreakAt, IsRightReply, IsFirstBreak, IsPlainExample, IsDoubtful}
+use Rattle.sf_ask.specs.Verdicts.{IsLowInput, IsBreakAt, IsRightReply, IsFirstBreak, IsLeastExample, IsDoubtful}
 use Rattle.sf_ask.specs.declared.verdict.Reply.TheVariants.{Never, Allowed, Unsettled}
 use Rattle.sf_check.specs.Stacks.{IsPlain}
-use Rattle.sf_ask.specs.Sheets.{HasBreak, HasNoBreak, IsRightEntry}
+use Rattle.sf_ask.specs.Sheets.{HasBreak, HasNoBreak, IsRightWhereGiven}
 use Rattle.sf_ask.specs.declared.verdict.Verdict.TheVariants.{Doubt}
 use Rattle.sf_crew.specs.Tallies.{IsBelow}
 use Rattle.sf_crew.specs.declared.board.Board.{Board}
@@ -19,71 +19,71 @@ use Rattle.sf_crew.specs.BoardSteps.{with_notes}
 use Rattle.sf_crew.specs.Boards.{IsSeatOf, seat_view}
 
 -- looking adds notes alone, and each question below the last that isn't wanted has a noted place below the job
-pub record SkipsOnly (questions : List Asked) (job : ℕ) (v w : View) (wanted : List ℕ) : Type 0 where
+pub record SkipsOnly (questions : List QuestionData) (job : ℕ) (v w : View) (wanted : List ℕ) : Type 0 where
   pub same : w ≡ with_notes v w.notes
   pub skips : (q : ℕ) → q < length questions → bit_of wanted q ≡ 0 → (r : ℕ) × Noted w.notes q r × (r < job)
 
 -- a worker's seat, and whether it found the end
 abbrev pub IsWorked : Board → Seat × Bool → Type 0
-IsWorked b s = IsSeatOf b s.0 × ((seat_view s.0).parts ≡ 1)
-    × (IsTrue s.1 → ((seat_view s.0).owes ≡ None) × (0 < (seat_view s.0).nones))
+IsWorked b s = IsSeatOf b s.0 × ((seat_view s.0).joined_seats ≡ 1)
+    × (IsTrue s.1 → ((seat_view s.0).owes ≡ None) × (0 < (seat_view s.0).exhausted_seats))
 
 -- the tally of all regions
-pub record IsFullTally (s : BookData) (qs : List Asked) (t : Tally) : Type 0 where
+pub record IsFullTally (s : BookData) (qs : List QuestionData) (t : Tally) : Type 0 where
   -- a least place is a region with a member that breaks the question
   pub breaks : (q r : ℕ) → slice_get t.least q ≡ Some (Some r) → (r < length s.regions) × HasBreak s qs r q
   -- below it no region has such a member, but one in doubt, and then the question's bit is set
   pub cleared : (q r : ℕ) → q < length qs → r < length s.regions → IsBelow t q r → HasNoBreak s qs r q
-      ⊎ ((bit_of t.doubts q ≡ 1) × IsRightEntry s qs r q (Some Doubt))
+      ⊎ ((bit_of t.doubts q ≡ 1) × IsRightWhereGiven s qs r q (Some Doubt))
   -- a bit is set only where some region is in doubt
   pub doubts : (q : ℕ) → q < length qs → bit_of t.doubts q ≡ 1 → (r : ℕ) × (r < length s.regions)
-      × IsRightEntry s qs r q (Some Doubt)
+      × IsRightWhereGiven s qs r q (Some Doubt)
   -- and none of the 256 past the last question
   pub past : (q : ℕ) → length qs ≤ q → q < 256 → bit_of t.doubts q ≡ 0
   pub counted : t.entered ≡ length s.regions
 
 -- no member of the region breaks the question, or the region is in doubt
-abbrev pub IsPassedBy : BookData → Asked → ℕ → Type 0
-IsPassedBy s question r = ((d : Input) → ¬ IsBreakAt s r question d) ⊎ IsDoubtful s r question
+abbrev pub IsWithoutHit : BookData → QuestionData → ℕ → Type 0
+IsWithoutHit s question r = ((d : Input) → ¬ IsBreakAt s r question d) ⊎ IsDoubtful s r question
 
 -- some region is in doubt
-abbrev pub HasDoubt : BookData → Asked → Type 0
+abbrev pub HasDoubt : BookData → QuestionData → Type 0
 HasDoubt s question = (r : ℕ) × (r < length s.regions) × IsDoubtful s r question
 
 -- no member of region r breaks the question where there is no doubt, and in any case the low input isn't such a member
-pub record IsUnbroken (s : BookData) (question : Asked) (doubt : Bool) (r : ℕ) : Type 0 where
-  pub passed : IsPassedBy s question r
+pub record IsUnbroken (s : BookData) (question : QuestionData) (doubt : Bool) (r : ℕ) : Type 0 where
+  pub passed : IsWithoutHit s question r
   pub none : doubt ≡ false → (d : Input) → ¬ IsBreakAt s r question d
   pub low : (d : Input) → IsLowInput question d → ¬ IsBreakAt s r question d
 
--- on a plain stack an example is the plain one of the first break, and a question is unsettled only where a piece is
+-- on a plain stack an example is the least one of the first break, and a question is unsettled only where a piece is
 -- outstanding
-abbrev pub IsPlainReply : BookData → Asked → Reply → Type 0
+abbrev pub IsPlainReply : BookData → QuestionData → Reply → Type 0
 IsPlainReply s question Never = Unit {0}
-IsPlainReply s question (Allowed d) = (r : ℕ) × IsFirstBreak s question r × IsPlainExample s r question d
+IsPlainReply s question (Allowed d) = (r : ℕ) × IsFirstBreak s question r × IsLeastExample s r question d
 IsPlainReply s question Unsettled = 0 < length s.outstanding
 
--- What a reply rests on. An example is the plain one of its region, and each earlier region was passed by. A question
+-- What a reply rests on. An example is the least one of its region, and each earlier region was without a hit. A question
 -- is unsettled only where every region was, and a piece is outstanding or some region is in doubt.
-abbrev pub RestsOn : BookData → Asked → Reply → Type 0
+abbrev pub RestsOn : BookData → QuestionData → Reply → Type 0
 RestsOn s question Never = Unit {0}
-RestsOn s question (Allowed d) = (r : ℕ) × IsPlainExample s r question d × ((e : ℕ) → e < r → IsPassedBy s question e)
+RestsOn s question (Allowed d) = (r : ℕ) × IsLeastExample s r question d × ((e : ℕ) → e < r → IsWithoutHit s question e)
 RestsOn s question Unsettled =
-    ((r : ℕ) → r < length s.regions → IsPassedBy s question r) × ((0 < length s.outstanding) ⊎ HasDoubt s question)
+    ((r : ℕ) → r < length s.regions → IsWithoutHit s question r) × ((0 < length s.outstanding) ⊎ HasDoubt s question)
 
 -- a reply is right and rests on what was found, and on a plain stack it is exact
-pub record IsReplyTo (s : BookData) (question : Asked) (reply : Reply) : Type 0 where
+pub record IsReplyTo (s : BookData) (question : QuestionData) (reply : Reply) : Type 0 where
   pub right : IsRightReply s question reply
   pub found : RestsOn s question reply
   pub plain : IsPlain s.stack → IsPlainReply s question reply
 
 -- the reply to the question of a number is such a one
-pub record IsRightReplyAt (s : BookData) (questions : List Asked) (q : ℕ) (reply : Reply) : Type 0 where
-  pub question : Asked
+pub record IsRightReplyAt (s : BookData) (questions : List QuestionData) (q : ℕ) (reply : Reply) : Type 0 where
+  pub question : QuestionData
   pub asked : slice_get questions q ≡ Some question
   pub replies : IsReplyTo s question reply
 
 -- there is such a reply to each question
-pub record AreRightReplies (s : BookData) (questions : List Asked) (replies : List Reply) : Type 0 where
+pub record AreRightReplies (s : BookData) (questions : List QuestionData) (replies : List Reply) : Type 0 where
   pub count : length replies ≡ length questions
   pub each : (q : ℕ) (reply : Reply) → slice_get replies q ≡ Some reply → IsRightReplyAt s questions q reply

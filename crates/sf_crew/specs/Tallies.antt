@@ -1,15 +1,15 @@
 -- What the tally says that a seat closes a board with.
 use Rattle.std.specs.Prelude.{◌≡◌, ℕ, ◌<◌, ◌≤◌, ◌⊎◌, List, map, length, Some, slice_get}
 use Rattle.sf_ask.specs.Sheets.{HasBreak, HasNoBreak}
-use Rattle.sf_crew.specs.declared.view.Matter.{Matter}
+use Rattle.sf_crew.specs.declared.view.BoardKey.{BoardKey}
 use Rattle.sf_crew.specs.declared.view.View.{View}
-use Rattle.sf_crew.specs.declared.view.Entry.{Entry}
+use Rattle.sf_crew.specs.declared.view.EnteredSheet.{EnteredSheet}
 use Rattle.sf_crew.specs.declared.board.Tally.{Tally}
-use Rattle.sf_crew.specs.Views.{regions_of, asked, places, has, has_doubt, bit_of, IsInDoubt, Each, times, once_below}
+use Rattle.sf_crew.specs.Views.{regions_of, questions_of, count_of_regions, has, has_doubt, bit_of, IsInDoubt, Each, times, once_below}
 
 -- the jobs of the sheets that a seat, and those joined into it, have entered
 abbrev pub entered_jobs : View → List ℕ
-entered_jobs v = map (λ e. e.job) v.entries
+entered_jobs v = map (λ e. e.job) v.entered_sheets
 
 -- the region j lies below the question's least place, which may be none
 abbrev pub IsBelow : Tally → ℕ → ℕ → Type 0
@@ -17,25 +17,25 @@ IsBelow t q j = (r : ℕ) → slice_get t.least q ≡ Some (Some r) → j < r
 
 -- no member of the entered region breaks the question, or it was entered with a doubt, and then the question's bit is
 -- set
-abbrev pub IsCleared : Matter → Tally → Entry → ℕ → Type 0
-IsCleared k t e q = HasNoBreak (regions_of k) (asked k) e.job q ⊎ ((has q e.doubts ≡ 1) × (bit_of t.doubts q ≡ 1))
+abbrev pub IsCleared : BoardKey → Tally → EnteredSheet → ℕ → Type 0
+IsCleared k t e q = HasNoBreak (regions_of k) (questions_of k) e.job q ⊎ ((has q e.doubts ≡ 1) × (bit_of t.doubts q ≡ 1))
 
 -- a tally is right about what was entered by the seat that closes the board, and by those joined into it
-pub record RightTally (k : Matter) (v : View) (t : Tally) : Type 0 where
+pub record RightTally (k : BoardKey) (v : View) (t : Tally) : Type 0 where
   -- what was entered is the places of regions, each at most once
-  pub each_once : (x : ℕ) → times x (entered_jobs v) ≤ once_below x (places k)
+  pub each_once : (x : ℕ) → times x (entered_jobs v) ≤ once_below x (count_of_regions k)
   -- a least place is a region with a member that breaks the question
-  pub breaks : (q r : ℕ) → slice_get t.least q ≡ Some (Some r) → (r < places k) × HasBreak (regions_of k) (asked k) r q
+  pub breaks : (q r : ℕ) → slice_get t.least q ≡ Some (Some r) → (r < count_of_regions k) × HasBreak (regions_of k) (questions_of k) r q
   -- the entered regions below it are cleared, all of them where there is none
-  pub cleared : Each (λ e. (q : ℕ) → q < length (asked k) → IsBelow t q e.job → IsCleared k t e q) v.entries
+  pub cleared : Each (λ e. (q : ℕ) → q < length (questions_of k) → IsBelow t q e.job → IsCleared k t e q) v.entered_sheets
   -- and their doubts are right
-  pub doubts : Each (λ e. (q : ℕ) → has q e.doubts ≡ 1 → IsInDoubt k e.job q) v.entries
+  pub doubts : Each (λ e. (q : ℕ) → has q e.doubts ≡ 1 → IsInDoubt k e.job q) v.entered_sheets
   -- no fewer sheets are counted
-  pub counted : length v.entries ≤ t.entered
+  pub counted : length v.entered_sheets ≤ t.entered
   -- as many as there are regions are all of them
-  pub complete : length v.entries ≡ places k → (x : ℕ) → times x (entered_jobs v) ≡ once_below x (places k)
+  pub complete : length v.entered_sheets ≡ count_of_regions k → (x : ℕ) → times x (entered_jobs v) ≡ once_below x (count_of_regions k)
   -- where all seats were joined, each of the 256 bits is set just for a doubt on an entered sheet, so none past the
   -- last question, and no other sheet is counted
-  pub all_doubts : v.parts ≡ k.seats → (q : ℕ) → q < 256 → bit_of t.doubts q ≡ has_doubt q v.entries
-  pub past : v.parts ≡ k.seats → (q : ℕ) → length (asked k) ≤ q → q < 256 → bit_of t.doubts q ≡ 0
-  pub all_counted : v.parts ≡ k.seats → t.entered ≡ length v.entries
+  pub all_doubts : v.joined_seats ≡ k.seats → (q : ℕ) → q < 256 → bit_of t.doubts q ≡ has_doubt q v.entered_sheets
+  pub past : v.joined_seats ≡ k.seats → (q : ℕ) → length (questions_of k) ≤ q → q < 256 → bit_of t.doubts q ≡ 0
+  pub all_counted : v.joined_seats ≡ k.seats → t.entered ≡ length v.entered_sheets

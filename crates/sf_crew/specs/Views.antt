@@ -2,42 +2,42 @@
 use Rattle.std.specs.Prelude.{◌≡◌, ℕ, ◌+◌, ◌<◌, ◌≤◌, ◌⊎◌, ◌==◌, nat_lt, if◌then◌else◌, max, ◌/◌, ◌%◌, slice_index, List, [], ◌∷◌, ◌++◌, map, length, Option, Some, None}
 use Rattle.std.specs.Int.{bit_at}
 use Rattle.sf_book.specs.Books.{BookData}
-use Rattle.sf_ask.specs.Asked.{Asked}
-use Rattle.sf_ask.specs.Sheets.{HasBreak, HasNoBreak, IsRightEntry}
+use Rattle.sf_ask.specs.QuestionData.{QuestionData}
+use Rattle.sf_ask.specs.Sheets.{HasBreak, HasNoBreak, IsRightWhereGiven}
 use Rattle.sf_ask.specs.declared.verdict.Verdict.TheVariants.{Doubt}
-use Rattle.sf_crew.specs.declared.view.Matter.{Matter}
-use Rattle.sf_crew.specs.declared.view.Entry.{Entry}
+use Rattle.sf_crew.specs.declared.view.BoardKey.{BoardKey}
+use Rattle.sf_crew.specs.declared.view.EnteredSheet.{EnteredSheet}
 use Rattle.sf_crew.specs.declared.view.Note.{Note}
 use Rattle.sf_crew.specs.declared.view.View.{View}
 
 -- the regions and the questions that a board is about
-abbrev pub regions_of : Matter → BookData
+abbrev pub regions_of : BoardKey → BookData
 regions_of k = k.settled.value
 
 -- the questions that a board is about, in order
-abbrev pub asked : Matter → List Asked
-asked k = map (λ q. q.value) k.questions.items
+abbrev pub questions_of : BoardKey → List QuestionData
+questions_of k = map (λ q. q.value) k.questions.items
 
 -- the number of regions. In a word of a least place it stands for none
-abbrev pub places : Matter → ℕ
-places k = length (regions_of k).regions
+abbrev pub count_of_regions : BoardKey → ℕ
+count_of_regions k = length (regions_of k).regions
 
 -- an entered sheet of a job, with doubts for these questions
-abbrev pub entry : ℕ → List ℕ → Entry
-entry j ds = record { job = j; doubts = ds }
+abbrev pub entered_sheet : ℕ → List ℕ → EnteredSheet
+entered_sheet j ds = record { job = j; doubts = ds }
 
 -- a note that the least place of question q was r or less
 abbrev pub note : ℕ → ℕ → Note
 note q r = record { question = q; place = r }
 
 -- the job that a seat owes a sheet for
-abbrev pub owed : Option ℕ → List ℕ
-owed None = []
-owed (Some j) = j ∷ []
+abbrev pub owed_jobs : Option ℕ → List ℕ
+owed_jobs None = []
+owed_jobs (Some j) = j ∷ []
 
 -- the jobs that a seat has drawn: it owes one of them at most, and has entered the others
 abbrev pub jobs : View → List ℕ
-jobs v = owed v.owes ++ map (λ e. e.job) v.entries
+jobs v = owed_jobs v.owes ++ map (λ e. e.job) v.entered_sheets
 
 -- 1 where x stands in the list, else 0
 abbrev pub has : ℕ → List ℕ → ℕ
@@ -45,7 +45,7 @@ has x [] = 0
 has x (y ∷ ys) = max (if x == y then 1 else 0) (has x ys)
 
 -- 1 where one of the sheets has a Doubt for question q, else 0
-abbrev pub has_doubt : ℕ → List Entry → ℕ
+abbrev pub has_doubt : ℕ → List EnteredSheet → ℕ
 has_doubt q [] = 0
 has_doubt q (e ∷ es) = max (has q e.doubts) (has_doubt q es)
 
@@ -59,19 +59,19 @@ Noted [] q r = ⊥
 Noted (n ∷ ns) q r = ((n.question ≡ q) × (n.place ≡ r)) ⊎ Noted ns q r
 
 -- region r has a member that breaks question q, or r stands for "none"
-abbrev pub RightPlace : Matter → ℕ → ℕ → Type 0
-RightPlace k q r = (r ≡ places k) ⊎ ((r < places k) × HasBreak (regions_of k) (asked k) r q)
+abbrev pub RightPlace : BoardKey → ℕ → ℕ → Type 0
+RightPlace k q r = (r ≡ count_of_regions k) ⊎ ((r < count_of_regions k) × HasBreak (regions_of k) (questions_of k) r q)
 
 -- a sheet may leave region r in doubt for question q
-abbrev pub IsInDoubt : Matter → ℕ → ℕ → Type 0
-IsInDoubt k r q = IsRightEntry (regions_of k) (asked k) r q (Some Doubt)
+abbrev pub IsInDoubt : BoardKey → ℕ → ℕ → Type 0
+IsInDoubt k r q = IsRightWhereGiven (regions_of k) (questions_of k) r q (Some Doubt)
 
 -- an entered sheet is of a region, which breaks no question but where a place at or below it was noted, or the sheet
 -- has a doubt; and its doubts are right
-pub record Covered (k : Matter) (notes : List Note) (e : Entry) : Type 0 where
-  pub there : e.job < places k
-  pub cleared : (q : ℕ) → q < length (asked k) → ((r : ℕ) × Noted notes q r × (r ≤ e.job))
-      ⊎ HasNoBreak (regions_of k) (asked k) e.job q ⊎ (has q e.doubts ≡ 1)
+pub record Covered (k : BoardKey) (notes : List Note) (e : EnteredSheet) : Type 0 where
+  pub there : e.job < count_of_regions k
+  pub cleared : (q : ℕ) → q < length (questions_of k) → ((r : ℕ) × Noted notes q r × (r ≤ e.job))
+      ⊎ HasNoBreak (regions_of k) (questions_of k) e.job q ⊎ (has q e.doubts ≡ 1)
   pub doubts : (q : ℕ) → has q e.doubts ≡ 1 → IsInDoubt k e.job q
 
 -- a fact of each element
@@ -100,4 +100,4 @@ top f (v ∷ vs) = max (f v) (top f vs)
 
 -- 1 where a seat has marked question q, now or on an entered sheet, else 0
 abbrev pub doubt_at : ℕ → View → ℕ
-doubt_at q v = max (has q v.marked) (has_doubt q v.entries)
+doubt_at q v = max (has q v.marked) (has_doubt q v.entered_sheets)

@@ -1,11 +1,11 @@
 //! Benches: the owner puts leases and takes them, thieves steal them, first in, first out.
 ghost use Rattle.std.specs.Prelude.{◌≡◌, ℕ, ◌+◌, ◌<◌, [], IfOk, IfErr, MatchResult, MatchOption, vec_len};
 ghost use Rattle.crossbeam_deque.specs.Steals.{MatchSteal};
-ghost use Rattle.sf_crew.specs.History.{Puts, Gets, AllGot, HasNoThief, first_left, end};
-ghost use Rattle.sf_crew.specs.Benches.{owner_end, thief_end, AreThieves};
+ghost use Rattle.sf_crew.specs.History.{Puts, Gets, AllGot, HasNoThief, first_left, handle_view};
+ghost use Rattle.sf_crew.specs.Benches.{owner_view, thief_view, AreThieves};
 ghost use Rattle.sf_crew.specs.declared.fault.Fault.TheVariants.{Memory};
 
-use crate::ends::{Owner, Thief};
+use crate::handles::{Owner, Thief};
 use crate::fault::Fault;
 use crate::history::{Getting, Hiring, Putting};
 use crossbeam_deque::{Steal, Worker};
@@ -18,7 +18,7 @@ const ROOM: usize = 64;
 /// An owner and so many thieves, 0 to 63, over an empty list. `Memory` where a growth is refused.
 pub fn bench(alloc: Global, thieves: usize) -> Result<(Owner, Vec<Thief>), Fault>
     requires { thieves < 64 }
-    ensures owner { IfOk result (λ b. owner_end b.0 ≡ end 0 (thieves + 1) []) }
+    ensures owner { IfOk result (λ b. owner_view b.0 ≡ handle_view 0 (thieves + 1) []) }
     ensures thieves { IfOk result (λ b. (vec_len b.1 ≡ thieves) × AreThieves 1 b.1.items) }
     ensures err { IfErr result (λ f. f ≡ Memory) }
 {
@@ -27,7 +27,7 @@ pub fn bench(alloc: Global, thieves: usize) -> Result<(Owner, Vec<Thief>), Fault
     };
     let mut hired = Vec::new(alloc);
     for given in 0..thieves {
-        let thief = owner.hire()?;
+        let thief = owner.add_thief()?;
         hired.push(thief)?;
     }
     Ok((owner, hired))
@@ -35,11 +35,11 @@ pub fn bench(alloc: Global, thieves: usize) -> Result<(Owner, Vec<Thief>), Fault
 
 impl Owner {
     /// One thief more, as long as nothing was put.
-    fn hire(&mut self) -> Result<Thief, AllocError>
-        requires { (owner_end self.old).events ≡ [] }
-        ensures owner { IfOk result (λ _. owner_end self.new ≡ end (owner_end self.old).me
-            ((owner_end self.old).made + 1) []) }
-        ensures thief { IfOk result (λ t. thief_end t ≡ end (owner_end self.old).made 0 []) }
+    fn add_thief(&mut self) -> Result<Thief, AllocError>
+        requires { (owner_view self.old).events ≡ [] }
+        ensures owner { IfOk result (λ _. owner_view self.new ≡ handle_view (owner_view self.old).me
+            ((owner_view self.old).made + 1) []) }
+        ensures thief { IfOk result (λ t. thief_view t ≡ handle_view (owner_view self.old).made 0 []) }
     {
         let stealer = self.worker.stealer()?;
         let pass = self.worker.another::<Hiring>();
@@ -48,31 +48,31 @@ impl Owner {
 
     /// Adds the lease at the end of the list, or hands it back and changes nothing, where the bench cannot grow.
     pub fn put(&mut self, lease: Lease) -> Result<(), Lease>
-        ensures { MatchResult result (λ _. Puts (owner_end self.old) lease (owner_end self.new))
-            (λ l. (l ≡ lease) × (owner_end self.new ≡ owner_end self.old)) }
+        ensures { MatchResult result (λ _. Puts (owner_view self.old) lease (owner_view self.new))
+            (λ l. (l ≡ lease) × (owner_view self.new ≡ owner_view self.old)) }
     {
         self.worker.push_as::<Putting>(lease)
     }
 
-    /// The first lease that no end has got, at one moment of the call. `None` where each that was put had been got, by
-    /// this end or by the thieves that were made with it.
+    /// The first lease that no handle has got, at one moment of the call. `None` where each that was put had been got, by
+    /// this handle or by the thieves that were made with it.
     pub fn take(&mut self) -> Option<Lease>
-        ensures got { MatchOption result ((owner_end self.new ≡ owner_end self.old)
-            × AllGot (owner_end self.old)) (λ l. Gets (owner_end self.old) l (owner_end self.new)) }
-        ensures alone { HasNoThief (owner_end self.old) → result
-            ≡ first_left (owner_end self.old).events }
+        ensures got { MatchOption result ((owner_view self.new ≡ owner_view self.old)
+            × AllGot (owner_view self.old)) (λ l. Gets (owner_view self.old) l (owner_view self.new)) }
+        ensures alone { HasNoThief (owner_view self.old) → result
+            ≡ first_left (owner_view self.old).events }
     {
         self.worker.pop_as::<Getting>()
     }
 }
 
 impl Thief {
-    /// The first lease that no end has got, at one moment of the call. `Empty` where each that was put had been got;
-    /// `Retry` where another end came first, and this one got nothing.
+    /// The first lease that no handle has got, at one moment of the call. `Empty` where each that was put had been got;
+    /// `Retry` where another handle came first, and this one got nothing.
     pub fn steal(&mut self) -> Steal<Lease>
-        ensures { MatchSteal result ((thief_end self.new ≡ thief_end self.old)
-            × AllGot (thief_end self.old)) (thief_end self.new ≡ thief_end self.old)
-            (λ l. Gets (thief_end self.old) l (thief_end self.new)) }
+        ensures { MatchSteal result ((thief_view self.new ≡ thief_view self.old)
+            × AllGot (thief_view self.old)) (thief_view self.new ≡ thief_view self.old)
+            (λ l. Gets (thief_view self.old) l (thief_view self.new)) }
     {
         self.stealer.steal_as::<Getting>(&mut self.pass)
     }

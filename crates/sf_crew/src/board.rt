@@ -1,14 +1,14 @@
 //! The board: jobs to draw, a least place for each question, the questions with a doubt, and how many sheets were entered.
 ghost use Rattle.std.specs.Prelude.{◌≡◌, ◌+◌, ◌<◌, ◌≤◌, ◌^◌, nat_lt, length, []};
 ghost use Rattle.std.proofs.Props.{props};
-ghost use Rattle.sf_crew.specs.Views.{asked, places};
+ghost use Rattle.sf_crew.specs.Views.{questions_of, count_of_regions};
 
-use crate::steps::Whole;
-use crate::view::{Matter, View};
+use crate::steps::WholeBoard;
+use crate::view::{BoardKey, View};
 use atomic_table::Table;
 use std::alloc::Global;
 
-pub(crate) type Words = Table<u8, View, Matter, Whole, Global>;
+pub(crate) type Words = Table<u8, View, BoardKey, WholeBoard, Global>;
 
 /// A row of shared words about the regions of a settled exploration and some questions. Its jobs are the regions.
 #[derive(Drop)]
@@ -16,12 +16,12 @@ pub struct Board {
     pub(crate) table: Words,
     pub(crate) regions: usize,
     pub(crate) questions: usize,
-    ghost counted: { (table.shared.table_id.words ≡ length (asked table.shared.key) + 6)
+    ghost counted: { (table.shared.table_id.words ≡ length (questions_of table.shared.key) + 6)
         × (table.shared.table_id.slots ≡ 0) },
-    ghost sized: { (regions ≡ places table.shared.key)
-        × (questions ≡ length (asked table.shared.key)) },
-    ghost small: { places table.shared.key + table.shared.key.seats < 2 ^ 64 },
-    ghost few: { length (asked table.shared.key) ≤ 256 },
+    ghost sized: { (regions ≡ count_of_regions table.shared.key)
+        × (questions ≡ length (questions_of table.shared.key)) },
+    ghost small: { count_of_regions table.shared.key + table.shared.key.seats < 2 ^ 64 },
+    ghost few: { length (questions_of table.shared.key) ≤ 256 },
 }
 
 /// What one party has drawn, entered and seen. It is not a copy: a job that it has drawn no other seat draws.
@@ -31,9 +31,9 @@ pub struct Seat {
     pub(crate) owes: Option<usize>,
     pub(crate) done: bool,
     ghost owing: { owes ≡ seat.me.0.owes } by { Prim.hlevel props },
-    ghost ended: { done ≡ nat_lt 0 seat.me.0.nones },
+    ghost ended: { done ≡ nat_lt 0 seat.me.0.exhausted_seats },
     ghost bare: { seat.me.1 ≡ [] } by { Prim.hlevel props },
-    ghost present: { 0 < seat.me.0.parts },
+    ghost present: { 0 < seat.me.0.joined_seats },
     ghost unmarked: { seat.me.0.marked ≡ [] },
 }
 

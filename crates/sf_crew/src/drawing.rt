@@ -1,8 +1,8 @@
 //! The calls of a seat on its board, but for entering a sheet.
 ghost use Rattle.std.specs.Prelude.{◌≡◌, ℕ, ◌+◌, ◌-◌, ◌<◌, ◌≤◌, ◌^◌, nat_lt, length, IfSome, IfNone, Some, None, []};
 ghost use Rattle.sf_ask.specs.Sheets.{HasBreak};
-ghost use Rattle.sf_crew.specs.Views.{asked, regions_of, places, jobs, times, Noted};
-ghost use Rattle.sf_crew.specs.BoardSteps.{drawing, passing, noting, joining, Knows, GotNone};
+ghost use Rattle.sf_crew.specs.Views.{questions_of, regions_of, count_of_regions, jobs, times, Noted};
+ghost use Rattle.sf_crew.specs.BoardSteps.{view_with_job, view_without_job, view_with_note, joined_view, Knows, GotNone};
 ghost use Rattle.sf_crew.specs.Boards.{about, seat_view, IsSeatOf};
 
 use crate::board::{Board, Seat};
@@ -24,11 +24,11 @@ impl Board {
         requires seat { IsSeatOf self.now seat.old }
         requires free { (seat_view seat.old).owes ≡ None }
         ensures same { IsSeatOf self.now seat.new }
-        ensures parts { (seat_view seat.new).parts ≡ (seat_view seat.old).parts }
-        ensures some { IfSome result (λ j. (j < places (about self.now))
+        ensures joined_seats { (seat_view seat.new).joined_seats ≡ (seat_view seat.old).joined_seats }
+        ensures some { IfSome result (λ j. (j < count_of_regions (about self.now))
             × (times j (jobs (seat_view seat.old)) ≡ 0)
-            × (length (jobs (seat_view seat.old)) < places (about self.now))
-            × (seat_view seat.new ≡ drawing (seat_view seat.old) j)) }
+            × (length (jobs (seat_view seat.old)) < count_of_regions (about self.now))
+            × (seat_view seat.new ≡ view_with_job (seat_view seat.old) j)) }
         ensures none { IfNone result (GotNone (about self.now) (seat_view seat.old)
             (seat_view seat.new)) }
     {
@@ -50,15 +50,15 @@ impl Board {
     /// board, and a question that there is.
     pub fn look(&self, seat: &mut Seat, q: usize) -> Option<usize>
         requires seat { IsSeatOf self.now seat.old }
-        requires there { q < length (asked (about self.now)) }
+        requires there { q < length (questions_of (about self.now)) }
         ensures same { IsSeatOf self.now seat.new }
-        ensures some { IfSome result (λ r. (r < places (about self.now))
-            × HasBreak (regions_of (about self.now)) (asked (about self.now)) r q
+        ensures some { IfSome result (λ r. (r < count_of_regions (about self.now))
+            × HasBreak (regions_of (about self.now)) (questions_of (about self.now)) r q
             × ((s : ℕ) → Noted (seat_view seat.old).notes q s → r ≤ s)
-            × (seat_view seat.new ≡ noting (seat_view seat.old) q r)) }
+            × (seat_view seat.new ≡ view_with_note (seat_view seat.old) q r)) }
         ensures none { IfNone result (((s : ℕ) → Noted (seat_view seat.old).notes q s
-            → places (about self.now) ≤ s) × (seat_view seat.new
-            ≡ noting (seat_view seat.old) q (places (about self.now)))) }
+            → count_of_regions (about self.now) ≤ s) × (seat_view seat.new
+            ≡ view_with_note (seat_view seat.old) q (count_of_regions (about self.now)))) }
     {
         let found = self.table.shared.load::<Look>(&mut seat.seat, q + LEAST);
         if found < self.regions as u64 {
@@ -74,7 +74,7 @@ impl Board {
         requires seats { IsSeatOf self.now first × IsSeatOf self.now second }
         requires free { ((seat_view first).owes ≡ None) × ((seat_view second).owes ≡ None) }
         ensures same { IsSeatOf self.now result }
-        ensures both { seat_view result ≡ joining (seat_view first) (seat_view second) }
+        ensures both { seat_view result ≡ joined_view (seat_view first) (seat_view second) }
         ensures once { Knows (seat_view result) }
     {
         let Seat {

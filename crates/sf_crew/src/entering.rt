@@ -1,9 +1,9 @@
 //! How a sheet is entered.
 ghost use Rattle.std.specs.Prelude.{◌≡◌, ℕ, ◌+◌, ◌<◌, ◌≤◌, length, Some, None, []};
-ghost use Rattle.sf_crew.specs.Views.{asked, regions_of, places, Noted};
+ghost use Rattle.sf_crew.specs.Views.{questions_of, regions_of, count_of_regions, Noted};
 ghost use Rattle.sf_crew.specs.BoardSteps.{with_notes, with_marks};
 ghost use Rattle.sf_crew.specs.Boards.{about, board_id, seat_view, IsSeatOf};
-ghost use Rattle.sf_crew.specs.SheetEntries.{MarksDoubts, NotesHits, IsSheetFor, Enters};
+ghost use Rattle.sf_crew.specs.EnteredSheets.{MarksDoubts, NotesHits, IsSheetFor, Enters};
 
 use crate::board::{Board, Seat};
 use crate::steps::{BITS, DOUBTS, ENTERED, Enter, Hits, LEAST, Mark};
@@ -15,7 +15,7 @@ impl Board {
     fn enter_hits(&self, seat: &mut atomic_table::Seat<u8, View>, sheet: &Sheet)
         requires table { seat.old.table_id ≡ board_id self.now }
         requires matter { (sheet.now.settled ≡ regions_of (about self.now))
-            × (sheet.now.questions ≡ asked (about self.now)) }
+            × (sheet.now.questions ≡ questions_of (about self.now)) }
         ensures table { seat.new.table_id ≡ seat.old.table_id }
         ensures carried { seat.new.me.1 ≡ seat.old.me.1 }
         ensures view { seat.new.me.0 ≡ with_notes seat.old.me.0 seat.new.me.0.notes }
@@ -33,7 +33,7 @@ impl Board {
     /// One step for each doubt: it sets the bit of its question.
     fn enter_doubts(&self, seat: &mut atomic_table::Seat<u8, View>, sheet: &Sheet)
         requires table { seat.old.table_id ≡ board_id self.now }
-        requires questions { sheet.now.questions ≡ asked (about self.now) }
+        requires questions { sheet.now.questions ≡ questions_of (about self.now) }
         requires owes { seat.old.me.0.owes ≡ Some sheet.now.job }
         ensures table { seat.new.table_id ≡ seat.old.table_id }
         ensures carried { seat.new.me.1 ≡ seat.old.me.1 }

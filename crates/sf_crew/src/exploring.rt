@@ -4,7 +4,7 @@
 ghost use Rattle.std.specs.Prelude.{◌≡◌, ◌≢◌, IfOk, IfErr, OnOk, MatchOption, option_map};
 ghost use Rattle.std.specs.Arc.{arc_value};
 ghost use Rattle.sf_piece.specs.Pieces.{children_of};
-ghost use Rattle.sf_crew.specs.Ends.{IsEnd, IsFree, HasOnly, MayWork, IsSameExploration, GoesOn, IsEndOf, IsExactEnd};
+ghost use Rattle.sf_crew.specs.Explorations.{IsExhausted, IsFree, HasOnly, MayWork, IsSameExploration, GoesOn, IsExplorationOf, IsExactExploration};
 ghost use Rattle.sf_crew.specs.declared.fault.Fault.TheVariants.{Memory, Foreign};
 ghost use Rattle.sf_check.specs.Stacks.{IsPlain};
 
@@ -22,7 +22,7 @@ fn next_lease(book: &mut Book, left: Option<Lease>) -> Result<Option<Lease>, Fau
     requires { HasOnly book.old left }
     ensures same { IsSameExploration book.old book.new }
     ensures commits { book.new.commits ≡ book.old.commits }
-    ensures ok { IfOk result (λ l. MatchOption l (IsEnd book.new) (λ x. MayWork book.new x)) }
+    ensures ok { IfOk result (λ l. MatchOption l (IsExhausted book.new) (λ x. MayWork book.new x)) }
     ensures err { IfErr result (λ f. f ≡ Memory) }
 {
     if book.counts().commits == book.budget() {
@@ -83,7 +83,7 @@ pub(crate) fn work_off<G: Gate>(
 ) -> Result<(), Fault>
     requires { IsFree book.old.outstanding }
     ensures same { IsSameExploration book.old book.new }
-    ensures end { OnOk result (IsEnd book.new) }
+    ensures end { OnOk result (IsExhausted book.new) }
     ensures err { IfErr result (λ f. f ≡ Memory) }
 {
     let budget = book.budget();
@@ -100,11 +100,11 @@ pub(crate) fn work_off<G: Gate>(
 
 /// Closes a book of this budget that was worked off. `Foreign` where it is of another stack.
 pub(crate) fn finished(book: Book, stack: &Arc<Stack>, _budget: u32) -> Result<Settled, Fault>
-    requires end { IsEnd book }
+    requires end { IsExhausted book }
     requires budget { book.budget ≡ _budget }
-    ensures ok { IfOk result (λ s. IsEndOf (arc_value stack.now) _budget s) }
+    ensures ok { IfOk result (λ s. IsExplorationOf (arc_value stack.now) _budget s) }
     ensures plain { IfOk result (λ s. IsPlain (arc_value stack.now)
-        → IsExactEnd (arc_value stack.now) _budget s) }
+        → IsExactExploration (arc_value stack.now) _budget s) }
     ensures err { IfErr result (λ f. (f ≡ Foreign) × (book.stack ≢ arc_value stack.now)) }
 {
     let settled = book.finish(stack)?;
@@ -119,9 +119,9 @@ pub(crate) fn explore_alone<G: Gate>(
     budget: u32,
     gate: &G,
 ) -> Result<Settled, Fault>
-    ensures ok { IfOk result (λ s. IsEndOf (arc_value stack) budget s) }
+    ensures ok { IfOk result (λ s. IsExplorationOf (arc_value stack) budget s) }
     ensures plain { IfOk result (λ s. IsPlain (arc_value stack)
-        → IsExactEnd (arc_value stack) budget s) }
+        → IsExactExploration (arc_value stack) budget s) }
     ensures err { IfErr result (λ f. f ≡ Memory) }
 {
     let mut book = Book::open(alloc, Arc::try_clone(&stack)?, budget)?;

@@ -1,45 +1,45 @@
-//! What the ends of a bench know of it, for proofs alone.
+//! What the handles of a bench know of it, for proofs alone.
 use crossbeam_deque::protocol::{Outcome, Protocol, Split};
 use sf_book::Lease;
 use std::collections::LinkedList;
 
-/// What happened on a bench: a lease was put, or the end of this number got one.
+/// What happened on a bench: a lease was put, or the handle of this number got one.
 pub enum Event {
     /// The owner put this lease.
     Put(Lease),
-    /// The end of this number got the first lease that was left.
+    /// The handle of this number got the first lease that was left.
     Got(usize),
 }
 
-/// What an end knows: its number, how many ends there are (the owner alone), and the history up to its last step. No
+/// What a handle knows: its number, how many handles there are (the owner alone), and the history up to its last step. No
 /// value of it is made.
-pub struct End {
-    /// The end's number; the owner has 0.
+pub struct HandleView {
+    /// The handle's number; the owner has 0.
     pub me: usize,
-    /// How many ends the owner has made, itself with them; 0 for a thief.
+    /// How many handles the owner has made, itself with them; 0 for a thief.
     pub made: usize,
-    /// The history up to the end's last step, oldest first.
+    /// The history up to the handle's last step, oldest first.
     pub events: LinkedList<Event>,
 }
 
 /// The rule of a bench: it holds what was put and not yet got, in the order of putting.
 pub(crate) struct InOrder;
 
-impl Protocol<Lease, End> for InOrder {
+impl Protocol<Lease, HandleView> for InOrder {
     ghost use Rattle.std.specs.Prelude.{[]};
     ghost use Rattle.sf_crew.specs.BenchRule.{BenchKept};
-    ghost use Rattle.sf_crew.specs.History.{end};
+    ghost use Rattle.sf_crew.specs.History.{handle_view};
 
     ghost holds = { BenchKept };
 
-    ghost first = { end 0 1 [] };
+    ghost first = { handle_view 0 1 [] };
 
-    ghost guest = { end 0 1 [] };
+    ghost guest = { handle_view 0 1 [] };
 }
 
 pub(crate) struct Putting;
 
-impl Outcome<Lease, End> for Putting {
+impl Outcome<Lease, HandleView> for Putting {
     ghost use Rattle.sf_crew.specs.BenchRule.{PutsAll};
 
     ghost then = { PutsAll };
@@ -47,7 +47,7 @@ impl Outcome<Lease, End> for Putting {
 
 pub(crate) struct Getting;
 
-impl Outcome<Lease, End> for Getting {
+impl Outcome<Lease, HandleView> for Getting {
     ghost use Rattle.sf_crew.specs.History.{AllGot};
     ghost use Rattle.sf_crew.specs.BenchRule.{GetsAll};
 
@@ -58,10 +58,10 @@ impl Outcome<Lease, End> for Getting {
 
 pub(crate) struct Hiring;
 
-impl Split<End> for Hiring {
-    ghost use Rattle.sf_crew.specs.BenchRule.{hiring, hired};
+impl Split<HandleView> for Hiring {
+    ghost use Rattle.sf_crew.specs.BenchRule.{owner_with_thief, new_thief_view};
 
-    ghost left = { hiring };
+    ghost left = { owner_with_thief };
 
-    ghost right = { hired };
+    ghost right = { new_thief_view };
 }

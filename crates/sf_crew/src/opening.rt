@@ -1,6 +1,6 @@
 //! How a board is made, with its seats.
 ghost use Rattle.std.specs.Prelude.{◌≡◌, ◌+◌, ◌<◌, ◌≤◌, length, map, All, IfOk, IfErr, Some, None, [], ◌∷◌, ◌++◌, replicate, vec_len};
-ghost use Rattle.sf_crew.specs.Views.{asked, regions_of};
+ghost use Rattle.sf_crew.specs.Views.{questions_of, regions_of};
 ghost use Rattle.sf_crew.specs.BoardSteps.{view_of};
 ghost use Rattle.sf_crew.specs.Boards.{about, board_id, IsNewSeat};
 ghost use Rattle.sf_crew.specs.declared.fault.Fault.TheVariants.{Memory};
@@ -8,7 +8,7 @@ ghost use Rattle.sf_crew.specs.declared.fault.Fault.TheVariants.{Memory};
 use crate::board::{Board, Seat, Words};
 use crate::fault::Fault;
 use crate::steps::{Deal, LEAST};
-use crate::view::{Matter, View};
+use crate::view::{BoardKey, View};
 use sf_ask::Question;
 use sf_book::Settled;
 use std::alloc::Global;
@@ -54,14 +54,14 @@ impl Board {
         requires seats { (0 < seats) × (seats ≤ 65) }
         requires questions { length questions.now ≤ 256 }
         ensures about { IfOk result (λ r. (regions_of (about r.0) ≡ settled.now)
-            × (asked (about r.0) ≡ questions.now) × ((about r.0).seats ≡ seats)) }
+            × (questions_of (about r.0) ≡ questions.now) × ((about r.0).seats ≡ seats)) }
         ensures seats { IfOk result (λ r. (vec_len r.1 ≡ seats)
             × All (λ s. IsNewSeat r.0 s) r.1.items) }
         ensures err { IfErr result (λ f. f ≡ Memory) }
     {
         let counts = settled.counts();
         let regions = counts.settled;
-        let about = Matter {
+        let about = BoardKey {
             settled: Snapshot::of(settled),
             questions: snapshots(alloc, questions)?,
             seats,

@@ -1,5 +1,5 @@
 //! The atomic steps of a board, each of which keeps its rule and tells its seat something.
-use crate::view::{Matter, View};
+use crate::view::{BoardKey, View};
 use atomic_table::{Join, Play, Split, TableRule};
 
 /// The word of the next job.
@@ -13,9 +13,9 @@ pub(crate) const LEAST: usize = 6;
 /// The questions that one word of doubts has bits for.
 pub(crate) const BITS: usize = 64;
 
-pub(crate) struct Whole;
+pub(crate) struct WholeBoard;
 
-impl TableRule<u8, View, Matter> for Whole {
+impl TableRule<u8, View, BoardKey> for WholeBoard {
     ghost use Rattle.sf_crew.specs.BoardRule.{BoardKept};
     ghost use Rattle.sf_crew.specs.BoardSteps.{first_view};
 
@@ -46,28 +46,28 @@ pub(crate) struct Hits;
 
 impl Play<u8, View> for Hits {
     ghost use Rattle.std.specs.Prelude.{◌≡◌, ◌-◌};
-    ghost use Rattle.sf_crew.specs.BoardSteps.{noting};
+    ghost use Rattle.sf_crew.specs.BoardSteps.{view_with_note};
 
-    ghost then = { λ st m n w. (w.0 ≡ noting m.0 (st.word - 6) st.first) × (w.1 ≡ m.1) };
+    ghost then = { λ st m n w. (w.0 ≡ view_with_note m.0 (st.word - 6) st.first) × (w.1 ≡ m.1) };
 }
 
 pub(crate) struct Mark;
 
 impl Play<u8, View> for Mark {
     ghost use Rattle.std.specs.Prelude.{◌≡◌, ℕ, ◌+◌, ◌*◌, ◌/◌, ◌%◌, ◌^◌};
-    ghost use Rattle.sf_crew.specs.BoardSteps.{marking};
+    ghost use Rattle.sf_crew.specs.BoardSteps.{view_with_mark};
 
     ghost then = { λ st m n w. ((q : ℕ) → st.word ≡ q / 64 + 2
-        → st.first ≡ 1 * 2 ^ (q % 64) % 2 ^ 64 → w.0 ≡ marking m.0 q) × (w.1 ≡ m.1) };
+        → st.first ≡ 1 * 2 ^ (q % 64) % 2 ^ 64 → w.0 ≡ view_with_mark m.0 q) × (w.1 ≡ m.1) };
 }
 
 pub(crate) struct Enter;
 
 impl Play<u8, View> for Enter {
     ghost use Rattle.std.specs.Prelude.{◌≡◌, ℕ, Some};
-    ghost use Rattle.sf_crew.specs.BoardSteps.{entering};
+    ghost use Rattle.sf_crew.specs.BoardSteps.{view_with_sheet};
 
-    ghost then = { λ st m n w. ((j : ℕ) → m.0.owes ≡ Some j → w.0 ≡ entering m.0 j) × (w.1 ≡ m.1) };
+    ghost then = { λ st m n w. ((j : ℕ) → m.0.owes ≡ Some j → w.0 ≡ view_with_sheet m.0 j) × (w.1 ≡ m.1) };
 }
 
 pub(crate) struct Glance;
@@ -82,19 +82,19 @@ impl Play<u8, View> for Glance {
 pub(crate) struct Deal;
 
 impl Split<View> for Deal {
-    ghost use Rattle.sf_crew.specs.BoardSteps.{keeping, sharing};
+    ghost use Rattle.sf_crew.specs.BoardSteps.{kept_view, shared_view};
 
-    ghost left = { keeping };
+    ghost left = { kept_view };
 
-    ghost right = { sharing };
+    ghost right = { shared_view };
 }
 
 pub(crate) struct Merge;
 
 impl Join<View> for Merge {
-    ghost use Rattle.sf_crew.specs.BoardSteps.{joining, idle_view};
+    ghost use Rattle.sf_crew.specs.BoardSteps.{joined_view, idle_view};
 
-    ghost both = { joining };
+    ghost both = { joined_view };
 
     ghost spent = { idle_view };
 }

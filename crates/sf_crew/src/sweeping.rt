@@ -2,7 +2,7 @@
 ghost use Rattle.std.specs.Prelude.{◌≡◌, ◌==◌, if◌then◌else◌, ℕ, ◌+◌, ◌-◌, ◌<◌, ◌≤◌, length, vec_len, All, IfOk, IfErr, OnOk, IfSome, IsTrue, None, Some};
 ghost use Rattle.sf_crew.specs.BoardSteps.{Knows, with_notes};
 ghost use Rattle.sf_crew.specs.Sweeps.{IsWorked, IsFullTally, SkipsOnly};
-ghost use Rattle.sf_crew.specs.Views.{asked, regions_of, places, jobs, bit_of, Noted};
+ghost use Rattle.sf_crew.specs.Views.{questions_of, regions_of, count_of_regions, jobs, bit_of, Noted};
 ghost use Rattle.sf_crew.specs.Boards.{about, seat_view, IsSeatOf, IsNewSeat};
 ghost use Rattle.sf_crew.specs.declared.fault.Fault.TheVariants.{Memory};
 
@@ -27,7 +27,7 @@ fn want(wanted: &mut [u64; 4], q: usize)
 /// Whether a place below the job is seen for the question.
 fn is_beaten(board: &Board, seat: &mut Seat, job: usize, q: usize) -> bool
     requires seat { IsSeatOf board.now seat.old }
-    requires there { q < length (asked (about board.now)) }
+    requires there { q < length (questions_of (about board.now)) }
     ensures same { IsSeatOf board.now seat.new }
     ensures view { seat_view seat.new ≡ with_notes (seat_view seat.old) (seat_view seat.new).notes }
     ensures more { (p r : ℕ) → Noted (seat_view seat.old).notes p r
@@ -44,7 +44,7 @@ fn is_beaten(board: &Board, seat: &mut Seat, job: usize, q: usize) -> bool
 fn look_at_all(board: &Board, seat: &mut Seat, job: usize) -> [u64; 4]
     requires seat { IsSeatOf board.now seat.old }
     ensures same { IsSeatOf board.now seat.new }
-    ensures wanted { SkipsOnly (asked (about board.now)) job (seat_view seat.old)
+    ensures wanted { SkipsOnly (questions_of (about board.now)) job (seat_view seat.old)
         (seat_view seat.new) result }
 {
     let mut wanted = [0u64; 4];
@@ -68,12 +68,12 @@ pub(crate) fn enter_job<G: Gate>(
     pass: (usize, usize),
 ) -> Result<(), Fault>
     requires seat { IsSeatOf board.now seat.old }
-    requires owes { ((seat_view seat.old).owes ≡ Some job) × (job < places (about board.now)) }
+    requires owes { ((seat_view seat.old).owes ≡ Some job) × (job < count_of_regions (about board.now)) }
     requires matter { (regions_of (about board.now) ≡ settled.now)
-        × (asked (about board.now) ≡ questions.now) }
+        × (questions_of (about board.now) ≡ questions.now) }
     ensures same { IsSeatOf board.now seat.new }
-    ensures parts { (seat_view seat.new).parts ≡ (seat_view seat.old).parts }
-    ensures nones { (seat_view seat.new).nones ≡ (seat_view seat.old).nones }
+    ensures joined_seats { (seat_view seat.new).joined_seats ≡ (seat_view seat.old).joined_seats }
+    ensures exhausted_seats { (seat_view seat.new).exhausted_seats ≡ (seat_view seat.old).exhausted_seats }
     ensures free { OnOk result ((seat_view seat.new).owes ≡ None) }
     ensures count { OnOk result (length (jobs (seat_view seat.new))
         ≡ length (jobs (seat_view seat.old))) }
@@ -97,11 +97,11 @@ fn work<G: Gate>(
 ) -> (Seat, bool)
     requires seat { IsSeatOf board.now seat × ((seat_view seat).owes ≡ None) }
     requires matter { (regions_of (about board.now) ≡ settled.now)
-        × (asked (about board.now) ≡ questions.now) }
+        × (questions_of (about board.now) ≡ questions.now) }
     ensures seat { IsSeatOf board.now result.0 }
-    ensures parts { (seat_view result.0).parts ≡ (seat_view seat).parts }
+    ensures joined_seats { (seat_view result.0).joined_seats ≡ (seat_view seat).joined_seats }
     ensures done { IsTrue result.1 → ((seat_view result.0).owes ≡ None)
-        × (0 < (seat_view result.0).nones) }
+        × (0 < (seat_view result.0).exhausted_seats) }
 {
     let mut call: usize = 0;
     while let Some(job) = board.draw(&mut seat) {
@@ -119,8 +119,8 @@ fn join_all(board: &Board, first: Seat, mut others: Vec<(Seat, bool)>) -> Option
     requires first { IsSeatOf board.now first × ((seat_view first).owes ≡ None) }
     requires others { All (λ s. IsWorked board.now s) others.items }
     ensures { IfSome result (λ s. IsSeatOf board.now s × ((seat_view s).owes ≡ None)
-        × ((seat_view s).parts ≡ (seat_view first).parts + vec_len others)
-        × (0 < vec_len others → (0 < (seat_view s).nones) × Knows (seat_view s))) }
+        × ((seat_view s).joined_seats ≡ (seat_view first).joined_seats + vec_len others)
+        × (0 < vec_len others → (0 < (seat_view s).exhausted_seats) × Knows (seat_view s))) }
 {
     let mut all = first;
     while let Some((seat, done)) = others.pop() {
@@ -134,25 +134,25 @@ fn join_all(board: &Board, first: Seat, mut others: Vec<(Seat, bool)>) -> Option
 
 /// A worker's number, and its seat.
 #[derive(Drop)]
-pub(crate) struct Part {
+pub(crate) struct NumberedSeat {
     number: usize,
     seat: Seat,
 }
 
 /// The seats, numbered from 0.
-fn numbered(alloc: Global, board: &Board, mut seats: Vec<Seat>) -> Result<Vec<Part>, Fault>
+fn numbered(alloc: Global, board: &Board, mut seats: Vec<Seat>) -> Result<Vec<NumberedSeat>, Fault>
     requires { All (λ s. IsNewSeat board.now s) seats.items }
     ensures ok { IfOk result (λ v. (vec_len v ≡ vec_len seats)
         × All (λ p. IsNewSeat board.now p.seat) v.items) }
     ensures err { IfErr result (λ f. f ≡ Memory) }
 {
     let _ = board;
-    let mut parts = Vec::new(alloc);
+    let mut numbered_seats = Vec::new(alloc);
     while let Some(seat) = seats.pop() {
         let number = seats.len();
-        parts.push(Part { number, seat })?;
+        numbered_seats.push(NumberedSeat { number, seat })?;
     }
-    Ok(parts)
+    Ok(numbered_seats)
 }
 
 /// The tally of all regions, by as many workers, each of which has a seat. Then the calling thread draws with a seat
@@ -175,14 +175,14 @@ pub(crate) fn tally<R: Threads + Sync, G: Gate>(
         unreachable!()
     };
     let shared = &board;
-    let parts = numbered(alloc, shared, seats)?;
+    let numbered_seats = numbered(alloc, shared, seats)?;
     let worked = thread::map_vec(
         rt,
-        parts,
-        &|part: Part| -> (Seat, bool)
+        numbered_seats,
+        &|part: NumberedSeat| -> (Seat, bool)
             requires { IsNewSeat shared.now part.seat
                 × (regions_of (about shared.now) ≡ settled.now)
-                × (asked (about shared.now) ≡ questions.now) }
+                × (questions_of (about shared.now) ≡ questions.now) }
             ensures { IsWorked shared.entry.now result }
         {
             work(

@@ -6,7 +6,7 @@ use std::snapshot::Snapshot;
 
 /// What a board is about: the regions, the questions, and how many seats there are.
 #[derive(Drop)]
-pub struct Matter {
+pub struct BoardKey {
     /// The exploration whose regions are judged.
     pub settled: Snapshot<Settled>,
     /// The questions that they are judged by, in order.
@@ -16,7 +16,7 @@ pub struct Matter {
 }
 
 /// A sheet that was entered: its job, and the questions that it has a doubt for.
-pub struct Entry {
+pub struct EnteredSheet {
     /// The place of the sheet's region.
     pub job: usize,
     /// The places of the questions that the sheet has a doubt for.
@@ -34,17 +34,17 @@ pub struct Note {
 /// What a seat knows. No value of it is made.
 pub struct View {
     /// What its board is about.
-    pub about: Option<Matter>,
+    pub about: Option<BoardKey>,
     /// How many of the seats that the board began with are joined in it.
-    pub parts: usize,
+    pub joined_seats: usize,
     /// How many of them found that all jobs are drawn.
-    pub nones: usize,
+    pub exhausted_seats: usize,
     /// The job that it has drawn and not entered.
     pub owes: Option<usize>,
     /// The questions whose doubts it has marked for the sheet that it is entering.
     pub marked: LinkedList<usize>,
     /// The sheets that it has entered.
-    pub entries: LinkedList<Entry>,
+    pub entered_sheets: LinkedList<EnteredSheet>,
     /// What it has seen and entered of least places.
     pub notes: LinkedList<Note>,
 }

@@ -4,20 +4,20 @@ ghost use Rattle.std.specs.Prelude.{◌≡◌, ◌⊎◌, ◌<◌, ◌≤◌, If
 ghost use Rattle.std.specs.Arc.{arc_value};
 ghost use denote.Ref.{Bor};
 ghost use Rattle.sf_piece.specs.Pieces.{children_of};
-ghost use Rattle.sf_book.specs.Books.{BookData, IsLawful};
+ghost use Rattle.sf_book.specs.Books.{BookData, IsLawfulBook};
 ghost use Rattle.sf_crew.specs.History.{AllGot};
-ghost use Rattle.sf_crew.specs.Benches.{owner_end};
-ghost use Rattle.sf_crew.specs.Workers.{given_back, HandsIn, IsMadeOf, ends_of, own_end, Steals, IsIdle, HoldsNext};
+ghost use Rattle.sf_crew.specs.Benches.{owner_view};
+ghost use Rattle.sf_crew.specs.Workers.{given_back, HandsIn, IsMadeOf, thief_views, own_view, Steals, IsIdle, HoldsNext};
 ghost use Rattle.sf_crew.specs.Workers.{PutsOrNot, WorksOn};
-ghost use Rattle.sf_crew.specs.Ends.{IsEnd, IsEndOf, IsExactEnd};
+ghost use Rattle.sf_crew.specs.Explorations.{IsExhausted, IsExplorationOf, IsExactExploration};
 ghost use Rattle.sf_crew.specs.declared.fault.Fault.TheVariants.{Memory, Foreign};
 ghost use Rattle.sf_check.specs.Stacks.{IsPlain};
 
-use crate::ends::{Owner, Thief};
+use crate::handles::{Owner, Thief};
 use crate::exploring::{explore_alone, finished, work_off};
 use crate::fault::Fault;
 use crate::gate::Gate;
-use crate::hiring::workers_of;
+use crate::setup::workers_of;
 use crossbeam_deque::Steal;
 use sf_book::{Book, Lease, Settled};
 use sf_check::Stack;
@@ -86,7 +86,7 @@ fn children_of(work: &Work) -> Result<Option<(Arc<Piece>, Arc<Piece>)>, Fault>
 /// Tries one bench.
 fn steal_at(others: &mut [Thief], place: usize) -> Option<Lease>
     requires { place < length others.old }
-    ensures { Steals (ends_of others.old) result (ends_of others.new) }
+    ensures { Steals (thief_views others.old) result (thief_views others.new) }
 {
     match others[place].steal() {
         Steal::Success(lease) => Some(lease),
@@ -96,7 +96,7 @@ fn steal_at(others: &mut [Thief], place: usize) -> Option<Lease>
 
 /// Tries each bench once: the first lease that is got.
 fn steal_from(others: &mut [Thief]) -> Option<Lease>
-    ensures { Steals (ends_of others.old) result (ends_of others.new) }
+    ensures { Steals (thief_views others.old) result (thief_views others.new) }
 {
     for place in 0..others.len() {
         if let Some(lease) = steal_at(others, place) {
@@ -156,7 +156,7 @@ impl Worker {
     ) -> Result<(), Fault>
         ensures number { self.new.number ≡ self.old.number }
         ensures ok { OnOk result (WorksOn held.lease self.old self.new) }
-        ensures err { OnErr result (own_end self.new ≡ own_end self.old) }
+        ensures err { OnErr result (own_view self.new ≡ own_view self.old) }
     {
         let Made { work, children } = match self.make(alloc, gate, &held.lease.piece, call) {
             Ok(made) => made,
@@ -179,7 +179,7 @@ impl Worker {
     /// Puts a lease on its bench. One that is handed back is given back to the book.
     fn put<R: Wait>(&mut self, rt: &R, book: &Mutex<Book>, lease: Lease)
         ensures number { self.new.number ≡ self.old.number }
-        ensures put { PutsOrNot (own_end self.old) lease (own_end self.new) }
+        ensures put { PutsOrNot (own_view self.old) lease (own_view self.new) }
     {
         if let Err(lease) = self.own.put(lease) {
             give_back(&mut book.lock(rt), Held { lease });
@@ -188,7 +188,7 @@ impl Worker {
 
     /// Takes its bench empty, and gives each lease back to the book.
     fn empty<R: Wait>(&mut self, rt: &R, book: &Mutex<Book>)
-        ensures { AllGot (own_end self.new) }
+        ensures { AllGot (own_view self.new) }
     {
         for _ in rt.forever() {
             let Some(lease) = self.own.take() else {
@@ -201,15 +201,15 @@ impl Worker {
 }
 
 /// Whether nothing is left to do: nothing is outstanding, or the budget is spent.
-fn is_over(book: &Book) -> bool
-    ensures { MatchBool result (IsEnd book.now) (¬ IsEnd book.now) }
+fn is_exhausted(book: &Book) -> bool
+    ensures { MatchBool result (IsExhausted book.now) (¬ IsExhausted book.now) }
 {
     let counts = book.counts();
     counts.left == 0 || counts.commits == book.budget()
 }
 
 /// The turns of one worker, until nothing is left to do. Where it meets want of memory or a spent budget, it gives its
-/// pieces back and ends. It answers the end of its bench, which it has emptied.
+/// pieces back and ends. It answers the handle of its bench, which it has emptied.
 fn run<R: Wait, G: Gate>(
     rt: &R,
     alloc: Global,
@@ -217,7 +217,7 @@ fn run<R: Wait, G: Gate>(
     gate: &G,
     mut worker: Worker,
 ) -> Owner
-    ensures { AllGot (owner_end result) }
+    ensures { AllGot (owner_view result) }
 {
     let mut call: usize = 0;
     for _ in rt.forever() {
@@ -225,7 +225,7 @@ fn run<R: Wait, G: Gate>(
             break;
         };
         let Some(held) = leased else {
-            if is_over(&book.lock(rt)) {
+            if is_exhausted(&book.lock(rt)) {
                 break;
             }
             yield_now();
@@ -258,7 +258,7 @@ fn run_all<R: Threads + Wait + Sync, G: Gate>(
     let shared = &book;
     thread::scope(thread::scope_env(), rt, |scope| {
         for worker in workers {
-            if is_over(&shared.lock(rt)) {
+            if is_exhausted(&shared.lock(rt)) {
                 break;
             }
             let _ = scope.spawn(move || {
@@ -285,9 +285,9 @@ pub fn explore<R: Threads + Wait + Sync, G: Gate>(
     gate: &G,
 ) -> Result<Settled, Fault>
     requires workers { (0 < workers) × (workers ≤ 64) }
-    ensures ok { IfOk result (λ s. IsEndOf (arc_value stack) budget s) }
+    ensures ok { IfOk result (λ s. IsExplorationOf (arc_value stack) budget s) }
     ensures plain { IfOk result (λ s. IsPlain (arc_value stack)
-        → IsExactEnd (arc_value stack) budget s) }
+        → IsExactExploration (arc_value stack) budget s) }
     ensures err { IfErr result (λ f. (f ≡ Memory) ⊎ (f ≡ Foreign)) }
     ensures alone { workers ≡ 1 → IfErr result (λ f. f ≡ Memory) }
 {
@@ -307,8 +307,8 @@ pub fn explore<R: Threads + Wait + Sync, G: Gate>(
 /// Runs a closure on a book that others share, while the lock is held. The closure may rely on no more than that the
 /// book is lawful.
 pub fn visit<R: Wait, F: FnOnce(&Book)>(rt: &R, book: &Mutex<Book>, f: F)
-    requires { (b : Bor BookData) → IsLawful b.now → F.pre f b }
-    ensures { (b : Bor BookData) × IsLawful b.now × F.post f b result }
+    requires { (b : Bor BookData) → IsLawfulBook b.now → F.pre f b }
+    ensures { (b : Bor BookData) × IsLawfulBook b.now × F.post f b result }
 {
     let guard = book.lock(rt);
     let _counts = guard.counts();

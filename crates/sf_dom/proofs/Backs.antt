@@ -9,8 +9,8 @@ use Rattle.sf_sym.specs.declared.pool.Node.{Node}
 use Rattle.sf_dom.specs.declared.known.Known.{Known}
 use Rattle.sf_dom.specs.Known.{IsNarrower, known_of}
 use Rattle.sf_dom.specs.Facts.{known_at}
-use Rattle.sf_dom.specs.Walks.{IsSwappable, constant_operand_of, HandsOn, IsWalkedBack, Carries}
-use Rattle.sf_dom.proofs.Rounds.{IsNarrower-refl}
+use Rattle.sf_dom.specs.Backward.{IsSwappable, constant_operand_of, HandsOn, IsPropagatedBack, Carries}
+use Rattle.sf_dom.proofs.Reductions.{IsNarrower-refl}
 
 -- more is known of the operand
 pub hands-on-narrower : (op : BinOp) (c : ℕ) (node x y : Known) → IsNarrower x y → HandsOn op c node x
@@ -25,28 +25,28 @@ hands-on-narrower Div c node x y n h = tt
 hands-on-narrower Lsh c node x y n h = tt
 hands-on-narrower Rsh c node x y n h = tt
 
--- what is walked back from an operand that has its node's bits is walked back from the node
+-- what is propagated back from an operand that has its node's bits is propagated back from the node
 pub walked-step : (ks : List Known) (ns : List Node) (at x c : ℕ) (op : BinOp)
     → constant_operand_of ns (node_at ns at) ≡ Some (op, x, c)
-    → HandsOn op c (known_at ks at) (known_at ks x) → ((n : ℕ) → IsWalkedBack n ks ns x) → (n : ℕ)
-    → IsWalkedBack n ks ns at
+    → HandsOn op c (known_at ks at) (known_at ks x) → ((n : ℕ) → IsPropagatedBack n ks ns x) → (n : ℕ)
+    → IsPropagatedBack n ks ns at
 walked-step ks ns at x c op e h more zero = tt
 walked-step ks ns at x c op e h more (suc n) = rw e (λ s. (h, more n))
 
--- a walk ends where no operand alone is a constant
+-- backward propagation ends where no operand alone is a constant
 pub walked-end : (ks : List Known) (ns : List Node) (at : ℕ) → constant_operand_of ns (node_at ns at) ≡ None → (n : ℕ)
-    → IsWalkedBack n ks ns at
+    → IsPropagatedBack n ks ns at
 walked-end ks ns at e zero = tt
 walked-end ks ns at e (suc n) = rw e tt
 
 -- and at an operation that hands on no bits
 pub walked-other : (ks : List Known) (ns : List Node) (at x c : ℕ) (op : BinOp)
     → constant_operand_of ns (node_at ns at) ≡ Some (op, x, c)
-    → ¬ IsSwappable op → (n : ℕ) → IsWalkedBack n ks ns at
+    → ¬ IsSwappable op → (n : ℕ) → IsPropagatedBack n ks ns at
 walked-other ks ns at x c op e never zero = tt
 walked-other ks ns at x c op e never (suc n) = rw e (λ s. absurd (never s))
 
--- one step of a walk
+-- one step of backward propagation
 pub carries-step : (ks : List Known) (ns : List Node) (from at x c : ℕ) (op : BinOp) (next : Known)
     → x < at → x < length ks
     → constant_operand_of ns (node_at ns at) ≡ Some (op, x, c) → HandsOn op c (known_at ks at) next
@@ -60,7 +60,7 @@ carries-step ks ns from at x c op next lx l e hands h last same narrower more =
     (walked-step last ns at x c op e (rw here
     (hands-on-narrower op c (known_at ks at) next (known_at last x) gained hands)) more)
 
--- the end of a walk
+-- the end of backward propagation
 pub carried : (ks : List Known) (ns : List Node) (from at : ℕ) → Carries ks ns from at
-    → ((n : ℕ) → IsWalkedBack n ks ns at) → (n : ℕ) → IsWalkedBack n ks ns from
+    → ((n : ℕ) → IsPropagatedBack n ks ns at) → (n : ℕ) → IsPropagatedBack n ks ns from
 carried ks ns from at h more = h ks (λ j b. refl) (IsNarrower-refl (known_at ks at)) more

@@ -8,7 +8,7 @@ use Rattle.std.proofs.Math.Nat.{div-eq_of_lt, div-mul-le_self}
 use Rattle.sf_dom.specs.Known.{HasBits, AreBitsOf}
 use Rattle.sf_dom.specs.FactsLaws.{bit_at-complement}
 
--- one bit of each rule, by the numbers 0 and 1
+-- one bit of each transfer function, by the numbers 0 and 1
 and_zero : (a b za zb : ℕ) → za + a ≤ 1 → zb + b ≤ 1 → max za zb + min a b ≤ 1
 and_zero a b za zb h k = omega arith
 
@@ -95,23 +95,23 @@ part-bits n z o y p h = record {
 }
 
 -- back through an operation with a constant
-pub back-and : (x c z o : ℕ) → HasBits (bit_and x c) z o → HasBits x (bit_and z c) o
-back-and x c z o h = record {
+pub backward-and : (x c z o : ℕ) → HasBits (bit_and x c) z o → HasBits x (bit_and z c) o
+backward-and x c z o h = record {
   zero = λ i. rw (bit_at_and z c i) (back_and_zero _ _ _ (bit_at-lt x i) (bit_at-lt c i)
       (rw (bit_at_and x c i) at (h.zero i)));
   one = λ i. back_and_one _ _ _ (rw (bit_at_and x c i) at (h.one i));
 }
 
-pub back-or : (x c z o : ℕ) → c < 2 ^ 32 → HasBits (bit_or x c) z o → HasBits x z (bit_and o (4294967295 - c))
-back-or x c z o l h = record {
+pub backward-or : (x c z o : ℕ) → c < 2 ^ 32 → HasBits (bit_or x c) z o → HasBits x z (bit_and o (4294967295 - c))
+backward-or x c z o l h = record {
   zero = λ i. back_or_zero _ _ _ (rw (bit_at_or x c i) at (h.zero i));
   one = λ i. rw (bit_at_and o (4294967295 - c) i)
       (back_or_one _ _ _ _ (bit_at-complement c i l) (rw (bit_at_or x c i) at (h.one i)));
 }
 
-pub back-xor : (x c z o : ℕ) → c < 2 ^ 32 → HasBits (bit_xor x c) z o
+pub backward-xor : (x c z o : ℕ) → c < 2 ^ 32 → HasBits (bit_xor x c) z o
     → HasBits x (bit_or (bit_and z (4294967295 - c)) (bit_and o c)) (bit_or (bit_and o (4294967295 - c)) (bit_and z c))
-back-xor x c z o l h =
+backward-xor x c z o l h =
     let zx : (i : ℕ) → bit_at z i + (bit_at x i + bit_at c i) % 2 ≤ 1 = λ i. rw (bit_at_xor x c i) at (h.zero i) in
     let ox : (i : ℕ) → bit_at o i ≤ (bit_at x i + bit_at c i) % 2 = λ i. rw (bit_at_xor x c i) at (h.one i) in
     record {

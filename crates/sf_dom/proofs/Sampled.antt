@@ -1,4 +1,4 @@
--- What facts are after a pass and after growth, and where a condition or a range is kept exactly.
+-- What facts are after forward propagation and after growth, and where a condition or a range is kept exactly.
 use Rattle.std.proofs.Common.{◌≡◌, ◌≢◌, ℕ, zero, suc, ◌<◌, ◌≤◌, ◌^◌, ◌↔◌, List, [], length, get_or, take, Bool, true, false, IsTrue, arith, refl, sym, ap, subst, ◌∙◌, inl, inr}
 use Rattle.std.proofs.lemmas.Bool.{cases_lt, false≢true}
 use Rattle.std.proofs.lemmas.List.{get_or-take, get_or_append_left}
@@ -13,12 +13,12 @@ use Rattle.sf_sym.specs.declared.pool.Cond.{Cond}
 use Rattle.sf_sym.specs.declared.pool.Node.{Node}
 use Rattle.sf_sym.specs.declared.pool.Node.TheVariants.{Const, Word, Bin, Neg}
 use Rattle.sf_dom.specs.declared.known.Known.{Known}
-use Rattle.sf_dom.specs.Known.{Admits, Leaves, IsSettled, IsDecided, IsNarrower}
-use Rattle.sf_dom.specs.Facts.{FactsView, known_at, numbers_at, excluded_of, AgreesWith, AreFacts, Covers, KeepsOnly, NoInput, SomeInput, IsPlain, IsPlainTest, IsWordOrConst}
+use Rattle.sf_dom.specs.Known.{Admits, Leaves, IsConsistent, IsDecided, IsNarrower}
+use Rattle.sf_dom.specs.Facts.{FactsView, known_at, numbers_at, excluded_of, AgreesWith, AreFacts, Covers, KeepsOnly, NoInput, SomeInput, IsPlainCondition, IsPlainTest, IsWordOrConst}
 use Rattle.sf_dom.specs.FactsLaws.{sampled, words-agree, value-word, decided-admits}
-use Rattle.sf_dom.specs.Rules.{IsPassed, AllNarrower, IsGrown, NoneAgreesWith, IsSettle, AreBothExcluded, IsSharp, Gives, Holds}
-use Rattle.sf_dom.proofs.Gives.{differs-gives}
-use Rattle.sf_dom.proofs.Passes.{AreDecidedOperands-same, operands-below, word-below}
+use Rattle.sf_dom.specs.Propagation.{IsPropagatedAt, AllNarrower, IsGrown, NoneAgreesWith, IsAssumed, AreBothExcluded, IsSharp, TestGives, Holds}
+use Rattle.sf_dom.proofs.GuardLemmas.{differs-gives}
+use Rattle.sf_dom.proofs.Propagations.{AreDecidedOperands-same, operands-below, word-below}
 
 -- an answer is true exactly where on some input that agreed this is so
 pub exact-none : (old : FactsView) (ns : List Node) (met : Input → Bool) → NoInput old ns met → IsTrue false
@@ -46,18 +46,18 @@ undecided f ns i n h plain l ne all = elim (cases_lt i 16) [
       ne (k.0 ∙ sym k.1))
 ]
 
--- facts after a pass
-pub pass-facts : (ks : List Known) (ex : List (List ℕ)) (ns : List Node) → IsPool ns → length ks ≡ length ns
-    → length ex ≡ 16 → ((i : ℕ) → i < length ns → IsPassed ks ex ns i)
+-- facts after forward propagation
+pub propagate-facts : (ks : List Known) (ex : List (List ℕ)) (ns : List Node) → IsPool ns → length ks ≡ length ns
+    → length ex ≡ 16 → ((i : ℕ) → i < length ns → IsPropagatedAt ks ex ns i)
     → Covers (record { known = ks; excluded = ex }) ns
-pass-facts ks ex ns p len lex passed =
+propagate-facts ks ex ns p len lex passed =
     let words = p.words in
     record {
       pool = p;
       lawful = record {
         count = omega arith;
         words = lex;
-        settled = λ i l. (passed i (omega arith)).settled;
+        consistent = λ i l. (passed i (omega arith)).consistent;
         tight = λ w l. (passed w (omega arith)).tight l;
       };
       count = len;
@@ -137,9 +137,9 @@ grown-facts old new ex ns p h le g =
       record {
         count = omega arith;
         words = h.words;
-        settled = λ i l. elim (cases_lt i (length old)) [
-          | inl b ↦ rw (same i b) at (h.settled i b)
-          | inr o ↦ (g.passed h.settled i o (omega arith)).settled
+        consistent = λ i l. elim (cases_lt i (length old)) [
+          | inl b ↦ rw (same i b) at (h.consistent i b)
+          | inr o ↦ (g.passed h.consistent i o (omega arith)).consistent
         ];
         tight = λ w l. rw (same w (omega arith)) at (h.tight w l);
       },
@@ -162,13 +162,13 @@ grown-of old new ex before ns p h more le g =
       count = g.covers;
       constants = λ i c l e. elim (cases_lt i (length old)) [
         | inl b ↦ rw (same i b) at (h.constants i c b (sym (older i b) ∙ e))
-        | inr o ↦ (g.passed h.lawful.settled i o (omega arith)).constant c e
+        | inr o ↦ (g.passed h.lawful.consistent i o (omega arith)).constant c e
       ];
       decided = λ i l d. elim (cases_lt i (length old)) [
         | inl b ↦ rw (same i b) at (h.decided i b
             (rw (older i b) at (AreDecidedOperands-same new old i (node_at ns i) (operands-below ns i p (omega arith))
             (λ j m. sym (same j (omega arith))) d)))
-        | inr o ↦ (g.passed h.lawful.settled i o (omega arith)).decided d
+        | inr o ↦ (g.passed h.lawful.consistent i o (omega arith)).decided d
       ];
     }
 
@@ -193,12 +193,12 @@ agrees-with-fewer ks ex ex' ns d p len more a i l =
 
 -- both nodes are decided, and so is the test
 pub decides-test : (old new : List Known) (ex : List (List ℕ)) (ns : List Node) (cond : Cond)
-    → IsSettled (known_at old cond.node.0) → cond.node.0 < length ns → length old ≡ length ns
-    → IsSettle old new ex ns cond → IsDecided (known_at old cond.node.0) → IsDecided (known_at old cond.other.0)
-    → Gives cond.test (known_at old cond.node.0).low (known_at old cond.other.0).low cond.sense
+    → IsConsistent (known_at old cond.node.0) → cond.node.0 < length ns → length old ≡ length ns
+    → IsAssumed old new ex ns cond → IsDecided (known_at old cond.node.0) → IsDecided (known_at old cond.other.0)
+    → TestGives cond.test (known_at old cond.node.0).low (known_at old cond.other.0).low cond.sense
 decides-test old new ex ns cond s l len h dv dw =
     let n = h.narrower cond.node.0 (omega arith) in
-    let t = (h.passed cond.node.0 l).settled in
+    let t = (h.passed cond.node.0 l).consistent in
     let o = t.ordered in let a = n.low in let b = n.high in
     h.decided s dv dw (known_at old cond.node.0).low
     (decided-admits (known_at new cond.node.0) (known_at old cond.node.0).low t (omega arith) (omega arith))
@@ -207,8 +207,8 @@ decides-test old new ex ns cond s l len h dv dw =
 pub plain-gives : (old new : List Known) (ex ex' : List (List ℕ)) (ns : List Node) (cond : Cond) (d : Input) → IsPool ns
     → length old ≡ length ns → length new ≡ length ns
     → cond.node.0 < length ns → cond.other.0 < length ns
-    → IsSettled (known_at old cond.node.0) → IsSettle old new ex' ns cond → AreBothExcluded old ex ex' ns cond
-    → IsPlain ns cond
+    → IsConsistent (known_at old cond.node.0) → IsAssumed old new ex' ns cond → AreBothExcluded old ex ex' ns cond
+    → IsPlainCondition ns cond
     → ((i c : ℕ) → i < length old → node_at ns i ≡ Const c → ((known_at old i).low ≡ c) × ((known_at old i).high ≡ c))
     → AgreesWith new ex' ns d → Holds ns cond d
 plain-gives old new ex ex' ns cond d p lo ln lv lw s h b plain know a =
@@ -227,17 +227,17 @@ plain-gives old new ex ex' ns cond d p lo ln lv lw s h b plain know a =
 
     by_sharp : (t : Test) (sense : Bool) → cond.test ≡ t → cond.sense ≡ sense → IsDecided (known_at old cond.other.0)
         → Leaves (known_at new cond.node.0) (excluded_of ex' (node_at ns cond.node.0)) x → IsSharp t sense low
-        → Gives t x low sense
+        → TestGives t x low sense
     by_sharp t sense et es dw leaves sh =
         let before : IsSharp cond.test cond.sense low =
         subst (λ (u : Test). IsSharp u cond.sense low) (sym et)
         (subst (λ (b : Bool). IsSharp t b low) (sym es) sh) in
         let given = h.sharp dw before x leaves.admitted in
-        subst (λ (b : Bool). Gives t x low b) es (subst (λ (u : Test). Gives u x low cond.sense) et given)
+        subst (λ (b : Bool). TestGives t x low b) es (subst (λ (u : Test). TestGives u x low cond.sense) et given)
 
     by_test : (t : Test) (sense : Bool) → cond.test ≡ t → cond.sense ≡ sense → (i : ℕ) → node_at ns cond.node.0 ≡ Word i
         → IsDecided (known_at old cond.other.0) → low ≡ plain.number → IsPlainTest t plain.number
-        → Leaves (known_at new cond.node.0) (excluded_of ex' (node_at ns cond.node.0)) x → Gives t x low sense
+        → Leaves (known_at new cond.node.0) (excluded_of ex' (node_at ns cond.node.0)) x → TestGives t x low sense
     by_test Equal false et es i ei dw wl pt leaves =
         differs-gives x low (λ e. (rw ei at leaves.kept) (rw e (b.added i ei dw et es)))
     by_test Equal true et es i ei dw wl pt leaves = by_sharp Equal true et es dw leaves tt
@@ -251,7 +251,7 @@ plain-gives old new ex ex' ns cond d p lo ln lv lw s h b plain know a =
     by_node : (n : Node) → node_at ns cond.node.0 ≡ n → IsWordOrConst n → IsDecided (known_at old cond.other.0)
         → low ≡ plain.number
         → Leaves (known_at new cond.node.0) (excluded_of ex' (node_at ns cond.node.0)) x
-        → Gives cond.test x low cond.sense
+        → TestGives cond.test x low cond.sense
     by_node (Word i) e k dw wl leaves = by_test cond.test cond.sense refl refl i e dw wl plain.test leaves
     by_node (Const c) e k dw wl leaves =
         let v = know cond.node.0 c (omega arith) e in
@@ -263,7 +263,7 @@ plain-gives old new ex ex' ns cond d p lo ln lv lw s h b plain know a =
 pub first-facts : (new : List Known) (ex : List (List ℕ)) (ns : List Node) → IsPool ns → length ex ≡ 16
     → IsGrown [] new ex ns
     → Covers (record { known = new; excluded = ex }) ns
-first-facts new ex ns p len g = pass-facts new ex ns p g.covers len
+first-facts new ex ns p len g = propagate-facts new ex ns p g.covers len
     (λ i l. g.passed (λ k b. absurd (omega arith)) i (omega arith) l)
 
 -- an input

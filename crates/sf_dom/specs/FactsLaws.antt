@@ -11,7 +11,7 @@ use Rattle.sf_sym.specs.Pool.{IsPool, node_value, values_of, value_of, ArePlainN
 use Rattle.sf_sym.specs.ValueLaws.{value-node, value-constant}
 use Rattle.sf_sym.specs.declared.pool.Node.{Node}
 use Rattle.sf_dom.specs.declared.known.Known.{Known}
-use Rattle.sf_dom.specs.Known.{Admits, Leaves, IsSettled}
+use Rattle.sf_dom.specs.Known.{Admits, Leaves, IsConsistent}
 use Rattle.sf_dom.specs.Facts.{FactsView, known_at, numbers_at, AgreesWith, Agrees, AreFacts, Covers, SomeInput}
 
 -- an input agrees on the words
@@ -54,7 +54,7 @@ sampled f w n lw h leaves =
     ] in
     let fits : (i : ℕ) → get_or (set xs w n) i 0 < 2 ^ 32
     = λ i. elim (cases_lt i 16) [
-      | inl l ↦ omega (arith, (at i l).admitted.below, (h.settled i (omega arith)).fits)
+      | inl l ↦ omega (arith, (at i l).admitted.below, (h.consistent i (omega arith)).fits)
       | inr g ↦ omega (arith, get_or_past (set xs w n) i 0 (omega (arith, length-set xs w n)))
     ] in
     (d, record { sixteen = length-set xs w n ∙ len; each = fits }, at, get_or-set_same xs w n 0 (omega arith))
@@ -65,7 +65,7 @@ value-word ns d w p l = let words = p.words in
     value-node ns d w p (omega arith) ∙ ap (node_value d (values_of ns d)) (p.word w l)
 
 -- a decided node's facts admit its number
-pub decided-admits : (k : Known) (c : ℕ) → IsSettled k → k.low ≡ c → k.high ≡ c → Admits k c
+pub decided-admits : (k : Known) (c : ℕ) → IsConsistent k → k.low ≡ c → k.high ≡ c → Admits k c
 decided-admits k c s el eh =
     let f = s.fits in
     let d : k.low ≡ k.high = omega arith in
@@ -87,7 +87,7 @@ words-agree f ns d h plain a i l =
           let k = h.constants i c.0 l c.1 in
           rw (c.1, value-constant ns d i c.0 p (omega arith) c.1)
           (record {
-            admitted = decided-admits (known_at f.known i) c.0 (h.lawful.settled i l) k.0 k.1;
+            admitted = decided-admits (known_at f.known i) c.0 (h.lawful.consistent i l) k.0 k.1;
             kept = λ w. absurd (omega (arith, w.1));
           }))
     ]

@@ -3,14 +3,14 @@
 ghost use Rattle.std.specs.Prelude.{◌≡◌, ℕ, ◌<◌, ◌≤◌, length, slice_index, MatchBool, MatchOption, IfOk, IfSome};
 ghost use Rattle.sf_sym.specs.Pool.{IsCondBelow};
 ghost use Rattle.sf_dom.specs.Known.{Admits};
-ghost use Rattle.sf_dom.specs.Rules.{NoneAgreesOn, Holds, IsReady, IsNarrow, IsTaken, AreBothExcluded};
+ghost use Rattle.sf_dom.specs.Propagation.{NoneAgreesOn, Holds, IsReady, IsRestricted, IsLearnt, AreBothExcluded};
 
-use crate::domain::pass;
+use crate::propagation::propagate;
 use crate::exclusions::{Excluded, Exclusions, copy_all};
 use crate::fault::Fault;
 use crate::known::Known;
 use crate::nodes::Nodes;
-use crate::settle::{exclude_both, is_ruled_out, settle, settle_node};
+use crate::assuming::{exclude_both, is_ruled_out, assume_cond, meet_node};
 use sf_insn::Test;
 use sf_sym::{Cond, Pool};
 use std::alloc::Global;
@@ -41,7 +41,7 @@ fn with_told(
 }
 
 /// What a condition leaves, or none where no input that agrees meets it.
-pub fn taken(
+pub fn assumed(
     alloc: Global,
     nodes: &Nodes,
     excluded: &Excluded,
@@ -53,7 +53,7 @@ pub fn taken(
     requires below { IsCondBelow (length pool.now) cond.now }
     ensures { IfOk result (λ o. MatchOption o
         (NoneAgreesOn nodes.now.known excluded.now pool.now (Holds pool.now cond.now))
-        (λ r. IsTaken nodes.now.known excluded.now r.0.known r.1 pool.now cond.now)) }
+        (λ r. IsLearnt nodes.now.known excluded.now r.0.known r.1 pool.now cond.now)) }
 {
     let _count = pool.len();
     if is_ruled_out(nodes, excluded.as_slice(), pool, cond) {
@@ -61,29 +61,29 @@ pub fn taken(
     }
     let mut left = nodes.fork(alloc)?;
     let lists = with_told(alloc, excluded, nodes, pool, cond)?;
-    if !settle(&mut left, lists.as_slice(), pool, cond) {
+    if !assume_cond(&mut left, lists.as_slice(), pool, cond) {
         return Ok(None);
     }
     Ok(Some((left, lists)))
 }
 
 /// Takes into a word's facts what else is known of it. False: no input that agrees has it.
-fn narrow(nodes: &mut Nodes, excluded: &[Exclusions], pool: &Pool, word: usize, more: Known) -> bool
+fn meet_word(nodes: &mut Nodes, excluded: &[Exclusions], pool: &Pool, word: usize, more: Known) -> bool
     requires ready { IsReady nodes.old.known pool.now }
     requires words { length excluded.now ≡ 16 }
     requires word { word < 16 }
     ensures { MatchBool result
-        (IsNarrow nodes.old.known nodes.new.known excluded.now pool.now word more)
+        (IsRestricted nodes.old.known nodes.new.known excluded.now pool.now word more)
         (NoneAgreesOn nodes.old.known excluded.now pool.now
         (λ d. Admits more (slice_index d.words word))) }
 {
     let count = pool.len();
     prove!(word < count);
-    settle_node(nodes, excluded, pool, word, more) && pass(nodes, excluded, pool)
+    meet_node(nodes, excluded, pool, word, more) && propagate(nodes, excluded, pool)
 }
 
 /// What else is known of a word leaves this, or none where no input that agrees has it.
-pub fn narrowed(
+pub fn restricted(
     alloc: Global,
     nodes: &Nodes,
     excluded: &[Exclusions],
@@ -97,11 +97,11 @@ pub fn narrowed(
     ensures { IfOk result (λ o. MatchOption o
         (NoneAgreesOn nodes.now.known excluded.now pool.now
         (λ d. Admits more (slice_index d.words word)))
-        (λ r. IsNarrow nodes.now.known r.known excluded.now pool.now word more)) }
+        (λ r. IsRestricted nodes.now.known r.known excluded.now pool.now word more)) }
 {
     let _count = pool.len();
     let mut left = nodes.fork(alloc)?;
-    if !narrow(&mut left, excluded, pool, word, more) {
+    if !meet_word(&mut left, excluded, pool, word, more) {
         return Ok(None);
     }
     Ok(Some(left))

@@ -4,14 +4,14 @@ ghost use Rattle.std.specs.Prelude.{◌≡◌, ℕ, ◌<◌, ◌↔◌, ◌⊎�
 ghost use Rattle.std.specs.Arc.{arc_value};
 ghost use Rattle.sf_dom.specs.Known.{AreSameNumbers};
 ghost use Rattle.sf_dom.specs.Facts.{numbers_at};
-ghost use Rattle.sf_dom.specs.Rising.{AreRising};
+ghost use Rattle.sf_dom.specs.Ascending.{AreAscending};
 
 use crate::fault::Fault;
 use std::alloc::Global;
 use std::marker::Model;
 use std::sync::Arc;
 
-/// The numbers that a word does not have, in rising order. Copies share them, until one gets another number.
+/// The numbers that a word does not have, in ascending order. Copies share them, until one gets another number.
 #[derive(Drop)]
 pub struct Exclusions {
     numbers: Arc<Vec<u32>>,
@@ -23,11 +23,11 @@ impl Model for Exclusions {
 
     ghost Value = { List ℕ };
 
-    ghost use Rattle.sf_dom.specs.Rising.{AreRising};
+    ghost use Rattle.sf_dom.specs.Ascending.{AreAscending};
 
     ghost view = { λ e. (arc_value e.numbers).items };
 
-    ghost invariant = { λ e. AreRising (arc_value e.numbers).items };
+    ghost invariant = { λ e. AreAscending (arc_value e.numbers).items };
 }
 
 /// The numbers, as a slice.
@@ -37,18 +37,18 @@ fn slice_of(numbers: &Arc<Vec<u32>>) -> &[u32]
     numbers.as_slice()
 }
 
-/// Whether a number stands in a rising list.
+/// Whether a number stands in an ascending list.
 fn stands_in(list: &[u32], number: u32) -> bool
-    requires { AreRising list.now }
+    requires { AreAscending list.now }
     ensures { IsTrue result ↔ Contains list.now number }
 {
     list.binary_search(&number).is_ok()
 }
 
-/// A rising list with one more number, or none where the number is there.
+/// An ascending list with one more number, or none where the number is there.
 fn with_number(alloc: Global, list: &[u32], number: u32) -> Result<Option<Vec<u32>>, Fault>
-    requires { AreRising list.now }
-    ensures rising { IfOk result (λ o. IfSome o (λ v. AreRising v.items)) }
+    requires { AreAscending list.now }
+    ensures rising { IfOk result (λ o. IfSome o (λ v. AreAscending v.items)) }
     ensures numbers { IfOk result (λ o. MatchOption o
         (Contains list.now number)
         (λ v. (n : ℕ) → Contains v.items n ↔ (Contains list.now n ⊎ (n ≡ number)))) }
@@ -65,7 +65,7 @@ fn with_number(alloc: Global, list: &[u32], number: u32) -> Result<Option<Vec<u3
 
 /// Whether each of the numbers stands in the list.
 fn all_stand_in(numbers: &[u32], list: &[u32]) -> bool
-    requires { AreRising list.now }
+    requires { AreAscending list.now }
     ensures { IsTrue result ↔ ((n : ℕ) → Contains numbers.now n → Contains list.now n) }
 {
     for n in numbers {

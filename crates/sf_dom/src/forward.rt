@@ -2,9 +2,9 @@
 
 ghost use Rattle.std.specs.Prelude.{◌≡◌, ℕ, ◌+◌, ◌-◌, ◌*◌, ◌/◌, ◌%◌, ◌<◌, ◌≤◌, ◌^◌, if◌then◌else◌, ◌==◌, bit_and, bit_or, bit_xor};
 ghost use Rattle.sf_insn.specs.Words.{apply};
-ghost use Rattle.sf_dom.specs.Known.{Admits, IsSettled, IsDecided};
+ghost use Rattle.sf_dom.specs.Known.{Admits, IsConsistent, IsDecided};
 ghost use Rattle.sf_dom.specs.Facts.{KeepsDecided};
-ghost use Rattle.sf_dom.specs.Tightening.{IsForced};
+ghost use Rattle.sf_dom.specs.Reduction.{IsForced};
 
 use crate::known::Known;
 use sf_insn::BinOp;
@@ -23,7 +23,7 @@ fn between(low: u32, high: u32) -> Known
 }
 
 /// Nothing is known.
-pub fn full() -> Known
+pub fn top_known() -> Known
     ensures { (n : ℕ) → n < 2 ^ 32 → Admits result n }
 {
     between(0, u32::MAX)
@@ -32,7 +32,7 @@ pub fn full() -> Known
 /// A sum: where none of the sums wraps, or each does, they lie between those of the ends.
 fn add(a: Known, b: Known) -> Known
     ensures admits { (x y : ℕ) → Admits a x → Admits b y → Admits result ((x + y) % 2 ^ 32) }
-    ensures forced { IsSettled a → IsSettled b → IsDecided a → IsDecided b → IsForced result }
+    ensures forced { IsConsistent a → IsConsistent b → IsDecided a → IsDecided b → IsForced result }
 {
     let fits = a.high <= u32::MAX - b.high;
     let wraps = a.low > u32::MAX - b.low;
@@ -41,7 +41,7 @@ fn add(a: Known, b: Known) -> Known
     } else if wraps {
         between(a.low.wrapping_add(b.low), a.high.wrapping_add(b.high))
     } else {
-        full()
+        top_known()
     }
 }
 
@@ -49,14 +49,14 @@ fn add(a: Known, b: Known) -> Known
 fn sub(a: Known, b: Known) -> Known
     ensures admits { (x y : ℕ) → Admits a x → Admits b y
         → Admits result ((x + (2 ^ 32 - y)) % 2 ^ 32) }
-    ensures forced { IsSettled a → IsSettled b → IsDecided a → IsDecided b → IsForced result }
+    ensures forced { IsConsistent a → IsConsistent b → IsDecided a → IsDecided b → IsForced result }
 {
     if a.low >= b.high {
         between(a.low.wrapping_sub(b.high), a.high.wrapping_sub(b.low))
     } else if a.high < b.low {
         between(a.low.wrapping_sub(b.high), a.high.wrapping_sub(b.low))
     } else {
-        full()
+        top_known()
     }
 }
 
@@ -66,7 +66,7 @@ fn mul(a: Known, b: Known) -> Known
 {
     match a.high.checked_mul(b.high) {
         Some(high) => between(a.low.wrapping_mul(b.low), high),
-        None => full(),
+        None => top_known(),
     }
 }
 
@@ -84,7 +84,7 @@ fn div(a: Known, b: Known) -> Known
 /// An OR is at least each operand; its bit is 0 where both are, and 1 where one is.
 fn or(a: Known, b: Known) -> Known
     ensures admits { (x y : ℕ) → Admits a x → Admits b y → Admits result (bit_or x y) }
-    ensures forced { IsSettled a → IsSettled b → IsDecided a → IsDecided b → IsForced result }
+    ensures forced { IsConsistent a → IsConsistent b → IsDecided a → IsDecided b → IsForced result }
 {
     Known {
         low: a.low.max(b.low),
@@ -97,7 +97,7 @@ fn or(a: Known, b: Known) -> Known
 /// An AND is at most each operand; its bit is 0 where one is, and 1 where both are.
 fn and(a: Known, b: Known) -> Known
     ensures admits { (x y : ℕ) → Admits a x → Admits b y → Admits result (bit_and x y) }
-    ensures forced { IsSettled a → IsSettled b → IsDecided a → IsDecided b → IsForced result }
+    ensures forced { IsConsistent a → IsConsistent b → IsDecided a → IsDecided b → IsForced result }
 {
     Known {
         low: 0,
@@ -110,7 +110,7 @@ fn and(a: Known, b: Known) -> Known
 /// The bit of an XOR is known where both are.
 fn xor(a: Known, b: Known) -> Known
     ensures admits { (x y : ℕ) → Admits a x → Admits b y → Admits result (bit_xor x y) }
-    ensures forced { IsSettled a → IsSettled b → IsDecided a → IsDecided b → IsForced result }
+    ensures forced { IsConsistent a → IsConsistent b → IsDecided a → IsDecided b → IsForced result }
 {
     Known {
         low: 0,
@@ -164,7 +164,7 @@ fn shift_left(a: Known, b: Known) -> Known
     if b.low == b.high {
         shifted_left(a, b.low % 32)
     } else {
-        full()
+        top_known()
     }
 }
 
@@ -182,7 +182,7 @@ fn shift_right(a: Known, b: Known) -> Known
 /// What follows of an operation from what is known of its operands.
 pub fn forward(op: BinOp, a: Known, b: Known) -> Known
     ensures admits { (x y : ℕ) → Admits a x → Admits b y → Admits result (apply op x y) }
-    ensures forced { KeepsDecided op → IsSettled a → IsSettled b → IsDecided a → IsDecided b
+    ensures forced { KeepsDecided op → IsConsistent a → IsConsistent b → IsDecided a → IsDecided b
         → IsForced result }
 {
     match op {
@@ -201,13 +201,13 @@ pub fn forward(op: BinOp, a: Known, b: Known) -> Known
 /// What follows of the negation of a word.
 pub fn negated(a: Known) -> Known
     ensures admits { (x : ℕ) → Admits a x → Admits result ((2 ^ 32 - x) % 2 ^ 32) }
-    ensures forced { IsSettled a → IsDecided a → IsForced result }
+    ensures forced { IsConsistent a → IsDecided a → IsForced result }
 {
     if a.low >= 1 && a.high >= 1 {
         between(a.high.wrapping_neg(), a.low.wrapping_neg())
     } else if a.high == 0 {
         between(0, 0)
     } else {
-        full()
+        top_known()
     }
 }

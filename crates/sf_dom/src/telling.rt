@@ -6,20 +6,20 @@ ghost use Rattle.sf_insn.specs.declared.input.Input.{Input};
 ghost use Rattle.sf_sym.specs.declared.pool.Node.{Node as ANode};
 ghost use Rattle.sf_sym.specs.Pool.{OperandsBelow, node_at, value_of};
 ghost use Rattle.sf_dom.specs.Known.{Admits, HasBits};
-ghost use Rattle.sf_dom.specs.Rules.{Gives};
-ghost use Rattle.sf_dom.specs.Walks.{IsWalkedBack};
+ghost use Rattle.sf_dom.specs.Propagation.{TestGives};
+ghost use Rattle.sf_dom.specs.Backward.{IsPropagatedBack};
 ghost use Rattle.sf_dom.specs.Facts.{known_at, excluded_of, AgreesWith};
 
 use crate::exclusions::Exclusions;
 use crate::known::{Known, is_same};
 use crate::nodes::Nodes;
-use crate::settle::{back, constant_operand};
+use crate::assuming::{back, constant_operand};
 use sf_insn::Test;
 use sf_sym::{Node, NodeId, Pool};
 
 /// Whether a word equals a number, where its interval tells it.
 fn told_equal(known: Known, number: u32) -> Option<bool>
-    ensures { IfSome result (λ b. (x : ℕ) → Admits known x → Gives Test.Equal x number b) }
+    ensures { IfSome result (λ b. (x : ℕ) → Admits known x → TestGives Test.Equal x number b) }
 {
     if number < known.low || known.high < number {
         return Some(false);
@@ -32,7 +32,7 @@ fn told_equal(known: Known, number: u32) -> Option<bool>
 
 /// Whether a word is greater than a number, where its interval tells it.
 fn told_greater(known: Known, number: u32) -> Option<bool>
-    ensures { IfSome result (λ b. (x : ℕ) → Admits known x → Gives Test.Greater x number b) }
+    ensures { IfSome result (λ b. (x : ℕ) → Admits known x → TestGives Test.Greater x number b) }
 {
     if number < known.low {
         return Some(true);
@@ -45,7 +45,7 @@ fn told_greater(known: Known, number: u32) -> Option<bool>
 
 /// Whether a word is at least a number, where its interval tells it.
 fn told_at_least(known: Known, number: u32) -> Option<bool>
-    ensures { IfSome result (λ b. (x : ℕ) → Admits known x → Gives Test.GreaterOrEqual x number b) }
+    ensures { IfSome result (λ b. (x : ℕ) → Admits known x → TestGives Test.GreaterOrEqual x number b) }
 {
     if number <= known.low {
         return Some(true);
@@ -58,7 +58,7 @@ fn told_at_least(known: Known, number: u32) -> Option<bool>
 
 /// Whether a word has a common bit with a number, where its known bits tell it.
 fn told_common(known: Known, number: u32) -> Option<bool>
-    ensures { IfSome result (λ b. (x : ℕ) → Admits known x → Gives Test.AnyBit x number b) }
+    ensures { IfSome result (λ b. (x : ℕ) → Admits known x → TestGives Test.AnyBit x number b) }
 {
     if known.ones & number != 0 {
         return Some(true);
@@ -72,7 +72,7 @@ fn told_common(known: Known, number: u32) -> Option<bool>
 /// Whether a word passes a test against a number, where its interval and known bits tell it. They are tight, so a result
 /// that they tell moves no end and adds no bit, and the other one leaves no number.
 fn told_by(known: Known, test: Test, number: u32) -> Option<bool>
-    ensures { IfSome result (λ b. (x : ℕ) → Admits known x → Gives test x number b) }
+    ensures { IfSome result (λ b. (x : ℕ) → Admits known x → TestGives test x number b) }
 {
     match test {
         Test::Equal => told_equal(known, number),
@@ -98,7 +98,7 @@ fn is_excluded(excluded: &[Exclusions], node: Node, number: u32) -> bool
 fn are_walked_back(nodes: &Nodes, pool: &Pool, from: usize) -> bool
     requires count { length nodes.now.known ≡ length pool.now }
     requires start { from < length pool.now }
-    ensures { IsTrue result → (n : ℕ) → IsWalkedBack n nodes.now.known pool.now from }
+    ensures { IsTrue result → (n : ℕ) → IsPropagatedBack n nodes.now.known pool.now from }
 {
     let mut at = from;
     while let Some((op, x, c)) = constant_operand(pool, at) {
@@ -130,7 +130,7 @@ fn told_at(
     requires place { at < length pool.now }
     ensures { IfSome result (λ b. (d : Input) → IsInput d
         → AgreesWith nodes.now.known excluded.now pool.now d
-        → Gives test (value_of pool.now d at) number b) }
+        → TestGives test (value_of pool.now d at) number b) }
 {
     if let Some(sense) = told_by(nodes.get(at), test, number) {
         return Some(sense);
@@ -162,8 +162,8 @@ pub fn told_of(
     requires place { at < length pool.now }
     ensures told { IfSome result (λ b. (d : Input) → IsInput d
         → AgreesWith nodes.now.known excluded.now pool.now d
-        → Gives test (value_of pool.now d at) number b) }
-    ensures walked { IfSome result (λ b. (n : ℕ) → IsWalkedBack n nodes.now.known pool.now at) }
+        → TestGives test (value_of pool.now d at) number b) }
+    ensures walked { IfSome result (λ b. (n : ℕ) → IsPropagatedBack n nodes.now.known pool.now at) }
 {
     let sense = told_at(nodes, excluded, pool, at, test, number)?;
     if !are_walked_back(nodes, pool, at) {

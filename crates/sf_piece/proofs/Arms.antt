@@ -8,26 +8,26 @@ use Rattle.sf_insn.specs.Words.{apply}
 use Rattle.sf_insn.specs.declared.ops.BinOp.TheVariants.{Div}
 use Rattle.sf_check.specs.declared.insn.Insn.{Insn}
 use Rattle.sf_check.specs.declared.insn.Insn.TheVariants.{LoadScratch, LoadXScratch, StoreA, StoreX, Jump, Tax, Txa}
-use Rattle.sf_run.specs.Machine.{State, goes, executed}
+use Rattle.sf_run.specs.Machine.{State, goes, insn_progress}
 use Rattle.sf_sym.specs.declared.pool.Node.{Node}
 use Rattle.sf_sym.specs.declared.pool.Node.TheVariants.{Const}
 use Rattle.sf_sym.specs.declared.pool.NodeId.{NodeId}
 use Rattle.sf_sym.specs.Pool.{value_of, values_of, node_value}
-use Rattle.sf_piece.specs.declared.machine.Machine.{Machine}
+use Rattle.sf_piece.specs.declared.machine.SymbolicMachine.{SymbolicMachine}
 use Rattle.sf_piece.specs.Pieces.{PieceData}
-use Rattle.sf_piece.specs.SymbolicRun.{valued, AreNodesBelow}
-use Rattle.sf_piece.specs.Works.{Goes, GoesBy, SetsA, SetsX, IsPushed, Standing}
+use Rattle.sf_piece.specs.SymbolicRun.{concrete_state, AreNodesBelow}
+use Rattle.sf_piece.specs.Works.{GoesTo, GoesBy, SetsA, SetsX, IsPushed, HasAtHand}
 use Rattle.sf_piece.proofs.Kept.{some_input}
 
-abbrev on_a : Machine → NodeId → Machine
+abbrev on_a : SymbolicMachine → NodeId → SymbolicMachine
 on_a m id = record m { a = id; place = m.place + 1; taken = 0; value = 0 }
 
-abbrev on_x : Machine → NodeId → Machine
+abbrev on_x : SymbolicMachine → NodeId → SymbolicMachine
 on_x m id = record m { x = id; place = m.place + 1; taken = 0; value = 0 }
 
 pub set_a_goes : (p : PieceData) (i : Insn) (node : Node) (q : PieceData) (id : NodeId) → IsPushed p node q id
-    → SetsA p i node → Goes q i (on_a q.machine id)
-set_a_goes p i node q id h sets = subst (λ (r : PieceData). Goes r i (on_a r.machine id)) (sym h.grown.same) (record {
+    → SetsA p i node → GoesTo q i (on_a q.machine id)
+set_a_goes p i node q id h sets = subst (λ (r : PieceData). GoesTo r i (on_a r.machine id)) (sym h.grown.same) (record {
   program = refl;
   so_far = refl;
   zero = refl;
@@ -37,14 +37,14 @@ set_a_goes p i node q id h sets = subst (λ (r : PieceData). Goes r i (on_a r.ma
   run = by sets;
 })
   where
-    to : (d : Input) (v : ℕ) → value_of q.pool d id.0 ≡ v → valued q.pool (on_a p.machine id) d
-        ≡ record (valued p.pool p.machine d) { place = p.machine.place + 1; a = v }
+    to : (d : Input) (v : ℕ) → value_of q.pool d id.0 ≡ v → concrete_state q.pool (on_a p.machine id) d
+        ≡ record (concrete_state p.pool p.machine d) { place = p.machine.place + 1; a = v }
     to d v e =
         ap (λ (s : State). record s { place = p.machine.place + 1; a = value_of q.pool d id.0 }) (h.grown.state d)
-        ∙ ap (λ (n : ℕ). record (valued p.pool p.machine d) { place = p.machine.place + 1; a = n }) e
+        ∙ ap (λ (n : ℕ). record (concrete_state p.pool p.machine d) { place = p.machine.place + 1; a = n }) e
 
     by : SetsA p i node → GoesBy (record p { pool = q.pool; facts = q.facts }) i (on_a p.machine id)
-    by (inl run) = inl (λ d. ap (λ (s : State). executed d s i) (h.grown.state d) ∙ run d
+    by (inl run) = inl (λ d. ap (λ (s : State). insn_progress d s i) (h.grown.state d) ∙ run d
         ∙ ap (goes []) (sym (to d (node_value d (values_of p.pool d) node) (h.value d))))
     by (inr (is, taken, value)) =
         inr (
@@ -57,27 +57,27 @@ set_a_goes p i node q id h sets = subst (λ (r : PieceData). Goes r i (on_a r.ma
         )
 
 pub set_x_goes : (p : PieceData) (i : Insn) (k : ℕ) (q : PieceData) (id : NodeId) → IsPushed p (Const k) q id
-    → SetsX p i k → Goes q i (on_x q.machine id)
-set_x_goes p i k q id h sets = subst (λ (r : PieceData). Goes r i (on_x r.machine id)) (sym h.grown.same) (record {
+    → SetsX p i k → GoesTo q i (on_x q.machine id)
+set_x_goes p i k q id h sets = subst (λ (r : PieceData). GoesTo r i (on_x r.machine id)) (sym h.grown.same) (record {
   program = refl;
   so_far = refl;
   zero = refl;
   taken = refl;
   value = refl;
   nodes = record { a = h.grown.nodes.a; x = h.within; zero = h.grown.nodes.zero; scratch = h.grown.nodes.scratch };
-  run = inl (λ d. ap (λ (s : State). executed d s i) (h.grown.state d) ∙ sets d
+  run = inl (λ d. ap (λ (s : State). insn_progress d s i) (h.grown.state d) ∙ sets d
       ∙ ap (goes []) (sym (to d (h.value d))));
 })
   where
-    to : (d : Input) → value_of q.pool d id.0 ≡ k → valued q.pool (on_x p.machine id) d
-        ≡ record (valued p.pool p.machine d) { place = p.machine.place + 1; x = k }
+    to : (d : Input) → value_of q.pool d id.0 ≡ k → concrete_state q.pool (on_x p.machine id) d
+        ≡ record (concrete_state p.pool p.machine d) { place = p.machine.place + 1; x = k }
     to d e =
         ap (λ (s : State). record s { place = p.machine.place + 1; x = value_of q.pool d id.0 }) (h.grown.state d)
-        ∙ ap (λ (n : ℕ). record (valued p.pool p.machine d) { place = p.machine.place + 1; x = n }) e
+        ∙ ap (λ (n : ℕ). record (concrete_state p.pool p.machine d) { place = p.machine.place + 1; x = n }) e
 
 -- ---- moves
 
-pub sixteen_scratch_words : (p : PieceData) (i : Insn) → Standing p i → length p.machine.scratch ≡ 16
+pub sixteen_scratch_words : (p : PieceData) (i : Insn) → HasAtHand p i → length p.machine.scratch ≡ 16
 sixteen_scratch_words p i s =
     sym (length-map p.machine.scratch (option_map (λ (n : NodeId). value_of p.pool some_input n.0)))
     ∙ (s.stands.inside.safe some_input).sixteen
@@ -106,11 +106,11 @@ set_below n (o ∷ ws) zero v h l (suc k) w e = h (suc k) w e
 set_below n (o ∷ ws) (suc j) v h l zero w e = h zero w e
 set_below n (o ∷ ws) (suc j) v h l (suc k) w e = set_below n ws j v (λ i x y. h (suc i) x y) l k w e
 
-abbrev on : Machine → Machine
+abbrev on : SymbolicMachine → SymbolicMachine
 on m = record m { place = m.place + 1; taken = 0; value = 0 }
 
 pub load_goes : (p : PieceData) (k : ℕ) (w : NodeId) → AreNodesBelow (length p.pool) p.machine
-    → slice_get p.machine.scratch k ≡ Some (Some w) → Goes p (LoadScratch k) (record (on p.machine) { a = w })
+    → slice_get p.machine.scratch k ≡ Some (Some w) → GoesTo p (LoadScratch k) (record (on p.machine) { a = w })
 load_goes p k w b at = record {
   program = refl;
   so_far = refl;
@@ -122,7 +122,7 @@ load_goes p k w b at = record {
 }
 
 pub load_x_goes : (p : PieceData) (k : ℕ) (w : NodeId) → AreNodesBelow (length p.pool) p.machine
-    → slice_get p.machine.scratch k ≡ Some (Some w) → Goes p (LoadXScratch k) (record (on p.machine) { x = w })
+    → slice_get p.machine.scratch k ≡ Some (Some w) → GoesTo p (LoadXScratch k) (record (on p.machine) { x = w })
 load_x_goes p k w b at = record {
   program = refl;
   so_far = refl;
@@ -134,7 +134,7 @@ load_x_goes p k w b at = record {
 }
 
 pub store_goes : (p : PieceData) (k : ℕ) → AreNodesBelow (length p.pool) p.machine
-    → Goes p (StoreA k) (record (on p.machine) { scratch = slice_set p.machine.scratch k (Some p.machine.a) })
+    → GoesTo p (StoreA k) (record (on p.machine) { scratch = slice_set p.machine.scratch k (Some p.machine.a) })
 store_goes p k b = record {
   program = refl;
   so_far = refl;
@@ -148,12 +148,12 @@ store_goes p k b = record {
     scratch = set_below (length p.pool) p.machine.scratch k p.machine.a b.scratch b.a;
   };
   run = inl (λ d. ap (λ (l : List (Option ℕ)).
-      goes [] (record (valued p.pool p.machine d) { place = p.machine.place + 1; scratch = l }))
+      goes [] (record (concrete_state p.pool p.machine d) { place = p.machine.place + 1; scratch = l }))
       (sym (map_set (λ n. value_of p.pool d n.0) p.machine.scratch k p.machine.a)));
 }
 
 pub store_x_goes : (p : PieceData) (k : ℕ) → AreNodesBelow (length p.pool) p.machine
-    → Goes p (StoreX k) (record (on p.machine) { scratch = slice_set p.machine.scratch k (Some p.machine.x) })
+    → GoesTo p (StoreX k) (record (on p.machine) { scratch = slice_set p.machine.scratch k (Some p.machine.x) })
 store_x_goes p k b = record {
   program = refl;
   so_far = refl;
@@ -167,12 +167,12 @@ store_x_goes p k b = record {
     scratch = set_below (length p.pool) p.machine.scratch k p.machine.x b.scratch b.x;
   };
   run = inl (λ d. ap (λ (l : List (Option ℕ)).
-      goes [] (record (valued p.pool p.machine d) { place = p.machine.place + 1; scratch = l }))
+      goes [] (record (concrete_state p.pool p.machine d) { place = p.machine.place + 1; scratch = l }))
       (sym (map_set (λ n. value_of p.pool d n.0) p.machine.scratch k p.machine.x)));
 }
 
 pub tax_goes : (p : PieceData) → AreNodesBelow (length p.pool) p.machine
-    → Goes p Tax (record (on p.machine) { x = p.machine.a })
+    → GoesTo p Tax (record (on p.machine) { x = p.machine.a })
 tax_goes p b = record {
   program = refl;
   so_far = refl;
@@ -184,7 +184,7 @@ tax_goes p b = record {
 }
 
 pub txa_goes : (p : PieceData) → AreNodesBelow (length p.pool) p.machine
-    → Goes p Txa (record (on p.machine) { a = p.machine.x })
+    → GoesTo p Txa (record (on p.machine) { a = p.machine.x })
 txa_goes p b = record {
   program = refl;
   so_far = refl;
@@ -196,7 +196,7 @@ txa_goes p b = record {
 }
 
 pub jump_goes : (p : PieceData) (k : ℕ) → AreNodesBelow (length p.pool) p.machine
-    → Goes p (Jump k) (record (on p.machine) { place = p.machine.place + 1 + k })
+    → GoesTo p (Jump k) (record (on p.machine) { place = p.machine.place + 1 + k })
 jump_goes p k b = record {
   program = refl;
   so_far = refl;

@@ -12,44 +12,44 @@ use Rattle.sf_check.specs.declared.insn.Insn.{Insn}
 use Rattle.sf_check.specs.declared.insn.Insn.TheVariants.{Alu, Branch, ReturnA}
 use Rattle.sf_check.specs.declared.insn.Operand.{Operand}
 use Rattle.sf_check.specs.declared.insn.Operand.TheVariants.{Constant, X}
-use Rattle.sf_check.specs.Programs.{IsLawful}
+use Rattle.sf_check.specs.Programs.{IsLawfulProgram}
 use Rattle.sf_check.specs.ProgramLaws.{successors_inside}
-use Rattle.sf_run.specs.Machine.{bits, trace_of, executed}
+use Rattle.sf_run.specs.Machine.{bits, trace_of, insn_progress}
 use Rattle.sf_run.specs.Routes.{IsWay, returns_at, goes_on, AreWays, IsWholeRoute, IsRoute}
 use Rattle.sf_run.specs.CompletionLaws.{some_way}
 use Rattle.sf_sym.specs.declared.pool.Node.{Node}
 use Rattle.sf_sym.specs.declared.pool.Cond.{Cond}
 use Rattle.sf_sym.specs.Pool.{value_of, is_met, same, IsCondBelow}
 use Rattle.sf_dom.specs.Facts.{FactsView}
-use Rattle.sf_piece.specs.declared.machine.Machine.{Machine}
+use Rattle.sf_piece.specs.declared.machine.SymbolicMachine.{SymbolicMachine}
 use Rattle.sf_piece.specs.Pieces.{PieceData, is_member, is_prefix, IsTrulyNamed}
-use Rattle.sf_piece.specs.SymbolicRun.{IsPending, StandsAt, IsPiece, IsLawfulPiece, valued}
-use Rattle.sf_piece.specs.Works.{Standing, Asks, NextIs, IsEntry, IsForeseen, AfterEntry, sensed, IsNever, IsImplied, AreChildFacts, IsChild, HasGone}
+use Rattle.sf_piece.specs.SymbolicRun.{IsPending, StandsAt, IsPiece, IsLawfulPiece, concrete_state}
+use Rattle.sf_piece.specs.Works.{HasAtHand, Asks, NextIs, IsQuery, IsForeseen, AfterTruthValue, with_sense, IsNever, IsImplied, AreChildFacts, IsChild, HasAdvanced}
 use Rattle.sf_piece.proofs.Moves.{made}
 use Rattle.sf_piece.proofs.Kept.{assembled, returned_nodes, some_input}
-use Rattle.sf_piece.proofs.Entries.{Turned, Meets, branch_turned, return_turned, zero_turned, nonzero_turned, entry_trace}
+use Rattle.sf_piece.proofs.Queries.{Turned, Meets, branch_turned, return_turned, zero_turned, nonzero_turned, entry_trace}
 use Rattle.sf_piece.proofs.Prefixes.{prefix_next, same-true, and-true}
 
--- ---- after any entry
+-- ---- after any truth value
 
-turned : (p : PieceData) (i : Insn) (b : Bool) (cs : List Cond) (fs : FactsView) (m : Machine) → IsPiece p
-    → Standing p i → Asks p i → AfterEntry p i b m → Meets p i cs b
+turned : (p : PieceData) (i : Insn) (b : Bool) (cs : List Cond) (fs : FactsView) (m : SymbolicMachine) → IsPiece p
+    → HasAtHand p i → Asks p i → AfterTruthValue p i b m → Meets p i cs b
     → Turned p (made p (p.name ++ b ∷ []) cs m fs)
 turned p (Branch test other t f) b cs fs m h s asks after meets =
-    subst (λ (k : Machine). Turned p (made p (p.name ++ b ∷ []) cs k fs)) (sym after)
+    subst (λ (k : SymbolicMachine). Turned p (made p (p.name ++ b ∷ []) cs k fs)) (sym after)
     (branch_turned p test other t f b cs fs h s meets)
 turned p ReturnA b cs fs m h s asks after meets =
-    subst (λ (k : Machine). Turned p (made p (p.name ++ b ∷ []) cs k fs)) (sym after)
+    subst (λ (k : SymbolicMachine). Turned p (made p (p.name ++ b ∷ []) cs k fs)) (sym after)
     (return_turned p b cs fs h s asks meets)
 turned p (Alu op other) b cs fs m h s asks after meets = alu op other b s asks after meets
   where
-    alu : (op : BinOp) (other : Operand) (b : Bool) → Standing p (Alu op other) → Asks p (Alu op other)
-        → AfterEntry p (Alu op other) b m → Meets p (Alu op other) cs b → Turned p (made p (p.name ++ b ∷ []) cs m fs)
+    alu : (op : BinOp) (other : Operand) (b : Bool) → HasAtHand p (Alu op other) → Asks p (Alu op other)
+        → AfterTruthValue p (Alu op other) b m → Meets p (Alu op other) cs b → Turned p (made p (p.name ++ b ∷ []) cs m fs)
     alu Div X true s asks after meets =
-        subst (λ (k : Machine). Turned p (made p (p.name ++ true ∷ []) cs k fs)) (sym after)
+        subst (λ (k : SymbolicMachine). Turned p (made p (p.name ++ true ∷ []) cs k fs)) (sym after)
         (zero_turned p cs fs (returned_nodes p 0 h.nodes) h s asks meets)
     alu Div X false s asks after meets =
-        subst (λ (k : Machine). Turned p (made p (p.name ++ false ∷ []) cs k fs)) (sym after)
+        subst (λ (k : SymbolicMachine). Turned p (made p (p.name ++ false ∷ []) cs k fs)) (sym after)
         (nonzero_turned p cs fs h s asks meets)
     alu Div (Constant k) b s asks after meets = absurd after
     alu _ other b s asks after meets = absurd after
@@ -62,29 +62,29 @@ same_right true = refl
 same_right false = refl
 
 pub sense_is : (pool : List Node) (d : Input) (cond : Cond) (b : Bool) → cond.sense ≡ true
-    → is_met pool d (sensed cond b) ≡ same (is_met pool d cond) b
+    → is_met pool d (with_sense cond b) ≡ same (is_met pool d cond) b
 sense_is pool d cond b e =
     let x = passes cond.test (value_of pool d cond.node.0) (value_of pool d cond.other.0) in
     let plain : same x cond.sense ≡ x = ap (λ (v : Bool). same x v) e ∙ same_right x in
     ap (λ (v : Bool). same v b) (sym plain)
 
 -- the name with one more truth value
-named_next : (p : PieceData) (i : Insn) (x b : Bool) → IsPiece p → Standing p i → (d : Input) → IsInput d
-    → (is_member p d ≡ true → NextIs (executed d (valued p.pool p.machine d) i) p.machine.taken x)
+named_next : (p : PieceData) (i : Insn) (x b : Bool) → IsPiece p → HasAtHand p i → (d : Input) → IsInput d
+    → (is_member p d ≡ true → NextIs (insn_progress d (concrete_state p.pool p.machine d) i) p.machine.taken x)
     → (is_member p d && same x b) ≡ is_prefix (p.name ++ b ∷ []) (trace_of p.stack d)
 named_next p i x b h s d inp next =
     prefix_next p.name (trace_of p.stack d) b x (is_member p d) (h.members d inp)
     (λ member. entry_trace p i x s d (next member) inp member)
 
 -- what the facts tell of a condition is the next truth value on every member
-pub entry_foreseen : (p : PieceData) (i : Insn) (cond : Cond) (b : Bool) → IsEntry p i cond → IsImplied p cond b
+pub entry_foreseen : (p : PieceData) (i : Insn) (cond : Cond) (b : Bool) → IsQuery p i cond → IsImplied p cond b
     → IsForeseen p i b
 entry_foreseen p i cond b e imp = record {
   asks = e.asks;
   next = λ d inp member.
       let is : is_met p.pool d cond ≡ b = same-true (is_met p.pool d cond) b
       (sym (sense_is p.pool d cond b e.sense) ∙ imp d inp member) in
-      subst (λ (v : Bool). NextIs (executed d (valued p.pool p.machine d) i) p.machine.taken v) is (e.next d);
+      subst (λ (v : Bool). NextIs (insn_progress d (concrete_state p.pool p.machine d) i) p.machine.taken v) is (e.next d);
 }
 
 other_way : (x b : Bool) → same x (not b) ≡ false → same x b ≡ true
@@ -101,7 +101,7 @@ never_implies p cond b h d inp member = other_way
 -- after a test
 pub branch_after : (p : PieceData) (i : Insn) (test : Test) (other : Operand) (t f next : ℕ) (b : Bool)
     → i ≡ Branch test other t f → next ≡ (if b then t else f)
-    → AfterEntry p i b (record p.machine { place = p.machine.place + 1 + next })
+    → AfterTruthValue p i b (record p.machine { place = p.machine.place + 1 + next })
 branch_after p i test other t f next b e h =
     rw e (ap (λ (n : ℕ). record p.machine { place = p.machine.place + 1 + n }) h)
 
@@ -114,11 +114,11 @@ and_same true true = refl
 and_same true false = refl
 and_same false b = refl
 
-abbrev pub taken_on : PieceData → Bool → Machine → PieceData
+abbrev pub taken_on : PieceData → Bool → SymbolicMachine → PieceData
 taken_on p b m = made p (p.name ++ b ∷ []) p.conditions m p.facts
 
-pub take_piece : (p : PieceData) (i : Insn) (b : Bool) (m : Machine) → IsPiece p → Standing p i → IsForeseen p i b
-    → AfterEntry p i b m → IsPiece (taken_on p b m)
+pub take_piece : (p : PieceData) (i : Insn) (b : Bool) (m : SymbolicMachine) → IsPiece p → HasAtHand p i → IsForeseen p i b
+    → AfterTruthValue p i b m → IsPiece (taken_on p b m)
 unfolding is_member
 take_piece p i b m h s fore after =
     let t = turned p i b p.conditions p.facts m h s fore.asks after (foreseen_meets p i b fore) in
@@ -126,8 +126,8 @@ take_piece p i b m h s fore after =
     (λ d inp. and_same (is_member p d) b ∙ named_next p i b b h s d inp (fore.next d inp))
     t.rest t.base t.pre t.stands
 
-pub take_gone : (p : PieceData) (i : Insn) (b : Bool) (m : Machine) → IsPiece p → Standing p i → IsForeseen p i b
-    → AfterEntry p i b m → HasGone p (taken_on p b m)
+pub take_gone : (p : PieceData) (i : Insn) (b : Bool) (m : SymbolicMachine) → IsPiece p → HasAtHand p i → IsForeseen p i b
+    → AfterTruthValue p i b m → HasAdvanced p (taken_on p b m)
 unfolding is_member
 take_gone p i b m h s fore after =
     let t = turned p i b p.conditions p.facts m h s fore.asks after (foreseen_meets p i b fore) in
@@ -148,35 +148,35 @@ below_push : (n : ℕ) (cs : List Cond) (c : Cond) → AllByRecursion (IsCondBel
 below_push n [] c b h = (h, tt)
 below_push n (x ∷ cs) c b h = (b.0, below_push n cs c b.1 h)
 
-abbrev pub child_of : PieceData → Cond → Bool → Machine → FactsView → PieceData
-child_of p cond b m fs = made p (p.name ++ b ∷ []) (p.conditions ++ sensed cond b ∷ []) m fs
+abbrev pub child_of : PieceData → Cond → Bool → SymbolicMachine → FactsView → PieceData
+child_of p cond b m fs = made p (p.name ++ b ∷ []) (p.conditions ++ with_sense cond b ∷ []) m fs
 
-pub child_members : (p : PieceData) (cond : Cond) (b : Bool) (m : Machine) (fs : FactsView) (d : Input)
-    → is_member (child_of p cond b m fs) d ≡ (is_member p d && is_met p.pool d (sensed cond b))
+pub child_members : (p : PieceData) (cond : Cond) (b : Bool) (m : SymbolicMachine) (fs : FactsView) (d : Input)
+    → is_member (child_of p cond b m fs) d ≡ (is_member p d && is_met p.pool d (with_sense cond b))
 unfolding is_member
-child_members p cond b m fs d = all_push (is_met p.pool d) p.conditions (sensed cond b)
+child_members p cond b m fs d = all_push (is_met p.pool d) p.conditions (with_sense cond b)
 
-child_both : (p : PieceData) (cond : Cond) (b : Bool) (m : Machine) (fs : FactsView) (d : Input)
-    → is_member (child_of p cond b m fs) d ≡ true → (is_member p d ≡ true) × (is_met p.pool d (sensed cond b) ≡ true)
-child_both p cond b m fs d member = and-true (is_member p d) (is_met p.pool d (sensed cond b))
+child_both : (p : PieceData) (cond : Cond) (b : Bool) (m : SymbolicMachine) (fs : FactsView) (d : Input)
+    → is_member (child_of p cond b m fs) d ≡ true → (is_member p d ≡ true) × (is_met p.pool d (with_sense cond b) ≡ true)
+child_both p cond b m fs d member = and-true (is_member p d) (is_met p.pool d (with_sense cond b))
     (sym (child_members p cond b m fs d) ∙ member)
 
-child_meets : (p : PieceData) (i : Insn) (cond : Cond) (b : Bool) (m : Machine) (fs : FactsView) → IsEntry p i cond
-    → Meets p i (p.conditions ++ sensed cond b ∷ []) b
+child_meets : (p : PieceData) (i : Insn) (cond : Cond) (b : Bool) (m : SymbolicMachine) (fs : FactsView) → IsQuery p i cond
+    → Meets p i (p.conditions ++ with_sense cond b ∷ []) b
 unfolding is_member
 child_meets p i cond b m fs e d inp member =
     let both = child_both p cond b m fs d member in
     let is : is_met p.pool d cond ≡ b = same-true (is_met p.pool d cond) b
     (sym (sense_is p.pool d cond b e.sense) ∙ both.1) in
-    (both.0, subst (λ (v : Bool). NextIs (executed d (valued p.pool p.machine d) i) p.machine.taken v) is (e.next d))
+    (both.0, subst (λ (v : Bool). NextIs (insn_progress d (concrete_state p.pool p.machine d) i) p.machine.taken v) is (e.next d))
 
-pub child_piece : (p : PieceData) (i : Insn) (cond : Cond) (b : Bool) (m : Machine) (fs : FactsView) → IsPiece p
-    → Standing p i → IsEntry p i cond → AreChildFacts p cond b fs → AfterEntry p i b m
+pub child_piece : (p : PieceData) (i : Insn) (cond : Cond) (b : Bool) (m : SymbolicMachine) (fs : FactsView) → IsPiece p
+    → HasAtHand p i → IsQuery p i cond → AreChildFacts p cond b fs → AfterTruthValue p i b m
     → IsPiece (child_of p cond b m fs)
 child_piece p i cond b m fs h s e facts after =
-    let t = turned p i b (p.conditions ++ sensed cond b ∷ []) fs m h s e.asks after (child_meets p i cond b m fs e) in
-    assembled p (p.name ++ b ∷ []) (p.conditions ++ sensed cond b ∷ []) m fs h
-    (below_push (length p.pool) p.conditions (sensed cond b) h.bounded e.below) t.nodes t.zero_is facts.covers
+    let t = turned p i b (p.conditions ++ with_sense cond b ∷ []) fs m h s e.asks after (child_meets p i cond b m fs e) in
+    assembled p (p.name ++ b ∷ []) (p.conditions ++ with_sense cond b ∷ []) m fs h
+    (below_push (length p.pool) p.conditions (with_sense cond b) h.bounded e.below) t.nodes t.zero_is facts.covers
     (λ d inp member. let both = child_both p cond b m fs d member in facts.known d inp both.0 both.1)
     (λ d inp. child_members p cond b m fs d ∙ ap (λ (v : Bool). is_member p d && v) (sense_is p.pool d cond b e.sense)
     ∙ named_next p i (is_met p.pool d cond) b h s d inp (λ member. e.next d))
@@ -184,7 +184,7 @@ child_piece p i cond b m fs h s e facts after =
 
 -- ---- names are routes
 
-some_ways : (codes : List (List Insn)) → AllByRecursion IsLawful codes → (more : List Bool) × AreWays codes more
+some_ways : (codes : List (List Insn)) → AllByRecursion IsLawfulProgram codes → (more : List Bool) × AreWays codes more
 some_ways [] laws = ([], refl)
 some_ways (code ∷ codes) laws =
     let way = some_way (length code) code 0 laws.0 laws.0.some (omega arith) in
@@ -196,7 +196,7 @@ length-bits zero a = refl
 length-bits (suc n) a = ap suc (length-bits n a)
 
 -- a way from a place that goes on from the truth values taken
-fill : (code : List Insn) (place taken : ℕ) (pre : List Bool) → IsLawful code → place < length code
+fill : (code : List Insn) (place taken : ℕ) (pre : List Bool) → IsLawfulProgram code → place < length code
     → IsPending code place taken pre → (on : List Bool) × IsWay code place (pre ++ on)
 fill code place taken pre lawful inside (inl (none, e)) =
     let way = some_way (length code) code place lawful inside (omega arith) in
@@ -239,7 +239,7 @@ route_of p (code ∷ later) base pre s =
 pub piece_named : (p : PieceData) → IsPiece p → IsTrulyNamed p
 piece_named p h = record { route = route_of p h.rest h.base h.pre h.stands; members = h.members }
 
-pub child_is : (p : PieceData) (cond : Cond) (b : Bool) (m : Machine) (fs : FactsView) → AreChildFacts p cond b fs
+pub child_is : (p : PieceData) (cond : Cond) (b : Bool) (m : SymbolicMachine) (fs : FactsView) → AreChildFacts p cond b fs
     → IsLawfulPiece (child_of p cond b m fs) → IsChild p cond b (child_of p cond b m fs)
 child_is p cond b m fs facts h = record {
   of = refl;

@@ -4,7 +4,7 @@ use Rattle.std.specs.List.{AllByRecursion}
 use Rattle.sf_insn.specs.declared.input.Input.{Input}
 use Rattle.sf_check.specs.declared.insn.Insn.{Insn}
 use Rattle.sf_run.specs.Machine.{State}
-use Rattle.sf_run.specs.RunLaws.{Safe}
+use Rattle.sf_run.specs.RunLaws.{IsReachable}
 use Rattle.sf_sym.specs.declared.pool.Node.{Node}
 use Rattle.sf_sym.specs.declared.pool.NodeId.{NodeId}
 use Rattle.sf_sym.specs.declared.pool.Cond.{Cond}
@@ -12,11 +12,11 @@ use Rattle.sf_sym.specs.declared.pool.Node.TheVariants.{Const}
 use Rattle.sf_sym.specs.Pool.{node_at, IsPool, value_of, values_of, node_value, IsCondBelow}
 use Rattle.sf_sym.specs.ValueLaws.{value-older}
 use Rattle.sf_dom.specs.Facts.{FactsView, Covers, TakesIn, NoneAgrees}
-use Rattle.sf_piece.specs.declared.machine.Machine.{Machine}
+use Rattle.sf_piece.specs.declared.machine.SymbolicMachine.{SymbolicMachine}
 use Rattle.sf_piece.specs.Pieces.{PieceData, is_member, HasNoMember}
-use Rattle.sf_piece.specs.SymbolicRun.{valued, InProgram, HasTaken, RunsOn, AreNodesBelow, StandsAt, IsPiece, IsLawfulPiece}
+use Rattle.sf_piece.specs.SymbolicRun.{concrete_state, InProgram, HasTaken, RunsOn, AreNodesBelow, StandsAt, IsPiece, IsLawfulPiece}
 use Rattle.sf_piece.specs.Works.{HasGrown, IsPushed}
-use Rattle.sf_piece.proofs.Valued.{valued_grown, all_grown}
+use Rattle.sf_piece.proofs.ConcreteStates.{valued_grown, all_grown}
 
 -- ---- a grown pool
 
@@ -27,7 +27,7 @@ below_le : (n m : ℕ) (cs : List Cond) → n ≤ m → AllByRecursion (IsCondBe
 below_le n m [] h b = tt
 below_le n m (c ∷ cs) h b = ((omega (arith, b.0.0), omega (arith, b.0.1)), below_le n m cs h b.1)
 
-nodes_le : (n m : ℕ) (k : Machine) → n ≤ m → AreNodesBelow n k → AreNodesBelow m k
+nodes_le : (n m : ℕ) (k : SymbolicMachine) → n ≤ m → AreNodesBelow n k → AreNodesBelow m k
 nodes_le n m k h b = record {
   a = omega (arith, b.a);
   x = omega (arith, b.x);
@@ -46,7 +46,7 @@ in_grown : (p : PieceData) (added : List Node) (rest : List (List Insn)) (pre : 
 in_grown p added [] pre b h = h
 in_grown p added (code ∷ later) pre b h = record {
   safe = λ d.
-      subst (Safe code) (sym (valued_grown p.pool added p.machine d b)) (h.safe d);
+      subst (IsReachable code) (sym (valued_grown p.pool added p.machine d b)) (h.safe d);
   pending = h.pending;
 }
 
@@ -62,7 +62,7 @@ stands_grown p added fs rest base pre bounded b s = record {
   route = s.route;
   runs = λ d inp member.
       let f = s.runs d inp (sym (members_grown p added fs d bounded) ∙ member) in
-      let same : valued (p.pool ++ added) p.machine d ≡ valued p.pool p.machine d =
+      let same : concrete_state (p.pool ++ added) p.machine d ≡ concrete_state p.pool p.machine d =
       valued_grown p.pool added p.machine d b in
       record {
         ends = λ more vs r. f.ends more vs (subst (λ (t : State). RunsOn rest d t more vs) same r);

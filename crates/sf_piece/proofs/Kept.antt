@@ -12,22 +12,22 @@ use Rattle.sf_check.specs.declared.insn.Insn.{Insn}
 use Rattle.sf_check.specs.declared.insn.Insn.TheVariants.{Alu, ReturnConstant, ReturnA}
 use Rattle.sf_check.specs.declared.insn.Operand.TheVariants.{X}
 use Rattle.sf_check.specs.Insns.{successors, stored_by}
-use Rattle.sf_check.specs.Programs.{IsAt, IsLawful, Stores}
-use Rattle.sf_check.specs.MemberLaws.{contains_here, any_cons}
+use Rattle.sf_check.specs.Programs.{IsAt, IsLawfulProgram, Stores}
+use Rattle.sf_check.specs.ContainsLaws.{contains_here, any_cons}
 use Rattle.sf_check.specs.ProgramLaws.{successors_inside, below_in}
-use Rattle.sf_run.specs.Machine.{State, Progress, goes, returns, stuck, bits, executed, step}
+use Rattle.sf_run.specs.Machine.{State, Progress, goes, returns, stuck, bits, insn_progress, step}
 use Rattle.sf_run.specs.Routes.{MayMeet}
-use Rattle.sf_run.specs.RunLaws.{Safe, safe_next, step_is}
+use Rattle.sf_run.specs.RunLaws.{IsReachable, safe_next, step_is}
 use Rattle.sf_run.specs.TraceLaws.{step_allowed}
 use Rattle.sf_sym.specs.declared.pool.Cond.{Cond}
 use Rattle.sf_sym.specs.Pool.{value_of, IsCondBelow}
 use Rattle.sf_sym.specs.SizeLaws.{value-small}
 use Rattle.sf_dom.specs.Facts.{FactsView, Covers, Agrees}
-use Rattle.sf_piece.specs.declared.machine.Machine.{Machine}
-use Rattle.sf_piece.specs.Machines.{returned}
+use Rattle.sf_piece.specs.declared.machine.SymbolicMachine.{SymbolicMachine}
+use Rattle.sf_piece.specs.Machines.{after_return}
 use Rattle.sf_piece.specs.Pieces.{PieceData, is_member, is_prefix}
-use Rattle.sf_piece.specs.SymbolicRun.{valued, met_of, number_from, IsPending, AreNodesBelow, StandsAt, IsPiece}
-use Rattle.sf_piece.specs.Works.{Standing, Goes, GoesBy, ReturnsNow, HasGone, IsOn}
+use Rattle.sf_piece.specs.SymbolicRun.{concrete_state, met_of, number_from, IsPending, AreNodesBelow, StandsAt, IsPiece}
+use Rattle.sf_piece.specs.Works.{HasAtHand, GoesTo, GoesBy, ReturnsNow, HasAdvanced, IsContinuation}
 use Rattle.sf_piece.proofs.Moves.{made, stands_moved, stands_returned}
 
 pub at_same : (code : List Insn) (place : ℕ) (i j : Insn) → IsAt code place i → IsAt code place j → i ≡ j
@@ -43,28 +43,28 @@ div_clash false u t e = cc
 
 -- where a step meets nothing, nothing of it is in the name
 nothing_taken : (code : List Insn) (place taken : ℕ) (pre : List Bool) (i : Insn) (d : Input) (s t : State)
-    → IsPending code place taken pre → IsAt code place i → executed d s i ≡ goes [] t → pre ≡ []
+    → IsPending code place taken pre → IsAt code place i → insn_progress d s i ≡ goes [] t → pre ≡ []
 nothing_taken code place taken pre i d s t (inl p) at e = p.1
 nothing_taken code place taken pre i d s t (inr (inl p)) at e =
-    let clash : executed d s ReturnA ≡ goes [] t =
-    subst (λ (j : Insn). executed d s j ≡ goes [] t) (at_same code place i ReturnA at p.0) e in
+    let clash : insn_progress d s ReturnA ≡ goes [] t =
+    subst (λ (j : Insn). insn_progress d s j ≡ goes [] t) (at_same code place i ReturnA at p.0) e in
     absurd cc
 nothing_taken code place taken pre i d s t (inr (inr p)) at e =
     absurd (div_clash (s.x == 0) (record s { place = s.place + 1; a = apply Div s.a s.x }) t
-    (subst (λ (j : Insn). executed d s j ≡ goes [] t) (at_same code place i (Alu Div X) at p.0) e))
+    (subst (λ (j : Insn). insn_progress d s j ≡ goes [] t) (at_same code place i (Alu Div X) at p.0) e))
 
 abbrev Allowed : ℕ → Insn → Progress → Type 0
 Allowed at i (goes met next) = MayMeet at i met (Some next.place)
 Allowed at i (returns met value) = MayMeet at i met None
 Allowed at i stuck = Unit {0}
 
-pub may_go : (d : Input) (s : State) (i : Insn) (met : List Bool) (t : State) → executed d s i ≡ goes met t
+pub may_go : (d : Input) (s : State) (i : Insn) (met : List Bool) (t : State) → insn_progress d s i ≡ goes met t
     → MayMeet s.place i met (Some t.place)
 may_go d s i met t e = subst (λ (q : Progress). Allowed s.place i q) e (step_allowed d s i)
 
 -- the same scratch words at a place to which the instruction leads
-pub safe_moved : (code : List Insn) (s t : State) (i : Insn) → IsLawful code → Safe code s → IsAt code s.place i
-    → Contains (successors s.place i) t.place → stored_by i ≡ None → t.scratch ≡ s.scratch → Safe code t
+pub safe_moved : (code : List Insn) (s t : State) (i : Insn) → IsLawfulProgram code → IsReachable code s → IsAt code s.place i
+    → Contains (successors s.place i) t.place → stored_by i ≡ None → t.scratch ≡ s.scratch → IsReachable code t
 safe_moved code s t i lawful safe at leads none same = record {
   inside = below_in (length code) (successors s.place i) t.place
       (successors_inside code s.place i at (lawful.inside s.place i at) lawful.ends) leads;
@@ -79,7 +79,7 @@ safe_moved code s t i lawful safe at leads none same = record {
 }
 
 -- a piece of the same pool
-pub assembled : (p : PieceData) (name : List Bool) (cs : List Cond) (m : Machine) (fs : FactsView) → IsPiece p
+pub assembled : (p : PieceData) (name : List Bool) (cs : List Cond) (m : SymbolicMachine) (fs : FactsView) → IsPiece p
     → AllByRecursion (IsCondBelow (length p.pool)) cs → AreNodesBelow (length p.pool) m → m.zero ≡ p.machine.zero
     → Covers fs p.pool
     → ((d : Input) → IsInput d → is_member (made p name cs m fs) d ≡ true → Agrees fs p.pool d)
@@ -102,15 +102,15 @@ assembled p name cs m fs h bounded nodes zero_is covers known members rest base 
   stands = stands;
 }
 
-pub same_members : (p : PieceData) (m : Machine) → IsOn p (made p p.name p.conditions m p.facts)
+pub same_members : (p : PieceData) (m : SymbolicMachine) → IsContinuation p (made p p.name p.conditions m p.facts)
 unfolding is_member
 same_members p m =
     record { of = refl; conditions = refl; on = []; name = sym (append-nil p.name); members = λ d inp. refl }
 
-abbrev pub gone : PieceData → Machine → PieceData
+abbrev pub gone : PieceData → SymbolicMachine → PieceData
 gone p m = made p p.name p.conditions m p.facts
 
-kept : (p : PieceData) (m : Machine) → IsPiece p → AreNodesBelow (length p.pool) m → m.zero ≡ p.machine.zero
+kept : (p : PieceData) (m : SymbolicMachine) → IsPiece p → AreNodesBelow (length p.pool) m → m.zero ≡ p.machine.zero
     → (rest : List (List Insn)) (base pre : List Bool) → StandsAt (gone p m) rest base pre → IsPiece (gone p m)
 unfolding is_member
 kept p m h nodes zero_is rest base pre stands =
@@ -122,23 +122,23 @@ div_taken : (b : Bool) (u t : State) → false ∷ []
 div_taken true u t e same = let clash : false ∷ [] ≡ true ∷ [] = e in absurd cc
 div_taken false u t e same = ap (goes (false ∷ [])) (sym same)
 
-go_stands : (p : PieceData) (i : Insn) (m : Machine) → IsPiece p → (s : Standing p i) → Goes p i m → GoesBy p i m
+go_stands : (p : PieceData) (i : Insn) (m : SymbolicMachine) → IsPiece p → (s : HasAtHand p i) → GoesTo p i m → GoesBy p i m
     → ((base : List Bool) × StandsAt (gone p m) (s.code ∷ s.later) base []) × (p.machine.place < m.place)
 unfolding is_member
 go_stands p i m h s g (inl run) =
-    let at0 = valued p.pool p.machine some_input in
+    let at0 = concrete_state p.pool p.machine some_input in
     let none = nothing_taken s.code p.machine.place p.machine.taken s.pre i some_input at0
-    (valued p.pool m some_input) s.stands.inside.pending s.at (run some_input) in (
+    (concrete_state p.pool m some_input) s.stands.inside.pending s.at (run some_input) in (
       (
         s.base ++ [],
         stands_moved p s.code s.later s.base s.pre [] i p.name p.conditions m p.facts s.stands s.at
-            (may_go some_input at0 i [] (valued p.pool m some_input) (run some_input))
+            (may_go some_input at0 i [] (concrete_state p.pool m some_input) (run some_input))
             (s.stands.name_is ∙ ap (λ (l : List Bool). s.base ++ l) none) g.program g.so_far g.taken g.value
-            (λ d. (safe_next s.code d (valued p.pool p.machine d) i [] (valued p.pool m d) s.stands.laws.0
+            (λ d. (safe_next s.code d (concrete_state p.pool p.machine d) i [] (concrete_state p.pool m d) s.stands.laws.0
             (s.stands.inside.safe d) s.at (run d)).0)
             (λ d inp member. (member, run d)),
       ),
-      (safe_next s.code some_input at0 i [] (valued p.pool m some_input) s.stands.laws.0
+      (safe_next s.code some_input at0 i [] (concrete_state p.pool m some_input) s.stands.laws.0
           (s.stands.inside.safe some_input) s.at (run some_input)).1,
     )
 go_stands p i m h s g (inr (is, taken, to)) =
@@ -150,20 +150,20 @@ go_stands p i m h s g (inr (is, taken, to)) =
         stands_moved p s.code s.later s.base s.pre (false ∷ []) (Alu Div X) p.name p.conditions m p.facts s.stands at
             (inr (refl, ap (λ (n : ℕ). Some n) place))
             (s.stands.name_is ∙ ap (λ (l : List Bool). s.base ++ l) pre) g.program g.so_far g.taken g.value
-            (λ d. safe_moved s.code (valued p.pool p.machine d) (valued p.pool m d) (Alu Div X) s.stands.laws.0
+            (λ d. safe_moved s.code (concrete_state p.pool p.machine d) (concrete_state p.pool m d) (Alu Div X) s.stands.laws.0
             (s.stands.inside.safe d) at
             (contains_here (p.machine.place + 1) [] m.place (sym place)) refl (ap (λ (t : State). t.scratch) (to d)))
             (λ d inp member.
-            let u = record (valued p.pool p.machine d) {
+            let u = record (concrete_state p.pool p.machine d) {
               place = p.machine.place + 1;
               a = apply Div (value_of p.pool d p.machine.a.0) (value_of p.pool d p.machine.x.0);
             } in
             let f = (s.stands.runs d inp member).taken in (
               member,
-              div_taken (value_of p.pool d p.machine.x.0 == 0) u (valued p.pool m d)
-                  (sym pre ∙ f ∙ ap (λ (k : ℕ). take k (met_of (step s.code d (valued p.pool p.machine d)))) taken
+              div_taken (value_of p.pool d p.machine.x.0 == 0) u (concrete_state p.pool m d)
+                  (sym pre ∙ f ∙ ap (λ (k : ℕ). take k (met_of (step s.code d (concrete_state p.pool p.machine d)))) taken
                   ∙ ap (λ (q : Progress). take 1 (met_of q))
-                  (step_is s.code d (valued p.pool p.machine d) (Alu Div X) at)) (to d),
+                  (step_is s.code d (concrete_state p.pool p.machine d) (Alu Div X) at)) (to d),
             )),
       ),
       omega arith,
@@ -176,12 +176,12 @@ go_stands p i m h s g (inr (is, taken, to)) =
         at_same s.code p.machine.place ReturnA (Alu Div X) q.0 at in absurd cc
     pending (inr (inr q)) at one = q.2
 
-pub go_piece : (p : PieceData) (i : Insn) (m : Machine) → IsPiece p → Standing p i → Goes p i m → IsPiece (gone p m)
+pub go_piece : (p : PieceData) (i : Insn) (m : SymbolicMachine) → IsPiece p → HasAtHand p i → GoesTo p i m → IsPiece (gone p m)
 go_piece p i m h s g =
     let w = go_stands p i m h s g g.run in
     kept p m h g.nodes g.zero (s.code ∷ s.later) w.0.0 [] w.0.1
 
-pub go_gone : (p : PieceData) (i : Insn) (m : Machine) → IsPiece p → Standing p i → Goes p i m → HasGone p (gone p m)
+pub go_gone : (p : PieceData) (i : Insn) (m : SymbolicMachine) → IsPiece p → HasAtHand p i → GoesTo p i m → HasAdvanced p (gone p m)
 go_gone p i m h s g =
     let w = go_stands p i m h s g g.run in
     let after = w.1 in
@@ -215,8 +215,8 @@ number_bits (suc k) n a =
     finish : (q r t u v : ℕ) → r ≡ 2 * q → v ≡ t * q + u → (2 * n + t) * q + u ≡ n * r + v
     finish q r t u v e f = rw (e, f) (omega arith)
 
-return_stands : (p : PieceData) (i : Insn) (v : ℕ) → IsPiece p → (s : Standing p i) → ReturnsNow p i v
-    → (base : List Bool) × StandsAt (gone p (returned p.machine v)) s.later base []
+return_stands : (p : PieceData) (i : Insn) (v : ℕ) → IsPiece p → (s : HasAtHand p i) → ReturnsNow p i v
+    → (base : List Bool) × StandsAt (gone p (after_return p.machine v)) s.later base []
 unfolding is_member
 return_stands p i v h s (inl is) =
     let at : IsAt s.code p.machine.place (ReturnConstant v) =
@@ -244,9 +244,9 @@ return_stands p i v h s (inr (is, full, same)) =
           (λ d inp member.
           let a = value_of p.pool d p.machine.a.0 in
           let f = (s.stands.runs d inp member).taken in
-          let met : s.pre ≡ bits 32 a = f ∙ ap (λ (k : ℕ). take k (met_of (step s.code d (valued p.pool p.machine d))))
+          let met : s.pre ≡ bits 32 a = f ∙ ap (λ (k : ℕ). take k (met_of (step s.code d (concrete_state p.pool p.machine d))))
           full ∙ ap (λ (q : Progress). take 32 (met_of q))
-          (step_is s.code d (valued p.pool p.machine d) ReturnA at) in
+          (step_is s.code d (concrete_state p.pool p.machine d) ReturnA at) in
           let word : a < 2 ^ 32 = value-small p.pool d p.machine.a.0 h.pool inp in
           let spelt : number_from 0 (bits 32 a) ≡ 0 * 2 ^ 32 + a % 2 ^ 32 = number_bits 32 0 a in
           let value : v ≡ a = same ∙ s.stands.number ∙ ap (number_from 0) met ∙ spelt ∙ omega arith in
@@ -264,7 +264,7 @@ return_stands p i v h s (inr (is, full, same)) =
     returns_are e f = cc
 
 pub returned_nodes : (p : PieceData) (v : ℕ) → AreNodesBelow (length p.pool) p.machine
-    → AreNodesBelow (length p.pool) (returned p.machine v)
+    → AreNodesBelow (length p.pool) (after_return p.machine v)
 returned_nodes p v b = record { a = b.zero; x = b.zero; zero = b.zero; scratch = λ k w e. absurd (unset 16 k w e) }
   where
     unset : (n k : ℕ) (w : Rattle.sf_sym.specs.declared.pool.NodeId.NodeId)
@@ -273,15 +273,15 @@ returned_nodes p v b = record { a = b.zero; x = b.zero; zero = b.zero; scratch =
     unset (suc n) zero w e = cc
     unset (suc n) (suc k) w e = unset n k w e
 
-pub return_piece : (p : PieceData) (i : Insn) (v : ℕ) → IsPiece p → Standing p i → ReturnsNow p i v
-    → IsPiece (gone p (returned p.machine v))
+pub return_piece : (p : PieceData) (i : Insn) (v : ℕ) → IsPiece p → HasAtHand p i → ReturnsNow p i v
+    → IsPiece (gone p (after_return p.machine v))
 return_piece p i v h s r =
     let w = return_stands p i v h s r in
-    kept p (returned p.machine v) h (returned_nodes p v h.nodes) refl s.later w.0 [] w.1
+    kept p (after_return p.machine v) h (returned_nodes p v h.nodes) refl s.later w.0 [] w.1
 
-pub return_gone : (p : PieceData) (i : Insn) (v : ℕ) → IsPiece p → Standing p i
-    → HasGone p (gone p (returned p.machine v))
+pub return_gone : (p : PieceData) (i : Insn) (v : ℕ) → IsPiece p → HasAtHand p i
+    → HasAdvanced p (gone p (after_return p.machine v))
 return_gone p i v h s =
     let few : p.machine.taken ≤ 32 = s.taken in
     let more : p.machine.program < length p.stack = s.running in
-    record { is_on = same_members p (returned p.machine v); falls = omega arith }
+    record { is_on = same_members p (after_return p.machine v); falls = omega arith }

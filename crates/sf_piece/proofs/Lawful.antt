@@ -17,52 +17,52 @@ use Rattle.sf_sym.specs.declared.pool.Cond.{Cond}
 use Rattle.sf_sym.specs.Pool.{IsPool, ArePlainNodes, value_of, is_met}
 use Rattle.sf_sym.specs.ValueLaws.{passes-met}
 use Rattle.sf_dom.specs.Facts.{FactsView, Covers, Agrees, AreNarrower, DecidesTest, KeepsInputs, KeepsOnly, NoInput, TakesIn}
-use Rattle.sf_dom.specs.Rules.{IsTold}
-use Rattle.sf_dom.specs.Facts.{IsPlain as IsPlainCond}
-use Rattle.sf_piece.specs.declared.machine.Machine.{Machine}
+use Rattle.sf_dom.specs.Propagation.{IsTold}
+use Rattle.sf_dom.specs.Facts.{IsPlainCondition as IsPlainCond}
+use Rattle.sf_piece.specs.declared.machine.SymbolicMachine.{SymbolicMachine}
 use Rattle.sf_piece.specs.Pieces.{PieceData, is_member}
 use Rattle.sf_piece.specs.PlainPieces.{IsPlainPiece}
-use Rattle.sf_piece.specs.SymbolicRun.{IsPiece, IsLawfulPiece, valued}
-use Rattle.sf_piece.specs.Works.{Standing, Goes, ReturnsNow, IsEntry, IsForeseen, PassesAlways, IsImplied, AfterEntry, AreChildFacts, IsChild, IsNever, sensed}
-use Rattle.sf_piece.specs.Machines.{returned}
+use Rattle.sf_piece.specs.SymbolicRun.{IsPiece, IsLawfulPiece, concrete_state}
+use Rattle.sf_piece.specs.Works.{HasAtHand, GoesTo, ReturnsNow, IsQuery, IsForeseen, PassesAlways, IsImplied, AfterTruthValue, AreChildFacts, IsChild, IsNever, with_sense}
+use Rattle.sf_piece.specs.Machines.{after_return}
 use Rattle.sf_piece.proofs.Kept.{gone, go_piece, return_piece}
 use Rattle.sf_piece.proofs.Children.{taken_on, take_piece, child_of, child_piece, child_is, piece_named}
 use Rattle.sf_piece.proofs.Grown.{grown, grown_piece}
-use Rattle.sf_piece.proofs.Standing.{first_piece, first_is}
+use Rattle.sf_piece.proofs.AtHand.{first_piece, first_is}
 use Rattle.sf_piece.proofs.Plain.{plain_kept, plain_grown, plain_child, sensed_plain}
 
 lawful : (p : PieceData) → IsPiece p → (IsPlain p.stack → IsPlainPiece p) → IsLawfulPiece p
 lawful p h plain = record { named = piece_named p h; run = h; plain = plain }
 
-pub lawful_gone : (p : PieceData) (i : Insn) (m : Machine) → IsLawfulPiece p → Standing p i → Goes p i m
+pub lawful_gone : (p : PieceData) (i : Insn) (m : SymbolicMachine) → IsLawfulPiece p → HasAtHand p i → GoesTo p i m
     → IsLawfulPiece (gone p m)
 lawful_gone p i m h s g = lawful (gone p m) (go_piece p i m h.run s g) (λ is. plain_kept p p.name m (h.plain is))
 
-pub lawful_returned : (p : PieceData) (i : Insn) (v : ℕ) → IsLawfulPiece p → Standing p i → ReturnsNow p i v
-    → IsLawfulPiece (gone p (returned p.machine v))
-lawful_returned p i v h s r = lawful (gone p (returned p.machine v)) (return_piece p i v h.run s r)
-    (λ is. plain_kept p p.name (returned p.machine v) (h.plain is))
+pub lawful_returned : (p : PieceData) (i : Insn) (v : ℕ) → IsLawfulPiece p → HasAtHand p i → ReturnsNow p i v
+    → IsLawfulPiece (gone p (after_return p.machine v))
+lawful_returned p i v h s r = lawful (gone p (after_return p.machine v)) (return_piece p i v h.run s r)
+    (λ is. plain_kept p p.name (after_return p.machine v) (h.plain is))
 
-pub lawful_taken : (p : PieceData) (i : Insn) (b : Bool) (m : Machine) → IsLawfulPiece p → Standing p i
-    → IsForeseen p i b → AfterEntry p i b m → IsLawfulPiece (taken_on p b m)
+pub lawful_taken : (p : PieceData) (i : Insn) (b : Bool) (m : SymbolicMachine) → IsLawfulPiece p → HasAtHand p i
+    → IsForeseen p i b → AfterTruthValue p i b m → IsLawfulPiece (taken_on p b m)
 lawful_taken p i b m h s fore after = lawful (taken_on p b m) (take_piece p i b m h.run s fore after)
     (λ is. plain_kept p (p.name ++ b ∷ []) m (h.plain is))
 
-pub lawful_child : (p : PieceData) (i : Insn) (cond : Cond) (b : Bool) (m : Machine) (fs : FactsView) → IsLawfulPiece p
-    → Standing p i → IsEntry p i cond → AreChildFacts p cond b fs → AfterEntry p i b m
+pub lawful_child : (p : PieceData) (i : Insn) (cond : Cond) (b : Bool) (m : SymbolicMachine) (fs : FactsView) → IsLawfulPiece p
+    → HasAtHand p i → IsQuery p i cond → AreChildFacts p cond b fs → AfterTruthValue p i b m
     → IsLawfulPiece (child_of p cond b m fs)
 lawful_child p i cond b m fs h s e facts after =
     lawful (child_of p cond b m fs) (child_piece p i cond b m fs h.run s e facts after)
     (λ is. plain_child p cond b m fs (h.plain is) (e.plain is) facts (facts.plain is))
 
--- where two words have one number each on every member, every member has the entry as their test says
+-- where two words have one number each on every member, every member has the truth value that their test says
 pub implied_by_numbers : (p : PieceData) (cond : Cond) (m n : ℕ) (b : Bool) → IsPiece p
     → ((d : Input) → IsInput d → Agrees p.facts p.pool d → value_of p.pool d cond.node.0 ≡ m)
     → ((d : Input) → IsInput d → Agrees p.facts p.pool d → value_of p.pool d cond.other.0 ≡ n)
     → b ≡ passes cond.test m n → IsImplied p cond b
 implied_by_numbers p cond m n b h left right is d inp member =
     let known = h.known d inp member in
-    passes-met p.pool d (sensed cond b) (rw (left d inp known, right d inp known) (sym is))
+    passes-met p.pool d (with_sense cond b) (rw (left d inp known, right d inp known) (sym is))
 
 -- what the facts tell of a test of A against a number
 pub foretold : (p : PieceData) (test : Test) (other : Operand) (n : ℕ) (o : Option Bool) → IsPiece p
@@ -72,18 +72,18 @@ pub foretold : (p : PieceData) (test : Test) (other : Operand) (n : ℕ) (o : Op
     → IfSome o (λ b. PassesAlways p test other b)
 foretold p test other n None h e told = told
 foretold p test other n (Some b) h e told = λ d inp member.
-    ap (λ (r : Operand). passes test (value_of p.pool d p.machine.a.0) (operand_of (valued p.pool p.machine d) r)) e
+    ap (λ (r : Operand). passes test (value_of p.pool d p.machine.a.0) (operand_of (concrete_state p.pool p.machine d) r)) e
     ∙ told d inp (h.known d inp member)
 
 -- what is learnt from the piece's facts
 pub learnt_child : (p : PieceData) (cond : Cond) (b : Bool) (o : Option FactsView) → IsPiece p
     → (IsPlain p.stack → IsPlainCond p.pool cond) → IfSome o (λ fs. Covers fs p.pool)
-    → MatchOption o (NoInput p.facts p.pool (λ d. is_met p.pool d (sensed cond b)))
-    (λ fs. KeepsInputs p.facts fs p.pool (λ d. is_met p.pool d (sensed cond b)))
-    → IfSome o (λ fs. AreNarrower p.facts fs) → IfSome o (λ fs. IsTold p.facts fs p.pool (sensed cond b))
-    → IfSome o (λ fs. DecidesTest p.facts (sensed cond b))
-    → (IsPlainCond p.pool (sensed cond b) → IfSome o
-    (λ fs. KeepsOnly p.facts fs p.pool (λ d. is_met p.pool d (sensed cond b))))
+    → MatchOption o (NoInput p.facts p.pool (λ d. is_met p.pool d (with_sense cond b)))
+    (λ fs. KeepsInputs p.facts fs p.pool (λ d. is_met p.pool d (with_sense cond b)))
+    → IfSome o (λ fs. AreNarrower p.facts fs) → IfSome o (λ fs. IsTold p.facts fs p.pool (with_sense cond b))
+    → IfSome o (λ fs. DecidesTest p.facts (with_sense cond b))
+    → (IsPlainCond p.pool (with_sense cond b) → IfSome o
+    (λ fs. KeepsOnly p.facts fs p.pool (λ d. is_met p.pool d (with_sense cond b))))
     → MatchOption o (IsNever p cond b) (λ fs. AreChildFacts p cond b fs)
 learnt_child p cond b None h plain covers sound narrower told decided only =
     λ d inp member. sound d inp (h.known d inp member)
@@ -96,8 +96,8 @@ learnt_child p cond b (Some fs) h plain covers sound narrower told decided only 
   plain = λ is. only (sensed_plain p.pool cond b (plain is));
 }
 
-pub right_child : (p : PieceData) (i : Insn) (cond : Cond) (b : Bool) (m : Machine) (fs : FactsView) → IsLawfulPiece p
-    → Standing p i → IsEntry p i cond → AreChildFacts p cond b fs → AfterEntry p i b m
+pub right_child : (p : PieceData) (i : Insn) (cond : Cond) (b : Bool) (m : SymbolicMachine) (fs : FactsView) → IsLawfulPiece p
+    → HasAtHand p i → IsQuery p i cond → AreChildFacts p cond b fs → AfterTruthValue p i b m
     → IsChild p cond b (child_of p cond b m fs)
 right_child p i cond b m fs h s e facts after =
     child_is p cond b m fs facts (lawful_child p i cond b m fs h s e facts after)

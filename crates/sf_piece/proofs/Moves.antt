@@ -5,35 +5,35 @@ use Rattle.std.specs.List.{flat_map, AllByRecursion}
 use Rattle.sf_insn.specs.declared.input.Input.{Input}
 use Rattle.sf_insn.specs.Inputs.{IsInput}
 use Rattle.sf_check.specs.declared.insn.Insn.{Insn}
-use Rattle.sf_check.specs.Programs.{IsAt, IsLawful}
+use Rattle.sf_check.specs.Programs.{IsAt, IsLawfulProgram}
 use Rattle.sf_run.specs.declared.action.Answer.{Answer}
-use Rattle.sf_run.specs.Machine.{State, goes, returns, start, executed, step, Outcome, run_for, outcome_of, met_by, return_of}
+use Rattle.sf_run.specs.Machine.{State, goes, returns, start, insn_progress, step, Outcome, run_for, outcome_of, met_by, return_of}
 use Rattle.sf_run.specs.Answers.{IsAnswer}
 use Rattle.sf_run.specs.AnswerLaws.{answer_more}
 use Rattle.sf_run.specs.Routes.{MayMeet, returns_at, goes_on, AreWays, IsWholeRoute}
-use Rattle.sf_run.specs.RunLaws.{Safe, safe_start, run_more, run_ends, run_same, lawful_ends}
+use Rattle.sf_run.specs.RunLaws.{IsReachable, safe_start, run_more, run_ends, run_same, lawful_ends}
 use Rattle.sf_sym.specs.declared.pool.Cond.{Cond}
 use Rattle.sf_sym.specs.Pool.{value_of}
 use Rattle.sf_dom.specs.Facts.{FactsView}
-use Rattle.sf_piece.specs.declared.machine.Machine.{Machine}
-use Rattle.sf_piece.specs.Machines.{returned}
+use Rattle.sf_piece.specs.declared.machine.SymbolicMachine.{SymbolicMachine}
+use Rattle.sf_piece.specs.Machines.{after_return}
 use Rattle.sf_piece.specs.Pieces.{PieceData, is_member}
-use Rattle.sf_piece.specs.SymbolicRun.{valued, met_of, number_from, IsPending, InProgram, RouteFrom, RunsOn, HasTaken, StandsAt}
+use Rattle.sf_piece.specs.SymbolicRun.{concrete_state, met_of, number_from, IsPending, InProgram, RouteFrom, RunsOn, HasTaken, StandsAt}
 
 -- a piece of the same stack and pool
-abbrev pub made : PieceData → List Bool → List Cond → Machine → FactsView → PieceData
+abbrev pub made : PieceData → List Bool → List Cond → SymbolicMachine → FactsView → PieceData
 made p name cs m fs = record { stack = p.stack; name = name; pool = p.pool; conditions = cs; machine = m; facts = fs }
 
 -- ---- on in the same program
 
 pub stands_moved : (p : PieceData) (code : List Insn) (later : List (List Insn)) (base pre met : List Bool) (i : Insn)
-    (name : List Bool) (cs : List Cond) (m : Machine) (fs : FactsView)
+    (name : List Bool) (cs : List Cond) (m : SymbolicMachine) (fs : FactsView)
     → StandsAt p (code ∷ later) base pre → IsAt code p.machine.place i → MayMeet p.machine.place i met (Some m.place)
     → name ≡ base ++ met
     → m.program ≡ p.machine.program → m.so_far ≡ p.machine.so_far → m.taken ≡ 0 → m.value ≡ 0
-    → ((d : Input) → Safe code (valued p.pool m d))
+    → ((d : Input) → IsReachable code (concrete_state p.pool m d))
     → ((d : Input) → IsInput d → is_member (made p name cs m fs) d ≡ true → (is_member p d ≡ true)
-    × (executed d (valued p.pool p.machine d) i ≡ goes met (valued p.pool m d)))
+    × (insn_progress d (concrete_state p.pool p.machine d) i ≡ goes met (concrete_state p.pool m d)))
     → StandsAt (made p name cs m fs) (code ∷ later) (base ++ met) []
 stands_moved p code later base pre met i name cs m fs s at may named program so_far taken value safe run = record {
   rest_is = ap (λ (n : ℕ). drop n (reverse p.stack)) program ∙ s.rest_is;
@@ -58,14 +58,14 @@ stands_moved p code later base pre met i name cs m fs s at may named program so_
             let all = f.ends (met ++ more) vs (
               suc n,
               (met ++ o.0, o.1),
-              run_more n code d (valued p.pool p.machine d) i met (valued p.pool m d) o at h.1 ran,
+              run_more n code d (concrete_state p.pool p.machine d) i met (concrete_state p.pool m d) o at h.1 ran,
               ap (λ (l : List Bool). met ++ l) e ∙ sym (append_assoc met o.0 (flat_map (λ q. met_by q d) later)),
               v,
             ) in (
               all.0 ∙ sym (append_assoc base met more),
               (all.1.0, all.1.1, subst (λ (a : Answer). IsAnswer all.1.0 a) (sym so_far) all.1.2),
             );
-        taken = ap (λ (k : ℕ). take k (met_of (step code d (valued p.pool m d)))) (sym taken);
+        taken = ap (λ (k : ℕ). take k (met_of (step code d (concrete_state p.pool m d)))) (sym taken);
       };
 }
 
@@ -77,7 +77,7 @@ pub stands_kept : (p : PieceData) (code : List Insn) (later : List (List Insn)) 
     → IsPending code p.machine.place taken (pre ++ b ∷ [])
     → ((d : Input) → IsInput d → is_member (made p name cs (record p.machine { taken = taken; value = value }) fs) d
     ≡ true → (is_member p d ≡ true) × (pre ++ b ∷ [] ≡ take taken
-    (met_of (step code d (valued p.pool p.machine d)))))
+    (met_of (step code d (concrete_state p.pool p.machine d)))))
     → StandsAt (made p name cs (record p.machine { taken = taken; value = value }) fs)
     (code ∷ later) base (pre ++ b ∷ [])
 stands_kept p code later base pre b name cs fs taken value s named number pending run = record {
@@ -95,7 +95,7 @@ stands_kept p code later base pre b name cs fs taken value s named number pendin
 
 -- ---- on to the next program
 
-pub outcome_same : (code : List Insn) (d : Input) (n : ℕ) (o : List Bool × ℕ) → IsLawful code
+pub outcome_same : (code : List Insn) (d : Input) (n : ℕ) (o : List Bool × ℕ) → IsLawfulProgram code
     → run_for n code d start ≡ Some o → (o.0 ≡ met_by code d) × (o.1 ≡ return_of code d)
 unfolding outcome_of
 outcome_same code d n o lawful e = by (outcome_of code d) refl (lawful_ends code d lawful)
@@ -108,7 +108,7 @@ outcome_same code d n o lawful e = by (outcome_of code d) refl (lawful_ends code
 
 -- what programs that start meet and return
 pub runs_whole : (later : List (List Insn)) (d : Input) (s : State) (more : List Bool) (vs : List ℕ) → s ≡ start
-    → AllByRecursion IsLawful later → RunsOn later d s more vs → (more ≡ flat_map (λ q. met_by q d) later)
+    → AllByRecursion IsLawfulProgram later → RunsOn later d s more vs → (more ≡ flat_map (λ q. met_by q d) later)
     × (vs ≡ map (λ q. return_of q d) later)
 runs_whole [] d s more vs at laws (e, v) = (e, v)
 runs_whole (code ∷ later) d s more vs at laws (n, o, ran, e, v) =
@@ -134,9 +134,9 @@ pub stands_returned : (p : PieceData) (code : List Insn) (later : List (List Ins
     → StandsAt p (code ∷ later) base pre → IsAt code p.machine.place i → MayMeet p.machine.place i met None
     → name ≡ base ++ met
     → ((d : Input) → value_of p.pool d p.machine.zero.0 ≡ 0)
-    → ((d : Input) → IsInput d → is_member (made p name cs (returned p.machine v) fs) d ≡ true → (is_member p d ≡ true)
-    × (executed d (valued p.pool p.machine d) i ≡ returns met v))
-    → StandsAt (made p name cs (returned p.machine v) fs) later (base ++ met) []
+    → ((d : Input) → IsInput d → is_member (made p name cs (after_return p.machine v) fs) d ≡ true → (is_member p d ≡ true)
+    × (insn_progress d (concrete_state p.pool p.machine d) i ≡ returns met v))
+    → StandsAt (made p name cs (after_return p.machine v) fs) later (base ++ met) []
 stands_returned p code later base pre met i v name cs fs s at may named zeros run = record {
   rest_is = drop_tail p.machine.program (reverse p.stack) code later s.rest_is;
   laws = s.laws.1;
@@ -151,11 +151,11 @@ stands_returned p code later base pre met i v name cs fs s at may named zeros ru
       let f = s.runs d inp h.0 in
       record {
         ends = λ more vs r.
-            let whole = runs_whole later d (valued p.pool (returned p.machine v) d) more vs (at_start d) s.laws.1 r in
+            let whole = runs_whole later d (concrete_state p.pool (after_return p.machine v) d) more vs (at_start d) s.laws.1 r in
             let all = f.ends (met ++ more) (v ∷ vs) (
               1,
               (met, v),
-              run_ends code d (valued p.pool p.machine d) i met v at h.1,
+              run_ends code d (concrete_state p.pool p.machine d) i met v at h.1,
               ap (λ (l : List Bool). met ++ l) whole.0,
               ap (λ (l : List ℕ). v ∷ l) whole.1,
             ) in (
@@ -170,16 +170,16 @@ stands_returned p code later base pre met i v name cs fs s at may named zeros ru
       };
 }
   where
-    at_start : (d : Input) → valued p.pool (returned p.machine v) d ≡ start
+    at_start : (d : Input) → concrete_state p.pool (after_return p.machine v) d ≡ start
     at_start d = rw (zeros d) refl
 
-    by : (rest : List (List Insn)) → AllByRecursion IsLawful rest → InProgram rest p.pool (returned p.machine v) []
+    by : (rest : List (List Insn)) → AllByRecursion IsLawfulProgram rest → InProgram rest p.pool (after_return p.machine v) []
     by [] laws = refl
     by (c ∷ rest) laws = record {
-      safe = λ d. subst (Safe c) (sym (at_start d)) (safe_start c laws.0.some);
+      safe = λ d. subst (IsReachable c) (sym (at_start d)) (safe_start c laws.0.some);
       pending = inl (refl, refl);
     }
 
-    none_taken : (rest : List (List Insn)) (d : Input) → HasTaken rest d (valued p.pool (returned p.machine v) d) 0 []
+    none_taken : (rest : List (List Insn)) (d : Input) → HasTaken rest d (concrete_state p.pool (after_return p.machine v) d) 0 []
     none_taken [] d = tt
     none_taken (c ∷ rest) d = refl

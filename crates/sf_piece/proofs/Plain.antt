@@ -21,14 +21,14 @@ use Rattle.sf_sym.specs.declared.pool.Node.{Node}
 use Rattle.sf_sym.specs.declared.pool.Node.TheVariants.{Const, Word, Bin, Neg}
 use Rattle.sf_sym.specs.declared.pool.NodeId.{NodeId}
 use Rattle.sf_sym.specs.declared.pool.Cond.{Cond}
-use Rattle.sf_sym.specs.Pool.{IsPool, ArePlainNodes, OperandsBelow, folded, node_at, is_met, IsCondBelow}
+use Rattle.sf_sym.specs.Pool.{IsPool, ArePlainNodes, OperandsBelow, folded_node, node_at, is_met, IsCondBelow}
 use Rattle.sf_dom.specs.Facts.{FactsView, Agrees, KeepsOnly, TakesIn, IsWordOrConst, IsPlainTest}
 use Rattle.sf_dom.specs.FactsLaws.{some-input}
-use Rattle.sf_dom.specs.Facts.{IsPlain as IsPlainCond}
-use Rattle.sf_piece.specs.declared.machine.Machine.{Machine}
+use Rattle.sf_dom.specs.Facts.{IsPlainCondition as IsPlainCond}
+use Rattle.sf_piece.specs.declared.machine.SymbolicMachine.{SymbolicMachine}
 use Rattle.sf_piece.specs.Pieces.{PieceData, is_member, HasNoMember, IsRightAnswer}
 use Rattle.sf_piece.specs.SymbolicRun.{IsPiece}
-use Rattle.sf_piece.specs.Works.{Standing, AreChildFacts, sensed}
+use Rattle.sf_piece.specs.Works.{HasAtHand, AreChildFacts, with_sense}
 use Rattle.sf_piece.specs.PlainPieces.{IsPlainPiece}
 use Rattle.sf_piece.proofs.Moves.{made}
 use Rattle.sf_piece.proofs.Grown.{grown, members_grown}
@@ -54,7 +54,7 @@ plain_code stack n code later plain e =
     (All-drop (λ p. All IsPlainInsn p) n (reverse stack) (all_reverse (λ p. All IsPlainInsn p) stack plain)))
 
 -- the instruction at hand of a plain stack is plain
-pub plain_insn : (p : PieceData) (i : Insn) → IsPlain p.stack → Standing p i → IsPlainInsn i
+pub plain_insn : (p : PieceData) (i : Insn) → IsPlain p.stack → HasAtHand p i → IsPlainInsn i
 plain_insn p i plain s = all_at IsPlainInsn s.code p.machine.place i
     (plain_code p.stack p.machine.program s.code s.later plain s.stands.rest_is) s.at
 
@@ -72,7 +72,7 @@ word_or_const ns i pool plain less =
 pub pushed_plain : (old new : List Node) (node : Node) → IsPool old → OperandsBelow (length old) node
     → IsWordOrConst node → ArePlainNodes old
     → ((c : ℕ) → node ≡ Const c → ArePlainNodes old → ArePlainNodes new)
-    → ((i : ℕ) → i < length old → node_at old i ≡ folded old node → new ≡ old) → ArePlainNodes new
+    → ((i : ℕ) → i < length old → node_at old i ≡ folded_node old node → new ≡ old) → ArePlainNodes new
 pushed_plain old new (Const c) pool below is plain constant again = constant c refl plain
 pushed_plain old new (Word i) pool below is plain constant again =
     subst ArePlainNodes (sym (again i (omega (arith, pool.words)) (pool.word i below))) plain
@@ -101,7 +101,7 @@ conds_grown ns added cs below h = All-from_recursion (IsPlainCond (ns ++ added))
 -- ---- what becomes of a plain piece
 
 -- the piece's name and machine may change
-pub plain_kept : (p : PieceData) (name : List Bool) (m : Machine) → IsPlainPiece p
+pub plain_kept : (p : PieceData) (name : List Bool) (m : SymbolicMachine) → IsPlainPiece p
     → IsPlainPiece (made p name p.conditions m p.facts)
 unfolding is_member
 plain_kept p name m h = record { nodes = h.nodes; conditions = h.conditions; exact = h.exact; some = h.some }
@@ -115,26 +115,26 @@ plain_grown p added fs k h nodes only = record {
   some = (h.some.0, h.some.1, members_grown p added fs h.some.0 k.bounded ∙ h.some.2);
 }
 
-pub sensed_plain : (ns : List Node) (cond : Cond) (b : Bool) → IsPlainCond ns cond → IsPlainCond ns (sensed cond b)
+pub sensed_plain : (ns : List Node) (cond : Cond) (b : Bool) → IsPlainCond ns cond → IsPlainCond ns (with_sense cond b)
 sensed_plain ns cond b h = record { node = h.node; number = h.number; other = h.other; test = h.test }
 
 and_is : (a b : Bool) → a ≡ true → b ≡ true → (a && b) ≡ true
 and_is a b e f = rw (e, f) refl
 
--- the members that have the entry so, where the facts learnt are exact and some input agrees
-pub plain_child : (p : PieceData) (cond : Cond) (b : Bool) (m : Machine) (fs : FactsView) → IsPlainPiece p
+-- the members that have the truth value so, where the facts learnt are exact and some input agrees
+pub plain_child : (p : PieceData) (cond : Cond) (b : Bool) (m : SymbolicMachine) (fs : FactsView) → IsPlainPiece p
     → IsPlainCond p.pool cond → AreChildFacts p cond b fs
-    → KeepsOnly p.facts fs p.pool (λ d. is_met p.pool d (sensed cond b)) → IsPlainPiece (child_of p cond b m fs)
+    → KeepsOnly p.facts fs p.pool (λ d. is_met p.pool d (with_sense cond b)) → IsPlainPiece (child_of p cond b m fs)
 plain_child p cond b m fs h plain f only =
     let some = some-input fs p.pool f.covers h.nodes in
     let member : (d : Input) → IsInput d → Agrees fs p.pool d → is_member (child_of p cond b m fs) d ≡ true
     = λ d inp agrees.
     let both = only d inp agrees in
-    child_members p cond b m fs d ∙ and_is (is_member p d) (is_met p.pool d (sensed cond b))
+    child_members p cond b m fs d ∙ and_is (is_member p d) (is_met p.pool d (with_sense cond b))
     (h.exact d inp both.0) both.1 in
     record {
       nodes = h.nodes;
-      conditions = All-push (IsPlainCond p.pool) p.conditions (sensed cond b) h.conditions
+      conditions = All-push (IsPlainCond p.pool) p.conditions (with_sense cond b) h.conditions
           (sensed_plain p.pool cond b plain);
       exact = member;
       some = (some.0, some.1, member some.0 some.1 some.2);

@@ -8,7 +8,7 @@ use Rattle.sf_check.specs.Stacks.{IsPlain}
 use Rattle.sf_run.specs.Machine.{trace_of}
 use Rattle.sf_sym.specs.Pool.{ArePlainNodes}
 use Rattle.sf_dom.specs.Facts.{Agrees}
-use Rattle.sf_dom.specs.Facts.{IsPlain as IsPlainCond}
+use Rattle.sf_dom.specs.Facts.{IsPlainCondition as IsPlainCond}
 use Rattle.sf_piece.specs.Pieces.{PieceData, StepData, Split, Settled, Empty, WorkData, is_member, IsRightWork}
 
 -- The pool has words of the input and constants alone; each path condition sets one of these against a constant by a

@@ -1,5 +1,5 @@
 -- The symbolic run behind a piece: the invariant that the type of pieces keeps. What a reader must believe stands in
--- Pieces; this is what proves it. A machine's symbolic state means a concrete one on each input (`valued`), and for
+-- Pieces; this is what proves it. A machine's symbolic state means a concrete one on each input (`concrete_state`), and for
 -- every member the concrete run of the stack, along the piece's name, comes to just that state: whatever the rest of
 -- the run meets and returns from there, the trace is the name so far and then that (`Follows`, `StandsAt`).
 use Rattle.std.specs.Prelude.{◌≡◌, ℕ, ◌+◌, ◌*◌, ◌<◌, ◌≤◌, ◌⊎◌, Bool, true, false, List, [], ◌∷◌, ◌++◌, length, take, drop, reverse, map, Some, option_map, slice_get, if◌then◌else◌}
@@ -10,23 +10,23 @@ use Rattle.sf_insn.specs.declared.ops.BinOp.TheVariants.{Div}
 use Rattle.sf_check.specs.declared.insn.Insn.{Insn}
 use Rattle.sf_check.specs.declared.insn.Insn.TheVariants.{Alu, ReturnA}
 use Rattle.sf_check.specs.declared.insn.Operand.TheVariants.{X}
-use Rattle.sf_check.specs.Programs.{IsAt, IsLawful}
+use Rattle.sf_check.specs.Programs.{IsAt, IsLawfulProgram}
 use Rattle.sf_check.specs.Stacks.{IsLawfulStack, IsPlain}
 use Rattle.sf_run.specs.Machine.{State, Progress, goes, returns, stuck, step, run_for, met_by, return_of, trace_of, returns_of}
 use Rattle.sf_run.specs.Answers.{IsAnswer}
 use Rattle.sf_run.specs.Routes.{IsWay, AreWays, IsWholeRoute}
-use Rattle.sf_run.specs.RunLaws.{Safe}
+use Rattle.sf_run.specs.RunLaws.{IsReachable}
 use Rattle.sf_sym.specs.declared.pool.Node.{Node}
 use Rattle.sf_sym.specs.declared.pool.NodeId.{NodeId}
 use Rattle.sf_sym.specs.Pool.{IsPool, value_of, IsCondBelow}
 use Rattle.sf_dom.specs.Facts.{Covers, Agrees}
-use Rattle.sf_piece.specs.declared.machine.Machine.{Machine}
+use Rattle.sf_piece.specs.declared.machine.SymbolicMachine.{SymbolicMachine}
 use Rattle.sf_piece.specs.PlainPieces.{IsPlainPiece}
 use Rattle.sf_piece.specs.Pieces.{PieceData, is_member, is_prefix, IsTrulyNamed}
 
 -- the concrete state for which a symbolic one stands, on an input
-abbrev pub valued : List Node → Machine → Input → State
-valued pool m d = record {
+abbrev pub concrete_state : List Node → SymbolicMachine → Input → State
+concrete_state pool m d = record {
   place = m.place;
   a = value_of pool d m.a.0;
   x = value_of pool d m.x.0;
@@ -34,7 +34,7 @@ valued pool m d = record {
 }
 
 -- the nodes of a machine are in the pool
-pub record AreNodesBelow (n : ℕ) (m : Machine) : Type 0 where
+pub record AreNodesBelow (n : ℕ) (m : SymbolicMachine) : Type 0 where
   pub a : m.a.0 < n
   pub x : m.x.0 < n
   pub zero : m.zero.0 < n
@@ -59,12 +59,12 @@ IsPending code place taken pre =
     ⊎ (IsAt code place (Alu Div X) × (taken ≡ 1) × (pre ≡ false ∷ [])))
 
 -- the machine stands in this program
-pub record IsIn (code : List Insn) (pool : List Node) (m : Machine) (pre : List Bool) : Type 0 where
-  pub safe : (d : Input) → Safe code (valued pool m d)
+pub record IsIn (code : List Insn) (pool : List Node) (m : SymbolicMachine) (pre : List Bool) : Type 0 where
+  pub safe : (d : Input) → IsReachable code (concrete_state pool m d)
   pub pending : IsPending code m.place m.taken pre
 
 -- the machine stands in the first of the programs that are left; where none is, no truth value is pending
-abbrev pub InProgram : List (List Insn) → List Node → Machine → List Bool → Type 0
+abbrev pub InProgram : List (List Insn) → List Node → SymbolicMachine → List Bool → Type 0
 InProgram [] pool m pre = pre ≡ []
 InProgram (code ∷ later) pool m pre = IsIn code pool m pre
 
@@ -88,15 +88,15 @@ HasTaken (code ∷ later) d s taken pre = pre ≡ take taken (met_of (step code 
 
 -- the run of a member has come to the machine's state
 pub record Follows (p : PieceData) (rest : List (List Insn)) (base pre : List Bool) (d : Input) : Type 0 where
-  pub ends : (more : List Bool) (vs : List ℕ) → RunsOn rest d (valued p.pool p.machine d) more vs
+  pub ends : (more : List Bool) (vs : List ℕ) → RunsOn rest d (concrete_state p.pool p.machine d) more vs
       → (trace_of p.stack d ≡ base ++ more) × ((earlier : List ℕ) × (returns_of p.stack d ≡ earlier ++ vs)
       × IsAnswer earlier p.machine.so_far)
-  pub taken : HasTaken rest d (valued p.pool p.machine d) p.machine.taken pre
+  pub taken : HasTaken rest d (concrete_state p.pool p.machine d) p.machine.taken pre
 
 -- where a piece's run stands, among the programs that have not returned, newest first
 pub record StandsAt (p : PieceData) (rest : List (List Insn)) (base pre : List Bool) : Type 0 where
   pub rest_is : drop p.machine.program (reverse p.stack) ≡ rest
-  pub laws : AllByRecursion IsLawful rest
+  pub laws : AllByRecursion IsLawfulProgram rest
   pub name_is : p.name ≡ base ++ pre
   pub number : p.machine.value ≡ number_from 0 pre
   pub inside : InProgram rest p.pool p.machine pre

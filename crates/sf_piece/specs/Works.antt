@@ -13,28 +13,28 @@ use Rattle.sf_check.specs.Insns.{IsInRange, loaded_by}
 use Rattle.sf_check.specs.declared.insn.Operand.TheVariants.{Constant, X}
 use Rattle.sf_check.specs.Programs.{IsAt}
 use Rattle.sf_check.specs.Stacks.{IsLawfulStack, IsPlain}
-use Rattle.sf_run.specs.Machine.{Progress, goes, operand_of, with_a, with_x, executed}
+use Rattle.sf_run.specs.Machine.{Progress, goes, operand_of, with_a, with_x, insn_progress}
 use Rattle.sf_sym.specs.declared.pool.Node.{Node}
 use Rattle.sf_sym.specs.declared.pool.NodeId.{NodeId}
 use Rattle.sf_sym.specs.declared.pool.Node.TheVariants.{Const, Bin}
-use Rattle.sf_sym.specs.Pool.{node_at, number_of, value_of, values_of, node_value, is_met, IsCondBelow}
+use Rattle.sf_sym.specs.Pool.{node_at, constant_number, value_of, values_of, node_value, is_met, IsCondBelow}
 use Rattle.sf_sym.specs.declared.pool.Cond.{Cond}
 use Rattle.sf_insn.specs.Words.{apply, passes}
 use Rattle.sf_dom.specs.Facts.{FactsView, Covers, Agrees, AreNarrower, DecidesTest, KeepsOnly, known_at}
-use Rattle.sf_dom.specs.Rules.{IsTold}
-use Rattle.sf_dom.specs.Facts.{IsPlain as IsPlainCond}
-use Rattle.sf_piece.specs.declared.machine.Machine.{Machine}
-use Rattle.sf_piece.specs.Machines.{returned}
+use Rattle.sf_dom.specs.Propagation.{IsTold}
+use Rattle.sf_dom.specs.Facts.{IsPlainCondition as IsPlainCond}
+use Rattle.sf_piece.specs.declared.machine.SymbolicMachine.{SymbolicMachine}
+use Rattle.sf_piece.specs.Machines.{after_return}
 use Rattle.sf_piece.specs.Pieces.{PieceData, is_member, IsTrulyNamed}
 use Rattle.sf_piece.specs.PlainPieces.{IsPlainPiece}
-use Rattle.sf_piece.specs.SymbolicRun.{AreNodesBelow, IsLawfulPiece, StandsAt, met_of, valued}
+use Rattle.sf_piece.specs.SymbolicRun.{AreNodesBelow, IsLawfulPiece, StandsAt, met_of, concrete_state}
 
 -- what is left to do at most
-abbrev pub left : PieceData → ℕ
-left p = 524288 * (length p.stack - p.machine.program) + 64 * (4096 - p.machine.place) + (33 - p.machine.taken)
+abbrev pub work_left : PieceData → ℕ
+work_left p = 524288 * (length p.stack - p.machine.program) + 64 * (4096 - p.machine.place) + (33 - p.machine.taken)
 
 -- the piece has this instruction at hand
-pub record Standing (p : PieceData) (i : Insn) : Type 0 where
+pub record HasAtHand (p : PieceData) (i : Insn) : Type 0 where
   pub code : List Insn
   pub later : List (List Insn)
   pub base : List Bool
@@ -52,7 +52,7 @@ pub record Standing (p : PieceData) (i : Insn) : Type 0 where
   pub value : p.machine.taken < 32 → p.machine.value < 2 ^ 31
 
 -- the same members of the same stack, by the same conditions, and a name that goes on
-pub record IsOn (p q : PieceData) : Type 0 where
+pub record IsContinuation (p q : PieceData) : Type 0 where
   pub of : q.stack ≡ p.stack
   pub conditions : q.conditions ≡ p.conditions
   pub on : List Bool
@@ -60,16 +60,16 @@ pub record IsOn (p q : PieceData) : Type 0 where
   pub members : (d : Input) → IsInput d → is_member q d ≡ is_member p d
 
 -- the piece has gone on, and less is left to be done
-pub record HasGone (p q : PieceData) : Type 0 where
-  pub is_on : IsOn p q
-  pub falls : left q < left p
+pub record HasAdvanced (p q : PieceData) : Type 0 where
+  pub is_on : IsContinuation p q
+  pub falls : work_left q < work_left p
 
 -- the pool and the facts have grown, and all else stands as it was
 pub record HasGrown (p q : PieceData) : Type 0 where
   pub same : q ≡ record p { pool = q.pool; facts = q.facts }
   pub members : (d : Input) → is_member q d ≡ is_member p d
-  pub state : (d : Input) → valued q.pool p.machine d ≡ valued p.pool p.machine d
-  pub standing : (i : Insn) → Standing p i → Standing q i
+  pub state : (d : Input) → concrete_state q.pool p.machine d ≡ concrete_state p.pool p.machine d
+  pub standing : (i : Insn) → HasAtHand p i → HasAtHand q i
   pub nodes : AreNodesBelow (length q.pool) p.machine
 
 -- the pool has this node too
@@ -85,21 +85,21 @@ pub record IsOperand (p : PieceData) (other : Operand) (q : PieceData) (id : Nod
   pub grown : HasGrown p q
   pub lawful : IsLawfulPiece q
   pub within : id.0 < length q.pool
-  pub value : (d : Input) → value_of q.pool d id.0 ≡ operand_of (valued p.pool p.machine d) other
+  pub value : (d : Input) → value_of q.pool d id.0 ≡ operand_of (concrete_state p.pool p.machine d) other
   pub constant : (k : ℕ) → other ≡ Constant k → node_at q.pool id.0 ≡ Const k
 
 -- a division by X that is not 0, or a step that meets nothing
-abbrev pub GoesBy : PieceData → Insn → Machine → Type 0
+abbrev pub GoesBy : PieceData → Insn → SymbolicMachine → Type 0
 GoesBy p i m =
-    ((d : Input) → executed d (valued p.pool p.machine d) i ≡ goes [] (valued p.pool m d))
+    ((d : Input) → insn_progress d (concrete_state p.pool p.machine d) i ≡ goes [] (concrete_state p.pool m d))
     ⊎ ((i ≡ Alu Div X) × (p.machine.taken ≡ 1)
-    × ((d : Input) → valued p.pool m d ≡ record (valued p.pool p.machine d) {
+    × ((d : Input) → concrete_state p.pool m d ≡ record (concrete_state p.pool p.machine d) {
       place = p.machine.place + 1;
       a = apply Div (value_of p.pool d p.machine.a.0) (value_of p.pool d p.machine.x.0);
     }))
 
 -- The instruction goes to this state on each member, whatever else it meets is in the name already.
-pub record Goes (p : PieceData) (i : Insn) (m : Machine) : Type 0 where
+pub record GoesTo (p : PieceData) (i : Insn) (m : SymbolicMachine) : Type 0 where
   pub program : m.program ≡ p.machine.program
   pub so_far : m.so_far ≡ p.machine.so_far
   pub zero : m.zero ≡ p.machine.zero
@@ -111,7 +111,7 @@ pub record Goes (p : PieceData) (i : Insn) (m : Machine) : Type 0 where
 -- the instruction puts the value of a node in A
 abbrev pub SetsA : PieceData → Insn → Node → Type 0
 SetsA p i node =
-    ((d : Input) → executed d (valued p.pool p.machine d) i ≡ with_a (valued p.pool p.machine d)
+    ((d : Input) → insn_progress d (concrete_state p.pool p.machine d) i ≡ with_a (concrete_state p.pool p.machine d)
     (node_value d (values_of p.pool d) node))
     ⊎ ((i ≡ Alu Div X) × (p.machine.taken ≡ 1)
     × ((d : Input) → node_value d (values_of p.pool d) node ≡ apply Div (value_of p.pool d p.machine.a.0)
@@ -119,7 +119,7 @@ SetsA p i node =
 
 -- the instruction puts this number in X
 abbrev pub SetsX : PieceData → Insn → ℕ → Type 0
-SetsX p i k = (d : Input) → executed d (valued p.pool p.machine d) i ≡ with_x (valued p.pool p.machine d) k
+SetsX p i k = (d : Input) → insn_progress d (concrete_state p.pool p.machine d) i ≡ with_x (concrete_state p.pool p.machine d) k
 
 -- the instruction returns this value on each member
 abbrev pub ReturnsNow : PieceData → Insn → ℕ → Type 0
@@ -148,46 +148,46 @@ Asks p (Alu Div X) = p.machine.taken ≡ 0
 Asks p _ = ⊥
 
 -- the next truth value is whether the condition is met
-pub record IsEntry (p : PieceData) (i : Insn) (cond : Cond) : Type 0 where
+pub record IsQuery (p : PieceData) (i : Insn) (cond : Cond) : Type 0 where
   pub asks : Asks p i
   pub sense : cond.sense ≡ true
   pub below : IsCondBelow (length p.pool) cond
-  pub next : (d : Input) → NextIs (executed d (valued p.pool p.machine d) i) p.machine.taken (is_met p.pool d cond)
+  pub next : (d : Input) → NextIs (insn_progress d (concrete_state p.pool p.machine d) i) p.machine.taken (is_met p.pool d cond)
   pub plain : IsPlain p.stack → IsPlainCond p.pool cond
 
 -- A passes a test against an operand, or doesn't, on every member
 abbrev pub PassesAlways : PieceData → Test → Operand → Bool → Type 0
 PassesAlways p test other b = (d : Input) → IsInput d → is_member p d ≡ true
-    → passes test (value_of p.pool d p.machine.a.0) (operand_of (valued p.pool p.machine d) other) ≡ b
+    → passes test (value_of p.pool d p.machine.a.0) (operand_of (concrete_state p.pool p.machine d) other) ≡ b
 
 -- the next truth value is this on every member
 pub record IsForeseen (p : PieceData) (i : Insn) (b : Bool) : Type 0 where
   pub asks : Asks p i
   pub next : (d : Input) → IsInput d → is_member p d ≡ true
-      → NextIs (executed d (valued p.pool p.machine d) i) p.machine.taken b
+      → NextIs (insn_progress d (concrete_state p.pool p.machine d) i) p.machine.taken b
 
 -- where the machine stands after it
-abbrev pub AfterEntry : PieceData → Insn → Bool → Machine → Type 0
-AfterEntry p (Branch test other t f) b m = m ≡ record p.machine { place = p.machine.place + 1 + (if b then t else f) }
-AfterEntry p ReturnA b m = m ≡ record p.machine {
+abbrev pub AfterTruthValue : PieceData → Insn → Bool → SymbolicMachine → Type 0
+AfterTruthValue p (Branch test other t f) b m = m ≡ record p.machine { place = p.machine.place + 1 + (if b then t else f) }
+AfterTruthValue p ReturnA b m = m ≡ record p.machine {
   taken = p.machine.taken + 1;
   value = 2 * p.machine.value + (if b then 1 else 0);
 }
-AfterEntry p (Alu Div X) true m = m ≡ returned p.machine 0
-AfterEntry p (Alu Div X) false m = m ≡ record p.machine { taken = 1 }
-AfterEntry p _ b m = ⊥
+AfterTruthValue p (Alu Div X) true m = m ≡ after_return p.machine 0
+AfterTruthValue p (Alu Div X) false m = m ≡ record p.machine { taken = 1 }
+AfterTruthValue p _ b m = ⊥
 
 -- the condition that the same test has this result
-abbrev pub sensed : Cond → Bool → Cond
-sensed cond b = record cond { sense = b }
+abbrev pub with_sense : Cond → Bool → Cond
+with_sense cond b = record cond { sense = b }
 
--- no member has the entry so
+-- no member has the truth value so
 abbrev pub IsNever : PieceData → Cond → Bool → Type 0
-IsNever p cond b = (d : Input) → IsInput d → is_member p d ≡ true → is_met p.pool d (sensed cond b) ≡ false
+IsNever p cond b = (d : Input) → IsInput d → is_member p d ≡ true → is_met p.pool d (with_sense cond b) ≡ false
 
--- every member has the entry so
+-- every member has the truth value so
 abbrev pub IsImplied : PieceData → Cond → Bool → Type 0
-IsImplied p cond b = (d : Input) → IsInput d → is_member p d ≡ true → is_met p.pool d (sensed cond b) ≡ true
+IsImplied p cond b = (d : Input) → IsInput d → is_member p d ≡ true → is_met p.pool d (with_sense cond b) ≡ true
 
 -- the facts leave one number for a node
 abbrev pub has_one_number : PieceData → NodeId → Bool
@@ -205,47 +205,47 @@ is_one_constant _ _ = false
 
 -- known bits go back from a node to an operand: it is an AND, an OR or an XOR, and its other operand alone is a
 -- constant
-abbrev pub is_walked_back : List Node → Node → Bool
-is_walked_back ns (Bin And a b) = is_one_constant (number_of (node_at ns a.0)) (number_of (node_at ns b.0))
-is_walked_back ns (Bin Or a b) = is_one_constant (number_of (node_at ns a.0)) (number_of (node_at ns b.0))
-is_walked_back ns (Bin Xor a b) = is_one_constant (number_of (node_at ns a.0)) (number_of (node_at ns b.0))
-is_walked_back ns _ = false
+abbrev pub is_propagated_back : List Node → Node → Bool
+is_propagated_back ns (Bin And a b) = is_one_constant (constant_number (node_at ns a.0)) (constant_number (node_at ns b.0))
+is_propagated_back ns (Bin Or a b) = is_one_constant (constant_number (node_at ns a.0)) (constant_number (node_at ns b.0))
+is_propagated_back ns (Bin Xor a b) = is_one_constant (constant_number (node_at ns a.0)) (constant_number (node_at ns b.0))
+is_propagated_back ns _ = false
 
 -- the number of a node, where the facts leave one and a condition on it would tell nothing of another node
-abbrev pub settled_number_of : PieceData → NodeId → Option ℕ
-settled_number_of p n =
-    if has_one_number p n && not (is_walked_back p.pool (node_at p.pool n.0))
+abbrev pub decided_number_of : PieceData → NodeId → Option ℕ
+decided_number_of p n =
+    if has_one_number p n && not (is_propagated_back p.pool (node_at p.pool n.0))
     then Some (known_at p.facts.known n.0).low
     else None
 
 -- the truth value of a test of two numbers, where both are there
-abbrev pub passed_by : Test → Option ℕ → Option ℕ → Option Bool
-passed_by test None n = None
-passed_by test (Some m) None = None
-passed_by test (Some m) (Some n) = Some (passes test m n)
+abbrev pub test_result : Test → Option ℕ → Option ℕ → Option Bool
+test_result test None n = None
+test_result test (Some m) None = None
+test_result test (Some m) (Some n) = Some (passes test m n)
 
--- the entry as numbers tell it: each of the two nodes has one, and no known bits go back from either
+-- the truth value as numbers tell it: each of the two nodes has one, and no known bits go back from either
 abbrev pub told_by_numbers : PieceData → Cond → Option Bool
-told_by_numbers p cond = passed_by cond.test (settled_number_of p cond.node) (settled_number_of p cond.other)
+told_by_numbers p cond = test_result cond.test (decided_number_of p cond.node) (decided_number_of p cond.other)
 
--- Facts of the members that have the entry so: nothing known is lost, and what the entry tells is known. On a plain
--- stack these are exact: what agrees with them agreed before, and has the entry so.
+-- Facts of the members that have the truth value so: nothing known is lost, and what the truth value tells is known. On a plain
+-- stack these are exact: what agrees with them agreed before, and has the truth value so.
 pub record AreChildFacts (p : PieceData) (cond : Cond) (b : Bool) (facts : FactsView) : Type 0 where
   pub covers : Covers facts p.pool
-  pub known : (d : Input) → IsInput d → is_member p d ≡ true → is_met p.pool d (sensed cond b) ≡ true
+  pub known : (d : Input) → IsInput d → is_member p d ≡ true → is_met p.pool d (with_sense cond b) ≡ true
       → Agrees facts p.pool d
   pub narrower : AreNarrower p.facts facts
-  pub told : IsTold p.facts facts p.pool (sensed cond b)
-  pub decided : DecidesTest p.facts (sensed cond b)
-  pub plain : IsPlain p.stack → KeepsOnly p.facts facts p.pool (λ d. is_met p.pool d (sensed cond b))
+  pub told : IsTold p.facts facts p.pool (with_sense cond b)
+  pub decided : DecidesTest p.facts (with_sense cond b)
+  pub plain : IsPlain p.stack → KeepsOnly p.facts facts p.pool (λ d. is_met p.pool d (with_sense cond b))
 
--- the members that have the entry so, by one condition more, with facts of just these
+-- the members that have the truth value so, by one condition more, with facts of just these
 pub record IsChild (p : PieceData) (cond : Cond) (b : Bool) (c : PieceData) : Type 0 where
   pub of : c.stack ≡ p.stack
-  pub conditions : c.conditions ≡ p.conditions ++ sensed cond b ∷ []
+  pub conditions : c.conditions ≡ p.conditions ++ with_sense cond b ∷ []
   pub name : c.name ≡ p.name ++ b ∷ []
   pub named : IsTrulyNamed c
-  pub members : (d : Input) → IsInput d → is_member c d ≡ (is_member p d && is_met p.pool d (sensed cond b))
+  pub members : (d : Input) → IsInput d → is_member c d ≡ (is_member p d && is_met p.pool d (with_sense cond b))
   pub facts : AreChildFacts p cond b c.facts
   pub plain : IsPlain p.stack → IsPlainPiece c
 

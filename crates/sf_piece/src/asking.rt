@@ -2,14 +2,14 @@
 
 ghost use Rattle.std.specs.Prelude.{◌≡◌, ℕ, IfOk, IfSome};
 ghost use Rattle.sf_piece.specs.SymbolicRun.{IsLawfulPiece};
-ghost use Rattle.sf_piece.specs.Works.{Standing, PassesAlways, divides_at};
-ghost use Rattle.sf_piece.specs.Turns.{IsMet};
+ghost use Rattle.sf_piece.specs.Works.{HasAtHand, PassesAlways, divides_at};
+ghost use Rattle.sf_piece.specs.SmallSteps.{IsExecuted};
 
-use crate::entry::take;
+use crate::deciding::take;
 use crate::fault::Fault;
 use crate::nodes::{operand, push};
 use crate::run::Run;
-use crate::walking::{Met, give_back, set_a};
+use crate::executing::{Executed, leave_program, set_a};
 use sf_check::{Insn, Operand};
 use sf_insn::{BinOp, Test};
 use sf_sym::{Cond, Node};
@@ -43,11 +43,11 @@ pub(crate) fn alu(
     insn: Insn,
     op: BinOp,
     other: Operand,
-) -> Result<Met, Fault>
+) -> Result<Executed, Fault>
     requires lawful { IsLawfulPiece run.old }
-    requires standing { Standing run.old insn }
+    requires standing { HasAtHand run.old insn }
     requires is { insn ≡ Insn.Alu op other }
-    ensures { IfOk result (IsMet run.old run.new) }
+    ensures { IfOk result (IsExecuted run.old run.new) }
 {
     if asks_zero(op, other, run.machine.taken) {
         let cond = Cond {
@@ -56,14 +56,14 @@ pub(crate) fn alu(
             other: run.machine.zero,
             sense: true,
         };
-        return Ok(Met::Entry(insn, cond));
+        return Ok(Executed::Query(insn, cond));
     }
     match operand(alloc, run, other)? {
         Some(right) => {
             let node = Node::Bin(op, run.machine.a, right);
             set_a(alloc, run, insn, node)
         }
-        None => Ok(Met::Contradiction),
+        None => Ok(Executed::Contradiction),
     }
 }
 
@@ -73,18 +73,18 @@ pub(crate) fn branch(
     insn: Insn,
     test: Test,
     other: Operand,
-) -> Result<Met, Fault>
+) -> Result<Executed, Fault>
     requires lawful { IsLawfulPiece run.old }
-    requires standing { Standing run.old insn }
+    requires standing { HasAtHand run.old insn }
     requires is { (t : ℕ) × (f : ℕ) × (insn ≡ Insn.Branch test other t f) }
-    ensures { IfOk result (IsMet run.old run.new) }
+    ensures { IfOk result (IsExecuted run.old run.new) }
 {
     if let Some(sense) = foreseen(run, test, other) {
         take(run, insn, sense)?;
-        return Ok(Met::Done);
+        return Ok(Executed::Done);
     }
     let Some(right) = operand(alloc, run, other)? else {
-        return Ok(Met::Contradiction);
+        return Ok(Executed::Contradiction);
     };
     let cond = Cond {
         node: run.machine.a,
@@ -92,27 +92,27 @@ pub(crate) fn branch(
         other: right,
         sense: true,
     };
-    Ok(Met::Entry(insn, cond))
+    Ok(Executed::Query(insn, cond))
 }
 
-pub(crate) fn return_a(alloc: Global, run: &mut Run) -> Result<Met, Fault>
+pub(crate) fn return_a(alloc: Global, run: &mut Run) -> Result<Executed, Fault>
     requires lawful { IsLawfulPiece run.old }
-    requires standing { Standing run.old Insn.ReturnA }
-    ensures { IfOk result (IsMet run.old run.new) }
+    requires standing { HasAtHand run.old Insn.ReturnA }
+    ensures { IfOk result (IsExecuted run.old run.new) }
 {
     let taken = run.machine.taken;
     if taken == 32 {
         let value = run.machine.value;
-        give_back(run, Insn::ReturnA, value);
-        return Ok(Met::Done);
+        leave_program(run, Insn::ReturnA, value);
+        return Ok(Executed::Done);
     }
     let number = 1 << (31 - taken as u32);
     if let Some(sense) = foreseen(run, Test::AnyBit, Operand::Constant(number)) {
         take(run, Insn::ReturnA, sense)?;
-        return Ok(Met::Done);
+        return Ok(Executed::Done);
     }
     let Some(bit) = push(alloc, run, Node::Const(number))? else {
-        return Ok(Met::Contradiction);
+        return Ok(Executed::Contradiction);
     };
     let cond = Cond {
         node: run.machine.a,
@@ -120,5 +120,5 @@ pub(crate) fn return_a(alloc: Global, run: &mut Run) -> Result<Met, Fault>
         other: bit,
         sense: true,
     };
-    Ok(Met::Entry(Insn::ReturnA, cond))
+    Ok(Executed::Query(Insn::ReturnA, cond))
 }

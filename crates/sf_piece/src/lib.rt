@@ -4,19 +4,19 @@
 #![tactic(auto)]
 
 mod asking;
-mod entry;
+mod deciding;
 mod fault;
-mod first;
+mod root_piece;
 mod machine;
 mod name;
 mod nodes;
 mod piece;
 mod run;
-mod walking;
+mod executing;
 mod work;
 
 pub use fault::Fault;
-pub use first::root;
-pub use machine::Machine;
+pub use root_piece::root;
+pub use machine::SymbolicMachine;
 pub use piece::Piece;
 pub use work::{Step, Work, advance};

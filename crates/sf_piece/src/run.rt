@@ -3,7 +3,7 @@
 ghost use Rattle.std.specs.Prelude.{◌≡◌, ◌<◌, IfOk, MatchOption, length};
 
 use crate::fault::Fault;
-use crate::machine::Machine;
+use crate::machine::SymbolicMachine;
 use crate::name::Name;
 use sf_blocks::shared::SharedList;
 use sf_check::{Insn, Stack};
@@ -25,7 +25,7 @@ pub struct Run {
     pub(crate) name: Name,
     pub(crate) pool: Pool,
     pub(crate) conditions: Conditions,
-    pub(crate) machine: Machine,
+    pub(crate) machine: SymbolicMachine,
     pub(crate) facts: Facts,
 }
 
@@ -47,7 +47,7 @@ impl Model for Run {
 impl Run {
     ghost use Rattle.sf_piece.specs.Pieces.{IsRightAnswer};
     ghost use Rattle.sf_piece.specs.SymbolicRun.{IsLawfulPiece};
-    ghost use Rattle.sf_piece.specs.Works.{Standing};
+    ghost use Rattle.sf_piece.specs.Works.{HasAtHand};
 
     /// The same run again. `Memory` where a growth is refused.
     pub(crate) fn fork(&self, alloc: Global) -> Result<Run, Fault>
@@ -67,7 +67,7 @@ impl Run {
     pub(crate) fn insn(&self) -> Option<Insn>
         requires { IsLawfulPiece self.now }
         ensures { MatchOption result (IsRightAnswer self.now self.now.name
-            self.now.machine.so_far) (λ i. Standing self.now i) }
+            self.now.machine.so_far) (λ i. HasAtHand self.now i) }
     {
         let programs = self.stack.programs();
         if self.machine.program < programs.len() {

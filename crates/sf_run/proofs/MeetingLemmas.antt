@@ -10,7 +10,7 @@ use Rattle.sf_check.specs.declared.insn.Insn.{Insn}
 use Rattle.sf_check.specs.declared.insn.Insn.TheVariants.{LoadScratch, LoadXScratch, Alu, Branch}
 use Rattle.sf_check.specs.declared.insn.Operand.{Operand}
 use Rattle.sf_check.specs.declared.insn.Operand.TheVariants.{Constant, X}
-use Rattle.sf_run.specs.Machine.{State, Progress, goes, returns, stuck, bits, loaded, operated, executed, with_a, with_x}
+use Rattle.sf_run.specs.Machine.{State, Progress, goes, returns, stuck, bits, load_progress, operation_progress, insn_progress, with_a, with_x}
 use Rattle.sf_run.specs.Code.{met_at}
 
 -- one more bit of a word
@@ -28,15 +28,15 @@ Meets expected (goes met next) = met ≡ expected
 Meets expected (returns met value) = met ≡ expected
 Meets expected stuck = Unit {0}
 
-loaded_meets : (s : State) (k : ℕ) (f : ℕ → Progress) → ((n : ℕ) → Meets [] (f n)) → Meets [] (loaded s k f)
+loaded_meets : (s : State) (k : ℕ) (f : ℕ → Progress) → ((n : ℕ) → Meets [] (f n)) → Meets [] (load_progress s k f)
 loaded_meets s k f none = by (slice_get s.scratch k) refl
   where
-    by : (w : Option (Option ℕ)) → slice_get s.scratch k ≡ w → Meets [] (loaded s k f)
+    by : (w : Option (Option ℕ)) → slice_get s.scratch k ≡ w → Meets [] (load_progress s k f)
     by (Some (Some n)) at = rw at (none n)
     by (Some None) at = rw at tt
     by None at = rw at tt
 
-step_meets : (d : Input) (s : State) (i : Insn) → Meets (met_at s i) (executed d s i)
+step_meets : (d : Input) (s : State) (i : Insn) → Meets (met_at s i) (insn_progress d s i)
 step_meets d s (LoadScratch k) = loaded_meets s k (with_a s) (λ n. refl)
 step_meets d s (LoadXScratch k) = loaded_meets s k (with_x s) (λ n. refl)
 step_meets d s (Alu op other) = alu op other
@@ -46,18 +46,18 @@ step_meets d s (Alu op other) = alu op other
     div true = refl
     div false = refl
 
-    alu : (op : BinOp) (other : Operand) → Meets (met_at s (Alu op other)) (operated s op other)
+    alu : (op : BinOp) (other : Operand) → Meets (met_at s (Alu op other)) (operation_progress s op other)
     alu Div X = div (s.x == 0)
     alu Div (Constant k) = refl
     alu _ other = refl
 step_meets d s _ = refl
 
-pub goes_meets : (d : Input) (s : State) (i : Insn) (met : List Bool) (next : State) → executed d s i ≡ goes met next
+pub goes_meets : (d : Input) (s : State) (i : Insn) (met : List Bool) (next : State) → insn_progress d s i ≡ goes met next
     → met ≡ met_at s i
 goes_meets d s i met next e = rw e at (step_meets d s i)
 
 pub returns_meets : (d : Input) (s : State) (i : Insn) (met : List Bool) (value : ℕ)
-    → executed d s i ≡ returns met value → met ≡ met_at s i
+    → insn_progress d s i ≡ returns met value → met ≡ met_at s i
 returns_meets d s i met value e = rw e at (step_meets d s i)
 
 -- what is met does not depend on the place
@@ -74,7 +74,7 @@ met_anywhere p q a x scratch _ = refl
 -- what the code has met, and the rest of the run, after a step that goes on or returns
 pub met_goes_on : (code : List Insn) (d : Input) (place a x : ℕ) (scratch : List (Option ℕ)) (i : Insn)
     (met : List Bool) (next : State) (xs ys more whole : List Bool)
-    → executed d (record { place = place; a = a; x = x; scratch = scratch }) i ≡ goes met next
+    → insn_progress d (record { place = place; a = a; x = x; scratch = scratch }) i ≡ goes met next
     → ys ≡ xs ++ met_at (record { place = 0; a = a; x = x; scratch = scratch }) i → xs ++ (met ++ more) ≡ whole
     → ys ++ more ≡ whole
 met_goes_on code d place a x scratch i met next xs ys more whole e pushed so_far =
@@ -83,7 +83,7 @@ met_goes_on code d place a x scratch i met next xs ys more whole e pushed so_far
     rw (pushed, ← same, append_assoc xs met more) so_far
 
 pub met_ends : (code : List Insn) (d : Input) (place a x : ℕ) (scratch : List (Option ℕ)) (i : Insn) (met : List Bool)
-    (value : ℕ) (xs ys whole : List Bool) → executed d (record { place = place; a = a; x = x; scratch = scratch }) i
+    (value : ℕ) (xs ys whole : List Bool) → insn_progress d (record { place = place; a = a; x = x; scratch = scratch }) i
     ≡ returns met value → ys ≡ xs ++ met_at (record { place = 0; a = a; x = x; scratch = scratch }) i
     → xs ++ met ≡ whole → ys ≡ whole
 met_ends code d place a x scratch i met value xs ys whole e pushed so_far =

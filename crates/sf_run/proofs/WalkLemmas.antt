@@ -13,9 +13,9 @@ use Rattle.sf_check.specs.declared.insn.Operand.{Operand}
 use Rattle.sf_check.specs.declared.insn.Operand.TheVariants.{Constant, X}
 use Rattle.sf_check.specs.Programs.{IsAt}
 use Rattle.sf_run.specs.Code.{met_at}
-use Rattle.sf_run.specs.Machine.{State, Outcome, Progress, goes, returns, stuck, bits, start, step, executed, continued, run_for, outcome_of, return_of, met_by}
+use Rattle.sf_run.specs.Machine.{State, Outcome, Progress, goes, returns, stuck, bits, start, step, insn_progress, outcome_from, run_for, outcome_of, return_of, met_by}
 use Rattle.sf_run.specs.RunLaws.{option_map_some, step_is}
-use Rattle.sf_run.specs.Walks.{Walked, after, course, meeting_at, meeting_in, onward, truths, walk_for, walk_of}
+use Rattle.sf_run.specs.Walks.{CourseData, after, course, meeting_at, meeting_in, onward, truths, walk_for, walk_of}
 use Rattle.sf_run.specs.declared.walking.Meeting.{Meeting}
 use Rattle.sf_run.proofs.MeetingLemmas.{goes_meets, returns_meets}
 
@@ -26,8 +26,8 @@ flat_map-append f (x ∷ xs) ys = rw (flat_map-append f xs ys, append_assoc (f x
 
 -- a step that goes on, before a walk
 pub walk_more : (n : ℕ) (code : List Insn) (d : Input) (s : State) (i : Insn) (met : List Bool) (next : State)
-    (w : Walked) → IsAt code s.place i
-    → executed d s i ≡ goes met next → walk_for n code d next ≡ Some w
+    (w : CourseData) → IsAt code s.place i
+    → insn_progress d s i ≡ goes met next → walk_for n code d next ≡ Some w
     → walk_for (suc n) code d s ≡ Some (after (meeting_at s i) w)
 unfolding walk_for
 walk_more n code d s i met next w at e rest = rw (step_is code d s i at, at, e, rest) refl
@@ -35,16 +35,16 @@ walk_more n code d s i met next w at e rest = rw (step_is code d s i at, at, e, 
 -- a step that returns
 pub walk_ends : (n : ℕ) (code : List Insn) (d : Input) (s : State) (i : Insn) (met : List Bool) (v : ℕ)
     → IsAt code s.place i
-    → executed d s i ≡ returns met v → walk_for (suc n) code d s ≡ Some (course (meeting_at s i) s.place v)
+    → insn_progress d s i ≡ returns met v → walk_for (suc n) code d s ≡ Some (course (meeting_at s i) s.place v)
 unfolding walk_for
 walk_ends n code d s i met v at e = rw (step_is code d s i at, at, e) refl
 
 -- what has been met, and how the whole walk ends, after a step that goes on
 pub walk_goes_on : (code : List Insn) (d : Input) (s : State) (i : Insn) (met : List Bool) (next : State) (left : ℕ)
-    (old new : List Meeting) (whole : Option Walked) → 0 < left
-    → IsAt code s.place i → executed d s i ≡ goes met next → new ≡ old ++ meeting_at s i
-    → ((w : Walked) → walk_for left code d s ≡ Some w → whole ≡ Some (after old w))
-    → (w : Walked) → walk_for (left - 1) code d next ≡ Some w → whole ≡ Some (after new w)
+    (old new : List Meeting) (whole : Option CourseData) → 0 < left
+    → IsAt code s.place i → insn_progress d s i ≡ goes met next → new ≡ old ++ meeting_at s i
+    → ((w : CourseData) → walk_for left code d s ≡ Some w → whole ≡ Some (after old w))
+    → (w : CourseData) → walk_for (left - 1) code d next ≡ Some w → whole ≡ Some (after new w)
 walk_goes_on code d s i met next left old new whole some at e pushed so_far w rest =
     let one_less : suc (left - 1) ≡ left = omega arith in
     let more = walk_more (left - 1) code d s i met next w at e rest in
@@ -55,9 +55,9 @@ walk_goes_on code d s i met next left old new whole some at e pushed so_far w re
 
 -- and after one that returns
 pub walk_comes_to_end : (code : List Insn) (d : Input) (s : State) (i : Insn) (met : List Bool) (v : ℕ) (left : ℕ)
-    (old new : List Meeting) (whole : Option Walked) → 0 < left
-    → IsAt code s.place i → executed d s i ≡ returns met v → new ≡ old ++ meeting_at s i
-    → ((w : Walked) → walk_for left code d s ≡ Some w → whole ≡ Some (after old w))
+    (old new : List Meeting) (whole : Option CourseData) → 0 < left
+    → IsAt code s.place i → insn_progress d s i ≡ returns met v → new ≡ old ++ meeting_at s i
+    → ((w : CourseData) → walk_for left code d s ≡ Some w → whole ≡ Some (after old w))
     → whole ≡ Some (course new s.place v)
 walk_comes_to_end code d s i met v left old new whole some at e pushed so_far =
     let one_less : suc (left - 1) ≡ left = omega arith in
@@ -80,22 +80,22 @@ met_there s ReturnA = append-nil (bits 32 s.a)
 met_there s _ = refl
 
 -- the end of a run, by what is met before it and by the walk of the rest
-longer : (met : List Bool) (here : List Meeting) (t w : Walked) (o : Outcome) → met ≡ flat_map truths here
+longer : (met : List Bool) (here : List Meeting) (t w : CourseData) (o : Outcome) → met ≡ flat_map truths here
     → o ≡ Some (flat_map truths t.met, t.value) → after here t ≡ w
     → option_map {U = List Bool × ℕ} (λ o. (met ++ o.0, o.1)) o ≡ Some (flat_map truths w.met, w.value)
 longer met here t w o same ran is = rw (ran, ← is, same, flat_map-append truths here t.met) refl
 
 -- a walk that comes to its end tells how the run of as many steps ends
-pub walk_is_run : (n : ℕ) (code : List Insn) (d : Input) (s : State) (w : Walked) → walk_for n code d s ≡ Some w
+pub walk_is_run : (n : ℕ) (code : List Insn) (d : Input) (s : State) (w : CourseData) → walk_for n code d s ≡ Some w
     → run_for n code d s ≡ Some (flat_map truths w.met, w.value)
 unfolding walk_for run_for
 walk_is_run zero code d s w e = absurd cc
 walk_is_run (suc n) code d s w e = at_place (slice_get code s.place) refl (λ t v q. walk_is_run n code d t v q) e
   where
-    by : (i : Insn) → ((t : State) (v : Walked) → walk_for n code d t ≡ Some v
+    by : (i : Insn) → ((t : State) (v : CourseData) → walk_for n code d t ≡ Some v
         → run_for n code d t ≡ Some (flat_map truths v.met, v.value))
-        → (p : Progress) → executed d s i ≡ p → onward (meeting_at s i) s.place (walk_for n code d) p ≡ Some w
-        → continued (run_for n code d) p ≡ Some (flat_map truths w.met, w.value)
+        → (p : Progress) → insn_progress d s i ≡ p → onward (meeting_at s i) s.place (walk_for n code d) p ≡ Some w
+        → outcome_from (run_for n code d) p ≡ Some (flat_map truths w.met, w.value)
     by i rest (goes met next) is e =
         let tail = option_map_some (after (meeting_at s i)) (walk_for n code d next) w e in
         let same : met ≡ flat_map truths (meeting_at s i) = goes_meets d s i met next is ∙ sym (met_there s i) in
@@ -106,15 +106,15 @@ walk_is_run (suc n) code d s w e = at_place (slice_get code s.place) refl (λ t 
     by i rest stuck is e = absurd cc
 
     at_place : (o : Option Insn) → slice_get code s.place ≡ o
-        → ((t : State) (v : Walked) → walk_for n code d t ≡ Some v
+        → ((t : State) (v : CourseData) → walk_for n code d t ≡ Some v
         → run_for n code d t ≡ Some (flat_map truths v.met, v.value))
         → onward (meeting_in code s) s.place (walk_for n code d) (step code d s) ≡ Some w
-        → continued (run_for n code d) (step code d s) ≡ Some (flat_map truths w.met, w.value)
+        → outcome_from (run_for n code d) (step code d s) ≡ Some (flat_map truths w.met, w.value)
     at_place None at rest e = let clash : None ≡ Some w = rw at at e in absurd cc
-    at_place (Some i) at rest e = rw (step_is code d s i at) (by i rest (executed d s i) refl (rw at at e))
+    at_place (Some i) at rest e = rw (step_is code d s i at) (by i rest (insn_progress d s i) refl (rw at at e))
 
 -- so it tells what the program returns, and what it meets
-pub walk_tells_run : (code : List Insn) (d : Input) (w : Walked) → walk_of code d ≡ Some w
+pub walk_tells_run : (code : List Insn) (d : Input) (w : CourseData) → walk_of code d ≡ Some w
     → (w.value ≡ return_of code d) × (flat_map truths w.met ≡ met_by code d)
 unfolding walk_of outcome_of
 walk_tells_run code d w e =

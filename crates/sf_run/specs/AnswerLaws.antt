@@ -6,22 +6,22 @@ use Rattle.std.proofs.lemmas.List.Folds.{find-append}
 use Rattle.std.proofs.lemmas.Nat.{and_le_r}
 use Rattle.std.proofs.lemmas.List.{map_push}
 use Rattle.std.proofs.lemmas.List.Elements.{All-nil, All-cons, All-push, All-contains, Contains-push, Contains-append_left, Contains-get_or}
-use Rattle.sf_check.specs.MemberLaws.{contains_cons, contains_here, contains_there}
+use Rattle.sf_check.specs.ContainsLaws.{contains_cons, contains_here, contains_there}
 use Rattle.sf_run.specs.declared.action.Action.{Action}
 use Rattle.sf_run.specs.declared.action.Action.TheVariants.{KillProcess, KillThread, Trap, Errno, UserNotif, Trace, Log, Allow, Other}
 use Rattle.sf_run.specs.declared.action.Answer.{Answer}
-use Rattle.sf_run.specs.Answers.{action_bits, data_bits, number_of, action_of, rank, IsAnswer, folded}
+use Rattle.sf_run.specs.Answers.{action_bits, data_bits, action_number, action_of, rank, IsAnswer, folded_answer}
 
 -- ---- names and numbers
 
-pick : (n c : ℕ) (x y : Action) → number_of x ≡ c → number_of y ≡ n → number_of (if n == c then x else y) ≡ n
+pick : (n c : ℕ) (x y : Action) → action_number x ≡ c → action_number y ≡ n → action_number (if n == c then x else y) ≡ n
 pick n c x y p q =
     elim (cases_eq n c) [
       | inl e ↦ rw (eq-eqb n c e) (p ∙ sym e)
       | inr ne ↦ rw (ne_eqb n c ne) q
     ]
 
-pub number-action_of : (n : ℕ) → number_of (action_of n) ≡ n
+pub number-action_of : (n : ℕ) → action_number (action_of n) ≡ n
 number-action_of n =
     pick n 0x80000000 KillProcess _ refl (pick n 0 KillThread _ refl
     (pick n 0x00030000 Trap _ refl (pick n 0x00050000 Errno _ refl
@@ -70,13 +70,13 @@ data_same : (n : ℕ) (vs ws : List ℕ) → (n ≡ 0x7fff0000)
 data_same n vs ws (inl e) = rw (eq-eqb n 0x7fff0000 e) refl
 data_same n vs ws (inr e) = ap (λ (o : Option ℕ). if n == 0x7fff0000 then 0 else unwrap_or (option_map data_bits o) 0) e
 
-lower : (vs : List ℕ) (a : Answer) (v : ℕ) → IsAnswer vs a → rank (action_bits v) < rank (number_of a.action)
+lower : (vs : List ℕ) (a : Answer) (v : ℕ) → IsAnswer vs a → rank (action_bits v) < rank (action_number a.action)
     → IsAnswer (vs ++ v ∷ []) (record { action = action_of (action_bits v); info = data_bits v })
 lower vs a v h lt =
     let n = action_bits v in
-    let same : number_of (action_of n) ≡ n = number-action_of n in
+    let same : action_number (action_of n) ≡ n = number-action_of n in
     let above : (u : ℕ) → Contains (actions vs) u → rank n < rank u =
-    λ u c. let le : rank (number_of a.action) ≤ rank u = All-contains (λ m. rank (number_of a.action) ≤ rank m)
+    λ u c. let le : rank (action_number a.action) ≤ rank u = All-contains (λ m. rank (action_number a.action) ≤ rank m)
     (actions vs) u h.lowest c in omega arith in
     let other : (u : ℕ) → Contains (actions vs) u → n ≡ u → ⊥ = λ u c e. let lt' = above u c in
     let r : rank n ≡ rank u = ap rank e in omega arith in
@@ -98,20 +98,20 @@ lower vs a v h lt =
           (rw (ne_eqb n 0x7fff0000 not_allow, found) refl);
     }
 
-kept : (vs : List ℕ) (a : Answer) (v : ℕ) → IsAnswer vs a → rank (number_of a.action) ≤ rank (action_bits v)
+kept : (vs : List ℕ) (a : Answer) (v : ℕ) → IsAnswer vs a → rank (action_number a.action) ≤ rank (action_bits v)
     → IsAnswer (vs ++ v ∷ []) a
 kept vs a v h le = record {
-  among = subst (λ (t : List ℕ). Contains t (number_of a.action)) (sym (actions_push vs v))
-      (Contains-append_left (actions vs) (action_bits v ∷ []) (number_of a.action) h.among);
-  lowest = subst (λ (t : List ℕ). All (λ m. rank (number_of a.action) ≤ rank m) t) (sym (actions_push vs v))
-      (All-push (λ m. rank (number_of a.action) ≤ rank m) (actions vs) (action_bits v) h.lowest le);
+  among = subst (λ (t : List ℕ). Contains t (action_number a.action)) (sym (actions_push vs v))
+      (Contains-append_left (actions vs) (action_bits v ∷ []) (action_number a.action) h.among);
+  lowest = subst (λ (t : List ℕ). All (λ m. rank (action_number a.action) ≤ rank m) t) (sym (actions_push vs v))
+      (All-push (λ m. rank (action_number a.action) ≤ rank m) (actions vs) (action_bits v) h.lowest le);
   named = h.named;
-  data_is = h.data_is ∙ data_same (number_of a.action) vs (vs ++ v ∷ [])
-      (stays (contains_cons 0x7fff0000 (map action_bits vs) (number_of a.action) h.among));
+  data_is = h.data_is ∙ data_same (action_number a.action) vs (vs ++ v ∷ [])
+      (stays (contains_cons 0x7fff0000 (map action_bits vs) (action_number a.action) h.among));
 }
   where
     n : ℕ
-    n = number_of a.action
+    n = action_number a.action
 
     stays : (0x7fff0000 ≡ n) ⊎ Contains (map action_bits vs) n → (n ≡ 0x7fff0000)
         ⊎ (find (λ u. action_bits u == n) vs ≡ find (λ u. action_bits u == n) (vs ++ v ∷ []))
@@ -120,11 +120,11 @@ kept vs a v h le = record {
         let f = find_among vs n c in
         inr (f.1 ∙ sym (find-append (λ u. action_bits u == n) vs (v ∷ []) ∙ rw f.1 refl))
 
-pub answer_more : (vs : List ℕ) (a : Answer) (v : ℕ) → IsAnswer vs a → IsAnswer (vs ++ v ∷ []) (folded a v)
+pub answer_more : (vs : List ℕ) (a : Answer) (v : ℕ) → IsAnswer vs a → IsAnswer (vs ++ v ∷ []) (folded_answer a v)
 answer_more vs a v h =
-    elim (cases_lt (rank (action_bits v)) (rank (number_of a.action))) [
-      | inl lt ↦ rw (lt-ltb (rank (action_bits v)) (rank (number_of a.action)) lt) (lower vs a v h lt)
-      | inr le ↦ rw (le-ltb (rank (action_bits v)) (rank (number_of a.action)) le) (kept vs a v h le)
+    elim (cases_lt (rank (action_bits v)) (rank (action_number a.action))) [
+      | inl lt ↦ rw (lt-ltb (rank (action_bits v)) (rank (action_number a.action)) lt) (lower vs a v h lt)
+      | inr le ↦ rw (le-ltb (rank (action_bits v)) (rank (action_number a.action)) le) (kept vs a v h le)
     ]
 
 pub answer_none : IsAnswer [] (record { action = Allow; info = 0 })
@@ -161,13 +161,13 @@ answer a i = record { action = a; info = i }
 
 pub one : (vs : List ℕ) (a b : Answer) → IsAnswer vs a → IsAnswer vs b → a ≡ b
 one vs a b p q =
-    let ab : rank (number_of a.action) ≤ rank (number_of b.action) =
-    All-contains (λ m. rank (number_of a.action) ≤ rank m) (actions vs) (number_of b.action) p.lowest q.among in
-    let ba : rank (number_of b.action) ≤ rank (number_of a.action) =
-    All-contains (λ m. rank (number_of b.action) ≤ rank m) (actions vs) (number_of a.action) q.lowest p.among in
-    let number : number_of a.action ≡ number_of b.action =
-    rank_is (number_of a.action) (number_of b.action) (small vs (number_of a.action) p.among)
-    (small vs (number_of b.action) q.among) (omega arith) in
+    let ab : rank (action_number a.action) ≤ rank (action_number b.action) =
+    All-contains (λ m. rank (action_number a.action) ≤ rank m) (actions vs) (action_number b.action) p.lowest q.among in
+    let ba : rank (action_number b.action) ≤ rank (action_number a.action) =
+    All-contains (λ m. rank (action_number b.action) ≤ rank m) (actions vs) (action_number a.action) q.lowest p.among in
+    let number : action_number a.action ≡ action_number b.action =
+    rank_is (action_number a.action) (action_number b.action) (small vs (action_number a.action) p.among)
+    (small vs (action_number b.action) q.among) (omega arith) in
     let action : a.action ≡ b.action = p.named ∙ ap action_of number ∙ sym q.named in
     let info : a.info ≡ b.info = p.data_is ∙ ap (λ (n : ℕ). data_of n vs) number ∙ sym q.data_is in
     answer_is action info

@@ -9,8 +9,8 @@ use Rattle.sf_check.specs.declared.insn.Insn.TheVariants.{Alu, Negate, Jump, Bra
 use Rattle.sf_check.specs.declared.insn.Operand.{Operand}
 use Rattle.sf_check.specs.declared.insn.Operand.TheVariants.{Constant, X}
 use Rattle.sf_check.specs.Insns.{successors}
-use Rattle.sf_check.specs.Programs.{IsAt, IsLawful}
-use Rattle.sf_check.specs.MemberLaws.{contains_here}
+use Rattle.sf_check.specs.Programs.{IsAt, IsLawfulProgram}
+use Rattle.sf_check.specs.ContainsLaws.{contains_here}
 use Rattle.sf_check.specs.ProgramLaws.{successor_after, successors_inside, below_in}
 use Rattle.sf_run.specs.Machine.{bits}
 use Rattle.sf_run.specs.Routes.{MayMeet, IsWay, returns_at, goes_on}
@@ -38,7 +38,7 @@ some_choice at (Alu op other) = alu op other
     alu _ other = inr ([], at + 1, (refl, refl), contains_here (at + 1) [] (at + 1) refl)
 some_choice at _ = inr ([], at + 1, (refl, refl), contains_here (at + 1) [] (at + 1) refl)
 
-pub some_way : (n : ℕ) (code : List Insn) (at : ℕ) → IsLawful code → at < length code → length code ≤ n + at
+pub some_way : (n : ℕ) (code : List Insn) (at : ℕ) → IsLawfulProgram code → at < length code → length code ≤ n + at
     → (met : List Bool) × IsWay code at met
 some_way zero code at lawful lt room = absurd (omega arith)
 some_way (suc n) code at lawful lt room = by (some_choice at (get_or code at Negate)) (λ t. some_way n code t lawful)

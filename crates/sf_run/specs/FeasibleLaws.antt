@@ -9,7 +9,7 @@ use Rattle.std.specs.Cmp.Lexicographic.{slice_cmp, lists_total}
 use Rattle.std.specs.List.{AllByRecursion}
 use Rattle.std.specs.List.Sorted.{IsStrictlySortedBy}
 use Rattle.sf_check.specs.declared.insn.Insn.{Insn}
-use Rattle.sf_check.specs.MemberLaws.{contains_cons, contains_here, contains_there, contains_nil}
+use Rattle.sf_check.specs.ContainsLaws.{contains_cons, contains_here, contains_there, contains_nil}
 use Rattle.sf_run.specs.Machine.{trace_of}
 use Rattle.sf_run.specs.Feasible.{IsFeasible, AreFeasibleTraces, AreInNameOrder, all_inputs, put_in, in_name_order, feasible_traces}
 use Rattle.sf_run.specs.InputLaws.{contains_map, map_contains, inputs_are}

@@ -8,7 +8,7 @@ use Rattle.std.proofs.lemmas.List.Elements.{Contains-append_left, Contains-appen
 use Rattle.std.proofs.lemmas.List.FromFn.{length-range_with_len, get_or-range_with_len}
 use Rattle.sf_insn.specs.declared.input.Input.{Input}
 use Rattle.sf_insn.specs.Inputs.{IsInput}
-use Rattle.sf_check.specs.MemberLaws.{contains_cons, contains_here, contains_there, contains_nil}
+use Rattle.sf_check.specs.ContainsLaws.{contains_cons, contains_here, contains_there, contains_nil}
 use Rattle.sf_run.specs.Feasible.{lists_below, input_of, all_inputs}
 
 -- ---- members of lists that are made of others

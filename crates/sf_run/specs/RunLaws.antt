@@ -13,10 +13,10 @@ use Rattle.sf_check.specs.declared.insn.Insn.TheVariants.{LoadWord, LoadConstant
 use Rattle.sf_check.specs.declared.insn.Operand.{Operand}
 use Rattle.sf_check.specs.declared.insn.Operand.TheVariants.{Constant, X}
 use Rattle.sf_check.specs.Insns.{stored_by, loaded_by, successors, IsInRange}
-use Rattle.sf_check.specs.Programs.{IsAt, IsPath, Stores, IsLawful}
-use Rattle.sf_check.specs.MemberLaws.{contains_here, contains_there, any_nil, any_cons}
+use Rattle.sf_check.specs.Programs.{IsAt, IsPath, Stores, IsLawfulProgram}
+use Rattle.sf_check.specs.ContainsLaws.{contains_here, contains_there, any_nil, any_cons}
 use Rattle.sf_check.specs.ProgramLaws.{successor_after, successors_inside, below_in}
-use Rattle.sf_run.specs.Machine.{State, Progress, goes, returns, stuck, start, operand_of, loaded, operated, tested, executed, step, Outcome, continued, run_for, outcome_of, return_of, met_by, with_a, with_x}
+use Rattle.sf_run.specs.Machine.{State, Progress, goes, returns, stuck, start, operand_of, load_progress, operation_progress, test_progress, insn_progress, step, Outcome, outcome_from, run_for, outcome_of, return_of, met_by, with_a, with_x}
 
 -- ---- one end
 
@@ -31,7 +31,7 @@ put met o = (met ++ o.0, o.1)
 
 same_continued : (p : Progress) (f g : State → Outcome)
     → ((s : State) (o o' : List Bool × ℕ) → f s ≡ Some o → g s ≡ Some o' → o ≡ o') → (o o' : List Bool × ℕ)
-    → continued f p ≡ Some o → continued g p ≡ Some o' → o ≡ o'
+    → outcome_from f p ≡ Some o → outcome_from g p ≡ Some o' → o ≡ o'
 same_continued (goes met next) f g same o o' e e' =
     let a = option_map_some (put met) (f next) o e in
     let b = option_map_some (put met) (g next) o' e' in
@@ -52,7 +52,7 @@ run_same (suc n) (suc m) code d s o o' e e' =
 
 -- at the place of an instruction the step executes it
 pub step_is : (code : List Insn) (d : Input) (s : State) (i : Insn) → IsAt code s.place i
-    → step code d s ≡ executed d s i
+    → step code d s ≡ insn_progress d s i
 step_is code d s i at = rw at refl
 
 pub goes_is : (met met' : List Bool) (s t : State) → goes met s ≡ goes met' t → s ≡ t
@@ -106,17 +106,17 @@ pub record Moves (i : Insn) (s next : State) : Type 0 where
   pub keeps : Keeps i s.scratch next.scratch
 
 -- a load of a set word goes on, and one of an unset word does not
-loaded_goes : (s : State) (k : ℕ) (f : ℕ → Progress) (met : List Bool) (next : State) → loaded s k f ≡ goes met next
+loaded_goes : (s : State) (k : ℕ) (f : ℕ → Progress) (met : List Bool) (next : State) → load_progress s k f ≡ goes met next
     → (n : ℕ) × (f n ≡ goes met next)
 loaded_goes s k f met next e = by (slice_get s.scratch k) refl e
   where
-    by : (w : Option (Option ℕ)) → slice_get s.scratch k ≡ w → loaded s k f ≡ goes met next → (n : ℕ)
+    by : (w : Option (Option ℕ)) → slice_get s.scratch k ≡ w → load_progress s k f ≡ goes met next → (n : ℕ)
         × (f n ≡ goes met next)
     by (Some (Some n)) at e = (n, rw at at e)
     by (Some None) at e = let clash : stuck ≡ goes met next = rw at at e in absurd cc
     by None at e = let clash : stuck ≡ goes met next = rw at at e in absurd cc
 
-pub moves : (d : Input) (s : State) (i : Insn) (met : List Bool) (next : State) → executed d s i ≡ goes met next
+pub moves : (d : Input) (s : State) (i : Insn) (met : List Bool) (next : State) → insn_progress d s i ≡ goes met next
     → Moves i s next
 moves d s i met next e = by i e
   where
@@ -135,7 +135,7 @@ moves d s i met next e = by i e
     store i k n leads at e =
         subst (Moves i s) (goes_is [] met _ next e) (record { leads = leads; keeps = keeps_store i s.scratch k n at })
 
-    by : (i : Insn) → executed d s i ≡ goes met next → Moves i s next
+    by : (i : Insn) → insn_progress d s i ≡ goes met next → Moves i s next
     by (LoadWord k) e = on (LoadWord k) _ _ [] (one (s.place + 1)) refl e
     by (LoadConstant k) e = on (LoadConstant k) _ _ [] (one (s.place + 1)) refl e
     by (LoadScratch k) e =
@@ -157,7 +157,7 @@ moves d s i met next e = by i e
         div true e = absurd cc
         div false e = on (Alu Div X) _ _ (false ∷ []) (one (s.place + 1)) refl e
 
-        alu : (op : BinOp) (other : Operand) → operated s op other ≡ goes met next → Moves (Alu op other) s next
+        alu : (op : BinOp) (other : Operand) → operation_progress s op other ≡ goes met next → Moves (Alu op other) s next
         alu Div X e = div (s.x == 0) e
         alu Div (Constant k) e = on (Alu Div (Constant k)) _ _ [] (one (s.place + 1)) refl e
         alu Add other e = on (Alu Add other) _ _ [] (one (s.place + 1)) refl e
@@ -174,7 +174,7 @@ moves d s i met next e = by i e
         (record { leads = one (s.place + 1 + k); keeps = keeps_same (Jump k) s.scratch refl })
     by (Branch test other t f) e = tested' (passes test s.a (operand_of s other)) e
       where
-        tested' : (b : Bool) → tested s b t f ≡ goes met next → Moves (Branch test other t f) s next
+        tested' : (b : Bool) → test_progress s b t f ≡ goes met next → Moves (Branch test other t f) s next
         tested' true e =
             subst (Moves (Branch test other t f) s) (goes_is (true ∷ []) met _ next e)
             (record {
@@ -196,14 +196,14 @@ moves d s i met next e = by i e
 -- ---- never stuck
 
 -- a state that a run of the program may reach: some path leads here, and the words that it stores are set
-pub record Safe (code : List Insn) (s : State) : Type 0 where
+pub record IsReachable (code : List Insn) (s : State) : Type 0 where
   pub inside : s.place < length code
   pub sixteen : length s.scratch ≡ 16
   pub earlier : List ℕ
   pub path : IsPath code (s.place ∷ earlier)
   pub set_words : (k : ℕ) → Any (Stores code k) earlier → (n : ℕ) × (slice_get s.scratch k ≡ Some (Some n))
 
-pub safe_start : (code : List Insn) → 0 < length code → Safe code start
+pub safe_start : (code : List Insn) → 0 < length code → IsReachable code start
 safe_start code some = record {
   inside = some;
   sixteen = refl;
@@ -213,7 +213,7 @@ safe_start code some = record {
 }
 
 -- the instruction there may load what it loads
-pub load_is_set : (code : List Insn) (s : State) (i : Insn) (k : ℕ) → IsLawful code → Safe code s → IsAt code s.place i
+pub load_is_set : (code : List Insn) (s : State) (i : Insn) (k : ℕ) → IsLawfulProgram code → IsReachable code s → IsAt code s.place i
     → loaded_by i ≡ Some k → (n : ℕ) × (slice_get s.scratch k ≡ Some (Some n))
 load_is_set code s i k lawful safe at loads =
     safe.set_words k (lawful.set s.place k safe.earlier (i, at, loads) safe.path)
@@ -223,8 +223,8 @@ stored_small (StoreA j) k small e = let same : j ≡ k = same_Some j k e in omeg
 stored_small (StoreX j) k small e = let same : j ≡ k = same_Some j k e in omega (arith, small)
 stored_small _ k small e = absurd cc
 
-pub safe_next : (code : List Insn) (d : Input) (s : State) (i : Insn) (met : List Bool) (next : State) → IsLawful code
-    → Safe code s → IsAt code s.place i → executed d s i ≡ goes met next → Safe code next × (s.place < next.place)
+pub safe_next : (code : List Insn) (d : Input) (s : State) (i : Insn) (met : List Bool) (next : State) → IsLawfulProgram code
+    → IsReachable code s → IsAt code s.place i → insn_progress d s i ≡ goes met next → IsReachable code next × (s.place < next.place)
 safe_next code d s i met next lawful safe at e =
     let m = moves d s i met next e in (
       record {
@@ -248,15 +248,15 @@ safe_next code d s i met next lawful safe at e =
     )
 
 loaded_not_stuck : (s : State) (k : ℕ) (f : ℕ → Progress) → ((n : ℕ) → f n ≡ stuck → ⊥) → (n : ℕ)
-    × (slice_get s.scratch k ≡ Some (Some n)) → loaded s k f ≡ stuck → ⊥
+    × (slice_get s.scratch k ≡ Some (Some n)) → load_progress s k f ≡ stuck → ⊥
 loaded_not_stuck s k f fine (n, at) e = fine n (rw at at e)
 
 pub not_stuck : (d : Input) (s : State) (i : Insn)
-    → ((k : ℕ) → loaded_by i ≡ Some k → (n : ℕ) × (slice_get s.scratch k ≡ Some (Some n))) → executed d s i ≡ stuck → ⊥
+    → ((k : ℕ) → loaded_by i ≡ Some k → (n : ℕ) × (slice_get s.scratch k ≡ Some (Some n))) → insn_progress d s i ≡ stuck → ⊥
 not_stuck d s i fine e = by i fine e
   where
     by : (i : Insn) → ((k : ℕ) → loaded_by i ≡ Some k → (n : ℕ) × (slice_get s.scratch k ≡ Some (Some n)))
-        → executed d s i ≡ stuck → ⊥
+        → insn_progress d s i ≡ stuck → ⊥
     by (LoadScratch k) fine e = loaded_not_stuck s k (with_a s) (λ n e. cc) (fine k refl) e
     by (LoadXScratch k) fine e = loaded_not_stuck s k (with_x s) (λ n e. cc) (fine k refl) e
     by (Alu op other) fine e = alu op other e
@@ -266,7 +266,7 @@ not_stuck d s i fine e = by i fine e
         div true e = cc
         div false e = cc
 
-        alu : (op : BinOp) (other : Operand) → operated s op other ≡ stuck → ⊥
+        alu : (op : BinOp) (other : Operand) → operation_progress s op other ≡ stuck → ⊥
         alu Div X e = div (s.x == 0) e
         alu Div (Constant k) e = cc
         alu _ other e = cc
@@ -274,12 +274,12 @@ not_stuck d s i fine e = by i fine e
 
 -- ---- comes to an end
 
-pub ends_from : (n : ℕ) (code : List Insn) (d : Input) (s : State) → IsLawful code → Safe code s
+pub ends_from : (n : ℕ) (code : List Insn) (d : Input) (s : State) → IsLawfulProgram code → IsReachable code s
     → length code ≤ n + s.place → IsSome (run_for n code d s)
 unfolding run_for
 ends_from zero code d s lawful safe room = absurd (omega (arith, safe.inside))
 ends_from (suc n) code d s lawful safe room =
-    rw (step_is code d s i at) (by (λ t. ends_from n code d t lawful) (executed d s i) refl)
+    rw (step_is code d s i at) (by (λ t. ends_from n code d t lawful) (insn_progress d s i) refl)
   where
     i : Insn
     i = get_or code s.place Negate
@@ -291,20 +291,20 @@ ends_from (suc n) code d s lawful safe room =
     mapped f None h = absurd cc
     mapped f (Some x) h = refl
 
-    by : ((t : State) → Safe code t → length code ≤ n + t.place → IsSome (run_for n code d t)) → (p : Progress)
-        → executed d s i ≡ p → IsSome (continued (run_for n code d) p)
+    by : ((t : State) → IsReachable code t → length code ≤ n + t.place → IsSome (run_for n code d t)) → (p : Progress)
+        → insn_progress d s i ≡ p → IsSome (outcome_from (run_for n code d) p)
     by rest (goes met next) e =
         let on = safe_next code d s i met next lawful safe at e in
         mapped (put met) (run_for n code d next) (rest next on.0 (omega (arith, on.1)))
     by rest (returns met v) e = refl
     by rest stuck e = absurd (not_stuck d s i (λ k loads. load_is_set code s i k lawful safe at loads) e)
 
-pub lawful_ends : (code : List Insn) (d : Input) → IsLawful code → IsSome (outcome_of code d)
+pub lawful_ends : (code : List Insn) (d : Input) → IsLawfulProgram code → IsSome (outcome_of code d)
 unfolding outcome_of
 lawful_ends code d lawful = ends_from (length code) code d start lawful (safe_start code lawful.some) (omega arith)
 
 -- any run from the start that comes to an end is that of the program
-pub outcome_is : (n : ℕ) (code : List Insn) (d : Input) (o : List Bool × ℕ) → IsLawful code
+pub outcome_is : (n : ℕ) (code : List Insn) (d : Input) (o : List Bool × ℕ) → IsLawfulProgram code
     → run_for n code d start ≡ Some o → outcome_of code d ≡ Some o
 unfolding outcome_of
 outcome_is n code d o lawful e = by (outcome_of code d) refl (lawful_ends code d lawful)
@@ -316,22 +316,22 @@ outcome_is n code d o lawful e = by (outcome_of code d) refl (lawful_ends code d
         rw e' (ap (λ (p : List Bool × ℕ). Some p) (sym same))
 
 -- so it returns the program's value, and meets what the program meets
-pub value_is : (n : ℕ) (code : List Insn) (d : Input) (o : List Bool × ℕ) → IsLawful code
+pub value_is : (n : ℕ) (code : List Insn) (d : Input) (o : List Bool × ℕ) → IsLawfulProgram code
     → run_for n code d start ≡ Some o → o.1 ≡ return_of code d
 value_is n code d o lawful e = rw (outcome_is n code d o lawful e) refl
 
-pub met_is : (n : ℕ) (code : List Insn) (d : Input) (o : List Bool × ℕ) → IsLawful code
+pub met_is : (n : ℕ) (code : List Insn) (d : Input) (o : List Bool × ℕ) → IsLawfulProgram code
     → run_for n code d start ≡ Some o → o.0 ≡ met_by code d
 met_is n code d o lawful e = rw (outcome_is n code d o lawful e) refl
 
 -- a run goes on by a step
 pub run_more : (n : ℕ) (code : List Insn) (d : Input) (s : State) (i : Insn) (met : List Bool) (next : State)
-    (o : List Bool × ℕ) → IsAt code s.place i → executed d s i ≡ goes met next → run_for n code d next ≡ Some o
+    (o : List Bool × ℕ) → IsAt code s.place i → insn_progress d s i ≡ goes met next → run_for n code d next ≡ Some o
     → run_for (suc n) code d s ≡ Some (met ++ o.0, o.1)
 unfolding run_for
 run_more n code d s i met next o at e rest = rw (step_is code d s i at, e, rest) refl
 
 pub run_ends : (code : List Insn) (d : Input) (s : State) (i : Insn) (met : List Bool) (v : ℕ) → IsAt code s.place i
-    → executed d s i ≡ returns met v → run_for 1 code d s ≡ Some (met, v)
+    → insn_progress d s i ≡ returns met v → run_for 1 code d s ≡ Some (met, v)
 unfolding run_for
 run_ends code d s i met v at e = rw (step_is code d s i at, e) refl

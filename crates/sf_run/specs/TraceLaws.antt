@@ -15,8 +15,8 @@ use Rattle.sf_check.specs.declared.insn.Insn.{Insn}
 use Rattle.sf_check.specs.declared.insn.Insn.TheVariants.{LoadWord, LoadConstant, LoadScratch, LoadLength, LoadXConstant, LoadXScratch, LoadXLength, StoreA, StoreX, Alu, Negate, Jump, Branch, ReturnConstant, ReturnA, Tax, Txa}
 use Rattle.sf_check.specs.declared.insn.Operand.{Operand}
 use Rattle.sf_check.specs.declared.insn.Operand.TheVariants.{Constant, X}
-use Rattle.sf_check.specs.Programs.{IsAt, IsLawful}
-use Rattle.sf_run.specs.Machine.{State, Progress, goes, returns, stuck, start, operand_of, loaded, operated, executed, step, Outcome, continued, run_for, outcome_of, met_by, trace_of, with_a, with_x}
+use Rattle.sf_check.specs.Programs.{IsAt, IsLawfulProgram}
+use Rattle.sf_run.specs.Machine.{State, Progress, goes, returns, stuck, start, operand_of, load_progress, operation_progress, insn_progress, step, Outcome, outcome_from, run_for, outcome_of, met_by, trace_of, with_a, with_x}
 use Rattle.sf_run.specs.RunLaws.{step_is, lawful_ends, option_map_some, put}
 use Rattle.sf_run.specs.Routes.{MayMeet, IsWay, returns_at, goes_on, AreWays, IsWholeRoute}
 
@@ -27,15 +27,15 @@ Allowed at i (returns met value) = MayMeet at i met None
 Allowed at i stuck = Unit {0}
 
 loaded_allowed : (s : State) (k : ℕ) (f : ℕ → Progress) (i : Insn) → ((n : ℕ) → Allowed s.place i (f n))
-    → Allowed s.place i (loaded s k f)
+    → Allowed s.place i (load_progress s k f)
 loaded_allowed s k f i fine = by (slice_get s.scratch k) refl
   where
-    by : (w : Option (Option ℕ)) → slice_get s.scratch k ≡ w → Allowed s.place i (loaded s k f)
+    by : (w : Option (Option ℕ)) → slice_get s.scratch k ≡ w → Allowed s.place i (load_progress s k f)
     by (Some (Some n)) at = rw at (fine n)
     by (Some None) at = rw at tt
     by None at = rw at tt
 
-pub step_allowed : (d : Input) (s : State) (i : Insn) → Allowed s.place i (executed d s i)
+pub step_allowed : (d : Input) (s : State) (i : Insn) → Allowed s.place i (insn_progress d s i)
 step_allowed d s (LoadWord k) = (refl, refl)
 step_allowed d s (LoadConstant k) = (refl, refl)
 step_allowed d s (LoadScratch k) = loaded_allowed s k (with_a s) (LoadScratch k) (λ n. (refl, refl))
@@ -52,7 +52,7 @@ step_allowed d s (Alu op other) = alu op other
     div true = inl (refl, refl)
     div false = inr (refl, refl)
 
-    alu : (op : BinOp) (other : Operand) → Allowed s.place (Alu op other) (operated s op other)
+    alu : (op : BinOp) (other : Operand) → Allowed s.place (Alu op other) (operation_progress s op other)
     alu Div X = div (s.x == 0)
     alu Div (Constant k) = (refl, refl)
     alu _ other = (refl, refl)
@@ -75,7 +75,7 @@ run_is_way (suc n) code d s o e = at_place (slice_get code s.place) refl (λ t p
     Rest = (t : State) (p : List Bool × ℕ) → run_for n code d t ≡ Some p → IsWay code t.place p.0
 
     by : (i : Insn) → IsAt code s.place i → ((t : State) (p : List Bool × ℕ) → run_for n code d t ≡ Some p
-        → IsWay code t.place p.0) → (p : Progress) → Allowed s.place i p → continued (run_for n code d) p ≡ Some o
+        → IsWay code t.place p.0) → (p : Progress) → Allowed s.place i p → outcome_from (run_for n code d) p ≡ Some o
         → IsWay code s.place o.0
     by i at rest (goes met next) allowed e =
         let tail = option_map_some (put met) (run_for n code d next) o e in
@@ -88,11 +88,11 @@ run_is_way (suc n) code d s o e = at_place (slice_get code s.place) refl (λ t p
 
     at_place : (w : Option Insn) → slice_get code s.place ≡ w
         → ((t : State) (p : List Bool × ℕ) → run_for n code d t ≡ Some p → IsWay code t.place p.0)
-        → continued (run_for n code d) (step code d s) ≡ Some o → IsWay code s.place o.0
+        → outcome_from (run_for n code d) (step code d s) ≡ Some o → IsWay code s.place o.0
     at_place None at rest e = let clash : None ≡ Some o = rw at at e in absurd cc
-    at_place (Some i) at rest e = by i at rest (executed d s i) (step_allowed d s i) (rw (step_is code d s i at) at e)
+    at_place (Some i) at rest e = by i at rest (insn_progress d s i) (step_allowed d s i) (rw (step_is code d s i at) at e)
 
-pub trace_is_way : (code : List Insn) (d : Input) → IsLawful code → IsWay code 0 (met_by code d)
+pub trace_is_way : (code : List Insn) (d : Input) → IsLawfulProgram code → IsWay code 0 (met_by code d)
 unfolding outcome_of
 trace_is_way code d lawful = by (outcome_of code d) refl (lawful_ends code d lawful)
   where
@@ -100,7 +100,7 @@ trace_is_way code d lawful = by (outcome_of code d) refl (lawful_ends code d law
     by None e some = absurd cc
     by (Some o) e some = rw e (run_is_way (length code) code d start o e)
 
-pub traces_are_ways : (codes : List (List Insn)) (d : Input) → AllByRecursion IsLawful codes
+pub traces_are_ways : (codes : List (List Insn)) (d : Input) → AllByRecursion IsLawfulProgram codes
     → AreWays codes (flat_map (λ p. met_by p d) codes)
 traces_are_ways [] d lawful = refl
 traces_are_ways (code ∷ codes) d lawful = (
@@ -111,11 +111,11 @@ traces_are_ways (code ∷ codes) d lawful = (
   refl,
 )
 
-pub newest_first : (programs : List (List Insn)) → IsLawfulStack programs → AllByRecursion IsLawful (reverse programs)
+pub newest_first : (programs : List (List Insn)) → IsLawfulStack programs → AllByRecursion IsLawfulProgram (reverse programs)
 newest_first programs lawful =
-    recursion_from_All IsLawful (reverse programs) (λ k d lt.
+    recursion_from_All IsLawfulProgram (reverse programs) (λ k d lt.
     let lt' : k < length programs = omega (arith, length-reverse programs) in
-    subst IsLawful (sym (get_or-reverse programs k d lt'))
+    subst IsLawfulProgram (sym (get_or-reverse programs k d lt'))
     (lawful.each (length programs - 1 - k) (get_or programs (length programs - 1 - k) d)
     (slice_get-get_or programs (length programs - 1 - k) d (omega arith))))
 
@@ -131,15 +131,15 @@ IsShort s (goes met next) = length met + s.place ≤ next.place
 IsShort s (returns met value) = length met ≤ 32
 IsShort s stuck = Unit {0}
 
-loaded_short : (s : State) (k : ℕ) (f : ℕ → Progress) → ((n : ℕ) → IsShort s (f n)) → IsShort s (loaded s k f)
+loaded_short : (s : State) (k : ℕ) (f : ℕ → Progress) → ((n : ℕ) → IsShort s (f n)) → IsShort s (load_progress s k f)
 loaded_short s k f fine = by (slice_get s.scratch k) refl
   where
-    by : (w : Option (Option ℕ)) → slice_get s.scratch k ≡ w → IsShort s (loaded s k f)
+    by : (w : Option (Option ℕ)) → slice_get s.scratch k ≡ w → IsShort s (load_progress s k f)
     by (Some (Some n)) at = rw at (fine n)
     by (Some None) at = rw at tt
     by None at = rw at tt
 
-step_short : (d : Input) (s : State) (i : Insn) → IsShort s (executed d s i)
+step_short : (d : Input) (s : State) (i : Insn) → IsShort s (insn_progress d s i)
 step_short d s (LoadScratch k) = loaded_short s k (with_a s) (λ n. omega arith)
 step_short d s (LoadXScratch k) = loaded_short s k (with_x s) (λ n. omega arith)
 step_short d s (Alu op other) = alu op other
@@ -149,7 +149,7 @@ step_short d s (Alu op other) = alu op other
     div true = omega arith
     div false = omega arith
 
-    alu : (op : BinOp) (other : Operand) → IsShort s (operated s op other)
+    alu : (op : BinOp) (other : Operand) → IsShort s (operation_progress s op other)
     alu Div X = div (s.x == 0)
     alu Div (Constant k) = omega arith
     alu _ other = omega arith
@@ -166,7 +166,7 @@ run_short (suc n) code d s o e = at_place (slice_get code s.place) refl (λ t p 
   where
     by : (i : Insn) → IsAt code s.place i → ((t : State) (p : List Bool × ℕ) → run_for n code d t ≡ Some p
         → length p.0 + t.place ≤ length code + 31) → (p : Progress) → IsShort s p
-        → continued (run_for n code d) p ≡ Some o → length o.0 + s.place ≤ length code + 31
+        → outcome_from (run_for n code d) p ≡ Some o → length o.0 + s.place ≤ length code + 31
     by i at rest (goes met next) short e =
         let tail = option_map_some (put met) (run_for n code d next) o e in
         let whole = ap (λ (p : List Bool × ℕ). length p.0) tail.2 in
@@ -178,9 +178,9 @@ run_short (suc n) code d s o e = at_place (slice_get code s.place) refl (λ t p 
 
     at_place : (w : Option Insn) → slice_get code s.place ≡ w
         → ((t : State) (p : List Bool × ℕ) → run_for n code d t ≡ Some p → length p.0 + t.place ≤ length code + 31)
-        → continued (run_for n code d) (step code d s) ≡ Some o → length o.0 + s.place ≤ length code + 31
+        → outcome_from (run_for n code d) (step code d s) ≡ Some o → length o.0 + s.place ≤ length code + 31
     at_place None at rest e = let clash : None ≡ Some o = rw at at e in absurd cc
-    at_place (Some i) at rest e = by i at rest (executed d s i) (step_short d s i) (rw (step_is code d s i at) at e)
+    at_place (Some i) at rest e = by i at rest (insn_progress d s i) (step_short d s i) (rw (step_is code d s i at) at e)
 
 pub met_short : (code : List Insn) (d : Input) → length (met_by code d) ≤ length code + 31
 unfolding outcome_of

@@ -42,30 +42,30 @@ truths m = by m.met
     by (Returned a) = bits 32 a
 
 -- what a run meets, in order, the place at which it returns, and the value
-pub record Walked : Type 0 where
+pub record CourseData : Type 0 where
   pub met : List Meeting
   pub place : ℕ
   pub value : ℕ
 
 -- a run that meets this, and returns the value at the place
-abbrev pub course : List Meeting → ℕ → ℕ → Walked
+abbrev pub course : List Meeting → ℕ → ℕ → CourseData
 course met place value = record { met = met; place = place; value = value }
 
 -- a run that has met this before
-abbrev pub after : List Meeting → Walked → Walked
+abbrev pub after : List Meeting → CourseData → CourseData
 after met w = course (met ++ w.met) w.place w.value
 
 -- how a run goes on that takes this step at a place where it meets this
-abbrev pub onward : List Meeting → ℕ → (State → Option Walked) → Progress → Option Walked
+abbrev pub onward : List Meeting → ℕ → (State → Option CourseData) → Progress → Option CourseData
 onward met place rest (goes _ next) = option_map (after met) (rest next)
 onward met place rest (returns _ value) = Some (course met place value)
 onward met place rest stuck = None
 
 -- the run of at most n steps from a state, if it comes to a return
-unfoldable pub walk_for : ℕ → List Insn → Input → State → Option Walked
+unfoldable pub walk_for : ℕ → List Insn → Input → State → Option CourseData
 walk_for zero code d s = None
 walk_for (suc n) code d s = onward (meeting_in code s) s.place (walk_for n code d) (step code d s)
 
 -- the run of a program on an input
-unfoldable pub walk_of : List Insn → Input → Option Walked
+unfoldable pub walk_of : List Insn → Input → Option CourseData
 walk_of code d = walk_for (length code) code d start

@@ -4,7 +4,7 @@ ghost use Rattle.std.specs.Prelude.{◌≡◌, ◌↔◌, ◌+◌, ◌*◌, ◌�
 ghost use Rattle.sf_insn.specs.declared.input.Input.{Input};
 ghost use Rattle.sf_insn.specs.Inputs.{IsInput};
 ghost use Rattle.sf_check.specs.declared.insn.Insn.{Insn};
-ghost use Rattle.sf_check.specs.Programs.{IsLawful};
+ghost use Rattle.sf_check.specs.Programs.{IsLawfulProgram};
 ghost use Rattle.sf_check.specs.Stacks.{IsLawfulStack};
 ghost use Rattle.sf_run.specs.declared.action.Answer.{Answer};
 ghost use Rattle.sf_run.specs.Machine.{outcome_of, trace_of};
@@ -14,7 +14,7 @@ ghost use Rattle.sf_run.specs.Feasible.{AreFeasibleTraces, all_inputs, feasible_
 
 /// The machine is never stuck in a lawful program, and comes to a return.
 pub fn lawful_programs_return()
-    ensures { (code : List Insn) (d : Input) → IsLawful code → IsSome (outcome_of code d) }
+    ensures { (code : List Insn) (d : Input) → IsLawfulProgram code → IsSome (outcome_of code d) }
 {}
 
 /// Return values make at most one answer.

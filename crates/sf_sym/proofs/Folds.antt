@@ -2,63 +2,63 @@
 use Rattle.std.proofs.Common.{◌≡◌, ℕ, ◌<◌, ◌^◌, List, length, Option, Some, None, refl, arith}
 use Rattle.sf_insn.specs.declared.input.Input.{Input}
 use Rattle.sf_insn.specs.declared.ops.BinOp.{BinOp}
-use Rattle.sf_insn.specs.Words.{apply, negated}
-use Rattle.sf_sym.specs.Pool.{OperandsBelow, IsPool, node_at, node_value, values_of, value_of, number_of, combined, opposite, folded}
+use Rattle.sf_insn.specs.Words.{apply, negation_of}
+use Rattle.sf_sym.specs.Pool.{OperandsBelow, IsPool, node_at, node_value, values_of, value_of, constant_number, combined_node, negated_node, folded_node}
 use Rattle.sf_sym.specs.SizeLaws.{apply-small}
-use Rattle.sf_sym.specs.ValueLaws.{number_of-is, value-constant, OperandsBelow-at}
+use Rattle.sf_sym.specs.ValueLaws.{constant_number-is, value-constant, OperandsBelow-at}
 use Rattle.sf_sym.specs.declared.pool.Node.{Node}
 use Rattle.sf_sym.specs.declared.pool.Node.TheVariants.{Const, Word, Bin, Neg}
 use Rattle.sf_sym.specs.declared.pool.NodeId.{NodeId}
 
 -- a constant of a pool is a word
-constant-small : (ns : List Node) (i x : ℕ) → IsPool ns → i < length ns → number_of (node_at ns i) ≡ Some x → x < 2 ^ 32
-constant-small ns i x p h e = rw (number_of-is (node_at ns i) x e) at (OperandsBelow-at 0 ns i p.ordered h)
+constant-small : (ns : List Node) (i x : ℕ) → IsPool ns → i < length ns → constant_number (node_at ns i) ≡ Some x → x < 2 ^ 32
+constant-small ns i x p h e = rw (constant_number-is (node_at ns i) x e) at (OperandsBelow-at 0 ns i p.ordered h)
 
-combined-value : (ns : List Node) (d : Input) (op : BinOp) (a b : NodeId) → IsPool ns → a.0 < length ns
+combined_node-value : (ns : List Node) (d : Input) (op : BinOp) (a b : NodeId) → IsPool ns → a.0 < length ns
     → b.0 < length ns
-    → (x y : Option ℕ) → number_of (node_at ns a.0) ≡ x → number_of (node_at ns b.0) ≡ y
-    → node_value d (values_of ns d) (combined op a b x y) ≡ apply op (value_of ns d a.0) (value_of ns d b.0)
-combined-value ns d op a b p k l (Some x) (Some y) e f =
+    → (x y : Option ℕ) → constant_number (node_at ns a.0) ≡ x → constant_number (node_at ns b.0) ≡ y
+    → node_value d (values_of ns d) (combined_node op a b x y) ≡ apply op (value_of ns d a.0) (value_of ns d b.0)
+combined_node-value ns d op a b p k l (Some x) (Some y) e f =
     rw (
-      value-constant ns d a.0 x p k (number_of-is (node_at ns a.0) x e),
-      value-constant ns d b.0 y p l (number_of-is (node_at ns b.0) y f),
+      value-constant ns d a.0 x p k (constant_number-is (node_at ns a.0) x e),
+      value-constant ns d b.0 y p l (constant_number-is (node_at ns b.0) y f),
     ) refl
-combined-value ns d op a b p k l (Some x) None e f = refl
-combined-value ns d op a b p k l None (Some y) e f = refl
-combined-value ns d op a b p k l None None e f = refl
+combined_node-value ns d op a b p k l (Some x) None e f = refl
+combined_node-value ns d op a b p k l None (Some y) e f = refl
+combined_node-value ns d op a b p k l None None e f = refl
 
-opposite-value : (ns : List Node) (d : Input) (a : NodeId) → IsPool ns → a.0 < length ns
-    → (x : Option ℕ) → number_of (node_at ns a.0) ≡ x → node_value d (values_of ns d) (opposite a x)
-    ≡ negated (value_of ns d a.0)
-opposite-value ns d a p k (Some x) e = rw (value-constant ns d a.0 x p k (number_of-is (node_at ns a.0) x e)) refl
-opposite-value ns d a p k None e = refl
+negated_node-value : (ns : List Node) (d : Input) (a : NodeId) → IsPool ns → a.0 < length ns
+    → (x : Option ℕ) → constant_number (node_at ns a.0) ≡ x → node_value d (values_of ns d) (negated_node a x)
+    ≡ negation_of (value_of ns d a.0)
+negated_node-value ns d a p k (Some x) e = rw (value-constant ns d a.0 x p k (constant_number-is (node_at ns a.0) x e)) refl
+negated_node-value ns d a p k None e = refl
 
-pub folded-value : (ns : List Node) (d : Input) (node : Node) → IsPool ns → OperandsBelow (length ns) node
-    → node_value d (values_of ns d) (folded ns node) ≡ node_value d (values_of ns d) node
-folded-value ns d (Const c) p o = refl
-folded-value ns d (Word i) p o = refl
-folded-value ns d (Bin op a b) p o = combined-value ns d op a b p o.0 o.1 (number_of (node_at ns a.0))
-    (number_of (node_at ns b.0)) refl refl
-folded-value ns d (Neg a) p o = opposite-value ns d a p o (number_of (node_at ns a.0)) refl
+pub folded_node-value : (ns : List Node) (d : Input) (node : Node) → IsPool ns → OperandsBelow (length ns) node
+    → node_value d (values_of ns d) (folded_node ns node) ≡ node_value d (values_of ns d) node
+folded_node-value ns d (Const c) p o = refl
+folded_node-value ns d (Word i) p o = refl
+folded_node-value ns d (Bin op a b) p o = combined_node-value ns d op a b p o.0 o.1 (constant_number (node_at ns a.0))
+    (constant_number (node_at ns b.0)) refl refl
+folded_node-value ns d (Neg a) p o = negated_node-value ns d a p o (constant_number (node_at ns a.0)) refl
 
-combined-operands : (ns : List Node) (op : BinOp) (a b : NodeId) → IsPool ns → a.0 < length ns → b.0 < length ns
-    → (x y : Option ℕ) → number_of (node_at ns a.0) ≡ x → number_of (node_at ns b.0) ≡ y
-    → OperandsBelow (length ns) (combined op a b x y)
-combined-operands ns op a b p k l (Some x) (Some y) e f =
+combined_node-operands : (ns : List Node) (op : BinOp) (a b : NodeId) → IsPool ns → a.0 < length ns → b.0 < length ns
+    → (x y : Option ℕ) → constant_number (node_at ns a.0) ≡ x → constant_number (node_at ns b.0) ≡ y
+    → OperandsBelow (length ns) (combined_node op a b x y)
+combined_node-operands ns op a b p k l (Some x) (Some y) e f =
     apply-small op x y (constant-small ns a.0 x p k e) (constant-small ns b.0 y p l f)
-combined-operands ns op a b p k l (Some x) None e f = (k, l)
-combined-operands ns op a b p k l None (Some y) e f = (k, l)
-combined-operands ns op a b p k l None None e f = (k, l)
+combined_node-operands ns op a b p k l (Some x) None e f = (k, l)
+combined_node-operands ns op a b p k l None (Some y) e f = (k, l)
+combined_node-operands ns op a b p k l None None e f = (k, l)
 
-opposite-operands : (ns : List Node) (a : NodeId) → a.0 < length ns → (x : Option ℕ)
-    → OperandsBelow (length ns) (opposite a x)
-opposite-operands ns a k (Some x) = omega arith
-opposite-operands ns a k None = k
+negated_node-operands : (ns : List Node) (a : NodeId) → a.0 < length ns → (x : Option ℕ)
+    → OperandsBelow (length ns) (negated_node a x)
+negated_node-operands ns a k (Some x) = omega arith
+negated_node-operands ns a k None = k
 
-pub folded-operands : (ns : List Node) (node : Node) → IsPool ns → OperandsBelow (length ns) node
-    → OperandsBelow (length ns) (folded ns node)
-folded-operands ns (Const c) p o = o
-folded-operands ns (Word i) p o = o
-folded-operands ns (Bin op a b) p o = combined-operands ns op a b p o.0 o.1 (number_of (node_at ns a.0))
-    (number_of (node_at ns b.0)) refl refl
-folded-operands ns (Neg a) p o = opposite-operands ns a o (number_of (node_at ns a.0))
+pub folded_node-operands : (ns : List Node) (node : Node) → IsPool ns → OperandsBelow (length ns) node
+    → OperandsBelow (length ns) (folded_node ns node)
+folded_node-operands ns (Const c) p o = o
+folded_node-operands ns (Word i) p o = o
+folded_node-operands ns (Bin op a b) p o = combined_node-operands ns op a b p o.0 o.1 (constant_number (node_at ns a.0))
+    (constant_number (node_at ns b.0)) refl refl
+folded_node-operands ns (Neg a) p o = negated_node-operands ns a o (constant_number (node_at ns a.0))

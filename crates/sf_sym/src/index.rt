@@ -3,7 +3,7 @@
 ghost use Rattle.std.specs.Prelude.{◌≡◌, ◌≢◌, ℕ, ◌<◌, [], ◌∷◌, ◌++◌, length, OnOk, OnErr, IfOk, IsTrue, false};
 ghost use Rattle.std.specs.Arc.{arc_value};
 ghost use Rattle.sf_sym.specs.Pool.{node_at};
-ghost use Rattle.sf_sym.specs.Index.{mark_of, nodes_of, IsIndexed};
+ghost use Rattle.sf_sym.specs.Index.{hash_of, nodes_of, IsIndexed};
 
 use crate::pool::Node;
 use sf_blocks::shared::SharedList;
@@ -11,39 +11,39 @@ use std::alloc::{AllocError, Global};
 use std::marker::Model;
 use std::sync::Arc;
 
-/// How many marks there are.
-const MARKS: usize = 251;
+/// How many buckets there are.
+const BUCKETS: usize = 251;
 
-/// A node, and where to look next for a node of its mark.
+/// A node, and where to look next for a node of its hash.
 #[derive(Clone, Copy)]
-pub struct Entry {
+pub struct Interned {
     pub node: Node,
-    /// One more than the place of the newest older node of the same mark, or 0 where there is none.
-    pub older: u32,
+    /// One more than the place of the newest older node of the same hash, or 0 where there is none.
+    pub link: u32,
 }
 
-impl Default for Entry {
+impl Default for Interned {
     fn default() -> Self {
-        Entry {
+        Interned {
             node: Node::Const(0),
-            older: 0,
+            link: 0,
         }
     }
 }
 
-/// The entries of a pool, oldest first.
-type Entries = SharedList<Entry, 1>;
+/// The nodes of a pool with their links, oldest first.
+type InternedNodes = SharedList<Interned, 1>;
 
-/// The mark of a node: equal nodes have the same one.
-fn mark(node: Node) -> usize
-    ensures value { result ≡ mark_of node }
+/// The hash of a node: equal nodes have the same one.
+fn hash(node: Node) -> usize
+    ensures value { result ≡ hash_of node }
     ensures within { result < 251 }
 {
     match node {
-        Node::Const(c) => c as usize % MARKS,
-        Node::Word(i) => i as usize % MARKS,
-        Node::Bin(_, a, b) => (a.0 % MARKS * 31 + b.0 % MARKS * 7) % MARKS,
-        Node::Neg(a) => (a.0 % MARKS + 5) % MARKS,
+        Node::Const(c) => c as usize % BUCKETS,
+        Node::Word(i) => i as usize % BUCKETS,
+        Node::Bin(_, a, b) => (a.0 % BUCKETS * 31 + b.0 % BUCKETS * 7) % BUCKETS,
+        Node::Neg(a) => (a.0 % BUCKETS + 5) % BUCKETS,
     }
 }
 
@@ -55,47 +55,47 @@ fn is_same(a: Node, b: Node) -> bool
     a == b
 }
 
-/// The place of a node that is there, looked for from the newest node of its mark on.
-fn place_of(entries: &Entries, newest: &[u32], node: Node) -> Option<usize>
-    requires { IsIndexed entries.now newest.now }
-    ensures found { (i : ℕ) → result ≡ Some i → (i < length (nodes_of entries.now))
-        × (node_at (nodes_of entries.now) i ≡ node) }
-    ensures absent { result ≡ None → (i : ℕ) → i < length (nodes_of entries.now)
-        → node_at (nodes_of entries.now) i ≢ node }
+/// The place of a node that is there, looked for from the head of its bucket on.
+fn place_of(interned_nodes: &InternedNodes, heads: &[u32], node: Node) -> Option<usize>
+    requires { IsIndexed interned_nodes.now heads.now }
+    ensures found { (i : ℕ) → result ≡ Some i → (i < length (nodes_of interned_nodes.now))
+        × (node_at (nodes_of interned_nodes.now) i ≡ node) }
+    ensures absent { result ≡ None → (i : ℕ) → i < length (nodes_of interned_nodes.now)
+        → node_at (nodes_of interned_nodes.now) i ≢ node }
 {
-    let mut next = newest[mark(node)] as usize;
+    let mut next = heads[hash(node)] as usize;
     while next > 0 {
-        let entry = entries.get(next - 1);
-        if is_same(entry.node, node) {
+        let interned = interned_nodes.get(next - 1);
+        if is_same(interned.node, node) {
             return Some(next - 1);
         }
-        next = entry.older as usize;
+        next = interned.link as usize;
     }
     None
 }
 
 /// Adds a node, and answers its place.
-fn add(entries: &mut Entries, newest: &mut Vec<u32>, node: Node) -> Result<usize, AllocError>
-    requires { IsIndexed entries.old newest.old.items }
-    ensures indexed { IsIndexed entries.new newest.new.items }
-    ensures place { IfOk result (λ at. at ≡ length (nodes_of entries.old)) }
-    ensures ok { OnOk result (nodes_of entries.new ≡ nodes_of entries.old ++ node ∷ []) }
-    ensures err { OnErr result (entries.new ≡ entries.old) }
+fn add(interned_nodes: &mut InternedNodes, heads: &mut Vec<u32>, node: Node) -> Result<usize, AllocError>
+    requires { IsIndexed interned_nodes.old heads.old.items }
+    ensures indexed { IsIndexed interned_nodes.new heads.new.items }
+    ensures place { IfOk result (λ at. at ≡ length (nodes_of interned_nodes.old)) }
+    ensures ok { OnOk result (nodes_of interned_nodes.new ≡ nodes_of interned_nodes.old ++ node ∷ []) }
+    ensures err { OnErr result (interned_nodes.new ≡ interned_nodes.old) }
 {
-    let mark = mark(node);
-    let at = entries.len();
-    let older = newest[mark];
-    entries.push(Entry { node, older })?;
-    newest[mark] = at as u32 + 1;
+    let hash = hash(node);
+    let at = interned_nodes.len();
+    let link = heads[hash];
+    interned_nodes.push(Interned { node, link })?;
+    heads[hash] = at as u32 + 1;
     Ok(at)
 }
 
 /// Nodes, oldest first, and where the newest of each mark is. Pools share them until one gets another node.
 #[derive(Drop)]
 pub struct Indexed {
-    entries: Entries,
-    /// For each mark, one more than the place of the newest node that has it, or 0.
-    newest: Vec<u32>,
+    interned_nodes: InternedNodes,
+    /// The head of each bucket: one more than the place of its newest node, or 0.
+    heads: Vec<u32>,
 }
 
 impl Model for Indexed {
@@ -106,9 +106,9 @@ impl Model for Indexed {
 
     ghost use Rattle.sf_sym.specs.Index.{nodes_of, IsIndexed};
 
-    ghost view = { λ n. nodes_of n.entries };
+    ghost view = { λ n. nodes_of n.interned_nodes };
 
-    ghost invariant = { λ n. IsIndexed n.entries n.newest.items };
+    ghost invariant = { λ n. IsIndexed n.interned_nodes n.heads.items };
 }
 
 impl Indexed {
@@ -116,16 +116,16 @@ impl Indexed {
     pub fn new(alloc: Global) -> Result<Indexed, AllocError>
         ensures { IfOk result (λ n. n ≡ []) }
     {
-        let entries = SharedList::new(alloc)?;
-        let newest = vec![in alloc; 0u32; MARKS]?;
-        Ok(Indexed { entries, newest })
+        let interned_nodes = SharedList::new(alloc)?;
+        let heads = vec![in alloc; 0u32; BUCKETS]?;
+        Ok(Indexed { interned_nodes, heads })
     }
 
     /// How many nodes there are.
     pub fn len(&self) -> usize
         ensures { result ≡ length self.now }
     {
-        self.entries.len()
+        self.interned_nodes.len()
     }
 
     /// The node at a place.
@@ -133,7 +133,7 @@ impl Indexed {
         requires { i < length self.now }
         ensures { result ≡ node_at self.now i }
     {
-        self.entries.get(i).node
+        self.interned_nodes.get(i).node
     }
 
     /// The place of a node that is there.
@@ -143,7 +143,7 @@ impl Indexed {
         ensures absent { result ≡ None → (i : ℕ) → i < length self.now
             → node_at self.now i ≢ node }
     {
-        place_of(&self.entries, self.newest.as_slice(), node)
+        place_of(&self.interned_nodes, self.heads.as_slice(), node)
     }
 
     /// Adds a node, and answers its place. `AllocError` where a growth is refused: nothing is added then.
@@ -152,7 +152,7 @@ impl Indexed {
         ensures ok { OnOk result (self.new ≡ self.old ++ node ∷ []) }
         ensures err { OnErr result (self.new ≡ self.old) }
     {
-        add(&mut self.entries, &mut self.newest, node)
+        add(&mut self.interned_nodes, &mut self.heads, node)
     }
 
     /// A copy with one more node, and the place of that. `AllocError` where a growth is refused.
@@ -160,10 +160,10 @@ impl Indexed {
         ensures { IfOk result (λ r. (arc_value r.0 ≡ self.now ++ node ∷ [])
             × (r.1 ≡ length self.now)) }
     {
-        let alloc = *self.newest.allocator();
+        let alloc = *self.heads.allocator();
         let mut copy = Indexed {
-            entries: self.entries.fork()?,
-            newest: Vec::from_slice(alloc, self.newest.as_slice())?,
+            interned_nodes: self.interned_nodes.fork()?,
+            heads: Vec::from_slice(alloc, self.heads.as_slice())?,
         };
         let at = copy.add(node)?;
         Ok((Arc::new(alloc, copy)?, at))

@@ -4,7 +4,7 @@ ghost use Rattle.std.specs.Prelude.{◌≡◌, ◌≤◌, length, map};
 ghost use Rattle.toml.specs.View.{view, table_view};
 ghost use Rattle.sf_ask.specs.Questions.{question_of};
 ghost use Rattle.sf_audit.specs.Faults.{Gives};
-ghost use Rattle.sf_audit.specs.Encoding.{encoded_range, encoded_mask, table_or_empty, numbered, with_number};
+ghost use Rattle.sf_audit.specs.Encoding.{encoded_range, encoded_mask, table_or_empty, numbered_fault, with_number};
 ghost use Rattle.sf_audit.specs.Policies.{question_of_table, questions_from};
 
 use super::Version;
@@ -17,7 +17,7 @@ use std::alloc::Global;
 use toml::{Table, Value};
 
 fn numbered(question: usize, fault: sf_ask::Fault) -> Fault
-    ensures { result ≡ numbered question fault }
+    ensures { result ≡ numbered_fault question fault }
 {
     match fault {
         sf_ask::Fault::Name => Fault::Name { question },

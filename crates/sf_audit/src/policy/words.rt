@@ -6,7 +6,7 @@ ghost use Rattle.toml.specs.View.{view, items_view, table_view};
 ghost use Rattle.sf_audit.specs.Keys.{word_keys};
 ghost use Rattle.sf_audit.specs.Trees.{each_of};
 ghost use Rattle.sf_audit.specs.Words.{between, entry_of_array, entry_of_table, entry_of_versioned, entry_of, entry_at};
-ghost use Rattle.sf_audit.specs.Encoding.{word_in, encoded, encoded_range, encoded_mask};
+ghost use Rattle.sf_audit.specs.Encoding.{word_in, encoded_word, encoded_range, encoded_mask};
 
 use super::Version;
 use super::keys::{WORD_KEYS, has_mask_keys, number_in, number_in_or, value_at};
@@ -119,7 +119,7 @@ fn word_from(number: i64) -> Option<u32>
 }
 
 fn encode(entry: WordEntry) -> ((u32, u32), (u32, u32))
-    ensures { result ≡ encoded entry }
+    ensures { result ≡ encoded_word entry }
 {
     let low = word_from(entry.low);
     let high = word_from(entry.high);

@@ -2,7 +2,7 @@
 
 ghost use Rattle.std.specs.Prelude.{◌≡◌, ◌++◌, IfOk, OnOk, length, string_bytes};
 ghost use Rattle.sf_check.specs.Stacks.{path_length};
-ghost use Rattle.sf_audit.specs.Reports.{size_line, counts_line, hex_text, question_line, question_lines, trace_text, region_line, region_lines, shown_lines, total_line, totals_line, head_text, report_text};
+ghost use Rattle.sf_audit.specs.Reports.{size_line, counts_line, hex_text, question_line, question_lines, name_text, region_line, region_lines, shown_lines, total_line, totals_line, head_text, report_text};
 
 use crate::action::push_action;
 use crate::counting::{count_allowed, count_never, count_unsettled};
@@ -13,7 +13,7 @@ use sf_insn::{Input, bytes_of_input};
 use std::alloc::{AllocError, Global};
 
 fn push_trace(text: &mut String, name: &[bool]) -> Result<(), AllocError>
-    ensures { OnOk result (string_bytes text.new ≡ string_bytes text.old ++ trace_text name.now) }
+    ensures { OnOk result (string_bytes text.new ≡ string_bytes text.old ++ name_text name.now) }
 {
     if name.is_empty() {
         return text.push_str("-");

@@ -1,6 +1,6 @@
 use Rattle.std.proofs.Common.{List, [], ℕ, ◌∙◌, Bor, subst}
 use Rattle.std.proofs.lemmas.Option.{slice_get-get_or}
-use Rattle.sf_command.specs.Files.{AgreesWith}
+use Rattle.sf_command.specs.Files.{AreKnownBytes}
 use Rattle.sf_command.proofs.Pairing.{paired_more, paired_all, paired_mapped}
 use Rattle.sf_command.proofs.RefusalLemmas.{handed_on, read_why}
 use Rattle.sf_command.proofs.files.read_all.Goals as goal
@@ -13,7 +13,7 @@ unfolding no_path
 loop-path-preserved g c =
     let so_far = c.loop-path.invariant in
     let here = slice_get-get_or c.args.paths.now c.loop-path.path-index no_path c.loop-path-test.true in
-    let agrees = subst (λ known. AgreesWith known c.in_ok-bytes.bytes.items)
+    let agrees = subst (λ known. AreKnownBytes known c.in_ok-bytes.bytes.items)
     (so_far.same _) c.in_ok-bytes.ensures.bytes in
     record {
       paired = paired_more _ _ _ _ _ _ _ so_far.paired here agrees c.in_ok-push.ensures.items;

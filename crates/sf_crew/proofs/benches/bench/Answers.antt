@@ -1,19 +1,19 @@
 use Rattle.std.proofs.Common.{◌≡◌, ◌+◌, List, [], ◌∷◌, length, length-append, sym, ap, ◌∙◌, subst, arith}
-use Rattle.sf_crew.specs.declared.history.End.{End}
-use Rattle.sf_crew.specs.declared.ends.Thief.{Thief}
-use Rattle.sf_crew.specs.History.{end}
-use Rattle.sf_crew.specs.Benches.{AreThieves, thief_end}
-use Rattle.sf_crew.proofs.Hired.{hired_more}
+use Rattle.sf_crew.specs.declared.history.HandleView.{HandleView}
+use Rattle.sf_crew.specs.declared.handles.Thief.{Thief}
+use Rattle.sf_crew.specs.History.{handle_view}
+use Rattle.sf_crew.specs.Benches.{AreThieves, thief_view}
+use Rattle.sf_crew.proofs.NewThieves.{hired_more}
 use Rattle.sf_crew.proofs.benches.bench.Goals as goal
 
 pub loop-given-preserved : goal.loop-given-preserved
 loop-given-preserved c =
     let i = c.loop-given.invariant in
-    let seen : thief_end c.in_ok-thief.thief ≡ end (c.loop-given.given + 1) 0 [] =
-    c.in_ok-thief.ensures.thief ∙ ap (λ (e : End). end e.made 0 []) i.owner in
+    let seen : thief_view c.in_ok-thief.thief ≡ handle_view (c.loop-given.given + 1) 0 [] =
+    c.in_ok-thief.ensures.thief ∙ ap (λ (e : HandleView). handle_view e.made 0 []) i.owner in
     let long : length c.loop-given.hired.items ≡ c.loop-given.given = i.long in
     record {
-      owner = c.in_ok-thief.ensures.owner ∙ ap (λ (e : End). end e.me (e.made + 1) []) i.owner;
+      owner = c.in_ok-thief.ensures.owner ∙ ap (λ (e : HandleView). handle_view e.me (e.made + 1) []) i.owner;
       count = omega (arith, c.in_ok-push.ensures.len, i.count);
       long = ap (λ (l : List Thief). length l) c.in_ok-push.ensures.items
           ∙ omega (arith, length-append c.loop-given.hired.items (c.in_ok-thief.thief ∷ []), long);

@@ -1,5 +1,5 @@
 use Rattle.std.proofs.Common.{◌≡◌, ◌≤◌}
-use Rattle.sf_crew.specs.Ends.{HasOnly, IsSameExploration}
+use Rattle.sf_crew.specs.Explorations.{HasOnly, IsSameExploration}
 use Rattle.sf_crew.proofs.exploring.work_off.Given as goal
 
 abbrev pub invariant-loop-call : goal.invariant-loop-call

@@ -5,8 +5,8 @@ use Rattle.sf_crew.proofs.sweeping.numbered.Given as goal
 abbrev pub invariant-loop-seat : goal.invariant-loop-seat
 invariant-loop-seat l = record {
   seats : All (λ s. IsNewSeat l.board s) l.seats.items;
-  parts : All (λ p. IsNewSeat l.board p.seat) l.parts.items;
-  count : vec_len l.parts + vec_len l.seats ≡ vec_len l.initial.seats;
+  numbered_seats : All (λ p. IsNewSeat l.board p.seat) l.numbered_seats.items;
+  count : vec_len l.numbered_seats + vec_len l.seats ≡ vec_len l.initial.seats;
 }
 
 abbrev pub decreases-loop-seat : goal.decreases-loop-seat

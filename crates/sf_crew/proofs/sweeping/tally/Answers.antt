@@ -7,8 +7,8 @@ use Rattle.sf_crew.proofs.sweeping.tally.Goals as goal
 
 pub join_all-requires-clause-others : goal.join_all-requires-clause-others
 join_all-requires-clause-others g c = λ k d lt. let same : length c.in_ok-worked.worked.items
-    ≡ length c.in_ok-parts.parts.items = search rules in
-    let below : k < length c.in_ok-parts.parts.items = omega (arith, lt, same) in
+    ≡ length c.in_ok-numbered_seats.numbered_seats.items = search rules in
+    let below : k < length c.in_ok-numbered_seats.numbered_seats.items = omega (arith, lt, same) in
     let y = (c.in_ok-worked.ensures.each k d below).1.call.met in search rules
 
 pub returns-clause-ok : goal.returns-clause-ok
@@ -19,9 +19,9 @@ returns-clause-ok g c =
     last_of (λ (s : Seat). IsNewSeat c.in_ok-board.board s) _ _
     (subst (λ (l : List Seat). All (λ (s : Seat). IsNewSeat c.in_ok-board.board s) l)
     c.in-Some.ensures.items new.seats.1) in
-    let one : (seat_view c.in-Some.mine).parts ≡ 1 = ap (λ (y : View). y.parts) mine.1 in
+    let one : (seat_view c.in-Some.mine).joined_seats ≡ 1 = ap (λ (y : View). y.joined_seats) mine.1 in
     let many : vec_len c.in_ok-worked.worked ≡ c.args.workers = search rules in
-    let parts : v.parts ≡ c.args.workers + 1 = omega (arith, one, many, j.2, c.work-mine.ensures.parts) in
+    let joined_seats : v.joined_seats ≡ c.args.workers + 1 = omega (arith, one, many, j.2, c.work-mine.ensures.joined_seats) in
     let past = j.3 (omega (arith, many, c.requires.workers.0)) in
     full_tally c.args.settled.now c.args.questions.now (about c.in_ok-board.board) v _ c.close.ensures j.0.1 j.1
-    (parts ∙ sym new.about.2) past.0 past.1 new.about.0 new.about.1 c.requires.questions
+    (joined_seats ∙ sym new.about.2) past.0 past.1 new.about.0 new.about.1 c.requires.questions

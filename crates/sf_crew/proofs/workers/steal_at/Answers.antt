@@ -1,5 +1,5 @@
 use Rattle.std.proofs.Common.{get_or}
-use Rattle.sf_crew.specs.Benches.{thief_end}
+use Rattle.sf_crew.specs.Benches.{thief_view}
 use Rattle.sf_crew.proofs.Working.{one_stolen, got_nothing, none_stolen}
 use Rattle.sf_crew.proofs.workers.steal_at.Goals as goal
 
@@ -11,5 +11,5 @@ pub returns-in-Empty : goal.returns-in-Empty
 returns-in-Empty c =
     let other = c.index-others-place.result in
     none_stolen _ _ c.steal.new.self other
-    (got_nothing (thief_end (get_or c.args.others.now c.args.place other))
-    (thief_end c.steal.new.self) c.steal.result c.in-Empty.is c.steal.ensures)
+    (got_nothing (thief_view (get_or c.args.others.now c.args.place other))
+    (thief_view c.steal.new.self) c.steal.result c.in-Empty.is c.steal.ensures)

@@ -1,9 +1,9 @@
 use Rattle.std.proofs.Common.{◌≡◌, length}
-use Rattle.sf_crew.specs.Workers.{ends_of}
+use Rattle.sf_crew.specs.Workers.{thief_views}
 use Rattle.sf_crew.proofs.workers.steal_from.Given as goal
 
 abbrev pub invariant-loop-place : goal.invariant-loop-place
 invariant-loop-place l = record {
-  same : ends_of l.others ≡ ends_of l.fn.others;
+  same : thief_views l.others ≡ thief_views l.fn.others;
   long : length l.others ≡ length l.fn.others;
 }

@@ -1,4 +1,4 @@
-use Rattle.sf_dom.proofs.RisingLemmas.{stands}
+use Rattle.sf_dom.proofs.AscendingLemmas.{stands}
 use Rattle.sf_dom.proofs.exclusions.stands_in.Goals as goal
 
 pub returns : goal.returns

@@ -1,4 +1,4 @@
-use Rattle.sf_dom.proofs.RisingLemmas.{inserted-rising, inserted-numbers}
+use Rattle.sf_dom.proofs.AscendingLemmas.{inserted-rising, inserted-numbers}
 use Rattle.sf_dom.proofs.exclusions.with_number.Goals as goal
 
 pub returns-in_ok-insert-in-Err-clause-rising : goal.returns-in_ok-insert-in-Err-clause-rising

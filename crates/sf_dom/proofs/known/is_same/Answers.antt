@@ -2,7 +2,7 @@ use Rattle.std.proofs.Common.{◌≡◌, ap, refl, eqb, ◌&&◌, eq-eqb, sym}
 use Rattle.std.specs.Bool.{Decides}
 use Rattle.std.proofs.lemmas.Bool.Decides.{Decides-eqb}
 use Rattle.sf_dom.specs.declared.known.Known.{Known}
-use Rattle.sf_dom.proofs.Rounds.{all_true}
+use Rattle.sf_dom.proofs.Reductions.{all_true}
 use Rattle.sf_dom.proofs.known.is_same.Goals as goal
 
 known-decides : (a b : Known) → Decides (eqb a.low b.low

@@ -1,6 +1,6 @@
 use Rattle.std.proofs.Common.{arith, refl, sym, subst, ◌∙◌}
 use Rattle.sf_dom.specs.declared.known.Known.{Known}
-use Rattle.sf_dom.specs.Walks.{HandsOn}
+use Rattle.sf_dom.specs.Backward.{HandsOn}
 use Rattle.sf_dom.specs.Facts.{known_at}
 use Rattle.sf_dom.proofs.Backs.{walked-step, walked-end, walked-other}
 use Rattle.sf_dom.proofs.telling.are_walked_back.Goals as goal

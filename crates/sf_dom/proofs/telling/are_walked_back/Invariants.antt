@@ -1,11 +1,11 @@
 use Rattle.std.proofs.Common.{ℕ, ◌<◌, length}
-use Rattle.sf_dom.specs.Walks.{IsWalkedBack}
+use Rattle.sf_dom.specs.Backward.{IsPropagatedBack}
 use Rattle.sf_dom.proofs.telling.are_walked_back.Given as goal
 
 abbrev pub invariant-loop-op : goal.invariant-loop-op
 invariant-loop-op l = record {
   within : l.at < length l.pool;
-  back : ((n : ℕ) → IsWalkedBack n l.nodes.known l.pool l.at) → (n : ℕ) → IsWalkedBack n l.nodes.known l.pool l.from;
+  back : ((n : ℕ) → IsPropagatedBack n l.nodes.known l.pool l.at) → (n : ℕ) → IsPropagatedBack n l.nodes.known l.pool l.from;
 }
 
 abbrev pub decreases-loop-op : goal.decreases-loop-op

@@ -1,12 +1,12 @@
 use Rattle.std.proofs.Common.{◌≡◌, List, Some, ℕ, ◌-◌, length, Bool}
 use Rattle.sf_run.specs.Machine.{return_of, run_for}
 use Rattle.sf_run.specs.Code.{state_of}
-use Rattle.sf_run.specs.RunLaws.{Safe}
+use Rattle.sf_run.specs.RunLaws.{IsReachable}
 use Rattle.sf_run.proofs.running.run.Given as goal
 
 abbrev pub invariant-loop-next : goal.invariant-loop-next
 invariant-loop-next l = record {
-  safe : Safe l.code (state_of l.place l.machine);
+  safe : IsReachable l.code (state_of l.place l.machine);
   same : (n : ℕ) (o : List Bool × ℕ) → run_for n l.code l.fn.input (state_of l.place l.machine) ≡ Some o
       → o.1 ≡ return_of l.code l.fn.input;
 }

@@ -1,7 +1,7 @@
 use Rattle.std.proofs.Common.{◌∙◌, suc, List, Bool, ◌++◌, ap, sym, subst}
 use Rattle.std.proofs.lemmas.Option.{slice_get-get_or}
 use Rattle.sf_check.specs.declared.insn.Insn.{Insn}
-use Rattle.sf_check.specs.Programs.{IsLawful}
+use Rattle.sf_check.specs.Programs.{IsLawfulProgram}
 use Rattle.sf_run.specs.Machine.{met_by}
 use Rattle.sf_run.specs.Code.{state_of}
 use Rattle.sf_run.specs.RunLaws.{safe_start, safe_next, load_is_set, met_is, run_more, run_ends}
@@ -12,7 +12,7 @@ use Rattle.sf_run.proofs.tracing.push_program.Goals as goal
 pub loop-machine-init : goal.loop-machine-init
 loop-machine-init c =
     let code = c.insns-code.result.now in
-    let lawful : IsLawful code = subst IsLawful (sym c.insns-code.ensures.same) c.insns-code.ensures.lawful in
+    let lawful : IsLawfulProgram code = subst IsLawfulProgram (sym c.insns-code.ensures.same) c.insns-code.ensures.lawful in
     record {
       safe = rw c.start-machine.ensures (safe_start code lawful.some);
       same = λ n o e. ap (λ (l : List Bool). c.args.met.now.items ++ l)
@@ -22,14 +22,14 @@ loop-machine-init c =
 pub execute-requires-clause-in_range : goal.execute-requires-clause-in_range
 execute-requires-clause-in_range c =
     let code = c.insns-code.result.now in
-    let lawful : IsLawful code = subst IsLawful (sym c.insns-code.ensures.same) c.insns-code.ensures.lawful in
+    let lawful : IsLawfulProgram code = subst IsLawfulProgram (sym c.insns-code.ensures.same) c.insns-code.ensures.lawful in
     lawful.in_range c.loop-machine.place _ (slice_get-get_or code c.loop-machine.place _
     c.loop-machine.invariant.safe.inside)
 
 pub execute-requires-clause-set : goal.execute-requires-clause-set
 execute-requires-clause-set c k loads =
     let code = c.insns-code.result.now in
-    let lawful : IsLawful code = subst IsLawful (sym c.insns-code.ensures.same) c.insns-code.ensures.lawful in
+    let lawful : IsLawfulProgram code = subst IsLawfulProgram (sym c.insns-code.ensures.same) c.insns-code.ensures.lawful in
     load_is_set code (state_of c.loop-machine.place c.loop-machine.machine) _ k lawful c.loop-machine.invariant.safe
     (slice_get-get_or code c.loop-machine.place _ c.loop-machine.invariant.safe.inside) loads
 
@@ -37,7 +37,7 @@ pub loop-machine-preserved : goal.loop-machine-preserved
 loop-machine-preserved c =
     let code = c.insns-code.result.now in
     let d = c.args.input.now in
-    let lawful : IsLawful code = subst IsLawful (sym c.insns-code.ensures.same) c.insns-code.ensures.lawful in
+    let lawful : IsLawfulProgram code = subst IsLawfulProgram (sym c.insns-code.ensures.same) c.insns-code.ensures.lawful in
     let m = c.loop-machine.machine in
     let s = state_of c.loop-machine.place m in
     let next = state_of c.in-Goes.next c.execute.new.machine in

@@ -1,12 +1,12 @@
 use Rattle.std.proofs.Common.{◌≡◌, ◌++◌, ◌-◌, ℕ, List, Bool, Some, length}
 use Rattle.sf_run.specs.Machine.{met_by, run_for}
 use Rattle.sf_run.specs.Code.{state_of}
-use Rattle.sf_run.specs.RunLaws.{Safe}
+use Rattle.sf_run.specs.RunLaws.{IsReachable}
 use Rattle.sf_run.proofs.tracing.push_program.Given as goal
 
 abbrev pub invariant-loop-machine : goal.invariant-loop-machine
 invariant-loop-machine l = record {
-  safe : Safe l.code (state_of l.place l.machine);
+  safe : IsReachable l.code (state_of l.place l.machine);
   same : (n : ℕ) (o : List Bool × ℕ) → run_for n l.code l.fn.input (state_of l.place l.machine) ≡ Some o
       → l.met.items ++ o.0 ≡ l.fn.met.items ++ met_by l.code l.fn.input;
 }

@@ -1,15 +1,15 @@
 use Rattle.std.proofs.Common.{◌≡◌, ◌+◌, ◌-◌, ◌≤◌, ℕ, Some, length}
 use Rattle.sf_run.specs.Code.{state_of}
-use Rattle.sf_run.specs.RunLaws.{Safe}
-use Rattle.sf_run.specs.Walks.{Walked, after, walk_for, walk_of}
+use Rattle.sf_run.specs.RunLaws.{IsReachable}
+use Rattle.sf_run.specs.Walks.{CourseData, after, walk_for, walk_of}
 use Rattle.sf_run.proofs.walking.walk.Given as goal
 
 abbrev pub invariant-steps : goal.invariant-steps
 invariant-steps l = record {
-  safe : Safe l.code (state_of l.place l.machine);
+  safe : IsReachable l.code (state_of l.place l.machine);
   left : ℕ;
   enough : length l.code ≤ left + l.place;
-  same : (w : Walked) → walk_for left l.code l.fn.input (state_of l.place l.machine) ≡ Some w
+  same : (w : CourseData) → walk_for left l.code l.fn.input (state_of l.place l.machine) ≡ Some w
       → walk_of l.code l.fn.input ≡ Some (after l.met.items w);
 }
 

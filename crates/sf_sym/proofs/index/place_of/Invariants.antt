@@ -3,7 +3,7 @@ use Rattle.sf_sym.proofs.IndexLemmas.{IsSearched}
 use Rattle.sf_sym.proofs.index.place_of.Given as goal
 
 abbrev pub invariant-loop-next : goal.invariant-loop-next
-invariant-loop-next l = IsSearched (nodes_of l.entries) l.node l.next
+invariant-loop-next l = IsSearched (nodes_of l.interned_nodes) l.node l.next
 
 abbrev pub decreases-loop-next : goal.decreases-loop-next
 decreases-loop-next l = l.next

@@ -7,7 +7,7 @@ returns-then-self-clause-err c =
     rw (← c.self.view_is) (
       record {
         same_stack = c.if-not-is_of.ensures.0 refl;
-        entry = _;
+        under_id = _;
         there = e.1;
         same_name = sym (c.if-not-has_name.ensures.0 refl);
       },
@@ -21,7 +21,7 @@ returns-clause-ok c =
     rw (← c.self.view_is) (
       record {
         same_stack = c.if-not-is_of.ensures.0 refl;
-        entry = _;
+        under_id = _;
         there = e.1;
         same_name = sym (c.if-not-has_name.ensures.0 refl);
       },

@@ -3,7 +3,7 @@ use mathlib.Core.Option.{some}
 use lib.ListN.{get_elem?}
 use Rattle.std.specs.Mem.Slots.{slots_items}
 use Rattle.sf_crew.specs.LeastWords.{LeastIs}
-use Rattle.sf_crew.specs.Views.{asked, places}
+use Rattle.sf_crew.specs.Views.{questions_of, count_of_regions}
 use Rattle.sf_crew.specs.Boards.{about}
 use Rattle.sf_crew.proofs.Closings.{close_right, elem_index, four_words}
 use Rattle.sf_crew.proofs.board.Board.close.Goals as goal
@@ -18,8 +18,8 @@ returns c =
     (read 4 _ c.word-3.ensures) (read 5 _ c.word-4.ensures) in
     let entered : c.word-entered.result ≡ slice_index last.0.words 1 =
     sym (elem_index words 1 _ c.word-entered.ensures) ∙ ap (λ (y : List ℕ). slice_index y 1) (sym same) in
-    let least : LeastIs last.0.words (places (about c.args.self))
-    (length (asked (about c.args.self))) c.least_places-least.result =
+    let least : LeastIs last.0.words (count_of_regions (about c.args.self))
+    (length (questions_of (about c.args.self))) c.least_places-least.result =
     subst (λ (y : List ℕ × ℕ × ℕ). LeastIs y.0 y.1 y.2 c.least_places-least.result)
     (λ i. (sym same i, c.args.self.sized.0 i, c.args.self.sized.1 i)) c.least_places-least.ensures in
     close_right (about c.args.self) last.0 c.args.seat.seat.id c.args.seat.seat.me.0 _ c.args.self.few last.1.0 last.1.1

@@ -1,9 +1,9 @@
 use Rattle.std.proofs.Common.{◌≡◌, ◌<◌, List, [], Some, subst, sym, ap, ◌∙◌, arith}
 use Rattle.sf_crew.specs.declared.view.View.{View}
 use Rattle.sf_crew.specs.declared.view.Note.{Note}
-use Rattle.sf_crew.specs.Views.{entry, Covered}
+use Rattle.sf_crew.specs.Views.{entered_sheet, Covered}
 use Rattle.sf_crew.specs.BoardSteps.{view_of}
-use Rattle.sf_crew.specs.SheetEntries.{AreDoubts}
+use Rattle.sf_crew.specs.EnteredSheets.{AreDoubts}
 use Rattle.sf_crew.specs.Boards.{about}
 use Rattle.sf_crew.proofs.Moves.{enters}
 use Rattle.sf_crew.proofs.Sheets.{covers, marked_view}
@@ -22,20 +22,20 @@ fetch_add-requires c =
     let hits = c.enter_hits.ensures in let doubts = c.enter_doubts.ensures in
     let v : View = c.args.seat.now.seat.me.0 in let w : View = c.enter_doubts.new.seat.me.0 in
     let notes : List Note = c.enter_hits.new.seat.me.0.notes in
-    let is : w ≡ view_of v.about v.parts v.nones v.owes w.marked v.entries notes =
+    let is : w ≡ view_of v.about v.joined_seats v.exhausted_seats v.owes w.marked v.entered_sheets notes =
     marked_view v _ w hits.view doubts.view in
     let owing : w.owes ≡ Some c.args.sheet.job = ap (λ (y : View). y.owes) is ∙ c.requires.sheet.job in
-    let parts : w.parts ≡ v.parts = ap (λ (y : View). y.parts) is in
-    let some_part : 0 < v.parts = c.args.seat.now.present in let small = c.args.self.now.small in
+    let joined_seats : w.joined_seats ≡ v.joined_seats = ap (λ (y : View). y.joined_seats) is in
+    let some_part : 0 < v.joined_seats = c.args.seat.now.present in let small = c.args.self.now.small in
     let none : c.enter_hits.new.seat.me.0.marked ≡ [] = ap (λ (y : View). y.marked) hits.view
     ∙ c.args.seat.now.unmarked in
     let marks : AreDoubts c.args.sheet w.marked = rw none at doubts.marks in
-    let covered : Covered (about c.args.self.now) notes (entry c.args.sheet.job w.marked) =
+    let covered : Covered (about c.args.self.now) notes (entered_sheet c.args.sheet.job w.marked) =
     covers (about c.args.self.now) v c.args.sheet w.marked notes c.requires.sheet
     c.question_count-count.ensures.right hits.notes marks in (
       doubts.table ∙ hits.table ∙ c.requires.seat.0,
       omega arith,
-      enters _ _ _ _ _ owing (omega (arith, parts, some_part)) (omega (arith, small))
-          (subst (λ (ns : List Note). Covered (about c.args.self.now) ns (entry c.args.sheet.job w.marked))
+      enters _ _ _ _ _ owing (omega (arith, joined_seats, some_part)) (omega (arith, small))
+          (subst (λ (ns : List Note). Covered (about c.args.self.now) ns (entered_sheet c.args.sheet.job w.marked))
           (sym (ap (λ (y : View). y.notes) is)) covered),
     )

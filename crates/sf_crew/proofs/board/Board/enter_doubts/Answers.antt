@@ -1,9 +1,9 @@
 use Rattle.std.proofs.Common.{◌≡◌, ◌<◌, ℕ, ◌+◌, List, ◌∷◌, length, Some, true≢false, subst, sym, ap, ◌∙◌, refl, arith}
-use Rattle.sf_ask.specs.Asked.{Asked}
+use Rattle.sf_ask.specs.QuestionData.{QuestionData}
 use Rattle.sf_crew.specs.declared.view.View.{View}
-use Rattle.sf_crew.specs.Views.{asked}
-use Rattle.sf_crew.specs.BoardSteps.{with_marks, marking}
-use Rattle.sf_crew.specs.SheetEntries.{MarksDoubts}
+use Rattle.sf_crew.specs.Views.{questions_of}
+use Rattle.sf_crew.specs.BoardSteps.{with_marks, view_with_mark}
+use Rattle.sf_crew.specs.EnteredSheets.{MarksDoubts}
 use Rattle.sf_crew.specs.Boards.{about}
 use Rattle.sf_crew.proofs.Sheets.{marks_none, marks_same, marks_more}
 use Rattle.sf_crew.proofs.Moves.{marks}
@@ -19,13 +19,13 @@ loop-q-preserved c =
     elim c.if-is_doubt.branch [
       | then-is_doubt w ↦ (
           let f = w.fetch_or in let went = f.ensures.2 in let old : View = c.loop-q.seat.me.0 in
-          let now : f.new.seat.me.0 ≡ marking old n = went.0 n (omega arith) refl in
+          let now : f.new.seat.me.0 ≡ view_with_mark old n = went.0 n (omega arith) refl in
           let marks : MarksDoubts vs (n + 1) c.args.seat.now.me.0.marked (n ∷ old.marked) =
           marks_more vs n _ _ (sym c.is_doubt.ensures ∙ w.if-is_doubt.true) i.marks in
           rw w.seat-is (record {
             table = f.ensures.0 ∙ i.table;
             carried = went.1 ∙ i.carried;
-            view = now ∙ ap (λ (v : View). marking v n) i.view ∙ ap
+            view = now ∙ ap (λ (v : View). view_with_mark v n) i.view ∙ ap
                 (λ (qs : List ℕ). with_marks c.args.seat.now.me.0 qs) (sym (ap (λ (v : View). v.marked) now));
             marks = subst (λ (qs : List ℕ). MarksDoubts vs (n + 1) c.args.seat.now.me.0.marked qs)
                 (sym (ap (λ (v : View). v.marked) now)) marks;
@@ -45,8 +45,8 @@ fetch_or-requires c =
     let n : ℕ = c.loop-q.q in
     let lt : n < length c.args.sheet.now.questions =
     omega (arith, c.loop-q-test.true, c.question_count-q-end.ensures.count) in
-    let many : length c.args.sheet.now.questions ≡ length (asked (about c.args.self.now)) =
-    ap (λ (y : List Asked). length y) c.requires.questions in
+    let many : length c.args.sheet.now.questions ≡ length (questions_of (about c.args.self.now)) =
+    ap (λ (y : List QuestionData). length y) c.requires.questions in
     let few : n < 256 = (let f = c.args.self.now.few in omega arith) in
     let owing : c.loop-q.seat.me.0.owes ≡ Some c.args.sheet.now.job =
     ap (λ (v : View). v.owes) c.loop-q.invariant.view ∙ c.requires.owes in (

@@ -1,5 +1,5 @@
 use Rattle.sf_book.specs.declared.book.Lease.{Lease}
-use Rattle.sf_crew.specs.Workers.{own_end}
+use Rattle.sf_crew.specs.Workers.{own_view}
 use Rattle.sf_crew.proofs.Working.{both_put}
 use Rattle.sf_crew.proofs.workers.Worker.work.Goals as goal
 
@@ -13,7 +13,7 @@ returns-clause-ok g c =
       work = made.work;
       piece = h.piece;
       right = h.right;
-      children = both_put made.work.step x y (own_end c.args.self.now) (own_end c.put.new.self)
-          (own_end c.put-2.new.self)
+      children = both_put made.work.step x y (own_view c.args.self.now) (own_view c.put.new.self)
+          (own_view c.put-2.new.self)
           (rw c.in-Some-children.is at h.children) c.put.ensures.put c.put-2.ensures.put;
     }

@@ -4,28 +4,28 @@ use Rattle.std.specs.Prelude.{slice_index}
 use Rattle.sf_dom.specs.Facts.{Agrees}
 use Rattle.sf_dom.specs.FactsLaws.{some-input}
 use Rattle.sf_dom.proofs.Sampled.{exact-none, exact-some}
-use Rattle.sf_dom.proofs.Taken.{not_met}
+use Rattle.sf_dom.proofs.Assumed.{not_met}
 use Rattle.sf_dom.proofs.Masks.{masked-admits, admits-masked}
 use Rattle.sf_dom.proofs.facts.Facts.confine_bits.Goals as goal
 
 pub returns-in-None-clause-sound : goal.returns-in-None-clause-sound
 unfolding Agrees
 returns-in-None-clause-sound c = λ d p a.
-    let told = rw c.in-None.is at c.in_ok-narrow_word.ensures in
+    let told = rw c.in-None.is at c.in_ok-restricted_word.ensures in
     not_met _ (λ m. told d p a (masked-admits (slice_index d.words c.args.word) c.args.mask c.args.value
     (p.each c.args.word) (omega arith) (omega arith) (eqb-true _ _ m)))
 
 pub returns-in-Some-clause-sound : goal.returns-in-Some-clause-sound
 unfolding Agrees
 returns-in-Some-clause-sound c = λ d p a m.
-    let told = rw c.in-Some.is at c.in_ok-narrow_word.ensures in
+    let told = rw c.in-Some.is at c.in_ok-restricted_word.ensures in
     told.keeps d p a (masked-admits (slice_index d.words c.args.word) c.args.mask c.args.value (p.each c.args.word)
     (omega arith) (omega arith) (eqb-true _ _ m))
 
 pub returns-in-Some-clause-only : goal.returns-in-Some-clause-only
 unfolding Agrees
 returns-in-Some-clause-only c = λ e d p a.
-    let told = rw c.in-Some.is at c.in_ok-narrow_word.ensures in
+    let told = rw c.in-Some.is at c.in_ok-restricted_word.ensures in
     let k = told.only d p a in (
       k.0,
       eq-eqb _ _ (admits-masked (slice_index d.words c.args.word) c.args.mask c.args.value (omega arith)
@@ -34,7 +34,7 @@ returns-in-Some-clause-only c = λ e d p a.
 
 pub returns-in-Some-clause-masked : goal.returns-in-Some-clause-masked
 returns-in-Some-clause-masked c = λ e n h.
-    let told = rw c.in-Some.is at c.in_ok-narrow_word.ensures in
+    let told = rw c.in-Some.is at c.in_ok-restricted_word.ensures in
     let k = told.word.numbers n h in
     admits-masked n c.args.mask c.args.value (omega arith) (omega arith)
     (omega (arith, k.below)) c.requires.inside k.bits
@@ -44,6 +44,6 @@ returns-in-None-clause-exact c = λ plain. exact-none c.args.self.now c.args.poo
 
 pub returns-in-Some-clause-exact : goal.returns-in-Some-clause-exact
 returns-in-Some-clause-exact c = λ plain.
-    let told = rw c.in-Some.is at c.in_ok-narrow_word.ensures in
+    let told = rw c.in-Some.is at c.in_ok-restricted_word.ensures in
     exact-some c.args.self.now c.in-Some.next c.args.pool.now _
     (some-input c.in-Some.next c.args.pool.now told.covers plain) (returns-in-Some-clause-only c refl)

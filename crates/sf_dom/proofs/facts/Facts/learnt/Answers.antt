@@ -1,34 +1,34 @@
 use Rattle.sf_sym.specs.ValueLaws.{met-passes}
 use Rattle.sf_dom.specs.Facts.{Agrees}
-use Rattle.sf_dom.proofs.Taken.{not_met, taken-keeps, taken-told, taken-decides, taken-only}
+use Rattle.sf_dom.proofs.Assumed.{not_met, assumed-keeps, assumed-told, assumed-decides, assumed-only}
 use Rattle.sf_dom.proofs.facts.Facts.learnt.Goals as goal
 
 pub returns-in-None-clause-sound : goal.returns-in-None-clause-sound
 unfolding Agrees
 returns-in-None-clause-sound c =
-    let told = rw c.in-None.is at c.in_ok-taken.ensures in
+    let told = rw c.in-None.is at c.in_ok-assumed.ensures in
     rw (← c.self.view_is) (λ d p a. not_met _ (λ m. told d p a (met-passes c.args.pool.now d c.args.cond.now m)))
 
 pub returns-in-Some-clause-sound : goal.returns-in-Some-clause-sound
 unfolding Agrees
 returns-in-Some-clause-sound c =
-    let told = rw c.in-Some.is at c.in_ok-taken.ensures in
-    rw (← c.self.view_is) (taken-keeps _ _ _ _ c.args.pool.now c.args.cond.now told)
+    let told = rw c.in-Some.is at c.in_ok-assumed.ensures in
+    rw (← c.self.view_is) (assumed-keeps _ _ _ _ c.args.pool.now c.args.cond.now told)
 
 pub returns-in-Some-clause-decided : goal.returns-in-Some-clause-decided
 returns-in-Some-clause-decided c =
-    let told = rw c.in-Some.is at c.in_ok-taken.ensures in
-    rw (← c.self.view_is) (taken-decides _ _ _ _ c.args.pool.now c.args.cond.now
+    let told = rw c.in-Some.is at c.in_ok-assumed.ensures in
+    rw (← c.self.view_is) (assumed-decides _ _ _ _ c.args.pool.now c.args.cond.now
     (rw (← c.self.view_is) at c.requires.covers) c.requires.below told)
 
 pub returns-in-Some-clause-only : goal.returns-in-Some-clause-only
 unfolding Agrees
 returns-in-Some-clause-only c =
-    let told = rw c.in-Some.is at c.in_ok-taken.ensures in
-    rw (← c.self.view_is) (λ plain d p a. taken-only _ _ _ _ c.args.pool.now c.args.cond.now
+    let told = rw c.in-Some.is at c.in_ok-assumed.ensures in
+    rw (← c.self.view_is) (λ plain d p a. assumed-only _ _ _ _ c.args.pool.now c.args.cond.now
     (rw (← c.self.view_is) at c.requires.covers) c.requires.below told plain d a)
 
 pub returns-in-Some-clause-told : goal.returns-in-Some-clause-told
 returns-in-Some-clause-told c =
-    let told = rw c.in-Some.is at c.in_ok-taken.ensures in
-    rw (← c.self.view_is) (taken-told _ _ _ _ c.args.pool.now c.args.cond.now told)
+    let told = rw c.in-Some.is at c.in_ok-assumed.ensures in
+    rw (← c.self.view_is) (assumed-told _ _ _ _ c.args.pool.now c.args.cond.now told)

@@ -5,7 +5,7 @@ use Rattle.sf_sym.proofs.index.Indexed.node.Goals as goal
 
 pub returns : goal.returns
 returns c =
-    let es = c.self.inside.entries in
+    let es = c.self.inside.interned_nodes in
     let within : c.args.i < length es = omega (arith, c.requires, ap length c.self.view_is, length-nodes es) in
     sym (node-read es c.args.i c.get.result within (c.get.ensures blank))
     ∙ ap (λ ns. node_at ns c.args.i) c.self.view_is

@@ -1,8 +1,8 @@
 use Rattle.std.proofs.Common.{◌≡◌, ◌<◌, length, arith, ap, refl, ◌∙◌}
 use Rattle.std.specs.Arc.{arc_value}
 use Rattle.sf_sym.specs.ValueLaws.{IsPool-push, ArePlainNodes-push, value-node, value-pushed}
-use Rattle.sf_sym.proofs.Folds.{folded-value, folded-operands}
-use Rattle.sf_sym.specs.Pool.{OperandsBelow, node_value, values_of, folded}
+use Rattle.sf_sym.proofs.Folds.{folded_node-value, folded_node-operands}
+use Rattle.sf_sym.specs.Pool.{OperandsBelow, node_value, values_of, folded_node}
 use Rattle.sf_sym.proofs.pool.Pool.push.Goals as goal
 
 pub returns-in-Some-clause-within : goal.returns-in-Some-clause-within
@@ -15,16 +15,16 @@ returns-in-Some-clause-value c = λ d.
     let ns = arc_value c.self.inside.nodes in
     let lawful = c.self.invariant in
     let there = rw c.deref-2.ensures at c.in-Some.ensures.found c.in-Some.at refl in
-    let folds = c.fold-node.ensures ∙ ap (λ ms. folded ms c.args.node) c.deref.ensures in
+    let folds = c.fold-node.ensures ∙ ap (λ ms. folded_node ms c.args.node) c.deref.ensures in
     let operands : OperandsBelow (length ns) c.args.node = rw (← c.self.view_is) at c.requires in
     rw (← c.self.view_is) (value-node ns d c.in-Some.at lawful there.0
     ∙ ap (node_value d (values_of ns d)) (there.1 ∙ folds)
-    ∙ folded-value ns d c.args.node lawful operands)
+    ∙ folded_node-value ns d c.args.node lawful operands)
 
 pub returns-in-Some-clause-added : goal.returns-in-Some-clause-added
 returns-in-Some-clause-added c = λ absent.
     let there = rw c.deref-2.ensures at c.in-Some.ensures.found c.in-Some.at refl in
-    let folds = c.fold-node.ensures ∙ ap (λ ms. folded ms c.args.node) c.deref.ensures in
+    let folds = c.fold-node.ensures ∙ ap (λ ms. folded_node ms c.args.node) c.deref.ensures in
     absurd (rw (← c.self.view_is) at absent c.in-Some.at there.0 (there.1 ∙ folds))
 
 pub invariant_of-self-2 : goal.invariant_of-self-2
@@ -32,7 +32,7 @@ invariant_of-self-2 c =
     let ns = arc_value c.self.inside.nodes in
     let given : OperandsBelow (length ns) c.args.node = rw (← c.self.view_is) at c.requires in
     rw (c.in_ok-at.ensures.ok, c.fold-node.ensures, c.deref.ensures)
-    (IsPool-push ns (folded ns c.args.node) c.self.invariant (folded-operands ns c.args.node c.self.invariant given))
+    (IsPool-push ns (folded_node ns c.args.node) c.self.invariant (folded_node-operands ns c.args.node c.self.invariant given))
 
 pub returns-clause-value : goal.returns-clause-value
 returns-clause-value c = λ d.
@@ -40,7 +40,7 @@ returns-clause-value c = λ d.
     let given : OperandsBelow (length ns) c.args.node = rw (← c.self.view_is) at c.requires in
     let at : c.in_ok-at.at ≡ length ns = c.in_ok-at.ensures.place in
     rw (← c.self.view_is, c.in_ok-at.ensures.ok, c.fold-node.ensures, c.deref.ensures, at)
-    (value-pushed ns (folded ns c.args.node) d ∙ folded-value ns d c.args.node c.self.invariant given)
+    (value-pushed ns (folded_node ns c.args.node) d ∙ folded_node-value ns d c.args.node c.self.invariant given)
 
 pub returns-clause-plain : goal.returns-clause-plain
 returns-clause-plain c = λ k e plain.
@@ -52,4 +52,4 @@ returns-clause-lawful c =
     let ns = arc_value c.self.inside.nodes in
     let given : OperandsBelow (length ns) c.args.node = rw (← c.self.view_is) at c.requires in
     rw (c.in_ok-at.ensures.ok, c.fold-node.ensures, c.deref.ensures)
-    (IsPool-push ns (folded ns c.args.node) c.self.invariant (folded-operands ns c.args.node c.self.invariant given))
+    (IsPool-push ns (folded_node ns c.args.node) c.self.invariant (folded_node-operands ns c.args.node c.self.invariant given))

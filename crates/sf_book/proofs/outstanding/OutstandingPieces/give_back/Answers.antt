@@ -1,0 +1,27 @@
+use Rattle.std.proofs.Common.{◌≡◌, false, sym, ◌∙◌, refl, Some}
+use Rattle.sf_book.proofs.MapLemmas.{marked_shelf, marked_view, entry_at_is}
+use Rattle.sf_book.proofs.OutstandingLists.{same_none}
+use Rattle.sf_book.specs.OutstandingMaps.{piece_at}
+use Rattle.sf_book.proofs.outstanding.OutstandingPieces.give_back.Goals as goal
+
+pub invariant_of-self : goal.invariant_of-self
+invariant_of-self c =
+    let at : piece_at c.self.inside.by_id.entries c.args.id ≡ Some c.in-Some.named.now = sym c.in-Some.ensures.value in
+    let n = c.self.invariant.named c.args.id c.in-Some.named.now at in
+    let e = rw n.1 at c.set_leased.ensures in
+    rw e (marked_shelf c.self.inside.by_id.entries c.self.inside.by_name.entries c.args.id c.in-Some.named.now n.0 false
+    c.self.invariant at n.1)
+
+pub returns-in-Some : goal.returns-in-Some
+returns-in-Some c =
+    let at : piece_at c.self.inside.by_id.entries c.args.id ≡ Some c.in-Some.named.now = sym c.in-Some.ensures.value in
+    let n = c.self.invariant.named c.args.id c.in-Some.named.now at in
+    let e = rw n.1 at c.set_leased.ensures in
+    rw (← c.self.view_is, e) (marked_view c.self.inside.by_id.entries c.self.inside.by_name.entries c.args.id
+    c.in-Some.named.now n.0 false c.self.invariant at n.1)
+
+pub returns-in_default : goal.returns-in_default
+returns-in_default c =
+    rw (← c.self.view_is)
+    (sym (same_none _ c.args.id false (entry_at_is c.self.inside.by_id.entries c.self.inside.by_name.entries
+    c.args.id ∙ rw (← c.in_default.ensures.value) refl)))

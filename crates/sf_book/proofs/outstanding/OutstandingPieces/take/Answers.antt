@@ -1,0 +1,37 @@
+use Rattle.std.proofs.Common.{sym, ◌∙◌, ap}
+use Rattle.std.specs.Option.{option_map}
+use Rattle.sf_book.proofs.MapLemmas.{entry_at_is}
+use Rattle.sf_book.proofs.OutstandingLists.{taken_shelf, taken_view, without_none}
+use Rattle.sf_book.specs.OutstandingMaps.{outstanding_of}
+use Rattle.sf_piece.specs.Pieces.{PieceData}
+use Rattle.sf_book.proofs.outstanding.OutstandingPieces.take.Goals as goal
+
+pub invariant_of-self : goal.invariant_of-self
+invariant_of-self c =
+    taken_shelf c.self.inside.by_id.entries c.self.inside.by_name.entries c.args.id c.in-Some.named _ _
+    c.self.invariant (record {
+      there = sym c.remove.ensures.value ∙ c.in-Some.is;
+      at_id = c.remove.ensures.updates.0;
+      at_name = c.remove-in-Some.ensures.updates.0;
+      rising = c.remove.ensures.ordered;
+      sorted = c.remove-in-Some.ensures.ordered;
+    })
+
+pub returns-in-Some : goal.returns-in-Some
+returns-in-Some c =
+    rw (← c.self.view_is) (taken_view c.self.inside.by_id.entries c.self.inside.by_name.entries c.args.id
+    c.in-Some.named _ _ c.self.invariant (record {
+      there = sym c.remove.ensures.value ∙ c.in-Some.is;
+      at_id = c.remove.ensures.updates.0;
+      at_name = c.remove-in-Some.ensures.updates.0;
+      rising = c.remove.ensures.ordered;
+      sorted = c.remove-in-Some.ensures.ordered;
+    }) c.remove.ensures.entries)
+
+pub returns-in_default : goal.returns-in_default
+returns-in_default c =
+    let ids = c.self.inside.by_id.entries in
+    let names = c.self.inside.by_name.entries in
+    let none = entry_at_is ids names c.args.id ∙ ap (option_map (λ (p : PieceData). outstanding_of names (c.args.id, p)))
+    (sym c.in_default.ensures.value) in
+    rw (← c.self.view_is, c.in_default.ensures.unchanged) (sym (without_none _ c.args.id none))

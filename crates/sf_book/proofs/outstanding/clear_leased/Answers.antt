@@ -1,0 +1,8 @@
+use Rattle.std.proofs.Common.{rules, false}
+use Rattle.std.proofs.lemmas.Map.Made.{map_same_pairs}
+use Rattle.sf_book.specs.declared.outstanding.LeaseState.{LeaseState}
+use Rattle.sf_book.proofs.outstanding.clear_leased.Goals as goal
+
+pub returns : goal.returns
+returns c = map_same_pairs _ (λ (m : LeaseState). record { id = m.id; leased = false }) _
+    (λ k v b w f' t. search rules) _ _ c.retain.ensures.filtered

@@ -1,6 +1,0 @@
-use Rattle.sf_book.proofs.ShelfEntries.{piece_place}
-use Rattle.sf_book.proofs.shelf.Shelf.at.Goals as goal
-
-pub returns : goal.returns
-returns c = rw (← c.self.view_is, c.piece.ensures)
-    (piece_place c.self.inside.by_id.entries c.self.inside.by_name.entries c.args.i _ c.named_at.ensures)

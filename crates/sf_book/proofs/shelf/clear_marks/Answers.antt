@@ -1,8 +1,0 @@
-use Rattle.std.proofs.Common.{rules, false}
-use Rattle.std.proofs.lemmas.Map.Made.{map_same_pairs}
-use Rattle.sf_book.specs.declared.shelf.Mark.{Mark}
-use Rattle.sf_book.proofs.shelf.clear_marks.Goals as goal
-
-pub returns : goal.returns
-returns c = map_same_pairs _ (λ (m : Mark). record { id = m.id; leased = false }) _
-    (λ k v b w f' t. search rules) _ _ c.retain.ensures.filtered

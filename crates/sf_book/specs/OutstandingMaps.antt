@@ -1,0 +1,61 @@
+-- Outstanding pieces by id, beside a lease's state for each name.
+use Rattle.std.specs.Prelude.{◌≡◌, ℕ, true, false, List, map, Option, Some, refl}
+use Rattle.std.specs.Ordering.{bool_cmp, is_eq, nat_cmp, eq_by_cmp}
+use Rattle.std.specs.declared.cmp.Ordering.{Ordering}
+use Rattle.std.specs.Cmp.{IsTotalOrder, on_total}
+use Rattle.std.specs.Cmp.Lexicographic.{slice_cmp}
+use Rattle.std.specs.BTreeMap.{is_at}
+use Rattle.std.specs.Map.{lookup, keys_of}
+use Rattle.std.specs.List.Sorted.{IsStrictlySortedBy}
+use Rattle.std.specs.Option.{option_map_or}
+use Rattle.sf_run.specs.FeasibleLaws.{names_total}
+use Rattle.sf_piece.specs.Pieces.{PieceData}
+use Rattle.sf_book.specs.Books.{OutstandingData}
+use Rattle.sf_book.specs.Changes.{outstanding_at, with_lease_at, IsFirstFree}
+use Rattle.sf_book.specs.declared.outstanding.LeaseState.{LeaseState}
+
+-- pieces in the order of their names
+abbrev pub name_cmp : PieceData → PieceData → Ordering
+name_cmp p q = slice_cmp bool_cmp p.name q.name
+
+-- that order is total
+pub name_total : IsTotalOrder name_cmp
+name_total = on_total (λ (p : PieceData). p.name) names_total
+
+-- two names are equal where they compare so
+pub name_ties : (p q : PieceData) → eq_by_cmp name_cmp p q ≡ is_eq (name_cmp p q)
+name_ties p q = refl
+
+-- the piece under an id
+abbrev pub piece_at : List (ℕ × PieceData) → ℕ → Option PieceData
+piece_at ids i = lookup (is_at (nat_cmp i)) ids
+
+-- whether the piece of a name is on lease
+abbrev pub lease_state_of : List (PieceData × LeaseState) → PieceData → Option LeaseState
+lease_state_of names p = lookup (is_at (name_cmp p)) names
+
+-- an outstanding piece, with its lease's state
+abbrev pub outstanding_of : List (PieceData × LeaseState) → ℕ × PieceData → OutstandingData
+outstanding_of names e = record {
+  id = e.0;
+  piece = e.1;
+  leased = option_map_or (λ (m : LeaseState). m.leased) (lease_state_of names e.1) true;
+}
+
+-- the outstanding pieces, in the order of their ids
+abbrev pub outstanding_list : List (ℕ × PieceData) → List (PieceData × LeaseState) → List OutstandingData
+outstanding_list ids names = map (outstanding_of names) ids
+
+-- both in order; each piece's id stands under its name, and what stands under a name is of a piece with that name
+pub record AreMatchingMaps (ids : List (ℕ × PieceData)) (names : List (PieceData × LeaseState)) : Type 0 where
+  pub rising : IsStrictlySortedBy nat_cmp (keys_of ids)
+  pub sorted : IsStrictlySortedBy name_cmp (keys_of names)
+  pub named : (i : ℕ) (p : PieceData) → piece_at ids i ≡ Some p → (m : LeaseState) × (lease_state_of names p ≡ Some m) × (m.id ≡ i)
+  pub known : (q : PieceData) (m : LeaseState) → lease_state_of names q ≡ Some m → (p : PieceData) × (piece_at ids m.id ≡ Some p)
+      × (p.name ≡ q.name)
+
+-- the first free piece is put on lease
+pub record LeasesFirst (es : List OutstandingData) (id : ℕ) (p : PieceData) (fs : List OutstandingData) : Type 0 where
+  pub there : outstanding_at id es ≡ Some (record { id = id; piece = p; leased = false })
+  pub first : IsFirstFree p.name es
+  pub after : fs ≡ map (with_lease_at id true) es

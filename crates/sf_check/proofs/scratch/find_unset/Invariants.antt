@@ -1,0 +1,5 @@
+use Rattle.sf_check.proofs.MaskLemmas.{Known}
+use Rattle.sf_check.proofs.scratch.find_unset.Given as goal
+
+abbrev pub invariant-loop-place : goal.invariant-loop-place
+invariant-loop-place l = Known l.code l.masks l.place

@@ -1,0 +1,50 @@
+-- What entering a sheet does to a seat.
+use Rattle.std.specs.Prelude.{◌≡◌, true, ℕ, ◌<◌, ◌≤◌, ◌⊎◌, List, [], ◌∷◌, length, Option, Some, None}
+use Rattle.sf_ask.specs.declared.verdict.Verdict.{Verdict}
+use Rattle.sf_ask.specs.Sheets.{SheetData, verdict_at, is_hit, is_doubt, is_skipped}
+use Rattle.sf_crew.specs.declared.view.BoardKey.{BoardKey}
+use Rattle.sf_crew.specs.declared.view.Note.{Note}
+use Rattle.sf_crew.specs.declared.view.View.{View}
+use Rattle.sf_crew.specs.Views.{regions_of, questions_of, Noted, has, entered_sheet}
+use Rattle.sf_crew.specs.BoardSteps.{view_of}
+
+-- the verdict on question q is a hit
+abbrev pub IsHit : List (Option Verdict) → ℕ → Type 0
+IsHit vs q = is_hit (verdict_at vs q) ≡ true
+
+-- the verdict on question q is a doubt
+abbrev pub IsDoubt : List (Option Verdict) → ℕ → Type 0
+IsDoubt vs q = is_doubt (verdict_at vs q) ≡ true
+
+-- there is no verdict on question q
+abbrev pub IsSkipped : List (Option Verdict) → ℕ → Type 0
+IsSkipped vs q = is_skipped (verdict_at vs q) ≡ true
+
+-- the doubts of the first n verdicts are marked, and nothing else is new
+pub record MarksDoubts (vs : List (Option Verdict)) (n : ℕ) (old new : List ℕ) : Type 0 where
+  pub more : (q : ℕ) → has q old ≤ has q new
+  pub doubts : (q : ℕ) → q < n → IsDoubt vs q → has q new ≡ 1
+  pub only : (q : ℕ) → has q new ≡ 1 → (has q old ≡ 1) ⊎ IsDoubt vs q
+
+-- the questions that a sheet has a doubt for
+abbrev pub AreDoubts : SheetData → List ℕ → Type 0
+AreDoubts s qs = MarksDoubts s.verdicts (length s.questions) [] qs
+
+-- the hits of the first n verdicts are noted at the job, and nothing else is new
+pub record NotesHits (vs : List (Option Verdict)) (job n : ℕ) (old new : List Note) : Type 0 where
+  pub more : (q r : ℕ) → Noted old q r → Noted new q r
+  pub hits : (q : ℕ) → q < n → IsHit vs q → Noted new q job
+  pub only : (q r : ℕ) → Noted new q r → Noted old q r ⊎ ((r ≡ job) × IsHit vs q)
+
+-- the sheet is of the board's regions and questions, for the job that the seat owes, and skips only questions for which
+-- the seat has seen a lower place
+pub record IsSheetFor (k : BoardKey) (v : View) (s : SheetData) : Type 0 where
+  pub regions : s.settled ≡ regions_of k
+  pub questions : s.questions ≡ questions_of k
+  pub job : v.owes ≡ Some s.job
+  pub skips : (q : ℕ) → q < length (questions_of k) → IsSkipped s.verdicts q → (r : ℕ) × Noted v.notes q r × (r < s.job)
+
+-- the seat owes nothing more, has entered one more sheet, and has noted the hits
+abbrev pub Enters : View → SheetData → View → Type 0
+Enters v s w = (ds : List ℕ) × AreDoubts s ds × NotesHits s.verdicts s.job (length s.questions) v.notes w.notes
+    × (w ≡ view_of v.about v.joined_seats v.exhausted_seats None [] (entered_sheet s.job ds ∷ v.entered_sheets) w.notes)

@@ -1,0 +1,55 @@
+-- Turns of a worker, and where an exploration ends.
+use Rattle.std.specs.Prelude.{◌≡◌, ℕ, ◌+◌, ◌*◌, ◌<◌, ◌≤◌, ◌↔◌, List, [], All, length, true, false, Option, Some, None, ◌⊎◌}
+use Rattle.std.specs.Arc.{arc_value}
+use Rattle.sf_book.specs.Books.{OutstandingData, BookData, IsSettled}
+use Rattle.sf_check.specs.declared.insn.Insn.{Insn}
+use Rattle.sf_run.specs.Feasible.{feasible_traces}
+use Rattle.sf_book.specs.Changes.{outstanding_at, without}
+use Rattle.sf_book.specs.declared.book.Lease.{Lease}
+use Rattle.sf_book.specs.Exact.{IsWorkedOff}
+
+-- nothing is outstanding, or all commits are spent
+abbrev pub IsExhausted : BookData → Type 0
+IsExhausted b = (b.outstanding ≡ []) ⊎ (b.commits ≡ b.budget)
+
+-- no piece is on lease
+abbrev pub IsFree : List OutstandingData → Type 0
+IsFree es = All (λ e. e.leased ≡ false) es
+
+-- of the same stack and budget
+pub record IsSameExploration (b c : BookData) : Type 0 where
+  pub stack : c.stack ≡ b.stack
+  pub budget : c.budget ≡ b.budget
+
+-- the lease's piece is on lease under its id, and no other piece is
+pub record IsOnlyLease (b : BookData) (x : Lease) : Type 0 where
+  pub there : outstanding_at x.id b.outstanding ≡ Some (record { id = x.id; piece = arc_value x.piece; leased = true })
+  pub others : IsFree (without x.id b.outstanding)
+
+-- no piece is on lease but that of this lease, if there is one
+abbrev pub HasOnly : BookData → Option Lease → Type 0
+HasOnly b None = IsFree b.outstanding
+HasOnly b (Some x) = IsOnlyLease b x
+
+-- the lease's piece may be worked, and its work committed
+pub record MayWork (b : BookData) (x : Lease) : Type 0 where
+  pub lease : IsOnlyLease b x
+  pub room : b.commits < b.budget
+
+-- one commit more, and no piece is on lease but that of the lease that is left, if there is one
+pub record GoesOn (b : BookData) (left : Option Lease) (c : BookData) : Type 0 where
+  pub commits : c.commits ≡ b.commits + 1
+  pub only : HasOnly c left
+
+-- the end of an exploration of the stack with the budget
+pub record IsExplorationOf (stack : List (List Insn)) (budget : ℕ) (s : BookData) : Type 0 where
+  pub settled : IsSettled s
+  pub of : s.stack ≡ stack
+  pub with : s.budget ≡ budget
+  pub end : IsExhausted s
+
+-- The end of an exploration of a plain stack: nothing is outstanding exactly where the budget is enough for its
+-- feasible traces, and then these are what was found.
+pub record IsExactExploration (stack : List (List Insn)) (budget : ℕ) (s : BookData) : Type 0 where
+  pub enough : (s.outstanding ≡ []) ↔ (2 * length (feasible_traces stack) ≤ budget + 1)
+  pub worked : s.outstanding ≡ [] → IsWorkedOff s (feasible_traces stack)

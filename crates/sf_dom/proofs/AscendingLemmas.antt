@@ -1,0 +1,72 @@
+-- A number looked for in an ascending list, and put into it.
+use Rattle.std.proofs.Common.{◌≡◌, ℕ, ◌+◌, ◌-◌, ◌<◌, ◌≤◌, ◌↔◌, ◌⊎◌, List, length, get_or, IsTrue, arith, refl, sym, ap, ◌∙◌, inl, inr}
+use Rattle.std.proofs.lemmas.Bool.{cases_lt, cases_order, false≢true}
+use Rattle.std.proofs.lemmas.List.{get_or_default}
+use Rattle.std.proofs.lemmas.List.Edits.{length-insert, get_or-insert_below, get_or-insert_at, get_or-insert_above}
+use Rattle.std.proofs.lemmas.List.Sorted.{searched, IsNonDecreasingBy-insert, IsNonDecreasingBy-from_default}
+use Rattle.std.specs.List.{insert}
+use Rattle.std.specs.List.Sorted.{IsBinarySearchResult}
+use Rattle.std.specs.Ordering.{nat_cmp}
+use Rattle.std.specs.Prelude.{Contains, Result, Ok, Err}
+use Rattle.std.specs.Result.{is_ok}
+use Rattle.sf_dom.specs.Ascending.{AreAscending}
+
+-- what is not at a place where a number would stand is nowhere
+absent : (xs : List ℕ) (n at : ℕ) → ((k : ℕ) → k < at → get_or xs k 0 < n)
+    → ((k : ℕ) → at ≤ k → k < length xs → n < get_or xs k 0) → ¬ Contains xs n
+absent xs n at below above w =
+    let here : get_or xs w.0 0 ≡ n = get_or_default xs w.0 0 n w.1 ∙ w.2 in
+    elim (cases_lt w.0 at) [
+      | inl l ↦ absurd (omega (arith, below w.0 l, here))
+      | inr g ↦ absurd (omega (arith, above w.0 g w.1, here))
+    ]
+
+pub stands : (xs : List ℕ) (n : ℕ) (r : Result ℕ ℕ) → AreAscending xs → IsBinarySearchResult (λ y. nat_cmp y n) xs r
+    → IsTrue (is_ok r) ↔ Contains xs n
+stands xs n (Ok i) rising found =
+    let at = searched xs n (Ok i) found rising in
+    ((λ _. (i, at.0, get_or_default xs i n 0 at.0 ∙ at.1)), (λ _. refl))
+stands xs n (Err i) rising found =
+    let at = searched xs n (Err i) found rising in
+    ((λ t. absurd (false≢true t)), (λ w. absurd (absent xs n i at.1 at.2 w)))
+
+pub inserted-rising : (xs : List ℕ) (n at : ℕ) → AreAscending xs → IsBinarySearchResult (λ y. nat_cmp y n) xs (Err at)
+    → AreAscending (insert xs at n)
+inserted-rising xs n at rising found i j le l =
+    let place = searched xs n (Err at) found rising in
+    IsNonDecreasingBy-insert (λ x. x) xs at n (IsNonDecreasingBy-from_default (λ x. x) xs 0 rising) place.0
+    (λ k d b. let p = place.0 in omega (arith, place.1 k b, get_or_default xs k 0 d (omega arith)))
+    (λ k d a b. omega (arith, place.2 k a b, get_or_default xs k 0 d b)) i j 0 le l
+
+pub inserted-numbers : (xs : List ℕ) (n at m : ℕ) → at ≤ length xs → Contains (insert xs at n) m
+    ↔ (Contains xs m ⊎ (m ≡ n))
+inserted-numbers xs n at m le = (there, back)
+  where
+    long : length (insert xs at n) ≡ length xs + 1
+    long = length-insert xs at n le
+
+    there : Contains (insert xs at n) m → Contains xs m ⊎ (m ≡ n)
+    there w = elim (cases_order w.0 at) [
+      | inl e ↦ inr (sym w.2 ∙ ap (λ k. get_or (insert xs at n) k m) e ∙ get_or-insert_at xs at n m le)
+      | inr o ↦ elim o [
+        | inl b ↦ inl (w.0, omega arith, sym (get_or-insert_below xs at n m w.0 b le) ∙ w.2)
+        | inr a ↦
+            let back : w.0 - 1 + 1 ≡ w.0 = omega arith in
+            let within = w.1 in
+            inl (
+              w.0 - 1,
+              omega (arith, long),
+              sym (get_or-insert_above xs at n m (w.0 - 1) (omega arith) le)
+                  ∙ ap (λ k. get_or (insert xs at n) k m) back ∙ w.2,
+            )
+      ]
+    ]
+
+    back : Contains xs m ⊎ (m ≡ n) → Contains (insert xs at n) m
+    back s = elim s [
+      | inl w ↦ elim (cases_lt w.0 at) [
+        | inl b ↦ (w.0, omega (arith, long, w.1), get_or-insert_below xs at n m w.0 b le ∙ w.2)
+        | inr a ↦ (w.0 + 1, omega (arith, long, w.1), get_or-insert_above xs at n m w.0 a le ∙ w.2)
+      ]
+      | inr e ↦ (at, omega (arith, long), get_or-insert_at xs at n m le ∙ sym e)
+    ]

@@ -1,0 +1,316 @@
+use Rattle.std.proofs.Common.{◌≡◌, ◌≢◌, ℕ, ◌<◌, ◌↔◌, List, [], ◌++◌, length, take, drop, set, Bool, true, false, arith, refl, sym, ap, ◌∙◌, ◌⊎◌, inl, inr}
+use Rattle.std.proofs.lemmas.Bool.{cases_eq}
+use Rattle.std.proofs.lemmas.List.{get_or-set_same, get_or-set_other, drop_all, append-nil, take_all}
+use Rattle.std.specs.Prelude.{Option, Some, None, MatchOption, MatchBool, Contains, slice_index}
+use Rattle.sf_insn.specs.Inputs.{IsInput}
+use Rattle.sf_insn.specs.Words.{apply}
+use Rattle.sf_insn.specs.declared.ops.BinOp.{BinOp}
+use Rattle.sf_insn.specs.declared.ops.BinOp.TheVariants.{Add, Sub, Mul, Div, Or, And, Lsh, Rsh, Xor}
+use Rattle.sf_sym.specs.Pool.{IsPool, node_at, node_value, values_of, value_of}
+use Rattle.sf_sym.specs.declared.pool.Node.{Node}
+use Rattle.sf_sym.specs.declared.pool.NodeId.{NodeId}
+use Rattle.sf_sym.specs.declared.pool.Node.TheVariants.{Const, Word, Bin, Neg}
+use Rattle.sf_sym.specs.ValueLaws.{value-node, value-constant}
+use Rattle.std.proofs.lemmas.Nat.{or_comm, and_comm, xor_comm}
+use Rattle.sf_insn.specs.declared.input.Input.{Input}
+use Rattle.sf_dom.specs.declared.known.Known.{Known}
+use Rattle.sf_dom.specs.declared.guards.Pair.{Pair}
+use Rattle.sf_dom.specs.Known.{Admits, Leaves, IsNarrower, IsDecided, IsConsistent, known_of}
+use Rattle.sf_dom.specs.Propagation.{IsReducedNode, IsLeft, AreExcluded, AreBothExcluded, IsAssumed, IsRestricted, IsPropagated, IsSharp, IsMovedPast, Tells, TestGives, AllNarrower, KeepsAgreeing, NoneAgreesWith, KeepsAgreeingOn, NoneAgreesOn, LeavesPair, LeavesNoPair, HasGoneBack, Holds}
+use Rattle.sf_dom.specs.Backward.{IsSwappable, IsPropagatedBack}
+use Rattle.sf_dom.proofs.Propagations.{AllNarrower-trans, word-below, operands-below}
+use Rattle.sf_dom.proofs.GuardLemmas.{gives-differs}
+use Rattle.sf_dom.proofs.Reductions.{IsNarrower-trans}
+use Rattle.sf_dom.specs.FactsLaws.{value-word}
+use Rattle.sf_sym.specs.declared.pool.Cond.{Cond}
+use Rattle.sf_insn.specs.declared.ops.Test.{Test}
+use Rattle.sf_insn.specs.declared.ops.Test.TheVariants.{Equal, Greater, GreaterOrEqual, AnyBit}
+use Rattle.sf_dom.specs.Facts.{known_at, numbers_at, excluded_of, AgreesWith}
+use Rattle.sf_dom.specs.Reduction.{IsMeet, IsReducedWord}
+
+-- a test that lets fewer pairs through
+pub fewer_pairs : (o : Option Pair) (v w : Known) (P Q : ℕ → ℕ → Type 0) → ((x y : ℕ) → Q x y → P x y)
+    → MatchOption o (LeavesNoPair v w P) (λ p. LeavesPair v w p.node p.other P)
+    → MatchOption o (LeavesNoPair v w Q) (λ p. LeavesPair v w p.node p.other Q)
+fewer_pairs None v w P Q f h = λ x y a b q. h x y a b (f x y q)
+fewer_pairs (Some p) v w P Q f h = λ x y a b q. h x y a b (f x y q)
+
+-- a node's knowledge is met with more that holds of its value
+pub met-left : (ks : List Known) (ex : List (List ℕ)) (ns : List Node) (d : Input) (i : ℕ) (more both : Known)
+    → i < length ks → AgreesWith ks ex ns d → Admits more (value_of ns d i) → IsMeet (known_at ks i) more both
+    → Leaves both (excluded_of ex (node_at ns i)) (value_of ns d i)
+met-left ks ex ns d i more both l a h m =
+    let here = a i l in
+    record { admitted = m.both (value_of ns d i) here.admitted h; kept = here.kept }
+
+pub narrower-at : (ks : List Known) (i : ℕ) (more next : Known) → i < length ks → IsNarrower more next
+    → IsNarrower more (known_at (set ks i next) i)
+narrower-at ks i more next l h = rw (get_or-set_same ks i next (known_of 0 0 0 0) l) h
+
+-- a word's facts as those of its node
+pub word-node : (o : Option Known) (k : Known) (ex : List (List ℕ)) (i : ℕ)
+    → MatchOption o ((n : ℕ) → ¬ Leaves k (numbers_at ex i) n) (λ r. IsReducedWord k r (numbers_at ex i))
+    → MatchOption o ((n : ℕ) → ¬ Leaves k (excluded_of ex (Word i)) n) (λ r. IsReducedNode k r ex (Word i))
+word-node None k ex i h = h
+word-node (Some r) k ex i h = record {
+  same = h.same;
+  narrower = h.narrower;
+  consistent = h.consistent;
+  ones_low = h.ones_low;
+  high_zeros = h.high_zeros;
+  tight = λ j e. let same : i ≡ j = cc in rw same at h.tight;
+}
+
+-- what is left of a node whose facts are met with what is told
+pub left-of : (o : Option Known) (ks : List Known) (ex : List (List ℕ)) (ns : List Node) (i : ℕ) (more met : Known)
+    → i < length ks → IsMeet (known_at ks i) more met
+    → MatchOption o ((n : ℕ) → ¬ Leaves met (excluded_of ex (node_at ns i)) n)
+    (λ r. IsReducedNode met r ex (node_at ns i))
+    → MatchOption o (NoneAgreesOn ks ex ns (λ d. Admits more (value_of ns d i))) (λ next. IsLeft ks ex ns i more next)
+left-of None ks ex ns i more met l m h = λ d p a t. h (value_of ns d i) (met-left ks ex ns d i more met l a t m)
+left-of (Some r) ks ex ns i more met l m h = record {
+  kept = λ d p a t. h.same (value_of ns d i) (met-left ks ex ns d i more met l a t m);
+  narrower = IsNarrower-trans (known_at ks i) met r m.left h.narrower;
+  told = IsNarrower-trans more met r m.right h.narrower;
+  consistent = h.consistent;
+}
+
+-- the values of a condition's nodes are left by its test
+pub values-left : (ks : List Known) (ex : List (List ℕ)) (ns : List Node) (cond : Cond) (v' w' : Known)
+    → cond.node.0 < length ks → cond.other.0 < length ks
+    → LeavesPair (known_at ks cond.node.0) (known_at ks cond.other.0) v' w' (λ x y. TestGives cond.test x y cond.sense)
+    → (d : Input) → IsInput d → AgreesWith ks ex ns d → Holds ns cond d → Admits v' (value_of ns d cond.node.0)
+    × Admits w' (value_of ns d cond.other.0)
+values-left ks ex ns cond v' w' lv lw pair d p a h =
+    pair (value_of ns d cond.node.0) (value_of ns d cond.other.0) (a cond.node.0 lv).admitted
+    (a cond.other.0 lw).admitted h
+
+-- a vector whose items were all written through a slice
+pub written_back : {X : Type 0} (xs ys : List X) (n : ℕ) → length xs ≡ length ys → n ≡ length ys
+    → take n (xs ++ drop (length xs) ys) ≡ xs
+written_back xs ys n e f = rw (drop_all (length xs) ys (omega arith), append-nil xs) (take_all n xs (omega arith))
+
+pub apply-swap : (op : BinOp) (a b : ℕ) → IsSwappable op → apply op a b ≡ apply op b a
+apply-swap Add a b s = elim s [ ]
+apply-swap Sub a b s = elim s [ ]
+apply-swap Mul a b s = elim s [ ]
+apply-swap Div a b s = elim s [ ]
+apply-swap Or a b s = or_comm a b
+apply-swap And a b s = and_comm a b
+apply-swap Lsh a b s = elim s [ ]
+apply-swap Rsh a b s = elim s [ ]
+apply-swap Xor a b s = xor_comm a b
+
+-- the value of a node that has a constant operand
+pub value-right : (ns : List Node) (d : Input) (i : ℕ) (op : BinOp) (a b : NodeId) (c : ℕ) → IsPool ns → i < length ns
+    → b.0 < length ns
+    → node_at ns i ≡ Bin op a b → node_at ns b.0 ≡ Const c → value_of ns d i ≡ apply op (value_of ns d a.0) c
+value-right ns d i op a b c p l lb e k =
+    value-node ns d i p l ∙ ap (node_value d (values_of ns d)) e
+    ∙ ap (apply op (value_of ns d a.0)) (value-constant ns d b.0 c p lb k)
+
+pub value-left : (ns : List Node) (d : Input) (i : ℕ) (op : BinOp) (a b : NodeId) (c : ℕ) → IsPool ns → i < length ns
+    → a.0 < length ns → IsSwappable op
+    → node_at ns i ≡ Bin op a b → node_at ns a.0 ≡ Const c → value_of ns d i ≡ apply op (value_of ns d b.0) c
+value-left ns d i op a b c p l la s e k =
+    value-node ns d i p l ∙ ap (node_value d (values_of ns d)) e
+    ∙ apply-swap op (value_of ns d a.0) (value_of ns d b.0) s
+    ∙ ap (apply op (value_of ns d b.0)) (value-constant ns d a.0 c p la k)
+
+-- the operand of a node with more bits known
+pub walked : (ks : List Known) (ex : List (List ℕ)) (ns : List Node) (d : Input) (i x c : ℕ) (op : BinOp)
+    (gained : Known)
+    → i < length ks → x < length ks → AgreesWith ks ex ns d → value_of ns d i ≡ apply op (value_of ns d x) c
+    → ((n : ℕ) → Admits (known_at ks x) n → Admits (known_at ks i) (apply op n c) → Admits gained n)
+    → Leaves gained (excluded_of ex (node_at ns x)) (value_of ns d x)
+walked ks ex ns d i x c op gained li lx a e g =
+    record { admitted = g (value_of ns d x) (a x lx).admitted (rw e at (a i li).admitted); kept = (a x lx).kept }
+
+-- the number of a decided node is excluded for a word
+pub excluded-word : (ex : List (List ℕ)) (i : ℕ) (xs : List ℕ) (n : Node) (other : Known) → i < 16 → length ex ≡ 16
+    → n ≡ Word i → IsDecided other
+    → ((m : ℕ) → Contains xs m ↔ (Contains (numbers_at ex i) m ⊎ (m ≡ other.low)))
+    → AreExcluded ex (set ex i xs) n other
+excluded-word ex i xs n other l len e d h = record {
+  more = λ j m lj k. elim (cases_eq j i) [
+    | inl s ↦ rw (s, get_or-set_same ex i xs [] (omega arith)) ((h m).1 (inl (rw s at k)))
+    | inr ne ↦ rw (get_or-set_other ex i j xs [] ne) k
+  ];
+  only = λ j m lj k. elim (cases_eq j i) [
+    | inl s ↦ (elim ((h m).0 (rw (s, get_or-set_same ex i xs [] (omega arith)) at k)) [
+      | inl old ↦ inl (rw s old)
+      | inr new ↦ inr (e ∙ ap Word (sym s), d, new)
+    ])
+    | inr ne ↦ inl (rw (get_or-set_other ex i j xs [] ne) at k)
+  ];
+  added = λ j f dd. let s : i ≡ j = cc in rw (← s, get_or-set_same ex i xs [] (omega arith))
+      ((h other.low).1 (inr refl));
+}
+
+-- a number that is not the excluded one stays
+pub kept-still : (ex ex' : List (List ℕ)) (n m : Node) (other : Known) (v : ℕ) → AreExcluded ex ex' n other
+    → ((i : ℕ) → m ≡ Word i → i < 16)
+    → ((i : ℕ) → m ≡ Word i → n ≡ Word i → IsDecided other → v ≢ other.low) → ¬ Contains (excluded_of ex m) v
+    → ¬ Contains (excluded_of ex' m) v
+kept-still ex ex' n (Const c) other v h b ne k w = k w
+kept-still ex ex' n (Bin op x y) other v h b ne k w = k w
+kept-still ex ex' n (Neg x) other v h b ne k w = k w
+kept-still ex ex' n (Word i) other v h b ne k w = elim (h.only i v (b i refl) w) [
+  | inl old ↦ k old
+  | inr new ↦ ne i refl new.0 new.1 new.2
+]
+
+-- the value of a decided node
+pub decided-value : (k : Known) (v : ℕ) → Admits k v → IsDecided k → v ≡ k.low
+decided-value k v h d = let a = h.above in let b = h.below in omega arith
+
+-- an input on which two nodes differ agrees still where the number of the one is excluded for the other
+pub exclude-keeps : (ks : List Known) (ex ex' : List (List ℕ)) (ns : List Node) (d : Input) (v w : ℕ) → IsPool ns
+    → length ks ≡ length ns → v < length ks → w < length ks
+    → AreExcluded ex ex' (node_at ns v) (known_at ks w) → value_of ns d v ≢ value_of ns d w
+    → Admits (known_at ks w) (value_of ns d w)
+    → AgreesWith ks ex ns d → AgreesWith ks ex' ns d
+exclude-keeps ks ex ex' ns d v w p len lv lw h ne adm a j lj =
+    record {
+      admitted = (a j lj).admitted;
+      kept = kept-still ex ex' (node_at ns v) (node_at ns j) (known_at ks w) (value_of ns d j) h
+          (word-below j (node_at ns j) (operands-below ns j p (omega arith)))
+          (λ i e f dec same.
+          let here : value_of ns d j ≡ value_of ns d v = value-node ns d j p (omega arith)
+          ∙ ap (node_value d (values_of ns d)) (e ∙ sym f) ∙ sym (value-node ns d v p (omega arith)) in
+          ne (sym here ∙ same ∙ sym (decided-value (known_at ks w) (value_of ns d w) adm dec)))
+          (a j lj).kept;
+    }
+
+pub both-excluded : (ks : List Known) (ex mid ex' : List (List ℕ)) (ns : List Node) (cond : Cond) → IsPool ns
+    → length ks ≡ length ns → cond.node.0 < length ks → cond.other.0 < length ks
+    → AreExcluded ex mid (node_at ns cond.node.0) (known_at ks cond.other.0)
+    → AreExcluded mid ex' (node_at ns cond.other.0) (known_at ks cond.node.0)
+    → cond.test ≡ Equal → cond.sense ≡ false → AreBothExcluded ks ex ex' ns cond
+both-excluded ks ex mid ex' ns cond p len lv lw h k et es = record {
+  keeps = λ d input a holds.
+      let differ = gives-differs (value_of ns d cond.node.0) (value_of ns d cond.other.0) (rw (et, es) at holds) in
+      let one = exclude-keeps ks ex mid ns d cond.node.0 cond.other.0 p len lv lw h differ
+      (a cond.other.0 lw).admitted a in
+      exclude-keeps ks mid ex' ns d cond.other.0 cond.node.0 p len lw lv k (λ e. differ (sym e))
+      (a cond.node.0 lv).admitted one;
+  more = λ w m l c. k.more w m l (h.more w m l c);
+  added_other = λ i e dec et2 es2. k.added i e dec;
+  added = λ i e dec et2 es2. k.more i _ (word-below cond.node.0 (node_at ns cond.node.0)
+      (operands-below ns cond.node.0 p (omega arith)) i e) (h.added i e dec);
+}
+
+moved-on : (other old a c : Known) → IsNarrower a c → IsMovedPast other old a → IsMovedPast other old c
+moved-on other old a c n m = record {
+  low = λ d s. omega (arith, n.low, m.low d s);
+  high = λ d s. omega (arith, n.high, m.high d s);
+}
+
+-- what a test tells of two words is told where more is known of them
+pub tells-narrower : (test : Test) (sense : Bool) (v w a b c e : Known) → IsNarrower a c → IsNarrower b e
+    → Tells test sense v w a b → Tells test sense v w c e
+tells-narrower Equal true v w a b c e h k t = (IsNarrower-trans w a c t.0 h, IsNarrower-trans v b e t.1 k)
+tells-narrower Equal false v w a b c e h k t = (moved-on w v a c h t.0, moved-on v w b e k t.1)
+tells-narrower Greater true v w a b c e h k t = (omega (arith, h.low, t.0), omega (arith, k.high, t.1))
+tells-narrower Greater false v w a b c e h k t = (omega (arith, h.high, t.0), omega (arith, k.low, t.1))
+tells-narrower GreaterOrEqual true v w a b c e h k t = (omega (arith, h.low, t.0), omega (arith, k.high, t.1))
+tells-narrower GreaterOrEqual false v w a b c e h k t = (omega (arith, h.high, t.0), omega (arith, k.low, t.1))
+tells-narrower AnyBit true v w a b c e h k t = λ d one i. omega (arith, h.ones i, t d one i)
+tells-narrower AnyBit false v w a b c e h k t = λ d i. omega (arith, h.zeros i, t d i)
+
+-- a condition is taken in, step by step
+pub assume-steps : (o a b c e : List Known) (ex : List (List ℕ)) (ns : List Node) (cond : Cond) (v' w' : Known)
+    → length o ≡ length ns → length a ≡ length ns → length b ≡ length ns → length c ≡ length ns → length e ≡ length ns
+    → cond.node.0 < length ns → cond.other.0 < length ns
+    → ((d : Input) → IsInput d → AgreesWith o ex ns d → Holds ns cond d → Admits v' (value_of ns d cond.node.0)
+    × Admits w' (value_of ns d cond.other.0))
+    → KeepsAgreeingOn o a ex ns (λ d. Admits v' (value_of ns d cond.node.0)) × AllNarrower o a
+    × IsNarrower v' (known_at a cond.node.0)
+    → KeepsAgreeingOn a b ex ns (λ d. Admits w' (value_of ns d cond.other.0)) × AllNarrower a b
+    × IsNarrower w' (known_at b cond.other.0)
+    → KeepsAgreeing b c ex ns × AllNarrower b c
+    → KeepsAgreeing c e ex ns × AllNarrower c e
+    → ((n : List Known) → IsPropagated e n ex ns → (KeepsAgreeingOn o n ex ns (Holds ns cond)) × AllNarrower o n
+    × IsNarrower v' (known_at n cond.node.0) × IsNarrower w' (known_at n cond.other.0))
+assume-steps o a b c e ex ns cond v' w' lo la lb lc le lv lw pair s1 s2 w1 w2 n propagate =
+    let bn = AllNarrower-trans b c n (omega arith) w1.1 (AllNarrower-trans c e n (omega arith) w2.1 propagate.narrower) in
+    let an = AllNarrower-trans a b n (omega arith) s2.1 bn in (
+      (λ d p agrees h. let q = pair d p agrees h in
+          propagate.keeps d p (w2.0 d p (w1.0 d p (s2.0 d p (s1.0 d p agrees q.0) q.1)))),
+      AllNarrower-trans o a n (omega arith) s1.1 an,
+      IsNarrower-trans v' (known_at a cond.node.0) (known_at n cond.node.0) s1.2 (an cond.node.0 (omega arith)),
+      IsNarrower-trans w' (known_at b cond.other.0) (known_at n cond.other.0) s2.2 (bn cond.other.0 (omega arith)),
+    )
+
+pub assumed-all : (r : Bool) (o a b c e n : List Known) (ex : List (List ℕ)) (ns : List Node)
+    (cond : Cond) (v' w' : Known)
+    → length o ≡ length ns → length a ≡ length ns → length b ≡ length ns → length c ≡ length ns → length e ≡ length ns
+    → cond.node.0 < length ns → cond.other.0 < length ns
+    → ((d : Input) → IsInput d → AgreesWith o ex ns d → Holds ns cond d → Admits v' (value_of ns d cond.node.0)
+    × Admits w' (value_of ns d cond.other.0))
+    → KeepsAgreeingOn o a ex ns (λ d. Admits v' (value_of ns d cond.node.0)) × AllNarrower o a
+    × IsNarrower v' (known_at a cond.node.0)
+    → KeepsAgreeingOn a b ex ns (λ d. Admits w' (value_of ns d cond.other.0)) × AllNarrower a b
+    × IsNarrower w' (known_at b cond.other.0)
+    → KeepsAgreeing b c ex ns × AllNarrower b c
+    → KeepsAgreeing c e ex ns × AllNarrower c e
+    → Tells cond.test cond.sense (known_at o cond.node.0) (known_at o cond.other.0) v' w'
+    → ((m : ℕ) → IsPropagatedBack m c ns cond.node.0) → ((m : ℕ) → IsPropagatedBack m e ns cond.other.0)
+    → (IsDecided (known_at o cond.other.0) → IsSharp cond.test cond.sense (known_at o cond.other.0).low → (x : ℕ)
+    → Admits v' x → TestGives cond.test x (known_at o cond.other.0).low cond.sense)
+    → (IsConsistent (known_at o cond.node.0) → IsDecided (known_at o cond.node.0) → IsDecided (known_at o cond.other.0)
+    → (x : ℕ) → Admits v' x → TestGives cond.test x (known_at o cond.other.0).low cond.sense)
+    → MatchBool r (IsPropagated e n ex ns) (NoneAgreesWith e ex ns)
+    → MatchBool r (IsAssumed o n ex ns cond) (NoneAgreesOn o ex ns (Holds ns cond))
+assumed-all true o a b c e n ex ns cond v' w' lo la lb lc le lv lw pair s1 s2 w1 w2 tells b1 b2 sharp decided propagate =
+    let k = assume-steps o a b c e ex ns cond v' w' lo la lb lc le lv lw pair s1 s2 w1 w2 n propagate in
+    let back : (at : ℕ) (m : List Known) → length m ≡ length ns → AllNarrower b m → AllNarrower m n
+    → ((j : ℕ) → IsPropagatedBack j m ns at) → HasGoneBack o n ns cond at
+    = λ at m lm bm mn walks.
+    let am = AllNarrower-trans a b m (omega arith) s2.1 bm in
+    record {
+      between = m;
+      count = lm;
+      before = AllNarrower-trans o a m (omega arith) s1.1 am;
+      tells = tells-narrower cond.test cond.sense (known_at o cond.node.0) (known_at o cond.other.0) v' w'
+          (known_at m cond.node.0) (known_at m cond.other.0)
+          (IsNarrower-trans v' (known_at a cond.node.0) (known_at m cond.node.0) s1.2 (am cond.node.0 (omega arith)))
+          (IsNarrower-trans w' (known_at b cond.other.0) (known_at m cond.other.0) s2.2
+          (bm cond.other.0 (omega arith))) tells;
+      walked = walks;
+      after = mn;
+    } in
+    record {
+      count = propagate.count;
+      keeps = k.0;
+      narrower = k.1;
+      passed = propagate.passed;
+      tells = tells-narrower cond.test cond.sense (known_at o cond.node.0) (known_at o cond.other.0) v' w'
+          (known_at n cond.node.0) (known_at n cond.other.0) k.2 k.3 tells;
+      back_node = back cond.node.0 c lc w1.1 (AllNarrower-trans c e n (omega arith) w2.1 propagate.narrower) b1;
+      back_other = back cond.other.0 e le (AllNarrower-trans b c e (omega arith) w1.1 w2.1) propagate.narrower b2;
+      sharp = λ d s x h. sharp d s x (k.2.numbers x h);
+      decided = λ s d1 d2 x h. decided s d1 d2 x (k.2.numbers x h);
+    }
+assumed-all false o a b c e n ex ns cond v' w' lo la lb lc le lv lw pair s1 s2 w1 w2 tells b1 b2 sharp decided none =
+    λ d p agrees h.
+    let q = pair d p agrees h in none d p (w2.0 d p (w1.0 d p (s2.0 d p (s1.0 d p agrees q.0) q.1)))
+
+-- a word's facts are restricted, and forward propagation follows
+pub restricted-all : (r : Bool) (o a n : List Known) (ex : List (List ℕ)) (ns : List Node) (w : ℕ) (more : Known)
+    → IsPool ns → w < 16
+    → length o ≡ length ns → length a ≡ length ns
+    → KeepsAgreeingOn o a ex ns (λ d. Admits more (value_of ns d w)) × AllNarrower o a × IsNarrower more (known_at a w)
+    → MatchBool r (IsPropagated a n ex ns) (NoneAgreesWith a ex ns)
+    → MatchBool r (IsRestricted o n ex ns w more) (NoneAgreesOn o ex ns (λ d. Admits more (slice_index d.words w)))
+restricted-all true o a n ex ns w more p lw lo la s propagate =
+    let words = p.words in
+    record {
+      count = propagate.count;
+      keeps = λ d i agrees h. propagate.keeps d i (s.0 d i agrees (rw (value-word ns d w p lw) h));
+      narrower = AllNarrower-trans o a n (omega arith) s.1 propagate.narrower;
+      word = IsNarrower-trans more (known_at a w) (known_at n w) s.2 (propagate.narrower w (omega arith));
+      passed = propagate.passed;
+    }
+restricted-all false o a n ex ns w more p lw lo la s none =
+    λ d i agrees h. none d i (s.0 d i agrees (rw (value-word ns d w p lw) h))

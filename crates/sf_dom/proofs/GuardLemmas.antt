@@ -1,0 +1,25 @@
+use Rattle.std.proofs.Common.{◌≢◌, ℕ, ◌<◌, ◌≤◌, arith, sym, ◌∙◌, inl, inr}
+use Rattle.std.proofs.lemmas.Bool.{cases_lt, false≢true}
+use Rattle.std.proofs.lemmas.Bool.Decides.{Decides-ltb, nat_tests}
+use Rattle.std.specs.Prelude.{true, false}
+use Rattle.sf_insn.specs.declared.ops.Test.TheVariants.{Equal, Greater, GreaterOrEqual}
+use Rattle.sf_dom.specs.Propagation.{TestGives}
+
+pub gives-greater : (x y : ℕ) → TestGives Greater x y true → y < x
+gives-greater x y h = (Decides-ltb y x).0 h
+
+pub gives-not_greater : (x y : ℕ) → TestGives Greater x y false → x ≤ y
+gives-not_greater x y h =
+    elim (cases_lt y x) [ inl l ↦ absurd (false≢true (sym h ∙ (Decides-ltb y x).1 l)) | inr l ↦ l ]
+
+pub gives-at_least : (x y : ℕ) → TestGives GreaterOrEqual x y true → y ≤ x
+gives-at_least x y h = grind (arith, nat_tests)
+
+pub gives-less : (x y : ℕ) → TestGives GreaterOrEqual x y false → x < y
+gives-less x y h = grind (arith, nat_tests)
+
+pub gives-differs : (x y : ℕ) → TestGives Equal x y false → x ≢ y
+gives-differs x y h e = grind (arith, nat_tests)
+
+pub differs-gives : (x y : ℕ) → x ≢ y → TestGives Equal x y false
+differs-gives x y h = grind (arith, nat_tests)

@@ -1,0 +1,316 @@
+use Rattle.std.proofs.Common.{◌≡◌, ◌≢◌, ℕ, ◌<◌, ◌≤◌, ◌-◌, ◌+◌, min, max, List, [], ◌∷◌, ◌++◌, length, set, arith, refl, sym, ap, ◌∙◌, ◌⊎◌, inl, inr}
+use Rattle.std.proofs.lemmas.Bool.{cases_lt, cases_eq}
+use Rattle.std.proofs.lemmas.Nat.{or_comm}
+use Rattle.std.proofs.lemmas.List.{get_or-set_same, get_or-set_other, length-set, get_or_append_left, get_or_push, length_push}
+use Rattle.std.specs.Prelude.{bit_or, Contains, slice_index}
+use Rattle.sf_sym.specs.Pool.{IsPool, node_at, node_value, values_of, value_of}
+use Rattle.sf_sym.specs.declared.pool.Node.{Node}
+use Rattle.sf_insn.specs.declared.input.Input.{Input}
+use Rattle.sf_sym.specs.ValueLaws.{value-node}
+use Rattle.sf_dom.specs.declared.known.Known.{Known}
+use Rattle.sf_dom.specs.Known.{Admits, Leaves, IsNarrower, IsConsistent, IsTight, IsDecided, known_of}
+use Rattle.sf_dom.proofs.Reductions.{narrowed}
+use Rattle.sf_dom.specs.Nodes.{NodesView, IsLaidOut}
+use Rattle.sf_dom.specs.Propagation.{AreConsistentOperands, IsReducedNode, IsReady, IsPropagatedAt, AllNarrower}
+use Rattle.sf_dom.proofs.Reductions.{IsNarrower-trans, IsNarrower-refl}
+use Rattle.sf_sym.specs.Pool.{OperandsBelow}
+use Rattle.sf_sym.specs.declared.pool.Node.TheVariants.{Const, Word, Bin, Neg}
+use Rattle.sf_sym.specs.ValueLaws.{OperandsBelow-at}
+use Rattle.sf_dom.proofs.Bits.{join-bits, bits-le}
+use Rattle.sf_dom.specs.Facts.{known_at, numbers_at, excluded_of, AgreesWith, AreDecidedOperands}
+use Rattle.sf_dom.specs.Reduction.{IsForced, IsMeet}
+
+-- what both know
+pub meet-is : (a b : Known) (low high : ℕ) → low ≡ max a.low b.low → high ≡ min a.high b.high
+    → IsMeet a b (known_of low high (bit_or a.zeros b.zeros) (bit_or a.ones b.ones))
+meet-is a b low high el eh = record {
+  left = narrowed a low high b.zeros b.ones (omega arith) (omega arith);
+  right = rw (or_comm a.zeros b.zeros, or_comm a.ones b.ones)
+      (narrowed b low high a.zeros a.ones (omega arith) (omega arith));
+  both = λ n p q. let x = p.above in let y = p.below in let z = q.above in let w = q.below in
+      record {
+        above = omega arith;
+        below = omega arith;
+        bits = join-bits n a.zeros a.ones b.zeros b.ones p.bits q.bits;
+      };
+}
+
+-- the value of a node is left by what was known of it and by its transfer function
+pub propagate-left : (ks : List Known) (ex : List (List ℕ)) (ns : List Node) (d : Input) (i : ℕ) (by_rule met : Known)
+    → IsPool ns → length ks ≡ length ns → i < length ks → AgreesWith ks ex ns d
+    → Admits by_rule (node_value d (values_of ns d) (node_at ns i))
+    → IsMeet (known_at ks i) by_rule met
+    → Leaves met (excluded_of ex (node_at ns i)) (value_of ns d i)
+propagate-left ks ex ns d i by_rule met p len l a r m =
+    let here = a i l in
+    let e = value-node ns d i p (omega arith) in
+    record {
+      admitted = m.both (value_of ns d i) here.admitted (rw e r);
+      kept = here.kept;
+    }
+
+pub propagate-set : (ks : List Known) (ex : List (List ℕ)) (ns : List Node) (d : Input) (i : ℕ) (next : Known)
+    → i < length ks → AgreesWith ks ex ns d → Leaves next (excluded_of ex (node_at ns i)) (value_of ns d i)
+    → AgreesWith (set ks i next) ex ns d
+propagate-set ks ex ns d i next l a h j lj =
+    elim (cases_eq j i) [
+      | inl e ↦ rw (e, get_or-set_same ks i next (known_of 0 0 0 0) l) h
+      | inr ne ↦ rw (get_or-set_other ks i j next (known_of 0 0 0 0) ne) (a j (omega (arith, length-set ks i next)))
+    ]
+
+-- operands are older
+pub operands-below : (ns : List Node) (i : ℕ) → IsPool ns → i < length ns → OperandsBelow i (node_at ns i)
+operands-below ns i p l = let e : 0 + i ≡ i = omega arith in rw e at (OperandsBelow-at 0 ns i p.ordered l)
+
+pub word-below : (k : ℕ) (n : Node) → OperandsBelow k n → (i : ℕ) → n ≡ Word i → i < 16
+word-below k n o i e = rw e at o
+
+pub OperandsBelow-more : (k m : ℕ) (n : Node) → k ≤ m → OperandsBelow k n → OperandsBelow m n
+OperandsBelow-more k m (Const c) l o = o
+OperandsBelow-more k m (Word i) l o = o
+OperandsBelow-more k m (Bin op a b) l o = let x = o.0 in let y = o.1 in (omega arith, omega arith)
+OperandsBelow-more k m (Neg a) l o = omega arith
+
+pub AreDecidedOperands-same : (ks js : List Known) (k : ℕ) (n : Node) → OperandsBelow k n
+    → ((j : ℕ) → j < k → known_at ks j ≡ known_at js j)
+    → AreDecidedOperands ks n → AreDecidedOperands js n
+AreDecidedOperands-same ks js k (Const c) o e h = h
+AreDecidedOperands-same ks js k (Word i) o e h = h
+AreDecidedOperands-same ks js k (Bin op a b) o e h = (h.0, rw (e a.0 o.0) at h.1, rw (e b.0 o.1) at h.2)
+AreDecidedOperands-same ks js k (Neg a) o e h = rw (e a.0 o) at h
+
+pub consistent-operands : (ks : List Known) (k : ℕ) (n : Node) → OperandsBelow k n
+    → ((j : ℕ) → j < k → IsConsistent (known_at ks j)) → AreConsistentOperands ks n
+consistent-operands ks k (Const c) o h = tt
+consistent-operands ks k (Word i) o h = tt
+consistent-operands ks k (Bin op a b) o h = (h a.0 o.0, h b.0 o.1)
+consistent-operands ks k (Neg a) o h = h a.0 o
+
+-- what was propagated stays so where nothing up to it is changed
+pub IsPropagatedAt-same : (ks js : List Known) (ex : List (List ℕ)) (ns : List Node) (k : ℕ) → IsPool ns → k < length ns
+    → ((j : ℕ) → j ≤ k → known_at ks j ≡ known_at js j) → IsPropagatedAt ks ex ns k → IsPropagatedAt js ex ns k
+IsPropagatedAt-same ks js ex ns k p l e h =
+    let here : known_at ks k ≡ known_at js k = e k (omega arith) in
+    let lower = operands-below ns k p l in
+    record {
+      consistent = rw here at h.consistent;
+      tight = λ b. rw here at (h.tight b);
+      decided = λ o.
+          rw here at (h.decided (AreDecidedOperands-same js ks k (node_at ns k) lower
+          (λ j b. sym (e j (omega arith))) o));
+      constant = λ c n. rw here at (h.constant c n);
+    }
+
+pub forced-decided : (r met next : Known) (ex : List (List ℕ)) (n : Node) → IsNarrower r met → IsReducedNode met next ex n
+    → IsForced r → IsDecided next
+forced-decided r met next ex n h t f =
+    let a = h.low in let b = h.high in let c = bits-le r.zeros met.zeros h.zeros in
+    let d = bits-le r.ones met.ones h.ones in
+    let a2 = t.narrower.low in let b2 = t.narrower.high in
+    let c2 = bits-le met.zeros next.zeros t.narrower.zeros in let d2 = bits-le met.ones next.ones t.narrower.ones in
+    let o = t.consistent.ordered in let ol = t.ones_low in let hz = t.high_zeros in
+    elim f [ inl l ↦ omega arith | inr l ↦ omega arith ]
+
+-- a node that forward propagation has just gone over
+pub IsPropagatedAt-new : (ks : List Known) (ex : List (List ℕ)) (ns : List Node) (i : ℕ) (r met next : Known) → IsPool ns
+    → known_at ks i ≡ next
+    → (AreDecidedOperands ks (node_at ns i) → IsForced r)
+    → ((c : ℕ) → node_at ns i ≡ Const c → (r.low ≡ c) × (r.high ≡ c))
+    → IsNarrower r met → IsReducedNode met next ex (node_at ns i) → IsPropagatedAt ks ex ns i
+IsPropagatedAt-new ks ex ns i r met next p e forced constant h t = record {
+  consistent = rw e t.consistent;
+  tight = λ b. rw e (t.tight i (p.word i b));
+  decided = λ o. rw e (forced-decided r met next ex (node_at ns i) h t (forced o));
+  constant = λ c n.
+      let k = constant c n in
+      let a = h.low in let b = h.high in
+      let a2 = t.narrower.low in let b2 = t.narrower.high in
+      let o = t.consistent.ordered in
+      rw e (omega arith, omega arith);
+}
+
+-- one step of forward propagation
+pub passed-set : (ks : List Known) (ex : List (List ℕ)) (ns : List Node) (i : ℕ) (r met next : Known) → IsPool ns
+    → length ks ≡ length ns → i < length ks
+    → ((k : ℕ) → k < i → IsPropagatedAt ks ex ns k)
+    → (AreConsistentOperands ks (node_at ns i) → AreDecidedOperands ks (node_at ns i) → IsForced r)
+    → ((c : ℕ) → node_at ns i ≡ Const c → (r.low ≡ c) × (r.high ≡ c))
+    → IsNarrower r met → IsReducedNode met next ex (node_at ns i) → (k : ℕ) → k < i + 1 → IsPropagatedAt (set ks i next) ex ns k
+passed-set ks ex ns i r met next p len l older forced constant h t k lk =
+    let same : (j : ℕ) → j < i → known_at ks j ≡ known_at (set ks i next) j
+    = λ j b. sym (get_or-set_other ks i j next (known_of 0 0 0 0) (λ e. absurd (omega arith))) in
+    let lower = operands-below ns i p (omega arith) in
+    elim (cases_lt k i) [
+      | inl b ↦ IsPropagatedAt-same ks (set ks i next) ex ns k p (omega arith) (λ j c. same j (omega arith)) (older k b)
+      | inr g ↦ (let e : k ≡ i = omega arith in
+          rw e (IsPropagatedAt-new (set ks i next) ex ns i r met next p (get_or-set_same ks i next (known_of 0 0 0 0) l)
+          (λ o. forced (consistent-operands ks i (node_at ns i) lower (λ j b. (older j b).consistent))
+          (AreDecidedOperands-same (set ks i next) ks i (node_at ns i) lower (λ j b. sym (same j b)) o))
+          constant h t))
+    ]
+
+pub AllNarrower-set : (old ks : List Known) (i : ℕ) (next : Known) → length old ≡ length ks → i < length ks
+    → AllNarrower old ks → IsNarrower (known_at ks i) next → AllNarrower old (set ks i next)
+AllNarrower-set old ks i next len l h n j b =
+    elim (cases_eq j i) [
+      | inl e ↦ rw (e, get_or-set_same ks i next (known_of 0 0 0 0) l)
+          (IsNarrower-trans (known_at old i) (known_at ks i) next (h i (omega arith)) n)
+      | inr ne ↦ rw (get_or-set_other ks i j next (known_of 0 0 0 0) ne) (h j b)
+    ]
+
+pub AllNarrower-refl : (ks : List Known) → AllNarrower ks ks
+AllNarrower-refl ks i l = IsNarrower-refl (known_at ks i)
+
+pub AllNarrower-trans : (a b c : List Known) → length a ≡ length b → AllNarrower a b → AllNarrower b c → AllNarrower a c
+AllNarrower-trans a b c len h k i l = IsNarrower-trans (known_at a i) (known_at b i) (known_at c i) (h i l)
+    (k i (omega arith))
+
+-- a new node at the end
+pub passed-push : (ks : List Known) (ex : List (List ℕ)) (ns : List Node) (from i : ℕ) (r next : Known) → IsPool ns
+    → length ks ≡ i → i < length ns → from ≤ i
+    → ((k : ℕ) → k < i → IsConsistent (known_at ks k)) → ((k : ℕ) → from ≤ k → k < i → IsPropagatedAt ks ex ns k)
+    → (AreConsistentOperands ks (node_at ns i) → AreDecidedOperands ks (node_at ns i) → IsForced r)
+    → ((c : ℕ) → node_at ns i ≡ Const c → (r.low ≡ c) × (r.high ≡ c))
+    → IsReducedNode r next ex (node_at ns i) → (k : ℕ) → from ≤ k → k < i + 1 → IsPropagatedAt (ks ++ next ∷ []) ex ns k
+passed-push ks ex ns from i r next p len l fl consistent older forced constant t k fk lk =
+    let same : (j : ℕ) → j < i → known_at ks j ≡ known_at (ks ++ next ∷ []) j
+    = λ j b. sym (get_or_append_left ks (next ∷ []) (known_of 0 0 0 0) j (omega arith)) in
+    let lower = operands-below ns i p l in
+    elim (cases_lt k i) [
+      | inl b ↦ IsPropagatedAt-same ks (ks ++ next ∷ []) ex ns k p (omega arith) (λ j c. same j (omega arith)) (older k fk b)
+      | inr g ↦ (let e : k ≡ i = omega arith in
+          rw e (IsPropagatedAt-new (ks ++ next ∷ []) ex ns i r r next p (get_or_push ks next (known_of 0 0 0 0) i len)
+          (λ o. forced (consistent-operands ks i (node_at ns i) lower consistent)
+          (AreDecidedOperands-same (ks ++ next ∷ []) ks i (node_at ns i) lower (λ j b. sym (same j b)) o))
+          constant (IsNarrower-refl r) t))
+    ]
+
+-- a number that a word has is not excluded for it, where the word's own node is there, or nothing is excluded
+pub kept-node : (ks : List Known) (ex : List (List ℕ)) (ns : List Node) (d : Input) (n : Node) (v : ℕ) → IsPool ns
+    → OperandsBelow (length ns) n → v ≡ node_value d (values_of ns d) n
+    → ((16 ≤ length ks) ⊎ ((w : ℕ) → numbers_at ex w ≡ [])) → AgreesWith ks ex ns d → ¬ Contains (excluded_of ex n) v
+kept-node ks ex ns d (Const c) v p o e h a w = absurd (omega (arith, w.1))
+kept-node ks ex ns d (Bin op x y) v p o e h a w = absurd (omega (arith, w.1))
+kept-node ks ex ns d (Neg x) v p o e h a w = absurd (omega (arith, w.1))
+kept-node ks ex ns d (Word i) v p o e (inl l) a w =
+    let words = p.words in
+    let here : node_at ns i ≡ Word i = p.word i o in
+    let value : value_of ns d i ≡ v = value-node ns d i p (omega arith)
+    ∙ ap (node_value d (values_of ns d)) here ∙ sym e in
+    (rw (here, value) at (a i (omega arith)).kept) w
+kept-node ks ex ns d (Word i) v p o e (inr none) a w = let z = (rw (none i) at w) in absurd (omega (arith, z.1))
+
+-- the input agrees with what follows of a new node
+pub grown-left : (ks : List Known) (ex : List (List ℕ)) (ns : List Node) (d : Input) (i : ℕ) (r : Known)
+    → IsPool ns → i < length ns
+    → ((16 ≤ length ks) ⊎ ((w : ℕ) → numbers_at ex w ≡ [])) → AgreesWith ks ex ns d
+    → Admits r (node_value d (values_of ns d) (node_at ns i))
+    → Leaves r (excluded_of ex (node_at ns i)) (value_of ns d i)
+grown-left ks ex ns d i r p l h a adm =
+    let e = value-node ns d i p l in
+    let o = operands-below ns i p l in
+    record {
+      admitted = rw e adm;
+      kept = kept-node ks ex ns d (node_at ns i) (value_of ns d i) p
+          (OperandsBelow-more i (length ns) (node_at ns i) (omega arith) o) e h a;
+    }
+
+pub agrees-push : (ks : List Known) (ex : List (List ℕ)) (ns : List Node) (d : Input) (i : ℕ) (next : Known)
+    → length ks ≡ i → AgreesWith ks ex ns d
+    → Leaves next (excluded_of ex (node_at ns i)) (value_of ns d i) → AgreesWith (ks ++ next ∷ []) ex ns d
+agrees-push ks ex ns d i next len a h j lj =
+    elim (cases_lt j (length ks)) [
+      | inl b ↦ rw (get_or_append_left ks (next ∷ []) (known_of 0 0 0 0) j b) (a j b)
+      | inr g ↦ (let e : j ≡ i = omega (arith, length_push ks next) in
+          rw (e, get_or_push ks next (known_of 0 0 0 0) i len) h)
+    ]
+
+-- what lets new nodes be taken in goes on to hold
+pub still-none : (old ks : List Known) (ex : List (List ℕ)) → length old ≤ length ks
+    → ((16 ≤ length old) ⊎ ((w : ℕ) → numbers_at ex w ≡ [])) → ((16 ≤ length ks) ⊎ ((w : ℕ) → numbers_at ex w ≡ []))
+still-none old ks ex l (inl a) = inl (omega arith)
+still-none old ks ex l (inr n) = inr n
+
+-- a node that has one number from the start needs no step of forward propagation
+pub unlisted-passed : (n : NodesView) (ex : List (List ℕ)) (ns : List Node) (k : ℕ) → IsReady n.known ns → IsLaidOut n
+    → k < length n.known
+    → ((j : ℕ) → j < length n.variables → slice_index n.variables j ≢ k) → IsPropagatedAt n.known ex ns k
+unlisted-passed n ex ns k ready laid l none = elim (laid.rest k l) [
+  | inl o ↦ absurd (none o.0 o.1 o.2)
+  | inr o ↦ (let past = o.0 in record {
+    consistent = ready.consistent k l;
+    tight = λ b. absurd (omega arith);
+    decided = λ d. o.1;
+    constant = λ c e. ready.constants k c l e;
+  })
+]
+
+-- the variable at hand stands before those to come
+pub variable-before : (n : NodesView) (r j k : ℕ) → IsLaidOut n → r ≤ j → j < length n.variables
+    → k < slice_index n.variables r → k < slice_index n.variables j
+variable-before n r j k laid b l h = elim (cases_eq j r) [
+  | inl e ↦ rw e h
+  | inr ne ↦ omega (arith, laid.rising r j (omega arith) l)
+]
+
+-- a word whose ends are left for it needs no step of forward propagation
+pub tight-passed : (ks : List Known) (ex : List (List ℕ)) (ns : List Node) (i : ℕ) → IsPool ns → i < 16
+    → IsConsistent (known_at ks i) → IsTight (known_at ks i) (numbers_at ex i) → IsPropagatedAt ks ex ns i
+tight-passed ks ex ns i p l consistent tight =
+    let here = p.word i l in
+    record {
+      consistent = consistent;
+      tight = λ b. tight;
+      decided = λ o. absurd (rw here at o);
+      constant = λ c n. let clash : Const c ≡ Word i = sym n ∙ here in absurd cc;
+    }
+
+-- what was gone over, and the node at hand, and those up to the next variable
+pub passed-up_to : (n m : NodesView) (ex : List (List ℕ)) (ns : List Node) (rank i : ℕ) → IsReady m.known ns
+    → IsLaidOut n → IsLaidOut m → m.variables ≡ n.variables → rank < length n.variables
+    → slice_index n.variables rank ≡ i
+    → ((k : ℕ) → k < i + 1 → IsPropagatedAt m.known ex ns k)
+    → (k : ℕ) → k < length m.known → ((j : ℕ) → rank + 1 ≤ j → j < length m.variables → k < slice_index m.variables j)
+    → IsPropagatedAt m.known ex ns k
+passed-up_to n m ex ns rank i ready ln lm same l at up k lk before = elim (cases_lt k (i + 1)) [
+  | inl b ↦ up k b
+  | inr g ↦ unlisted-passed m ex ns k ready lm lk (λ j lj e. elim (cases_lt rank j) [
+    | inl a ↦ (let x = before j (omega arith) lj in absurd (omega arith))
+    | inr a ↦ (let y : slice_index m.variables j ≡ slice_index n.variables j = ap (λ os. slice_index os j) same in
+        elim (cases_eq j rank) [
+          | inl z ↦ absurd (omega (arith, ap (slice_index n.variables) z, y))
+          | inr z ↦ absurd (omega (arith, ln.rising j rank (omega arith) l, y))
+        ])
+  ])
+]
+
+-- what is ready stays so where a node is restricted
+pub IsReady-set : (ks : List Known) (ns : List Node) (i : ℕ) (next : Known) → i < length ks → IsReady ks ns
+    → IsNarrower (known_at ks i) next → IsConsistent next → IsReady (set ks i next) ns
+IsReady-set ks ns i next l h n s = record {
+  count = length-set ks i next ∙ h.count;
+  consistent = λ j b. elim (cases_eq j i) [
+    | inl e ↦ rw (e, get_or-set_same ks i next (known_of 0 0 0 0) l) s
+    | inr ne ↦ rw (get_or-set_other ks i j next (known_of 0 0 0 0) ne)
+        (h.consistent j (omega (arith, length-set ks i next)))
+  ];
+  constants = λ j c b e. elim (cases_eq j i) [
+    | inl f ↦ (let k = h.constants i c l (rw f at e) in let a = n.low in let z = n.high in let o = s.ordered in
+        rw (f, get_or-set_same ks i next (known_of 0 0 0 0) l) (omega (arith, k.0, k.1), omega (arith, k.0, k.1)))
+    | inr ne ↦ rw (get_or-set_other ks i j next (known_of 0 0 0 0) ne)
+        (h.constants j c (omega (arith, length-set ks i next)) e)
+  ];
+}
+
+-- what has one number keeps it
+pub decided-kept : (k next : Known) → IsConsistent k → IsNarrower k next → IsConsistent next → IsDecided k → next ≡ k
+decided-kept k next s n t d =
+    let a = n.low in let b = n.high in let o = t.ordered in
+    let low : next.low ≡ k.low = omega arith in
+    let high : next.high ≡ k.high = omega arith in
+    let one : next.low ≡ next.high = omega arith in
+    let zeros : next.zeros ≡ k.zeros = t.zeros one ∙ ap (λ x. 4294967295 - x) low ∙ sym (s.zeros d) in
+    let ones : next.ones ≡ k.ones = t.ones one ∙ low ∙ sym (s.ones d) in
+    let whole : known_of next.low next.high next.zeros next.ones ≡ known_of k.low k.high k.zeros k.ones =
+    rw (low, high, zeros, ones) refl in
+    whole

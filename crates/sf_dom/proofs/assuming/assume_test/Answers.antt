@@ -1,0 +1,29 @@
+use Rattle.std.proofs.Common.{◌<◌, true}
+use Rattle.sf_dom.specs.Propagation.{TestGives}
+use Rattle.sf_insn.specs.declared.ops.Test.TheVariants.{Greater}
+use Rattle.sf_dom.proofs.Assuming.{fewer_pairs}
+use Rattle.sf_dom.proofs.GuardLemmas.{gives-greater, gives-not_greater, gives-at_least, gives-less}
+use Rattle.sf_dom.proofs.assuming.assume_test.Goals as goal
+
+pub returns-in-Greater-true-clause-pair : goal.returns-in-Greater-true-clause-pair
+returns-in-Greater-true-clause-pair c =
+    rw (c.in-Greater-true.is-0, c.in-Greater-true.is-1)
+    (fewer_pairs c.greater.result c.args.v c.args.w (λ x y. y < x)
+    (λ x y. TestGives Greater x y true) gives-greater c.greater.ensures.pair)
+
+pub returns-in-Greater-false-clause-pair : goal.returns-in-Greater-false-clause-pair
+returns-in-Greater-false-clause-pair c =
+    rw (c.in-Greater-false.is-0, c.in-Greater-false.is-1)
+    (λ x y hx hy g. let both = c.at_least-swapped.ensures.pair y x hy hx (gives-not_greater x y g) in (both.1, both.0))
+
+pub returns-in-GreaterOrEqual-true-clause-pair : goal.returns-in-GreaterOrEqual-true-clause-pair
+returns-in-GreaterOrEqual-true-clause-pair c =
+    rw (c.in-GreaterOrEqual-true.is-0, c.in-GreaterOrEqual-true.is-1)
+    (λ x y hx hy g. c.at_least.ensures.pair x y hx hy (gives-at_least x y g))
+
+pub returns-in_ok-swapped-in-GreaterOrEqual-false-clause-pair
+    : goal.returns-in_ok-swapped-in-GreaterOrEqual-false-clause-pair
+returns-in_ok-swapped-in-GreaterOrEqual-false-clause-pair c =
+    rw (c.in-GreaterOrEqual-false.is-0, c.in-GreaterOrEqual-false.is-1)
+    (λ x y hx hy g. let both = c.in_ok-swapped-in-GreaterOrEqual-false.ensures.pair y x hy hx (gives-less x y g) in
+    (both.1, both.0))

@@ -1,0 +1,77 @@
+use Rattle.std.proofs.Common.{arith, sym}
+use Rattle.sf_sym.specs.Pool.{value_of}
+use Rattle.sf_dom.proofs.Propagations.{propagate-set, AllNarrower-set, AllNarrower-refl, IsReady-set}
+use Rattle.sf_dom.proofs.Reductions.{IsNarrower-trans}
+use Rattle.sf_dom.specs.Facts.{known_at}
+use Rattle.sf_dom.proofs.Assuming.{walked}
+use Rattle.sf_dom.proofs.Backs.{carries-step, hands-on-narrower, carried, walked-end, walked-other}
+use Rattle.sf_dom.proofs.assuming.propagate_back.Goals as goal
+
+pub loop-op-init : goal.loop-op-init
+loop-op-init c = record {
+  within = omega arith;
+  keeps = λ d p a. a;
+  narrower = AllNarrower-refl c.args.nodes.now.known;
+  ready = c.requires.ready;
+  carries = λ last same narrower more. more;
+}
+
+pub returns-in-None-reduced-clause-kept : goal.returns-in-None-reduced-clause-kept
+returns-in-None-reduced-clause-kept c = λ d p a.
+    let ks = c.loop-op.nodes.known in
+    let ns = c.args.pool.now in
+    let ex = c.args.excluded.now in
+    let o = c.in-Some in
+    let inv = c.loop-op.invariant in
+    let agrees = inv.keeps d p a in
+    let within = inv.within in
+    let count = inv.ready.count in
+    let bits = rw (c.get.ensures, c.get-in-Some.ensures) at c.in-Some-backward.ensures.bits in
+    let left = walked ks ex ns d c.loop-op.at o.x o.c o.op c.in-Some-backward.gained (omega arith)
+    (omega (arith, o.ensures.smaller)) agrees (o.ensures.value d p c.in-Some-backward.ensures.swappable) bits in
+    rw c.node-node.ensures.node at c.in-None-reduced.ensures (value_of ns d o.x) left
+
+pub loop-op-preserved : goal.loop-op-preserved
+loop-op-preserved c =
+    let ks = c.loop-op.nodes.known in
+    let ns = c.args.pool.now in
+    let ex = c.args.excluded.now in
+    let o = c.in-Some in
+    let inv = c.loop-op.invariant in
+    let within = inv.within in
+    let count = inv.ready.count in
+    let next = c.in-Some-reduced.next in
+    let t = rw c.node-node.ensures.node at c.in-Some-reduced.ensures in
+    let bits = rw (c.get.ensures, c.get-in-Some.ensures) at c.in-Some-backward.ensures.bits in
+    let gained = rw c.get-in-Some.ensures at c.in-Some-backward.ensures.narrower in
+    let narrower = IsNarrower-trans (known_at ks o.x) c.in-Some-backward.gained next gained t.narrower in
+    rw c.set.ensures.known (record {
+      within = omega (arith, o.ensures.smaller);
+      keeps = λ d p a.
+          let agrees = inv.keeps d p a in
+          let left = walked ks ex ns d c.loop-op.at o.x o.c o.op c.in-Some-backward.gained (omega arith)
+          (omega (arith, o.ensures.smaller)) agrees (o.ensures.value d p c.in-Some-backward.ensures.swappable) bits in
+          propagate-set ks ex ns d o.x next (omega (arith, o.ensures.smaller)) agrees (t.same (value_of ns d o.x) left);
+      narrower = AllNarrower-set c.args.nodes.now.known ks o.x next (omega arith)
+          (omega (arith, o.ensures.smaller)) inv.narrower narrower;
+      ready = IsReady-set ks ns o.x next (omega (arith, o.ensures.smaller)) inv.ready narrower t.consistent;
+      carries = carries-step ks ns c.args.from c.loop-op.at o.x o.c o.op next o.ensures.smaller
+          (omega (arith, o.ensures.smaller)) (sym o.ensures.told)
+          (hands-on-narrower o.op o.c (known_at ks c.loop-op.at) c.in-Some-backward.gained next t.narrower
+          (rw c.get.ensures at c.in-Some-backward.ensures.told)) inv.carries;
+    })
+
+pub returns-in-None-clause-backward : goal.returns-in-None-clause-backward
+returns-in-None-clause-backward c = λ t.
+    let ks = c.loop-op.nodes.known in
+    let ns = c.args.pool.now in
+    let o = c.in-Some in
+    carried ks ns c.args.from c.loop-op.at c.loop-op.invariant.carries
+    (walked-other ks ns c.loop-op.at o.x o.c o.op (sym o.ensures.told) (c.backward.ensures.none c.in-None.is))
+
+pub returns-clause-backward : goal.returns-clause-backward
+returns-clause-backward c = λ t.
+    let ks = c.loop-op.nodes.known in
+    let ns = c.args.pool.now in
+    carried ks ns c.args.from c.loop-op.at c.loop-op.invariant.carries
+    (walked-end ks ns c.loop-op.at (sym c.in_default.ensures.told))

@@ -1,0 +1,21 @@
+use Rattle.std.proofs.Common.{arith}
+use Rattle.sf_dom.proofs.Bits.{join-bits, bits-of-or_right}
+use Rattle.sf_dom.proofs.Reductions.{narrowed}
+use Rattle.sf_dom.proofs.assuming.with_bits.Goals as goal
+
+pub returns-clause-admits : goal.returns-clause-admits
+returns-clause-admits c = λ x h b. record {
+  above = h.above;
+  below = h.below;
+  bits = join-bits x c.args.known.zeros c.args.known.ones c.args.zeros c.args.ones h.bits b;
+}
+
+pub returns-clause-narrower : goal.returns-clause-narrower
+returns-clause-narrower c = narrowed c.args.known c.args.known.low c.args.known.high c.args.zeros c.args.ones
+    (omega arith) (omega arith)
+
+pub returns-clause-more : goal.returns-clause-more
+returns-clause-more c = (
+  bits-of-or_right c.args.known.zeros c.args.zeros,
+  bits-of-or_right c.args.known.ones c.args.ones,
+)

@@ -1,8 +1,0 @@
-use Rattle.sf_dom.proofs.Taken.{narrow-word}
-use Rattle.sf_dom.proofs.facts.Facts.narrow_word.Goals as goal
-
-pub returns-in_ok-copy-in-Some : goal.returns-in_ok-copy-in-Some
-returns-in_ok-copy-in-Some c =
-    let told = rw (c.in-Some.is, c.as_slice.ensures.value) at c.in_ok-narrowed.ensures in
-    rw (← c.self.view_is, c.in_ok-copy-in-Some.ensures) (narrow-word _ _ _ c.args.pool.now c.args.word c.args.more
-    (rw (← c.self.view_is) at c.requires.covers) c.requires.word told)

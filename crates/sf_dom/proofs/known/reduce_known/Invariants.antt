@@ -1,0 +1,13 @@
+use Rattle.std.proofs.Common.{ℕ}
+use Rattle.sf_dom.specs.Known.{Admits, IsNarrower}
+use Rattle.sf_dom.proofs.known.reduce_known.Given as goal
+use Rattle.sf_dom.specs.Reduction.{freedom}
+
+abbrev pub invariant-loop-next : goal.invariant-loop-next
+invariant-loop-next l = record {
+  same : (n : ℕ) → Admits l.fn.known n → Admits l.at n;
+  narrower : IsNarrower l.fn.known l.at;
+}
+
+abbrev pub decreases-loop-next : goal.decreases-loop-next
+decreases-loop-next l = freedom l.at

@@ -1,0 +1,224 @@
+-- What the steps of learning do to the facts of nodes, a list, and to the numbers that are excluded for words.
+use Rattle.std.specs.Prelude.{◌≡◌, ℕ, ◌-◌, ◌<◌, ◌≤◌, ◌⊎◌, List, length, take, slice_index, Contains, Bool, true, false, All}
+use Rattle.sf_insn.specs.Inputs.{IsInput}
+use Rattle.sf_insn.specs.Words.{IsOneBit, passes}
+use Rattle.sf_sym.specs.Pool.{node_at, value_of, is_met}
+use Rattle.sf_insn.specs.declared.input.Input.{Input}
+use Rattle.sf_sym.specs.declared.pool.Node.{Node}
+use Rattle.sf_sym.specs.declared.pool.Node.TheVariants.{Const, Word, Bin, Neg}
+use Rattle.sf_sym.specs.declared.pool.Cond.{Cond}
+use Rattle.sf_insn.specs.declared.ops.Test.{Test}
+use Rattle.sf_insn.specs.declared.ops.Test.TheVariants.{Equal, Greater, GreaterOrEqual, AnyBit}
+use Rattle.sf_dom.specs.declared.known.Known.{Known}
+use Rattle.sf_dom.specs.Known.{AreBitsOf, Admits, Leaves, IsNarrower, IsConsistent, IsTight, IsDecided}
+use Rattle.sf_dom.specs.Backward.{IsPropagatedBack}
+use Rattle.sf_dom.specs.Facts.{known_at, numbers_at, excluded_of, AgreesWith, AreDecidedOperands, FactsView, Covers, AreNarrower}
+
+-- every input that agreed agrees still
+abbrev pub KeepsAgreeing : List Known → List Known → List (List ℕ) → List Node → Type 0
+KeepsAgreeing old new ex ns = (d : Input) → IsInput d → AgreesWith old ex ns d → AgreesWith new ex ns d
+
+-- no input agrees
+abbrev pub NoneAgreesWith : List Known → List (List ℕ) → List Node → Type 0
+NoneAgreesWith old ex ns = (d : Input) → IsInput d → ¬ AgreesWith old ex ns d
+
+-- what is known of the operands is consistent, where the node has any
+abbrev pub AreConsistentOperands : List Known → Node → Type 0
+AreConsistentOperands ks (Bin op a b) = IsConsistent (known_at ks a.0) × IsConsistent (known_at ks b.0)
+AreConsistentOperands ks (Neg a) = IsConsistent (known_at ks a.0)
+AreConsistentOperands ks _ = Unit {0}
+
+-- a node's facts, reduced
+pub record IsReducedNode (old new : Known) (ex : List (List ℕ)) (n : Node) : Type 0 where
+  pub same : (m : ℕ) → Leaves old (excluded_of ex n) m → Leaves new (excluded_of ex n) m
+  pub narrower : IsNarrower old new
+  pub consistent : IsConsistent new
+  pub ones_low : new.ones ≤ new.low
+  pub high_zeros : new.high ≤ 4294967295 - new.zeros
+  pub tight : (i : ℕ) → n ≡ Word i → IsTight new (numbers_at ex i)
+
+-- each node of the pool is told, every interval holds a number, and a constant's is its number
+pub record IsReady (ks : List Known) (ns : List Node) : Type 0 where
+  pub count : length ks ≡ length ns
+  pub consistent : (i : ℕ) → i < length ks → IsConsistent (known_at ks i)
+  pub constants : (i c : ℕ) → i < length ks → node_at ns i ≡ Const c → ((known_at ks i).low ≡ c)
+      × ((known_at ks i).high ≡ c)
+
+-- what holds of a node that forward propagation has gone over
+pub record IsPropagatedAt (ks : List Known) (ex : List (List ℕ)) (ns : List Node) (i : ℕ) : Type 0 where
+  pub consistent : IsConsistent (known_at ks i)
+  pub tight : i < 16 → IsTight (known_at ks i) (numbers_at ex i)
+  pub decided : AreDecidedOperands ks (node_at ns i) → IsDecided (known_at ks i)
+  pub constant : (c : ℕ) → node_at ns i ≡ Const c → ((known_at ks i).low ≡ c) × ((known_at ks i).high ≡ c)
+
+-- nothing known of any node is lost
+abbrev pub AllNarrower : List Known → List Known → Type 0
+AllNarrower old new = (i : ℕ) → i < length old → IsNarrower (known_at old i) (known_at new i)
+
+-- forward propagation
+pub record IsPropagated (old new : List Known) (ex : List (List ℕ)) (ns : List Node) : Type 0 where
+  pub count : length new ≡ length ns
+  pub keeps : KeepsAgreeing old new ex ns
+  pub narrower : AllNarrower old new
+  pub passed : (i : ℕ) → i < length ns → IsPropagatedAt new ex ns i
+
+-- the new nodes are taken in
+pub record IsGrown (old new : List Known) (ex : List (List ℕ)) (ns : List Node) : Type 0 where
+  pub covers : length new ≡ length ns
+  pub kept : take (length old) new ≡ old
+  pub keeps : KeepsAgreeing old new ex ns
+  pub passed : ((i : ℕ) → i < length old → IsConsistent (known_at old i)) → (i : ℕ) → length old ≤ i → i < length ns
+      → IsPropagatedAt new ex ns i
+
+-- the test of two numbers has this result
+abbrev pub TestGives : Test → ℕ → ℕ → Bool → Type 0
+TestGives test a b sense = passes test a b ≡ sense
+
+-- the test of a condition's nodes has its sense
+abbrev pub Holds : List Node → Cond → Input → Type 0
+Holds ns c d = TestGives c.test (value_of ns d c.node.0) (value_of ns d c.other.0) c.sense
+
+-- what is left of a node, by what is known of it and what is told besides
+pub record IsLeft (ks : List Known) (ex : List (List ℕ)) (ns : List Node) (at : ℕ) (more next : Known) : Type 0 where
+  pub kept : (d : Input) → IsInput d → AgreesWith ks ex ns d → Admits more (value_of ns d at)
+      → Leaves next (excluded_of ex (node_at ns at)) (value_of ns d at)
+  pub narrower : IsNarrower (known_at ks at) next
+  pub told : IsNarrower more next
+  pub consistent : IsConsistent next
+
+-- what a test of two words with this result leaves of both
+abbrev pub LeavesPair : Known → Known → Known → Known → (ℕ → ℕ → Type 0) → Type 0
+LeavesPair v w v' w' passes = (x y : ℕ) → Admits v x → Admits w y → passes x y → Admits v' x × Admits w' y
+
+-- the test has this result for no two numbers that the words may have
+abbrev pub LeavesNoPair : Known → Known → (ℕ → ℕ → Type 0) → Type 0
+LeavesNoPair v w passes = (x y : ℕ) → Admits v x → Admits w y → ¬ passes x y
+
+-- every input that agreed, and that passes, agrees still
+abbrev pub KeepsAgreeingOn : List Known → List Known → List (List ℕ) → List Node → (Input → Type 0) → Type 0
+KeepsAgreeingOn old new ex ns passes = (d : Input) → IsInput d → AgreesWith old ex ns d → passes d
+    → AgreesWith new ex ns d
+
+-- no input that agrees passes
+abbrev pub NoneAgreesOn : List Known → List (List ℕ) → List Node → (Input → Type 0) → Type 0
+NoneAgreesOn old ex ns passes = (d : Input) → IsInput d → AgreesWith old ex ns d → ¬ passes d
+
+-- a test against a number, with a result that an interval and known bits keep exactly
+abbrev pub IsSharp : Test → Bool → ℕ → Type 0
+IsSharp Equal false c = ⊥
+IsSharp AnyBit true c = IsOneBit c
+IsSharp _ _ c = Unit {0}
+
+-- where the other word is decided, an end that is its number moves past it
+pub record IsMovedPast (other old new : Known) : Type 0 where
+  pub low : IsDecided other → old.low ≡ other.low → other.low < new.low
+  pub high : IsDecided other → old.high ≡ other.low → new.high < other.low
+
+-- What a test with this result tells of two words, v and w before and v' and w' after: two equal words have what is
+-- known of both; no end is left that the other word's ends rule out; and a decided w tells v of its bits.
+abbrev pub Tells : Test → Bool → Known → Known → Known → Known → Type 0
+Tells Equal true v w v' w' = IsNarrower w v' × IsNarrower v w'
+Tells Equal false v w v' w' = IsMovedPast w v v' × IsMovedPast v w w'
+Tells Greater true v w v' w' = (w.low < v'.low) × (w'.high < v.high)
+Tells Greater false v w v' w' = (v'.high ≤ w.high) × (v.low ≤ w'.low)
+Tells GreaterOrEqual true v w v' w' = (w.low ≤ v'.low) × (w'.high ≤ v.high)
+Tells GreaterOrEqual false v w v' w' = (v'.high < w.high) × (v.low < w'.low)
+Tells AnyBit true v w v' w' = IsDecided w → IsOneBit w.low → AreBitsOf w.low v'.ones
+Tells AnyBit false v w v' w' = IsDecided w → AreBitsOf w.low v'.zeros
+
+-- Known bits have gone back from a node: at some time between, all that the condition tells was known, and the bits of
+-- the node, and of each operand in turn, were known of the next.
+pub record HasGoneBack (old new : List Known) (ns : List Node) (cond : Cond) (at : ℕ) : Type 0 where
+  pub between : List Known
+  pub count : length between ≡ length ns
+  pub before : AllNarrower old between
+  pub tells : Tells cond.test cond.sense (known_at old cond.node.0) (known_at old cond.other.0)
+      (known_at between cond.node.0) (known_at between cond.other.0)
+  pub walked : (n : ℕ) → IsPropagatedBack n between ns at
+  pub after : AllNarrower between new
+
+-- a condition is taken into what is known
+pub record IsAssumed (old new : List Known) (ex : List (List ℕ)) (ns : List Node) (cond : Cond) : Type 0 where
+  pub count : length new ≡ length ns
+  pub keeps : KeepsAgreeingOn old new ex ns (Holds ns cond)
+  pub narrower : AllNarrower old new
+  pub passed : (i : ℕ) → i < length ns → IsPropagatedAt new ex ns i
+  pub tells : Tells cond.test cond.sense (known_at old cond.node.0) (known_at old cond.other.0)
+      (known_at new cond.node.0) (known_at new cond.other.0)
+  pub back_node : HasGoneBack old new ns cond cond.node.0
+  pub back_other : HasGoneBack old new ns cond cond.other.0
+  pub sharp : IsDecided (known_at old cond.other.0) → IsSharp cond.test cond.sense (known_at old cond.other.0).low
+      → (x : ℕ) → Admits (known_at new cond.node.0) x → TestGives cond.test x (known_at old cond.other.0).low cond.sense
+  pub decided : IsConsistent (known_at old cond.node.0) → IsDecided (known_at old cond.node.0)
+      → IsDecided (known_at old cond.other.0)
+      → (x : ℕ) → Admits (known_at new cond.node.0) x → TestGives cond.test x (known_at old cond.other.0).low cond.sense
+
+-- the number of a decided node is excluded for a word
+pub record AreExcluded (old new : List (List ℕ)) (n : Node) (other : Known) : Type 0 where
+  pub more : (i m : ℕ) → i < 16 → Contains (numbers_at old i) m → Contains (numbers_at new i) m
+  pub only : (i m : ℕ) → i < 16 → Contains (numbers_at new i) m → Contains (numbers_at old i) m
+      ⊎ ((n ≡ Word i) × IsDecided other × (m ≡ other.low))
+  pub added : (i : ℕ) → n ≡ Word i → IsDecided other → Contains (numbers_at new i) other.low
+
+-- where a condition says that two nodes differ, neither is the number of the other, if that is decided
+pub record AreBothExcluded (ks : List Known) (old new : List (List ℕ)) (ns : List Node) (cond : Cond) : Type 0 where
+  pub keeps : (d : Input) → IsInput d → AgreesWith ks old ns d → Holds ns cond d → AgreesWith ks new ns d
+  pub more : (w m : ℕ) → w < 16 → Contains (numbers_at old w) m → Contains (numbers_at new w) m
+  pub added : (i : ℕ) → node_at ns cond.node.0 ≡ Word i → IsDecided (known_at ks cond.other.0) → cond.test ≡ Equal
+      → cond.sense ≡ false
+      → Contains (numbers_at new i) (known_at ks cond.other.0).low
+  pub added_other : (i : ℕ) → node_at ns cond.other.0 ≡ Word i → IsDecided (known_at ks cond.node.0) → cond.test ≡ Equal
+      → cond.sense ≡ false
+      → Contains (numbers_at new i) (known_at ks cond.node.0).low
+
+-- a condition is taken into the facts of a pool
+pub record IsLearnt (old : List Known) (ex : List (List ℕ)) (new : List Known) (ex' : List (List ℕ)) (ns : List Node)
+    (cond : Cond) : Type 0 where
+  pub words : length ex' ≡ 16
+  pub both : AreBothExcluded old ex ex' ns cond
+  pub consistent : IsAssumed old new ex' ns cond
+
+-- What a condition tells of its two nodes is known after: of their ends and bits, which have gone back from both; where
+-- the other node is decided and the test is kept exactly, no number is left for the node that fails it; and where they
+-- differ, a word doesn't have the number of the other node, if that is decided.
+pub record IsTold (old new : FactsView) (ns : List Node) (cond : Cond) : Type 0 where
+  pub tells : Tells cond.test cond.sense (known_at old.known cond.node.0) (known_at old.known cond.other.0)
+      (known_at new.known cond.node.0) (known_at new.known cond.other.0)
+  pub back_node : HasGoneBack old.known new.known ns cond cond.node.0
+  pub back_other : HasGoneBack old.known new.known ns cond cond.other.0
+  pub sharp : IsDecided (known_at old.known cond.other.0)
+      → IsSharp cond.test cond.sense (known_at old.known cond.other.0).low
+      → (x : ℕ) → Admits (known_at new.known cond.node.0) x
+      → TestGives cond.test x (known_at old.known cond.other.0).low cond.sense
+  pub excluded : (i : ℕ) → node_at ns cond.node.0 ≡ Word i → IsDecided (known_at old.known cond.other.0)
+      → cond.test ≡ Equal → cond.sense ≡ false
+      → Contains (numbers_at new.excluded i) (known_at old.known cond.other.0).low
+  pub excluded_other : (i : ℕ) → node_at ns cond.other.0 ≡ Word i → IsDecided (known_at old.known cond.node.0)
+      → cond.test ≡ Equal → cond.sense ≡ false
+      → Contains (numbers_at new.excluded i) (known_at old.known cond.node.0).low
+
+-- what else is known of a word is taken in
+pub record IsRestricted (old new : List Known) (ex : List (List ℕ)) (ns : List Node) (w : ℕ) (more : Known) : Type 0 where
+  pub count : length new ≡ length ns
+  pub keeps : KeepsAgreeingOn old new ex ns (λ d. Admits more (slice_index d.words w))
+  pub narrower : AllNarrower old new
+  pub word : IsNarrower more (known_at new w)
+  pub passed : (i : ℕ) → i < length ns → IsPropagatedAt new ex ns i
+
+-- every condition is met on an input
+abbrev pub AllMet : List Node → List Cond → Input → Type 0
+AllMet ns conds d = All (λ c. is_met ns d c ≡ true) conds
+
+-- no input that agrees has in a word a number that is admitted
+abbrev pub NoneHas : FactsView → List Node → ℕ → Known → Type 0
+NoneHas f ns w more = NoneAgreesOn f.known f.excluded ns (λ d. Admits more (slice_index d.words w))
+
+-- the facts of a word are restricted by what else is known of it
+pub record RestrictsWord (old new : FactsView) (ns : List Node) (w : ℕ) (more : Known) : Type 0 where
+  pub covers : Covers new ns
+  pub keeps : (d : Input) → IsInput d → AgreesWith old.known old.excluded ns d → Admits more (slice_index d.words w)
+      → AgreesWith new.known new.excluded ns d
+  pub only : (d : Input) → IsInput d → AgreesWith new.known new.excluded ns d → AgreesWith old.known old.excluded ns d
+      × Admits more (slice_index d.words w)
+  pub narrower : AreNarrower old new
+  pub word : IsNarrower more (known_at new.known w)

@@ -1,0 +1,307 @@
+//! A condition taken into what is known of the nodes of a pool.
+
+ghost use Rattle.std.specs.Prelude.{◌≡◌, ◌≢◌, ℕ, ◌+◌, ◌-◌, ◌*◌, ◌/◌, ◌%◌, ◌<◌, ◌≤◌, ◌^◌, ◌⊎◌, List, length, Contains, MatchOption, MatchBool, IfSome, IfOk, OnErr, IsTrue, bit_and, bit_or, bit_xor, true, false, None};
+ghost use Rattle.sf_insn.specs.Inputs.{IsInput};
+ghost use Rattle.sf_insn.specs.Words.{apply};
+ghost use Rattle.sf_sym.specs.Pool.{OperandsBelow, IsPool, node_at, node_value, values_of, value_of};
+ghost use Rattle.sf_insn.specs.declared.input.Input.{Input};
+ghost use Rattle.sf_dom.specs.Known.{AreBitsOf, HasBits, Admits, Leaves, IsNarrower, IsConsistent, IsDecided};
+ghost use Rattle.sf_dom.specs.Propagation.{KeepsAgreeing, NoneAgreesWith, KeepsAgreeingOn, NoneAgreesOn, LeavesPair, LeavesNoPair, IsSharp, Tells, TestGives, AllNarrower, IsReady, IsLeft, IsAssumed, AreExcluded, AreBothExcluded, Holds};
+ghost use Rattle.sf_dom.specs.Backward.{IsSwappable, HandsOn, constant_operand_of, IsPropagatedBack};
+ghost use Rattle.sf_dom.specs.Facts.{known_at, numbers_at, excluded_of, AgreesWith};
+
+use crate::propagation::{meet, propagate, reduced};
+use crate::exclusions::Exclusions;
+use crate::fault::Fault;
+use crate::known::Known;
+use crate::guards::{Pair, at_least, common_bit, differs, equal, greater, no_common_bit};
+use crate::nodes::Nodes;
+use sf_insn::{BinOp, Test};
+use sf_sym::{Cond, Node, NodeId, Pool, constant_of};
+use std::alloc::Global;
+
+/// What is known, with more known bits.
+fn with_bits(known: Known, zeros: u32, ones: u32) -> Known
+    ensures admits { (x : ℕ) → Admits known x → HasBits x zeros ones → Admits result x }
+    ensures more { AreBitsOf zeros result.zeros × AreBitsOf ones result.ones }
+    ensures narrower { IsNarrower known result }
+{
+    Known {
+        zeros: known.zeros | zeros,
+        ones: known.ones | ones,
+        ..known
+    }
+}
+
+/// What is known of an operand, with the bits that it gains from those of its node, whose other operand is a constant.
+pub fn backward(op: BinOp, node: Known, c: u32, operand: Known) -> Option<Known>
+    ensures bits { IfSome result (λ g. (x : ℕ) → Admits operand x
+        → Admits node (apply op x c) → Admits g x) }
+    ensures swappable { IfSome result (λ g. IsSwappable op) }
+    ensures none { result ≡ None → ¬ IsSwappable op }
+    ensures told { IfSome result (λ g. HandsOn op c node g) }
+    ensures narrower { IfSome result (λ g. IsNarrower operand g) }
+{
+    match op {
+        BinOp::And => Some(with_bits(operand, node.zeros & c, node.ones)),
+        BinOp::Or => Some(with_bits(operand, node.zeros, node.ones & !c)),
+        BinOp::Xor => Some(with_bits(
+            operand,
+            (node.zeros & !c) | (node.ones & c),
+            (node.ones & !c) | (node.zeros & c),
+        )),
+        _ => None,
+    }
+}
+
+/// The constant operand of a node and its other operand, where exactly one is constant.
+pub fn constant_operand(pool: &Pool, at: usize) -> Option<(BinOp, usize, u32)>
+    requires { at < length pool.now }
+    ensures told { result ≡ constant_operand_of pool.now (node_at pool.now at) }
+    ensures smaller { IfSome result (λ o. o.1 < at) }
+    ensures value { IfSome result (λ o. (d : Input) → IsInput d → IsSwappable o.0
+        → value_of pool.now d at ≡ apply o.0 (value_of pool.now d o.1) o.2) }
+{
+    match pool.node(NodeId(at)) {
+        Node::Bin(op, a, b) => match (constant_of(pool.node(a)), constant_of(pool.node(b))) {
+            (None, Some(c)) => Some((op, a.0, c)),
+            (Some(c), None) => Some((op, b.0, c)),
+            _ => None,
+        },
+        _ => None,
+    }
+}
+
+/// Takes known bits back from a node through constants. False: no input agrees.
+fn propagate_back(nodes: &mut Nodes, excluded: &[Exclusions], pool: &Pool, from: usize) -> bool
+    requires ready { IsReady nodes.old.known pool.now }
+    requires words { length excluded.now ≡ 16 }
+    requires start { from < length pool.now }
+    ensures kept { MatchBool result
+        (KeepsAgreeing nodes.old.known nodes.new.known excluded.now pool.now
+        × AllNarrower nodes.old.known nodes.new.known)
+        (NoneAgreesWith nodes.old.known excluded.now pool.now) }
+    ensures backward { IsTrue result → (n : ℕ) → IsPropagatedBack n nodes.new.known pool.now from }
+    ensures ready { IsReady nodes.new.known pool.now }
+{
+    let mut at = from;
+    while let Some((op, x, c)) = constant_operand(pool, at) {
+        let node = pool.node(NodeId(x));
+        match backward(op, nodes.get(at), c, nodes.get(x)) {
+            None => return true,
+            Some(gained) => match reduced(gained, node, excluded) {
+                None => return false,
+                Some(next) => nodes.set(x, next),
+            },
+        }
+        at = x;
+    }
+    true
+}
+
+/// What a test leaves of two words, or none where no two numbers pass it.
+fn assume_test(v: Known, w: Known, test: Test, sense: bool) -> Option<Pair>
+    ensures pair { MatchOption result
+        (LeavesNoPair v w (λ x y. TestGives test x y sense))
+        (λ p. LeavesPair v w p.node p.other (λ x y. TestGives test x y sense)) }
+    ensures tells { IfSome result (λ p. Tells test sense v w p.node p.other) }
+    ensures sharp { IsDecided w → IsSharp test sense w.low
+        → IfSome result (λ p. (x : ℕ) → Admits p.node x → TestGives test x w.low sense) }
+    ensures decided { IsConsistent v → IsDecided v → IsDecided w
+        → IfSome result (λ p. (x : ℕ) → Admits p.node x → TestGives test x w.low sense) }
+{
+    match (test, sense) {
+        (Test::Equal, true) => Some(equal(v, w)),
+        (Test::Equal, false) => Some(Pair {
+            node: if w.low == w.high {
+                differs(v, w.low)?
+            } else {
+                v
+            },
+            other: if v.low == v.high {
+                differs(w, v.low)?
+            } else {
+                w
+            },
+        }),
+        (Test::Greater, true) => greater(v, w),
+        (Test::Greater, false) => {
+            let swapped = at_least(w, v);
+            Some(Pair {
+                node: swapped.other,
+                other: swapped.node,
+            })
+        }
+        (Test::GreaterOrEqual, true) => Some(at_least(v, w)),
+        (Test::GreaterOrEqual, false) => {
+            let swapped = greater(w, v)?;
+            Some(Pair {
+                node: swapped.other,
+                other: swapped.node,
+            })
+        }
+        (Test::AnyBit, true) => {
+            let node = if w.low == w.high {
+                common_bit(v, w.low)?
+            } else {
+                v
+            };
+            Some(Pair { node, other: w })
+        }
+        (Test::AnyBit, false) => {
+            let node = if w.low == w.high {
+                no_common_bit(v, w.low)
+            } else {
+                v
+            };
+            Some(Pair { node, other: w })
+        }
+    }
+}
+
+/// What is left of a node, by what is known of it and what is told besides, or none where no input agrees.
+fn left_of(
+    nodes: &Nodes,
+    excluded: &[Exclusions],
+    pool: &Pool,
+    at: usize,
+    more: Known,
+) -> Option<Known>
+    requires covers { length nodes.now.known ≡ length pool.now }
+    requires words { length excluded.now ≡ 16 }
+    requires place { at < length pool.now }
+    ensures { MatchOption result
+        (NoneAgreesOn nodes.now.known excluded.now pool.now
+        (λ d. Admits more (value_of pool.now d at)))
+        (λ next. IsLeft nodes.now.known excluded.now pool.now at more next) }
+{
+    let node = pool.node(NodeId(at));
+    reduced(meet(nodes.get(at), more), node, excluded)
+}
+
+/// Takes in what is told of a node besides. False: no input agrees.
+pub fn meet_node(
+    nodes: &mut Nodes,
+    excluded: &[Exclusions],
+    pool: &Pool,
+    at: usize,
+    more: Known,
+) -> bool
+    requires ready { IsReady nodes.old.known pool.now }
+    requires words { length excluded.now ≡ 16 }
+    requires place { at < length pool.now }
+    ensures kept { MatchBool result
+        (KeepsAgreeingOn nodes.old.known nodes.new.known excluded.now pool.now
+        (λ d. Admits more (value_of pool.now d at))
+        × AllNarrower nodes.old.known nodes.new.known
+        × IsNarrower more (known_at nodes.new.known at))
+        (NoneAgreesOn nodes.old.known excluded.now pool.now
+        (λ d. Admits more (value_of pool.now d at))) }
+    ensures ready { IsReady nodes.new.known pool.now }
+{
+    match left_of(nodes, excluded, pool, at, more) {
+        None => false,
+        Some(next) => {
+            nodes.set(at, next);
+            true
+        }
+    }
+}
+
+/// Whether what is known of its two nodes rules a condition out. It is asked before facts are copied.
+pub fn is_ruled_out(nodes: &Nodes, excluded: &[Exclusions], pool: &Pool, cond: &Cond) -> bool
+    requires covers { length nodes.now.known ≡ length pool.now }
+    requires words { length excluded.now ≡ 16 }
+    requires node { cond.now.node.0 < length pool.now }
+    requires other { cond.now.other.0 < length pool.now }
+    ensures { IsTrue result → NoneAgreesOn nodes.now.known excluded.now pool.now
+        (Holds pool.now cond.now) }
+{
+    let v = cond.node.0;
+    let w = cond.other.0;
+    match assume_test(nodes.get(v), nodes.get(w), cond.test, cond.sense) {
+        None => true,
+        Some(pair) => {
+            left_of(nodes, excluded, pool, v, pair.node).is_none()
+                || left_of(nodes, excluded, pool, w, pair.other).is_none()
+        }
+    }
+}
+
+/// Takes a condition into what is known. False: no input that agrees meets it.
+pub fn assume_cond(nodes: &mut Nodes, excluded: &[Exclusions], pool: &Pool, cond: &Cond) -> bool
+    requires ready { IsReady nodes.old.known pool.now }
+    requires words { length excluded.now ≡ 16 }
+    requires node { cond.now.node.0 < length pool.now }
+    requires other { cond.now.other.0 < length pool.now }
+    ensures { MatchBool result
+        (IsAssumed nodes.old.known nodes.new.known excluded.now pool.now cond.now)
+        (NoneAgreesOn nodes.old.known excluded.now pool.now (Holds pool.now cond.now)) }
+{
+    let v = cond.node.0;
+    let w = cond.other.0;
+    match assume_test(nodes.get(v), nodes.get(w), cond.test, cond.sense) {
+        None => false,
+        Some(pair) => {
+            if !meet_node(nodes, excluded, pool, v, pair.node) {
+                return false;
+            }
+            if !meet_node(nodes, excluded, pool, w, pair.other) {
+                return false;
+            }
+            if !propagate_back(nodes, excluded, pool, v) {
+                return false;
+            }
+            if !propagate_back(nodes, excluded, pool, w) {
+                return false;
+            }
+            propagate(nodes, excluded, pool)
+        }
+    }
+}
+
+/// A word is not the number of a node that is decided.
+pub fn exclude(
+    alloc: Global,
+    excluded: &mut [Exclusions],
+    node: Node,
+    other: Known,
+) -> Result<(), Fault>
+    requires words { length excluded.old ≡ 16 }
+    requires word { (i : ℕ) → node ≡ Node.Word i → i < 16 }
+    ensures { IfOk result (λ _. AreExcluded excluded.old excluded.new node other) }
+{
+    if let Node::Word(i) = node
+        && other.low == other.high
+    {
+        excluded[i as usize].add(alloc, other.low)?;
+    }
+    Ok(())
+}
+
+/// Where a condition says that two nodes differ, neither is the number of the other, if that is decided.
+pub fn exclude_both(
+    alloc: Global,
+    excluded: &mut [Exclusions],
+    nodes: &Nodes,
+    pool: &Pool,
+    cond: &Cond,
+) -> Result<(), Fault>
+    requires covers { length nodes.now.known ≡ length pool.now }
+    requires words { length excluded.old ≡ 16 }
+    requires node { cond.now.node.0 < length pool.now }
+    requires other { cond.now.other.0 < length pool.now }
+    ensures { IfOk result (λ _. AreBothExcluded nodes.now.known excluded.old excluded.new
+        pool.now cond.now) }
+{
+    let left = pool.node(cond.node);
+    let right = pool.node(cond.other);
+    match (cond.test, cond.sense) {
+        (Test::Equal, false) => {
+            exclude(alloc, excluded, left, nodes.get(cond.other.0))?;
+            exclude(alloc, excluded, right, nodes.get(cond.node.0))?;
+            Ok(())
+        }
+        _ => Ok(()),
+    }
+}

@@ -1,0 +1,134 @@
+//! What the tests leave of two words.
+
+ghost use Rattle.std.specs.Prelude.{◌≡◌, ◌≢◌, ℕ, ◌+◌, ◌-◌, ◌*◌, ◌/◌, ◌%◌, ◌<◌, ◌≤◌, ◌^◌, MatchOption, IfSome, bit_and, bit_or};
+ghost use Rattle.sf_dom.specs.Known.{AreBitsOf, HasBits, Admits, IsConsistent, IsDecided};
+ghost use Rattle.sf_dom.specs.Propagation.{LeavesPair, LeavesNoPair};
+ghost use Rattle.sf_dom.specs.Reduction.{IsMeet};
+ghost use Rattle.sf_insn.specs.Words.{IsOneBit};
+
+use crate::propagation::meet;
+use crate::known::Known;
+
+/// What is known of the two words of a test.
+#[derive(Clone, Copy, Debug, PartialEq, Eq)]
+pub struct Pair {
+    pub node: Known,
+    pub other: Known,
+}
+
+/// The two are equal: each has what is known of both.
+pub fn equal(v: Known, w: Known) -> Pair
+    ensures pair { LeavesPair v w result.node result.other (λ x y. x ≡ y) }
+    ensures both { IsMeet v w result.node × IsMeet v w result.other }
+    ensures sharp { w.low ≡ w.high → (x : ℕ) → Admits result.node x → x ≡ w.low }
+{
+    let both = meet(v, w);
+    Pair {
+        node: both,
+        other: both,
+    }
+}
+
+/// The first is greater.
+pub fn greater(v: Known, w: Known) -> Option<Pair>
+    ensures pair { MatchOption result (LeavesNoPair v w (λ x y. y < x))
+        (λ p. LeavesPair v w p.node p.other (λ x y. y < x)) }
+    ensures ends { IfSome result (λ p. (w.low < p.node.low) × (p.other.high < v.high)) }
+    ensures left { IfSome result (λ p. (x : ℕ) → Admits p.node x → w.low < x) }
+    ensures right { IfSome result (λ p. (y : ℕ) → Admits p.other y → y < v.high) }
+{
+    if w.low == u32::MAX {
+        return None;
+    }
+    if v.high == 0 {
+        return None;
+    }
+    Some(Pair {
+        node: Known {
+            low: v.low.max(w.low + 1),
+            ..v
+        },
+        other: Known {
+            high: w.high.min(v.high - 1),
+            ..w
+        },
+    })
+}
+
+/// The first is at least the second.
+pub fn at_least(v: Known, w: Known) -> Pair
+    ensures pair { LeavesPair v w result.node result.other (λ x y. y ≤ x) }
+    ensures ends { (w.low ≤ result.node.low) × (result.other.high ≤ v.high) }
+    ensures left { (x : ℕ) → Admits result.node x → w.low ≤ x }
+    ensures right { (y : ℕ) → Admits result.other y → y ≤ v.high }
+{
+    Pair {
+        node: Known {
+            low: v.low.max(w.low),
+            ..v
+        },
+        other: Known {
+            high: w.high.min(v.high),
+            ..w
+        },
+    }
+}
+
+/// A bound that is a number which the word does not have is moved past it.
+pub fn differs(v: Known, number: u32) -> Option<Known>
+    ensures kept { MatchOption result ((x : ℕ) → Admits v x → ¬ (x ≢ number)) (λ r. (x : ℕ)
+        → Admits v x → x ≢ number → Admits r x) }
+    ensures ends { IfSome result (λ r. (v.low ≡ number → number < r.low)
+        × (v.high ≡ number → r.high < number)) }
+    ensures moved { IfSome result (λ r. v.low ≡ v.high → (x : ℕ) → Admits r x → x ≢ number) }
+{
+    let mut at = v;
+    if at.low == number {
+        if at.low == u32::MAX {
+            return None;
+        }
+        at.low += 1;
+    }
+    if at.high == number {
+        if at.high == 0 {
+            return None;
+        }
+        at.high -= 1;
+    }
+    Some(at)
+}
+
+/// The two have no common bit.
+pub fn no_common_bit(v: Known, bits: u32) -> Known
+    ensures kept { (x : ℕ) → Admits v x → bit_and x bits ≡ 0 → Admits result x }
+    ensures told { AreBitsOf bits result.zeros }
+    ensures sharp { (x : ℕ) → Admits result x → bit_and x bits ≡ 0 }
+{
+    Known {
+        zeros: v.zeros | bits,
+        ..v
+    }
+}
+
+/// The two have a common bit.
+pub fn common_bit(v: Known, bits: u32) -> Option<Known>
+    ensures kept { MatchOption result ((x : ℕ) → Admits v x → ¬ (bit_and x bits ≢ 0))
+        (λ r. (x : ℕ) → Admits v x → bit_and x bits ≢ 0 → Admits r x) }
+    ensures told { IsOneBit bits → IfSome result (λ r. AreBitsOf bits r.ones) }
+    ensures sharp { IsOneBit bits → IfSome result (λ r. (x : ℕ) → Admits r x → bit_and x bits ≢ 0) }
+    ensures decided { IsConsistent v → IsDecided v → IfSome result (λ r. (x : ℕ) → Admits r x
+        → bit_and x bits ≢ 0) }
+{
+    let open = bits & !v.zeros;
+    if open == 0 {
+        return None;
+    }
+    let place = open.trailing_zeros();
+    if place < 32 && open == 1u32 << place {
+        return Some(Known {
+            ones: v.ones | open,
+            ..v
+        });
+    }
+    Some(v)
+}

@@ -1,0 +1,143 @@
+//! Forward propagation: what is known of each node, met with what follows from its operands.
+
+ghost use Rattle.std.specs.Prelude.{◌≡◌, ℕ, ◌+◌, ◌-◌, ◌*◌, ◌/◌, ◌%◌, ◌<◌, ◌≤◌, ◌↔◌, ◌⊎◌, ◌^◌, List, [], ◌∷◌, ◌++◌, length, slice_index, MatchBool, MatchOption, true, false, bit_or, max, min, IfOk, OnErr, IsTrue, Ok, take};
+ghost use Rattle.sf_insn.specs.Inputs.{IsInput};
+ghost use Rattle.sf_sym.specs.Pool.{OperandsBelow, IsPool, node_at, node_value, value_of};
+ghost use Rattle.sf_insn.specs.declared.input.Input.{Input};
+ghost use Rattle.sf_dom.specs.Known.{Admits, Leaves, IsConsistent, known_of};
+ghost use Rattle.sf_dom.specs.Propagation.{KeepsAgreeing, NoneAgreesWith, AreConsistentOperands, IsReducedNode, IsReady, IsPropagated, IsGrown};
+ghost use Rattle.sf_dom.specs.Facts.{known_at, numbers_at, excluded_of, AgreesWith, AreDecidedOperands};
+ghost use Rattle.sf_dom.specs.Reduction.{IsForced, IsMeet};
+
+use crate::exclusions::Exclusions;
+use crate::fault::Fault;
+use crate::fitting::is_tight;
+use crate::forward::{forward, top_known, negated};
+use crate::known::{Known, exact_number, reduce_known, reduce_word};
+use crate::nodes::Nodes;
+use sf_sym::{Node, NodeId, Pool};
+use std::alloc::Global;
+
+/// What is known of a node, reduced, or none where no number is left.
+pub fn reduced(known: Known, node: Node, excluded: &[Exclusions]) -> Option<Known>
+    requires words { length excluded.now ≡ 16 }
+    requires word { (i : ℕ) → node ≡ Node.Word i → i < 16 }
+    ensures { MatchOption result
+        ((n : ℕ) → ¬ Leaves known (excluded_of excluded.now node) n)
+        (λ r. IsReducedNode known r excluded.now node) }
+{
+    match node {
+        Node::Word(i) => reduce_word(known, &excluded[i as usize]),
+        _ => reduce_known(known),
+    }
+}
+
+/// What follows of a node from what is known of the older ones.
+pub fn transfer(nodes: &Nodes, node: Node) -> Known
+    requires { OperandsBelow (length nodes.now.known) node }
+    ensures value { (d : Input) (older : List ℕ) → IsInput d
+        → ((i : ℕ) → i < length nodes.now.known
+        → Admits (known_at nodes.now.known i) (slice_index older i))
+        → Admits result (node_value d older node) }
+    ensures forced { AreConsistentOperands nodes.now.known node
+        → AreDecidedOperands nodes.now.known node → IsForced result }
+    ensures constant { (c : ℕ) → node ≡ Node.Const c → (result.low ≡ c) × (result.high ≡ c) }
+{
+    match node {
+        Node::Const(c) => exact_number(c),
+        Node::Word(_) => top_known(),
+        Node::Bin(op, a, b) => forward(op, nodes.get(a.0), nodes.get(b.0)),
+        Node::Neg(a) => negated(nodes.get(a.0)),
+    }
+}
+
+/// What both know.
+pub fn meet(a: Known, b: Known) -> Known
+    ensures { IsMeet a b result }
+{
+    Known {
+        low: a.low.max(b.low),
+        high: a.high.min(b.high),
+        zeros: a.zeros | b.zeros,
+        ones: a.ones | b.ones,
+    }
+}
+
+/// Takes what is known of the older nodes on to each node that may gain. False: no input agrees. A word whose ends are left
+/// for it is as tight as it gets, since nothing follows of it from older nodes.
+pub fn propagate(nodes: &mut Nodes, excluded: &[Exclusions], pool: &Pool) -> bool
+    requires ready { IsReady nodes.old.known pool.now }
+    requires words { length excluded.now ≡ 16 }
+    ensures { MatchBool result
+        (IsPropagated nodes.old.known nodes.new.known excluded.now pool.now)
+        (NoneAgreesWith nodes.old.known excluded.now pool.now) }
+{
+    let _count = pool.len();
+    for rank in 0..nodes.variable_count() {
+        let i = nodes.variable(rank);
+        let before = nodes.get(i);
+        if i < excluded.len() && is_tight(before, &excluded[i]) {
+            continue;
+        }
+        let node = pool.node(NodeId(i));
+        let known = meet(before, transfer(nodes, node));
+        match reduced(known, node, excluded) {
+            None => return false,
+            Some(next) => nodes.set(i, next),
+        }
+    }
+    true
+}
+
+/// Takes in the nodes of a pool that are new. False: no input agrees. A single new node that isn't taken in, for that
+/// or for want of memory, leaves what is known as it was.
+pub fn append(nodes: &mut Nodes, excluded: &[Exclusions], pool: &Pool) -> Result<bool, Fault>
+    requires covers { length nodes.old.known ≤ length pool.now }
+    requires words { length excluded.now ≡ 16 }
+    requires none { (16 ≤ length nodes.old.known) ⊎ ((w : ℕ) → numbers_at excluded.now w ≡ []) }
+    ensures grown { IfOk result (λ b. MatchBool b
+        (IsGrown nodes.old.known nodes.new.known excluded.now pool.now)
+        (NoneAgreesWith nodes.old.known excluded.now pool.now)) }
+    ensures false_unchanged { length pool.now ≤ length nodes.old.known + 1 → result ≡ Ok false
+        → nodes.new ≡ nodes.old }
+    ensures err { length pool.now ≤ length nodes.old.known + 1
+        → OnErr result (nodes.new ≡ nodes.old) }
+{
+    for i in nodes.len()..pool.len() {
+        let node = pool.node(NodeId(i));
+        let known = transfer(nodes, node);
+        match reduced(known, node, excluded) {
+            None => return Ok(false),
+            Some(next) => nodes.push(next)?,
+        }
+    }
+    Ok(true)
+}
+
+/// Takes in the nodes of a pool that are new. False: no input agrees. Where they aren't taken in, for that or for want of
+/// memory, what is known is as it was: a copy to go back to is made only where several came at once.
+pub fn extend(
+    alloc: Global,
+    nodes: &mut Nodes,
+    excluded: &[Exclusions],
+    pool: &Pool,
+) -> Result<bool, Fault>
+    requires covers { length nodes.old.known ≤ length pool.now }
+    requires words { length excluded.now ≡ 16 }
+    requires none { (16 ≤ length nodes.old.known) ⊎ ((w : ℕ) → numbers_at excluded.now w ≡ []) }
+    ensures grown { IfOk result (λ b. MatchBool b
+        (IsGrown nodes.old.known nodes.new.known excluded.now pool.now)
+        (NoneAgreesWith nodes.old.known excluded.now pool.now)) }
+    ensures false_unchanged { result ≡ Ok false → nodes.new ≡ nodes.old }
+    ensures err { OnErr result (nodes.new ≡ nodes.old) }
+{
+    if pool.len() - nodes.len() <= 1 {
+        return append(nodes, excluded, pool);
+    }
+    let mut next = nodes.fork(alloc)?;
+    if !append(&mut next, excluded, pool)? {
+        return Ok(false);
+    }
+    *nodes = next;
+    Ok(true)
+}

@@ -1,0 +1,64 @@
+-- A machine's concrete states while its pool grows.
+use Rattle.std.proofs.Common.{◌≡◌, ℕ, zero, suc, ◌<◌, ◌&&◌, Bool, List, [], ◌∷◌, ◌++◌, length, map, Option, Some, None, refl, ap, subst, ◌∙◌, arith}
+use Rattle.std.specs.Prelude.{option_map, slice_get}
+use Rattle.std.proofs.lemmas.Option.{same_Some}
+use Rattle.std.specs.List.{list_all, AllByRecursion}
+use Rattle.sf_insn.specs.declared.input.Input.{Input}
+use Rattle.sf_run.specs.Machine.{State}
+use Rattle.sf_sym.specs.declared.pool.Node.{Node}
+use Rattle.sf_sym.specs.declared.pool.NodeId.{NodeId}
+use Rattle.sf_sym.specs.declared.pool.Cond.{Cond}
+use Rattle.sf_sym.specs.Pool.{value_of, is_met, same, IsCondBelow}
+use Rattle.sf_sym.specs.ValueLaws.{value-older}
+use Rattle.sf_insn.specs.Words.{passes}
+use Rattle.sf_piece.specs.declared.machine.SymbolicMachine.{SymbolicMachine}
+use Rattle.sf_piece.specs.SymbolicRun.{concrete_state, AreNodesBelow}
+
+pub scratch_same : (ws : List (Option NodeId)) (f g : NodeId → ℕ)
+    → ((k : ℕ) (w : NodeId) → slice_get ws k ≡ Some (Some w) → f w ≡ g w)
+    → map (option_map f) ws ≡ map (option_map g) ws
+scratch_same [] f g h = refl
+scratch_same (None ∷ ws) f g h = ap (λ (l : List (Option ℕ)). None ∷ l) (scratch_same ws f g (λ k w e. h (suc k) w e))
+scratch_same (Some w ∷ ws) f g h =
+    let rest : map (option_map f) ws ≡ map (option_map g) ws = scratch_same ws f g (λ k w e. h (suc k) w e) in
+    let here : f w ≡ g w = h zero w refl in
+    ap (λ (n : ℕ). Some n ∷ map (option_map f) ws) here ∙ ap (λ (l : List (Option ℕ)). Some (g w) ∷ l) rest
+
+abbrev state : ℕ → ℕ → ℕ → List (Option ℕ) → State
+state place a x scratch = record { place = place; a = a; x = x; scratch = scratch }
+
+state_is : {p a a' x x' : ℕ} {s s' : List (Option ℕ)} → a ≡ a' → x ≡ x' → s ≡ s' → state p a x s ≡ state p a' x' s'
+state_is e f g = cc
+
+pub valued_grown : (pool added : List Node) (m : SymbolicMachine) (d : Input) → AreNodesBelow (length pool) m
+    → concrete_state (pool ++ added) m d ≡ concrete_state pool m d
+valued_grown pool added m d b =
+    state_is (value-older pool added d m.a.0 b.a) (value-older pool added d m.x.0 b.x)
+    (scratch_same m.scratch (λ n. value_of (pool ++ added) d n.0) (λ n. value_of pool d n.0)
+    (λ k w e. value-older pool added d w.0 (b.scratch k w e)))
+
+pub met_grown : (pool added : List Node) (d : Input) (c : Cond) → IsCondBelow (length pool) c
+    → is_met (pool ++ added) d c ≡ is_met pool d c
+met_grown pool added d c b =
+    ap (λ (n : ℕ). same (passes c.test n (value_of (pool ++ added) d c.other.0)) c.sense)
+    (value-older pool added d c.node.0 b.0)
+    ∙ ap (λ (n : ℕ). same (passes c.test (value_of pool d c.node.0) n) c.sense) (value-older pool added d c.other.0 b.1)
+
+pub all_grown : (pool added : List Node) (d : Input) (cs : List Cond) → AllByRecursion (IsCondBelow (length pool)) cs
+    → list_all (is_met (pool ++ added) d) cs ≡ list_all (is_met pool d) cs
+all_grown pool added d [] b = refl
+all_grown pool added d (c ∷ cs) b =
+    let here : is_met (pool ++ added) d c ≡ is_met pool d c = met_grown pool added d c b.0 in
+    let rest : list_all (is_met (pool ++ added) d) cs ≡ list_all (is_met pool d) cs = all_grown pool added d cs b.1 in
+    ap (λ (x : Bool). x && list_all (is_met (pool ++ added) d) cs) here ∙ ap (λ (x : Bool). is_met pool d c && x) rest
+
+pub below_grown : (n m : ℕ) (cs : List Cond) → n < m → AllByRecursion (IsCondBelow n) cs
+    → AllByRecursion (IsCondBelow m) cs
+below_grown n m [] h b = tt
+below_grown n m (c ∷ cs) h b = ((omega (arith, b.0.0), omega (arith, b.0.1)), below_grown n m cs h b.1)
+
+pub below_at : (n : ℕ) (cs : List Cond) (k : ℕ) (c : Cond) → AllByRecursion (IsCondBelow n) cs → slice_get cs k ≡ Some c
+    → IsCondBelow n c
+below_at n [] k c b at = absurd cc
+below_at n (x ∷ cs) zero c b at = subst (IsCondBelow n) (same_Some x c at) b.0
+below_at n (x ∷ cs) (suc k) c b at = below_at n cs k c b.1 at

@@ -1,0 +1,288 @@
+-- Pieces that take a truth value of the trace into their names.
+use Rattle.std.proofs.Common.{◌≡◌, ℕ, zero, suc, ◌+◌, ◌-◌, ◌*◌, ◌<◌, Bool, true, false, List, [], ◌∷◌, ◌++◌, length, take, drop, map, Option, Some, None, slice_get, refl, sym, ap, subst, ◌∙◌, inl, inr, arith, append_assoc, append-nil}
+use Rattle.std.specs.Prelude.{if◌then◌else◌, ◌==◌, Contains, IsSome}
+use Rattle.std.specs.List.{flat_map, list_all}
+use Rattle.std.proofs.lemmas.Option.{same_Some}
+use Rattle.std.proofs.lemmas.List.{length_push}
+use Rattle.sf_insn.specs.declared.input.Input.{Input}
+use Rattle.sf_insn.specs.Inputs.{IsInput}
+use Rattle.sf_insn.specs.Words.{apply, passes}
+use Rattle.sf_insn.specs.declared.ops.BinOp.TheVariants.{Div}
+use Rattle.sf_insn.specs.declared.ops.Test.{Test}
+use Rattle.sf_check.specs.declared.insn.Insn.{Insn}
+use Rattle.sf_check.specs.declared.insn.Insn.TheVariants.{Alu, Branch, ReturnA}
+use Rattle.sf_check.specs.declared.insn.Operand.{Operand}
+use Rattle.sf_check.specs.declared.insn.Operand.TheVariants.{X}
+use Rattle.sf_check.specs.Programs.{IsAt}
+use Rattle.sf_check.specs.ContainsLaws.{contains_here, contains_there}
+use Rattle.sf_run.specs.Machine.{State, Progress, goes, returns, stuck, insn_progress, outcome_from, run_for, operand_of, test_progress, met_by, return_of, trace_of}
+use Rattle.sf_run.specs.RunLaws.{step_is, ends_from, option_map_some, put}
+use Rattle.sf_sym.specs.declared.pool.Cond.{Cond}
+use Rattle.sf_sym.specs.Pool.{value_of, is_met}
+use Rattle.sf_dom.specs.Facts.{FactsView}
+use Rattle.sf_piece.specs.Machines.{after_return}
+use Rattle.sf_piece.specs.Pieces.{PieceData, is_member}
+use Rattle.sf_piece.specs.SymbolicRun.{concrete_state, met_of, number_from, IsPending, AreNodesBelow, StandsAt, IsPiece}
+use Rattle.sf_piece.specs.Works.{HasAtHand, NextIs, work_left}
+use Rattle.sf_piece.proofs.Moves.{made, stands_moved, stands_kept, stands_returned}
+use Rattle.sf_piece.proofs.Kept.{at_same, safe_moved}
+
+-- ---- what the trace of a member goes on with
+
+first_met : (n : ℕ) (code : List Insn) (d : Input) (s : State) (i : Insn) (o : List Bool × ℕ) → IsAt code s.place i
+    → run_for n code d s ≡ Some o → (more : List Bool) × (o.0 ≡ met_of (insn_progress d s i) ++ more)
+unfolding run_for
+first_met zero code d s i o at e = absurd cc
+first_met (suc n) code d s i o at e = by (insn_progress d s i)
+    (sym (ap (outcome_from (run_for n code d)) (step_is code d s i at)) ∙ e)
+  where
+    by : (q : Progress) → outcome_from (run_for n code d) q ≡ Some o → (more : List Bool) × (o.0 ≡ met_of q ++ more)
+    by (goes met t) e =
+        let x = option_map_some (put met) (run_for n code d t) o e in
+        (x.0.0, ap (λ (q : List Bool × ℕ). q.0) (sym x.2))
+    by (returns met v) e = ([], ap (λ (q : List Bool × ℕ). q.0) (sym (same_Some (met, v) o e)) ∙ sym (append-nil met))
+    by stuck e = absurd cc
+
+split_there : (l : List Bool) (k : ℕ) (e : Bool) → slice_get l k ≡ Some e → l ≡ take k l ++ e ∷ drop (suc k) l
+split_there [] k e h = absurd cc
+split_there (x ∷ l) zero e h = ap (λ (y : Bool). y ∷ l) (same_Some x e h)
+split_there (x ∷ l) (suc k) e h = ap (λ (t : List Bool). x ∷ t) (split_there l k e h)
+
+take_there : (l : List Bool) (k : ℕ) (e : Bool) → slice_get l k ≡ Some e → take (suc k) l ≡ take k l ++ e ∷ []
+take_there [] k e h = absurd cc
+take_there (x ∷ l) zero e h = ap (λ (y : Bool). y ∷ []) (same_Some x e h)
+take_there (x ∷ l) (suc k) e h = ap (λ (t : List Bool). x ∷ t) (take_there l k e h)
+
+regroup : (base pre dr more flat : List Bool) (e : Bool) → base ++ (((pre ++ e ∷ dr) ++ more) ++ flat) ≡ (base ++ pre)
+    ++ e ∷ (dr ++ (more ++ flat))
+regroup base pre dr more flat e =
+    ap (λ (l : List Bool). base ++ l) (append_assoc (pre ++ e ∷ dr) more flat
+    ∙ append_assoc pre (e ∷ dr) (more ++ flat)) ∙ sym (append_assoc base pre (e ∷ (dr ++ (more ++ flat))))
+
+pub taken_is : (p : PieceData) (i : Insn) (s : HasAtHand p i) (d : Input) → IsInput d → is_member p d ≡ true
+    → s.pre ≡ take p.machine.taken (met_of (insn_progress d (concrete_state p.pool p.machine d) i))
+taken_is p i s d inp member =
+    (s.stands.runs d inp member).taken ∙ ap (λ (q : Progress). take p.machine.taken (met_of q))
+    (step_is s.code d (concrete_state p.pool p.machine d) i s.at)
+
+pub entry_trace : (p : PieceData) (i : Insn) (b : Bool) → (s : HasAtHand p i) → (d : Input)
+    → NextIs (insn_progress d (concrete_state p.pool p.machine d) i) p.machine.taken b → IsInput d → is_member p d ≡ true
+    → (more : List Bool) × (trace_of p.stack d ≡ p.name ++ b ∷ more)
+entry_trace p i b s d next inp member = by (run_for (length s.code) s.code d st) refl
+    (ends_from (length s.code) s.code d st s.stands.laws.0 (s.stands.inside.safe d) (omega arith))
+  where
+    st : State
+    st = concrete_state p.pool p.machine d
+
+    by : (r : Option (List Bool × ℕ)) → run_for (length s.code) s.code d (concrete_state p.pool p.machine d) ≡ r → IsSome r
+        → (more : List Bool) × (trace_of p.stack d ≡ p.name ++ b ∷ more)
+    by None ran some = absurd cc
+    by (Some o) ran some =
+        let l = met_of (insn_progress d (concrete_state p.pool p.machine d) i) in
+        let k = p.machine.taken in
+        let first = first_met (length s.code) s.code d (concrete_state p.pool p.machine d) i o s.at ran in
+        let flat = flat_map (λ (q : List Insn). met_by q d) s.later in
+        let all = (s.stands.runs d inp member).ends (o.0 ++ flat) (o.1 ∷ map (λ (q : List Insn). return_of q d) s.later)
+        (length s.code, o, ran, refl, refl) in
+        let whole : l ≡ s.pre ++ b ∷ drop (suc k) l = split_there l k b next
+        ∙ ap (λ (t : List Bool). t ++ b ∷ drop (suc k) l) (sym (taken_is p i s d inp member)) in
+        let met : o.0 ≡ (s.pre ++ b ∷ drop (suc k) l) ++ first.0 =
+        first.1 ∙ ap (λ (t : List Bool). t ++ first.0) whole in (
+          drop (suc k) l ++ (first.0 ++ flat),
+          all.0 ∙ ap (λ (t : List Bool). s.base ++ (t ++ flat)) met
+              ∙ regroup s.base s.pre (drop (suc k) l) first.0 flat b
+              ∙ ap (λ (t : List Bool). t ++ b ∷ (drop (suc k) l ++ (first.0 ++ flat))) (sym s.stands.name_is),
+        )
+
+-- ---- where the run stands after it
+
+pub record Turned (p q : PieceData) : Type 0 where
+  pub rest : List (List Insn)
+  pub base : List Bool
+  pub pre : List Bool
+  pub stands : StandsAt q rest base pre
+  pub nodes : AreNodesBelow (length p.pool) q.machine
+  pub zero_is : q.machine.zero ≡ p.machine.zero
+  pub falls : work_left q < work_left p
+
+-- the new piece's members are members of the old one, on which the next truth value is this
+abbrev pub Meets : PieceData → Insn → List Cond → Bool → Type 0
+Meets p i cs b = (d : Input) → IsInput d → list_all (is_met p.pool d) cs ≡ true → (is_member p d ≡ true)
+    × NextIs (insn_progress d (concrete_state p.pool p.machine d) i) p.machine.taken b
+
+number_push : (n : ℕ) (bs : List Bool) (b : Bool) → number_from n (bs ++ b ∷ []) ≡ 2 * number_from n bs
+    + (if b then 1 else 0)
+number_push n [] b = refl
+number_push n (c ∷ bs) b = number_push (2 * n + (if c then 1 else 0)) bs b
+
+same_nodes : (p : PieceData) (place taken value : ℕ) → AreNodesBelow (length p.pool) p.machine
+    → AreNodesBelow (length p.pool) (record p.machine { place = place; taken = taken; value = value })
+same_nodes p place taken value h = record { a = h.a; x = h.x; zero = h.zero; scratch = h.scratch }
+
+div_true : (b e : Bool) (u : State) → NextIs (if b then returns (true ∷ []) 0 else goes (false ∷ []) u) 0 e → e ≡ true
+    → (if b then returns (true ∷ []) 0 else goes (false ∷ []) u) ≡ returns (true ∷ []) 0
+div_true true e u n is = refl
+div_true false e u n is = let clash : false ≡ true = same_Some false e n ∙ is in absurd cc
+
+div_false : (b e : Bool) (u : State) → NextIs (if b then returns (true ∷ []) 0 else goes (false ∷ []) u) 0 e → e ≡ false
+    → false ∷ [] ≡ take 1 (met_of (if b then returns (true ∷ []) 0 else goes (false ∷ []) u))
+div_false true e u n is = let clash : true ≡ false = same_Some true e n ∙ is in absurd cc
+div_false false e u n is = refl
+
+pub branch_turned : (p : PieceData) (test : Test) (other : Operand) (t f : ℕ) (b : Bool) (cs : List Cond)
+    (fs : FactsView) → IsPiece p → (s : HasAtHand p (Branch test other t f)) → Meets p (Branch test other t f) cs b
+    → Turned p (made p (p.name ++ b ∷ []) cs (record p.machine
+    { place = p.machine.place + 1 + (if b then t else f) }) fs)
+unfolding is_member
+branch_turned p test other t f b cs fs h s narrow =
+    let small : p.machine.place < 4096 = s.small in
+    let none = pending s.stands.inside.pending in
+    record {
+      rest = s.code ∷ s.later;
+      base = s.base ++ b ∷ [];
+      pre = [];
+      stands = stands_moved p s.code s.later s.base s.pre (b ∷ []) (Branch test other t f) (p.name ++ b ∷ []) cs
+          (record p.machine { place = p.machine.place + 1 + (if b then t else f) }) fs s.stands s.at
+          (b, refl, refl) (ap (λ (l : List Bool). l ++ b ∷ []) (s.stands.name_is
+          ∙ ap (λ (l : List Bool). s.base ++ l) none.1 ∙ append-nil s.base))
+          refl refl none.0 (s.stands.number ∙ ap (number_from 0) none.1)
+          (λ d. safe_moved s.code (concrete_state p.pool p.machine d)
+          (record (concrete_state p.pool p.machine d) { place = p.machine.place + 1 + (if b then t else f) })
+          (Branch test other t f) s.stands.laws.0 (s.stands.inside.safe d) s.at (leads b) refl refl)
+          (λ d inp member.
+          let g = narrow d inp member in
+          let r = passes test (value_of p.pool d p.machine.a.0) (operand_of (concrete_state p.pool p.machine d) other) in
+          let next : slice_get (r ∷ []) 0 ≡ Some b = subst (λ (k : ℕ). slice_get (r ∷ []) k ≡ Some b) none.0 g.1 in
+          let is : r ≡ b = same_Some r b next in
+          (g.0, ap (λ (v : Bool). test_progress (concrete_state p.pool p.machine d) v t f) is));
+      nodes = same_nodes p (p.machine.place + 1 + (if b then t else f)) p.machine.taken p.machine.value h.nodes;
+      zero_is = refl;
+      falls = less (if b then t else f) small;
+    }
+  where
+    pending : IsPending s.code p.machine.place p.machine.taken s.pre → (p.machine.taken ≡ 0) × (s.pre ≡ [])
+    pending (inl q) = q
+    pending (inr (inl q)) = let clash : ReturnA ≡ Branch test other t f =
+        at_same s.code p.machine.place ReturnA (Branch test other t f) q.0 s.at in absurd cc
+    pending (inr (inr q)) = let clash : Alu Div X ≡ Branch test other t f =
+        at_same s.code p.machine.place (Alu Div X) (Branch test other t f) q.0 s.at in absurd cc
+
+    leads : (b : Bool) → Contains ((p.machine.place + 1 + t) ∷ (p.machine.place + 1 + f) ∷ [])
+        (p.machine.place + 1 + (if b then t else f))
+    leads true = contains_here (p.machine.place + 1 + t) ((p.machine.place + 1 + f) ∷ []) (p.machine.place + 1 + t) refl
+    leads false = contains_there (p.machine.place + 1 + t) ((p.machine.place + 1 + f) ∷ []) (p.machine.place + 1 + f)
+        (contains_here (p.machine.place + 1 + f) [] (p.machine.place + 1 + f) refl)
+
+    less : (n : ℕ) → p.machine.place < 4096 → 524288 * (length p.stack - p.machine.program)
+        + 64 * (4096 - (p.machine.place + 1 + n)) + (33 - p.machine.taken)
+        < 524288 * (length p.stack - p.machine.program) + 64 * (4096 - p.machine.place) + (33 - p.machine.taken)
+    less n small = omega arith
+
+pub return_turned : (p : PieceData) (b : Bool) (cs : List Cond) (fs : FactsView) → IsPiece p → (s : HasAtHand p ReturnA)
+    → p.machine.taken < 32 → Meets p ReturnA cs b
+    → Turned p (made p (p.name ++ b ∷ []) cs (record p.machine {
+      taken = p.machine.taken + 1;
+      value = 2 * p.machine.value + (if b then 1 else 0);
+    }) fs)
+unfolding is_member
+return_turned p b cs fs h s more narrow =
+    let len = pending s.stands.inside.pending in
+    record {
+      rest = s.code ∷ s.later;
+      base = s.base;
+      pre = s.pre ++ b ∷ [];
+      stands = stands_kept p s.code s.later s.base s.pre b (p.name ++ b ∷ []) cs fs (p.machine.taken + 1)
+          (2 * p.machine.value + (if b then 1 else 0)) s.stands refl
+          (ap (λ (n : ℕ). 2 * n + (if b then 1 else 0)) s.stands.number ∙ sym (number_push 0 s.pre b))
+          (inr (inl (s.at, omega arith, length_push s.pre b ∙ omega arith)))
+          (λ d inp member.
+          let g = narrow d inp member in
+          let l = met_of (insn_progress d (concrete_state p.pool p.machine d) ReturnA) in
+          let one : suc p.machine.taken ≡ p.machine.taken + 1 = omega arith in (
+            g.0,
+            ap (λ (t : List Bool). t ++ b ∷ []) (taken_is p ReturnA s d inp g.0)
+                ∙ sym (take_there l p.machine.taken b g.1)
+                ∙ ap (λ (k : ℕ). take k l) one ∙ ap (λ (q : Progress). take (p.machine.taken + 1) (met_of q))
+                (sym (step_is s.code d (concrete_state p.pool p.machine d) ReturnA s.at)),
+          ));
+      nodes = same_nodes p p.machine.place (p.machine.taken + 1) (2 * p.machine.value + (if b then 1 else 0)) h.nodes;
+      zero_is = refl;
+      falls = omega arith;
+    }
+  where
+    pending : IsPending s.code p.machine.place p.machine.taken s.pre → length s.pre ≡ p.machine.taken
+    pending (inl q) = ap length q.1 ∙ sym q.0
+    pending (inr (inl q)) = q.2
+    pending (inr (inr q)) = let clash : Alu Div X ≡ ReturnA =
+        at_same s.code p.machine.place (Alu Div X) ReturnA q.0 s.at in absurd cc
+
+div_pending : (p : PieceData) (s : HasAtHand p (Alu Div X)) → p.machine.taken ≡ 0 → s.pre ≡ []
+div_pending p s none = by s.stands.inside.pending
+  where
+    by : IsPending s.code p.machine.place p.machine.taken s.pre → s.pre ≡ []
+    by (inl q) = q.1
+    by (inr (inl q)) = let clash : ReturnA ≡ Alu Div X =
+        at_same s.code p.machine.place ReturnA (Alu Div X) q.0 s.at in absurd cc
+    by (inr (inr q)) = absurd (omega (arith, q.1))
+
+pub zero_turned : (p : PieceData) (cs : List Cond) (fs : FactsView)
+    → AreNodesBelow (length p.pool) (after_return p.machine 0) → IsPiece p → (s : HasAtHand p (Alu Div X))
+    → p.machine.taken ≡ 0 → Meets p (Alu Div X) cs true
+    → Turned p (made p (p.name ++ true ∷ []) cs (after_return p.machine 0) fs)
+unfolding is_member
+zero_turned p cs fs nodes h s none narrow =
+    let pre = div_pending p s none in
+    let running : p.machine.program < length p.stack = s.running in
+    record {
+      rest = s.later;
+      base = s.base ++ true ∷ [];
+      pre = [];
+      stands = stands_returned p s.code s.later s.base s.pre (true ∷ []) (Alu Div X) 0
+          (p.name ++ true ∷ []) cs fs s.stands s.at (inl (refl, refl))
+          (ap (λ (l : List Bool). l ++ true ∷ []) (s.stands.name_is ∙ ap (λ (l : List Bool). s.base ++ l) pre
+          ∙ append-nil s.base)) h.zero
+          (λ d inp member.
+          let g = narrow d inp member in
+          let u = record (concrete_state p.pool p.machine d) {
+            place = p.machine.place + 1;
+            a = apply Div (value_of p.pool d p.machine.a.0) (value_of p.pool d p.machine.x.0);
+          } in (
+            g.0,
+            div_true (value_of p.pool d p.machine.x.0 == 0) true u
+                (subst (λ (k : ℕ). NextIs (insn_progress d (concrete_state p.pool p.machine d) (Alu Div X)) k true) none g.1) refl,
+          ));
+      nodes = nodes;
+      zero_is = refl;
+      falls = omega arith;
+    }
+
+pub nonzero_turned : (p : PieceData) (cs : List Cond) (fs : FactsView) → IsPiece p → (s : HasAtHand p (Alu Div X))
+    → p.machine.taken ≡ 0 → Meets p (Alu Div X) cs false
+    → Turned p (made p (p.name ++ false ∷ []) cs (record p.machine { taken = 1 }) fs)
+unfolding is_member
+nonzero_turned p cs fs h s none narrow =
+    let pre = div_pending p s none in
+    let one : s.pre ++ false ∷ [] ≡ false ∷ [] = ap (λ (l : List Bool). l ++ false ∷ []) pre in
+    record {
+      rest = s.code ∷ s.later;
+      base = s.base;
+      pre = s.pre ++ false ∷ [];
+      stands = stands_kept p s.code s.later s.base s.pre false (p.name ++ false ∷ []) cs fs 1
+          p.machine.value s.stands refl
+          (s.stands.number ∙ ap (number_from 0) pre ∙ ap (number_from 0) (sym one)) (inr (inr (s.at, refl, one)))
+          (λ d inp member.
+          let g = narrow d inp member in
+          let u = record (concrete_state p.pool p.machine d) {
+            place = p.machine.place + 1;
+            a = apply Div (value_of p.pool d p.machine.a.0) (value_of p.pool d p.machine.x.0);
+          } in (
+            g.0,
+            one ∙ div_false (value_of p.pool d p.machine.x.0 == 0) false u
+                (subst (λ (k : ℕ). NextIs (insn_progress d (concrete_state p.pool p.machine d) (Alu Div X)) k false) none g.1) refl
+                ∙ ap (λ (q : Progress). take 1 (met_of q))
+                (sym (step_is s.code d (concrete_state p.pool p.machine d) (Alu Div X) s.at)),
+          ));
+      nodes = same_nodes p p.machine.place 1 p.machine.value h.nodes;
+      zero_is = refl;
+      falls = omega arith;
+    }

@@ -1,0 +1,33 @@
+use Rattle.std.proofs.Common.{false}
+use Rattle.sf_piece.proofs.Lawful.{lawful_child, right_child}
+use Rattle.sf_piece.proofs.deciding.child.Goals as goal
+
+pub invariant_of-new : goal.invariant_of-new
+invariant_of-new c =
+    rw (
+      c.in_ok-try_clone.ensures,
+      c.in_ok-with.ensures,
+      c.in_ok-fork.ensures,
+      c.in_ok-push.ensures.ok,
+      c.in_ok-conditions.ensures,
+    )
+    (lawful_child _ c.args.insn c.args.cond false c.after-to.result c.args.facts
+    (rw (← c.run.view_is) at c.requires.lawful) (rw (← c.run.view_is) at c.requires.standing)
+    (rw (← c.run.view_is) at c.requires.query) (rw (← c.run.view_is) at c.requires.facts)
+    (rw (← c.run.view_is) at c.after-to.ensures))
+
+pub returns : goal.returns
+returns c =
+    rw (
+      c.in_ok-new.ensures.ok,
+      ← c.run.view_is,
+      c.in_ok-try_clone.ensures,
+      c.in_ok-with.ensures,
+      c.in_ok-fork.ensures,
+      c.in_ok-push.ensures.ok,
+      c.in_ok-conditions.ensures,
+    )
+    (right_child _ c.args.insn c.args.cond false c.after-to.result c.args.facts
+    (rw (← c.run.view_is) at c.requires.lawful) (rw (← c.run.view_is) at c.requires.standing)
+    (rw (← c.run.view_is) at c.requires.query) (rw (← c.run.view_is) at c.requires.facts)
+    (rw (← c.run.view_is) at c.after-to.ensures))

@@ -1,0 +1,21 @@
+use Rattle.std.proofs.Common.{true, false}
+use Rattle.sf_piece.proofs.Children.{entry_foreseen, never_implies}
+use Rattle.sf_piece.proofs.Joined.{split_right}
+use Rattle.sf_piece.proofs.deciding.decide.Goals as goal
+
+pub take-requires-in_default-2-clause-foreseen : goal.take-requires-in_default-2-clause-foreseen
+take-requires-in_default-2-clause-foreseen c =
+    let never = rw c.in_default-2.is at c.in_ok-on_false.ensures in
+    entry_foreseen c.args.run.now c.args.insn c.args.cond true c.requires.query
+    (never_implies c.args.run.now c.args.cond true never)
+
+pub take-requires-in_default-4-clause-foreseen : goal.take-requires-in_default-4-clause-foreseen
+take-requires-in_default-4-clause-foreseen c =
+    let never = rw c.in_default-4.is at c.in_ok-on_true.ensures in
+    entry_foreseen c.args.run.now c.args.insn c.args.cond false c.requires.query
+    (never_implies c.args.run.now c.args.cond false never)
+
+pub returns : goal.returns
+returns c =
+    let split = split_right c.args.run.now c.args.cond _ _ c.in_ok-apart.ensures c.in_ok-become_child.ensures.child in
+    (split.0, split.1, c.in_ok-become_child.ensures.lawful)

@@ -1,0 +1,21 @@
+use Rattle.std.proofs.Common.{refl}
+use Rattle.sf_piece.proofs.Lawful.{lawful_first}
+use Rattle.sf_piece.proofs.AtHand.{first_root}
+use Rattle.sf_piece.proofs.root_piece.root.Goals as goal
+
+pub invariant_of-new : goal.invariant_of-new
+invariant_of-new c =
+    rw (c.in_ok-try_clone.ensures, c.new-4.ensures, c.in_ok-conditions.ensures)
+    (lawful_first _ c.push.new.self c.in_ok-zero.zero c.in_ok-facts.facts
+    (rw c.deref.ensures at c.programs-programs.ensures.lawful) c.in_ok-zero.ensures.lawful
+    c.in_ok-zero.ensures.within c.in_ok-zero.ensures.value c.in_ok-facts.ensures.covers c.in_ok-facts.ensures.sound
+    (c.in_ok-zero.ensures.plain 0 refl c.in_ok-pool.ensures.plain))
+
+pub returns : goal.returns
+returns c =
+    rw (c.in_ok-new.ensures.ok, c.in_ok-try_clone.ensures, c.new-4.ensures, c.in_ok-conditions.ensures)
+    (first_root _ c.push.new.self c.in_ok-zero.zero c.in_ok-facts.facts
+    (lawful_first _ c.push.new.self c.in_ok-zero.zero c.in_ok-facts.facts
+    (rw c.deref.ensures at c.programs-programs.ensures.lawful) c.in_ok-zero.ensures.lawful
+    c.in_ok-zero.ensures.within c.in_ok-zero.ensures.value c.in_ok-facts.ensures.covers c.in_ok-facts.ensures.sound
+    (c.in_ok-zero.ensures.plain 0 refl c.in_ok-pool.ensures.plain)))

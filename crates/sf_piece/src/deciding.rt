@@ -1,0 +1,238 @@
+//! A truth value of the trace, taken as true, as false or as both.
+
+ghost use Rattle.std.specs.Prelude.{◌≡◌, ◌<◌, if◌then◌else◌, IfOk, IfSome, length, MatchOption, true, false};
+ghost use Rattle.std.specs.Arc.{arc_value};
+ghost use Rattle.sf_check.specs.Stacks.{IsPlain};
+ghost use Rattle.sf_sym.specs.Pool.{IsCondBelow, node_at};
+ghost use Rattle.sf_dom.specs.Facts.{IsPlainCondition as IsPlainCond};
+ghost use Rattle.sf_piece.specs.SymbolicRun.{IsLawfulPiece};
+ghost use Rattle.sf_piece.specs.Works.{HasAtHand, IsQuery, AfterTruthValue, HasAdvanced, IsChild, IsForeseen, Asks, IsImplied, AreChildFacts, IsNever, HasOneValue, is_propagated_back, decided_number_of, told_by_numbers};
+ghost use Rattle.sf_piece.specs.SmallSteps.{IsSmallStep};
+
+use crate::fault::Fault;
+use crate::machine::SymbolicMachine;
+use crate::piece::Piece;
+use crate::run::Run;
+use crate::executing::{Executed, execute};
+use sf_check::Insn;
+use sf_dom::Facts;
+use sf_insn::BinOp;
+use sf_sym::{Cond, Node, NodeId, Pool, constant_of};
+use std::alloc::Global;
+use std::sync::Arc;
+
+/// What became of a piece by one instruction or one truth value.
+#[derive(Drop)]
+pub(crate) enum SmallStep {
+    /// The run goes on.
+    On,
+    /// The facts leave both ways open: the members on which the truth value is false. The run is that of the others.
+    Split(Arc<Piece>),
+    /// The last program has returned: the name is whole, and the answer is that of all programs.
+    Settled,
+    /// There is no member.
+    Empty,
+}
+
+/// How many instructions a test skips.
+fn skipped(on_true: u8, on_false: u8, sense: bool) -> u8
+    ensures { result ≡ (if sense then on_true else on_false) }
+{
+    if sense { on_true } else { on_false }
+}
+
+/// Where the machine stands after the truth value.
+fn after(run: &Run, insn: Insn, sense: bool) -> SymbolicMachine
+    requires standing { HasAtHand run.now insn }
+    requires asks { Asks run.now insn }
+    ensures { AfterTruthValue run.now insn sense result }
+{
+    let m = run.machine;
+    match insn {
+        Insn::Branch(_, _, on_true, on_false) => {
+            let next = skipped(on_true, on_false, sense);
+            SymbolicMachine {
+                place: m.place + 1 + next as usize,
+                ..m
+            }
+        }
+        Insn::ReturnA => SymbolicMachine {
+            taken: m.taken + 1,
+            value: 2 * m.value + u32::from(sense),
+            ..m
+        },
+        _ => {
+            if sense {
+                m.returned(0)
+            } else {
+                SymbolicMachine { taken: 1, ..m }
+            }
+        }
+    }
+}
+
+/// The truth value is this on every member: it goes into the name alone, and nothing is learnt from it.
+pub(crate) fn take(run: &mut Run, insn: Insn, sense: bool) -> Result<(), Fault>
+    requires lawful { IsLawfulPiece run.old }
+    requires standing { HasAtHand run.old insn }
+    requires foreseen { IsForeseen run.old insn sense }
+    ensures gone { IfOk result (λ _. HasAdvanced run.old run.new) }
+    ensures lawful { IfOk result (λ _. IsLawfulPiece run.new) }
+{
+    if let Insn::Branch(_, _, on_true, on_false) = insn {
+        let next = skipped(on_true, on_false, sense);
+        run.name.push(sense)?;
+        run.machine.place = run.machine.place + 1 + next as usize;
+        return Ok(());
+    }
+    let to = after(run, insn, sense);
+    run.name.push(sense)?;
+    run.machine = to;
+    Ok(())
+}
+
+/// The members on which the truth value is false.
+fn child(
+    alloc: Global,
+    run: &Run,
+    insn: Insn,
+    cond: Cond,
+    facts: Facts,
+) -> Result<Arc<Piece>, Fault>
+    requires lawful { IsLawfulPiece run.now }
+    requires standing { HasAtHand run.now insn }
+    requires query { IsQuery run.now insn cond }
+    requires facts { AreChildFacts run.now cond false facts }
+    ensures { IfOk result (λ c. IsChild run.now cond false (arc_value c)) }
+{
+    let to = after(run, insn, false);
+    let mut conditions = run.conditions.fork()?;
+    conditions.push(Cond {
+        sense: false,
+        ..cond
+    })?;
+    let next = Run {
+        stack: Arc::try_clone(&run.stack)?,
+        name: run.name.with(alloc, false)?,
+        pool: run.pool.fork()?,
+        conditions,
+        machine: to,
+        facts,
+    };
+    Ok(Arc::new(alloc, Piece { run: next })?)
+}
+
+/// The run becomes that of the members on which the truth value is true: nothing is copied for them.
+fn become_child(run: &mut Run, insn: Insn, cond: Cond, facts: Facts) -> Result<(), Fault>
+    requires lawful { IsLawfulPiece run.old }
+    requires standing { HasAtHand run.old insn }
+    requires query { IsQuery run.old insn cond }
+    requires facts { AreChildFacts run.old cond true facts }
+    ensures child { IfOk result (λ _. IsChild run.old cond true run.new) }
+    ensures lawful { IfOk result (λ _. IsLawfulPiece run.new) }
+{
+    let to = after(run, insn, true);
+    run.name.push(true)?;
+    run.conditions.push(Cond {
+        sense: true,
+        ..cond
+    })?;
+    run.machine = to;
+    run.facts = facts;
+    Ok(())
+}
+
+/// The piece's facts with the truth value as this, or none where that contradicts them.
+fn learnt(alloc: Global, run: &Run, cond: Cond, sense: bool) -> Result<Option<Facts>, Fault>
+    requires lawful { IsLawfulPiece run.now }
+    requires below { IsCondBelow (length run.now.pool) cond }
+    requires plain { IsPlain run.now.stack → IsPlainCond run.now.pool cond }
+    ensures { IfOk result (λ o. MatchOption o (IsNever run.now cond sense)
+        (λ fs. AreChildFacts run.now cond sense fs)) }
+{
+    let learnt = run.facts.learnt(alloc, &run.pool, &Cond { sense, ..cond })?;
+    Ok(learnt)
+}
+
+/// Whether known bits go back from a node to an operand: it is an AND, an OR or an XOR, and its other operand alone is a
+/// constant.
+fn propagates_back(pool: &Pool, node: NodeId) -> bool
+    requires { node.0 < length pool.now }
+    ensures { result ≡ is_propagated_back pool.now (node_at pool.now node.0) }
+{
+    match pool.node(node) {
+        Node::Bin(BinOp::And | BinOp::Or | BinOp::Xor, a, b) => {
+            constant_of(pool.node(a)).is_some() != constant_of(pool.node(b)).is_some()
+        }
+        _ => false,
+    }
+}
+
+/// The number of a word, where it has one on every member and a condition on it would tell nothing of another word.
+fn decided_number(run: &Run, node: NodeId) -> Option<u32>
+    requires lawful { IsLawfulPiece run.now }
+    requires below { node.0 < length run.now.pool }
+    ensures told { result ≡ decided_number_of run.now node }
+    ensures value { IfSome result (λ n. HasOneValue run.now node n) }
+{
+    let number = run.facts.decided(&run.pool, node)?;
+    if propagates_back(&run.pool, node) {
+        return None;
+    }
+    Some(number)
+}
+
+/// The truth value, where numbers tell it and there is nothing to learn from it.
+fn decided(run: &Run, cond: Cond) -> Option<bool>
+    requires lawful { IsLawfulPiece run.now }
+    requires below { IsCondBelow (length run.now.pool) cond }
+    ensures told { result ≡ told_by_numbers run.now cond }
+    ensures implied { IfSome result (IsImplied run.now cond) }
+{
+    let left = decided_number(run, cond.node)?;
+    let right = decided_number(run, cond.other)?;
+    Some(cond.test.passes(left, right))
+}
+
+/// Learns the truth value as false and as true, each from the same facts, unless numbers tell it. Where they do, one way
+/// contradicts and the other changes no fact: a word that has one number has all its bits known, the test moves no bound
+/// past it, and no bits go back from it. An AND, an OR or an XOR with a constant is different: its bits may go back to an
+/// operand that lacks them, and contradict there, so it is learnt from even where it has one number.
+fn decide(alloc: Global, run: &mut Run, insn: Insn, cond: Cond) -> Result<SmallStep, Fault>
+    requires lawful { IsLawfulPiece run.old }
+    requires standing { HasAtHand run.old insn }
+    requires query { IsQuery run.old insn cond }
+    ensures { IfOk result (IsSmallStep run.old run.new) }
+{
+    if let Some(sense) = decided(run, cond) {
+        take(run, insn, sense)?;
+        return Ok(SmallStep::On);
+    }
+    let Some(on_false) = learnt(alloc, run, cond, false)? else {
+        let Some(_on_true) = learnt(alloc, run, cond, true)? else {
+            return Ok(SmallStep::Empty);
+        };
+        take(run, insn, true)?;
+        return Ok(SmallStep::On);
+    };
+    let Some(on_true) = learnt(alloc, run, cond, true)? else {
+        take(run, insn, false)?;
+        return Ok(SmallStep::On);
+    };
+    let apart = child(alloc, run, insn, cond, on_false)?;
+    become_child(run, insn, cond, on_true)?;
+    Ok(SmallStep::Split(apart))
+}
+
+/// One instruction, or one truth value of it.
+pub(crate) fn advance_once(alloc: Global, run: &mut Run) -> Result<SmallStep, Fault>
+    requires { IsLawfulPiece run.old }
+    ensures { IfOk result (IsSmallStep run.old run.new) }
+{
+    match execute(alloc, run)? {
+        Executed::Done => Ok(SmallStep::On),
+        Executed::Query(insn, cond) => decide(alloc, run, insn, cond),
+        Executed::End => Ok(SmallStep::Settled),
+        Executed::Contradiction => Ok(SmallStep::Empty),
+    }
+}

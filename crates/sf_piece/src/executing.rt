@@ -1,0 +1,196 @@
+//! Symbolic execution: one instruction on symbolic words.
+
+ghost use Rattle.std.specs.Prelude.{◌≡◌, ℕ, IfOk, length, slice_get, slice_set, Some, ◌<◌};
+ghost use Rattle.sf_sym.specs.declared.pool.NodeId.{NodeId as ANodeId};
+ghost use Rattle.sf_check.specs.Stacks.{IsPlain};
+ghost use Rattle.sf_sym.specs.Pool.{OperandsBelow};
+ghost use Rattle.sf_dom.specs.Facts.{IsWordOrConst};
+ghost use Rattle.sf_piece.specs.SymbolicRun.{IsLawfulPiece};
+ghost use Rattle.sf_piece.specs.Works.{HasAtHand, SetsA, SetsX, GoesTo, HasAdvanced, ReturnsNow, IsMove};
+ghost use Rattle.sf_piece.specs.SmallSteps.{IsExecuted};
+
+use crate::asking::{alu, branch, return_a};
+use crate::fault::Fault;
+use crate::machine::SymbolicMachine;
+use crate::nodes::push;
+use crate::run::Run;
+use sf_check::Insn;
+use sf_sym::{Cond, Node, NodeId};
+use std::alloc::Global;
+
+/// What one instruction led to.
+#[derive(Clone, Copy)]
+pub(crate) enum Executed {
+    /// It is done.
+    Done,
+    /// It asks for a truth value: whether the condition is met.
+    Query(Insn, Cond),
+    /// The last program has returned: the name is whole, and the answer is that of all programs.
+    End,
+    /// No input agrees with the facts of a new node.
+    Contradiction,
+}
+
+/// One instruction, or the question that it asks first.
+pub(crate) fn execute(alloc: Global, run: &mut Run) -> Result<Executed, Fault>
+    requires { IsLawfulPiece run.old }
+    ensures { IfOk result (IsExecuted run.old run.new) }
+{
+    let Some(insn) = run.insn() else {
+        return Ok(Executed::End);
+    };
+    match insn {
+        Insn::LoadWord(i) => set_a(alloc, run, insn, Node::Word(i)),
+        Insn::LoadConstant(k) => set_a(alloc, run, insn, Node::Const(k)),
+        Insn::LoadLength => set_a(alloc, run, insn, Node::Const(64)),
+        Insn::LoadXConstant(k) => set_x(alloc, run, insn, k),
+        Insn::LoadXLength => set_x(alloc, run, insn, 64),
+        Insn::Negate => {
+            let a = run.machine.a;
+            set_a(alloc, run, insn, Node::Neg(a))
+        }
+        Insn::Alu(op, other) => alu(alloc, run, insn, op, other),
+        Insn::Branch(test, other, _, _) => branch(alloc, run, insn, test, other),
+        Insn::ReturnConstant(k) => {
+            leave_program(run, insn, k);
+            Ok(Executed::Done)
+        }
+        Insn::ReturnA => return_a(alloc, run),
+        _ => {
+            move_on(run, insn);
+            Ok(Executed::Done)
+        }
+    }
+}
+
+/// On by an instruction that puts a node in A.
+pub(crate) fn set_a(alloc: Global, run: &mut Run, insn: Insn, node: Node) -> Result<Executed, Fault>
+    requires lawful { IsLawfulPiece run.old }
+    requires standing { HasAtHand run.old insn }
+    requires below { OperandsBelow (length run.old.pool) node }
+    requires sets { SetsA run.old insn node }
+    requires plain { IsPlain run.old.stack → IsWordOrConst node }
+    ensures { IfOk result (IsExecuted run.old run.new) }
+{
+    match push(alloc, run, node)? {
+        Some(id) => {
+            let to = SymbolicMachine {
+                a: id,
+                place: run.machine.place + 1,
+                taken: 0,
+                value: 0,
+                ..run.machine
+            };
+            go(run, insn, to);
+            Ok(Executed::Done)
+        }
+        None => Ok(Executed::Contradiction),
+    }
+}
+
+/// On by an instruction that puts a constant in X.
+fn set_x(alloc: Global, run: &mut Run, insn: Insn, k: u32) -> Result<Executed, Fault>
+    requires lawful { IsLawfulPiece run.old }
+    requires standing { HasAtHand run.old insn }
+    requires sets { SetsX run.old insn k }
+    ensures { IfOk result (IsExecuted run.old run.new) }
+{
+    match push(alloc, run, Node::Const(k))? {
+        Some(id) => {
+            let to = SymbolicMachine {
+                x: id,
+                place: run.machine.place + 1,
+                taken: 0,
+                value: 0,
+                ..run.machine
+            };
+            go(run, insn, to);
+            Ok(Executed::Done)
+        }
+        None => Ok(Executed::Contradiction),
+    }
+}
+
+/// On by an instruction that moves words about, or jumps.
+fn move_on(run: &mut Run, insn: Insn)
+    requires lawful { IsLawfulPiece run.old }
+    requires standing { HasAtHand run.old insn }
+    requires moves { IsMove insn }
+    ensures gone { HasAdvanced run.old run.new }
+    ensures lawful { IsLawfulPiece run.new }
+{
+    let m = run.machine;
+    let to = SymbolicMachine {
+        place: m.place + 1,
+        taken: 0,
+        value: 0,
+        ..m
+    };
+    match insn {
+        Insn::LoadScratch(k) => {
+            let w = scratch(&m, k);
+            go(run, insn, SymbolicMachine { a: w, ..to });
+        }
+        Insn::LoadXScratch(k) => {
+            let w = scratch(&m, k);
+            go(run, insn, SymbolicMachine { x: w, ..to });
+        }
+        Insn::StoreA(k) => go(run, insn, stored(&to, k, m.a)),
+        Insn::StoreX(k) => go(run, insn, stored(&to, k, m.x)),
+        Insn::Tax => go(run, insn, SymbolicMachine { x: m.a, ..to }),
+        Insn::Txa => go(run, insn, SymbolicMachine { a: m.x, ..to }),
+        Insn::Jump(k) => {
+            let to = SymbolicMachine {
+                place: m.place + 1 + k as usize,
+                ..to
+            };
+            go(run, insn, to);
+        }
+        _ => unreachable!(),
+    }
+}
+
+/// The machine with a scratch word set.
+fn stored(m: &SymbolicMachine, k: u8, w: NodeId) -> SymbolicMachine
+    requires { k < length m.now.scratch }
+    ensures { result ≡ record m.now { scratch = slice_set m.now.scratch k (Some w) } }
+{
+    let mut scratch = m.scratch;
+    scratch[k as usize] = Some(w);
+    SymbolicMachine { scratch, ..*m }
+}
+
+/// A scratch word that is set.
+fn scratch(m: &SymbolicMachine, k: u8) -> NodeId
+    requires { (w : ANodeId) × (slice_get m.now.scratch k ≡ Some (Some w)) }
+    ensures { slice_get m.now.scratch k ≡ Some (Some result) }
+{
+    match m.scratch[k as usize] {
+        Some(n) => n,
+        None => unreachable!(),
+    }
+}
+
+/// On by an instruction that meets no truth value.
+fn go(run: &mut Run, insn: Insn, to: SymbolicMachine)
+    requires lawful { IsLawfulPiece run.old }
+    requires standing { HasAtHand run.old insn }
+    requires goes { GoesTo run.old insn to }
+    ensures gone { HasAdvanced run.old run.new }
+    ensures lawful { IsLawfulPiece run.new }
+{
+    let _insn = insn;
+    run.machine = to;
+}
+
+/// On to the next program.
+pub(crate) fn leave_program(run: &mut Run, insn: Insn, value: u32)
+    requires lawful { IsLawfulPiece run.old }
+    requires standing { HasAtHand run.old insn }
+    requires returns { ReturnsNow run.old insn value }
+    ensures gone { HasAdvanced run.old run.new }
+    ensures lawful { IsLawfulPiece run.new }
+{
+    let _insn = insn;
+    run.machine = run.machine.returned(value);
+}
