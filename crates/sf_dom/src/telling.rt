@@ -13,7 +13,7 @@ ghost use Rattle.sf_dom.specs.Facts.{known_at, excluded_of, AgreesWith};
 use crate::exclusions::Exclusions;
 use crate::known::{Known, is_same};
 use crate::nodes::Nodes;
-use crate::assuming::{back, constant_operand};
+use crate::assuming::{backward, constant_operand};
 use sf_insn::Test;
 use sf_sym::{Node, NodeId, Pool};
 
@@ -95,7 +95,7 @@ fn is_excluded(excluded: &[Exclusions], node: Node, number: u32) -> bool
 }
 
 /// Whether the known bits of a node are known of its operand, through a constant, and so on: none would go back.
-fn are_walked_back(nodes: &Nodes, pool: &Pool, from: usize) -> bool
+fn are_propagated_back(nodes: &Nodes, pool: &Pool, from: usize) -> bool
     requires count { length nodes.now.known ≡ length pool.now }
     requires start { from < length pool.now }
     ensures { IsTrue result → (n : ℕ) → IsPropagatedBack n nodes.now.known pool.now from }
@@ -103,7 +103,7 @@ fn are_walked_back(nodes: &Nodes, pool: &Pool, from: usize) -> bool
     let mut at = from;
     while let Some((op, x, c)) = constant_operand(pool, at) {
         let operand = nodes.get(x);
-        match back(op, nodes.get(at), c, operand) {
+        match backward(op, nodes.get(at), c, operand) {
             None => return true,
             Some(gained) => {
                 if !is_same(gained, operand) {
@@ -166,7 +166,7 @@ pub fn told_of(
     ensures walked { IfSome result (λ b. (n : ℕ) → IsPropagatedBack n nodes.now.known pool.now at) }
 {
     let sense = told_at(nodes, excluded, pool, at, test, number)?;
-    if !are_walked_back(nodes, pool, at) {
+    if !are_propagated_back(nodes, pool, at) {
         return None;
     }
     Some(sense)

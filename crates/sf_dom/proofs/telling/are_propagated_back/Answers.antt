@@ -3,7 +3,7 @@ use Rattle.sf_dom.specs.declared.known.Known.{Known}
 use Rattle.sf_dom.specs.Backward.{HandsOn}
 use Rattle.sf_dom.specs.Facts.{known_at}
 use Rattle.sf_dom.proofs.Backs.{walked-step, walked-end, walked-other}
-use Rattle.sf_dom.proofs.telling.are_walked_back.Goals as goal
+use Rattle.sf_dom.proofs.telling.are_propagated_back.Goals as goal
 
 pub returns-in-None : goal.returns-in-None
 returns-in-None c = λ t.
@@ -11,7 +11,7 @@ returns-in-None c = λ t.
     let ns = c.args.pool.now in
     let o = c.in-Some in
     c.loop-op.invariant.back (walked-other ks ns c.loop-op.at o.x o.c o.op (sym o.ensures.told)
-    (c.back.ensures.none c.in-None.is))
+    (c.backward.ensures.none c.in-None.is))
 
 pub loop-op-preserved : goal.loop-op-preserved
 loop-op-preserved c =
@@ -20,7 +20,7 @@ loop-op-preserved c =
     let o = c.in-Some in
     let within = c.loop-op.invariant.within in
     let same = c.if-not-is_same.ensures.0 refl in
-    let told = rw c.get.ensures at c.in-Some-back.ensures.told in
+    let told = rw c.get.ensures at c.in-Some-backward.ensures.told in
     let hands : HandsOn o.op o.c (known_at ks c.loop-op.at) (known_at ks o.x) =
     subst (λ (k : Known). HandsOn o.op o.c (known_at ks c.loop-op.at) k) (same ∙ c.get-operand.ensures) told in
     record {
