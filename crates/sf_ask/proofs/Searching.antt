@@ -52,7 +52,8 @@ least-inside q f g ns d a h = λ word w. a.numbers word (slice_index d.words wor
     (least-admitted g ns d a.covers h word w) w
 
 -- where the low input is a member, it is that
-pub low-is-least : (p : PieceData) (q : QuestionData) (f g : FactsView) (ns : List Node) (d low : Input) → MembersAgree p f ns
+pub low-is-least : (p : PieceData) (q : QuestionData) (f g : FactsView) (ns : List Node) (d low : Input)
+    → MembersAgree p f ns
     → AreConfined f g ns (IsInQuestion q) (IsNumberBefore q 16) → IsLeastInput g d → IsInput low → IsLowInput q low
     → is_member p low ≡ true → d ≡ low
 low-is-least p q f g ns d low known a h input is member =

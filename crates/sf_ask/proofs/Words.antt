@@ -114,7 +114,8 @@ pub range-confines : (q : QuestionData) (at : ℕ) (r : ℕ × ℕ) (b : Bool) (
     → MatchBool b (KeepsInputs old new ns (lies_in at r.0 r.1)) (NoInput old ns (lies_in at r.0 r.1))
     → (b ≡ true → AreNarrower old new) → Covers new ns → (b ≡ true → KeepsOnly old new ns (lies_in at r.0 r.1))
     → (b ≡ true → (r.0 ≤ (known_at new.known at).low) × ((known_at new.known at).high ≤ r.1))
-    → MatchBool b (AreConfined old new ns (WordIsInRange q at) (IsRangeNumber q at)) (NonePasses old ns (WordIsInRange q at))
+    → MatchBool b (AreConfined old new ns (WordIsInRange q at) (IsRangeNumber q at))
+    (NonePasses old ns (WordIsInRange q at))
 range-confines q at r b old new ns e sound narrower covers only within =
     confines b old new ns (lies_in at (range_at q at).0 (range_at q at).1) (IsRangeNumber q at)
     (subst (λ (x : ℕ × ℕ). MatchBool b (KeepsInputs old new ns (lies_in at x.0 x.1))
@@ -174,7 +175,8 @@ number-from q at d l m =
     record { above = inside.0; below = inside.1; masked = eqb-true _ _ m }
 
 pub word-confined : (q : QuestionData) (at : ℕ) (f g h : FactsView) (ns : List Node) → Covers f ns
-    → AreConfined f g ns (WordIsInRange q at) (IsRangeNumber q at) → AreConfined g h ns (WordHasBits q at) (IsMaskNumber q at)
+    → AreConfined f g ns (WordIsInRange q at) (IsRangeNumber q at)
+    → AreConfined g h ns (WordHasBits q at) (IsMaskNumber q at)
     → AreConfined f h ns (WordHasNumber q at) (IsWordNumber q at)
 word-confined q at f g h ns of a b = again f g h ns (WordIsInRange q at) (WordHasBits q at) (WordHasNumber q at)
     (IsRangeNumber q at) (IsMaskNumber q at) (IsWordNumber q at) of a b

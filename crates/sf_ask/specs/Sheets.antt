@@ -74,7 +74,8 @@ IsRightWhereGiven s questions place q (Some v) = IsRightOn s questions place q v
 pub record IsRightSheet (s : SheetData) : Type 0 where
   pub there : s.job < length s.settled.regions
   pub each : length s.verdicts ≡ length s.questions
-  pub right : (q : ℕ) → q < length s.questions → IsRightWhereGiven s.settled s.questions s.job q (verdict_at s.verdicts q)
+  pub right : (q : ℕ) → q < length s.questions
+      → IsRightWhereGiven s.settled s.questions s.job q (verdict_at s.verdicts q)
 
 -- a verdict stands exactly for each question that is asked for
 abbrev pub HasWanted : List ℕ → SheetData → Type 0

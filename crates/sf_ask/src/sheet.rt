@@ -137,7 +137,8 @@ impl Sheet {
     pub fn verdict(&self, q: usize) -> Option<Verdict>
         requires { q < length self.now.questions }
         ensures value { result ≡ verdict_at self.now.verdicts q }
-        ensures right { IsRightWhereGiven self.now.settled self.now.questions self.now.job q result }
+        ensures right { IsRightWhereGiven self.now.settled self.now.questions
+            self.now.job q result }
     {
         self.verdicts[q]
     }

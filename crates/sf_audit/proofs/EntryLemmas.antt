@@ -130,7 +130,8 @@ set_same true set h = refl
 set_same false set h = cc
 
 -- a test that both make, and then the same
-same_test : (number : ℕ) (fault : AskFault) (b b' : Bool) (r : Result QuestionData AskFault) (due : Result QuestionData Fault)
+same_test : (number : ℕ) (fault : AskFault) (b b' : Bool) (r : Result QuestionData AskFault)
+    (due : Result QuestionData Fault)
     → b' ≡ b → (b ≡ true → with_number number r ≡ due)
     → with_number number (if not b' then Err fault else r) ≡ (if not b then Err (numbered_fault number fault) else due)
 same_test number fault true b' r due e h = rw e (h refl)
@@ -200,7 +201,8 @@ with_questions_cons front q (Ok rest) = ap Ok (sym (append_assoc front (q ∷ []
 with_questions_cons front q (Err fault) = refl
 
 -- One more question was read.
-pub one_more_question : (version : Version) (whole : Result (List QuestionData) Fault) (front : List QuestionData) (vs : List Value)
+pub one_more_question : (version : Version) (whole : Result (List QuestionData) Fault) (front : List QuestionData)
+    (vs : List Value)
     (i : ℕ) (v : Value) (q : QuestionData)
     → i < length vs → v ≡ get_or vs i v
     → question_of_table version (i + 1) (table_or_empty (view v)) ≡ Ok q

@@ -36,7 +36,8 @@ where_read : (number : ℕ) (e : Option Entry) → is_syntax (question_where_rea
 where_read number (Some e) = of_entry number e
 where_read number None = refl
 
-in_front : (q : Result QuestionData Fault) (qs : Result (List QuestionData) Fault) → is_syntax q ≡ false → is_syntax qs ≡ false
+in_front : (q : Result QuestionData Fault) (qs : Result (List QuestionData) Fault) → is_syntax q ≡ false
+    → is_syntax qs ≡ false
     → is_syntax (question_cons q qs) ≡ false
 in_front (Ok q) (Ok qs) p r = refl
 in_front (Ok q) (Err fault) p r = r
@@ -60,7 +61,8 @@ where_version (Some version) ms = choice (has_only top_keys ms) _ _
 where_version None ms = refl
 
 -- a function that gives what a tree means never answers `Syntax`
-pub not_syntax : {X : Type 0} (view : X → List QuestionData) (r : Result X Fault) (ms : Members) → Gives view r (policy_of ms)
+pub not_syntax : {X : Type 0} (view : X → List QuestionData) (r : Result X Fault) (ms : Members)
+    → Gives view r (policy_of ms)
     → r ≡ Err faults.Syntax → ⊥
 not_syntax view r ms gives e = false≢true (sym (where_version (version_of (number_at (codes "version") ms)) ms)
     ∙ ap (λ l. is_syntax l) (rw e at gives))

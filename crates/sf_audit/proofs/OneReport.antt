@@ -101,13 +101,15 @@ member_too b c h i d m =
     ∙ ap (λ (s : List (List Insn)). is_prefix m.region.name (trace_of s d)) (sym h.stack) in
     record { region = t.region; there = t.there; input = m.input; member = right'.members d m.input ∙ named ∙ begins }
 
-break_too : (b c : BookData) → AreAlike b c → (i : ℕ) (q : QuestionData) (d : Input) → IsBreakAt b i q d → IsBreakAt c i q d
+break_too : (b c : BookData) → AreAlike b c → (i : ℕ) (q : QuestionData) (d : Input) → IsBreakAt b i q d
+    → IsBreakAt c i q d
 break_too b c h i q d k = record {
   member = member_too b c h i d k.member;
   breaks = subst (λ (s : List (List Insn)). Breaks s q d) h.stack k.breaks;
 }
 
-same_first : (b c : BookData) → AreAlike b c → (q : QuestionData) (i j : ℕ) → IsFirstBreak b q i → IsFirstBreak c q j → i ≡ j
+same_first : (b c : BookData) → AreAlike b c → (q : QuestionData) (i j : ℕ) → IsFirstBreak b q i
+    → IsFirstBreak c q j → i ≡ j
 same_first b c h q i j f g =
     elim (cases_lt i j) [
       | inl less ↦ absurd (g.none_earlier i less f.here.0 (break_too b c h i q f.here.0 f.here.1))

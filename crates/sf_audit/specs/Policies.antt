@@ -22,14 +22,16 @@ pub record Entry : Type 0 where
 
 -- the entry, where name, words and actions could all be read
 abbrev pub question_entry_of_parts : Option (List ℕ) → Option (List WordEntry) → Option (List (List ℕ)) → Option Entry
-question_entry_of_parts (Some name) (Some words) (Some actions) = Some (record { name = name; words = words; actions = actions })
+question_entry_of_parts (Some name) (Some words) (Some actions) =
+    Some (record { name = name; words = words; actions = actions })
 question_entry_of_parts _ _ _ = None
 
 -- nothing where a key is unknown, the name is missing, or a value is of another kind
 abbrev pub entry_of_question : Version → Members → Option Entry
 entry_of_question version ms =
     if has_only question_keys ms
-    then question_entry_of_parts (text_at (codes "name") ms) (each_of (λ key. entry_at version (get_member key ms)) word_keys)
+    then question_entry_of_parts (text_at (codes "name") ms)
+    (each_of (λ key. entry_at version (get_member key ms)) word_keys)
     (names_at (get_member (codes "actions") ms))
     else None
 
@@ -57,7 +59,8 @@ abbrev pub question_of_table : Version → ℕ → Members → Result QuestionDa
 question_of_table version number ms = question_where_read number (entry_of_question version ms)
 
 -- a question before the others, or the first refusal among them
-abbrev pub question_cons : Result QuestionData Fault → Result (List QuestionData) Fault → Result (List QuestionData) Fault
+abbrev pub question_cons : Result QuestionData Fault → Result (List QuestionData) Fault
+    → Result (List QuestionData) Fault
 question_cons (Ok q) (Ok qs) = Ok (q ∷ qs)
 question_cons (Ok q) (Err fault) = Err fault
 question_cons (Err fault) _ = Err fault

@@ -26,7 +26,8 @@ pub record IsPlace (es : List OutstandingData) (id : ℕ) (w : WorkData) (place 
   pub has_id : HoldsAt (λ e. e.id ≡ id) es place
   pub has_name : HoldsAt (λ e. e.piece.name ≡ w.piece.name) es place
 
-pub kept_marks : (b : BookData) (next : ℕ) (g : OutstandingData → OutstandingData) → ((e : OutstandingData) → (g e).id ≡ e.id)
+pub kept_marks : (b : BookData) (next : ℕ) (g : OutstandingData → OutstandingData)
+    → ((e : OutstandingData) → (g e).id ≡ e.id)
     → ((e : OutstandingData) → (g e).piece ≡ e.piece) → IsKept b next
     → IsKept (record b { outstanding = map g b.outstanding }) next
 kept_marks b next g ids pieces h = record {
@@ -36,9 +37,11 @@ kept_marks b next g ids pieces h = record {
   few = h.few;
 }
 
-pub kept_split : (b : BookData) (p f t : PieceData) (i next : ℕ) (e : OutstandingData) → IsKept b next → IsReplaced b p i e
+pub kept_split : (b : BookData) (p f t : PieceData) (i next : ℕ) (e : OutstandingData) → IsKept b next
+    → IsReplaced b p i e
     → IsRightSplit p f t
-    → IsKept (after_split b ((remove b.outstanding i ++ leased_piece next f ∷ []) ++ leased_piece (next + 1) t ∷ [])) (next + 2)
+    → IsKept (after_split b ((remove b.outstanding i ++ leased_piece next f ∷ []) ++ leased_piece (next + 1) t ∷ []))
+    (next + 2)
 kept_split b p f t i next e h r s =
     let few = h.few in
     let es = remove b.outstanding i in
@@ -75,7 +78,8 @@ kept_empty b p i next e h r s =
     let few = h.few in
     record { lawful = empty_lawful b p i e h.lawful r s; below = below_less b i next e h r.there; few = omega arith }
 
-two_places : (m : OutstandingData → ℕ) (es : List OutstandingData) (i j : ℕ) (d e : OutstandingData) → i < length es → j < length es
+two_places : (m : OutstandingData → ℕ) (es : List OutstandingData) (i j : ℕ) (d e : OutstandingData)
+    → i < length es → j < length es
     → (i ≡ j → ⊥) → m (get_or es i d) + m (get_or es j e) ≤ sum_by m es
 two_places m [] i j d e li lj n = absurd (omega arith)
 two_places m (x ∷ es) zero zero d e li lj n = absurd (n refl)
@@ -119,7 +123,8 @@ longer xs on b h =
     absurd (omega arith)
 
 -- the children's names are new
-pub new_names : (b : BookData) (p f t : PieceData) (i : ℕ) (d : OutstandingData) → IsLawfulBook b → i < length b.outstanding
+pub new_names : (b : BookData) (p f t : PieceData) (i : ℕ) (d : OutstandingData) → IsLawfulBook b
+    → i < length b.outstanding
     → (get_or b.outstanding i d).piece.name ≡ p.name → IsRightSplit p f t
     → All (λ e. (e.piece.name ≡ f.name → ⊥) × (e.piece.name ≡ t.name → ⊥)) b.outstanding
 new_names b p f t i d h l is s = λ j e lj. (
@@ -133,13 +138,15 @@ pub two_names : (p f t : PieceData) → IsRightSplit p f t → f.name ≡ t.name
 two_names p f t s h = last_differs (p.name ++ s.on) (sym s.false_name ∙ (h ∙ s.true_name))
 
 -- where the piece under an id is
-find_place : (es : List OutstandingData) (id : ℕ) (x : OutstandingData) → outstanding_at id es ≡ Some x → (i : ℕ) × (i < length es)
+find_place : (es : List OutstandingData) (id : ℕ) (x : OutstandingData) → outstanding_at id es ≡ Some x → (i : ℕ)
+    × (i < length es)
     × (get_or es i x ≡ x) × (x.id ≡ id)
 find_place [] id x h = absurd (cc)
 find_place (e ∷ es) id x h =
     ⊎_elim
     (λ (k : (e ≡ x) × (e.id ≡ id)). (zero, omega arith, k.0, ap (λ (y : OutstandingData). y.id) (sym k.0) ∙ k.1))
-    (λ (k : outstanding_at id es ≡ Some x). let r = find_place es id x k in (suc r.0, let l = r.1 in omega arith, r.2, r.3))
+    (λ (k : outstanding_at id es ≡ Some x). let r = find_place es id x k in
+    (suc r.0, let l = r.1 in omega arith, r.2, r.3))
     (found_here (e.id == id) e x (outstanding_at id es) id refl h)
   where
     found_here : (b : Bool) (e x : OutstandingData) (o : Option OutstandingData) (id : ℕ) → (e.id == id) ≡ b
@@ -170,7 +177,8 @@ low_id b next id w h m =
     omega arith
 
 -- the piece under the id has another name
-pub stale_name : (es : List OutstandingData) (id : ℕ) (e : OutstandingData) (w : WorkData) → outstanding_at id es ≡ Some e
+pub stale_name : (es : List OutstandingData) (id : ℕ) (e : OutstandingData) (w : WorkData)
+    → outstanding_at id es ≡ Some e
     → (e.piece.name ≡ w.piece.name → ⊥) → IsStale id es w
 stale_name es id e w at other = rw at other
 
@@ -189,7 +197,8 @@ left_over b id w i d h p = subst (λ (k : ℕ). remove b.outstanding i ≡ witho
 
 pub split_kept : (b : BookData) (next id : ℕ) (w : WorkData) (f t : PieceData) → IsKept b next → MayCommit b id w
     → b.commits < b.budget → IsTrulyNamed w.piece → IsRightSplit w.piece f t
-    → IsKept (after_split b ((without id b.outstanding ++ leased_piece next f ∷ []) ++ leased_piece (next + 1) t ∷ [])) (next + 2)
+    → IsKept (after_split b ((without id b.outstanding ++ leased_piece next f ∷ []) ++ leased_piece (next + 1) t ∷ []))
+    (next + 2)
 split_kept b next id w f t h m room named right =
     let r = may_place b id w m in
     rw (← left_over b id w r.0 m.under_id h.lawful r.1)

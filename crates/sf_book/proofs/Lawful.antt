@@ -28,7 +28,8 @@ pub record IsReplaced (b : BookData) (p : PieceData) (i : ℕ) (d : OutstandingD
   pub room : b.commits < b.budget
 
 -- the outstanding piece at the place has the members of the piece
-same_there : (b : BookData) (p : PieceData) (i : ℕ) (e : OutstandingData) → IsLawfulBook b → IsReplaced b p i e → (d : Input)
+same_there : (b : BookData) (p : PieceData) (i : ℕ) (e : OutstandingData) → IsLawfulBook b
+    → IsReplaced b p i e → (d : Input)
     → IsInput d → is_member (get_or b.outstanding i e).piece d ≡ is_member p d
 same_there b p i e h r d n =
     let o = All-get_or (IsOutstanding b.stack) b.outstanding i e r.there h.outstanding in
@@ -54,7 +55,8 @@ leased_piece k p = record { id = k; piece = p; leased = true }
 abbrev pub after_split : BookData → List OutstandingData → BookData
 after_split b es = record b { outstanding = es; splits = b.splits + 1; commits = b.commits + 1 }
 
-pub split_lawful : (b : BookData) (p f t : PieceData) (i j k : ℕ) (e : OutstandingData) → IsLawfulBook b → IsReplaced b p i e
+pub split_lawful : (b : BookData) (p f t : PieceData) (i j k : ℕ) (e : OutstandingData) → IsLawfulBook b
+    → IsReplaced b p i e
     → IsRightSplit p f t
     → All (λ x. x.id < j) b.outstanding → j < k
     → IsLawfulBook (after_split b ((remove b.outstanding i ++ leased_piece j f ∷ []) ++ leased_piece k t ∷ []))
@@ -106,7 +108,8 @@ split_lawful b p f t i j k e h r s below jk =
 abbrev pub after_answer : BookData → List OutstandingData → RegionData → BookData
 after_answer b es r = record b { outstanding = es; regions = b.regions ++ r ∷ []; commits = b.commits + 1 }
 
-pub answer_lawful : (b : BookData) (p : PieceData) (n : List Bool) (a : Answer) (i : ℕ) (e : OutstandingData) → IsLawfulBook b
+pub answer_lawful : (b : BookData) (p : PieceData) (n : List Bool) (a : Answer) (i : ℕ) (e : OutstandingData)
+    → IsLawfulBook b
     → IsReplaced b p i e → IsRightAnswer p n a
     → IsLawfulBook (after_answer b (remove b.outstanding i) (record { piece = p; name = n; answer = a }))
 answer_lawful b p n a i e h r s =
@@ -196,7 +199,8 @@ empty_lawful b p i e h r s =
 
 -- a change of leases alone
 pub marks_lawful : (b : BookData) (g : OutstandingData → OutstandingData) → ((e : OutstandingData) → (g e).id ≡ e.id)
-    → ((e : OutstandingData) → (g e).piece ≡ e.piece) → IsLawfulBook b → IsLawfulBook (record b { outstanding = map g b.outstanding })
+    → ((e : OutstandingData) → (g e).piece ≡ e.piece) → IsLawfulBook b
+    → IsLawfulBook (record b { outstanding = map g b.outstanding })
 marks_lawful b g ids pieces h =
     let len : length (map g b.outstanding) ≡ length b.outstanding = length-map b.outstanding g in
     record {

@@ -7,7 +7,8 @@ use Rattle.std.proofs.lemmas.List.Sums.{sum_by-cons}
 use Rattle.sf_book.specs.Books.{OutstandingData, HasRisingIds}
 use Rattle.sf_book.specs.Changes.{without}
 
-above-get : (a : ℕ) (es : List OutstandingData) (i : ℕ) (d : OutstandingData) → AllByRecursion (λ f. a < f.id) es → i < length es
+above-get : (a : ℕ) (es : List OutstandingData) (i : ℕ) (d : OutstandingData)
+    → AllByRecursion (λ f. a < f.id) es → i < length es
     → a < (get_or es i d).id
 above-get a [] i d h l = absurd (omega arith)
 above-get a (e ∷ es) zero d h l = h.0
@@ -42,7 +43,8 @@ all_without p a (e ∷ es) h =
     elim (p e) as (λ b. AllByRecursion (λ f. a < f.id) (cond b (e ∷ filter p es) (filter p es)))
     [ true ↦ (h.0, all_without p a es h.1) | false ↦ all_without p a es h.1 ]
 
-pub HasRisingIds-filter : (p : OutstandingData → Bool) (es : List OutstandingData) → HasRisingIds es → HasRisingIds (filter p es)
+pub HasRisingIds-filter : (p : OutstandingData → Bool) (es : List OutstandingData) → HasRisingIds es
+    → HasRisingIds (filter p es)
 HasRisingIds-filter p [] h = tt
 HasRisingIds-filter p (e ∷ es) h = elim (p e) as (λ b. HasRisingIds (cond b (e ∷ filter p es) (filter p es)))
     [ true ↦ (all_without p e.id es h.0, HasRisingIds-filter p es h.1) | false ↦ HasRisingIds-filter p es h.1 ]
@@ -60,12 +62,14 @@ HasRisingIds-push (e ∷ es) x h l = (
   HasRisingIds-push es x h.1 (All-tail (λ f. f.id < x.id) e es l),
 )
 
-above-map : (g : OutstandingData → OutstandingData) → ((e : OutstandingData) → (g e).id ≡ e.id) → (a : ℕ) (es : List OutstandingData)
+above-map : (g : OutstandingData → OutstandingData) → ((e : OutstandingData) → (g e).id ≡ e.id)
+    → (a : ℕ) (es : List OutstandingData)
     → AllByRecursion (λ f. a < f.id) es → AllByRecursion (λ f. a < f.id) (map g es)
 above-map g same a [] h = tt
 above-map g same a (e ∷ es) h = (rw (same e) h.0, above-map g same a es h.1)
 
-pub HasRisingIds-map : (g : OutstandingData → OutstandingData) → ((e : OutstandingData) → (g e).id ≡ e.id) → (es : List OutstandingData)
+pub HasRisingIds-map : (g : OutstandingData → OutstandingData) → ((e : OutstandingData) → (g e).id ≡ e.id)
+    → (es : List OutstandingData)
     → HasRisingIds es → HasRisingIds (map g es)
 HasRisingIds-map g same [] h = tt
 HasRisingIds-map g same (e ∷ es) h = (
@@ -75,7 +79,8 @@ HasRisingIds-map g same (e ∷ es) h = (
 )
 
 -- a sum that doesn't see what g changes
-pub sum_by-map_same : (f : OutstandingData → ℕ) (g : OutstandingData → OutstandingData) → ((e : OutstandingData) → f (g e) ≡ f e)
+pub sum_by-map_same : (f : OutstandingData → ℕ) (g : OutstandingData → OutstandingData)
+    → ((e : OutstandingData) → f (g e) ≡ f e)
     → (es : List OutstandingData) → sum_by f (map g es) ≡ sum_by f es
 sum_by-map_same f g same [] = refl
 sum_by-map_same f g same (e ∷ es) =

@@ -73,7 +73,8 @@ pub entry_at_is : (ids : Ids) (names : Names) (i : ℕ) → outstanding_at i (ou
 entry_at_is [] names i = refl
 entry_at_is (e ∷ ids) names i =
     ⊎_elim
-    (λ (h : i ≡ e.0). rw (num_yes e.0 i (sym h), id_yes i e.0 h) (ap (λ k. Some (outstanding_of names (k, e.1))) (sym h)))
+    (λ (h : i ≡ e.0). rw (num_yes e.0 i (sym h), id_yes i e.0 h)
+    (ap (λ k. Some (outstanding_of names (k, e.1))) (sym h)))
     (λ (h : i ≡ e.0 → ⊥). rw (num_no e.0 i (λ k. h (sym k)), id_no i e.0 h) (entry_at_is ids names i))
     (cases_eq i e.0)
 
@@ -86,7 +87,8 @@ pub mark_by_name : (names : Names) (p q : PieceData) → p.name ≡ q.name → l
 mark_by_name names p q h = ap (λ n. lookup (λ (k : PieceData). is_eq (slice_cmp bool_cmp n k.name)) names) h
 
 -- of two outstanding pieces, the names are equal where the ids are
-pub test_of : (ids : Ids) (names : Names) (i j : ℕ) (p q : PieceData) → AreMatchingMaps ids names → piece_at ids i ≡ Some p
+pub test_of : (ids : Ids) (names : Names) (i j : ℕ) (p q : PieceData) → AreMatchingMaps ids names
+    → piece_at ids i ≡ Some p
     → piece_at ids j ≡ Some q → is_at (name_cmp p) q ≡ (j == i)
 test_of ids names i j p q h at_i at_j =
     same_bool (is_at (name_cmp p) q) (j == i)
@@ -102,7 +104,8 @@ test_of ids names i j p q h at_i at_j =
 
 -- ---- lists
 
-views : (f : OutstandingData → OutstandingData) (ids : Ids) (a b : Names) → All (λ e. outstanding_of b e ≡ f (outstanding_of a e)) ids
+views : (f : OutstandingData → OutstandingData) (ids : Ids) (a b : Names)
+    → All (λ e. outstanding_of b e ≡ f (outstanding_of a e)) ids
     → outstanding_list ids b ≡ map f (outstanding_list ids a)
 views f [] a b h = refl
 views f (e ∷ ids) a b h =
@@ -136,12 +139,14 @@ marked_mark names p q m on h =
     lookup-set_value name_laws (is_at (name_cmp p)) (λ x y t. name_laws.congr p x y t) q
     (record { id = m.id; leased = on }) names (rw h refl)
 
-lease_of : (b : Bool) (w : LeaseState) (o : Option LeaseState) → option_map_or (λ (m : LeaseState). m.leased) (cond b (Some w) o) true
+lease_of : (b : Bool) (w : LeaseState) (o : Option LeaseState)
+    → option_map_or (λ (m : LeaseState). m.leased) (cond b (Some w) o) true
     ≡ cond b w.leased (option_map_or (λ (m : LeaseState). m.leased) o true)
 lease_of true w o = refl
 lease_of false w o = refl
 
-pub marked_view : (ids : Ids) (names : Names) (i : ℕ) (p : PieceData) (m : LeaseState) (on : Bool) → AreMatchingMaps ids names
+pub marked_view : (ids : Ids) (names : Names) (i : ℕ) (p : PieceData) (m : LeaseState) (on : Bool)
+    → AreMatchingMaps ids names
     → piece_at ids i ≡ Some p → lease_state_of names p ≡ Some m
     → outstanding_list ids (marked names p m on) ≡ map (with_lease_at i on) (outstanding_list ids names)
 marked_view ids names i p m on h at is =
@@ -166,7 +171,8 @@ marked_known : (b : Bool) (w m n : LeaseState) (o : Option LeaseState) → cond 
 marked_known true w m n o h same = inl (refl, sym same ∙ ap (λ x. x.id) (some_inj w n h))
 marked_known false w m n o h same = inr (refl, h)
 
-pub marked_shelf : (ids : Ids) (names : Names) (i : ℕ) (p : PieceData) (m : LeaseState) (on : Bool) → AreMatchingMaps ids names
+pub marked_shelf : (ids : Ids) (names : Names) (i : ℕ) (p : PieceData) (m : LeaseState) (on : Bool)
+    → AreMatchingMaps ids names
     → piece_at ids i ≡ Some p → lease_state_of names p ≡ Some m
     → AreMatchingMaps ids (marked names p m on)
 marked_shelf ids names i p m on h at is =
@@ -186,7 +192,8 @@ marked_shelf ids names i p m on h at is =
           let r = h.known p m is in
           (r.0, ap (λ x. piece_at ids x) (sym a.1) ∙ r.1, r.2 ∙ same_name p q a.0))
           (λ (a : (is_at (name_cmp p) q ≡ false) × (lease_state_of names q ≡ Some n)). h.known q n a.1)
-          (marked_known (is_at (name_cmp p) q) w m n (lease_state_of names q) (sym (marked_mark names p q m on is) ∙ k) refl);
+          (marked_known (is_at (name_cmp p) q) w m n (lease_state_of names q)
+          (sym (marked_mark names p q m on is) ∙ k) refl);
     }
 
 abbrev off : LeaseState → LeaseState
@@ -202,7 +209,8 @@ keys_off : (names : Names) → keys_of (all_off names) ≡ keys_of names
 keys_off [] = refl
 keys_off (e ∷ names) = ap (λ l. e.0 ∷ l) (keys_off names)
 
-from_off : (o : Option LeaseState) (n : LeaseState) → option_map off o ≡ Some n → (m : LeaseState) × (o ≡ Some m) × (m.id ≡ n.id)
+from_off : (o : Option LeaseState) (n : LeaseState) → option_map off o ≡ Some n → (m : LeaseState)
+    × (o ≡ Some m) × (m.id ≡ n.id)
 from_off None n h = absurd (cc)
 from_off (Some m) n h = (m, refl, ap (λ x. x.id) (some_inj (off m) n h))
 

@@ -19,13 +19,16 @@ pub record IsFirst (names : Names) (m : LeaseState) : Type 0 where
   pub key : PieceData
   pub there : lease_state_of names key ≡ Some m
   pub free : m.leased ≡ false
-  pub first : (q : PieceData) (n : LeaseState) → lease_state_of names q ≡ Some n → n.leased ≡ false → ¬ IsBefore q.name key.name
+  pub first : (q : PieceData) (n : LeaseState) → lease_state_of names q ≡ Some n → n.leased ≡ false
+      → ¬ IsBefore q.name key.name
 
-hidden : (b : Bool) (a m : LeaseState) (o : Option LeaseState) → (b ≡ true → ⊥) → o ≡ Some m → cond b (Some a) o ≡ Some m
+hidden : (b : Bool) (a m : LeaseState) (o : Option LeaseState) → (b ≡ true → ⊥) → o ≡ Some m
+    → cond b (Some a) o ≡ Some m
 hidden true a m o f h = absurd (f refl)
 hidden false a m o f h = h
 
-head_or_later : (b : Bool) (a n : LeaseState) (o : Option LeaseState) → cond b (Some a) o ≡ Some n → (a ≡ n) ⊎ (o ≡ Some n)
+head_or_later : (b : Bool) (a n : LeaseState) (o : Option LeaseState) → cond b (Some a) o ≡ Some n
+    → (a ≡ n) ⊎ (o ≡ Some n)
 head_or_later true a n o h = inl (some_inj a n h)
 head_or_later false a n o h = inr h
 
@@ -38,7 +41,8 @@ true_false b t f = absurd (cc)
 abbrev is_free : LeaseState → Bool
 is_free m = not m.leased
 
-found_first : (e : PieceData × LeaseState) (names : Names) (m : LeaseState) → IsStrictlySortedBy name_cmp (keys_of (e ∷ names))
+found_first : (e : PieceData × LeaseState) (names : Names) (m : LeaseState)
+    → IsStrictlySortedBy name_cmp (keys_of (e ∷ names))
     → (b : Bool) → e.1.leased ≡ b → cond (not b) (Some e.1) (find is_free (values_of names)) ≡ Some m
     → (find is_free (values_of names) ≡ Some m → IsFirst names m) → IsFirst (e ∷ names) m
 found_first e names m s false is h next =
@@ -93,7 +97,8 @@ leased_all : (o : Option LeaseState) → ((n : LeaseState) → o ≡ Some n → 
 leased_all None h = refl
 leased_all (Some n) h = h n refl
 
-some_free : (o : Option LeaseState) → option_map_or (λ (m : LeaseState). m.leased) o true ≡ false → (n : LeaseState) × (o ≡ Some n)
+some_free : (o : Option LeaseState) → option_map_or (λ (m : LeaseState). m.leased) o true ≡ false
+    → (n : LeaseState) × (o ≡ Some n)
     × (n.leased ≡ false)
 some_free None h = absurd (cc)
 some_free (Some n) h = (n, refl, h)
@@ -102,11 +107,13 @@ pub no_id : (o : Option LeaseState) → None ≡ option_map (λ (m : LeaseState)
 no_id None h = refl
 no_id (Some m) h = absurd (cc)
 
-an_id : (o : Option LeaseState) (i : ℕ) → Some i ≡ option_map (λ (m : LeaseState). m.id) o → (m : LeaseState) × (o ≡ Some m) × (m.id ≡ i)
+an_id : (o : Option LeaseState) (i : ℕ) → Some i ≡ option_map (λ (m : LeaseState). m.id) o → (m : LeaseState)
+    × (o ≡ Some m) × (m.id ≡ i)
 an_id None i h = absurd (cc)
 an_id (Some m) i h = (m, refl, some_inj m.id i (sym h))
 
-pub all_leased : (ids : Ids) (names : Names) → None ≡ option_map (λ (m : LeaseState). m.id) (find is_free (values_of names))
+pub all_leased : (ids : Ids) (names : Names)
+    → None ≡ option_map (λ (m : LeaseState). m.id) (find is_free (values_of names))
     → All (λ e. e.leased ≡ true) (outstanding_list ids names)
 all_leased ids names h =
     All-map (λ e. e.leased ≡ true) (outstanding_of names) ids (λ k d l.
@@ -134,7 +141,8 @@ first_piece ids names i h is =
       state = m.0;
       marked = mark_by_name names r.0 f.key r.2 ∙ f.there;
       free = f.free;
-      first = All-map (λ e. e.leased ≡ false → ¬ IsBefore e.piece.name r.0.name) (outstanding_of names) ids (λ k d l free.
+      first = All-map (λ e. e.leased ≡ false → ¬ IsBefore e.piece.name r.0.name)
+          (outstanding_of names) ids (λ k d l free.
           let q = (get_or ids k d).1 in
           let n = some_free (lease_state_of names q) free in
           subst (λ w. ¬ IsBefore q.name w) (sym r.2) (f.first q n.0 n.1 n.2));

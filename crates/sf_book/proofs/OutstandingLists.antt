@@ -41,7 +41,8 @@ absent_id (e ∷ ids) i h =
     let low : e.0 < i = All-head P e ids h in
     rw (id_no i e.0 (λ k. let e = k in omega arith)) (absent_id ids i (All-tail P e ids h))
 
-head_or_tail : (b : Bool) (a n : OutstandingData) (o : Option OutstandingData) → cond b (Some a) o ≡ Some n → (a ≡ n) ⊎ (o ≡ Some n)
+head_or_tail : (b : Bool) (a n : OutstandingData) (o : Option OutstandingData) → cond b (Some a) o ≡ Some n
+    → (a ≡ n) ⊎ (o ≡ Some n)
 head_or_tail true a n o h = inl (some_inj a n h)
 head_or_tail false a n o h = inr h
 
@@ -63,7 +64,8 @@ absent_name ids names p h apart = go (lease_state_of names p) refl
     go None is = is
     go (Some m) is =
         let r = h.known p m is in
-        absurd (found_all (λ e. e.piece.name ≢ p.name) (outstanding_list ids names) m.id (outstanding_of names (m.id, r.0)) apart
+        absurd (found_all (λ e. e.piece.name ≢ p.name) (outstanding_list ids names) m.id
+        (outstanding_of names (m.id, r.0)) apart
         (entry_at_is ids names m.id ∙ ap (option_map (λ q. outstanding_of names (m.id, q))) r.1) r.2)
 
 insert_step : (i : ℕ) (p : PieceData) (e : ℕ × PieceData) (ids new : Ids) (o : Ordering) → nat_cmp i e.0 ≡ o
@@ -86,7 +88,8 @@ removed_insert i p (e ∷ ids) h = insert_step i p e ids (insert_entry nat_cmp i
 pub record IsAdded (ids : Ids) (names : Names) (i : ℕ) (p : PieceData) (on : Bool) (ids' : Ids)
     (names' : Names) : Type 0 where
   pub at_id : (j : ℕ) → piece_at ids' j ≡ cond (is_at (nat_cmp i) j) (Some p) (piece_at ids j)
-  pub at_name : (q : PieceData) → lease_state_of names' q ≡ cond (is_at (name_cmp p) q) (Some (record { id = i; leased = on }))
+  pub at_name : (q : PieceData) → lease_state_of names' q ≡ cond (is_at (name_cmp p) q)
+      (Some (record { id = i; leased = on }))
       (lease_state_of names q)
   pub no_id : piece_at ids i ≡ None
   pub no_name : lease_state_of names p ≡ None
@@ -130,7 +133,8 @@ added_shelf ids names i p on ids' names' h a = record {
       let n = h.named j q k.1 in (
         n.0,
         a.at_name q ∙ (pick_no (is_at (name_cmp p) q) (Some (record { id = i; leased = on })) (lease_state_of names q)
-            (λ t. none_some n.0 (lease_state_of names q) (sym (mark_by_name names p q (same_name p q t)) ∙ a.no_name) n.1)
+            (λ t. none_some n.0 (lease_state_of names q) (sym (mark_by_name names p q (same_name p q t))
+            ∙ a.no_name) n.1)
             ∙ n.1),
         n.2,
       ))
@@ -151,7 +155,8 @@ added_shelf ids names i p on ids' names' h a = record {
             ∙ r.1),
         r.2,
       ))
-      (cond_some (is_at (name_cmp p) q) (record { id = i; leased = on }) n (lease_state_of names q) (sym (a.at_name q) ∙ at));
+      (cond_some (is_at (name_cmp p) q) (record { id = i; leased = on }) n (lease_state_of names q)
+      (sym (a.at_name q) ∙ at));
 }
 
 pub added_view : (ids : Ids) (names : Names) (i : ℕ) (p : PieceData) (on : Bool) (ids' : Ids) (names' : Names)
@@ -164,7 +169,8 @@ added_view ids names i p on ids' names' h a is =
     let n = h.named (get_or ids k d).0 q (own ids h.rising k d l) in
     a.at_name q ∙ pick_no (is_at (name_cmp p) q) (Some w) (lease_state_of names q)
     (λ t. none_some n.0 (lease_state_of names q) (sym (mark_by_name names p q (same_name p q t)) ∙ a.no_name) n.1)) in
-    let new : lease_state_of names' p ≡ Some w = a.at_name p ∙ pick_yes (is_at (name_cmp p) p) (Some w) (lease_state_of names p)
+    let new : lease_state_of names' p ≡ Some w =
+    a.at_name p ∙ pick_yes (is_at (name_cmp p) p) (Some w) (lease_state_of names p)
     (name_yes p p refl) in
     rw (is, map-append, new, old) refl
 
@@ -177,7 +183,8 @@ pub record IsTaken (ids : Ids) (names : Names) (i : ℕ) (p : PieceData) (ids' :
   pub rising : IsStrictlySortedBy nat_cmp (keys_of ids')
   pub sorted : IsStrictlySortedBy name_cmp (keys_of names')
 
-pub taken_shelf : (ids : Ids) (names : Names) (i : ℕ) (p : PieceData) (ids' : Ids) (names' : Names) → AreMatchingMaps ids names
+pub taken_shelf : (ids : Ids) (names : Names) (i : ℕ) (p : PieceData) (ids' : Ids) (names' : Names)
+    → AreMatchingMaps ids names
     → IsTaken ids names i p ids' names' → AreMatchingMaps ids' names'
 taken_shelf ids names i p ids' names' h a = record {
   rising = a.rising;
@@ -232,7 +239,8 @@ removed_view (e ∷ ids) names i h =
     (ap (λ l. outstanding_of names e ∷ l) (removed_view ids names i (sorted_tail nat_cmp e.0 (keys_of ids) h))))
     (cases_eq i e.0)
 
-pub taken_view : (ids : Ids) (names : Names) (i : ℕ) (p : PieceData) (ids' : Ids) (names' : Names) → AreMatchingMaps ids names
+pub taken_view : (ids : Ids) (names : Names) (i : ℕ) (p : PieceData) (ids' : Ids) (names' : Names)
+    → AreMatchingMaps ids names
     → IsTaken ids names i p ids' names' → ids' ≡ remove_entry (is_at (nat_cmp i)) ids
     → outstanding_list ids' names' ≡ without i (outstanding_list ids names)
 taken_view ids names i p ids' names' h a is =
@@ -255,22 +263,26 @@ without_none (e ∷ es) i h = go (e.id == i) h (without_none es i)
     go true k next = absurd (cc)
     go false k next = ap (λ l. e ∷ l) (next k)
 
-pub same_none : (es : List OutstandingData) (i : ℕ) (on : Bool) → outstanding_at i es ≡ None → map (with_lease_at i on) es ≡ es
+pub same_none : (es : List OutstandingData) (i : ℕ) (on : Bool) → outstanding_at i es ≡ None
+    → map (with_lease_at i on) es ≡ es
 same_none [] i on h = refl
 same_none (e ∷ es) i on h = go (e.id == i) h (same_none es i on)
   where
-    go : (b : Bool) → cond b (Some e) (outstanding_at i es) ≡ None → (outstanding_at i es ≡ None → map (with_lease_at i on) es ≡ es)
+    go : (b : Bool) → cond b (Some e) (outstanding_at i es) ≡ None
+        → (outstanding_at i es ≡ None → map (with_lease_at i on) es ≡ es)
         → record { id = e.id; piece = e.piece; leased = cond b on e.leased } ∷ map (with_lease_at i on) es ≡ e ∷ es
     go true k next = absurd (cc)
     go false k next = ap (λ l. e ∷ l) (next k)
 
 -- all ids of the view are below
-below_ids : (ids : Ids) (names : Names) (i : ℕ) → All (λ e. e.id < i) (outstanding_list ids names) → All (λ e. e.0 < i) ids
+below_ids : (ids : Ids) (names : Names) (i : ℕ) → All (λ e. e.id < i) (outstanding_list ids names)
+    → All (λ e. e.0 < i) ids
 below_ids [] names i h = All-nil (λ (e : ℕ × PieceData). e.0 < i)
 below_ids (e ∷ ids) names i h =
     All-cons (λ (e : ℕ × PieceData). e.0 < i) e ids
     (All-head (λ (x : OutstandingData). x.id < i) (outstanding_of names e) (outstanding_list ids names) h)
-    (below_ids ids names i (All-tail (λ (x : OutstandingData). x.id < i) (outstanding_of names e) (outstanding_list ids names) h))
+    (below_ids ids names i (All-tail (λ (x : OutstandingData). x.id < i) (outstanding_of names e)
+    (outstanding_list ids names) h))
 
 pub is_added : (ids : Ids) (names : Names) (i : ℕ) (p : PieceData) (on : Bool) (ids' : Ids) (names' : Names)
     → AreMatchingMaps ids names
@@ -317,7 +329,8 @@ without_low i (e ∷ es) h =
     (ap (λ l. e ∷ l) (without_low i es (All-tail (λ (x : OutstandingData). x.id < i) e es h)))
 
 -- the last one out again
-pub without_last : (es : List OutstandingData) (x : OutstandingData) → All (λ e. e.id < x.id) es → without x.id (es ++ x ∷ []) ≡ es
+pub without_last : (es : List OutstandingData) (x : OutstandingData) → All (λ e. e.id < x.id) es
+    → without x.id (es ++ x ∷ []) ≡ es
 without_last es x h = without_append x.id es (x ∷ [])
     ∙ (rw (without_low x.id es h, num_yes x.id x.id refl, append-nil) refl)
 

@@ -21,7 +21,8 @@ fresh_book stack r budget lawful root plain = record {
   plain = record { book = λ h. plain_fresh stack r budget (plain (subst IsPlain (sym root.of) h)) };
 }
 
-pub marks_book : (b : BookData) (next : ℕ) (g : OutstandingData → OutstandingData) → ((e : OutstandingData) → (g e).id ≡ e.id)
+pub marks_book : (b : BookData) (next : ℕ) (g : OutstandingData → OutstandingData)
+    → ((e : OutstandingData) → (g e).id ≡ e.id)
     → ((e : OutstandingData) → (g e).piece ≡ e.piece) → IsBook b next
     → IsBook (record b { outstanding = map g b.outstanding }) next
 marks_book b next g ids pieces h = record {
@@ -40,7 +41,8 @@ right_step w step h = subst (λ (s : StepData). IsRightStep w.piece s w.name) h.
 
 pub split_book : (b : BookData) (next id : ℕ) (w : WorkData) (f t : PieceData) → IsBook b next → MayCommit b id w
     → b.commits < b.budget → IsLawfulWork w (Split f t)
-    → IsBook (after_split b ((without id b.outstanding ++ leased_piece next f ∷ []) ++ leased_piece (next + 1) t ∷ [])) (next + 2)
+    → IsBook (after_split b ((without id b.outstanding ++ leased_piece next f ∷ []) ++ leased_piece (next + 1) t ∷ []))
+    (next + 2)
 split_book b next id w f t h m room work = record {
   kept = split_kept b next id w f t h.kept m room work.right.0 (right_step w (Split f t) work);
   plain = split_plain b id next (next + 1) w f t h.plain m work.plain work.is;

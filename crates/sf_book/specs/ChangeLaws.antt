@@ -15,7 +15,8 @@ all_at : (P : OutstandingData → Type 0) (es : List OutstandingData) (id : ℕ)
 all_at P [] id e h at = absurd cc
 all_at P (x ∷ es) id e h at = by (x.id == id) at (All-head P x es h) (λ k. all_at P es id e (All-tail P x es h) k)
   where
-    by : (b : Bool) → cond b (Some x) (outstanding_at id es) ≡ Some e → P x → (outstanding_at id es ≡ Some e → P e) → P e
+    by : (b : Bool) → cond b (Some x) (outstanding_at id es) ≡ Some e → P x
+        → (outstanding_at id es ≡ Some e → P e) → P e
     by true at here rest = subst P (same_Some x e at) here
     by false at here rest = rest at
 
@@ -26,7 +27,8 @@ leased_at [] id e at = absurd cc
 leased_at (x ∷ es) id e at = by (x.id == id) at (λ k. leased_at es id e k)
   where
     by : (b : Bool) → cond b (Some x) (outstanding_at id es) ≡ Some e
-        → (outstanding_at id es ≡ Some e → outstanding_at id (map (with_lease_at id true) es) ≡ Some (with_lease_at id true e))
+        → (outstanding_at id es ≡ Some e → outstanding_at id (map (with_lease_at id true) es)
+        ≡ Some (with_lease_at id true e))
         → cond b (Some (with_lease_at id true x)) (outstanding_at id (map (with_lease_at id true) es))
         ≡ Some (with_lease_at id true e)
     by true at rest = ap (λ k. Some (with_lease_at id true k)) (same_Some x e at)
@@ -54,7 +56,8 @@ only_memory b id w Spent m room r = let k = r.1 in absurd (omega arith)
 only_memory b id w Memory m room r = refl
 
 -- within the budget the work of the leased piece is refused only for want of memory
-pub lease_refused : (b c : BookData) (id : ℕ) (p : PieceData) (w : WorkData) (f : Fault) → IsLawfulBook b → Leases b id p c
+pub lease_refused : (b c : BookData) (id : ℕ) (p : PieceData) (w : WorkData) (f : Fault) → IsLawfulBook b
+    → Leases b id p c
     → w.piece ≡ p → (b.commits ≡ b.budget → ⊥) → Refuses c id w f → f ≡ Memory
 lease_refused b c id p w f h l is unspent r =
     let commits : c.commits ≡ b.commits = ap (λ (x : BookData). x.commits) l.after in

@@ -103,7 +103,8 @@ pub one_for_each_trace : (b : BookData) → IsLawfulBook b → HasMembers b
 one_for_each_trace b h m =
     let ts = feasible_traces b.stack in
     let f = feasible_are b.stack in
-    let es : length b.outstanding ≤ sum_by (λ (e : OutstandingData). sum_by (λ t. hits e.piece.name t) ts) b.outstanding =
+    let es : length b.outstanding ≤ sum_by (λ (e : OutstandingData).
+    sum_by (λ t. hits e.piece.name t) ts) b.outstanding =
     at_least_one_each (λ (e : OutstandingData). sum_by (λ t. hits e.piece.name t) ts) b.outstanding
     (outstanding_hit b ts h m f) in
     let rs : length b.regions ≤ sum_by (λ (r : RegionData). sum_by (λ t. hits r.name t) ts) b.regions =
@@ -168,7 +169,8 @@ name_feasible b ts h m f n c =
     (f.exactly n).1 (some.0, some.1, sym (member_trace b.stack r.1 some.0 h.stack right some.1 some.2) ∙ r.3)
 
 -- with nothing outstanding, each feasible trace is the name of a region
-trace_named : (b : BookData) (ts : List (List Bool)) → IsLawfulBook b → AreFeasibleTraces b.stack ts → b.outstanding ≡ []
+trace_named : (b : BookData) (ts : List (List Bool)) → IsLawfulBook b → AreFeasibleTraces b.stack ts
+    → b.outstanding ≡ []
     → (n : List Bool) → Contains ts n → Contains (map (λ (r : RegionData). r.name) b.regions) n
 trace_named b ts h f none n c =
     let d = (f.exactly n).0 c in

@@ -50,8 +50,10 @@ outstanding_list ids names = map (outstanding_of names) ids
 pub record AreMatchingMaps (ids : List (ℕ × PieceData)) (names : List (PieceData × LeaseState)) : Type 0 where
   pub rising : IsStrictlySortedBy nat_cmp (keys_of ids)
   pub sorted : IsStrictlySortedBy name_cmp (keys_of names)
-  pub named : (i : ℕ) (p : PieceData) → piece_at ids i ≡ Some p → (m : LeaseState) × (lease_state_of names p ≡ Some m) × (m.id ≡ i)
-  pub known : (q : PieceData) (m : LeaseState) → lease_state_of names q ≡ Some m → (p : PieceData) × (piece_at ids m.id ≡ Some p)
+  pub named : (i : ℕ) (p : PieceData) → piece_at ids i ≡ Some p → (m : LeaseState)
+      × (lease_state_of names p ≡ Some m) × (m.id ≡ i)
+  pub known : (q : PieceData) (m : LeaseState) → lease_state_of names q ≡ Some m → (p : PieceData)
+      × (piece_at ids m.id ≡ Some p)
       × (p.name ≡ q.name)
 
 -- the first free piece is put on lease

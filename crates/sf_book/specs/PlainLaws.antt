@@ -41,7 +41,8 @@ plain_fresh stack r budget h = record {
   emptied = refl;
 }
 
-pub plain_marks : (b : BookData) (g : OutstandingData → OutstandingData) → ((e : OutstandingData) → (g e).piece ≡ e.piece) → IsPlainBook b
+pub plain_marks : (b : BookData) (g : OutstandingData → OutstandingData)
+    → ((e : OutstandingData) → (g e).piece ≡ e.piece) → IsPlainBook b
     → IsPlainBook (record b { outstanding = map g b.outstanding })
 plain_marks b g pieces h = record {
   outstanding = All-map OfPlain g b.outstanding

@@ -90,7 +90,8 @@ met_adds n (p ∷ qs) s ms q k len below c h =
 
 -- a bit that is clear was clear, or is met with a set without it
 met_clear : (n : ℕ) (qs : List ℕ) (s : ℕ) (ms : List ℕ) (q k : ℕ) → length ms ≡ n → AllBelow n qs
-    → bit_at (get_or (narrowed_masks qs s ms) q 0) k ≡ 0 → (bit_at (get_or ms q 0) k ≡ 0) ⊎ (Contains qs q × (bit_at s k ≡ 0))
+    → bit_at (get_or (narrowed_masks qs s ms) q 0) k ≡ 0 → (bit_at (get_or ms q 0) k ≡ 0)
+    ⊎ (Contains qs q × (bit_at s k ≡ 0))
 met_clear n [] s ms q k len below h = inl h
 met_clear n (p ∷ qs) s ms q k len below h =
     elim (met_clear n qs s (set ms p (bit_and (get_or ms p 0) s)) q k

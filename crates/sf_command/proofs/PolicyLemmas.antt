@@ -44,7 +44,8 @@ fails_due faults.Read due h = inr h
 fails_due faults.Write due h = inr h
 fails_due faults.Memory due h = inl refl
 
-pub policy_asked : {X : Type 0} (view : X → List QuestionData) (r : Result X Fault) (known : Option (List ℕ)) (text : List ℕ)
+pub policy_asked : {X : Type 0} (view : X → List QuestionData) (r : Result X Fault)
+    (known : Option (List ℕ)) (text : List ℕ)
     → ((tree : Members) → parse_document text ≡ Some tree → Gives view r (policy_of tree))
     → (parse_document text ≡ None → (r ≡ Err faults.Syntax) ⊎ (r ≡ Err faults.Memory)) → AreKnownBytes known text
     → IfOk r (λ v. IsPolicyFile known (view v))
@@ -54,7 +55,8 @@ policy_asked view (Ok x) known text read none agrees = elim (option_cases (parse
 ]
 policy_asked view (Err e) known text read none agrees = tt
 
-pub policy_refused : {X : Type 0} (view : X → List QuestionData) (r : Result X Fault) (known : Option (List ℕ)) (text : List ℕ)
+pub policy_refused : {X : Type 0} (view : X → List QuestionData) (r : Result X Fault)
+    (known : Option (List ℕ)) (text : List ℕ)
     → ((tree : Members) → parse_document text ≡ Some tree → Gives view r (policy_of tree))
     → (parse_document text ≡ None → (r ≡ Err faults.Syntax) ⊎ (r ≡ Err faults.Memory)) → AreKnownBytes known text
     → IfErr r (λ e. ((e ≡ faults.Read) × (known ≡ None)) ⊎ (e ≡ faults.Memory) ⊎ RefusesPolicyFile known e)

@@ -32,7 +32,8 @@ times_none x [] h = refl
 times_none x (y ∷ ys) h = absurd (omega arith)
 
 cleared_all : (k : BoardKey) (t : Tally) (words : List ℕ) (ns : List Note) (es : List EnteredSheet)
-    → ((q r : ℕ) → Noted ns q r → slice_index words (q + 6) ≤ r) → LeastIs words (count_of_regions k) (length (questions_of k)) t.least
+    → ((q r : ℕ) → Noted ns q r → slice_index words (q + 6) ≤ r)
+    → LeastIs words (count_of_regions k) (length (questions_of k)) t.least
     → ((q : ℕ) → q < length (questions_of k) → has_doubt q es ≤ bit_of t.doubts q) → Each (Covered k ns) es
     → Each (λ e. (q : ℕ) → q < length (questions_of k) → IsBelow t q e.job → IsCleared k t e q) es
 cleared_all k t words ns [] noted least masked h = tt
@@ -61,7 +62,8 @@ none_past k q [] out h = refl
 none_past k q (e ∷ es) out h =
     let rest = none_past k q es out h.1 in
     let most = has_most q e.doubts in
-    let none : has q e.doubts ≢ 1 = λ one. (let d : IsRightOn (regions_of k) (questions_of k) e.job q Doubt = h.0 q one in
+    let none : has q e.doubts ≢ 1 =
+    λ one. (let d : IsRightOn (regions_of k) (questions_of k) e.job q Doubt = h.0 q one in
     let there = slice_get_within (questions_of k) q d.question d.asked in omega arith) in
     omega arith
 
@@ -91,16 +93,20 @@ close_right k s id v t few h at unmarked doubts entered least =
     length-append (owed_jobs v.owes) (entered_jobs v) in
     let count : length (entered_jobs v) ≡ length v.entered_sheets = length-map v.entered_sheets (λ e. e.job) in
     let right = doubts_right k v.notes v.entered_sheets mine.covered in
-    let joined : v.joined_seats ≡ k.seats → (q : ℕ) → q < 256 → bit_of t.doubts q ≡ has_doubt q v.entered_sheets = λ whole q lt.
+    let joined : v.joined_seats ≡ k.seats → (q : ℕ) → q < 256 → bit_of t.doubts q
+    ≡ has_doubt q v.entered_sheets = λ whole q lt.
     (let only = top_only (λ u. u.joined_seats) (doubt_at q) s.views id v
     (λ j u there idle. let i = (kept.each j u there).idle idle in let m = (kept.each j u there).marks i.0 in
-    subst (λ (y : List ℕ × List EnteredSheet). max (has q y.0) (has_doubt q y.1) ≡ 0) (λ l. (sym m l, sym i.1 l)) refl) at
+    subst (λ (y : List ℕ × List EnteredSheet). max (has q y.0) (has_doubt q y.1) ≡ 0)
+    (λ l. (sym m l, sym i.1 l)) refl) at
     (kept.joined_seats ∙ sym whole) in
-    bit q lt ∙ only ∙ ap (λ (y : List ℕ). max (has q y) (has_doubt q v.entered_sheets)) unmarked ∙ omega arith) in record {
+    bit q lt ∙ only ∙ ap (λ (y : List ℕ). max (has q y) (has_doubt q v.entered_sheets)) unmarked ∙ omega arith) in
+    record {
       each_once = λ x. (let p = parted x in let o = jobs_once k n _ _ _ s.views id v at kept x in
           let u = once_up x (min n (count_of_regions k)) (count_of_regions k) (omega arith) in omega arith);
       breaks = λ q r is. (let l = least.0 q r is in
-          ⊎_elim (λ (x : slice_index s.words (q + 6) ≡ count_of_regions k). absurd (let a = l.1 in let b = l.2 in omega arith))
+          ⊎_elim (λ (x : slice_index s.words (q + 6) ≡ count_of_regions k). absurd (let a = l.1 in
+          let b = l.2 in omega arith))
           (λ (x : (slice_index s.words (q + 6) < count_of_regions k)
           × HasBreak (regions_of k) (questions_of k) (slice_index s.words (q + 6)) q).
           (l.2, subst (λ y. HasBreak (regions_of k) (questions_of k) y q) (sym l.1) x.1)) (kept.right q l.0));
@@ -108,14 +114,17 @@ close_right k s id v t few h at unmarked doubts entered least =
           (λ q lt. let a = bit q (omega arith) in let b = top_at (doubt_at q) s.views id v at in
           omega arith) mine.covered;
       doubts = right;
-      counted = (let a = total_at (λ u. length u.entered_sheets) s.views id v at in let b = kept.entered_is in omega arith);
+      counted = (let a = total_at (λ u. length u.entered_sheets) s.views id v at in
+          let b = kept.entered_is in omega arith);
       complete = λ full x.
           (let a = total_at (λ u. length (jobs u)) s.views id v at in let b = kept.drawn_count in
           let whole : total (λ u. length (jobs u)) s.views ≡ length (jobs v) = omega arith in
           let only = total_only (λ u. length (jobs u)) (λ u. times x (jobs u)) s.views id v
           (λ j u there none. times_none x (jobs u) none) at whole in
-          let p = parted x in let none : times x (owed_jobs v.owes) ≡ 0 = times_none x (owed_jobs v.owes) (omega arith) in
-          let d = kept.drawn x in let e : once_below x (min n (count_of_regions k)) ≡ once_below x (count_of_regions k) =
+          let p = parted x in let none : times x (owed_jobs v.owes) ≡ 0 =
+          times_none x (owed_jobs v.owes) (omega arith) in
+          let d = kept.drawn x in let e : once_below x (min n (count_of_regions k))
+          ≡ once_below x (count_of_regions k) =
           ap (once_below x) (omega arith) in omega arith);
       all_doubts = joined;
       past = λ whole q out lt. joined whole q lt ∙ none_past k q v.entered_sheets out right;

@@ -27,7 +27,8 @@ pub has_doubt_most : (q : ℕ) (es : List EnteredSheet) → has_doubt q es ≤ 1
 has_doubt_most q [] = omega arith
 has_doubt_most q (e ∷ es) = let rest = has_doubt_most q es in let one = has_most q e.doubts in omega arith
 
-pub has_doubt_append : (q : ℕ) (xs ys : List EnteredSheet) → has_doubt q (xs ++ ys) ≡ max (has_doubt q xs) (has_doubt q ys)
+pub has_doubt_append : (q : ℕ) (xs ys : List EnteredSheet) → has_doubt q (xs ++ ys)
+    ≡ max (has_doubt q xs) (has_doubt q ys)
 has_doubt_append q [] ys = omega arith
 has_doubt_append q (x ∷ xs) ys = let rest = has_doubt_append q xs ys in omega arith
 

@@ -14,7 +14,8 @@ use Rattle.sf_crew.specs.Explorations.{IsExplorationOf, IsExactExploration}
 abbrev IsEnough : List (List Insn) → ℕ → BookData → Type 0
 IsEnough stack budget s = (s.outstanding ≡ []) ↔ (2 * length (feasible_traces stack) ≤ budget + 1)
 
-pub exact_end : (stack : List (List Insn)) (budget : ℕ) (s : BookData) → IsExplorationOf stack budget s → IsPlainWhereStackIs s
+pub exact_end : (stack : List (List Insn)) (budget : ℕ) (s : BookData) → IsExplorationOf stack budget s
+    → IsPlainWhereStackIs s
     → IsPlain stack → IsExactExploration stack budget s
 exact_end stack budget s h plain p =
     let members : HasMembers s = plain_has_members s (plain.book (subst IsPlain (sym h.of) p)) in

@@ -85,7 +85,8 @@ entry_all : (P : OutstandingData → Type 0) (es : List OutstandingData) (id : �
 entry_all P [] id e h at = absurd cc
 entry_all P (x ∷ es) id e h at = by (x.id == id) at (All-head P x es h) (λ k. entry_all P es id e (All-tail P x es h) k)
   where
-    by : (b : Bool) → cond b (Some x) (outstanding_at id es) ≡ Some e → P x → (outstanding_at id es ≡ Some e → P e) → P e
+    by : (b : Bool) → cond b (Some x) (outstanding_at id es) ≡ Some e → P x
+        → (outstanding_at id es ≡ Some e → P e) → P e
     by true at here rest = subst P (same_Some x e at) here
     by false at here rest = rest at
 

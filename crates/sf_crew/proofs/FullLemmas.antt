@@ -23,7 +23,8 @@ one_if r j = if r == j then 1 else 0
 miss : (r j : ℕ) → r ≢ j → one_if r j ≡ 0
 miss r j ne = grind (arith, nat_tests)
 
-each_find : (P : EnteredSheet → Type 0) (r : ℕ) (es : List EnteredSheet) → Each P es → 0 < times r (map (λ e. e.job) es) → (e : EnteredSheet)
+each_find : (P : EnteredSheet → Type 0) (r : ℕ) (es : List EnteredSheet) → Each P es → 0 < times r (map (λ e. e.job) es)
+    → (e : EnteredSheet)
     × P e × (e.job ≡ r)
 each_find P r [] h some_one = absurd (omega arith)
 each_find P r (e ∷ es) h some_one = dite (ℕ_discrete e.job r) (λ same. (e, h.0, same))
@@ -39,7 +40,8 @@ once_one : (x n : ℕ) → x < n → once_below x n ≡ 1
 once_one x n h = grind (arith, nat_tests)
 
 -- what stands in a list of places is below their number
-each_there : (k : BoardKey) (es : List EnteredSheet) → ((x : ℕ) → times x (map (λ e. e.job) es) ≤ once_below x (count_of_regions k))
+each_there : (k : BoardKey) (es : List EnteredSheet)
+    → ((x : ℕ) → times x (map (λ e. e.job) es) ≤ once_below x (count_of_regions k))
     → Each (λ e. e.job < count_of_regions k) es
 each_there k [] h = tt
 each_there k (e ∷ es) h = (
@@ -48,12 +50,14 @@ each_there k (e ∷ es) h = (
 )
 
 -- a job that stands in the list of all jobs is one of an entered sheet
-times_map : (P : EnteredSheet → Type 0) (r : ℕ) (es : List EnteredSheet) → Each P es → times r (map (λ e. e.job) es) ≡ 1 → (e : EnteredSheet)
+times_map : (P : EnteredSheet → Type 0) (r : ℕ) (es : List EnteredSheet) → Each P es → times r (map (λ e. e.job) es) ≡ 1
+    → (e : EnteredSheet)
     × P e × (e.job ≡ r)
 times_map P r es h one = each_find P r es h (omega arith)
 
 -- an entered sheet with a doubt
-doubt_find : (P : EnteredSheet → Type 0) (q : ℕ) (es : List EnteredSheet) → Each P es → has_doubt q es ≡ 1 → (e : EnteredSheet) × P e
+doubt_find : (P : EnteredSheet → Type 0) (q : ℕ) (es : List EnteredSheet) → Each P es → has_doubt q es ≡ 1
+    → (e : EnteredSheet) × P e
     × (has q e.doubts ≡ 1)
 doubt_find P q [] h one = absurd (cc)
 doubt_find P q (e ∷ es) h one = dite (ℕ_discrete (has q e.doubts) 1) (λ is. (e, h.0, is))
@@ -64,13 +68,16 @@ each_both P Q [] a b = tt
 each_both P Q (e ∷ es) a b = ((a.0, b.0), each_both P Q es a.1 b.1)
 
 pub full_tally : (s : BookData) (qs : List QuestionData) (k : BoardKey) (v : View) (t : Tally) → RightTally k v t
-    → v.about ≡ Some k → v.owes ≡ None → v.joined_seats ≡ k.seats → 0 < v.exhausted_seats → Knows v → regions_of k ≡ s → questions_of k ≡ qs
+    → v.about ≡ Some k → v.owes ≡ None → v.joined_seats ≡ k.seats → 0 < v.exhausted_seats → Knows v → regions_of k ≡ s
+    → questions_of k ≡ qs
     → length qs ≤ 256 → IsFullTally s qs t
 full_tally s qs k v t right is free whole past knows regions questions few =
     let long : length (questions_of k) ≡ length qs = ap (λ (l : List QuestionData). length l) questions in
-    let all : 0 < v.exhausted_seats → HasAllJobs k v = subst (λ o. IfSome o (λ j. 0 < v.exhausted_seats → HasAllJobs j v)) is knows.1 in
+    let all : 0 < v.exhausted_seats → HasAllJobs k v =
+    subst (λ o. IfSome o (λ j. 0 < v.exhausted_seats → HasAllJobs j v)) is knows.1 in
     let full = all past whole in
-    let same : length (jobs v) ≡ length v.entered_sheets = ap (λ o. length (owed_jobs o ++ map (λ e. e.job) v.entered_sheets)) free
+    let same : length (jobs v) ≡ length v.entered_sheets =
+    ap (λ o. length (owed_jobs o ++ map (λ e. e.job) v.entered_sheets)) free
     ∙ length-map v.entered_sheets (λ e. e.job) in
     let count : length v.entered_sheets ≡ count_of_regions k = sym same ∙ full.0 in
     let here : IsFullTally (regions_of k) (questions_of k) t = record {
@@ -85,7 +92,8 @@ full_tally s qs k v t right is free whole past knows regions questions few =
           (there.1.0 q lt (subst (IsBelow t q) (sym there.2) under)));
       doubts = λ q lt one.
           (let there =
-          doubt_find _ q v.entered_sheets (each_both _ _ v.entered_sheets (each_there k v.entered_sheets right.each_once) right.doubts)
+          doubt_find _ q v.entered_sheets (each_both _ _ v.entered_sheets
+          (each_there k v.entered_sheets right.each_once) right.doubts)
           (sym (right.all_doubts whole q (omega arith)) ∙ one) in
           (there.0.job, there.1.0, there.1.1 q there.2));
       past = right.past whole;

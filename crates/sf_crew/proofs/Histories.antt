@@ -16,7 +16,8 @@ notby_snoc : (i : ℕ) (h : List Event) (e : Event) → NotBy i h → handle_of 
 notby_snoc i [] e n ne = (ne, tt)
 notby_snoc i (x ∷ h) e n ne = (n.0, notby_snoc i h e n.1 ne)
 
-below_snoc : (i : ℕ) (h : List Event) (e : Event) → AllByHandlesBelow i h → handle_of e < i → AllByHandlesBelow i (h ++ e ∷ [])
+below_snoc : (i : ℕ) (h : List Event) (e : Event) → AllByHandlesBelow i h → handle_of e < i
+    → AllByHandlesBelow i (h ++ e ∷ [])
 below_snoc i [] e n lt = (lt, tt)
 below_snoc i (x ∷ h) e n lt = (n.0, below_snoc i h e n.1 lt)
 
@@ -81,7 +82,8 @@ at_below [] port v e = absurd (some-ne-none v (sym e))
 at_below (x ∷ l) zero v e = omega arith
 at_below (x ∷ l) (suc n) v e = let r = at_below l n v e in omega arith
 
-at_end : (l : List HandleView) (a b : HandleView) (j : ℕ) → get_elem? (l ++ a ∷ []) j ≡ some b → (get_elem? l j ≡ some b)
+at_end : (l : List HandleView) (a b : HandleView) (j : ℕ) → get_elem? (l ++ a ∷ []) j ≡ some b
+    → (get_elem? l j ≡ some b)
     ⊎ ((j ≡ length l) × (a ≡ b))
 at_end [] a b zero e = inr (refl, some-injective a b e)
 at_end [] a b (suc j) e = absurd (some-ne-none b (sym e))
@@ -90,7 +92,8 @@ at_end (x ∷ xs) a b (suc j) e = ⊎_elim (λ (y : get_elem? xs j ≡ some b). 
     (λ (y : (j ≡ length xs) × (a ≡ b)). inr (ap suc y.0, y.1)) (at_end xs a b j e)
 
 -- one more event, of this handle
-grown : (items rest : List Lease) (views : List HandleView) (port : ℕ) (v : HandleView) (e : Event) (k : BenchKept items views)
+grown : (items rest : List Lease) (views : List HandleView) (port : ℕ) (v : HandleView) (e : Event)
+    (k : BenchKept items views)
     → get_elem? views port ≡ some v → handle_of e ≡ port → IsLawfulHistory (k.history ++ e ∷ [])
     → rest ≡ drop (got_count (k.history ++ e ∷ [])) (put_leases (k.history ++ e ∷ []))
     → BenchKept rest (set views port (handle_view v.me v.made (k.history ++ e ∷ [])))
@@ -135,7 +138,8 @@ others items views port v k at = let f = k.each port v at in (
   subst (λ i. NotBy i f.1.0) (sym f.0) f.1.2,
   λ owner.
       let made : v.made ≡ length views = k.hired v (subst (λ j. get_elem? views j ≡ some v) (sym f.0 ∙ owner) at) in
-      subst (λ n. AllByHandlesBelow n f.1.0) (sym made) (below_part (length views) v.events f.1.0 k.history f.1.1 k.ports),
+      subst (λ n. AllByHandlesBelow n f.1.0) (sym made)
+      (below_part (length views) v.events f.1.0 k.history f.1.1 k.ports),
 )
 
 pub moment : (items : List Lease) (views : List HandleView) (port : ℕ) (v : HandleView) (k : BenchKept items views)
@@ -157,8 +161,10 @@ pushes port v x zeroth items views k at =
       ),
     )
 
-takes_one : (port : ℕ) (v : HandleView) (xs items : List Lease) (views : List HandleView) → 0 < length xs → length xs < 2
-    → BenchKept (xs ++ items) views → get_elem? views port ≡ some v → (w : HandleView) × BenchKept items (set views port w)
+takes_one : (port : ℕ) (v : HandleView) (xs items : List Lease) (views : List HandleView)
+    → 0 < length xs → length xs < 2
+    → BenchKept (xs ++ items) views → get_elem? views port ≡ some v → (w : HandleView)
+    × BenchKept items (set views port w)
     × GetsAll v xs w
 takes_one port v [] items views some_one one k at = absurd (omega arith)
 takes_one port v (x ∷ []) items views some_one one k at =
@@ -181,7 +187,8 @@ takes_one port v (x ∷ y ∷ xs) items views some_one one k at = absurd (omega 
 pub takes : (port : ℕ) (v : HandleView) → Takes BenchKept port v 1 (GetsAll v)
 takes port v xs items views some_one one k at = takes_one port v xs items views some_one one k at
 
-all_got : (port : ℕ) (v : HandleView) (items : List Lease) (views : List HandleView) → length items ≡ 0 → BenchKept items views
+all_got : (port : ℕ) (v : HandleView) (items : List Lease) (views : List HandleView) → length items ≡ 0
+    → BenchKept items views
     → get_elem? views port ≡ some v → AllGot v
 all_got port v items views none k at =
     let h : List Event = k.history in let le = lawful_le 0 0 h (omega arith) k.lawful in
@@ -204,7 +211,8 @@ notby_part a b h i e n = notby_right i a b (subst (NotBy i) e n)
 
 pub forks : (port : ℕ) (v : HandleView) → port ≡ 0 → Forks BenchKept port v (owner_with_thief v) (new_thief_view v)
 forks port v zeroth items views k at =
-    let l : HandleView = owner_with_thief v in let r : HandleView = new_thief_view v in let vs : List HandleView = set views port l in
+    let l : HandleView = owner_with_thief v in let r : HandleView = new_thief_view v in
+    let vs : List HandleView = set views port l in
     let h : List Event = k.history in
     let long : length vs ≡ length views = length-set views port l in
     let more : length (vs ++ r ∷ []) ≡ length views + 1 = (length-append vs (r ∷ [])) ∙ omega arith in

@@ -32,13 +32,15 @@ jobs_all k n e d least views port v at h whole x =
     sym (total_only (λ u. u.joined_seats) (λ u. times x (jobs u)) views port v
     (λ j u there none. idle_jobs k n least x u (h.each j u there) none) at (h.joined_seats ∙ sym whole)) ∙ h.drawn x
 
-idle_count : (k : BoardKey) (n : ℕ) (least : ℕ → ℕ) (u : View) → Sound k n least u → u.joined_seats ≡ 0 → length (jobs u) ≡ 0
+idle_count : (k : BoardKey) (n : ℕ) (least : ℕ → ℕ) (u : View) → Sound k n least u → u.joined_seats ≡ 0
+    → length (jobs u) ≡ 0
 idle_count k n least u h none = let i = h.idle none in
     subst (λ (y : Option ℕ × List EnteredSheet). length (owed_jobs y.0 ++ map (λ e. e.job) y.1) ≡ 0)
     (λ j. (sym i.0 j, sym i.1 j)) refl
 
 pub count_all : (k : BoardKey) (n e : ℕ) (d least : ℕ → ℕ) (views : List View) (port : ℕ) (v : View)
-    → get_elem? views port ≡ some v → Kept k n e d least views → v.joined_seats ≡ k.seats → length (jobs v) ≡ min n (count_of_regions k)
+    → get_elem? views port ≡ some v → Kept k n e d least views → v.joined_seats ≡ k.seats
+    → length (jobs v) ≡ min n (count_of_regions k)
 count_all k n e d least views port v at h whole =
     sym (total_only (λ u. u.joined_seats) (λ u. length (jobs u)) views port v
     (λ j u there none. idle_count k n least u (h.each j u there) none) at (h.joined_seats ∙ sym whole)) ∙ h.drawn_count
@@ -49,7 +51,8 @@ pub entered_count : (v x w : View) (s : SheetData) (job : ℕ) → x ≡ with_no
 entered_count v x w s job looked owing e =
     let now : length (jobs w) ≡ 1 + length (map (λ (y : EnteredSheet). y.job) x.entered_sheets) =
     ap (λ (y : View). length (jobs y)) e.3 ∙ omega arith in
-    let same : length (map (λ (y : EnteredSheet). y.job) x.entered_sheets) ≡ length (map (λ (y : EnteredSheet). y.job) v.entered_sheets) =
+    let same : length (map (λ (y : EnteredSheet). y.job) x.entered_sheets)
+    ≡ length (map (λ (y : EnteredSheet). y.job) v.entered_sheets) =
     ap (λ (y : View). length (map (λ (z : EnteredSheet). z.job) y.entered_sheets)) looked in
     let was : length (jobs v) ≡ 1 + length (map (λ (y : EnteredSheet). y.job) v.entered_sheets) =
     ap (λ o. length (owed_jobs o ++ map (λ (y : EnteredSheet). y.job) v.entered_sheets)) owing ∙ omega arith in

@@ -43,7 +43,8 @@ glances k slots id me is s h homes at fits =
       (
         refl,
         (
-          (λ x. let a = jobs_once k n _ _ _ s.views id v at h.1 x in let b = once_at_most x (min n (count_of_regions k)) in
+          (λ x. let a = jobs_once k n _ _ _ s.views id v at h.1 x in
+              let b = once_at_most x (min n (count_of_regions k)) in
               omega arith),
           all,
         ),
@@ -64,15 +65,18 @@ shared k least n v is = record {
 split_kept : (k : BoardKey) (n e : ℕ) (d least : ℕ → ℕ) (views : List View) (port : ℕ) (v : View) → 1 < v.joined_seats
     → v.exhausted_seats ≡ 0 → v.about ≡ Some k → get_elem? views port ≡ some v → Kept k n e d least views
     → Kept k n e d least (set views port (kept_view v) ++ shared_view v ∷ [])
-split_kept k n e d least views port v joined_seats fresh is at h = let w : View = kept_view v in let u : View = shared_view v in
+split_kept k n e d least views port v joined_seats fresh is at h = let w : View = kept_view v in
+    let u : View = shared_view v in
     let mine = h.each port v at in let vs : List View = set views port w in record {
-      joined_seats = (let s = total_set (λ y. y.joined_seats) views port v w at in let t = total_snoc (λ y. y.joined_seats) vs u in
+      joined_seats = (let s = total_set (λ y. y.joined_seats) views port v w at in
+          let t = total_snoc (λ y. y.joined_seats) vs u in
           let p = h.joined_seats in omega arith);
       drawn = λ x. (let s = total_set (λ y. times x (jobs y)) views port v w at in
           let t = total_snoc (λ y. times x (jobs y)) vs u in let p = h.drawn x in omega arith);
       drawn_count = (let s = total_set (λ y. length (jobs y)) views port v w at in
           let t = total_snoc (λ y. length (jobs y)) vs u in let p = h.drawn_count in omega arith);
-      past_end = (let s = total_set (λ y. y.exhausted_seats) views port v w at in let t = total_snoc (λ y. y.exhausted_seats) vs u in
+      past_end = (let s = total_set (λ y. y.exhausted_seats) views port v w at in
+          let t = total_snoc (λ y. y.exhausted_seats) vs u in
           let p = h.past_end in omega arith);
       entered_is = (let s = total_set (λ y. length y.entered_sheets) views port v w at in
           let t = total_snoc (λ y. length y.entered_sheets) vs u in let p = h.entered_is in omega arith);
@@ -120,18 +124,24 @@ joint_jobs : (x : ℕ) (v w : View) → v.owes ≡ None → w.owes ≡ None
     → times x (jobs (joined_view v w)) ≡ times x (jobs v) + times x (jobs w)
 joint_jobs x v w a b =
     let f : EnteredSheet → ℕ = λ e. e.job in
-    let l : times x (jobs v) ≡ times x (map f v.entered_sheets) = ap (λ o. times x (owed_jobs o ++ map f v.entered_sheets)) a in
-    let r : times x (jobs w) ≡ times x (map f w.entered_sheets) = ap (λ o. times x (owed_jobs o ++ map f w.entered_sheets)) b in
-    let both : times x (map f (v.entered_sheets ++ w.entered_sheets)) ≡ times x (map f v.entered_sheets) + times x (map f w.entered_sheets) =
-    ap (times x) (map-append f v.entered_sheets w.entered_sheets) ∙ times_append x (map f v.entered_sheets) (map f w.entered_sheets) in
+    let l : times x (jobs v) ≡ times x (map f v.entered_sheets) =
+    ap (λ o. times x (owed_jobs o ++ map f v.entered_sheets)) a in
+    let r : times x (jobs w) ≡ times x (map f w.entered_sheets) =
+    ap (λ o. times x (owed_jobs o ++ map f w.entered_sheets)) b in
+    let both : times x (map f (v.entered_sheets ++ w.entered_sheets)) ≡ times x (map f v.entered_sheets)
+    + times x (map f w.entered_sheets) =
+    ap (times x) (map-append f v.entered_sheets w.entered_sheets)
+    ∙ times_append x (map f v.entered_sheets) (map f w.entered_sheets) in
     omega arith
 
 joint_count : (v w : View) → v.owes ≡ None → w.owes ≡ None → length (jobs (joined_view v w)) ≡ length (jobs v)
     + length (jobs w)
 joint_count v w a b =
     let f : EnteredSheet → ℕ = λ e. e.job in
-    let l : length (jobs v) ≡ length (map f v.entered_sheets) = ap (λ o. length (owed_jobs o ++ map f v.entered_sheets)) a in
-    let r : length (jobs w) ≡ length (map f w.entered_sheets) = ap (λ o. length (owed_jobs o ++ map f w.entered_sheets)) b in
+    let l : length (jobs v) ≡ length (map f v.entered_sheets) =
+    ap (λ o. length (owed_jobs o ++ map f v.entered_sheets)) a in
+    let r : length (jobs w) ≡ length (map f w.entered_sheets) =
+    ap (λ o. length (owed_jobs o ++ map f w.entered_sheets)) b in
     omega (
       arith,
       length-map v.entered_sheets f,
@@ -174,7 +184,8 @@ join_kept k n e d least views i j v w free free' is part apart at at' h =
     let b : View = joined_view v w in let z : View = idle_view in
     let was : get_elem? views j ≡ some w = sym (set_else views i j b apart) ∙ at' in
     let mine = h.each i v at in let theirs = h.each j w was in record {
-      joined_seats = (let s = total_both (λ y. y.joined_seats) views i j v w b z apart at at' in let p = h.joined_seats in omega arith);
+      joined_seats = (let s = total_both (λ y. y.joined_seats) views i j v w b z apart at at' in
+          let p = h.joined_seats in omega arith);
       drawn = λ x. (let s = total_both (λ y. times x (jobs y)) views i j v w b z apart at at' in
           let t = joint_jobs x v w free free' in let p = h.drawn x in omega arith);
       drawn_count = (let s = total_both (λ y. length (jobs y)) views i j v w b z apart at at' in
@@ -205,7 +216,8 @@ join_kept k n e d least views i j v w free free' is part apart at at' h =
                 (λ (y : Noted w.notes q r). theirs.noted q r y) (noted_either v.notes w.notes q r x);
             covered = each_append (Covered k (v.notes ++ w.notes)) v.entered_sheets w.entered_sheets
                 (noted_more k v.notes (v.notes ++ w.notes) v.entered_sheets (noted_left v.notes w.notes) mine.covered)
-                (noted_more k w.notes (v.notes ++ w.notes) w.entered_sheets (noted_right v.notes w.notes) theirs.covered);
+                (noted_more k w.notes (v.notes ++ w.notes) w.entered_sheets
+                (noted_right v.notes w.notes) theirs.covered);
           }) (λ y s. s) record {
             about = λ some_part. absurd (omega arith);
             idle = λ _. (refl, refl);
@@ -217,7 +229,8 @@ join_kept k n e d least views i j v w free free' is part apart at at' h =
           };
     }
 
-pub joins : (k : BoardKey) (id other : ℕ) (v w : View) → v.owes ≡ None → w.owes ≡ None → v.about ≡ Some k → 0 < v.joined_seats
+pub joins : (k : BoardKey) (id other : ℕ) (v w : View) → v.owes ≡ None → w.owes ≡ None → v.about ≡ Some k
+    → 0 < v.joined_seats
     → Joins {S = ℕ} (BoardKept k) id v other w (joined_view v w) idle_view
 joins k id other v w free free' is part s h at apart at' =
     (h.0, join_kept k _ _ _ _ s.views id other v w free free' is part apart at at' h.1)

@@ -67,12 +67,14 @@ put_next k words n views long h =
           (λ i. (sym p0 i, sym p1 i, λ w. sym (pd w) i, λ q. sym (pl q) i)) h,
     )
 
-draw_kept : (k : BoardKey) (n e : ℕ) (d least : ℕ → ℕ) (views : List View) (port : ℕ) (v : View) → n < count_of_regions k
+draw_kept : (k : BoardKey) (n e : ℕ) (d least : ℕ → ℕ) (views : List View) (port : ℕ) (v : View)
+    → n < count_of_regions k
     → v.owes ≡ None → 0 < v.joined_seats → get_elem? views port ≡ some v → Kept k n e d least views
     → Kept k (n + 1) e d least (set views port (view_with_job v n))
 draw_kept k n e d least views port v below free part at h = let w : View = view_with_job v n in
     let mine = h.each port v at in record {
-      joined_seats = (let s = total_set (λ u. u.joined_seats) views port v w at in let p = h.joined_seats in omega arith);
+      joined_seats = (let s = total_set (λ u. u.joined_seats) views port v w at in
+          let p = h.joined_seats in omega arith);
       drawn = λ x.
           let f : View → ℕ = λ u. times x (jobs u) in
           let s : total f (set views port w) + f v ≡ total f views + f w = total_set f views port v w at in
@@ -80,7 +82,8 @@ draw_kept k n e d least views port v below free part at h = let w : View = view_
           ap (λ o. times x (owed_jobs o ++ map (λ e. e.job) v.entered_sheets)) free in
           let mine_is : f w ≡ (if x == n then 1 else 0) + times x (map (λ e. e.job) v.entered_sheets) = refl in
           let before : total f views ≡ once_below x n = h.drawn x ∙ ap (once_below x) (omega arith) in
-          let after : once_below x (min (n + 1) (count_of_regions k)) ≡ once_below x (n + 1) = ap (once_below x) (omega arith) in
+          let after : once_below x (min (n + 1) (count_of_regions k)) ≡ once_below x (n + 1) =
+          ap (once_below x) (omega arith) in
           let b = below_next x n in
           omega arith;
       drawn_count =
@@ -91,7 +94,8 @@ draw_kept k n e d least views port v below free part at h = let w : View = view_
           let mine_is : f w ≡ suc (length (map (λ e. e.job) v.entered_sheets)) = refl in
           let c = h.drawn_count in omega arith;
       past_end = (let s = total_set (λ u. u.exhausted_seats) views port v w at in let p = h.past_end in omega arith);
-      entered_is = (let s = total_set (λ u. length u.entered_sheets) views port v w at in let p = h.entered_is in omega arith);
+      entered_is = (let s = total_set (λ u. length u.entered_sheets) views port v w at in
+          let p = h.entered_is in omega arith);
       marked = λ q few. (let s = top_set (doubt_at q) views port v w at (omega arith) in
           let t = top_at (doubt_at q) views port v at in let p = h.marked q few in
           let same : doubt_at q w ≡ doubt_at q v = refl in omega arith);
@@ -108,12 +112,14 @@ draw_kept k n e d least views port v below free part at h = let w : View = view_
           };
     }
 
-pass_kept : (k : BoardKey) (n e : ℕ) (d least : ℕ → ℕ) (views : List View) (port : ℕ) (v : View) → count_of_regions k ≤ n
+pass_kept : (k : BoardKey) (n e : ℕ) (d least : ℕ → ℕ) (views : List View) (port : ℕ) (v : View)
+    → count_of_regions k ≤ n
     → v.exhausted_seats ≡ 0 → 0 < v.joined_seats → get_elem? views port ≡ some v → Kept k n e d least views
     → Kept k (n + 1) e d least (set views port (view_without_job v))
 pass_kept k n e d least views port v past fresh part at h = let w : View = view_without_job v in
     let mine = h.each port v at in record {
-      joined_seats = (let s = total_set (λ u. u.joined_seats) views port v w at in let p = h.joined_seats in omega arith);
+      joined_seats = (let s = total_set (λ u. u.joined_seats) views port v w at in
+          let p = h.joined_seats in omega arith);
       drawn = λ x.
           let f : View → ℕ = λ u. times x (jobs u) in
           let s : total f (set views port w) + f v ≡ total f views + f w = total_set f views port v w at in
@@ -128,7 +134,8 @@ pass_kept k n e d least views port v past fresh part at h = let w : View = view_
           let same : f w ≡ f v = refl in
           let c = h.drawn_count in omega arith;
       past_end = (let s = total_set (λ u. u.exhausted_seats) views port v w at in let p = h.past_end in omega arith);
-      entered_is = (let s = total_set (λ u. length u.entered_sheets) views port v w at in let p = h.entered_is in omega arith);
+      entered_is = (let s = total_set (λ u. length u.entered_sheets) views port v w at in
+          let p = h.entered_is in omega arith);
       marked = λ q few. (let s = top_set (doubt_at q) views port v w at (omega arith) in
           let t = top_at (doubt_at q) views port v at in let p = h.marked q few in
           let same : doubt_at q w ≡ doubt_at q v = refl in omega arith);
@@ -146,31 +153,38 @@ pass_kept k n e d least views port v past fresh part at h = let w : View = view_
     }
 
 -- the job word stays far below the end of its type
-nones_below : (k : BoardKey) (n e : ℕ) (d least : ℕ → ℕ) (views : List View) (port : ℕ) (v : View) → v.exhausted_seats ≡ 0
-    → 0 < v.joined_seats → get_elem? views port ≡ some v → Kept k n e d least views → n + 1 ≤ count_of_regions k + k.seats
+nones_below : (k : BoardKey) (n e : ℕ) (d least : ℕ → ℕ) (views : List View) (port : ℕ) (v : View)
+    → v.exhausted_seats ≡ 0
+    → 0 < v.joined_seats → get_elem? views port ≡ some v → Kept k n e d least views
+    → n + 1 ≤ count_of_regions k + k.seats
 nones_below k n e d least views port v fresh part at h =
     let w : View = view_without_job v in let mine = h.each port v at in
-    let a = total_set (λ u. u.exhausted_seats) views port v w at in let b = total_set (λ u. u.joined_seats) views port v w at in
+    let a = total_set (λ u. u.exhausted_seats) views port v w at in
+    let b = total_set (λ u. u.joined_seats) views port v w at in
     let le : total (λ u. u.exhausted_seats) (set views port w) ≤ total (λ u. u.joined_seats) (set views port w) =
     total_le (λ u. u.exhausted_seats) (λ u. u.joined_seats) (set views port w)
     (every_set (λ u. Sound k n least u) (λ u. u.exhausted_seats ≤ u.joined_seats) views port w h.each (λ u s. s.few)
     (omega arith)) in
     let p = h.joined_seats in let q = h.past_end in omega arith
 
-draw_step : (k : BoardKey) (words : List ℕ) (views : List View) (id : ℕ) (v : View) → v.owes ≡ None → v.exhausted_seats ≡ 0
+draw_step : (k : BoardKey) (words : List ℕ) (views : List View) (id : ℕ) (v : View) → v.owes ≡ None
+    → v.exhausted_seats ≡ 0
     → 0 < v.joined_seats → count_of_regions k + k.seats < 18446744073709551616
     → length words ≡ length (questions_of k) + 6 → Kept k (slice_index words 0) (slice_index words 1) (doubts_in words)
     (least_in words) views → get_elem? views id ≡ some v
     → Dec (count_of_regions k ≤ slice_index words 0)
     → (w : View) × Kept k ((slice_index words 0 + 1) % 18446744073709551616) (slice_index words 1) (doubts_in words)
     (least_in words) (set views id w)
-    × (slice_index words 0 < count_of_regions k → (times (slice_index words 0) (jobs v) ≡ 0) × (length (jobs v) < count_of_regions k)
-    × (w ≡ view_with_job v (slice_index words 0))) × (count_of_regions k ≤ slice_index words 0 → (w ≡ view_without_job v) × HasAllJobs k w)
+    × (slice_index words 0 < count_of_regions k → (times (slice_index words 0) (jobs v) ≡ 0)
+    × (length (jobs v) < count_of_regions k)
+    × (w ≡ view_with_job v (slice_index words 0)))
+    × (count_of_regions k ≤ slice_index words 0 → (w ≡ view_without_job v) × HasAllJobs k w)
 draw_step k words views id v free fresh part small long h at (yes past) =
     let n = slice_index words 0 in let most = nones_below k n _ _ _ views id v fresh part at h in
     let e : n + 1 ≡ (n + 1) % 18446744073709551616 = omega arith in (
       view_without_job v,
-      subst (λ m. Kept k m (slice_index words 1) (doubts_in words) (least_in words) (set views id (view_without_job v))) e
+      subst (λ m. Kept k m (slice_index words 1) (doubts_in words) (least_in words)
+          (set views id (view_without_job v))) e
           (pass_kept k n _ _ _ views id v past fresh part at h),
       (λ below. absurd (omega arith)),
       (λ _. (
@@ -196,16 +210,19 @@ draw_step k words views id v free fresh part small long h at (no not_past) =
       (λ past. absurd (omega arith)),
     )
 
-pub draws : (k : BoardKey) (slots id : ℕ) (me : Me ℕ View) → me.0.about ≡ Some k → me.0.owes ≡ None → me.0.exhausted_seats ≡ 0
+pub draws : (k : BoardKey) (slots id : ℕ) (me : Me ℕ View) → me.0.about ≡ Some k → me.0.owes ≡ None
+    → me.0.exhausted_seats ≡ 0
     → 0 < me.0.joined_seats → count_of_regions k + k.seats < 18446744073709551616
     → Allows (BoardKept k) slots id me 0 (λ n. (n + 1) % 18446744073709551616) (λ n w. Draws me.0 n w.0 × (w.1 ≡ me.1))
 draws k slots id me is free fresh part small s h homes at fits =
     let v : View = me.0 in let n : ℕ = slice_index s.words 0 in
     let t = draw_step k s.words s.views id v free fresh part small h.0 h.1 at (dec_le (count_of_regions k) n) in
-    let told : IfSome v.about (λ j. (n < count_of_regions j → (times n (jobs v) ≡ 0) × (length (jobs v) < count_of_regions j)
+    let told : IfSome v.about (λ j. (n < count_of_regions j → (times n (jobs v) ≡ 0)
+    × (length (jobs v) < count_of_regions j)
     × (t.0 ≡ view_with_job v n)) × (count_of_regions j ≤ n → (t.0 ≡ view_without_job v) × HasAllJobs j t.0)) =
     subst (λ o. IfSome o (λ j. (n < count_of_regions j → (times n (jobs v) ≡ 0) × (length (jobs v) < count_of_regions j)
-    × (t.0 ≡ view_with_job v n)) × (count_of_regions j ≤ n → (t.0 ≡ view_without_job v) × HasAllJobs j t.0))) (sym is) (t.2, t.3) in
+    × (t.0 ≡ view_with_job v n)) × (count_of_regions j ≤ n → (t.0 ≡ view_without_job v) × HasAllJobs j t.0)))
+    (sym is) (t.2, t.3) in
     (t.0, keeps, tt, put_next k s.words _ _ h.0 t.1, (told, refl))
 
 pub not_above : (n : ℕ) → nat_lt 0 n ≡ false → n ≡ 0
@@ -232,12 +249,14 @@ renoted : (k : BoardKey) (n e : ℕ) (d least less : ℕ → ℕ) (views : List 
     → Kept k n e d least views → Kept k n e d less (set views port (with_notes v ns))
 renoted k n e d least less views port v ns at down right noted more h = let w : View = with_notes v ns in
     let mine = h.each port v at in record {
-      joined_seats = (let s = total_set (λ u. u.joined_seats) views port v w at in let p = h.joined_seats in omega arith);
+      joined_seats = (let s = total_set (λ u. u.joined_seats) views port v w at in
+          let p = h.joined_seats in omega arith);
       drawn = λ x. (let s = total_set (λ u. times x (jobs u)) views port v w at in let p = h.drawn x in omega arith);
       drawn_count = (let s = total_set (λ u. length (jobs u)) views port v w at in
           let p = h.drawn_count in omega arith);
       past_end = (let s = total_set (λ u. u.exhausted_seats) views port v w at in let p = h.past_end in omega arith);
-      entered_is = (let s = total_set (λ u. length u.entered_sheets) views port v w at in let p = h.entered_is in omega arith);
+      entered_is = (let s = total_set (λ u. length u.entered_sheets) views port v w at in
+          let p = h.entered_is in omega arith);
       marked = λ q few. (let s = top_set (doubt_at q) views port v w at (omega arith) in
           let t = top_at (doubt_at q) views port v at in let p = h.marked q few in
           let same : doubt_at q w ≡ doubt_at q v = refl in omega arith);
@@ -327,18 +346,22 @@ hits k slots id q j me there below breaks s h homes at fits =
       (refl, refl),
     )
 
-mark_kept : (k : BoardKey) (n e j q : ℕ) (d d' least : ℕ → ℕ) (views : List View) (port : ℕ) (v : View) → v.owes ≡ Some j
+mark_kept : (k : BoardKey) (n e j q : ℕ) (d d' least : ℕ → ℕ) (views : List View) (port : ℕ) (v : View)
+    → v.owes ≡ Some j
     → bit_at (d' (q / 64)) (q % 64) ≡ 1 → ((p : ℕ) → p < 256 → p ≢ q
     → bit_at (d' (p / 64)) (p % 64) ≡ bit_at (d (p / 64)) (p % 64))
-    → get_elem? views port ≡ some v → Kept k n e d least views → Kept k n e d' least (set views port (view_with_mark v q))
+    → get_elem? views port ≡ some v → Kept k n e d least views
+    → Kept k n e d' least (set views port (view_with_mark v q))
 mark_kept k n e j q d d' least views port v owing here others at h = let w : View = view_with_mark v q in
     let mine = h.each port v at in record {
-      joined_seats = (let s = total_set (λ u. u.joined_seats) views port v w at in let p = h.joined_seats in omega arith);
+      joined_seats = (let s = total_set (λ u. u.joined_seats) views port v w at in
+          let p = h.joined_seats in omega arith);
       drawn = λ x. (let s = total_set (λ u. times x (jobs u)) views port v w at in let p = h.drawn x in omega arith);
       drawn_count = (let s = total_set (λ u. length (jobs u)) views port v w at in
           let p = h.drawn_count in omega arith);
       past_end = (let s = total_set (λ u. u.exhausted_seats) views port v w at in let p = h.past_end in omega arith);
-      entered_is = (let s = total_set (λ u. length u.entered_sheets) views port v w at in let p = h.entered_is in omega arith);
+      entered_is = (let s = total_set (λ u. length u.entered_sheets) views port v w at in
+          let p = h.entered_is in omega arith);
       marked = λ p few. (let t = top_at (doubt_at p) views port v at in let was = h.marked p few in
           dite (ℕ_discrete p q)
           (λ same. (let one : doubt_at q w ≡ max (max 1 (has q v.marked)) (has_doubt q v.entered_sheets) = ap
@@ -415,11 +438,13 @@ put_entered k words d views long h =
     )
 
 enter_kept : (k : BoardKey) (n e j : ℕ) (d least : ℕ → ℕ) (views : List View) (port : ℕ) (v : View) → v.owes ≡ Some j
-    → 0 < v.joined_seats → Covered k v.notes (entered_sheet j v.marked) → get_elem? views port ≡ some v → Kept k n e d least views
+    → 0 < v.joined_seats → Covered k v.notes (entered_sheet j v.marked) → get_elem? views port ≡ some v
+    → Kept k n e d least views
     → Kept k n (e + 1) d least (set views port (view_with_sheet v j))
 enter_kept k n e j d least views port v owing part covered at h = let w : View = view_with_sheet v j in
     let mine = h.each port v at in record {
-      joined_seats = (let s = total_set (λ u. u.joined_seats) views port v w at in let p = h.joined_seats in omega arith);
+      joined_seats = (let s = total_set (λ u. u.joined_seats) views port v w at in
+          let p = h.joined_seats in omega arith);
       drawn = λ x. (let s = total_set (λ u. times x (jobs u)) views port v w at in let p = h.drawn x in
           let same : times x (jobs v) ≡ times x (jobs w) =
           ap (λ o. times x (owed_jobs o ++ map (λ y. y.job) v.entered_sheets)) owing in omega arith);
@@ -427,7 +452,8 @@ enter_kept k n e j d least views port v owing part covered at h = let w : View =
           let same : length (jobs v) ≡ length (jobs w) =
           ap (λ o. length (owed_jobs o ++ map (λ y. y.job) v.entered_sheets)) owing in omega arith);
       past_end = (let s = total_set (λ u. u.exhausted_seats) views port v w at in let p = h.past_end in omega arith);
-      entered_is = (let s = total_set (λ u. length u.entered_sheets) views port v w at in let p = h.entered_is in omega arith);
+      entered_is = (let s = total_set (λ u. length u.entered_sheets) views port v w at in
+          let p = h.entered_is in omega arith);
       marked = λ q few.
           (let b : doubt_at q w ≡ max (has q []) (max (has q v.marked) (has_doubt q v.entered_sheets)) = refl in
           let z : has q [] ≡ 0 = refl in
@@ -450,7 +476,8 @@ entries_few : (k : BoardKey) (n e j : ℕ) (d least : ℕ → ℕ) (views : List
 entries_few k n e j d least views port v owing at h = let w : View = view_with_sheet v j in
     let a = total_set (λ u. length u.entered_sheets) views port v w at in
     let b = total_set (λ u. length (jobs u)) views port v w at in
-    let same : length (jobs v) ≡ length (jobs w) = ap (λ o. length (owed_jobs o ++ map (λ y. y.job) v.entered_sheets)) owing in
+    let same : length (jobs v) ≡ length (jobs w) =
+    ap (λ o. length (owed_jobs o ++ map (λ y. y.job) v.entered_sheets)) owing in
     let le : total (λ u. length u.entered_sheets) (set views port w) ≤ total (λ u. length (jobs u)) (set views port w) =
     total_le (λ u. length u.entered_sheets) (λ u. length (jobs u)) (set views port w)
     (λ i u _. omega (
@@ -471,7 +498,8 @@ enters k slots id j me owing part small covered s h homes at fits =
       keeps,
       tt,
       put_entered k s.words _ _ h.0 (subst (λ x. Kept k (slice_index s.words 0) x (doubts_in s.words) (least_in s.words)
-          (set s.views id (view_with_sheet me.0 j))) same (enter_kept k _ e j _ _ s.views id me.0 owing part covered at h.1)),
+          (set s.views id (view_with_sheet me.0 j))) same
+          (enter_kept k _ e j _ _ s.views id me.0 owing part covered at h.1)),
       ((λ i is. ap (view_with_sheet me.0) (cc (owing, is))), refl),
     )
 
@@ -484,7 +512,9 @@ looks_at k slots id q me is there = let e : q ≡ q + 6 - 6 = omega arith in
 
 pub hits_at : (k : BoardKey) (slots id q j : ℕ) (me : Me ℕ View) → q < length (questions_of k) → j < count_of_regions k
     → HasBreak (regions_of k) (questions_of k) j q
-    → Allows (BoardKept k) slots id me (q + 6) (λ n. min n j) (λ n w. (w.0 ≡ view_with_note me.0 (q + 6 - 6) j) × (w.1 ≡ me.1))
+    → Allows (BoardKept k) slots id me (q + 6) (λ n. min n j) (λ n w.
+    (w.0 ≡ view_with_note me.0 (q + 6 - 6) j) × (w.1 ≡ me.1))
 hits_at k slots id q j me there below breaks = let e : q ≡ q + 6 - 6 = omega arith in
-    subst (λ p. Allows (BoardKept k) slots id me (q + 6) (λ n. min n j) (λ n w. (w.0 ≡ view_with_note me.0 p j) × (w.1 ≡ me.1)))
+    subst (λ p. Allows (BoardKept k) slots id me (q + 6) (λ n. min n j) (λ n w. (w.0 ≡ view_with_note me.0 p j)
+    × (w.1 ≡ me.1)))
     e (hits k slots id q j me there below breaks)

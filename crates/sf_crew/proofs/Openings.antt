@@ -31,7 +31,8 @@ only_view : {X : Type 0} (x y : X) (port : ℕ) → get_elem? (x ∷ []) port �
 only_view x y zero e = some-injective x y e
 only_view x y (suc port) e = absurd (some-ne-none y (sym e))
 
-opened : (k : BoardKey) → Sound k 0 (least_in (first_words (length (questions_of k)) (count_of_regions k))) (first_view k)
+opened : (k : BoardKey)
+    → Sound k 0 (least_in (first_words (length (questions_of k)) (count_of_regions k))) (first_view k)
 opened k = record {
   about = λ _. refl;
   idle = λ _. (refl, refl);
@@ -50,15 +51,18 @@ opens k = let words : List ℕ = first_words (length (questions_of k)) (count_of
   drawn_count = omega arith;
   past_end = omega arith;
   entered_is = refl;
-  marked = λ q few. ap (λ x. bit_at x (q % 64)) (first_doubts (length (questions_of k)) (count_of_regions k) (q / 64) (omega arith))
+  marked = λ q few. ap (λ x. bit_at x (q % 64))
+      (first_doubts (length (questions_of k)) (count_of_regions k) (q / 64) (omega arith))
       ∙ bit_at-zero (q % 64);
   right = λ q there. inl (first_least (length (questions_of k)) (count_of_regions k) q there);
   each = λ port v at. subst (Sound k 0 (least_in words)) (only_view (first_view k) v port at) (opened k);
 }
 
 -- the same of any words that are these
-pub opens_at : (k : BoardKey) (words : List ℕ) (n regions : ℕ) → words ≡ first_words n regions → n ≡ length (questions_of k)
-    → regions ≡ count_of_regions k → BoardKept {S = ℕ} k (record { words = words; homes = []; views = first_view k ∷ [] })
+pub opens_at : (k : BoardKey) (words : List ℕ) (n regions : ℕ) → words ≡ first_words n regions
+    → n ≡ length (questions_of k)
+    → regions ≡ count_of_regions k → BoardKept {S = ℕ} k
+    (record { words = words; homes = []; views = first_view k ∷ [] })
 opens_at k words n regions is same small =
     subst (λ (y : List ℕ). BoardKept {S = ℕ} k (record { words = y; homes = []; views = first_view k ∷ [] }))
     (sym (is ∙ (λ i. first_words (same i) (small i))))

@@ -41,7 +41,8 @@ pub in_some_region : (s : BookData) → IsSettled s → s.outstanding ≡ [] →
 in_some_region s h none d input =
     let one : LiesInOne (parts_of s) d = lies_in_one s h.lawful d input in
     let rs : List PieceData = map (λ (r : RegionData). r.piece) s.regions in
-    let same : parts_of s ≡ rs = ap (λ (es : List OutstandingData). map (λ (e : OutstandingData). e.piece) es ++ rs) none in
+    let same : parts_of s ≡ rs = ap (λ (es : List OutstandingData).
+    map (λ (e : OutstandingData). e.piece) es ++ rs) none in
     let there = region_there s.regions one.place one.piece
     (ap (λ (ps : List PieceData). slice_get ps one.place) (sym same) ∙ one.there) in (
       one.place,
@@ -62,7 +63,8 @@ never_right s q h none all = (
       (all m.0 m.1).none refl d (record { member = m.2; breaks = breaks }),
 )
 
-pub reply_never : (s : BookData) (q : QuestionData) (doubt : Bool) → IsSettled s → length s.outstanding ≡ 0 → doubt ≡ false
+pub reply_never : (s : BookData) (q : QuestionData) (doubt : Bool) → IsSettled s
+    → length s.outstanding ≡ 0 → doubt ≡ false
     → ((r : ℕ) → r < length s.regions → IsUnbroken s q doubt r) → IsReplyTo s q Never
 reply_never s q doubt h none certain all = record {
   right = never_right s q h (none_left s.outstanding none)
@@ -101,7 +103,8 @@ pub doubt_unbroken : (s : BookData) (q : QuestionData) (r : ℕ) → IsRightVerd
     → IsUnbroken s q true r
 doubt_unbroken s q r h tried = record { passed = inr tried; none = λ e. absurd (true≢false e); low = h }
 
-pub still_unbroken : (s : BookData) (q : QuestionData) (doubt : Bool) (r : ℕ) → IsUnbroken s q doubt r → IsUnbroken s q true r
+pub still_unbroken : (s : BookData) (q : QuestionData) (doubt : Bool) (r : ℕ) → IsUnbroken s q doubt r
+    → IsUnbroken s q true r
 still_unbroken s q doubt r h = record { passed = h.passed; none = λ e. absurd (true≢false e); low = h.low }
 
 -- the same of the question of a number
@@ -121,7 +124,8 @@ abbrev none_place : Option ℕ
 none_place = None
 
 -- what the tally of all regions tells of the question of a number
-no_doubt_plain : (s : BookData) (qs : List QuestionData) (r q : ℕ) → IsPlain s.stack → IsRightWhereGiven s qs r q (Some Doubt) → ⊥
+no_doubt_plain : (s : BookData) (qs : List QuestionData) (r q : ℕ) → IsPlain s.stack
+    → IsRightWhereGiven s qs r q (Some Doubt) → ⊥
 no_doubt_plain s qs r q plain h = h.decisive plain
 
 marked_or_not : (n : ℕ) (b : Bool) → b ≡ (n == 1) → n ≡ 1 → b ≡ true
@@ -130,7 +134,8 @@ marked_or_not n b is one = is ∙ ap (λ x. x == 1) one
 not_marked : (n : ℕ) (b : Bool) → b ≡ (n == 1) → (n ≡ 1 → ⊥) → b ≡ false
 not_marked n b is none = let t : (n == 1) ≡ false = grind (arith, nat_tests, none) in is ∙ t
 
-pub tally_unbroken : (s : BookData) (qs : List QuestionData) (t : Tally) (q : ℕ) (question : QuestionData) (doubt : Bool)
+pub tally_unbroken : (s : BookData) (qs : List QuestionData) (t : Tally) (q : ℕ)
+    (question : QuestionData) (doubt : Bool)
     → IsFullTally s qs t → q < length qs → slice_get qs q ≡ Some question → get_or t.least q none_place ≡ None
     → doubt ≡ (bit_of t.doubts q == 1) → (r : ℕ) → r < length s.regions → IsUnbroken s question doubt r
 tally_unbroken s qs t q question doubt h lt asked none is r below = ⊎_elim
@@ -146,7 +151,8 @@ pub tally_certain : (s : BookData) (qs : List QuestionData) (t : Tally) (q : ℕ
 tally_certain s qs t q doubt h lt is plain =
     not_marked (bit_of t.doubts q) doubt is (λ one. let d = h.doubts q lt one in no_doubt_plain s qs d.0 q plain d.2)
 
-pub tally_first : (s : BookData) (qs : List QuestionData) (t : Tally) (q place : ℕ) (question : QuestionData) → IsFullTally s qs t
+pub tally_first : (s : BookData) (qs : List QuestionData) (t : Tally) (q place : ℕ) (question : QuestionData)
+    → IsFullTally s qs t
     → q < length qs → slice_get qs q ≡ Some question → slice_get t.least q ≡ Some (Some place) → IsPlain s.stack
     → (e : ℕ) → e < place → (x : Input) → ¬ IsBreakAt s e question x
 tally_first s qs t q place question h lt asked least plain e earlier x breaks =
@@ -157,7 +163,8 @@ tally_first s qs t q place question h lt asked least plain e earlier x breaks =
     omega (arith, same, earlier)))
 
 -- below the least place each region is without a hit
-pub tally_passed : (s : BookData) (qs : List QuestionData) (t : Tally) (q place : ℕ) (question : QuestionData) → IsFullTally s qs t
+pub tally_passed : (s : BookData) (qs : List QuestionData) (t : Tally) (q place : ℕ) (question : QuestionData)
+    → IsFullTally s qs t
     → q < length qs → slice_get qs q ≡ Some question
     → slice_get t.least q ≡ Some (Some place) → (e : ℕ) → e < place → IsWithoutHit s question e
 tally_passed s qs t q place question h lt asked least e earlier =
@@ -169,7 +176,8 @@ tally_passed s qs t q place question h lt asked least e earlier =
     omega (arith, same, earlier)))
 
 -- a bit that is set tells of a region in doubt
-pub tally_doubtful : (s : BookData) (qs : List QuestionData) (t : Tally) (q : ℕ) (question : QuestionData) (doubt : Bool)
+pub tally_doubtful : (s : BookData) (qs : List QuestionData) (t : Tally) (q : ℕ)
+    (question : QuestionData) (doubt : Bool)
     → IsFullTally s qs t → q < length qs → slice_get qs q ≡ Some question
     → doubt ≡ (bit_of t.doubts q == 1) → doubt ≡ true → HasDoubt s question
 tally_doubtful s qs t q question doubt h lt asked is set =
@@ -181,7 +189,8 @@ tally_doubtful s qs t q question doubt h lt asked is set =
     marked : (n : ℕ) → (n == 1) ≡ true → n ≡ 1
     marked n e = grind (arith, nat_tests, e)
 
-pub question_there : (qs : List QuestionData) (q : ℕ) (x : QuestionData) → q < length qs → x ≡ get_or qs q x → slice_get qs q ≡ Some x
+pub question_there : (qs : List QuestionData) (q : ℕ) (x : QuestionData) → q < length qs → x ≡ get_or qs q x
+    → slice_get qs q ≡ Some x
 question_there qs q x lt is = slice_get-get_or qs q x lt ∙ ap (λ (y : QuestionData). Some y) (sym is)
 
 -- one region more

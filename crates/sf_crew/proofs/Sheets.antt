@@ -82,8 +82,10 @@ doubt_below (v ∷ vs) (suc q) is = let rest = doubt_below vs q is in omega arit
 abbrev Subject : Type 0
 Subject = BookData × List QuestionData
 
-pub covers : (k : BoardKey) (v : View) (s : SheetData) (ds : List ℕ) (ns : List Note) → IsSheetFor k v s → IsRightSheet s
-    → NotesHits s.verdicts s.job (length s.questions) v.notes ns → AreDoubts s ds → Covered k ns (entered_sheet s.job ds)
+pub covers : (k : BoardKey) (v : View) (s : SheetData) (ds : List ℕ) (ns : List Note) → IsSheetFor k v s
+    → IsRightSheet s
+    → NotesHits s.verdicts s.job (length s.questions) v.notes ns → AreDoubts s ds
+    → Covered k ns (entered_sheet s.job ds)
 covers k v s ds ns f right notes marks =
     let same : length s.questions ≡ length (questions_of k) = ap (λ (y : List QuestionData). length y) f.questions in
     let long = right.each in record {

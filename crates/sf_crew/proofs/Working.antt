@@ -30,7 +30,8 @@ no_children (Settled a) v e = refl
 no_children Empty v e = refl
 
 -- both pieces of a split were put
-pub both_put : (s : StepData) (x y : Lease) (v u w : HandleView) → Some (arc_value x.piece, arc_value y.piece) ≡ children_of s
+pub both_put : (s : StepData) (x y : Lease) (v u w : HandleView)
+    → Some (arc_value x.piece, arc_value y.piece) ≡ children_of s
     → PutsOrNot v x u → PutsOrNot u y w → PutsChildren v s w
 both_put (Split f t) x y v u w e a b =
     let same : (arc_value x.piece, arc_value y.piece) ≡ (f, t) =

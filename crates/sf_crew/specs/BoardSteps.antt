@@ -8,7 +8,15 @@ use Rattle.sf_crew.specs.Views.{count_of_regions, jobs, entered_sheet, note, Not
 
 -- a view by its parts, in the order in which a view has them
 abbrev pub view_of : Option BoardKey → ℕ → ℕ → Option ℕ → List ℕ → List EnteredSheet → List Note → View
-view_of k p n o m es ns = record { about = k; joined_seats = p; exhausted_seats = n; owes = o; marked = m; entered_sheets = es; notes = ns }
+view_of k p n o m es ns = record {
+  about = k;
+  joined_seats = p;
+  exhausted_seats = n;
+  owes = o;
+  marked = m;
+  entered_sheets = es;
+  notes = ns;
+}
 
 -- the seat that has all parts of a board, and has done nothing there
 abbrev pub first_view : BoardKey → View
@@ -44,26 +52,31 @@ view_with_mark v q = with_marks v (q ∷ v.marked)
 
 -- the seat has entered the sheet of a job, with the doubts that it had marked
 abbrev pub view_with_sheet : View → ℕ → View
-view_with_sheet v j = view_of v.about v.joined_seats v.exhausted_seats None [] (entered_sheet j v.marked ∷ v.entered_sheets) v.notes
+view_with_sheet v j = view_of v.about v.joined_seats v.exhausted_seats None []
+    (entered_sheet j v.marked ∷ v.entered_sheets) v.notes
 
 -- two seats as one, which owes no sheet
 abbrev pub joined_view : View → View → View
-joined_view v w = view_of v.about (v.joined_seats + w.joined_seats) (v.exhausted_seats + w.exhausted_seats) None [] (v.entered_sheets ++ w.entered_sheets)
+joined_view v w = view_of v.about (v.joined_seats + w.joined_seats) (v.exhausted_seats + w.exhausted_seats) None []
+    (v.entered_sheets ++ w.entered_sheets)
     (v.notes ++ w.notes)
 
 -- a view with every part has each job
 abbrev pub HasAllJobs : BoardKey → View → Type 0
-HasAllJobs k v = v.joined_seats ≡ k.seats → (length (jobs v) ≡ count_of_regions k) × ((x : ℕ) → times x (jobs v) ≡ once_below x (count_of_regions k))
+HasAllJobs k v = v.joined_seats ≡ k.seats → (length (jobs v) ≡ count_of_regions k)
+    × ((x : ℕ) → times x (jobs v) ≡ once_below x (count_of_regions k))
 
 -- a draw found n
 abbrev pub Draws : View → ℕ → View → Type 0
 Draws v n w =
-    IfSome v.about (λ k. (n < count_of_regions k → (times n (jobs v) ≡ 0) × (length (jobs v) < count_of_regions k) × (w ≡ view_with_job v n))
+    IfSome v.about (λ k. (n < count_of_regions k → (times n (jobs v) ≡ 0) × (length (jobs v) < count_of_regions k)
+    × (w ≡ view_with_job v n))
     × (count_of_regions k ≤ n → (w ≡ view_without_job v) × HasAllJobs k w))
 
 -- a look at question q found the place r: a right one, no greater than any that the seat has noted
 abbrev pub Looks : View → ℕ → ℕ → View → Type 0
-Looks v q r w = (w ≡ view_with_note v q r) × ((s : ℕ) → Noted v.notes q s → r ≤ s) × IfSome v.about (λ k. RightPlace k q r)
+Looks v q r w = (w ≡ view_with_note v q r) × ((s : ℕ) → Noted v.notes q s → r ≤ s)
+    × IfSome v.about (λ k. RightPlace k q r)
 
 -- no job of the view stands in it twice, and where it found the end, it has each job if it has every part
 abbrev pub Knows : View → Type 0

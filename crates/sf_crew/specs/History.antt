@@ -1,5 +1,5 @@
--- The history of a bench: one list of the leases that were put, of which each handle has got some, each lease at most once
--- and first in, first out.
+-- The history of a bench: one list of the leases that were put, of which each handle has got some, each lease at most
+-- once and first in, first out.
 use Rattle.std.specs.Prelude.{◌≡◌, ◌≢◌, ℕ, ◌+◌, ◌<◌, List, [], ◌∷◌, ◌++◌, length, Option, Some, slice_get}
 use Rattle.sf_book.specs.declared.book.Lease.{Lease}
 use Rattle.sf_crew.specs.declared.history.Event.{Event}
@@ -65,7 +65,8 @@ HasHistory v between h = OfOthers v between × (h ≡ v.events ++ between) × Is
 
 -- at some moment the handle put the lease, behind all that were put before
 abbrev pub Puts : HandleView → Lease → HandleView → Type 0
-Puts v x w = (between : List Event) × (h : List Event) × HasHistory v between h × (w ≡ handle_view v.me v.made (h ++ Put x ∷ []))
+Puts v x w = (between : List Event) × (h : List Event) × HasHistory v between h
+    × (w ≡ handle_view v.me v.made (h ++ Put x ∷ []))
 
 -- at some moment the handle got the lease: the first one that no handle had got
 abbrev pub Gets : HandleView → Lease → HandleView → Type 0

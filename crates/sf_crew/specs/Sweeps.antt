@@ -63,8 +63,8 @@ IsPlainReply s question Never = Unit {0}
 IsPlainReply s question (Allowed d) = (r : ℕ) × IsFirstBreak s question r × IsLeastExample s r question d
 IsPlainReply s question Unsettled = 0 < length s.outstanding
 
--- What a reply rests on. An example is the least one of its region, and each earlier region was without a hit. A question
--- is unsettled only where every region was, and a piece is outstanding or some region is in doubt.
+-- What a reply rests on. An example is the least one of its region, and each earlier region was without a hit. A
+-- question is unsettled only where every region was, and a piece is outstanding or some region is in doubt.
 abbrev pub RestsOn : BookData → QuestionData → Reply → Type 0
 RestsOn s question Never = Unit {0}
 RestsOn s question (Allowed d) = (r : ℕ) × IsLeastExample s r question d × ((e : ℕ) → e < r → IsWithoutHit s question e)

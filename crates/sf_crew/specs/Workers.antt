@@ -1,4 +1,5 @@
--- What a worker's calls do to the book, and to the handles of benches that it has: its own, and a thief on each other one.
+-- What a worker's calls do to the book, and to the handles of benches that it has: its own, and a thief on each other
+-- one.
 use Rattle.std.specs.Prelude.{◌≡◌, ℕ, ◌⊎◌, false, List, map, set, Option, Some, None, slice_get}
 use Rattle.std.specs.Option.{option_map}
 use Rattle.std.specs.Arc.{arc_value}

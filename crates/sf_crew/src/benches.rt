@@ -5,8 +5,8 @@ ghost use Rattle.sf_crew.specs.History.{Puts, Gets, AllGot, HasNoThief, first_le
 ghost use Rattle.sf_crew.specs.Benches.{owner_view, thief_view, AreThieves};
 ghost use Rattle.sf_crew.specs.declared.fault.Fault.TheVariants.{Memory};
 
-use crate::handles::{Owner, Thief};
 use crate::fault::Fault;
+use crate::handles::{Owner, Thief};
 use crate::history::{Getting, Hiring, Putting};
 use crossbeam_deque::{Steal, Worker};
 use sf_book::Lease;
@@ -39,7 +39,8 @@ impl Owner {
         requires { (owner_view self.old).events ≡ [] }
         ensures owner { IfOk result (λ _. owner_view self.new ≡ handle_view (owner_view self.old).me
             ((owner_view self.old).made + 1) []) }
-        ensures thief { IfOk result (λ t. thief_view t ≡ handle_view (owner_view self.old).made 0 []) }
+        ensures thief { IfOk result (λ t. thief_view t ≡ handle_view
+            (owner_view self.old).made 0 []) }
     {
         let stealer = self.worker.stealer()?;
         let pass = self.worker.another::<Hiring>();
@@ -58,7 +59,8 @@ impl Owner {
     /// this handle or by the thieves that were made with it.
     pub fn take(&mut self) -> Option<Lease>
         ensures got { MatchOption result ((owner_view self.new ≡ owner_view self.old)
-            × AllGot (owner_view self.old)) (λ l. Gets (owner_view self.old) l (owner_view self.new)) }
+            × AllGot (owner_view self.old))
+            (λ l. Gets (owner_view self.old) l (owner_view self.new)) }
         ensures alone { HasNoThief (owner_view self.old) → result
             ≡ first_left (owner_view self.old).events }
     {

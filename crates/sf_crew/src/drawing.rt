@@ -24,7 +24,8 @@ impl Board {
         requires seat { IsSeatOf self.now seat.old }
         requires free { (seat_view seat.old).owes ≡ None }
         ensures same { IsSeatOf self.now seat.new }
-        ensures joined_seats { (seat_view seat.new).joined_seats ≡ (seat_view seat.old).joined_seats }
+        ensures joined_seats { (seat_view seat.new).joined_seats
+            ≡ (seat_view seat.old).joined_seats }
         ensures some { IfSome result (λ j. (j < count_of_regions (about self.now))
             × (times j (jobs (seat_view seat.old)) ≡ 0)
             × (length (jobs (seat_view seat.old)) < count_of_regions (about self.now))

@@ -67,7 +67,8 @@ impl Play<u8, View> for Enter {
     ghost use Rattle.std.specs.Prelude.{◌≡◌, ℕ, Some};
     ghost use Rattle.sf_crew.specs.BoardSteps.{view_with_sheet};
 
-    ghost then = { λ st m n w. ((j : ℕ) → m.0.owes ≡ Some j → w.0 ≡ view_with_sheet m.0 j) × (w.1 ≡ m.1) };
+    ghost then = { λ st m n w. ((j : ℕ) → m.0.owes ≡ Some j
+        → w.0 ≡ view_with_sheet m.0 j) × (w.1 ≡ m.1) };
 }
 
 pub(crate) struct Glance;

@@ -68,12 +68,14 @@ pub(crate) fn enter_job<G: Gate>(
     pass: (usize, usize),
 ) -> Result<(), Fault>
     requires seat { IsSeatOf board.now seat.old }
-    requires owes { ((seat_view seat.old).owes ≡ Some job) × (job < count_of_regions (about board.now)) }
+    requires owes { ((seat_view seat.old).owes ≡ Some job)
+        × (job < count_of_regions (about board.now)) }
     requires matter { (regions_of (about board.now) ≡ settled.now)
         × (questions_of (about board.now) ≡ questions.now) }
     ensures same { IsSeatOf board.now seat.new }
     ensures joined_seats { (seat_view seat.new).joined_seats ≡ (seat_view seat.old).joined_seats }
-    ensures exhausted_seats { (seat_view seat.new).exhausted_seats ≡ (seat_view seat.old).exhausted_seats }
+    ensures exhausted_seats { (seat_view seat.new).exhausted_seats
+        ≡ (seat_view seat.old).exhausted_seats }
     ensures free { OnOk result ((seat_view seat.new).owes ≡ None) }
     ensures count { OnOk result (length (jobs (seat_view seat.new))
         ≡ length (jobs (seat_view seat.old))) }

@@ -53,11 +53,13 @@ pub assumed-decides : (old new : List Known) (ex ex' : List (List ℕ)) (ns : Li
     → IsLearnt old ex new ex' ns cond → DecidesTest (record { known = old; excluded = ex }) cond
 assumed-decides old new ex ex' ns cond h below t =
     let count = h.count in
-    decides-test old new ex' ns cond (h.lawful.consistent cond.node.0 (omega (arith, below.0))) below.0 count t.consistent
+    decides-test old new ex' ns cond (h.lawful.consistent cond.node.0 (omega (arith, below.0))) below.0
+    count t.consistent
 
 pub assumed-only : (old new : List Known) (ex ex' : List (List ℕ)) (ns : List Node) (cond : Cond)
     → Covers (record { known = old; excluded = ex }) ns → IsCondBelow (length ns) cond
-    → IsLearnt old ex new ex' ns cond → IsPlainCondition ns cond → (d : Input) → AgreesWith new ex' ns d → AgreesWith old ex ns d
+    → IsLearnt old ex new ex' ns cond → IsPlainCondition ns cond → (d : Input) → AgreesWith new ex' ns d
+    → AgreesWith old ex ns d
     × (is_met ns d cond ≡ true)
 assumed-only old new ex ex' ns cond h below t plain d a =
     let count = h.count in
@@ -65,7 +67,8 @@ assumed-only old new ex ex' ns cond h below t plain d a =
     let consistent = h.lawful.consistent cond.node.0 (omega (arith, below.0)) in (
       agrees-with-fewer old ex ex' ns d h.pool count t.both.more
           (agrees-back old new ex' ns d (omega arith) t.consistent.narrower a),
-      passes-met ns d cond (plain-gives old new ex ex' ns cond d h.pool count covers below.0 below.1 consistent t.consistent
+      passes-met ns d cond (plain-gives old new ex ex' ns cond d h.pool count covers below.0 below.1
+          consistent t.consistent
           t.both plain h.constants a),
     )
 

@@ -233,7 +233,8 @@ pub assume-steps : (o a b c e : List Known) (ex : List (List ℕ)) (ns : List No
     → ((n : List Known) → IsPropagated e n ex ns → (KeepsAgreeingOn o n ex ns (Holds ns cond)) × AllNarrower o n
     × IsNarrower v' (known_at n cond.node.0) × IsNarrower w' (known_at n cond.other.0))
 assume-steps o a b c e ex ns cond v' w' lo la lb lc le lv lw pair s1 s2 w1 w2 n propagate =
-    let bn = AllNarrower-trans b c n (omega arith) w1.1 (AllNarrower-trans c e n (omega arith) w2.1 propagate.narrower) in
+    let bn = AllNarrower-trans b c n (omega arith) w1.1
+    (AllNarrower-trans c e n (omega arith) w2.1 propagate.narrower) in
     let an = AllNarrower-trans a b n (omega arith) s2.1 bn in (
       (λ d p agrees h. let q = pair d p agrees h in
           propagate.keeps d p (w2.0 d p (w1.0 d p (s2.0 d p (s1.0 d p agrees q.0) q.1)))),
@@ -262,7 +263,8 @@ pub assumed-all : (r : Bool) (o a b c e n : List Known) (ex : List (List ℕ)) (
     → (x : ℕ) → Admits v' x → TestGives cond.test x (known_at o cond.other.0).low cond.sense)
     → MatchBool r (IsPropagated e n ex ns) (NoneAgreesWith e ex ns)
     → MatchBool r (IsAssumed o n ex ns cond) (NoneAgreesOn o ex ns (Holds ns cond))
-assumed-all true o a b c e n ex ns cond v' w' lo la lb lc le lv lw pair s1 s2 w1 w2 tells b1 b2 sharp decided propagate =
+assumed-all true o a b c e n ex ns cond v' w' lo la lb lc le lv lw pair s1 s2 w1 w2 tells b1 b2 sharp
+    decided propagate =
     let k = assume-steps o a b c e ex ns cond v' w' lo la lb lc le lv lw pair s1 s2 w1 w2 n propagate in
     let back : (at : ℕ) (m : List Known) → length m ≡ length ns → AllNarrower b m → AllNarrower m n
     → ((j : ℕ) → IsPropagatedBack j m ns at) → HasGoneBack o n ns cond at

@@ -101,7 +101,8 @@ IsPropagatedAt-same ks js ex ns k p l e h =
       constant = λ c n. rw here at (h.constant c n);
     }
 
-pub forced-decided : (r met next : Known) (ex : List (List ℕ)) (n : Node) → IsNarrower r met → IsReducedNode met next ex n
+pub forced-decided : (r met next : Known) (ex : List (List ℕ)) (n : Node) → IsNarrower r met
+    → IsReducedNode met next ex n
     → IsForced r → IsDecided next
 forced-decided r met next ex n h t f =
     let a = h.low in let b = h.high in let c = bits-le r.zeros met.zeros h.zeros in
@@ -112,7 +113,8 @@ forced-decided r met next ex n h t f =
     elim f [ inl l ↦ omega arith | inr l ↦ omega arith ]
 
 -- a node that forward propagation has just gone over
-pub IsPropagatedAt-new : (ks : List Known) (ex : List (List ℕ)) (ns : List Node) (i : ℕ) (r met next : Known) → IsPool ns
+pub IsPropagatedAt-new : (ks : List Known) (ex : List (List ℕ)) (ns : List Node) (i : ℕ)
+    (r met next : Known) → IsPool ns
     → known_at ks i ≡ next
     → (AreDecidedOperands ks (node_at ns i) → IsForced r)
     → ((c : ℕ) → node_at ns i ≡ Const c → (r.low ≡ c) × (r.high ≡ c))
@@ -135,7 +137,8 @@ pub passed-set : (ks : List Known) (ex : List (List ℕ)) (ns : List Node) (i : 
     → ((k : ℕ) → k < i → IsPropagatedAt ks ex ns k)
     → (AreConsistentOperands ks (node_at ns i) → AreDecidedOperands ks (node_at ns i) → IsForced r)
     → ((c : ℕ) → node_at ns i ≡ Const c → (r.low ≡ c) × (r.high ≡ c))
-    → IsNarrower r met → IsReducedNode met next ex (node_at ns i) → (k : ℕ) → k < i + 1 → IsPropagatedAt (set ks i next) ex ns k
+    → IsNarrower r met → IsReducedNode met next ex (node_at ns i) → (k : ℕ) → k < i + 1
+    → IsPropagatedAt (set ks i next) ex ns k
 passed-set ks ex ns i r met next p len l older forced constant h t k lk =
     let same : (j : ℕ) → j < i → known_at ks j ≡ known_at (set ks i next) j
     = λ j b. sym (get_or-set_other ks i j next (known_of 0 0 0 0) (λ e. absurd (omega arith))) in
@@ -177,7 +180,8 @@ passed-push ks ex ns from i r next p len l fl consistent older forced constant t
     = λ j b. sym (get_or_append_left ks (next ∷ []) (known_of 0 0 0 0) j (omega arith)) in
     let lower = operands-below ns i p l in
     elim (cases_lt k i) [
-      | inl b ↦ IsPropagatedAt-same ks (ks ++ next ∷ []) ex ns k p (omega arith) (λ j c. same j (omega arith)) (older k fk b)
+      | inl b ↦ IsPropagatedAt-same ks (ks ++ next ∷ []) ex ns k p (omega arith)
+          (λ j c. same j (omega arith)) (older k fk b)
       | inr g ↦ (let e : k ≡ i = omega arith in
           rw e (IsPropagatedAt-new (ks ++ next ∷ []) ex ns i r r next p (get_or_push ks next (known_of 0 0 0 0) i len)
           (λ o. forced (consistent-operands ks i (node_at ns i) lower consistent)

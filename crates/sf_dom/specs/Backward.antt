@@ -24,7 +24,8 @@ one_constant op a b _ _ = None
 
 -- the same of a node
 abbrev pub constant_operand_of : List Node → Node → Option (BinOp × ℕ × ℕ)
-constant_operand_of ns (Bin op a b) = one_constant op a.0 b.0 (constant_number (node_at ns a.0)) (constant_number (node_at ns b.0))
+constant_operand_of ns (Bin op a b) = one_constant op a.0 b.0 (constant_number (node_at ns a.0))
+    (constant_number (node_at ns b.0))
 constant_operand_of ns _ = None
 
 -- the known bits of a node are known of its operand, as far as the constant beside that lets them through

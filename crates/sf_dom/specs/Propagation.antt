@@ -198,7 +198,8 @@ pub record IsTold (old new : FactsView) (ns : List Node) (cond : Cond) : Type 0 
       → Contains (numbers_at new.excluded i) (known_at old.known cond.node.0).low
 
 -- what else is known of a word is taken in
-pub record IsRestricted (old new : List Known) (ex : List (List ℕ)) (ns : List Node) (w : ℕ) (more : Known) : Type 0 where
+pub record IsRestricted (old new : List Known) (ex : List (List ℕ)) (ns : List Node) (w : ℕ)
+    (more : Known) : Type 0 where
   pub count : length new ≡ length ns
   pub keeps : KeepsAgreeingOn old new ex ns (λ d. Admits more (slice_index d.words w))
   pub narrower : AllNarrower old new

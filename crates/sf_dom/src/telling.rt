@@ -10,10 +10,10 @@ ghost use Rattle.sf_dom.specs.Propagation.{TestGives};
 ghost use Rattle.sf_dom.specs.Backward.{IsPropagatedBack};
 ghost use Rattle.sf_dom.specs.Facts.{known_at, excluded_of, AgreesWith};
 
+use crate::assuming::{backward, constant_operand};
 use crate::exclusions::Exclusions;
 use crate::known::{Known, is_same};
 use crate::nodes::Nodes;
-use crate::assuming::{backward, constant_operand};
 use sf_insn::Test;
 use sf_sym::{Node, NodeId, Pool};
 
@@ -45,7 +45,8 @@ fn told_greater(known: Known, number: u32) -> Option<bool>
 
 /// Whether a word is at least a number, where its interval tells it.
 fn told_at_least(known: Known, number: u32) -> Option<bool>
-    ensures { IfSome result (λ b. (x : ℕ) → Admits known x → TestGives Test.GreaterOrEqual x number b) }
+    ensures { IfSome result (λ b. (x : ℕ) → Admits known x
+        → TestGives Test.GreaterOrEqual x number b) }
 {
     if number <= known.low {
         return Some(true);

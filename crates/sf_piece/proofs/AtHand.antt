@@ -210,7 +210,8 @@ first_is stack pool zero_id fs lawful is within zeros covers known = record {
     at_start : (d : Input) → concrete_state pool (first_machine zero_id) d ≡ start
     at_start d = rw (zeros d) refl
 
-    by : (rest : List (List Insn)) → AllByRecursion IsLawfulProgram rest → InProgram rest pool (first_machine zero_id) []
+    by : (rest : List (List Insn)) → AllByRecursion IsLawfulProgram rest
+        → InProgram rest pool (first_machine zero_id) []
     by [] laws = refl
     by (c ∷ rest) laws = record {
       safe = λ d. subst (IsReachable c) (sym (at_start d)) (safe_start c laws.0.some);
@@ -221,7 +222,8 @@ first_is stack pool zero_id fs lawful is within zeros covers known = record {
     whole [] more r = r
     whole (code ∷ later) more r = r
 
-    none_taken : (rest : List (List Insn)) (d : Input) → HasTaken rest d (concrete_state pool (first_machine zero_id) d) 0 []
+    none_taken : (rest : List (List Insn)) (d : Input)
+        → HasTaken rest d (concrete_state pool (first_machine zero_id) d) 0 []
     none_taken [] d = tt
     none_taken (c ∷ rest) d = refl
 

@@ -44,7 +44,8 @@ turned p ReturnA b cs fs m h s asks after meets =
 turned p (Alu op other) b cs fs m h s asks after meets = alu op other b s asks after meets
   where
     alu : (op : BinOp) (other : Operand) (b : Bool) → HasAtHand p (Alu op other) → Asks p (Alu op other)
-        → AfterTruthValue p (Alu op other) b m → Meets p (Alu op other) cs b → Turned p (made p (p.name ++ b ∷ []) cs m fs)
+        → AfterTruthValue p (Alu op other) b m → Meets p (Alu op other) cs b
+        → Turned p (made p (p.name ++ b ∷ []) cs m fs)
     alu Div X true s asks after meets =
         subst (λ (k : SymbolicMachine). Turned p (made p (p.name ++ true ∷ []) cs k fs)) (sym after)
         (zero_turned p cs fs (returned_nodes p 0 h.nodes) h s asks meets)
@@ -84,7 +85,8 @@ entry_foreseen p i cond b e imp = record {
   next = λ d inp member.
       let is : is_met p.pool d cond ≡ b = same-true (is_met p.pool d cond) b
       (sym (sense_is p.pool d cond b e.sense) ∙ imp d inp member) in
-      subst (λ (v : Bool). NextIs (insn_progress d (concrete_state p.pool p.machine d) i) p.machine.taken v) is (e.next d);
+      subst (λ (v : Bool). NextIs (insn_progress d (concrete_state p.pool p.machine d) i) p.machine.taken v) is
+      (e.next d);
 }
 
 other_way : (x b : Bool) → same x (not b) ≡ false → same x b ≡ true
@@ -117,7 +119,8 @@ and_same false b = refl
 abbrev pub taken_on : PieceData → Bool → SymbolicMachine → PieceData
 taken_on p b m = made p (p.name ++ b ∷ []) p.conditions m p.facts
 
-pub take_piece : (p : PieceData) (i : Insn) (b : Bool) (m : SymbolicMachine) → IsPiece p → HasAtHand p i → IsForeseen p i b
+pub take_piece : (p : PieceData) (i : Insn) (b : Bool) (m : SymbolicMachine) → IsPiece p → HasAtHand p i
+    → IsForeseen p i b
     → AfterTruthValue p i b m → IsPiece (taken_on p b m)
 unfolding is_member
 take_piece p i b m h s fore after =
@@ -126,7 +129,8 @@ take_piece p i b m h s fore after =
     (λ d inp. and_same (is_member p d) b ∙ named_next p i b b h s d inp (fore.next d inp))
     t.rest t.base t.pre t.stands
 
-pub take_gone : (p : PieceData) (i : Insn) (b : Bool) (m : SymbolicMachine) → IsPiece p → HasAtHand p i → IsForeseen p i b
+pub take_gone : (p : PieceData) (i : Insn) (b : Bool) (m : SymbolicMachine) → IsPiece p → HasAtHand p i
+    → IsForeseen p i b
     → AfterTruthValue p i b m → HasAdvanced p (taken_on p b m)
 unfolding is_member
 take_gone p i b m h s fore after =
@@ -157,24 +161,30 @@ unfolding is_member
 child_members p cond b m fs d = all_push (is_met p.pool d) p.conditions (with_sense cond b)
 
 child_both : (p : PieceData) (cond : Cond) (b : Bool) (m : SymbolicMachine) (fs : FactsView) (d : Input)
-    → is_member (child_of p cond b m fs) d ≡ true → (is_member p d ≡ true) × (is_met p.pool d (with_sense cond b) ≡ true)
+    → is_member (child_of p cond b m fs) d ≡ true → (is_member p d ≡ true)
+    × (is_met p.pool d (with_sense cond b) ≡ true)
 child_both p cond b m fs d member = and-true (is_member p d) (is_met p.pool d (with_sense cond b))
     (sym (child_members p cond b m fs d) ∙ member)
 
-child_meets : (p : PieceData) (i : Insn) (cond : Cond) (b : Bool) (m : SymbolicMachine) (fs : FactsView) → IsQuery p i cond
+child_meets : (p : PieceData) (i : Insn) (cond : Cond) (b : Bool) (m : SymbolicMachine) (fs : FactsView)
+    → IsQuery p i cond
     → Meets p i (p.conditions ++ with_sense cond b ∷ []) b
 unfolding is_member
 child_meets p i cond b m fs e d inp member =
     let both = child_both p cond b m fs d member in
     let is : is_met p.pool d cond ≡ b = same-true (is_met p.pool d cond) b
-    (sym (sense_is p.pool d cond b e.sense) ∙ both.1) in
-    (both.0, subst (λ (v : Bool). NextIs (insn_progress d (concrete_state p.pool p.machine d) i) p.machine.taken v) is (e.next d))
+    (sym (sense_is p.pool d cond b e.sense) ∙ both.1) in (
+      both.0,
+      subst (λ (v : Bool). NextIs (insn_progress d (concrete_state p.pool p.machine d) i) p.machine.taken v) is
+          (e.next d),
+    )
 
 pub child_piece : (p : PieceData) (i : Insn) (cond : Cond) (b : Bool) (m : SymbolicMachine) (fs : FactsView) → IsPiece p
     → HasAtHand p i → IsQuery p i cond → AreChildFacts p cond b fs → AfterTruthValue p i b m
     → IsPiece (child_of p cond b m fs)
 child_piece p i cond b m fs h s e facts after =
-    let t = turned p i b (p.conditions ++ with_sense cond b ∷ []) fs m h s e.asks after (child_meets p i cond b m fs e) in
+    let t = turned p i b (p.conditions ++ with_sense cond b ∷ []) fs m h s e.asks after
+    (child_meets p i cond b m fs e) in
     assembled p (p.name ++ b ∷ []) (p.conditions ++ with_sense cond b ∷ []) m fs h
     (below_push (length p.pool) p.conditions (with_sense cond b) h.bounded e.below) t.nodes t.zero_is facts.covers
     (λ d inp member. let both = child_both p cond b m fs d member in facts.known d inp both.0 both.1)
@@ -239,7 +249,8 @@ route_of p (code ∷ later) base pre s =
 pub piece_named : (p : PieceData) → IsPiece p → IsTrulyNamed p
 piece_named p h = record { route = route_of p h.rest h.base h.pre h.stands; members = h.members }
 
-pub child_is : (p : PieceData) (cond : Cond) (b : Bool) (m : SymbolicMachine) (fs : FactsView) → AreChildFacts p cond b fs
+pub child_is : (p : PieceData) (cond : Cond) (b : Bool) (m : SymbolicMachine) (fs : FactsView)
+    → AreChildFacts p cond b fs
     → IsLawfulPiece (child_of p cond b m fs) → IsChild p cond b (child_of p cond b m fs)
 child_is p cond b m fs facts h = record {
   of = refl;

@@ -63,7 +63,8 @@ pub may_go : (d : Input) (s : State) (i : Insn) (met : List Bool) (t : State) �
 may_go d s i met t e = subst (λ (q : Progress). Allowed s.place i q) e (step_allowed d s i)
 
 -- the same scratch words at a place to which the instruction leads
-pub safe_moved : (code : List Insn) (s t : State) (i : Insn) → IsLawfulProgram code → IsReachable code s → IsAt code s.place i
+pub safe_moved : (code : List Insn) (s t : State) (i : Insn) → IsLawfulProgram code → IsReachable code s
+    → IsAt code s.place i
     → Contains (successors s.place i) t.place → stored_by i ≡ None → t.scratch ≡ s.scratch → IsReachable code t
 safe_moved code s t i lawful safe at leads none same = record {
   inside = below_in (length code) (successors s.place i) t.place
@@ -122,7 +123,8 @@ div_taken : (b : Bool) (u t : State) → false ∷ []
 div_taken true u t e same = let clash : false ∷ [] ≡ true ∷ [] = e in absurd cc
 div_taken false u t e same = ap (goes (false ∷ [])) (sym same)
 
-go_stands : (p : PieceData) (i : Insn) (m : SymbolicMachine) → IsPiece p → (s : HasAtHand p i) → GoesTo p i m → GoesBy p i m
+go_stands : (p : PieceData) (i : Insn) (m : SymbolicMachine) → IsPiece p → (s : HasAtHand p i)
+    → GoesTo p i m → GoesBy p i m
     → ((base : List Bool) × StandsAt (gone p m) (s.code ∷ s.later) base []) × (p.machine.place < m.place)
 unfolding is_member
 go_stands p i m h s g (inl run) =
@@ -134,7 +136,8 @@ go_stands p i m h s g (inl run) =
         stands_moved p s.code s.later s.base s.pre [] i p.name p.conditions m p.facts s.stands s.at
             (may_go some_input at0 i [] (concrete_state p.pool m some_input) (run some_input))
             (s.stands.name_is ∙ ap (λ (l : List Bool). s.base ++ l) none) g.program g.so_far g.taken g.value
-            (λ d. (safe_next s.code d (concrete_state p.pool p.machine d) i [] (concrete_state p.pool m d) s.stands.laws.0
+            (λ d. (safe_next s.code d (concrete_state p.pool p.machine d) i []
+            (concrete_state p.pool m d) s.stands.laws.0
             (s.stands.inside.safe d) s.at (run d)).0)
             (λ d inp member. (member, run d)),
       ),
@@ -150,7 +153,8 @@ go_stands p i m h s g (inr (is, taken, to)) =
         stands_moved p s.code s.later s.base s.pre (false ∷ []) (Alu Div X) p.name p.conditions m p.facts s.stands at
             (inr (refl, ap (λ (n : ℕ). Some n) place))
             (s.stands.name_is ∙ ap (λ (l : List Bool). s.base ++ l) pre) g.program g.so_far g.taken g.value
-            (λ d. safe_moved s.code (concrete_state p.pool p.machine d) (concrete_state p.pool m d) (Alu Div X) s.stands.laws.0
+            (λ d. safe_moved s.code (concrete_state p.pool p.machine d) (concrete_state p.pool m d)
+            (Alu Div X) s.stands.laws.0
             (s.stands.inside.safe d) at
             (contains_here (p.machine.place + 1) [] m.place (sym place)) refl (ap (λ (t : State). t.scratch) (to d)))
             (λ d inp member.
@@ -161,7 +165,8 @@ go_stands p i m h s g (inr (is, taken, to)) =
             let f = (s.stands.runs d inp member).taken in (
               member,
               div_taken (value_of p.pool d p.machine.x.0 == 0) u (concrete_state p.pool m d)
-                  (sym pre ∙ f ∙ ap (λ (k : ℕ). take k (met_of (step s.code d (concrete_state p.pool p.machine d)))) taken
+                  (sym pre ∙ f
+                  ∙ ap (λ (k : ℕ). take k (met_of (step s.code d (concrete_state p.pool p.machine d)))) taken
                   ∙ ap (λ (q : Progress). take 1 (met_of q))
                   (step_is s.code d (concrete_state p.pool p.machine d) (Alu Div X) at)) (to d),
             )),
@@ -176,12 +181,14 @@ go_stands p i m h s g (inr (is, taken, to)) =
         at_same s.code p.machine.place ReturnA (Alu Div X) q.0 at in absurd cc
     pending (inr (inr q)) at one = q.2
 
-pub go_piece : (p : PieceData) (i : Insn) (m : SymbolicMachine) → IsPiece p → HasAtHand p i → GoesTo p i m → IsPiece (gone p m)
+pub go_piece : (p : PieceData) (i : Insn) (m : SymbolicMachine) → IsPiece p → HasAtHand p i → GoesTo p i m
+    → IsPiece (gone p m)
 go_piece p i m h s g =
     let w = go_stands p i m h s g g.run in
     kept p m h g.nodes g.zero (s.code ∷ s.later) w.0.0 [] w.0.1
 
-pub go_gone : (p : PieceData) (i : Insn) (m : SymbolicMachine) → IsPiece p → HasAtHand p i → GoesTo p i m → HasAdvanced p (gone p m)
+pub go_gone : (p : PieceData) (i : Insn) (m : SymbolicMachine) → IsPiece p → HasAtHand p i → GoesTo p i m
+    → HasAdvanced p (gone p m)
 go_gone p i m h s g =
     let w = go_stands p i m h s g g.run in
     let after = w.1 in
@@ -244,7 +251,8 @@ return_stands p i v h s (inr (is, full, same)) =
           (λ d inp member.
           let a = value_of p.pool d p.machine.a.0 in
           let f = (s.stands.runs d inp member).taken in
-          let met : s.pre ≡ bits 32 a = f ∙ ap (λ (k : ℕ). take k (met_of (step s.code d (concrete_state p.pool p.machine d))))
+          let met : s.pre ≡ bits 32 a =
+          f ∙ ap (λ (k : ℕ). take k (met_of (step s.code d (concrete_state p.pool p.machine d))))
           full ∙ ap (λ (q : Progress). take 32 (met_of q))
           (step_is s.code d (concrete_state p.pool p.machine d) ReturnA at) in
           let word : a < 2 ^ 32 = value-small p.pool d p.machine.a.0 h.pool inp in

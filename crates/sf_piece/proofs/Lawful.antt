@@ -48,7 +48,8 @@ pub lawful_taken : (p : PieceData) (i : Insn) (b : Bool) (m : SymbolicMachine) �
 lawful_taken p i b m h s fore after = lawful (taken_on p b m) (take_piece p i b m h.run s fore after)
     (λ is. plain_kept p (p.name ++ b ∷ []) m (h.plain is))
 
-pub lawful_child : (p : PieceData) (i : Insn) (cond : Cond) (b : Bool) (m : SymbolicMachine) (fs : FactsView) → IsLawfulPiece p
+pub lawful_child : (p : PieceData) (i : Insn) (cond : Cond) (b : Bool) (m : SymbolicMachine) (fs : FactsView)
+    → IsLawfulPiece p
     → HasAtHand p i → IsQuery p i cond → AreChildFacts p cond b fs → AfterTruthValue p i b m
     → IsLawfulPiece (child_of p cond b m fs)
 lawful_child p i cond b m fs h s e facts after =
@@ -72,7 +73,8 @@ pub foretold : (p : PieceData) (test : Test) (other : Operand) (n : ℕ) (o : Op
     → IfSome o (λ b. PassesAlways p test other b)
 foretold p test other n None h e told = told
 foretold p test other n (Some b) h e told = λ d inp member.
-    ap (λ (r : Operand). passes test (value_of p.pool d p.machine.a.0) (operand_of (concrete_state p.pool p.machine d) r)) e
+    ap (λ (r : Operand). passes test (value_of p.pool d p.machine.a.0)
+    (operand_of (concrete_state p.pool p.machine d) r)) e
     ∙ told d inp (h.known d inp member)
 
 -- what is learnt from the piece's facts
@@ -96,7 +98,8 @@ learnt_child p cond b (Some fs) h plain covers sound narrower told decided only 
   plain = λ is. only (sensed_plain p.pool cond b (plain is));
 }
 
-pub right_child : (p : PieceData) (i : Insn) (cond : Cond) (b : Bool) (m : SymbolicMachine) (fs : FactsView) → IsLawfulPiece p
+pub right_child : (p : PieceData) (i : Insn) (cond : Cond) (b : Bool) (m : SymbolicMachine) (fs : FactsView)
+    → IsLawfulPiece p
     → HasAtHand p i → IsQuery p i cond → AreChildFacts p cond b fs → AfterTruthValue p i b m
     → IsChild p cond b (child_of p cond b m fs)
 right_child p i cond b m fs h s e facts after =

@@ -134,7 +134,8 @@ pub stands_returned : (p : PieceData) (code : List Insn) (later : List (List Ins
     → StandsAt p (code ∷ later) base pre → IsAt code p.machine.place i → MayMeet p.machine.place i met None
     → name ≡ base ++ met
     → ((d : Input) → value_of p.pool d p.machine.zero.0 ≡ 0)
-    → ((d : Input) → IsInput d → is_member (made p name cs (after_return p.machine v) fs) d ≡ true → (is_member p d ≡ true)
+    → ((d : Input) → IsInput d → is_member (made p name cs (after_return p.machine v) fs) d ≡ true
+    → (is_member p d ≡ true)
     × (insn_progress d (concrete_state p.pool p.machine d) i ≡ returns met v))
     → StandsAt (made p name cs (after_return p.machine v) fs) later (base ++ met) []
 stands_returned p code later base pre met i v name cs fs s at may named zeros run = record {
@@ -151,7 +152,8 @@ stands_returned p code later base pre met i v name cs fs s at may named zeros ru
       let f = s.runs d inp h.0 in
       record {
         ends = λ more vs r.
-            let whole = runs_whole later d (concrete_state p.pool (after_return p.machine v) d) more vs (at_start d) s.laws.1 r in
+            let whole = runs_whole later d (concrete_state p.pool (after_return p.machine v) d) more vs
+            (at_start d) s.laws.1 r in
             let all = f.ends (met ++ more) (v ∷ vs) (
               1,
               (met, v),
@@ -173,13 +175,15 @@ stands_returned p code later base pre met i v name cs fs s at may named zeros ru
     at_start : (d : Input) → concrete_state p.pool (after_return p.machine v) d ≡ start
     at_start d = rw (zeros d) refl
 
-    by : (rest : List (List Insn)) → AllByRecursion IsLawfulProgram rest → InProgram rest p.pool (after_return p.machine v) []
+    by : (rest : List (List Insn)) → AllByRecursion IsLawfulProgram rest
+        → InProgram rest p.pool (after_return p.machine v) []
     by [] laws = refl
     by (c ∷ rest) laws = record {
       safe = λ d. subst (IsReachable c) (sym (at_start d)) (safe_start c laws.0.some);
       pending = inl (refl, refl);
     }
 
-    none_taken : (rest : List (List Insn)) (d : Input) → HasTaken rest d (concrete_state p.pool (after_return p.machine v) d) 0 []
+    none_taken : (rest : List (List Insn)) (d : Input)
+        → HasTaken rest d (concrete_state p.pool (after_return p.machine v) d) 0 []
     none_taken [] d = tt
     none_taken (c ∷ rest) d = refl

@@ -66,7 +66,8 @@ taken_is p i s d inp member =
     (step_is s.code d (concrete_state p.pool p.machine d) i s.at)
 
 pub entry_trace : (p : PieceData) (i : Insn) (b : Bool) → (s : HasAtHand p i) → (d : Input)
-    → NextIs (insn_progress d (concrete_state p.pool p.machine d) i) p.machine.taken b → IsInput d → is_member p d ≡ true
+    → NextIs (insn_progress d (concrete_state p.pool p.machine d) i) p.machine.taken b → IsInput d
+    → is_member p d ≡ true
     → (more : List Bool) × (trace_of p.stack d ≡ p.name ++ b ∷ more)
 entry_trace p i b s d next inp member = by (run_for (length s.code) s.code d st) refl
     (ends_from (length s.code) s.code d st s.stands.laws.0 (s.stands.inside.safe d) (omega arith))
@@ -74,7 +75,8 @@ entry_trace p i b s d next inp member = by (run_for (length s.code) s.code d st)
     st : State
     st = concrete_state p.pool p.machine d
 
-    by : (r : Option (List Bool × ℕ)) → run_for (length s.code) s.code d (concrete_state p.pool p.machine d) ≡ r → IsSome r
+    by : (r : Option (List Bool × ℕ)) → run_for (length s.code) s.code d
+        (concrete_state p.pool p.machine d) ≡ r → IsSome r
         → (more : List Bool) × (trace_of p.stack d ≡ p.name ++ b ∷ more)
     by None ran some = absurd cc
     by (Some o) ran some =
@@ -151,7 +153,8 @@ branch_turned p test other t f b cs fs h s narrow =
           (Branch test other t f) s.stands.laws.0 (s.stands.inside.safe d) s.at (leads b) refl refl)
           (λ d inp member.
           let g = narrow d inp member in
-          let r = passes test (value_of p.pool d p.machine.a.0) (operand_of (concrete_state p.pool p.machine d) other) in
+          let r = passes test (value_of p.pool d p.machine.a.0)
+          (operand_of (concrete_state p.pool p.machine d) other) in
           let next : slice_get (r ∷ []) 0 ≡ Some b = subst (λ (k : ℕ). slice_get (r ∷ []) k ≡ Some b) none.0 g.1 in
           let is : r ≡ b = same_Some r b next in
           (g.0, ap (λ (v : Bool). test_progress (concrete_state p.pool p.machine d) v t f) is));
@@ -249,7 +252,8 @@ zero_turned p cs fs nodes h s none narrow =
           } in (
             g.0,
             div_true (value_of p.pool d p.machine.x.0 == 0) true u
-                (subst (λ (k : ℕ). NextIs (insn_progress d (concrete_state p.pool p.machine d) (Alu Div X)) k true) none g.1) refl,
+                (subst (λ (k : ℕ). NextIs (insn_progress d (concrete_state p.pool p.machine d) (Alu Div X)) k
+                true) none g.1) refl,
           ));
       nodes = nodes;
       zero_is = refl;
@@ -278,7 +282,8 @@ nonzero_turned p cs fs h s none narrow =
           } in (
             g.0,
             one ∙ div_false (value_of p.pool d p.machine.x.0 == 0) false u
-                (subst (λ (k : ℕ). NextIs (insn_progress d (concrete_state p.pool p.machine d) (Alu Div X)) k false) none g.1) refl
+                (subst (λ (k : ℕ). NextIs (insn_progress d (concrete_state p.pool p.machine d) (Alu Div X)) k
+                false) none g.1) refl
                 ∙ ap (λ (q : Progress). take 1 (met_of q))
                 (sym (step_is s.code d (concrete_state p.pool p.machine d) (Alu Div X) s.at)),
           ));

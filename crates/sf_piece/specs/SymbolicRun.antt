@@ -1,7 +1,7 @@
 -- The symbolic run behind a piece: the invariant that the type of pieces keeps. What a reader must believe stands in
--- Pieces; this is what proves it. A machine's symbolic state means a concrete one on each input (`concrete_state`), and for
--- every member the concrete run of the stack, along the piece's name, comes to just that state: whatever the rest of
--- the run meets and returns from there, the trace is the name so far and then that (`Follows`, `StandsAt`).
+-- Pieces; this is what proves it. A machine's symbolic state means a concrete one on each input (`concrete_state`), and
+-- for every member the concrete run of the stack, along the piece's name, comes to just that state: whatever the rest
+-- of the run meets and returns from there, the trace is the name so far and then that (`Follows`, `StandsAt`).
 use Rattle.std.specs.Prelude.{◌≡◌, ℕ, ◌+◌, ◌*◌, ◌<◌, ◌≤◌, ◌⊎◌, Bool, true, false, List, [], ◌∷◌, ◌++◌, length, take, drop, reverse, map, Some, option_map, slice_get, if◌then◌else◌}
 use Rattle.std.specs.List.{flat_map, AllByRecursion}
 use Rattle.sf_insn.specs.declared.input.Input.{Input}

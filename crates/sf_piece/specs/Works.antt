@@ -119,7 +119,8 @@ SetsA p i node =
 
 -- the instruction puts this number in X
 abbrev pub SetsX : PieceData → Insn → ℕ → Type 0
-SetsX p i k = (d : Input) → insn_progress d (concrete_state p.pool p.machine d) i ≡ with_x (concrete_state p.pool p.machine d) k
+SetsX p i k = (d : Input) → insn_progress d (concrete_state p.pool p.machine d) i
+    ≡ with_x (concrete_state p.pool p.machine d) k
 
 -- the instruction returns this value on each member
 abbrev pub ReturnsNow : PieceData → Insn → ℕ → Type 0
@@ -152,7 +153,8 @@ pub record IsQuery (p : PieceData) (i : Insn) (cond : Cond) : Type 0 where
   pub asks : Asks p i
   pub sense : cond.sense ≡ true
   pub below : IsCondBelow (length p.pool) cond
-  pub next : (d : Input) → NextIs (insn_progress d (concrete_state p.pool p.machine d) i) p.machine.taken (is_met p.pool d cond)
+  pub next : (d : Input) → NextIs (insn_progress d (concrete_state p.pool p.machine d) i) p.machine.taken
+      (is_met p.pool d cond)
   pub plain : IsPlain p.stack → IsPlainCond p.pool cond
 
 -- A passes a test against an operand, or doesn't, on every member
@@ -168,7 +170,8 @@ pub record IsForeseen (p : PieceData) (i : Insn) (b : Bool) : Type 0 where
 
 -- where the machine stands after it
 abbrev pub AfterTruthValue : PieceData → Insn → Bool → SymbolicMachine → Type 0
-AfterTruthValue p (Branch test other t f) b m = m ≡ record p.machine { place = p.machine.place + 1 + (if b then t else f) }
+AfterTruthValue p (Branch test other t f) b m =
+    m ≡ record p.machine { place = p.machine.place + 1 + (if b then t else f) }
 AfterTruthValue p ReturnA b m = m ≡ record p.machine {
   taken = p.machine.taken + 1;
   value = 2 * p.machine.value + (if b then 1 else 0);
@@ -206,9 +209,12 @@ is_one_constant _ _ = false
 -- known bits go back from a node to an operand: it is an AND, an OR or an XOR, and its other operand alone is a
 -- constant
 abbrev pub is_propagated_back : List Node → Node → Bool
-is_propagated_back ns (Bin And a b) = is_one_constant (constant_number (node_at ns a.0)) (constant_number (node_at ns b.0))
-is_propagated_back ns (Bin Or a b) = is_one_constant (constant_number (node_at ns a.0)) (constant_number (node_at ns b.0))
-is_propagated_back ns (Bin Xor a b) = is_one_constant (constant_number (node_at ns a.0)) (constant_number (node_at ns b.0))
+is_propagated_back ns (Bin And a b) = is_one_constant (constant_number (node_at ns a.0))
+    (constant_number (node_at ns b.0))
+is_propagated_back ns (Bin Or a b) = is_one_constant (constant_number (node_at ns a.0))
+    (constant_number (node_at ns b.0))
+is_propagated_back ns (Bin Xor a b) = is_one_constant (constant_number (node_at ns a.0))
+    (constant_number (node_at ns b.0))
 is_propagated_back ns _ = false
 
 -- the number of a node, where the facts leave one and a condition on it would tell nothing of another node
@@ -228,8 +234,8 @@ test_result test (Some m) (Some n) = Some (passes test m n)
 abbrev pub told_by_numbers : PieceData → Cond → Option Bool
 told_by_numbers p cond = test_result cond.test (decided_number_of p cond.node) (decided_number_of p cond.other)
 
--- Facts of the members that have the truth value so: nothing known is lost, and what the truth value tells is known. On a plain
--- stack these are exact: what agrees with them agreed before, and has the truth value so.
+-- Facts of the members that have the truth value so: nothing known is lost, and what the truth value tells is known. On
+-- a plain stack these are exact: what agrees with them agreed before, and has the truth value so.
 pub record AreChildFacts (p : PieceData) (cond : Cond) (b : Bool) (facts : FactsView) : Type 0 where
   pub covers : Covers facts p.pool
   pub known : (d : Input) → IsInput d → is_member p d ≡ true → is_met p.pool d (with_sense cond b) ≡ true

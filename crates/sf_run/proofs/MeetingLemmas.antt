@@ -52,7 +52,8 @@ step_meets d s (Alu op other) = alu op other
     alu _ other = refl
 step_meets d s _ = refl
 
-pub goes_meets : (d : Input) (s : State) (i : Insn) (met : List Bool) (next : State) → insn_progress d s i ≡ goes met next
+pub goes_meets : (d : Input) (s : State) (i : Insn) (met : List Bool) (next : State)
+    → insn_progress d s i ≡ goes met next
     → met ≡ met_at s i
 goes_meets d s i met next e = rw e at (step_meets d s i)
 
@@ -83,7 +84,8 @@ met_goes_on code d place a x scratch i met next xs ys more whole e pushed so_far
     rw (pushed, ← same, append_assoc xs met more) so_far
 
 pub met_ends : (code : List Insn) (d : Input) (place a x : ℕ) (scratch : List (Option ℕ)) (i : Insn) (met : List Bool)
-    (value : ℕ) (xs ys whole : List Bool) → insn_progress d (record { place = place; a = a; x = x; scratch = scratch }) i
+    (value : ℕ) (xs ys whole : List Bool) → insn_progress d
+    (record { place = place; a = a; x = x; scratch = scratch }) i
     ≡ returns met value → ys ≡ xs ++ met_at (record { place = 0; a = a; x = x; scratch = scratch }) i
     → xs ++ met ≡ whole → ys ≡ whole
 met_ends code d place a x scratch i met value xs ys whole e pushed so_far =

@@ -14,7 +14,8 @@ use Rattle.sf_run.specs.Answers.{action_bits, data_bits, action_number, action_o
 
 -- ---- names and numbers
 
-pick : (n c : ℕ) (x y : Action) → action_number x ≡ c → action_number y ≡ n → action_number (if n == c then x else y) ≡ n
+pick : (n c : ℕ) (x y : Action) → action_number x ≡ c → action_number y ≡ n
+    → action_number (if n == c then x else y) ≡ n
 pick n c x y p q =
     elim (cases_eq n c) [
       | inl e ↦ rw (eq-eqb n c e) (p ∙ sym e)

@@ -106,7 +106,8 @@ pub record Moves (i : Insn) (s next : State) : Type 0 where
   pub keeps : Keeps i s.scratch next.scratch
 
 -- a load of a set word goes on, and one of an unset word does not
-loaded_goes : (s : State) (k : ℕ) (f : ℕ → Progress) (met : List Bool) (next : State) → load_progress s k f ≡ goes met next
+loaded_goes : (s : State) (k : ℕ) (f : ℕ → Progress) (met : List Bool) (next : State)
+    → load_progress s k f ≡ goes met next
     → (n : ℕ) × (f n ≡ goes met next)
 loaded_goes s k f met next e = by (slice_get s.scratch k) refl e
   where
@@ -157,7 +158,8 @@ moves d s i met next e = by i e
         div true e = absurd cc
         div false e = on (Alu Div X) _ _ (false ∷ []) (one (s.place + 1)) refl e
 
-        alu : (op : BinOp) (other : Operand) → operation_progress s op other ≡ goes met next → Moves (Alu op other) s next
+        alu : (op : BinOp) (other : Operand) → operation_progress s op other ≡ goes met next
+            → Moves (Alu op other) s next
         alu Div X e = div (s.x == 0) e
         alu Div (Constant k) e = on (Alu Div (Constant k)) _ _ [] (one (s.place + 1)) refl e
         alu Add other e = on (Alu Add other) _ _ [] (one (s.place + 1)) refl e
@@ -213,7 +215,8 @@ safe_start code some = record {
 }
 
 -- the instruction there may load what it loads
-pub load_is_set : (code : List Insn) (s : State) (i : Insn) (k : ℕ) → IsLawfulProgram code → IsReachable code s → IsAt code s.place i
+pub load_is_set : (code : List Insn) (s : State) (i : Insn) (k : ℕ) → IsLawfulProgram code → IsReachable code s
+    → IsAt code s.place i
     → loaded_by i ≡ Some k → (n : ℕ) × (slice_get s.scratch k ≡ Some (Some n))
 load_is_set code s i k lawful safe at loads =
     safe.set_words k (lawful.set s.place k safe.earlier (i, at, loads) safe.path)
@@ -223,8 +226,10 @@ stored_small (StoreA j) k small e = let same : j ≡ k = same_Some j k e in omeg
 stored_small (StoreX j) k small e = let same : j ≡ k = same_Some j k e in omega (arith, small)
 stored_small _ k small e = absurd cc
 
-pub safe_next : (code : List Insn) (d : Input) (s : State) (i : Insn) (met : List Bool) (next : State) → IsLawfulProgram code
-    → IsReachable code s → IsAt code s.place i → insn_progress d s i ≡ goes met next → IsReachable code next × (s.place < next.place)
+pub safe_next : (code : List Insn) (d : Input) (s : State) (i : Insn) (met : List Bool) (next : State)
+    → IsLawfulProgram code
+    → IsReachable code s → IsAt code s.place i → insn_progress d s i ≡ goes met next → IsReachable code next
+    × (s.place < next.place)
 safe_next code d s i met next lawful safe at e =
     let m = moves d s i met next e in (
       record {
@@ -252,7 +257,8 @@ loaded_not_stuck : (s : State) (k : ℕ) (f : ℕ → Progress) → ((n : ℕ) �
 loaded_not_stuck s k f fine (n, at) e = fine n (rw at at e)
 
 pub not_stuck : (d : Input) (s : State) (i : Insn)
-    → ((k : ℕ) → loaded_by i ≡ Some k → (n : ℕ) × (slice_get s.scratch k ≡ Some (Some n))) → insn_progress d s i ≡ stuck → ⊥
+    → ((k : ℕ) → loaded_by i ≡ Some k → (n : ℕ) × (slice_get s.scratch k ≡ Some (Some n)))
+    → insn_progress d s i ≡ stuck → ⊥
 not_stuck d s i fine e = by i fine e
   where
     by : (i : Insn) → ((k : ℕ) → loaded_by i ≡ Some k → (n : ℕ) × (slice_get s.scratch k ≡ Some (Some n)))

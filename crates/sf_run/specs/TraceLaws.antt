@@ -90,7 +90,8 @@ run_is_way (suc n) code d s o e = at_place (slice_get code s.place) refl (λ t p
         → ((t : State) (p : List Bool × ℕ) → run_for n code d t ≡ Some p → IsWay code t.place p.0)
         → outcome_from (run_for n code d) (step code d s) ≡ Some o → IsWay code s.place o.0
     at_place None at rest e = let clash : None ≡ Some o = rw at at e in absurd cc
-    at_place (Some i) at rest e = by i at rest (insn_progress d s i) (step_allowed d s i) (rw (step_is code d s i at) at e)
+    at_place (Some i) at rest e = by i at rest (insn_progress d s i) (step_allowed d s i)
+        (rw (step_is code d s i at) at e)
 
 pub trace_is_way : (code : List Insn) (d : Input) → IsLawfulProgram code → IsWay code 0 (met_by code d)
 unfolding outcome_of
@@ -111,7 +112,8 @@ traces_are_ways (code ∷ codes) d lawful = (
   refl,
 )
 
-pub newest_first : (programs : List (List Insn)) → IsLawfulStack programs → AllByRecursion IsLawfulProgram (reverse programs)
+pub newest_first : (programs : List (List Insn)) → IsLawfulStack programs
+    → AllByRecursion IsLawfulProgram (reverse programs)
 newest_first programs lawful =
     recursion_from_All IsLawfulProgram (reverse programs) (λ k d lt.
     let lt' : k < length programs = omega (arith, length-reverse programs) in
@@ -180,7 +182,8 @@ run_short (suc n) code d s o e = at_place (slice_get code s.place) refl (λ t p 
         → ((t : State) (p : List Bool × ℕ) → run_for n code d t ≡ Some p → length p.0 + t.place ≤ length code + 31)
         → outcome_from (run_for n code d) (step code d s) ≡ Some o → length o.0 + s.place ≤ length code + 31
     at_place None at rest e = let clash : None ≡ Some o = rw at at e in absurd cc
-    at_place (Some i) at rest e = by i at rest (insn_progress d s i) (step_short d s i) (rw (step_is code d s i at) at e)
+    at_place (Some i) at rest e = by i at rest (insn_progress d s i) (step_short d s i)
+        (rw (step_is code d s i at) at e)
 
 pub met_short : (code : List Insn) (d : Input) → length (met_by code d) ≤ length code + 31
 unfolding outcome_of

@@ -11,7 +11,8 @@ use Rattle.sf_sym.specs.declared.pool.Node.TheVariants.{Const, Word, Bin, Neg}
 use Rattle.sf_sym.specs.declared.pool.NodeId.{NodeId}
 
 -- a constant of a pool is a word
-constant-small : (ns : List Node) (i x : ℕ) → IsPool ns → i < length ns → constant_number (node_at ns i) ≡ Some x → x < 2 ^ 32
+constant-small : (ns : List Node) (i x : ℕ) → IsPool ns → i < length ns
+    → constant_number (node_at ns i) ≡ Some x → x < 2 ^ 32
 constant-small ns i x p h e = rw (constant_number-is (node_at ns i) x e) at (OperandsBelow-at 0 ns i p.ordered h)
 
 combined_node-value : (ns : List Node) (d : Input) (op : BinOp) (a b : NodeId) → IsPool ns → a.0 < length ns
@@ -30,7 +31,8 @@ combined_node-value ns d op a b p k l None None e f = refl
 negated_node-value : (ns : List Node) (d : Input) (a : NodeId) → IsPool ns → a.0 < length ns
     → (x : Option ℕ) → constant_number (node_at ns a.0) ≡ x → node_value d (values_of ns d) (negated_node a x)
     ≡ negation_of (value_of ns d a.0)
-negated_node-value ns d a p k (Some x) e = rw (value-constant ns d a.0 x p k (constant_number-is (node_at ns a.0) x e)) refl
+negated_node-value ns d a p k (Some x) e =
+    rw (value-constant ns d a.0 x p k (constant_number-is (node_at ns a.0) x e)) refl
 negated_node-value ns d a p k None e = refl
 
 pub folded_node-value : (ns : List Node) (d : Input) (node : Node) → IsPool ns → OperandsBelow (length ns) node

@@ -41,7 +41,8 @@ IsLastWithHash-next ns n hash c other l = record {
 }
 
 -- one more node, of this hash
-pub IsLastWithHash-this : (ns : List Node) (n hash : ℕ) → hash_of (node_at ns n) ≡ hash → IsLastWithHash ns (n + 1) hash (n + 1)
+pub IsLastWithHash-this : (ns : List Node) (n hash : ℕ) → hash_of (node_at ns n) ≡ hash
+    → IsLastWithHash ns (n + 1) hash (n + 1)
 IsLastWithHash-this ns n hash this = record {
   within = omega arith;
   here = λ i e. let same : i ≡ n = omega arith in rw same this;

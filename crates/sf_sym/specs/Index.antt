@@ -28,7 +28,8 @@ pub record IsLastWithHash (ns : List Node) (n hash c : ℕ) : Type 0 where
 
 -- each node has a link to the last older one of its hash
 abbrev pub AreLinked : List Interned → Type 0
-AreLinked es = (i : ℕ) → i < length es → IsLastWithHash (nodes_of es) i (hash_of (node_at (nodes_of es) i)) (link_at es i)
+AreLinked es = (i : ℕ) → i < length es → IsLastWithHash (nodes_of es) i
+    (hash_of (node_at (nodes_of es) i)) (link_at es i)
 
 -- and the heads are the last nodes of each hash
 pub record IsIndexed (es : List Interned) (heads : List ℕ) : Type 0 where

@@ -75,11 +75,16 @@ fn place_of(interned_nodes: &InternedNodes, heads: &[u32], node: Node) -> Option
 }
 
 /// Adds a node, and answers its place.
-fn add(interned_nodes: &mut InternedNodes, heads: &mut Vec<u32>, node: Node) -> Result<usize, AllocError>
+fn add(
+    interned_nodes: &mut InternedNodes,
+    heads: &mut Vec<u32>,
+    node: Node,
+) -> Result<usize, AllocError>
     requires { IsIndexed interned_nodes.old heads.old.items }
     ensures indexed { IsIndexed interned_nodes.new heads.new.items }
     ensures place { IfOk result (λ at. at ≡ length (nodes_of interned_nodes.old)) }
-    ensures ok { OnOk result (nodes_of interned_nodes.new ≡ nodes_of interned_nodes.old ++ node ∷ []) }
+    ensures ok { OnOk result (nodes_of interned_nodes.new
+        ≡ nodes_of interned_nodes.old ++ node ∷ []) }
     ensures err { OnErr result (interned_nodes.new ≡ interned_nodes.old) }
 {
     let hash = hash(node);
@@ -118,7 +123,10 @@ impl Indexed {
     {
         let interned_nodes = SharedList::new(alloc)?;
         let heads = vec![in alloc; 0u32; BUCKETS]?;
-        Ok(Indexed { interned_nodes, heads })
+        Ok(Indexed {
+            interned_nodes,
+            heads,
+        })
     }
 
     /// How many nodes there are.

@@ -44,11 +44,13 @@ returns-else-not-propagate_back-2 c =
     let decided = rw (c.get.ensures, c.get-2.ensures) at c.in-Some.ensures.decided in
     let tells = rw (c.get.ensures, c.get-2.ensures) at c.in-Some.ensures.tells in
     assumed-all c.propagate.result o c.meet_node.new.nodes.known c.meet_node-in-Some.new.nodes.known
-    c.propagate_back.new.nodes.known c.propagate_back-in-Some.new.nodes.known c.propagate.new.nodes.known ex ns cond c.in-Some.pair.node
+    c.propagate_back.new.nodes.known c.propagate_back-in-Some.new.nodes.known c.propagate.new.nodes.known ex ns cond
+    c.in-Some.pair.node
     c.in-Some.pair.other
     count c.meet_node.ensures.ready.count c.meet_node-in-Some.ensures.ready.count c.propagate_back.ensures.ready.count
     c.propagate_back-in-Some.ensures.ready.count c.requires.node c.requires.other
     (values-left o ex ns cond _ _ (omega arith) (omega arith) pair)
     c.if-not-meet_node.ensures.kept c.if-not-meet_node-2.ensures.kept c.if-not-propagate_back.ensures.kept
     c.if-not-propagate_back-2.ensures.kept
-    tells (c.if-not-propagate_back.ensures.backward refl) (c.if-not-propagate_back-2.ensures.backward refl) sharp decided c.propagate.ensures
+    tells (c.if-not-propagate_back.ensures.backward refl) (c.if-not-propagate_back-2.ensures.backward refl) sharp
+    decided c.propagate.ensures

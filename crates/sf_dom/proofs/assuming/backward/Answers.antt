@@ -11,7 +11,8 @@ returns-in-And-clause-bits c = λ x hx h.
 pub returns-in-Or-clause-bits : goal.returns-in-Or-clause-bits
 returns-in-Or-clause-bits c = λ x hx h.
     let k : Admits c.args.node (bit_or x c.args.c) = rw c.in-Or.is at h in
-    c.with_bits-in-Or.ensures.admits x hx (backward-or x c.args.c c.args.node.zeros c.args.node.ones c.ranges.c.fits k.bits)
+    c.with_bits-in-Or.ensures.admits x hx (backward-or x c.args.c c.args.node.zeros c.args.node.ones
+    c.ranges.c.fits k.bits)
 
 pub returns-in-Xor-clause-bits : goal.returns-in-Xor-clause-bits
 returns-in-Xor-clause-bits c = λ x hx h.

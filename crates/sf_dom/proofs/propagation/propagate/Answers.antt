@@ -23,7 +23,8 @@ returns-in-None c = λ d p a.
     let by_rule = rw c.node-node.ensures.node at
     (c.transfer.ensures.value d (values_of ns d) p (λ j l. (agrees j l).admitted)) in
     let both = rw c.get-before.ensures at c.meet-known.ensures in
-    let left = propagate-left n.known ex ns d i c.transfer.result c.meet-known.result c.node-node.ensures.lawful inv.ready.count
+    let left = propagate-left n.known ex ns d i c.transfer.result c.meet-known.result
+    c.node-node.ensures.lawful inv.ready.count
     below agrees by_rule both in
     rw c.node-node.ensures.node at c.in-None.ensures (value_of ns d i) left
 
@@ -56,7 +57,8 @@ loop-rank-preserved c =
           let agrees = inv.keeps d p a in
           let by_rule = rw c.node-node.ensures.node at
           (c.transfer.ensures.value d (values_of ns d) p (λ j l. (agrees j l).admitted)) in
-          let left = propagate-left n.known ex ns d i c.transfer.result c.meet-known.result c.node-node.ensures.lawful count
+          let left = propagate-left n.known ex ns d i c.transfer.result c.meet-known.result
+          c.node-node.ensures.lawful count
           below agrees by_rule both in
           propagate-set n.known ex ns d i next below agrees (t.same (value_of ns d i) left));
       narrower = rw c.set.ensures.known (AllNarrower-set c.args.nodes.now.known n.known i next
@@ -102,6 +104,7 @@ loop-rank-preserved-then-is_tight c =
             | inl l ↦ inv.passed k (omega arith) (λ j a m. variable-before n rank j k inv.laid_out a m
                 (omega (arith, at)))
             | inr g ↦ (let e : k ≡ i = omega arith in
-                rw e (tight-passed n.known ex ns i c.len-count.ensures.lawful small (inv.ready.consistent i below) tight))
+                rw e (tight-passed n.known ex ns i c.len-count.ensures.lawful small
+                (inv.ready.consistent i below) tight))
           ]);
     }

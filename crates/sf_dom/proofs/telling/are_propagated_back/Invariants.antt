@@ -5,7 +5,8 @@ use Rattle.sf_dom.proofs.telling.are_propagated_back.Given as goal
 abbrev pub invariant-loop-op : goal.invariant-loop-op
 invariant-loop-op l = record {
   within : l.at < length l.pool;
-  back : ((n : ℕ) → IsPropagatedBack n l.nodes.known l.pool l.at) → (n : ℕ) → IsPropagatedBack n l.nodes.known l.pool l.from;
+  back : ((n : ℕ) → IsPropagatedBack n l.nodes.known l.pool l.at) → (n : ℕ)
+      → IsPropagatedBack n l.nodes.known l.pool l.from;
 }
 
 abbrev pub decreases-loop-op : goal.decreases-loop-op

@@ -11,7 +11,8 @@ use Rattle.sf_run.proofs.running.run.Goals as goal
 pub loop-next-init : goal.loop-next-init
 loop-next-init c =
     let code = c.insns-code.result.now in
-    let lawful : IsLawfulProgram code = subst IsLawfulProgram (sym c.insns-code.ensures.same) c.insns-code.ensures.lawful in
+    let lawful : IsLawfulProgram code = subst IsLawfulProgram (sym c.insns-code.ensures.same)
+    c.insns-code.ensures.lawful in
     record {
       safe = rw c.start-machine.ensures (safe_start code lawful.some);
       same = λ n o e. value_is n code c.args.input.now o lawful (rw c.start-machine.ensures at e);
@@ -20,13 +21,15 @@ loop-next-init c =
 pub execute-requires-clause-in_range : goal.execute-requires-clause-in_range
 execute-requires-clause-in_range c =
     let code = c.insns-code.result.now in
-    let lawful : IsLawfulProgram code = subst IsLawfulProgram (sym c.insns-code.ensures.same) c.insns-code.ensures.lawful in
+    let lawful : IsLawfulProgram code = subst IsLawfulProgram (sym c.insns-code.ensures.same)
+    c.insns-code.ensures.lawful in
     lawful.in_range c.loop-next.place _ (slice_get-get_or code c.loop-next.place _ c.loop-next.invariant.safe.inside)
 
 pub execute-requires-clause-set : goal.execute-requires-clause-set
 execute-requires-clause-set c k loads =
     let code = c.insns-code.result.now in
-    let lawful : IsLawfulProgram code = subst IsLawfulProgram (sym c.insns-code.ensures.same) c.insns-code.ensures.lawful in
+    let lawful : IsLawfulProgram code = subst IsLawfulProgram (sym c.insns-code.ensures.same)
+    c.insns-code.ensures.lawful in
     load_is_set code (state_of c.loop-next.place c.loop-next.machine) _ k lawful c.loop-next.invariant.safe
     (slice_get-get_or code c.loop-next.place _ c.loop-next.invariant.safe.inside) loads
 
@@ -34,7 +37,8 @@ pub loop-next-preserved : goal.loop-next-preserved
 loop-next-preserved c =
     let code = c.insns-code.result.now in
     let d = c.args.input.now in
-    let lawful : IsLawfulProgram code = subst IsLawfulProgram (sym c.insns-code.ensures.same) c.insns-code.ensures.lawful in
+    let lawful : IsLawfulProgram code = subst IsLawfulProgram (sym c.insns-code.ensures.same)
+    c.insns-code.ensures.lawful in
     let s = state_of c.loop-next.place c.loop-next.machine in
     let next = state_of c.in-Goes.next c.execute.new.machine in
     let at = slice_get-get_or code c.loop-next.place _ c.loop-next.invariant.safe.inside in

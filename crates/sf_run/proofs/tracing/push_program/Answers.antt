@@ -12,7 +12,8 @@ use Rattle.sf_run.proofs.tracing.push_program.Goals as goal
 pub loop-machine-init : goal.loop-machine-init
 loop-machine-init c =
     let code = c.insns-code.result.now in
-    let lawful : IsLawfulProgram code = subst IsLawfulProgram (sym c.insns-code.ensures.same) c.insns-code.ensures.lawful in
+    let lawful : IsLawfulProgram code = subst IsLawfulProgram (sym c.insns-code.ensures.same)
+    c.insns-code.ensures.lawful in
     record {
       safe = rw c.start-machine.ensures (safe_start code lawful.some);
       same = λ n o e. ap (λ (l : List Bool). c.args.met.now.items ++ l)
@@ -22,14 +23,16 @@ loop-machine-init c =
 pub execute-requires-clause-in_range : goal.execute-requires-clause-in_range
 execute-requires-clause-in_range c =
     let code = c.insns-code.result.now in
-    let lawful : IsLawfulProgram code = subst IsLawfulProgram (sym c.insns-code.ensures.same) c.insns-code.ensures.lawful in
+    let lawful : IsLawfulProgram code = subst IsLawfulProgram (sym c.insns-code.ensures.same)
+    c.insns-code.ensures.lawful in
     lawful.in_range c.loop-machine.place _ (slice_get-get_or code c.loop-machine.place _
     c.loop-machine.invariant.safe.inside)
 
 pub execute-requires-clause-set : goal.execute-requires-clause-set
 execute-requires-clause-set c k loads =
     let code = c.insns-code.result.now in
-    let lawful : IsLawfulProgram code = subst IsLawfulProgram (sym c.insns-code.ensures.same) c.insns-code.ensures.lawful in
+    let lawful : IsLawfulProgram code = subst IsLawfulProgram (sym c.insns-code.ensures.same)
+    c.insns-code.ensures.lawful in
     load_is_set code (state_of c.loop-machine.place c.loop-machine.machine) _ k lawful c.loop-machine.invariant.safe
     (slice_get-get_or code c.loop-machine.place _ c.loop-machine.invariant.safe.inside) loads
 
@@ -37,7 +40,8 @@ pub loop-machine-preserved : goal.loop-machine-preserved
 loop-machine-preserved c =
     let code = c.insns-code.result.now in
     let d = c.args.input.now in
-    let lawful : IsLawfulProgram code = subst IsLawfulProgram (sym c.insns-code.ensures.same) c.insns-code.ensures.lawful in
+    let lawful : IsLawfulProgram code = subst IsLawfulProgram (sym c.insns-code.ensures.same)
+    c.insns-code.ensures.lawful in
     let m = c.loop-machine.machine in
     let s = state_of c.loop-machine.place m in
     let next = state_of c.in-Goes.next c.execute.new.machine in

@@ -13,7 +13,8 @@ pub steps-init : goal.steps-init
 unfolding walk_of
 steps-init c =
     let code = c.insns-code.result.now in
-    let lawful : IsLawfulProgram code = subst IsLawfulProgram (sym c.insns-code.ensures.same) c.insns-code.ensures.lawful in
+    let lawful : IsLawfulProgram code = subst IsLawfulProgram (sym c.insns-code.ensures.same)
+    c.insns-code.ensures.lawful in
     record {
       safe = rw c.start-machine.ensures (safe_start code lawful.some);
       left = length code;
@@ -24,13 +25,15 @@ steps-init c =
 pub execute-requires-clause-in_range : goal.execute-requires-clause-in_range
 execute-requires-clause-in_range c =
     let code = c.insns-code.result.now in
-    let lawful : IsLawfulProgram code = subst IsLawfulProgram (sym c.insns-code.ensures.same) c.insns-code.ensures.lawful in
+    let lawful : IsLawfulProgram code = subst IsLawfulProgram (sym c.insns-code.ensures.same)
+    c.insns-code.ensures.lawful in
     lawful.in_range c.steps.place _ (slice_get-get_or code c.steps.place _ c.steps.invariant.safe.inside)
 
 pub execute-requires-clause-set : goal.execute-requires-clause-set
 execute-requires-clause-set c k loads =
     let code = c.insns-code.result.now in
-    let lawful : IsLawfulProgram code = subst IsLawfulProgram (sym c.insns-code.ensures.same) c.insns-code.ensures.lawful in
+    let lawful : IsLawfulProgram code = subst IsLawfulProgram (sym c.insns-code.ensures.same)
+    c.insns-code.ensures.lawful in
     load_is_set code (state_of c.steps.place c.steps.machine) _ k lawful c.steps.invariant.safe
     (slice_get-get_or code c.steps.place _ c.steps.invariant.safe.inside) loads
 
@@ -38,7 +41,8 @@ pub steps-preserved : goal.steps-preserved
 steps-preserved c =
     let code = c.insns-code.result.now in
     let d = c.args.input.now in
-    let lawful : IsLawfulProgram code = subst IsLawfulProgram (sym c.insns-code.ensures.same) c.insns-code.ensures.lawful in
+    let lawful : IsLawfulProgram code = subst IsLawfulProgram (sym c.insns-code.ensures.same)
+    c.insns-code.ensures.lawful in
     let s = state_of c.steps.place c.steps.machine in
     let next = state_of c.in-Goes.next c.execute.new.machine in
     let before = c.steps.invariant in

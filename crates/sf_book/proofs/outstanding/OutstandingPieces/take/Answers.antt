@@ -32,6 +32,7 @@ pub returns-in_default : goal.returns-in_default
 returns-in_default c =
     let ids = c.self.inside.by_id.entries in
     let names = c.self.inside.by_name.entries in
-    let none = entry_at_is ids names c.args.id ∙ ap (option_map (λ (p : PieceData). outstanding_of names (c.args.id, p)))
+    let none = entry_at_is ids names c.args.id
+    ∙ ap (option_map (λ (p : PieceData). outstanding_of names (c.args.id, p)))
     (sym c.in_default.ensures.value) in
     rw (← c.self.view_is, c.in_default.ensures.unchanged) (sym (without_none _ c.args.id none))

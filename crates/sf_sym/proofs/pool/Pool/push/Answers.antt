@@ -32,7 +32,8 @@ invariant_of-self-2 c =
     let ns = arc_value c.self.inside.nodes in
     let given : OperandsBelow (length ns) c.args.node = rw (← c.self.view_is) at c.requires in
     rw (c.in_ok-at.ensures.ok, c.fold-node.ensures, c.deref.ensures)
-    (IsPool-push ns (folded_node ns c.args.node) c.self.invariant (folded_node-operands ns c.args.node c.self.invariant given))
+    (IsPool-push ns (folded_node ns c.args.node) c.self.invariant
+    (folded_node-operands ns c.args.node c.self.invariant given))
 
 pub returns-clause-value : goal.returns-clause-value
 returns-clause-value c = λ d.
@@ -52,4 +53,5 @@ returns-clause-lawful c =
     let ns = arc_value c.self.inside.nodes in
     let given : OperandsBelow (length ns) c.args.node = rw (← c.self.view_is) at c.requires in
     rw (c.in_ok-at.ensures.ok, c.fold-node.ensures, c.deref.ensures)
-    (IsPool-push ns (folded_node ns c.args.node) c.self.invariant (folded_node-operands ns c.args.node c.self.invariant given))
+    (IsPool-push ns (folded_node ns c.args.node) c.self.invariant
+    (folded_node-operands ns c.args.node c.self.invariant given))
