@@ -11,10 +11,10 @@ ghost use Rattle.sf_book.specs.PlainBooks.{IsPlainWhereStackIs};
 ghost use Rattle.sf_book.specs.Changes.{CommitsAs, Leases, Settles, Refuses, MayCommit, with_lease, with_lease_at};
 ghost use Rattle.sf_book.specs.declared.fault.Fault.TheVariants.{Memory, Foreign};
 
-use crate::regions::{Emptied, Region, add, has_name, is_of, put_in_order};
 use crate::fault::Fault;
-use crate::settled::Settled;
 use crate::outstanding::OutstandingPieces;
+use crate::regions::{Emptied, Region, add, has_name, is_of, put_in_order};
+use crate::settled::Settled;
 use sf_check::Stack;
 use sf_piece::{Piece, Step, Work, root};
 use std::alloc::Global;

@@ -3,15 +3,15 @@
 #![tactic(auto)]
 
 mod book;
-mod regions;
 mod fault;
-mod name_key;
 mod laws;
-mod settled;
+mod name_key;
 mod outstanding;
+mod regions;
+mod settled;
 
 pub use book::{Book, Counts, Lease};
-pub use regions::Region;
 pub use fault::Fault;
 pub use laws::{each_input_lies_in_one, no_name_begins_another};
+pub use regions::Region;
 pub use settled::Settled;

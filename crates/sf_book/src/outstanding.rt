@@ -48,7 +48,11 @@ impl Model for OutstandingPieces {
 
 impl OutstandingPieces {
     /// One piece, which is not on lease.
-    pub(crate) fn open(alloc: Global, id: u64, piece: Arc<Piece>) -> Result<OutstandingPieces, Fault>
+    pub(crate) fn open(
+        alloc: Global,
+        id: u64,
+        piece: Arc<Piece>,
+    ) -> Result<OutstandingPieces, Fault>
         ensures ok { IfOk result (λ s. s ≡ record {
           id = id;
           piece = arc_value piece;
@@ -217,7 +221,11 @@ fn put_id(by_id: &mut BTreeMap<u64, NameKey>, id: u64, piece: NameKey) -> Result
 }
 
 /// Puts under a name whether its piece is on lease, or leaves all as it was.
-fn put_name(by_name: &mut BTreeMap<NameKey, LeaseState>, piece: NameKey, state: LeaseState) -> Result<(), Fault>
+fn put_name(
+    by_name: &mut BTreeMap<NameKey, LeaseState>,
+    piece: NameKey,
+    state: LeaseState,
+) -> Result<(), Fault>
     ensures updates { OnOk result (Updates name_cmp by_name.old by_name.new piece (Some state)) }
     ensures err { IfErr result (λ f. (f ≡ Memory) × (by_name.new.entries ≡ by_name.old.entries)) }
     ensures ordered { IsOrdered name_cmp by_name.new }

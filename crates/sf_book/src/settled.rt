@@ -11,8 +11,8 @@ ghost use Rattle.sf_book.specs.Partition.{parts_of, names_of, LiesInOne, NoneBeg
 ghost use Rattle.sf_book.specs.Books.{OutstandingData, IsSettled, IsRightRegion, counts_of};
 
 use crate::book::Counts;
-use crate::regions::{Emptied, Region};
 use crate::outstanding::OutstandingPieces;
+use crate::regions::{Emptied, Region};
 use sf_check::Stack;
 use sf_piece::Piece;
 use std::marker::Model;

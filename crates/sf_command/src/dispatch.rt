@@ -8,11 +8,11 @@ ghost use Rattle.sf_command.specs.Outputs.{RefusesCheck, RefusesEval};
 ghost use Rattle.sf_command.specs.Runs.{Audits, Checks, Evaluates, RunsAs, IsKnown, IsHelp, DoesAsTold, OnPaths, RefusesAs, RefusesAsTold, WritesText, errors_at, text_of};
 ghost use Rattle.sf_command.specs.Status.{fault_status};
 
-use crate::options::{brief_of, budget_of, regions_of, text_of, traced_of, workers_of};
 use crate::auditing::{Options, audit};
 use crate::checking::{check, evaluate, print};
 use crate::explaining::{Notes, explanation};
 use crate::files::Files;
+use crate::options::{brief_of, budget_of, regions_of, text_of, traced_of, workers_of};
 use crate::telling::tell;
 use crate::words;
 use clap::ArgMatches;

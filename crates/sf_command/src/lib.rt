@@ -1,13 +1,13 @@
 //! The command line of the program, from its words to its exit status, over traits for files and streams.
 #![tactic(auto)]
 
-mod options;
 mod auditing;
 mod checking;
 mod dispatch;
 mod explaining;
 mod files;
 mod keys;
+mod options;
 mod places;
 mod policies;
 mod status;

@@ -4,8 +4,8 @@ ghost use Rattle.std.specs.Prelude.{◌≡◌, ◌<◌, ◌≤◌, IfOk, IfErr, 
 ghost use Rattle.sf_crew.specs.declared.fault.Fault.TheVariants.{Memory};
 
 use crate::benches::bench;
-use crate::handles::Thief;
 use crate::fault::Fault;
+use crate::handles::Thief;
 use crate::workers::Worker;
 use std::alloc::Global;
 

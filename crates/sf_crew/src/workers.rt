@@ -13,10 +13,10 @@ ghost use Rattle.sf_crew.specs.Explorations.{IsExhausted, IsExplorationOf, IsExa
 ghost use Rattle.sf_crew.specs.declared.fault.Fault.TheVariants.{Memory, Foreign};
 ghost use Rattle.sf_check.specs.Stacks.{IsPlain};
 
-use crate::handles::{Owner, Thief};
 use crate::exploring::{explore_alone, finished, work_off};
 use crate::fault::Fault;
 use crate::gate::Gate;
+use crate::handles::{Owner, Thief};
 use crate::setup::workers_of;
 use crossbeam_deque::Steal;
 use sf_book::{Book, Lease, Settled};

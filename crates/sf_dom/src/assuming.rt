@@ -10,12 +10,12 @@ ghost use Rattle.sf_dom.specs.Propagation.{KeepsAgreeing, NoneAgreesWith, KeepsA
 ghost use Rattle.sf_dom.specs.Backward.{IsSwappable, HandsOn, constant_operand_of, IsPropagatedBack};
 ghost use Rattle.sf_dom.specs.Facts.{known_at, numbers_at, excluded_of, AgreesWith};
 
-use crate::propagation::{meet, propagate, reduced};
 use crate::exclusions::Exclusions;
 use crate::fault::Fault;
-use crate::known::Known;
 use crate::guards::{Pair, at_least, common_bit, differs, equal, greater, no_common_bit};
+use crate::known::Known;
 use crate::nodes::Nodes;
+use crate::propagation::{meet, propagate, reduced};
 use sf_insn::{BinOp, Test};
 use sf_sym::{Cond, Node, NodeId, Pool, constant_of};
 use std::alloc::Global;

@@ -5,12 +5,12 @@ ghost use Rattle.sf_sym.specs.Pool.{IsCondBelow};
 ghost use Rattle.sf_dom.specs.Known.{Admits};
 ghost use Rattle.sf_dom.specs.Propagation.{NoneAgreesOn, Holds, IsReady, IsRestricted, IsLearnt, AreBothExcluded};
 
-use crate::propagation::propagate;
+use crate::assuming::{assume_cond, exclude_both, is_ruled_out, meet_node};
 use crate::exclusions::{Excluded, Exclusions, copy_all};
 use crate::fault::Fault;
 use crate::known::Known;
 use crate::nodes::Nodes;
-use crate::assuming::{exclude_both, is_ruled_out, assume_cond, meet_node};
+use crate::propagation::propagate;
 use sf_insn::Test;
 use sf_sym::{Cond, Pool};
 use std::alloc::Global;
@@ -68,7 +68,13 @@ pub fn assumed(
 }
 
 /// Takes into a word's facts what else is known of it. False: no input that agrees has it.
-fn meet_word(nodes: &mut Nodes, excluded: &[Exclusions], pool: &Pool, word: usize, more: Known) -> bool
+fn meet_word(
+    nodes: &mut Nodes,
+    excluded: &[Exclusions],
+    pool: &Pool,
+    word: usize,
+    more: Known,
+) -> bool
     requires ready { IsReady nodes.old.known pool.now }
     requires words { length excluded.now ≡ 16 }
     requires word { word < 16 }

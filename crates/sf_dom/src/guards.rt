@@ -6,8 +6,8 @@ ghost use Rattle.sf_dom.specs.Propagation.{LeavesPair, LeavesNoPair};
 ghost use Rattle.sf_dom.specs.Reduction.{IsMeet};
 ghost use Rattle.sf_insn.specs.Words.{IsOneBit};
 
-use crate::propagation::meet;
 use crate::known::Known;
+use crate::propagation::meet;
 
 /// What is known of the two words of a test.
 #[derive(Clone, Copy, Debug, PartialEq, Eq)]

@@ -12,7 +12,7 @@ ghost use Rattle.sf_dom.specs.Reduction.{IsForced, IsMeet};
 use crate::exclusions::Exclusions;
 use crate::fault::Fault;
 use crate::fitting::is_tight;
-use crate::forward::{forward, top_known, negated};
+use crate::forward::{forward, negated, top_known};
 use crate::known::{Known, exact_number, reduce_known, reduce_word};
 use crate::nodes::Nodes;
 use sf_sym::{Node, NodeId, Pool};

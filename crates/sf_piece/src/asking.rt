@@ -6,10 +6,10 @@ ghost use Rattle.sf_piece.specs.Works.{HasAtHand, PassesAlways, divides_at};
 ghost use Rattle.sf_piece.specs.SmallSteps.{IsExecuted};
 
 use crate::deciding::take;
+use crate::executing::{Executed, leave_program, set_a};
 use crate::fault::Fault;
 use crate::nodes::{operand, push};
 use crate::run::Run;
-use crate::executing::{Executed, leave_program, set_a};
 use sf_check::{Insn, Operand};
 use sf_insn::{BinOp, Test};
 use sf_sym::{Cond, Node};

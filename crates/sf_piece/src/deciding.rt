@@ -9,11 +9,11 @@ ghost use Rattle.sf_piece.specs.SymbolicRun.{IsLawfulPiece};
 ghost use Rattle.sf_piece.specs.Works.{HasAtHand, IsQuery, AfterTruthValue, HasAdvanced, IsChild, IsForeseen, Asks, IsImplied, AreChildFacts, IsNever, HasOneValue, is_propagated_back, decided_number_of, told_by_numbers};
 ghost use Rattle.sf_piece.specs.SmallSteps.{IsSmallStep};
 
+use crate::executing::{Executed, execute};
 use crate::fault::Fault;
 use crate::machine::SymbolicMachine;
 use crate::piece::Piece;
 use crate::run::Run;
-use crate::executing::{Executed, execute};
 use sf_check::Insn;
 use sf_dom::Facts;
 use sf_insn::BinOp;

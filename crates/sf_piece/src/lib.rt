@@ -5,18 +5,18 @@
 
 mod asking;
 mod deciding;
+mod executing;
 mod fault;
-mod root_piece;
 mod machine;
 mod name;
 mod nodes;
 mod piece;
+mod root_piece;
 mod run;
-mod executing;
 mod work;
 
 pub use fault::Fault;
-pub use root_piece::root;
 pub use machine::SymbolicMachine;
 pub use piece::Piece;
+pub use root_piece::root;
 pub use work::{Step, Work, advance};
