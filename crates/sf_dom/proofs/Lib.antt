@@ -6,7 +6,7 @@ pub mod Propagations
 pub mod Halves
 pub mod CommonBits
 pub mod Backs
-pub mod Assuming
+pub mod AssumeLemmas
 pub mod GuardLemmas
 pub mod Sampled
 pub mod Masks

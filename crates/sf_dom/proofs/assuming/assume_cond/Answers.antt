@@ -1,5 +1,5 @@
 use Rattle.std.proofs.Common.{arith, refl}
-use Rattle.sf_dom.proofs.Assuming.{assumed-all, values-left}
+use Rattle.sf_dom.proofs.AssumeLemmas.{assumed-all, values-left}
 use Rattle.sf_dom.proofs.assuming.assume_cond.Goals as goal
 
 pub returns-then-not-meet_node : goal.returns-then-not-meet_node

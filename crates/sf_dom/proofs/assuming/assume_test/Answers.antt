@@ -1,7 +1,7 @@
 use Rattle.std.proofs.Common.{◌<◌, true}
 use Rattle.sf_dom.specs.Propagation.{TestGives}
 use Rattle.sf_insn.specs.declared.ops.Test.TheVariants.{Greater}
-use Rattle.sf_dom.proofs.Assuming.{fewer_pairs}
+use Rattle.sf_dom.proofs.AssumeLemmas.{fewer_pairs}
 use Rattle.sf_dom.proofs.GuardLemmas.{gives-greater, gives-not_greater, gives-at_least, gives-less}
 use Rattle.sf_dom.proofs.assuming.assume_test.Goals as goal
 

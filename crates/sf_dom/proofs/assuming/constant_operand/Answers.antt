@@ -2,7 +2,7 @@ use Rattle.std.proofs.Common.{arith, sym, ◌∙◌}
 use Rattle.sf_sym.specs.Pool.{OperandsBelow}
 use Rattle.sf_sym.specs.declared.pool.Node.TheVariants.{Bin}
 use Rattle.sf_sym.specs.ValueLaws.{constant_number-is}
-use Rattle.sf_dom.proofs.Assuming.{value-left, value-right}
+use Rattle.sf_dom.proofs.AssumeLemmas.{value-left, value-right}
 use Rattle.sf_dom.proofs.assuming.constant_operand.Goals as goal
 
 pub returns-in-None-Some-clause-value : goal.returns-in-None-Some-clause-value

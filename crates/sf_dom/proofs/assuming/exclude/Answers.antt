@@ -1,6 +1,6 @@
 use Rattle.std.proofs.Common.{ℕ, [], arith}
 use Rattle.std.proofs.lemmas.List.{get_or_read}
-use Rattle.sf_dom.proofs.Assuming.{excluded-word}
+use Rattle.sf_dom.proofs.AssumeLemmas.{excluded-word}
 use Rattle.sf_dom.proofs.assuming.exclude.Goals as goal
 
 pub returns-in_ok-add : goal.returns-in_ok-add

@@ -1,5 +1,5 @@
 use Rattle.std.proofs.Common.{arith}
-use Rattle.sf_dom.proofs.Assuming.{both-excluded}
+use Rattle.sf_dom.proofs.AssumeLemmas.{both-excluded}
 use Rattle.sf_dom.proofs.assuming.exclude_both.Goals as goal
 
 pub returns-in_ok-exclude-in-Equal-false-2 : goal.returns-in_ok-exclude-in-Equal-false-2

@@ -1,5 +1,5 @@
 use Rattle.std.proofs.Common.{arith}
-use Rattle.sf_dom.proofs.Assuming.{left-of}
+use Rattle.sf_dom.proofs.AssumeLemmas.{left-of}
 use Rattle.sf_dom.proofs.assuming.left_of.Goals as goal
 
 pub returns : goal.returns

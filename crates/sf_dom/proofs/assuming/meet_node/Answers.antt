@@ -1,6 +1,6 @@
 use Rattle.std.proofs.Common.{arith}
 use Rattle.sf_dom.proofs.Propagations.{propagate-set, AllNarrower-set, AllNarrower-refl, IsReady-set}
-use Rattle.sf_dom.proofs.Assuming.{narrower-at}
+use Rattle.sf_dom.proofs.AssumeLemmas.{narrower-at}
 use Rattle.sf_dom.proofs.assuming.meet_node.Goals as goal
 
 pub returns-in-Some-clause-kept : goal.returns-in-Some-clause-kept

@@ -3,7 +3,7 @@ use Rattle.sf_sym.specs.Pool.{value_of}
 use Rattle.sf_dom.proofs.Propagations.{propagate-set, AllNarrower-set, AllNarrower-refl, IsReady-set}
 use Rattle.sf_dom.proofs.Reductions.{IsNarrower-trans}
 use Rattle.sf_dom.specs.Facts.{known_at}
-use Rattle.sf_dom.proofs.Assuming.{walked}
+use Rattle.sf_dom.proofs.AssumeLemmas.{walked}
 use Rattle.sf_dom.proofs.Backs.{carries-step, hands-on-narrower, carried, walked-end, walked-other}
 use Rattle.sf_dom.proofs.assuming.propagate_back.Goals as goal
 

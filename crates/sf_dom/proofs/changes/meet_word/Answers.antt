@@ -1,4 +1,4 @@
-use Rattle.sf_dom.proofs.Assuming.{restricted-all}
+use Rattle.sf_dom.proofs.AssumeLemmas.{restricted-all}
 use Rattle.sf_dom.specs.FactsLaws.{value-word}
 use Rattle.sf_dom.proofs.changes.meet_word.Goals as goal
 

@@ -1,6 +1,6 @@
 use Rattle.std.proofs.Common.{[], arith}
 use Rattle.std.proofs.lemmas.List.{get_or_read}
-use Rattle.sf_dom.proofs.Assuming.{word-node}
+use Rattle.sf_dom.proofs.AssumeLemmas.{word-node}
 use Rattle.sf_dom.proofs.propagation.reduced.Goals as goal
 
 pub returns-in-Word : goal.returns-in-Word
