@@ -2,6 +2,7 @@
 
 ghost use Rattle.std.specs.Prelude.{◌≡◌, ◌≢◌, ℕ, ◌<◌, ◌≤◌, ◌-◌, length, Contains, MatchBool, IfSome, IsTrue, bit_and, true, false};
 ghost use Rattle.sf_insn.specs.Inputs.{IsInput};
+ghost use Rattle.sf_insn.specs.Words.{passes};
 ghost use Rattle.sf_insn.specs.declared.input.Input.{Input};
 ghost use Rattle.sf_sym.specs.declared.pool.Node.{Node as ANode};
 ghost use Rattle.sf_sym.specs.Pool.{OperandsBelow, node_at, value_of};
@@ -70,16 +71,19 @@ fn told_common(known: Known, number: u32) -> Option<bool>
     None
 }
 
-/// Whether a word passes a test against a number, where its interval and known bits tell it. They are tight, so a result
-/// that they tell moves no end and adds no bit, and the other one leaves no number.
-fn told_by(known: Known, test: Test, number: u32) -> Option<bool>
-    ensures { IfSome result (λ b. (x : ℕ) → Admits known x → TestGives test x number b) }
-{
-    match test {
-        Test::Equal => told_equal(known, number),
-        Test::Greater => told_greater(known, number),
-        Test::GreaterOrEqual => told_at_least(known, number),
-        Test::AnyBit => told_common(known, number),
+impl Known {
+    /// Whether a word of which this is known passes a test against a number, where its interval and known bits tell it. As
+    /// facts keep them, both ends are numbers that are left for the word, so a result that they tell moves no end and adds
+    /// no bit, and the other one leaves no number.
+    pub fn told(&self, test: Test, number: u32) -> Option<bool>
+        ensures { IfSome result (λ b. (x : ℕ) → Admits self.now x → passes test x number ≡ b) }
+    {
+        match test {
+            Test::Equal => told_equal(*self, number),
+            Test::Greater => told_greater(*self, number),
+            Test::GreaterOrEqual => told_at_least(*self, number),
+            Test::AnyBit => told_common(*self, number),
+        }
     }
 }
 
@@ -133,7 +137,7 @@ fn told_at(
         → AgreesWith nodes.now.known excluded.now pool.now d
         → TestGives test (value_of pool.now d at) number b) }
 {
-    if let Some(sense) = told_by(nodes.get(at), test, number) {
+    if let Some(sense) = nodes.get(at).told(test, number) {
         return Some(sense);
     }
     match test {

@@ -16,7 +16,9 @@ use Rattle.sf_sym.specs.declared.pool.NodeId.{NodeId}
 use Rattle.sf_sym.specs.declared.pool.Cond.{Cond}
 use Rattle.sf_sym.specs.Pool.{IsPool, ArePlainNodes, value_of, is_met}
 use Rattle.sf_sym.specs.ValueLaws.{passes-met}
-use Rattle.sf_dom.specs.Facts.{FactsView, Covers, Agrees, AreNarrower, DecidesTest, KeepsInputs, KeepsOnly, NoInput, TakesIn}
+use Rattle.sf_dom.specs.declared.known.Known.{Known}
+use Rattle.sf_dom.specs.Known.{Admits}
+use Rattle.sf_dom.specs.Facts.{FactsView, known_at, Covers, Agrees, AreNarrower, DecidesTest, KeepsInputs, KeepsOnly, NoInput, TakesIn}
 use Rattle.sf_dom.specs.Propagation.{IsTold}
 use Rattle.sf_dom.specs.Facts.{IsPlainCondition as IsPlainCond}
 use Rattle.sf_piece.specs.declared.machine.SymbolicMachine.{SymbolicMachine}
@@ -76,6 +78,17 @@ foretold p test other n (Some b) h e told = λ d inp member.
     ap (λ (r : Operand). passes test (value_of p.pool d p.machine.a.0)
     (operand_of (concrete_state p.pool p.machine d) r)) e
     ∙ told d inp (h.known d inp member)
+
+-- what is known of A tells of a test of it against a number
+pub told_of_known : (p : PieceData) (test : Test) (other : Operand) (n : ℕ) (known : Known) (b : Bool) → IsPiece p
+    → other ≡ Constant n → known ≡ known_at p.facts.known p.machine.a.0
+    → ((x : ℕ) → Admits known x → passes test x n ≡ b) → PassesAlways p test other b
+unfolding Agrees
+told_of_known p test other n known b h e is told = λ d inp member.
+    ap (λ (r : Operand). passes test (value_of p.pool d p.machine.a.0)
+    (operand_of (concrete_state p.pool p.machine d) r)) e
+    ∙ told (value_of p.pool d p.machine.a.0)
+    (rw is (h.known d inp member p.machine.a.0 (omega (arith, h.nodes.a, h.covers.count))).admitted)
 
 -- what is learnt from the piece's facts
 pub learnt_child : (p : PieceData) (cond : Cond) (b : Bool) (o : Option FactsView) → IsPiece p

@@ -64,6 +64,12 @@ pub record HasAdvanced (p q : PieceData) : Type 0 where
   pub is_on : IsContinuation p q
   pub falls : work_left q < work_left p
 
+-- the piece has gone on, or stands where it stood
+pub record HasGoneOn (p q : PieceData) : Type 0 where
+  pub is_on : IsContinuation p q
+  pub left : work_left q ≤ work_left p
+  pub lawful : IsLawfulPiece q
+
 -- the pool and the facts have grown, and all else stands as it was
 pub record HasGrown (p q : PieceData) : Type 0 where
   pub same : q ≡ record p { pool = q.pool; facts = q.facts }

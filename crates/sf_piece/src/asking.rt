@@ -5,6 +5,7 @@ ghost use Rattle.sf_piece.specs.SymbolicRun.{IsLawfulPiece};
 ghost use Rattle.sf_piece.specs.Works.{HasAtHand, PassesAlways, divides_at};
 ghost use Rattle.sf_piece.specs.SmallSteps.{IsExecuted};
 
+use crate::chains::take_told;
 use crate::deciding::take;
 use crate::executing::{Executed, leave_program, set_a};
 use crate::fault::Fault;
@@ -81,6 +82,7 @@ pub(crate) fn branch(
 {
     if let Some(sense) = foreseen(run, test, other) {
         take(run, insn, sense)?;
+        take_told(run)?;
         return Ok(Executed::Done);
     }
     let Some(right) = operand(alloc, run, other)? else {

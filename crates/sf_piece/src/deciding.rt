@@ -9,6 +9,7 @@ ghost use Rattle.sf_piece.specs.SymbolicRun.{IsLawfulPiece};
 ghost use Rattle.sf_piece.specs.Works.{HasAtHand, IsQuery, AfterTruthValue, HasAdvanced, IsChild, IsForeseen, Asks, IsImplied, AreChildFacts, IsNever, HasOneValue, is_propagated_back, decided_number_of, told_by_numbers};
 ghost use Rattle.sf_piece.specs.SmallSteps.{IsSmallStep};
 
+use crate::chains::take_test;
 use crate::executing::{Executed, execute};
 use crate::fault::Fault;
 use crate::machine::SymbolicMachine;
@@ -35,7 +36,7 @@ pub(crate) enum SmallStep {
 }
 
 /// How many instructions a test skips.
-fn skipped(on_true: u8, on_false: u8, sense: bool) -> u8
+pub(crate) fn skipped(on_true: u8, on_false: u8, sense: bool) -> u8
     ensures { result ≡ (if sense then on_true else on_false) }
 {
     if sense { on_true } else { on_false }
@@ -80,10 +81,7 @@ pub(crate) fn take(run: &mut Run, insn: Insn, sense: bool) -> Result<(), Fault>
     ensures lawful { IfOk result (λ _. IsLawfulPiece run.new) }
 {
     if let Insn::Branch(_, _, on_true, on_false) = insn {
-        let next = skipped(on_true, on_false, sense);
-        run.name.push(sense)?;
-        run.machine.place = run.machine.place + 1 + next as usize;
-        return Ok(());
+        return take_test(run, insn, on_true, on_false, sense);
     }
     let to = after(run, insn, sense);
     run.name.push(sense)?;

@@ -4,6 +4,7 @@
 #![tactic(auto)]
 
 mod asking;
+mod chains;
 mod deciding;
 mod executing;
 mod fault;

@@ -1,25 +1,6 @@
 use Rattle.sf_piece.proofs.Lawful.{lawful_taken}
-use Rattle.sf_piece.proofs.Children.{take_gone, branch_after}
+use Rattle.sf_piece.proofs.Children.{take_gone}
 use Rattle.sf_piece.proofs.deciding.take.Goals as goal
-
-pub returns-in-Branch-clause-gone : goal.returns-in-Branch-clause-gone
-returns-in-Branch-clause-gone c =
-    let lawful = rw (← c.run.view_is) at c.requires.lawful in
-    let standing = rw (← c.run.view_is) at c.requires.standing in
-    let foreseen = rw (← c.run.view_is) at c.requires.foreseen in
-    rw (← c.run.view_is, c.in_ok-push.ensures.ok)
-    (take_gone _ c.args.insn c.args.sense _ lawful.run standing foreseen
-    (rw (← c.run.view_is) at (branch_after c.args.run.now c.args.insn _ _ c.in-Branch.on_true c.in-Branch.on_false
-    c.skipped-next.result c.args.sense c.in-Branch.is c.skipped-next.ensures)))
-
-pub returns-in-Branch-clause-lawful : goal.returns-in-Branch-clause-lawful
-returns-in-Branch-clause-lawful c =
-    let lawful = rw (← c.run.view_is) at c.requires.lawful in
-    let standing = rw (← c.run.view_is) at c.requires.standing in
-    let foreseen = rw (← c.run.view_is) at c.requires.foreseen in
-    rw (c.in_ok-push.ensures.ok) (lawful_taken _ c.args.insn c.args.sense _ lawful standing foreseen
-    (rw (← c.run.view_is) at (branch_after c.args.run.now c.args.insn _ _ c.in-Branch.on_true c.in-Branch.on_false
-    c.skipped-next.result c.args.sense c.in-Branch.is c.skipped-next.ensures)))
 
 pub returns : goal.returns
 returns c =
@@ -27,7 +8,7 @@ returns c =
     let standing = rw (← c.run.view_is) at c.requires.standing in
     let foreseen = rw (← c.run.view_is) at c.requires.foreseen in
     let after = rw (← c.run.view_is) at c.after-to.ensures in
-    rw (← c.run.view_is, c.in_ok-push-2.ensures.ok) (record {
+    rw (← c.run.view_is, c.in_ok-push.ensures.ok) (record {
       gone = take_gone _ c.args.insn c.args.sense c.after-to.result lawful.run standing foreseen after;
       lawful = lawful_taken _ c.args.insn c.args.sense c.after-to.result lawful standing foreseen after;
     })

@@ -1,0 +1,33 @@
+use Rattle.std.proofs.Common.{arith}
+use Rattle.sf_piece.proofs.Lawful.{told_of_known}
+use Rattle.sf_piece.proofs.Joined.{on_same, on_trans, branch_foreseen}
+use Rattle.sf_piece.proofs.chains.take_told.Goals as goal
+
+pub loop-insn-init : goal.loop-insn-init
+loop-insn-init c = record {
+  gone = record { is_on = on_same _; left = omega arith; lawful = c.requires };
+  known = rw (← c.run.view_is) c.known-known.ensures;
+}
+
+pub take_test-requires-clause-foreseen : goal.take_test-requires-clause-foreseen
+take_test-requires-clause-foreseen c =
+    let p = c.loop-insn.run in
+    let inv = c.loop-insn.invariant in
+    let to = c.in-Branch in
+    let number = c.in-Constant in
+    rw to.is at (branch_foreseen p c.in-Some.insn to.test to.other to.on_true to.on_false c.in-Some-told.sense to.is
+    c.in-Some.ensures (told_of_known p to.test to.other number.number c.known-known.result c.in-Some-told.sense
+    inv.gone.lawful.run number.is inv.known c.in-Some-told.ensures))
+
+pub loop-insn-preserved : goal.loop-insn-preserved
+loop-insn-preserved c =
+    let inv = c.loop-insn.invariant in
+    let taken = c.in_ok-take_test.ensures in
+    record {
+      gone = record {
+        is_on = on_trans _ _ _ inv.gone.is_on taken.gone.is_on;
+        left = omega (arith, inv.gone.left, taken.gone.falls);
+        lawful = taken.lawful;
+      };
+      known = rw (taken.facts, taken.a) inv.known;
+    }
