@@ -39,6 +39,13 @@ is_doubt (Some Clear) = false
 is_doubt (Some (Hit d)) = false
 is_doubt (Some Doubt) = true
 
+-- there is neither a hit nor a doubt
+abbrev pub is_clear_or_skipped : Option Verdict → Bool
+is_clear_or_skipped None = true
+is_clear_or_skipped (Some Clear) = true
+is_clear_or_skipped (Some (Hit d)) = false
+is_clear_or_skipped (Some Doubt) = false
+
 -- a question is asked for where its bit is set: bit q % 64 of word q / 64
 abbrev pub is_wanted : List ℕ → ℕ → Bool
 is_wanted wanted q = bit_at (slice_index wanted (q / 64)) (q % 64) == 1

@@ -1,7 +1,8 @@
 //! Sheets of verdicts.
 
 ghost use Rattle.std.specs.Prelude.{◌≡◌, ◌<◌, ◌≤◌, ℕ, not, length, map, IfOk, IfErr, Some, None, slice_get};
-ghost use Rattle.sf_ask.specs.Sheets.{SheetData, verdict_at, is_skipped, is_hit, is_doubt, is_wanted, IsRightWhereGiven, IsRightSheet, HasWanted};
+ghost use Rattle.sf_ask.specs.Sheets.{SheetData, verdict_at, is_skipped, is_hit, is_doubt, is_clear_or_skipped, is_wanted, IsRightWhereGiven, IsRightSheet, HasWanted};
+ghost use Rattle.std.specs.List.{list_all};
 ghost use Rattle.sf_ask.specs.declared.fault.Fault.TheVariants.{Memory};
 
 use crate::fault::Fault;
@@ -21,11 +22,14 @@ pub struct Sheet {
     questions: Vec<Snapshot<Question>>,
     job: usize,
     verdicts: Vec<Option<Verdict>>,
+    // No verdict is a hit or a doubt, as on most sheets: there is nothing to enter then.
+    finds_nothing: bool,
 }
 
 impl Model for Sheet {
-    ghost use Rattle.std.specs.Prelude.{map};
-    ghost use Rattle.sf_ask.specs.Sheets.{SheetData, IsRightSheet};
+    ghost use Rattle.std.specs.Prelude.{◌≡◌, map};
+    ghost use Rattle.std.specs.List.{list_all};
+    ghost use Rattle.sf_ask.specs.Sheets.{SheetData, IsRightSheet, is_clear_or_skipped};
 
     ghost Value = { SheetData };
 
@@ -41,7 +45,7 @@ impl Model for Sheet {
       questions = map (λ q. q.value) s.questions.items;
       job = s.job;
       verdicts = s.verdicts.items;
-    }) };
+    }) × (s.finds_nothing ≡ list_all is_clear_or_skipped s.verdicts.items) };
 }
 
 /// A snapshot of each question; they take no bytes.
@@ -62,6 +66,16 @@ fn asks_for(wanted: &[u64; 4], q: usize) -> bool
     ensures { result ≡ is_wanted wanted.now q }
 {
     (wanted[q / 64] >> (q % 64)) & 1 == 1
+}
+
+/// Whether there is neither a hit nor a doubt.
+fn is_clear(verdict: Option<Verdict>) -> bool
+    ensures { result ≡ is_clear_or_skipped verdict }
+{
+    match verdict {
+        None | Some(Verdict::Clear) => true,
+        Some(Verdict::Hit(_)) | Some(Verdict::Doubt) => false,
+    }
 }
 
 /// The verdict on a question that is asked for, and none on another.
@@ -106,14 +120,18 @@ impl Sheet {
         ensures err { IfErr result (λ f. f ≡ Memory) }
     {
         let mut verdicts = Vec::with_capacity(alloc, questions.len())?;
+        let mut finds_nothing = true;
         for q in 0..questions.len() {
-            verdicts.push(verdict_if_wanted(alloc, settled, job, questions, q, &wanted)?)?;
+            let verdict = verdict_if_wanted(alloc, settled, job, questions, q, &wanted)?;
+            finds_nothing = finds_nothing && is_clear(verdict);
+            verdicts.push(verdict)?;
         }
         Ok(Sheet {
             settled: Snapshot::of(settled),
             questions: snapshots(alloc, questions)?,
             job,
             verdicts,
+            finds_nothing,
         })
     }
 
@@ -141,6 +159,13 @@ impl Sheet {
             self.now.job q result }
     {
         self.verdicts[q]
+    }
+
+    /// Whether there is neither a hit nor a doubt on any question.
+    pub fn finds_nothing(&self) -> bool
+        ensures { result ≡ list_all is_clear_or_skipped self.now.verdicts }
+    {
+        self.finds_nothing
     }
 
     /// Whether there is a hit on the question q.

@@ -22,6 +22,9 @@ impl Board {
         ensures notes { NotesHits sheet.now.verdicts sheet.now.job
             (length sheet.now.questions) seat.old.me.0.notes seat.new.me.0.notes }
     {
+        if sheet.finds_nothing() {
+            return;
+        }
         let job = sheet.job() as u64;
         for q in 0..sheet.question_count() {
             if sheet.is_hit(q) {
@@ -41,6 +44,9 @@ impl Board {
         ensures marks { MarksDoubts sheet.now.verdicts (length sheet.now.questions)
             seat.old.me.0.marked seat.new.me.0.marked }
     {
+        if sheet.finds_nothing() {
+            return;
+        }
         for q in 0..sheet.question_count() {
             if sheet.is_doubt(q) {
                 let word = q / BITS + DOUBTS;

@@ -279,7 +279,7 @@ pub fn exclude(
     Ok(())
 }
 
-/// Where a condition says that two nodes differ, neither is the number of the other, if that is decided.
+/// Two nodes differ, as the condition says: neither is the number of the other, if that is decided.
 pub fn exclude_both(
     alloc: Global,
     excluded: &mut [Exclusions],
@@ -291,17 +291,13 @@ pub fn exclude_both(
     requires words { length excluded.old ≡ 16 }
     requires node { cond.now.node.0 < length pool.now }
     requires other { cond.now.other.0 < length pool.now }
+    requires differ { (cond.now.test ≡ Test.Equal) × (cond.now.sense ≡ false) }
     ensures { IfOk result (λ _. AreBothExcluded nodes.now.known excluded.old excluded.new
         pool.now cond.now) }
 {
     let left = pool.node(cond.node);
     let right = pool.node(cond.other);
-    match (cond.test, cond.sense) {
-        (Test::Equal, false) => {
-            exclude(alloc, excluded, left, nodes.get(cond.other.0))?;
-            exclude(alloc, excluded, right, nodes.get(cond.node.0))?;
-            Ok(())
-        }
-        _ => Ok(()),
-    }
+    exclude(alloc, excluded, left, nodes.get(cond.other.0))?;
+    exclude(alloc, excluded, right, nodes.get(cond.node.0))?;
+    Ok(())
 }

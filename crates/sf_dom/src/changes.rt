@@ -36,7 +36,9 @@ fn with_told(
             exclude_both(alloc, lists.as_mut_slice(), nodes, pool, cond)?;
             Excluded::of(alloc, lists)
         }
-        _ => excluded.copy(),
+        (Test::Equal, true) | (Test::Greater | Test::GreaterOrEqual | Test::AnyBit, _) => {
+            excluded.copy()
+        }
     }
 }
 

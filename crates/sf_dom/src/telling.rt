@@ -148,7 +148,7 @@ fn told_at(
                 None
             }
         }
-        _ => None,
+        Test::Greater | Test::GreaterOrEqual | Test::AnyBit => None,
     }
 }
 
