@@ -1,3 +1,4 @@
 pub mod Words
 pub mod Leasts
 pub mod Searching
+pub mod SheetLemmas

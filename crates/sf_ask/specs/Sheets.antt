@@ -1,5 +1,5 @@
 -- Sheets of verdicts: what contracts see of one, and when it is right.
-use Rattle.std.specs.Prelude.{◌≡◌, ℕ, ◌<◌, ◌/◌, ◌%◌, ◌==◌, not, Bool, true, false, List, length, Option, Some, None, slice_get, slice_index, slice_index_or}
+use Rattle.std.specs.Prelude.{◌≡◌, ℕ, zero, suc, [], ◌∷◌, ◌++◌, if◌then◌else◌, ◌<◌, ◌/◌, ◌%◌, ◌==◌, not, Bool, true, false, List, length, Option, Some, None, slice_get, slice_index, slice_index_or}
 use Rattle.std.specs.Int.{bit_at}
 use Rattle.sf_insn.specs.declared.input.Input.{Input}
 use Rattle.sf_check.specs.Stacks.{IsPlain}
@@ -49,6 +49,20 @@ is_clear_or_skipped (Some Doubt) = false
 -- a question is asked for where its bit is set: bit q % 64 of word q / 64
 abbrev pub is_wanted : List ℕ → ℕ → Bool
 is_wanted wanted q = bit_at (slice_index wanted (q / 64)) (q % 64) == 1
+
+-- a question that is clear where it is asked for
+abbrev pub clear_if_wanted : List ℕ → ℕ → Option Verdict
+clear_if_wanted wanted q = if is_wanted wanted q then Some Clear else None
+
+-- so many of these, from the first question on
+abbrev pub first_verdicts : List ℕ → ℕ → List (Option Verdict)
+first_verdicts wanted zero = []
+first_verdicts wanted (suc n) = first_verdicts wanted n ++ clear_if_wanted wanted n ∷ []
+
+-- the verdicts of a sheet: where none is listed, each question that is asked for is clear
+abbrev pub shown_verdicts : List ℕ → ℕ → Option (List (Option Verdict)) → List (Option Verdict)
+shown_verdicts wanted n None = first_verdicts wanted n
+shown_verdicts wanted n (Some listed) = listed
 
 -- a member of the region at a place breaks the question of a number
 pub record IsBreakOf (s : BookData) (questions : List QuestionData) (place q : ℕ) (d : Input) : Type 0 where

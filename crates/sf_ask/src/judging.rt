@@ -1,6 +1,6 @@
 //! Verdicts on regions.
 
-ghost use Rattle.std.specs.Prelude.{◌≡◌, ◌<◌, ℕ, true, List, length, slice_get, slice_index, Some, IfOk, IfErr, MatchOption};
+ghost use Rattle.std.specs.Prelude.{◌≡◌, ◌<◌, ℕ, true, List, length, slice_get, slice_index, Some, IfOk, IfErr, IsTrue, MatchOption};
 ghost use Rattle.std.specs.Arc.{arc_value};
 ghost use Rattle.sf_insn.specs.Inputs.{IsInput};
 ghost use Rattle.sf_insn.specs.declared.input.Input.{Input as AnInput};
@@ -81,6 +81,19 @@ fn search(alloc: Global, piece: &Piece, question: &Question) -> Result<Verdict, 
         return Ok(Verdict::Clear);
     }
     try_least(alloc, piece, question)
+}
+
+/// Whether the verdict on the settled region at this place is clear at once: its action isn't asked about, or what is known
+/// of some word rules out the word's range. False tells nothing.
+pub(crate) fn is_clear_at_once(settled: &Settled, region: usize, question: &Question) -> bool
+    requires { region < length settled.now.regions }
+    ensures { IsTrue result → IsRightVerdict settled.now region question.now Verdict.Clear }
+{
+    let settled_region = settled.region(region);
+    if question.actions().has(settled_region.answer().action) {
+        return rules_out(settled_region.piece().facts(), question);
+    }
+    true
 }
 
 /// The verdict on the settled region at this place in the order of names. The caller's condition: there is a region at

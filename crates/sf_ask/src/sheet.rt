@@ -1,12 +1,12 @@
 //! Sheets of verdicts.
 
-ghost use Rattle.std.specs.Prelude.{◌≡◌, ◌<◌, ◌≤◌, ℕ, not, length, map, IfOk, IfErr, Some, None, slice_get};
-ghost use Rattle.sf_ask.specs.Sheets.{SheetData, verdict_at, is_skipped, is_hit, is_doubt, is_clear_or_skipped, is_wanted, IsRightWhereGiven, IsRightSheet, HasWanted};
+ghost use Rattle.std.specs.Prelude.{◌≡◌, ◌<◌, ◌≤◌, ℕ, not, length, map, IfOk, IfErr, IsTrue, Some, None, slice_get};
+ghost use Rattle.sf_ask.specs.Sheets.{SheetData, verdict_at, clear_if_wanted, first_verdicts, is_skipped, is_hit, is_doubt, is_clear_or_skipped, is_wanted, IsRightWhereGiven, IsRightSheet, HasWanted};
 ghost use Rattle.std.specs.List.{list_all};
 ghost use Rattle.sf_ask.specs.declared.fault.Fault.TheVariants.{Memory};
 
 use crate::fault::Fault;
-use crate::judging::judge;
+use crate::judging::{is_clear_at_once, judge};
 use crate::question::Question;
 use crate::verdict::Verdict;
 use sf_book::Settled;
@@ -21,15 +21,16 @@ pub struct Sheet {
     settled: Snapshot<Settled>,
     questions: Vec<Snapshot<Question>>,
     job: usize,
-    verdicts: Vec<Option<Verdict>>,
-    // No verdict is a hit or a doubt, as on most sheets: there is nothing to enter then.
+    wanted: [u64; 4],
+    // None where each question that is asked for is clear at once, as on most sheets.
+    verdicts: Option<Vec<Option<Verdict>>>,
     finds_nothing: bool,
 }
 
 impl Model for Sheet {
-    ghost use Rattle.std.specs.Prelude.{◌≡◌, map};
+    ghost use Rattle.std.specs.Prelude.{◌≡◌, ◌≤◌, length, map, option_map};
     ghost use Rattle.std.specs.List.{list_all};
-    ghost use Rattle.sf_ask.specs.Sheets.{SheetData, IsRightSheet, is_clear_or_skipped};
+    ghost use Rattle.sf_ask.specs.Sheets.{SheetData, IsRightSheet, is_clear_or_skipped, shown_verdicts};
 
     ghost Value = { SheetData };
 
@@ -37,15 +38,19 @@ impl Model for Sheet {
       settled = s.settled.value;
       questions = map (λ q. q.value) s.questions.items;
       job = s.job;
-      verdicts = s.verdicts.items;
+      verdicts = shown_verdicts s.wanted (length s.questions.items)
+          (option_map (λ v. v.items) s.verdicts);
     } };
 
     ghost invariant = { λ s. IsRightSheet (record {
       settled = s.settled.value;
       questions = map (λ q. q.value) s.questions.items;
       job = s.job;
-      verdicts = s.verdicts.items;
-    }) × (s.finds_nothing ≡ list_all is_clear_or_skipped s.verdicts.items) };
+      verdicts = shown_verdicts s.wanted (length s.questions.items)
+          (option_map (λ v. v.items) s.verdicts);
+    }) × (s.finds_nothing ≡ list_all is_clear_or_skipped
+        (shown_verdicts s.wanted (length s.questions.items)
+        (option_map (λ v. v.items) s.verdicts))) × (length s.questions.items ≤ 256) };
 }
 
 /// A snapshot of each question; they take no bytes.
@@ -100,6 +105,105 @@ fn verdict_if_wanted(
     Ok(Some(verdict))
 }
 
+/// Whether a question is skipped, or the verdict on it is clear at once.
+fn is_skipped_or_clear(
+    settled: &Settled,
+    job: usize,
+    questions: &[Question],
+    q: usize,
+    wanted: &[u64; 4],
+) -> bool
+    requires job { job < length settled.now.regions }
+    requires question { (q < length questions.now) × (q < 256) }
+    ensures { IsTrue result → IsRightWhereGiven settled.now questions.now job q
+        (clear_if_wanted wanted.now q) }
+{
+    if !asks_for(wanted, q) {
+        return true;
+    }
+    is_clear_at_once(settled, job, &questions[q])
+}
+
+/// How many questions, from the first on, are skipped or clear at once.
+fn clear_count(settled: &Settled, job: usize, questions: &[Question], wanted: &[u64; 4]) -> usize
+    requires job { job < length settled.now.regions }
+    requires questions { length questions.now ≤ 256 }
+    ensures within { result ≤ length questions.now }
+    ensures right { (q : ℕ) → q < result → IsRightWhereGiven settled.now questions.now job q
+        (clear_if_wanted wanted.now q) }
+{
+    for q in 0..questions.len() {
+        if !is_skipped_or_clear(settled, job, questions, q, wanted) {
+            return q;
+        }
+    }
+    questions.len()
+}
+
+/// The verdict on a question that is clear where it is asked for.
+fn clear_verdict(wanted: &[u64; 4], q: usize) -> Option<Verdict>
+    requires { q < 256 }
+    ensures { result ≡ clear_if_wanted wanted.now q }
+{
+    if asks_for(wanted, q) {
+        Some(Verdict::Clear)
+    } else {
+        None
+    }
+}
+
+/// The verdicts on so many questions that are skipped or clear at once, with room for `count`.
+fn clear_verdicts(
+    alloc: Global,
+    wanted: &[u64; 4],
+    clear: usize,
+    count: usize,
+) -> Result<Vec<Option<Verdict>>, Fault>
+    requires { clear ≤ 256 }
+    ensures each { IfOk result (λ v. v.items ≡ first_verdicts wanted.now clear) }
+    ensures err { IfErr result (λ f. f ≡ Memory) }
+{
+    let mut verdicts = Vec::with_capacity(alloc, count)?;
+    for q in 0..clear {
+        verdicts.push(clear_verdict(wanted, q))?;
+    }
+    Ok(verdicts)
+}
+
+/// A verdict on each question that is asked for, of which the first ones are clear at once.
+fn verdicts_on(
+    alloc: Global,
+    settled: &Settled,
+    job: usize,
+    questions: &[Question],
+    wanted: &[u64; 4],
+    clear: usize,
+) -> Result<Vec<Option<Verdict>>, Fault>
+    requires job { job < length settled.now.regions }
+    requires questions { (clear ≤ length questions.now) × (length questions.now ≤ 256) }
+    requires clear { (q : ℕ) → q < clear → IsRightWhereGiven settled.now questions.now job q
+        (clear_if_wanted wanted.now q) }
+    ensures each { IfOk result (λ v. length v.items ≡ length questions.now) }
+    ensures right { IfOk result (λ v. (q : ℕ) → q < length questions.now
+        → IsRightWhereGiven settled.now questions.now job q (verdict_at v.items q)) }
+    ensures wanted { IfOk result (λ v. (q : ℕ) → q < length questions.now
+        → is_skipped (verdict_at v.items q) ≡ not (is_wanted wanted.now q)) }
+    ensures err { IfErr result (λ f. f ≡ Memory) }
+{
+    let mut verdicts = clear_verdicts(alloc, wanted, clear, questions.len())?;
+    for q in clear..questions.len() {
+        verdicts.push(verdict_if_wanted(alloc, settled, job, questions, q, wanted)?)?;
+    }
+    Ok(verdicts)
+}
+
+/// Whether there is neither a hit nor a doubt among the verdicts.
+fn are_clear(verdicts: &[Option<Verdict>]) -> bool
+    ensures { result ≡ list_all is_clear_or_skipped verdicts.now }
+{
+    verdicts.iter().all(|verdict| is_clear(*verdict))
+}
+
 impl Sheet {
     /// The sheet of the region at the place `job`, with a verdict on each question that `wanted` asks for: question q
     /// has bit q % 64 of word q / 64, and bits past the last question are ignored. The caller's conditions: there is a
@@ -119,18 +223,25 @@ impl Sheet {
         ensures wanted { IfOk result (HasWanted wanted) }
         ensures err { IfErr result (λ f. f ≡ Memory) }
     {
-        let mut verdicts = Vec::with_capacity(alloc, questions.len())?;
-        let mut finds_nothing = true;
-        for q in 0..questions.len() {
-            let verdict = verdict_if_wanted(alloc, settled, job, questions, q, &wanted)?;
-            finds_nothing = finds_nothing && is_clear(verdict);
-            verdicts.push(verdict)?;
+        let clear = clear_count(settled, job, questions, &wanted);
+        if clear == questions.len() {
+            return Ok(Sheet {
+                settled: Snapshot::of(settled),
+                questions: snapshots(alloc, questions)?,
+                job,
+                wanted,
+                verdicts: None,
+                finds_nothing: true,
+            });
         }
+        let listed = verdicts_on(alloc, settled, job, questions, &wanted, clear)?;
+        let finds_nothing = are_clear(listed.as_slice());
         Ok(Sheet {
             settled: Snapshot::of(settled),
             questions: snapshots(alloc, questions)?,
             job,
-            verdicts,
+            wanted,
+            verdicts: Some(listed),
             finds_nothing,
         })
     }
@@ -148,7 +259,7 @@ impl Sheet {
         ensures count { result ≡ length self.now.questions }
         ensures right { IsRightSheet self.now }
     {
-        self.verdicts.len()
+        self.questions.len()
     }
 
     /// The verdict on the question q, or none where it was skipped.
@@ -158,7 +269,10 @@ impl Sheet {
         ensures right { IsRightWhereGiven self.now.settled self.now.questions
             self.now.job q result }
     {
-        self.verdicts[q]
+        match &self.verdicts {
+            Some(listed) => listed[q],
+            None => clear_verdict(&self.wanted, q),
+        }
     }
 
     /// Whether there is neither a hit nor a doubt on any question.

@@ -1,0 +1,66 @@
+-- The verdicts on questions that are clear at once.
+use Rattle.std.proofs.Common.{◌≡◌, ℕ, zero, suc, ◌+◌, ◌<◌, ◌≤◌, not, Bool, true, false, List, [], ◌∷◌, ◌++◌, length, Some, None, refl, ap, ◌∙◌, inl, inr, ◌⊎◌, arith, length-append}
+use Rattle.std.specs.Prelude.{slice_get, if◌then◌else◌}
+use Rattle.std.specs.List.{list_all}
+use Rattle.std.proofs.lemmas.List.{get_or_append_left, get_or_push}
+use Rattle.std.proofs.lemmas.List.Folds.{list_all-append}
+use Rattle.std.proofs.lemmas.Bool.{cases_lt}
+use Rattle.sf_book.specs.Books.{BookData}
+use Rattle.sf_ask.specs.declared.verdict.Verdict.TheVariants.{Clear}
+use Rattle.sf_ask.specs.QuestionData.{QuestionData}
+use Rattle.sf_ask.specs.Verdicts.{IsRightVerdict}
+use Rattle.sf_ask.specs.Sheets.{verdict_at, is_wanted, is_skipped, is_clear_or_skipped, clear_if_wanted, first_verdicts, IsRightWhereGiven}
+
+pub first-length : (wanted : List ℕ) (n : ℕ) → length (first_verdicts wanted n) ≡ n
+first-length wanted zero = refl
+first-length wanted (suc n) = omega (
+  arith,
+  first-length wanted n,
+  length-append (first_verdicts wanted n) (clear_if_wanted wanted n ∷ []),
+)
+
+pub first-at : (wanted : List ℕ) (n q : ℕ) → q < n → verdict_at (first_verdicts wanted n) q ≡ clear_if_wanted wanted q
+first-at wanted zero q h = absurd (omega arith)
+first-at wanted (suc n) q h = by (cases_lt q n) (first-at wanted n q)
+  where
+    by : (q < n) ⊎ (n ≤ q) → (q < n → verdict_at (first_verdicts wanted n) q ≡ clear_if_wanted wanted q)
+        → verdict_at (first_verdicts wanted (suc n)) q ≡ clear_if_wanted wanted q
+    by (inl less) before =
+        get_or_append_left (first_verdicts wanted n) (clear_if_wanted wanted n ∷ []) None q
+        (omega (arith, less, first-length wanted n)) ∙ before less
+    by (inr last) before =
+        let same : n ≡ q = omega (arith, last, h) in
+        get_or_push (first_verdicts wanted n) (clear_if_wanted wanted n) None q
+        (first-length wanted n ∙ same) ∙ ap (clear_if_wanted wanted) same
+
+pub first-more : (wanted : List ℕ) (n : ℕ)
+    → first_verdicts wanted n ++ clear_if_wanted wanted n ∷ [] ≡ first_verdicts wanted (n + 1)
+first-more wanted n = let next : suc n ≡ n + 1 = omega arith in ap (first_verdicts wanted) next
+
+of-clear : (b : Bool) → is_clear_or_skipped (if b then Some Clear else None) ≡ true
+of-clear true = refl
+of-clear false = refl
+
+pub first-clear : (wanted : List ℕ) (n : ℕ) → list_all is_clear_or_skipped (first_verdicts wanted n) ≡ true
+first-clear wanted zero = refl
+first-clear wanted (suc n) =
+    list_all-append is_clear_or_skipped (first_verdicts wanted n) (clear_if_wanted wanted n ∷ [])
+    ∙ rw (first-clear wanted n, of-clear (is_wanted wanted n)) refl
+
+pub skipped : (wanted : List ℕ) (q : ℕ) → is_skipped (clear_if_wanted wanted q) ≡ not (is_wanted wanted q)
+skipped wanted q = by (is_wanted wanted q)
+  where
+    by : (b : Bool) → is_skipped (if b then Some Clear else None) ≡ not b
+    by true = refl
+    by false = refl
+
+pub right-if-wanted : (s : BookData) (questions : List QuestionData) (job q : ℕ) (question : QuestionData)
+    (wanted : List ℕ) → slice_get questions q ≡ Some question
+    → (is_wanted wanted q ≡ true → IsRightVerdict s job question Clear)
+    → IsRightWhereGiven s questions job q (clear_if_wanted wanted q)
+right-if-wanted s questions job q question wanted asked right = by (is_wanted wanted q) right
+  where
+    by : (b : Bool) → (b ≡ true → IsRightVerdict s job question Clear)
+        → IsRightWhereGiven s questions job q (if b then Some Clear else None)
+    by true right = record { question = question; asked = asked; right = right refl; tried = tt; decisive = λ p. tt }
+    by false right = tt

@@ -1,0 +1,23 @@
+use Rattle.std.proofs.Common.{◌<◌, Option, length, map, sym, subst, ◌∙◌, arith}
+use Rattle.std.proofs.lemmas.List.{length-map}
+use Rattle.sf_ask.specs.declared.verdict.Verdict.{Verdict}
+use Rattle.sf_ask.specs.Sheets.{IsRightWhereGiven}
+use Rattle.sf_ask.proofs.SheetLemmas.{first-at}
+use Rattle.sf_ask.proofs.sheet.Sheet.verdict.Goals as goal
+
+pub returns-in-None-clause-value : goal.returns-in-None-clause-value
+returns-in-None-clause-value c =
+    let below : c.args.q < length c.self.inside.questions.items =
+    omega (arith, rw (← c.self.view_is) at c.requires, length-map c.self.inside.questions.items (λ q. q.value)) in
+    rw (← c.self.view_is, c.in-None.is) (c.clear_verdict.ensures ∙ sym (first-at c.self.inside.wanted
+    (length c.self.inside.questions.items) c.args.q below))
+
+pub returns-in-None-clause-right : goal.returns-in-None-clause-right
+returns-in-None-clause-right c =
+    let n = length c.self.inside.questions.items in
+    let h = rw (← c.self.view_is) at c.requires in
+    let below : c.args.q < n = omega (arith, h, length-map c.self.inside.questions.items (λ q. q.value)) in
+    let right = rw c.in-None.is at (c.self.invariant.0.right c.args.q h) in
+    rw (← c.self.view_is) (subst (λ (v : Option Verdict). IsRightWhereGiven c.self.inside.settled.value
+    (map (λ q. q.value) c.self.inside.questions.items) c.self.inside.job c.args.q v)
+    (first-at c.self.inside.wanted n c.args.q below ∙ sym c.clear_verdict.ensures) right)
