@@ -93,8 +93,10 @@ impl Book {
             × (b ≡ fresh (arc_value stack) r budget)) }
         ensures err { IfErr result (λ f. f ≡ Memory) }
     {
+        // For the prover: the stack is lawful.
         let _programs = stack.programs();
         let piece = root(alloc, &stack)?;
+        // For the prover: the first piece is named truly.
         let _name = piece.name();
         let outstanding = OutstandingPieces::open(alloc, 0, piece)?;
         Ok(Book {

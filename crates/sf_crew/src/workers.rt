@@ -137,6 +137,7 @@ impl Worker {
         ensures err { IfErr result (λ f. f ≡ Memory) }
     {
         let work = advance(alloc, piece)?;
+        // For the prover: the work is right for its piece.
         let _piece = work.piece();
         let children = children_of(&work)?;
         gate.pass(self.number, call);
@@ -311,6 +312,7 @@ pub fn visit<R: Wait, F: FnOnce(&Book)>(rt: &R, book: &Mutex<Book>, f: F)
     ensures { (b : Bor BookData) × IsLawfulBook b.now × F.post f b result }
 {
     let guard = book.lock(rt);
+    // For the prover: the book is lawful.
     let _counts = guard.counts();
     f(&guard);
 }

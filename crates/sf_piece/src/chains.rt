@@ -28,6 +28,7 @@ pub(crate) fn take_test(
     ensures facts { IfOk result (λ _. run.new.facts ≡ run.old.facts) }
     ensures a { IfOk result (λ _. run.new.machine.a ≡ run.old.machine.a) }
 {
+    // For the prover: only clauses speak of it.
     let _insn = insn;
     let next = skipped(on_true, on_false, sense);
     run.name.push(sense)?;

@@ -179,6 +179,7 @@ fn go(run: &mut Run, insn: Insn, to: SymbolicMachine)
     ensures gone { HasAdvanced run.old run.new }
     ensures lawful { IsLawfulPiece run.new }
 {
+    // For the prover: only clauses speak of it.
     let _insn = insn;
     run.machine = to;
 }
@@ -191,6 +192,7 @@ pub(crate) fn leave_program(run: &mut Run, insn: Insn, value: u32)
     ensures gone { HasAdvanced run.old run.new }
     ensures lawful { IsLawfulPiece run.new }
 {
+    // For the prover: only clauses speak of it.
     let _insn = insn;
     run.machine = run.machine.returned(value);
 }

@@ -20,6 +20,7 @@ use std::sync::Arc;
 pub fn root(alloc: Global, stack: &Arc<Stack>) -> Result<Arc<Piece>, Fault>
     ensures { IfOk result (λ p. IsRoot (arc_value stack.now) (arc_value p)) }
 {
+    // For the prover: the stack is lawful.
     let _programs = stack.programs();
     let mut pool = Pool::new(alloc)?;
     let zero = pool.push(Node::Const(0))?;
