@@ -12,11 +12,8 @@ use Rattle.sf_sym.specs.ValueLaws.{value-node, value-constant}
 use Rattle.sf_sym.specs.declared.pool.Node.{Node}
 use Rattle.sf_dom.specs.declared.known.Known.{Known}
 use Rattle.sf_dom.specs.Known.{Admits, Leaves, IsConsistent}
+use Rattle.sf_dom.specs.WordFacts.{AgreesOnWords}
 use Rattle.sf_dom.specs.Facts.{FactsView, known_at, numbers_at, AgreesWith, Agrees, AreFacts, Covers, SomeInput}
-
--- an input agrees on the words
-abbrev pub AgreesOnWords : FactsView → Input → Type 0
-AgreesOnWords f d = (w : ℕ) → w < 16 → Leaves (known_at f.known w) (numbers_at f.excluded w) (slice_index d.words w)
 
 -- no bit is in a number and in its complement
 pub bit_at-complement : (c i : ℕ) → c < 2 ^ 32 → bit_at (4294967295 - c) i + bit_at c i ≤ 1

@@ -40,7 +40,7 @@ pub struct Variable {
 /// told in blocks that forks share. The others are the variables: they alone can gain, and may be gone over alone.
 #[derive(Drop)]
 pub struct Nodes {
-    slots: SharedList<Slot, 4>,
+    slots: SharedList<Slot, 1>,
     variables: Vec<Variable>,
 }
 

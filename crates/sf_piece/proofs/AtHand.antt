@@ -16,7 +16,8 @@ use Rattle.sf_run.specs.Machine.{start}
 use Rattle.sf_run.specs.Answers.{IsAnswer}
 use Rattle.sf_run.specs.AnswerLaws.{answer_none}
 use Rattle.sf_run.specs.Routes.{IsWholeRoute, AreWays}
-use Rattle.sf_run.specs.RunLaws.{IsReachable, safe_start, load_is_set}
+use Rattle.sf_run.specs.RunLaws.{safe_start, load_is_set}
+use Rattle.sf_run.specs.Reachable.{IsReachable}
 use Rattle.sf_run.specs.TraceLaws.{newest_first}
 use Rattle.sf_sym.specs.declared.pool.Node.{Node}
 use Rattle.sf_sym.specs.declared.pool.NodeId.{NodeId}

@@ -4,7 +4,7 @@ use Rattle.std.specs.List.{AllByRecursion}
 use Rattle.sf_insn.specs.declared.input.Input.{Input}
 use Rattle.sf_check.specs.declared.insn.Insn.{Insn}
 use Rattle.sf_run.specs.Machine.{State}
-use Rattle.sf_run.specs.RunLaws.{IsReachable}
+use Rattle.sf_run.specs.Reachable.{IsReachable}
 use Rattle.sf_sym.specs.declared.pool.Node.{Node}
 use Rattle.sf_sym.specs.declared.pool.NodeId.{NodeId}
 use Rattle.sf_sym.specs.declared.pool.Cond.{Cond}

@@ -17,7 +17,8 @@ use Rattle.sf_check.specs.ContainsLaws.{contains_here, any_cons}
 use Rattle.sf_check.specs.ProgramLaws.{successors_inside, below_in}
 use Rattle.sf_run.specs.Machine.{State, Progress, goes, returns, stuck, bits, insn_progress, step}
 use Rattle.sf_run.specs.Routes.{MayMeet}
-use Rattle.sf_run.specs.RunLaws.{IsReachable, safe_next, step_is}
+use Rattle.sf_run.specs.RunLaws.{safe_next, step_is}
+use Rattle.sf_run.specs.Reachable.{IsReachable}
 use Rattle.sf_run.specs.TraceLaws.{step_allowed}
 use Rattle.sf_sym.specs.declared.pool.Cond.{Cond}
 use Rattle.sf_sym.specs.Pool.{value_of, IsCondBelow}

@@ -11,7 +11,8 @@ use Rattle.sf_run.specs.Machine.{State, goes, returns, start, insn_progress, ste
 use Rattle.sf_run.specs.Answers.{IsAnswer}
 use Rattle.sf_run.specs.AnswerLaws.{answer_more}
 use Rattle.sf_run.specs.Routes.{MayMeet, returns_at, goes_on, AreWays, IsWholeRoute}
-use Rattle.sf_run.specs.RunLaws.{IsReachable, safe_start, run_more, run_ends, run_same, lawful_ends}
+use Rattle.sf_run.specs.RunLaws.{safe_start, run_more, run_ends, run_same, lawful_ends}
+use Rattle.sf_run.specs.Reachable.{IsReachable}
 use Rattle.sf_sym.specs.declared.pool.Cond.{Cond}
 use Rattle.sf_sym.specs.Pool.{value_of}
 use Rattle.sf_dom.specs.Facts.{FactsView}

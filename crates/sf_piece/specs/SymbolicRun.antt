@@ -15,7 +15,7 @@ use Rattle.sf_check.specs.Stacks.{IsLawfulStack, IsPlain}
 use Rattle.sf_run.specs.Machine.{State, Progress, goes, returns, stuck, step, run_for, met_by, return_of, trace_of, returns_of}
 use Rattle.sf_run.specs.Answers.{IsAnswer}
 use Rattle.sf_run.specs.Routes.{IsWay, AreWays, IsWholeRoute}
-use Rattle.sf_run.specs.RunLaws.{IsReachable}
+use Rattle.sf_run.specs.Reachable.{IsReachable}
 use Rattle.sf_sym.specs.declared.pool.Node.{Node}
 use Rattle.sf_sym.specs.declared.pool.NodeId.{NodeId}
 use Rattle.sf_sym.specs.Pool.{IsPool, value_of, IsCondBelow}

@@ -1,6 +1,6 @@
 //! The symbolic run of a piece.
 
-ghost use Rattle.std.specs.Prelude.{◌≡◌, ◌<◌, IfOk, MatchOption, length};
+ghost use Rattle.std.specs.Prelude.{◌≡◌, ◌<◌, IfOk, IfSome, MatchOption, length};
 
 use crate::fault::Fault;
 use crate::machine::SymbolicMachine;
@@ -8,14 +8,14 @@ use crate::name::Name;
 use sf_blocks::shared::SharedList;
 use sf_check::{Insn, Stack};
 use sf_dom::Facts;
-use sf_run::Answer;
+use sf_run::{Answer, fold};
 use sf_sym::{Cond, Pool};
 use std::alloc::Global;
 use std::marker::Model;
 use std::sync::Arc;
 
 /// Path conditions, the oldest first; full blocks of 64 are shared with the pieces below.
-pub(crate) type Conditions = SharedList<Cond, 8>;
+pub(crate) type Conditions = SharedList<Cond, 1>;
 
 /// The run behind a piece: what is in its name and its conditions so far, where the machine stands, and what is known of
 /// its words. It is worked where it stands, and between its steps it needn't be lawful; a piece keeps a lawful one.
@@ -76,6 +76,22 @@ impl Run {
         } else {
             None
         }
+    }
+
+    /// The answer of the stack, where the instruction at hand is the last program's return of a constant. Nothing is left to
+    /// run then, and the name is whole.
+    pub(crate) fn answer_at_hand(&self) -> Option<Answer>
+        requires { IsLawfulPiece self.now }
+        ensures { IfSome result (λ a. IsRightAnswer self.now self.now.name a) }
+    {
+        let insn = self.insn()?;
+        if self.machine.program + 1 < self.stack.programs().len() {
+            return None;
+        }
+        let Insn::ReturnConstant(value) = insn else {
+            return None;
+        };
+        Some(fold(self.machine.so_far, value))
     }
 
     /// The name, and the answer of the programs that have returned.

@@ -1,2 +1,2 @@
 pub mod IndexLemmas
-mod Folds
+pub mod Folds

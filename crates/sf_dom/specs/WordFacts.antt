@@ -1,0 +1,9 @@
+-- What facts ask of the words of an input alone.
+use Rattle.std.specs.Prelude.{ℕ, ◌<◌, slice_index}
+use Rattle.sf_insn.specs.declared.input.Input.{Input}
+use Rattle.sf_dom.specs.Known.{Leaves}
+use Rattle.sf_dom.specs.Facts.{FactsView, known_at, numbers_at}
+
+-- an input agrees on the words
+abbrev pub AgreesOnWords : FactsView → Input → Type 0
+AgreesOnWords f d = (w : ℕ) → w < 16 → Leaves (known_at f.known w) (numbers_at f.excluded w) (slice_index d.words w)
