@@ -8,7 +8,8 @@ use Rattle.std.proofs.lemmas.List.{get_or_default}
 use Rattle.sf_run.specs.declared.action.Answer.{Answer}
 use Rattle.sf_check.specs.declared.insn.Insn.{Insn}
 use Rattle.sf_check.specs.Stacks.{IsLawfulStack}
-use Rattle.sf_book.specs.PartitionLaws.{bit, hits, prefix-refl}
+use Rattle.sf_book.specs.PartitionLaws.{prefix-refl}
+use Rattle.sf_book.specs.PrefixCounts.{bit, hits}
 use Rattle.sf_book.proofs.Names.{prefix-append}
 use Rattle.sf_book.proofs.MapLemmas.{some_inj}
 use Rattle.sf_piece.specs.Pieces.{PieceData, WorkData, is_prefix, IsTrulyNamed, IsRightSplit, IsRightAnswer, HasNoMember, IsRoot}

@@ -15,7 +15,7 @@ use Rattle.sf_run.specs.declared.action.Answer.{Answer}
 use Rattle.sf_run.specs.Machine.{trace_of}
 use Rattle.sf_piece.specs.Pieces.{PieceData, is_member, is_prefix, IsTrulyNamed, IsRightSplit, IsRightAnswer, HasNoMember, IsRoot}
 use Rattle.sf_book.specs.Books.{OutstandingData, RegionData, BookData, IsOutstanding, IsRightRegion, IsNoBeginning, HasRisingIds, IsLawfulBook, fresh}
-use Rattle.sf_book.specs.PartitionLaws.{bit, hits}
+use Rattle.sf_book.specs.PrefixCounts.{bit, hits}
 use Rattle.sf_book.proofs.Names.{split_members, split_names, same_members, answer_members, answer_begins, hits-le}
 use Rattle.sf_book.proofs.Lists.{remove_without, HasRisingIds-filter, HasRisingIds-push, HasRisingIds-map, sum_by-map_same}
 

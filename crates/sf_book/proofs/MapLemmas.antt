@@ -171,11 +171,11 @@ marked_known : (b : Bool) (w m n : LeaseState) (o : Option LeaseState) → cond 
 marked_known true w m n o h same = inl (refl, sym same ∙ ap (λ x. x.id) (some_inj w n h))
 marked_known false w m n o h same = inr (refl, h)
 
-pub marked_shelf : (ids : Ids) (names : Names) (i : ℕ) (p : PieceData) (m : LeaseState) (on : Bool)
+pub leased_maps : (ids : Ids) (names : Names) (i : ℕ) (p : PieceData) (m : LeaseState) (on : Bool)
     → AreMatchingMaps ids names
     → piece_at ids i ≡ Some p → lease_state_of names p ≡ Some m
     → AreMatchingMaps ids (marked names p m on)
-marked_shelf ids names i p m on h at is =
+leased_maps ids names i p m on h at is =
     let w : LeaseState = record { id = m.id; leased = on } in
     record {
       rising = h.rising;
@@ -214,8 +214,8 @@ from_off : (o : Option LeaseState) (n : LeaseState) → option_map off o ≡ Som
 from_off None n h = absurd (cc)
 from_off (Some m) n h = (m, refl, ap (λ x. x.id) (some_inj (off m) n h))
 
-pub recalled_shelf : (ids : Ids) (names : Names) → AreMatchingMaps ids names → AreMatchingMaps ids (all_off names)
-recalled_shelf ids names h = record {
+pub recalled_maps : (ids : Ids) (names : Names) → AreMatchingMaps ids names → AreMatchingMaps ids (all_off names)
+recalled_maps ids names h = record {
   rising = h.rising;
   sorted = subst (λ ks. IsStrictlySortedBy name_cmp ks) (sym (keys_off names)) h.sorted;
   named = λ j q at. let n = h.named j q at in (off n.0, off_mark names q ∙ ap (option_map off) n.1, n.2);

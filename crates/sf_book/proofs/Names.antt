@@ -4,7 +4,8 @@ use Rattle.sf_insn.specs.declared.input.Input.{Input}
 use Rattle.sf_insn.specs.Inputs.{IsInput}
 use Rattle.sf_run.specs.declared.action.Answer.{Answer}
 use Rattle.sf_run.specs.Machine.{trace_of}
-use Rattle.sf_book.specs.PartitionLaws.{bit, hits, prefix-refl}
+use Rattle.sf_book.specs.PartitionLaws.{prefix-refl}
+use Rattle.sf_book.specs.PrefixCounts.{bit, hits}
 use Rattle.sf_piece.specs.Pieces.{PieceData, is_member, is_prefix, IsTrulyNamed, IsRightSplit, IsRightAnswer}
 
 pub bit-le : (b : Bool) → bit b ≤ 1

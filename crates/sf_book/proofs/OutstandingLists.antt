@@ -116,9 +116,9 @@ pick_yes false a o h = absurd (cc)
 id_same : (i j : ℕ) → is_at (nat_cmp i) j ≡ true → i ≡ j
 id_same i j h = grind (arith, nat_tests)
 
-pub added_shelf : (ids : Ids) (names : Names) (i : ℕ) (p : PieceData) (on : Bool) (ids' : Ids) (names' : Names)
+pub added_maps : (ids : Ids) (names : Names) (i : ℕ) (p : PieceData) (on : Bool) (ids' : Ids) (names' : Names)
     → AreMatchingMaps ids names → IsAdded ids names i p on ids' names' → AreMatchingMaps ids' names'
-added_shelf ids names i p on ids' names' h a = record {
+added_maps ids names i p on ids' names' h a = record {
   rising = a.rising;
   sorted = a.sorted;
   named = λ j q at.
@@ -183,10 +183,10 @@ pub record IsTaken (ids : Ids) (names : Names) (i : ℕ) (p : PieceData) (ids' :
   pub rising : IsStrictlySortedBy nat_cmp (keys_of ids')
   pub sorted : IsStrictlySortedBy name_cmp (keys_of names')
 
-pub taken_shelf : (ids : Ids) (names : Names) (i : ℕ) (p : PieceData) (ids' : Ids) (names' : Names)
+pub taken_maps : (ids : Ids) (names : Names) (i : ℕ) (p : PieceData) (ids' : Ids) (names' : Names)
     → AreMatchingMaps ids names
     → IsTaken ids names i p ids' names' → AreMatchingMaps ids' names'
-taken_shelf ids names i p ids' names' h a = record {
+taken_maps ids names i p ids' names' h a = record {
   rising = a.rising;
   sorted = a.sorted;
   named = λ j q at.
@@ -218,12 +218,12 @@ rising_above i (e ∷ ids) names h = (below i e.0 h.0, rising_above i ids names 
     below i j h = grind (arith, nat_tests)
 
 -- the ids rise
-pub shelf_rising : (ids : Ids) (names : Names) → IsStrictlySortedBy nat_cmp (keys_of ids)
+pub maps_ascending : (ids : Ids) (names : Names) → IsStrictlySortedBy nat_cmp (keys_of ids)
     → HasRisingIds (outstanding_list ids names)
-shelf_rising [] names h = tt
-shelf_rising (e ∷ ids) names h = (
+maps_ascending [] names h = tt
+maps_ascending (e ∷ ids) names h = (
   rising_above e.0 ids names (sorted_head nat_cmp e.0 (keys_of ids) h),
-  shelf_rising ids names (sorted_tail nat_cmp e.0 (keys_of ids) h),
+  maps_ascending ids names (sorted_tail nat_cmp e.0 (keys_of ids) h),
 )
 
 removed_view : (ids : Ids) (names : Names) (i : ℕ) → IsStrictlySortedBy nat_cmp (keys_of ids)

@@ -20,7 +20,8 @@ use Rattle.sf_run.specs.FeasibleLaws.{one_order, feasible_are}
 use Rattle.sf_piece.specs.Pieces.{is_member, is_prefix}
 use Rattle.sf_book.specs.Books.{OutstandingData, RegionData, BookData, IsOutstanding, IsRightRegion, IsLawfulBook, IsSettled, members_of}
 use Rattle.sf_book.specs.Exact.{HasMember, HasMembers, IsWorkedOff}
-use Rattle.sf_book.specs.PartitionLaws.{bit, hits, some_there}
+use Rattle.sf_book.specs.PartitionLaws.{some_there}
+use Rattle.sf_book.specs.PrefixCounts.{bit, hits}
 use Rattle.sf_book.specs.NameOrderLaws.{strictly_in_order}
 
 -- ---- sums over rows and columns

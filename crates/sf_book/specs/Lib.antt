@@ -4,6 +4,7 @@ pub mod Changes
 pub mod ChangeLaws
 pub mod OutstandingMaps
 pub mod Partition
+pub mod PrefixCounts
 pub mod PartitionLaws
 pub mod NameOrderLaws
 pub mod Exact

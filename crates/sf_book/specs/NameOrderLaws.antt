@@ -10,7 +10,8 @@ use Rattle.std.proofs.lemmas.List.Sums.{sum_by-cons}
 use Rattle.sf_run.specs.Feasible.{AreInNameOrder}
 use Rattle.sf_run.specs.FeasibleLaws.{names_total, names_exact, before_all}
 use Rattle.sf_book.specs.Books.{RegionData, IsInNameOrder}
-use Rattle.sf_book.specs.PartitionLaws.{bit, hits, prefix-refl}
+use Rattle.sf_book.specs.PartitionLaws.{prefix-refl}
+use Rattle.sf_book.specs.PrefixCounts.{bit, hits}
 
 abbrev cmp : List Bool → List Bool → Ordering
 cmp m n = slice_cmp bool_cmp m n

@@ -1,5 +1,5 @@
 -- Counts of one, read place by place.
-use Rattle.std.proofs.Common.{◌≡◌, ℕ, zero, suc, ◌+◌, ◌≤◌, Bool, true, false, cond, List, [], ◌∷◌, ◌++◌, map, Some, refl, sym, ◌∙◌, ap, arith}
+use Rattle.std.proofs.Common.{◌≡◌, ℕ, zero, suc, ◌+◌, ◌≤◌, Bool, true, false, List, [], ◌∷◌, ◌++◌, map, Some, refl, sym, ◌∙◌, ap, arith}
 use Rattle.std.specs.List.{slice_get, sum_by}
 use Rattle.std.proofs.lemmas.List.Sums.{sum_by-cons, sum_by-append}
 use Rattle.std.proofs.lemmas.Option.{same_Some}
@@ -7,15 +7,8 @@ use Rattle.sf_insn.specs.declared.input.Input.{Input}
 use Rattle.sf_insn.specs.Inputs.{IsInput}
 use Rattle.sf_piece.specs.Pieces.{PieceData, is_member, is_prefix}
 use Rattle.sf_book.specs.Books.{OutstandingData, RegionData, BookData, IsLawfulBook}
+use Rattle.sf_book.specs.PrefixCounts.{bit}
 use Rattle.sf_book.specs.Partition.{parts_of, names_of, LiesInOne, NoneBeginsAnother}
-
--- 1 for true
-abbrev pub bit : Bool → ℕ
-bit b = cond b 1 0
-
--- 1 where the list begins with the name
-abbrev pub hits : List Bool → List Bool → ℕ
-hits n t = bit (is_prefix n t)
 
 module _ {A : Type 0} (p : A → Bool) where
   -- where the count is 0 there is none

@@ -184,32 +184,13 @@ impl Book {
         ensures err { IfErr result (λ f. Refuses self.old id work f × (self.new ≡ self.old)) }
     {
         self.admit(id, &work)?;
-        self.replace(id, work)
+        self.commit_own(id, work)
     }
 
-    /// Refuses a work that isn't of the piece under the id, or comes when the budget is spent.
-    fn admit(&self, id: u64, work: &Work) -> Result<(), Fault>
-        ensures ok { OnOk result (MayCommit self.now id work.now
-            × (self.now.commits < self.now.budget)) }
-        ensures err { IfErr result (λ f. Refuses self.now id work.now f) }
-    {
-        if !is_of(work, &self.stack) {
-            return Err(Fault::Foreign);
-        }
-        let Some(piece) = self.outstanding.piece(id) else {
-            return Err(Fault::Stale);
-        };
-        if !has_name(piece, work) {
-            return Err(Fault::Stale);
-        }
-        if self.commits == self.budget {
-            return Err(Fault::Spent);
-        }
-        Ok(())
-    }
-
-    /// Puts the work's result in the place of its piece, or leaves all as it was.
-    fn replace(&mut self, id: u64, work: Work) -> Result<Option<(u64, u64)>, Fault>
+    /// The same for a caller who can show that the work may be committed: nothing is compared. The caller's conditions:
+    /// the work is of the book's stack and of the piece outstanding under the id, and the budget isn't spent. `Memory`
+    /// where a growth is refused: the book is unchanged then.
+    pub fn commit_own(&mut self, id: u64, work: Work) -> Result<Option<(u64, u64)>, Fault>
         requires may { MayCommit self.old id work }
         requires room { self.old.commits < self.old.budget }
         ensures ok { IfOk result (λ ids. CommitsAs self.old id work.piece work.name
@@ -246,6 +227,27 @@ impl Book {
                 Ok(None)
             }
         }
+    }
+
+    /// Refuses a work that isn't of the piece under the id, or comes when the budget is spent.
+    fn admit(&self, id: u64, work: &Work) -> Result<(), Fault>
+        ensures ok { OnOk result (MayCommit self.now id work.now
+            × (self.now.commits < self.now.budget)) }
+        ensures err { IfErr result (λ f. Refuses self.now id work.now f) }
+    {
+        if !is_of(work, &self.stack) {
+            return Err(Fault::Foreign);
+        }
+        let Some(piece) = self.outstanding.piece(id) else {
+            return Err(Fault::Stale);
+        };
+        if !has_name(piece, work) {
+            return Err(Fault::Stale);
+        }
+        if self.commits == self.budget {
+            return Err(Fault::Spent);
+        }
+        Ok(())
     }
 
     /// Closes the book of this stack, and puts its regions in name order. `Foreign` where the book is of another

@@ -60,12 +60,12 @@ impl OutstandingPieces {
         } ∷ []) }
         ensures err { IfErr result (λ f. f ≡ Memory) }
     {
-        let mut shelf = OutstandingPieces {
+        let mut pieces = OutstandingPieces {
             by_id: BTreeMap::new(alloc),
             by_name: BTreeMap::new(alloc),
         };
-        shelf.add(id, piece, false)?;
-        Ok(shelf)
+        pieces.add(id, piece, false)?;
+        Ok(pieces)
     }
 
     /// How many pieces are outstanding, on lease or not.

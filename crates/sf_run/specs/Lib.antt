@@ -6,6 +6,7 @@ pub mod Feasible
 pub mod InputLaws
 pub mod FeasibleLaws
 pub mod Numbers
+pub mod Reachable
 pub mod RunLaws
 pub mod Routes
 pub mod RouteLaws

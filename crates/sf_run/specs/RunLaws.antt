@@ -16,6 +16,7 @@ use Rattle.sf_check.specs.Insns.{stored_by, loaded_by, successors, IsInRange}
 use Rattle.sf_check.specs.Programs.{IsAt, IsPath, Stores, IsLawfulProgram}
 use Rattle.sf_check.specs.ContainsLaws.{contains_here, contains_there, any_nil, any_cons}
 use Rattle.sf_check.specs.ProgramLaws.{successor_after, successors_inside, below_in}
+use Rattle.sf_run.specs.Reachable.{put, Keeps, Moves, IsReachable}
 use Rattle.sf_run.specs.Machine.{State, Progress, goes, returns, stuck, start, operand_of, load_progress, operation_progress, test_progress, insn_progress, step, Outcome, outcome_from, run_for, outcome_of, return_of, met_by, with_a, with_x}
 
 -- ---- one end
@@ -24,10 +25,6 @@ pub option_map_some : {X Y : Type 0} (f : X → Y) (o : Option X) (y : Y) → op
     × (o ≡ Some x) × (f x ≡ y)
 option_map_some f None y e = absurd cc
 option_map_some f (Some x) y e = (x, refl, same_Some (f x) y e)
-
--- truth values before those of an end
-abbrev pub put : List Bool → List Bool × ℕ → List Bool × ℕ
-put met o = (met ++ o.0, o.1)
 
 same_continued : (p : Progress) (f g : State → Outcome)
     → ((s : State) (o o' : List Bool × ℕ) → f s ≡ Some o → g s ≡ Some o' → o ≡ o') → (o o' : List Bool × ℕ)
@@ -57,12 +54,6 @@ step_is code d s i at = rw at refl
 
 pub goes_is : (met met' : List Bool) (s t : State) → goes met s ≡ goes met' t → s ≡ t
 goes_is met met' s t e = cc
-
--- what a step does to the scratch words
-pub record Keeps (i : Insn) (old new : List (Option ℕ)) : Type 0 where
-  pub size : length new ≡ length old
-  pub kept : (k n : ℕ) → slice_get old k ≡ Some (Some n) → (m : ℕ) × (slice_get new k ≡ Some (Some m))
-  pub stored : (k : ℕ) → stored_by i ≡ Some k → k < length old → (m : ℕ) × (slice_get new k ≡ Some (Some m))
 
 keeps_same : (i : Insn) (old : List (Option ℕ)) → stored_by i ≡ None → Keeps i old old
 keeps_same i old none = record { size = refl; kept = λ k n h. (n, h); stored = λ k h lt. absurd cc }
@@ -99,11 +90,6 @@ keeps_store i old k n at = record {
               ∙ ap (λ (w : Option ℕ). Some w) (get_or-set_other old k j (Some n) None ne
               ∙ get_or_from_slice_get old j (Some m) None h),
         )
-
--- where a step goes, and what it keeps
-pub record Moves (i : Insn) (s next : State) : Type 0 where
-  pub leads : Contains (successors s.place i) next.place
-  pub keeps : Keeps i s.scratch next.scratch
 
 -- a load of a set word goes on, and one of an unset word does not
 loaded_goes : (s : State) (k : ℕ) (f : ℕ → Progress) (met : List Bool) (next : State)
@@ -196,14 +182,6 @@ moves d s i met next e = by i e
     by Txa e = on Txa _ _ [] (one (s.place + 1)) refl e
 
 -- ---- never stuck
-
--- a state that a run of the program may reach: some path leads here, and the words that it stores are set
-pub record IsReachable (code : List Insn) (s : State) : Type 0 where
-  pub inside : s.place < length code
-  pub sixteen : length s.scratch ≡ 16
-  pub earlier : List ℕ
-  pub path : IsPath code (s.place ∷ earlier)
-  pub set_words : (k : ℕ) → Any (Stores code k) earlier → (n : ℕ) × (slice_get s.scratch k ≡ Some (Some n))
 
 pub safe_start : (code : List Insn) → 0 < length code → IsReachable code start
 safe_start code some = record {

@@ -17,7 +17,8 @@ use Rattle.sf_check.specs.declared.insn.Operand.{Operand}
 use Rattle.sf_check.specs.declared.insn.Operand.TheVariants.{Constant, X}
 use Rattle.sf_check.specs.Programs.{IsAt, IsLawfulProgram}
 use Rattle.sf_run.specs.Machine.{State, Progress, goes, returns, stuck, start, operand_of, load_progress, operation_progress, insn_progress, step, Outcome, outcome_from, run_for, outcome_of, met_by, trace_of, with_a, with_x}
-use Rattle.sf_run.specs.RunLaws.{step_is, lawful_ends, option_map_some, put}
+use Rattle.sf_run.specs.RunLaws.{step_is, lawful_ends, option_map_some}
+use Rattle.sf_run.specs.Reachable.{put}
 use Rattle.sf_run.specs.Routes.{MayMeet, IsWay, returns_at, goes_on, AreWays, IsWholeRoute}
 
 -- a step meets what control allows, and leads there

@@ -1,6 +1,6 @@
 use Rattle.std.proofs.Common.{◌≡◌, ◌+◌, ◌-◌, ◌≤◌, ℕ, Some, length}
 use Rattle.sf_run.specs.Code.{state_of}
-use Rattle.sf_run.specs.RunLaws.{IsReachable}
+use Rattle.sf_run.specs.Reachable.{IsReachable}
 use Rattle.sf_run.specs.Walks.{CourseData, after, walk_for, walk_of}
 use Rattle.sf_run.proofs.walking.walk.Given as goal
 

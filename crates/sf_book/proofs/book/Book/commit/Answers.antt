@@ -2,5 +2,5 @@ use Rattle.sf_book.proofs.Kept.{memory_refuses}
 use Rattle.sf_book.proofs.book.Book.commit.Goals as goal
 
 pub returns-clause-err : goal.returns-clause-err
-returns-clause-err c = memory_refuses c.replace.result c.args.self.now c.replace.new.self c.args.id c.args.work
-    c.in_ok-admit.ensures.ok.0 c.in_ok-admit.ensures.ok.1 c.replace.ensures.err
+returns-clause-err c = memory_refuses c.commit_own.result c.args.self.now c.commit_own.new.self c.args.id c.args.work
+    c.in_ok-admit.ensures.ok.0 c.in_ok-admit.ensures.ok.1 c.commit_own.ensures.err

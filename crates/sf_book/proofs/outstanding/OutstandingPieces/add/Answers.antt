@@ -1,5 +1,5 @@
 use Rattle.std.proofs.Common.{◌∙◌, refl}
-use Rattle.sf_book.proofs.OutstandingLists.{is_added, added_ids, added_shelf, added_view, put_back}
+use Rattle.sf_book.proofs.OutstandingLists.{is_added, added_ids, added_maps, added_view, put_back}
 use Rattle.sf_book.proofs.outstanding.OutstandingPieces.add.Goals as goal
 
 pub invariant_of-self-in-Ok : goal.invariant_of-self-in-Ok
@@ -11,7 +11,7 @@ invariant_of-self-in-Ok c =
     let apart = rw (← c.self.view_is) at c.requires.apart in
     let put = rw c.of.ensures at c.in_ok-put_id.ensures.updates in
     let named = rw (c.of-twin.ensures, c.in_ok-try_clone.ensures) at c.in-Ok.ensures.updates in
-    added_shelf ids names c.args.id p c.args.leased _ _ c.self.invariant
+    added_maps ids names c.args.id p c.args.leased _ _ c.self.invariant
     (is_added ids names c.args.id p c.args.leased c.put_id.new.by_id.entries c.put_name.new.by_name.entries
     c.self.invariant above apart put.0 named.0 c.put_id.ensures.ordered c.put_name.ensures.ordered)
 

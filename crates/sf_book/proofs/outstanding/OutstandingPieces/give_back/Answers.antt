@@ -1,5 +1,5 @@
 use Rattle.std.proofs.Common.{◌≡◌, false, sym, ◌∙◌, refl, Some}
-use Rattle.sf_book.proofs.MapLemmas.{marked_shelf, marked_view, entry_at_is}
+use Rattle.sf_book.proofs.MapLemmas.{leased_maps, marked_view, entry_at_is}
 use Rattle.sf_book.proofs.OutstandingLists.{same_none}
 use Rattle.sf_book.specs.OutstandingMaps.{piece_at}
 use Rattle.sf_book.proofs.outstanding.OutstandingPieces.give_back.Goals as goal
@@ -9,7 +9,7 @@ invariant_of-self c =
     let at : piece_at c.self.inside.by_id.entries c.args.id ≡ Some c.in-Some.named.now = sym c.in-Some.ensures.value in
     let n = c.self.invariant.named c.args.id c.in-Some.named.now at in
     let e = rw n.1 at c.set_leased.ensures in
-    rw e (marked_shelf c.self.inside.by_id.entries c.self.inside.by_name.entries c.args.id c.in-Some.named.now n.0 false
+    rw e (leased_maps c.self.inside.by_id.entries c.self.inside.by_name.entries c.args.id c.in-Some.named.now n.0 false
     c.self.invariant at n.1)
 
 pub returns-in-Some : goal.returns-in-Some

@@ -1,6 +1,6 @@
 use Rattle.std.proofs.Common.{◌≡◌, sym, ◌∙◌, refl, true}
 use Rattle.sf_book.specs.OutstandingMaps.{piece_at}
-use Rattle.sf_book.proofs.MapLemmas.{marked_shelf, some_inj}
+use Rattle.sf_book.proofs.MapLemmas.{leased_maps, some_inj}
 use Rattle.sf_book.proofs.OutstandingLeases.{first_piece, leases_entry, all_leased, none_some}
 use Rattle.sf_book.proofs.outstanding.OutstandingPieces.lease.Goals as goal
 
@@ -22,7 +22,7 @@ invariant_of-self c =
     c.in-Some.ensures in
     let same : f.piece ≡ c.in-Some-get.named.now = some_inj _ _ (sym f.there ∙ sym c.in-Some-get.ensures.value) in
     let e = rw (← same, f.marked) at c.set_leased.ensures in
-    rw e (marked_shelf c.self.inside.by_id.entries c.self.inside.by_name.entries c.in-Some.id f.piece f.state true
+    rw e (leased_maps c.self.inside.by_id.entries c.self.inside.by_name.entries c.in-Some.id f.piece f.state true
     c.self.invariant f.there f.marked)
 
 pub returns-clause-ok : goal.returns-clause-ok

@@ -1,14 +1,14 @@
 use Rattle.std.proofs.Common.{sym, ◌∙◌, ap}
 use Rattle.std.specs.Option.{option_map}
 use Rattle.sf_book.proofs.MapLemmas.{entry_at_is}
-use Rattle.sf_book.proofs.OutstandingLists.{taken_shelf, taken_view, without_none}
+use Rattle.sf_book.proofs.OutstandingLists.{taken_maps, taken_view, without_none}
 use Rattle.sf_book.specs.OutstandingMaps.{outstanding_of}
 use Rattle.sf_piece.specs.Pieces.{PieceData}
 use Rattle.sf_book.proofs.outstanding.OutstandingPieces.take.Goals as goal
 
 pub invariant_of-self : goal.invariant_of-self
 invariant_of-self c =
-    taken_shelf c.self.inside.by_id.entries c.self.inside.by_name.entries c.args.id c.in-Some.named _ _
+    taken_maps c.self.inside.by_id.entries c.self.inside.by_name.entries c.args.id c.in-Some.named _ _
     c.self.invariant (record {
       there = sym c.remove.ensures.value ∙ c.in-Some.is;
       at_id = c.remove.ensures.updates.0;

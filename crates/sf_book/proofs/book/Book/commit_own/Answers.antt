@@ -3,7 +3,7 @@ use Rattle.sf_piece.specs.Pieces.{Split, Settled, Empty}
 use Rattle.sf_piece.specs.Steps.{step_data}
 use Rattle.sf_book.proofs.Kept.{low_id, child_names}
 use Rattle.sf_book.proofs.Plain.{split_book, answer_book, empty_book}
-use Rattle.sf_book.proofs.book.Book.replace.Goals as goal
+use Rattle.sf_book.proofs.book.Book.commit_own.Goals as goal
 
 pub split-requires-clause-ids : goal.split-requires-clause-ids
 split-requires-clause-ids c = (

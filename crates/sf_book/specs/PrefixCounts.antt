@@ -1,0 +1,11 @@
+-- Whether a list begins with a name, as a number to be added up.
+use Rattle.std.proofs.Common.{ℕ, Bool, cond, List}
+use Rattle.sf_piece.specs.Pieces.{is_prefix}
+
+-- 1 for true
+abbrev pub bit : Bool → ℕ
+bit b = cond b 1 0
+
+-- 1 where the list begins with the name
+abbrev pub hits : List Bool → List Bool → ℕ
+hits n t = bit (is_prefix n t)

@@ -1,0 +1,29 @@
+-- What a step keeps and where it leads, and the states that a run may come to.
+use Rattle.std.specs.Prelude.{◌≡◌, ℕ, ◌<◌, Bool, List, ◌∷◌, ◌++◌, length, Option, Some, slice_get, Contains, Any}
+use Rattle.sf_check.specs.declared.insn.Insn.{Insn}
+use Rattle.sf_check.specs.Insns.{stored_by, successors}
+use Rattle.sf_check.specs.Programs.{IsPath, Stores}
+use Rattle.sf_run.specs.Machine.{State}
+
+-- truth values before those of an end
+abbrev pub put : List Bool → List Bool × ℕ → List Bool × ℕ
+put met o = (met ++ o.0, o.1)
+
+-- what a step does to the scratch words
+pub record Keeps (i : Insn) (old new : List (Option ℕ)) : Type 0 where
+  pub size : length new ≡ length old
+  pub kept : (k n : ℕ) → slice_get old k ≡ Some (Some n) → (m : ℕ) × (slice_get new k ≡ Some (Some m))
+  pub stored : (k : ℕ) → stored_by i ≡ Some k → k < length old → (m : ℕ) × (slice_get new k ≡ Some (Some m))
+
+-- where a step goes, and what it keeps
+pub record Moves (i : Insn) (s next : State) : Type 0 where
+  pub leads : Contains (successors s.place i) next.place
+  pub keeps : Keeps i s.scratch next.scratch
+
+-- a state that a run of the program may reach: some path leads here, and the words that it stores are set
+pub record IsReachable (code : List Insn) (s : State) : Type 0 where
+  pub inside : s.place < length code
+  pub sixteen : length s.scratch ≡ 16
+  pub earlier : List ℕ
+  pub path : IsPath code (s.place ∷ earlier)
+  pub set_words : (k : ℕ) → Any (Stores code k) earlier → (n : ℕ) × (slice_get s.scratch k ≡ Some (Some n))
