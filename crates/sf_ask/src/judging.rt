@@ -9,15 +9,15 @@ ghost use Rattle.sf_ask.specs.declared.fault.Fault.TheVariants.{Memory};
 ghost use Rattle.sf_piece.specs.Pieces.{is_member};
 ghost use Rattle.sf_book.specs.Books.{IsRightRegion};
 ghost use Rattle.sf_ask.specs.Verdicts.{IsRightVerdict, TellsTriedAt, IsDecisive};
-ghost use Rattle.sf_ask.specs.Searches.{IsRightSearch, TellsTried};
+ghost use Rattle.sf_ask.specs.Searches.{AreKnownWords, AreWordsOf, IsRightSearch, TellsTried};
 ghost use Rattle.sf_ask.specs.Trying.{IsLeastInput};
 
-use crate::confining::{confined, rules_out};
+use crate::confining::{confined, known_words, rules_out};
 use crate::fault::Fault;
 use crate::question::Question;
 use crate::verdict::Verdict;
 use sf_book::Settled;
-use sf_dom::Facts;
+use sf_dom::{Facts, Known};
 use sf_insn::Input;
 use sf_piece::Piece;
 use std::alloc::Global;
@@ -71,29 +71,72 @@ fn try_least(alloc: Global, piece: &Piece, question: &Question) -> Result<Verdic
 }
 
 /// Looks for a member of the piece that is in the question: one input is tried where the facts don't rule it out at once.
-fn search(alloc: Global, piece: &Piece, question: &Question) -> Result<Verdict, Fault>
+fn search(
+    alloc: Global,
+    piece: &Piece,
+    words: &[Known; 16],
+    question: &Question,
+) -> Result<Verdict, Fault>
+    requires { AreKnownWords piece.now.facts words.now }
     ensures right { IfOk result (IsRightSearch piece.now question.now) }
     ensures tried { IfOk result (TellsTried piece.now question.now) }
     ensures decisive { IsPlain piece.now.stack → IfOk result IsDecisive }
     ensures err { IfErr result (λ f. f ≡ Memory) }
 {
-    if rules_out(piece.facts(), question) {
+    if rules_out(piece.facts(), words, question) {
         return Ok(Verdict::Clear);
     }
     try_least(alloc, piece, question)
 }
 
+/// What is known of the words of the settled region at this place, to be read once for many questions.
+pub(crate) fn words_of(settled: &Settled, region: usize) -> [Known; 16]
+    requires { region < length settled.now.regions }
+    ensures { AreWordsOf settled.now region result }
+{
+    let piece = settled.region(region).piece();
+    known_words(piece.facts())
+}
+
 /// Whether the verdict on the settled region at this place is clear at once: its action isn't asked about, or what is known
 /// of some word rules out the word's range. False tells nothing.
-pub(crate) fn is_clear_at_once(settled: &Settled, region: usize, question: &Question) -> bool
-    requires { region < length settled.now.regions }
+pub(crate) fn is_clear_at_once(
+    settled: &Settled,
+    region: usize,
+    words: &[Known; 16],
+    question: &Question,
+) -> bool
+    requires region { region < length settled.now.regions }
+    requires words { AreWordsOf settled.now region words.now }
     ensures { IsTrue result → IsRightVerdict settled.now region question.now Verdict.Clear }
 {
     let settled_region = settled.region(region);
     if question.actions().has(settled_region.answer().action) {
-        return rules_out(settled_region.piece().facts(), question);
+        return rules_out(settled_region.piece().facts(), words, question);
     }
     true
+}
+
+/// The verdict on the settled region at this place, where what is known of its words was read before.
+pub(crate) fn judge_known(
+    alloc: Global,
+    settled: &Settled,
+    region: usize,
+    words: &[Known; 16],
+    question: &Question,
+) -> Result<Verdict, Fault>
+    requires region { region < length settled.now.regions }
+    requires words { AreWordsOf settled.now region words.now }
+    ensures right { IfOk result (IsRightVerdict settled.now region question.now) }
+    ensures tried { IfOk result (TellsTriedAt settled.now region question.now) }
+    ensures decisive { IsPlain settled.now.stack → IfOk result IsDecisive }
+    ensures err { IfErr result (λ f. f ≡ Memory) }
+{
+    let settled_region = settled.region(region);
+    if !question.actions().has(settled_region.answer().action) {
+        return Ok(Verdict::Clear);
+    }
+    search(alloc, settled_region.piece(), words, question)
 }
 
 /// The verdict on the settled region at this place in the order of names. The caller's condition: there is a region at
@@ -115,9 +158,6 @@ pub fn judge(
     ensures decisive { IsPlain settled.now.stack → IfOk result IsDecisive }
     ensures err { IfErr result (λ f. f ≡ Memory) }
 {
-    let settled_region = settled.region(region);
-    if !question.actions().has(settled_region.answer().action) {
-        return Ok(Verdict::Clear);
-    }
-    search(alloc, settled_region.piece(), question)
+    let words = words_of(settled, region);
+    judge_known(alloc, settled, region, &words, question)
 }

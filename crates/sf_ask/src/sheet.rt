@@ -1,15 +1,17 @@
 //! Sheets of verdicts.
 
 ghost use Rattle.std.specs.Prelude.{◌≡◌, ◌<◌, ◌≤◌, ℕ, not, length, map, IfOk, IfErr, IsTrue, Some, None, slice_get};
+ghost use Rattle.sf_ask.specs.Searches.{AreWordsOf};
 ghost use Rattle.sf_ask.specs.Sheets.{SheetData, verdict_at, clear_if_wanted, first_verdicts, is_skipped, is_hit, is_doubt, is_clear_or_skipped, is_wanted, IsRightWhereGiven, IsRightSheet, HasWanted};
 ghost use Rattle.std.specs.List.{list_all};
 ghost use Rattle.sf_ask.specs.declared.fault.Fault.TheVariants.{Memory};
 
 use crate::fault::Fault;
-use crate::judging::{is_clear_at_once, judge};
+use crate::judging::{is_clear_at_once, judge_known, words_of};
 use crate::question::Question;
 use crate::verdict::Verdict;
 use sf_book::Settled;
+use sf_dom::Known;
 use std::alloc::Global;
 use std::marker::Model;
 use std::snapshot::Snapshot;
@@ -88,11 +90,13 @@ fn verdict_if_wanted(
     alloc: Global,
     settled: &Settled,
     job: usize,
+    words: &[Known; 16],
     questions: &[Question],
     q: usize,
     wanted: &[u64; 4],
 ) -> Result<Option<Verdict>, Fault>
     requires job { job < length settled.now.regions }
+    requires words { AreWordsOf settled.now job words.now }
     requires question { (q < length questions.now) × (q < 256) }
     ensures right { IfOk result (IsRightWhereGiven settled.now questions.now job q) }
     ensures wanted { IfOk result (λ e. is_skipped e ≡ not (is_wanted wanted.now q)) }
@@ -101,7 +105,7 @@ fn verdict_if_wanted(
     if !asks_for(wanted, q) {
         return Ok(None);
     }
-    let verdict = judge(alloc, settled, job, &questions[q])?;
+    let verdict = judge_known(alloc, settled, job, words, &questions[q])?;
     Ok(Some(verdict))
 }
 
@@ -109,11 +113,13 @@ fn verdict_if_wanted(
 fn is_skipped_or_clear(
     settled: &Settled,
     job: usize,
+    words: &[Known; 16],
     questions: &[Question],
     q: usize,
     wanted: &[u64; 4],
 ) -> bool
     requires job { job < length settled.now.regions }
+    requires words { AreWordsOf settled.now job words.now }
     requires question { (q < length questions.now) × (q < 256) }
     ensures { IsTrue result → IsRightWhereGiven settled.now questions.now job q
         (clear_if_wanted wanted.now q) }
@@ -121,19 +127,26 @@ fn is_skipped_or_clear(
     if !asks_for(wanted, q) {
         return true;
     }
-    is_clear_at_once(settled, job, &questions[q])
+    is_clear_at_once(settled, job, words, &questions[q])
 }
 
 /// How many questions, from the first on, are skipped or clear at once.
-fn clear_count(settled: &Settled, job: usize, questions: &[Question], wanted: &[u64; 4]) -> usize
+fn clear_count(
+    settled: &Settled,
+    job: usize,
+    words: &[Known; 16],
+    questions: &[Question],
+    wanted: &[u64; 4],
+) -> usize
     requires job { job < length settled.now.regions }
+    requires words { AreWordsOf settled.now job words.now }
     requires questions { length questions.now ≤ 256 }
     ensures within { result ≤ length questions.now }
     ensures right { (q : ℕ) → q < result → IsRightWhereGiven settled.now questions.now job q
         (clear_if_wanted wanted.now q) }
 {
     for q in 0..questions.len() {
-        if !is_skipped_or_clear(settled, job, questions, q, wanted) {
+        if !is_skipped_or_clear(settled, job, words, questions, q, wanted) {
             return q;
         }
     }
@@ -175,11 +188,13 @@ fn verdicts_on(
     alloc: Global,
     settled: &Settled,
     job: usize,
+    words: &[Known; 16],
     questions: &[Question],
     wanted: &[u64; 4],
     clear: usize,
 ) -> Result<Vec<Option<Verdict>>, Fault>
     requires job { job < length settled.now.regions }
+    requires words { AreWordsOf settled.now job words.now }
     requires questions { (clear ≤ length questions.now) × (length questions.now ≤ 256) }
     requires clear { (q : ℕ) → q < clear → IsRightWhereGiven settled.now questions.now job q
         (clear_if_wanted wanted.now q) }
@@ -192,7 +207,7 @@ fn verdicts_on(
 {
     let mut verdicts = clear_verdicts(alloc, wanted, clear, questions.len())?;
     for q in clear..questions.len() {
-        verdicts.push(verdict_if_wanted(alloc, settled, job, questions, q, wanted)?)?;
+        verdicts.push(verdict_if_wanted(alloc, settled, job, words, questions, q, wanted)?)?;
     }
     Ok(verdicts)
 }
@@ -223,7 +238,8 @@ impl Sheet {
         ensures wanted { IfOk result (HasWanted wanted) }
         ensures err { IfErr result (λ f. f ≡ Memory) }
     {
-        let clear = clear_count(settled, job, questions, &wanted);
+        let words = words_of(settled, job);
+        let clear = clear_count(settled, job, &words, questions, &wanted);
         if clear == questions.len() {
             return Ok(Sheet {
                 settled: Snapshot::of(settled),
@@ -234,7 +250,7 @@ impl Sheet {
                 finds_nothing: true,
             });
         }
-        let listed = verdicts_on(alloc, settled, job, questions, &wanted, clear)?;
+        let listed = verdicts_on(alloc, settled, job, &words, questions, &wanted, clear)?;
         let finds_nothing = are_clear(listed.as_slice());
         Ok(Sheet {
             settled: Snapshot::of(settled),
