@@ -11,10 +11,10 @@ use lib.ListN.{get_elem?, replicate}
 use Rattle.atomic_table.specs.Table.{State}
 use Rattle.sf_ask.specs.declared.verdict.Verdict.TheVariants.{Doubt}
 use Rattle.sf_ask.specs.Sheets.{HasBreak, HasNoBreak, IsRightOn}
-use Rattle.sf_crew.specs.declared.view.BoardKey.{BoardKey}
-use Rattle.sf_crew.specs.declared.view.View.{View}
-use Rattle.sf_crew.specs.declared.view.EnteredSheet.{EnteredSheet}
-use Rattle.sf_crew.specs.declared.view.Note.{Note}
+use Rattle.sf_crew.specs.declared.board.view.BoardKey.{BoardKey}
+use Rattle.sf_crew.specs.declared.board.view.View.{View}
+use Rattle.sf_crew.specs.declared.board.view.EnteredSheet.{EnteredSheet}
+use Rattle.sf_crew.specs.declared.board.view.Note.{Note}
 use Rattle.sf_crew.specs.declared.board.Tally.{Tally}
 use Rattle.sf_crew.specs.Views.{has, has_doubt, bit_of, IsInDoubt, regions_of, questions_of, count_of_regions, jobs, owed_jobs, Noted, Covered, Each, times, once_below, total, top, doubt_at}
 use Rattle.sf_crew.specs.BoardRule.{Kept, BoardKept, least_in, doubts_in}

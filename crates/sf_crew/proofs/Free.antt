@@ -8,11 +8,8 @@ use Rattle.std.proofs.lemmas.Option.{same_Some}
 use Rattle.std.proofs.lemmas.List.Elements.{All-head, All-tail, All-cons, All-nil, All-filter, All-map}
 use Rattle.sf_piece.specs.Pieces.{PieceData, StepData, WorkData, Split, Settled, Empty, children_of}
 use Rattle.sf_book.specs.Books.{OutstandingData, BookData, IsLawfulBook, IsOutstanding}
-use Rattle.sf_book.specs.Changes.{outstanding_at, with_lease_at, with_lease, without, CommitsAs, Leases, MayCommit, Refuses}
-use Rattle.sf_book.specs.ChangeLaws.{only_memory}
+use Rattle.sf_book.specs.Changes.{outstanding_at, with_lease_at, with_lease, without, CommitsAs, Leases, MayCommit}
 use Rattle.sf_book.specs.declared.book.Lease.{Lease}
-use Rattle.sf_book.specs.declared.fault.Fault.{Fault}
-use Rattle.sf_book.specs.declared.fault.Fault.TheVariants.{Memory}
 use Rattle.sf_crew.specs.Explorations.{IsExhausted, IsFree, IsOnlyLease, MayWork, IsSameExploration, GoesOn}
 
 abbrev Free : OutstandingData → Type 0
@@ -90,20 +87,19 @@ entry_all P (x ∷ es) id e h at = by (x.id == id) at (All-head P x es h) (λ k.
     by true at here rest = subst P (same_Some x e at) here
     by false at here rest = rest at
 
--- it is refused for nothing but want of memory
-pub work_refused : (b : BookData) (x : Lease) (w : WorkData) (f : Fault) → IsLawfulBook b → MayWork b x
-    → w.piece ≡ arc_value x.piece → Refuses b x.id w f → f ≡ Memory
-work_refused b x w f h m is r =
+-- it is of the book's stack, and of the piece under the lease's id
+pub may_commit : (b : BookData) (x : Lease) (w : WorkData) → IsLawfulBook b → MayWork b x
+    → w.piece ≡ arc_value x.piece → MayCommit b x.id w
+may_commit b x w h m is =
     let e : OutstandingData = record { id = x.id; piece = arc_value x.piece; leased = true } in
     let o : IsOutstanding b.stack e = entry_all (IsOutstanding b.stack) b.outstanding x.id e h.outstanding
     m.lease.there in
-    let may : MayCommit b x.id w = record {
+    record {
       same_stack = ap (λ (q : PieceData). q.stack) is ∙ o.of;
       under_id = e;
       there = m.lease.there;
       same_name = ap (λ (q : PieceData). q.name) is;
-    } in
-    only_memory b x.id w f may m.room r
+    }
 
 -- where nothing was split, no piece is on lease after it
 pub goes_one : (b c : BookData) (x : Lease) (p : PieceData) (n : List Bool) (s : StepData) → MayWork b x

@@ -7,9 +7,9 @@ use native.Mathlib.Decide.{ℕ_discrete}
 use Rattle.sf_book.specs.Books.{BookData}
 use Rattle.sf_ask.specs.QuestionData.{QuestionData}
 use Rattle.sf_ask.specs.Sheets.{HasNoBreak}
-use Rattle.sf_crew.specs.declared.view.BoardKey.{BoardKey}
-use Rattle.sf_crew.specs.declared.view.View.{View}
-use Rattle.sf_crew.specs.declared.view.EnteredSheet.{EnteredSheet}
+use Rattle.sf_crew.specs.declared.board.view.BoardKey.{BoardKey}
+use Rattle.sf_crew.specs.declared.board.view.View.{View}
+use Rattle.sf_crew.specs.declared.board.view.EnteredSheet.{EnteredSheet}
 use Rattle.sf_crew.specs.declared.board.Tally.{Tally}
 use Rattle.sf_crew.specs.Views.{regions_of, questions_of, count_of_regions, jobs, owed_jobs, has, has_doubt, bit_of, IsInDoubt, Each, times, once_below}
 use Rattle.sf_crew.specs.BoardSteps.{HasAllJobs, Knows}

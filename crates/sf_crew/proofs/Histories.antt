@@ -6,9 +6,9 @@ use Rattle.std.proofs.lemmas.Option.{slice_get_past}
 use Rattle.atomic_table.proofs.Lists.{at_set}
 use Rattle.crossbeam_deque.specs.Tasks.{Pushes, Takes, Finds, FindsFew, Forks}
 use Rattle.sf_book.specs.declared.book.Lease.{Lease}
-use Rattle.sf_crew.specs.declared.history.Event.{Event}
-use Rattle.sf_crew.specs.declared.history.Event.TheVariants.{Put, Got}
-use Rattle.sf_crew.specs.declared.history.HandleView.{HandleView}
+use Rattle.sf_crew.specs.declared.benches.history.Event.{Event}
+use Rattle.sf_crew.specs.declared.benches.history.Event.TheVariants.{Put, Got}
+use Rattle.sf_crew.specs.declared.benches.history.HandleView.{HandleView}
 use Rattle.sf_crew.specs.History.{handle_view, handle_of, NotBy, AllByHandlesBelow, OfOthers, HasNoThief, put_leases, got_count, first_left, IsLawfulFrom, IsLawfulHistory, HasHistory, Gets, AllGot}
 use Rattle.sf_crew.specs.BenchRule.{Fits, BenchKept, PutsAll, GetsAll, owner_with_thief, new_thief_view}
 
@@ -117,10 +117,10 @@ grown items rest views port v e k at mine lawful left =
             ),
           ))
           (at_set views port j w u there);
-      hired = λ u there. ⊎_elim
+      all_made = λ u there. ⊎_elim
           (λ (x : (0 ≡ port) × (w ≡ u)). ap (λ (y : HandleView). y.made) (sym x.1)
-          ∙ k.hired v (subst (λ j. get_elem? views j ≡ some v) (sym x.0) at) ∙ sym long)
-          (λ (x : (0 ≢ port) × (get_elem? views 0 ≡ some u)). k.hired u x.1 ∙ sym long)
+          ∙ k.all_made v (subst (λ j. get_elem? views j ≡ some v) (sym x.0) at) ∙ sym long)
+          (λ (x : (0 ≢ port) × (get_elem? views 0 ≡ some u)). k.all_made u x.1 ∙ sym long)
           (at_set views port 0 w u there);
     }
 
@@ -137,7 +137,7 @@ others : (items : List Lease) (views : List HandleView) (port : ℕ) (v : Handle
 others items views port v k at = let f = k.each port v at in (
   subst (λ i. NotBy i f.1.0) (sym f.0) f.1.2,
   λ owner.
-      let made : v.made ≡ length views = k.hired v (subst (λ j. get_elem? views j ≡ some v) (sym f.0 ∙ owner) at) in
+      let made : v.made ≡ length views = k.all_made v (subst (λ j. get_elem? views j ≡ some v) (sym f.0 ∙ owner) at) in
       subst (λ n. AllByHandlesBelow n f.1.0) (sym made)
       (below_part (length views) v.events f.1.0 k.history f.1.1 k.ports),
 )
@@ -217,7 +217,7 @@ forks port v zeroth items views k at =
     let long : length vs ≡ length views = length-set views port l in
     let more : length (vs ++ r ∷ []) ≡ length views + 1 = (length-append vs (r ∷ [])) ∙ omega arith in
     let mine = k.each port v at in let made : v.made ≡ length views =
-    k.hired v (subst (λ j. get_elem? views j ≡ some v) zeroth at) in record {
+    k.all_made v (subst (λ j. get_elem? views j ≡ some v) zeroth at) in record {
       history = h;
       lawful = k.lawful;
       left = k.left;
@@ -237,7 +237,7 @@ forks port v zeroth items views k at =
             ),
           ))
           (at_end vs r u j there);
-      hired = λ u there. ⊎_elim
+      all_made = λ u there. ⊎_elim
           (λ (x : get_elem? vs 0 ≡ some u). ⊎_elim
           (λ (y : (0 ≡ port) × (l ≡ u)). ap (λ (z : HandleView). z.made) (sym y.1) ∙ ap (λ n. n + 1) made ∙ sym more)
           (λ (y : (0 ≢ port) × (get_elem? views 0 ≡ some u)). absurd (y.0 (sym zeroth))) (at_set views port 0 l u x))

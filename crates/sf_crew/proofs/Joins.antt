@@ -8,10 +8,10 @@ use native.Mathlib.Decide.{dec_le}
 use lib.ListN.{get_elem?}
 use Rattle.atomic_table.specs.Table.{Me, Allows, Splits, Joins, keeps}
 use Rattle.atomic_table.proofs.Lists.{set_else, set_again}
-use Rattle.sf_crew.specs.declared.view.BoardKey.{BoardKey}
-use Rattle.sf_crew.specs.declared.view.View.{View}
-use Rattle.sf_crew.specs.declared.view.EnteredSheet.{EnteredSheet}
-use Rattle.sf_crew.specs.declared.view.Note.{Note}
+use Rattle.sf_crew.specs.declared.board.view.BoardKey.{BoardKey}
+use Rattle.sf_crew.specs.declared.board.view.View.{View}
+use Rattle.sf_crew.specs.declared.board.view.EnteredSheet.{EnteredSheet}
+use Rattle.sf_crew.specs.declared.board.view.Note.{Note}
 use Rattle.sf_crew.specs.Views.{has, has_doubt, count_of_regions, jobs, owed_jobs, Noted, Covered, Each, times, once_below, total, top, doubt_at}
 use Rattle.sf_crew.specs.BoardRule.{Sound, Kept, BoardKept}
 use Rattle.sf_crew.specs.BoardSteps.{idle_view, kept_view, shared_view, joined_view, HasAllJobs, Knows}

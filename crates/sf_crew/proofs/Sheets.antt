@@ -8,9 +8,9 @@ use Rattle.sf_book.specs.Books.{BookData}
 use Rattle.sf_ask.specs.QuestionData.{QuestionData}
 use Rattle.sf_ask.specs.Sheets.{SheetData, HasNoBreak, is_hit, is_doubt, is_skipped, verdict_at, IsRightWhereGiven, IsRightSheet}
 use Rattle.sf_ask.specs.SheetLaws.{clear-breaks-none}
-use Rattle.sf_crew.specs.declared.view.BoardKey.{BoardKey}
-use Rattle.sf_crew.specs.declared.view.View.{View}
-use Rattle.sf_crew.specs.declared.view.Note.{Note}
+use Rattle.sf_crew.specs.declared.board.view.BoardKey.{BoardKey}
+use Rattle.sf_crew.specs.declared.board.view.View.{View}
+use Rattle.sf_crew.specs.declared.board.view.Note.{Note}
 use Rattle.sf_crew.specs.Views.{questions_of, Covered, Noted, has, entered_sheet, note}
 use Rattle.sf_crew.specs.BoardSteps.{view_of, with_notes, with_marks}
 use Rattle.sf_crew.proofs.Doubts.{has_same, has_other, has_most}

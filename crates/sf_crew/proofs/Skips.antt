@@ -3,7 +3,7 @@ use Rattle.std.proofs.Common.{◌≡◌, ◌≢◌, ◌/◌, ◌%◌, not, true,
 use Rattle.std.proofs.lemmas.Bool.Decides.{nat_tests}
 use mathlib.Core.Logic.{dite}
 use native.Mathlib.Decide.{ℕ_discrete}
-use Rattle.sf_crew.specs.declared.view.Note.{Note}
+use Rattle.sf_crew.specs.declared.board.view.Note.{Note}
 use Rattle.sf_ask.specs.Sheets.{is_wanted}
 use Rattle.sf_crew.proofs.Doubts.{bit_most}
 use Rattle.sf_crew.specs.Views.{bit_of, Noted}

@@ -11,8 +11,8 @@ use Rattle.sf_piece.specs.Pieces.{PieceData, StepData, Split, Settled, Empty, ch
 use Rattle.sf_book.specs.Books.{BookData}
 use Rattle.sf_book.specs.Changes.{CommitsAs}
 use Rattle.sf_book.specs.declared.book.Lease.{Lease}
-use Rattle.sf_crew.specs.declared.history.HandleView.{HandleView}
-use Rattle.sf_crew.specs.declared.handles.Thief.{Thief}
+use Rattle.sf_crew.specs.declared.benches.history.HandleView.{HandleView}
+use Rattle.sf_crew.specs.declared.benches.handles.Thief.{Thief}
 use Rattle.sf_crew.specs.History.{Gets, AllGot}
 use Rattle.sf_crew.specs.Benches.{thief_view}
 use Rattle.sf_crew.specs.Workers.{thief_views, GetsOne, PutsOrNot, PutsChildren}

@@ -3,8 +3,8 @@ use Rattle.std.specs.Prelude.{◌≡◌, ℕ, ◌+◌, List, [], ◌∷◌, ◌+
 use mathlib.Core.Option.{some}
 use lib.ListN.{get_elem?}
 use Rattle.sf_book.specs.declared.book.Lease.{Lease}
-use Rattle.sf_crew.specs.declared.history.Event.{Event}
-use Rattle.sf_crew.specs.declared.history.HandleView.{HandleView}
+use Rattle.sf_crew.specs.declared.benches.history.Event.{Event}
+use Rattle.sf_crew.specs.declared.benches.history.HandleView.{HandleView}
 use Rattle.sf_crew.specs.History.{handle_view, NotBy, AllByHandlesBelow, put_leases, got_count, IsLawfulHistory, Puts, Gets}
 
 -- a handle has seen the history up to its last step
@@ -18,7 +18,7 @@ pub record BenchKept (items : List Lease) (views : List HandleView) : Type 0 whe
   pub left : items ≡ drop (got_count history) (put_leases history)
   pub ports : AllByHandlesBelow (length views) history
   pub each : (port : ℕ) (v : HandleView) → get_elem? views port ≡ some v → Fits history port v
-  pub hired : (v : HandleView) → get_elem? views 0 ≡ some v → v.made ≡ length views
+  pub all_made : (v : HandleView) → get_elem? views 0 ≡ some v → v.made ≡ length views
 
 -- the handle put the one lease that came
 abbrev pub PutsAll : HandleView → List Lease → HandleView → Type 0

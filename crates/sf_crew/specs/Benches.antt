@@ -1,9 +1,9 @@
 -- The handles of a bench.
 use Rattle.std.specs.Prelude.{◌≡◌, ℕ, ◌+◌, List, [], ◌∷◌}
 use Rattle.crossbeam_deque.specs.Handles.{view, worker_view}
-use Rattle.sf_crew.specs.declared.handles.Owner.{Owner}
-use Rattle.sf_crew.specs.declared.handles.Thief.{Thief}
-use Rattle.sf_crew.specs.declared.history.HandleView.{HandleView}
+use Rattle.sf_crew.specs.declared.benches.handles.Owner.{Owner}
+use Rattle.sf_crew.specs.declared.benches.handles.Thief.{Thief}
+use Rattle.sf_crew.specs.declared.benches.history.HandleView.{HandleView}
 use Rattle.sf_crew.specs.History.{handle_view}
 
 -- what the owner knows of the bench

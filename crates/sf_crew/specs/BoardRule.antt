@@ -4,8 +4,8 @@ use Rattle.std.specs.Int.{bit_at}
 use mathlib.Core.Option.{some}
 use lib.ListN.{get_elem?}
 use Rattle.atomic_table.specs.Table.{State}
-use Rattle.sf_crew.specs.declared.view.BoardKey.{BoardKey}
-use Rattle.sf_crew.specs.declared.view.View.{View}
+use Rattle.sf_crew.specs.declared.board.view.BoardKey.{BoardKey}
+use Rattle.sf_crew.specs.declared.board.view.View.{View}
 use Rattle.sf_crew.specs.Views.{questions_of, count_of_regions, jobs, Noted, Covered, Each, RightPlace, times, once_below, total, top, doubt_at}
 
 -- what holds of each view, whatever the others are

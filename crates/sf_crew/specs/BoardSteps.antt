@@ -1,9 +1,9 @@
 -- What each step does to a view, and what it tells.
 use Rattle.std.specs.Prelude.{◌≡◌, ℕ, ◌+◌, ◌-◌, ◌<◌, ◌≤◌, List, [], ◌∷◌, ◌++◌, length, Option, Some, None, IfSome}
-use Rattle.sf_crew.specs.declared.view.BoardKey.{BoardKey}
-use Rattle.sf_crew.specs.declared.view.Note.{Note}
-use Rattle.sf_crew.specs.declared.view.EnteredSheet.{EnteredSheet}
-use Rattle.sf_crew.specs.declared.view.View.{View}
+use Rattle.sf_crew.specs.declared.board.view.BoardKey.{BoardKey}
+use Rattle.sf_crew.specs.declared.board.view.Note.{Note}
+use Rattle.sf_crew.specs.declared.board.view.EnteredSheet.{EnteredSheet}
+use Rattle.sf_crew.specs.declared.board.view.View.{View}
 use Rattle.sf_crew.specs.Views.{count_of_regions, jobs, entered_sheet, note, Noted, RightPlace, times, once_below}
 
 -- a view by its parts, in the order in which a view has them

@@ -1,8 +1,8 @@
 -- A board and its seats, as contracts see them.
 use Rattle.std.specs.Prelude.{◌≡◌, Some, None, []}
 use Rattle.atomic_table.specs.Seated.{TableId}
-use Rattle.sf_crew.specs.declared.view.BoardKey.{BoardKey}
-use Rattle.sf_crew.specs.declared.view.View.{View}
+use Rattle.sf_crew.specs.declared.board.view.BoardKey.{BoardKey}
+use Rattle.sf_crew.specs.declared.board.view.View.{View}
 use Rattle.sf_crew.specs.BoardSteps.{view_of}
 use Rattle.sf_crew.specs.declared.board.Board.{Board}
 use Rattle.sf_crew.specs.declared.board.Seat.{Seat}

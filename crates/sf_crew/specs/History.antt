@@ -2,9 +2,9 @@
 -- once and first in, first out.
 use Rattle.std.specs.Prelude.{◌≡◌, ◌≢◌, ℕ, ◌+◌, ◌<◌, List, [], ◌∷◌, ◌++◌, length, Option, Some, slice_get}
 use Rattle.sf_book.specs.declared.book.Lease.{Lease}
-use Rattle.sf_crew.specs.declared.history.Event.{Event}
-use Rattle.sf_crew.specs.declared.history.Event.TheVariants.{Put, Got}
-use Rattle.sf_crew.specs.declared.history.HandleView.{HandleView}
+use Rattle.sf_crew.specs.declared.benches.history.Event.{Event}
+use Rattle.sf_crew.specs.declared.benches.history.Event.TheVariants.{Put, Got}
+use Rattle.sf_crew.specs.declared.benches.history.HandleView.{HandleView}
 
 -- what the handle of number i knows after the history h, where there are n handles
 abbrev pub handle_view : ℕ → ℕ → List Event → HandleView

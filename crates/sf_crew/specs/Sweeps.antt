@@ -14,7 +14,7 @@ use Rattle.sf_crew.specs.declared.board.Board.{Board}
 use Rattle.sf_crew.specs.declared.board.Seat.{Seat}
 use Rattle.sf_crew.specs.declared.board.Tally.{Tally}
 use Rattle.sf_crew.specs.Views.{bit_of, Noted}
-use Rattle.sf_crew.specs.declared.view.View.{View}
+use Rattle.sf_crew.specs.declared.board.view.View.{View}
 use Rattle.sf_crew.specs.BoardSteps.{with_notes}
 use Rattle.sf_crew.specs.Boards.{IsSeatOf, seat_view}
 

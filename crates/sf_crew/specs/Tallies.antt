@@ -1,9 +1,9 @@
 -- What the tally says that a seat closes a board with.
 use Rattle.std.specs.Prelude.{◌≡◌, ℕ, ◌<◌, ◌≤◌, ◌⊎◌, List, map, length, Some, slice_get}
 use Rattle.sf_ask.specs.Sheets.{HasBreak, HasNoBreak}
-use Rattle.sf_crew.specs.declared.view.BoardKey.{BoardKey}
-use Rattle.sf_crew.specs.declared.view.View.{View}
-use Rattle.sf_crew.specs.declared.view.EnteredSheet.{EnteredSheet}
+use Rattle.sf_crew.specs.declared.board.view.BoardKey.{BoardKey}
+use Rattle.sf_crew.specs.declared.board.view.View.{View}
+use Rattle.sf_crew.specs.declared.board.view.EnteredSheet.{EnteredSheet}
 use Rattle.sf_crew.specs.declared.board.Tally.{Tally}
 use Rattle.sf_crew.specs.Views.{regions_of, questions_of, count_of_regions, has, has_doubt, bit_of, IsInDoubt, Each, times, once_below}
 

@@ -5,10 +5,10 @@ use Rattle.sf_book.specs.Books.{BookData}
 use Rattle.sf_ask.specs.QuestionData.{QuestionData}
 use Rattle.sf_ask.specs.Sheets.{HasBreak, HasNoBreak, IsRightWhereGiven}
 use Rattle.sf_ask.specs.declared.verdict.Verdict.TheVariants.{Doubt}
-use Rattle.sf_crew.specs.declared.view.BoardKey.{BoardKey}
-use Rattle.sf_crew.specs.declared.view.EnteredSheet.{EnteredSheet}
-use Rattle.sf_crew.specs.declared.view.Note.{Note}
-use Rattle.sf_crew.specs.declared.view.View.{View}
+use Rattle.sf_crew.specs.declared.board.view.BoardKey.{BoardKey}
+use Rattle.sf_crew.specs.declared.board.view.EnteredSheet.{EnteredSheet}
+use Rattle.sf_crew.specs.declared.board.view.Note.{Note}
+use Rattle.sf_crew.specs.declared.board.view.View.{View}
 
 -- the regions and the questions that a board is about
 abbrev pub regions_of : BoardKey → BookData

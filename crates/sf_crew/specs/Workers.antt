@@ -7,8 +7,8 @@ use Rattle.sf_piece.specs.Pieces.{PieceData, StepData, WorkData, Split, Settled,
 use Rattle.sf_book.specs.declared.book.Lease.{Lease}
 use Rattle.sf_book.specs.Books.{BookData}
 use Rattle.sf_book.specs.Changes.{MayCommit, CommitsAs, with_lease_at}
-use Rattle.sf_crew.specs.declared.history.HandleView.{HandleView}
-use Rattle.sf_crew.specs.declared.handles.Thief.{Thief}
+use Rattle.sf_crew.specs.declared.benches.history.HandleView.{HandleView}
+use Rattle.sf_crew.specs.declared.benches.handles.Thief.{Thief}
 use Rattle.sf_crew.specs.declared.workers.Held.{Held}
 use Rattle.sf_crew.specs.declared.workers.Made.{Made}
 use Rattle.sf_crew.specs.declared.workers.Worker.{Worker}

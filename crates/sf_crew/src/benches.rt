@@ -1,4 +1,8 @@
 //! Benches: the owner puts leases and takes them, thieves steal them, first in, first out.
+
+mod handles;
+mod history;
+
 ghost use Rattle.std.specs.Prelude.{◌≡◌, ℕ, ◌+◌, ◌<◌, [], IfOk, IfErr, MatchResult, MatchOption, vec_len};
 ghost use Rattle.crossbeam_deque.specs.Steals.{MatchSteal};
 ghost use Rattle.sf_crew.specs.History.{Puts, Gets, AllGot, HasNoThief, first_left, handle_view};
@@ -6,9 +10,10 @@ ghost use Rattle.sf_crew.specs.Benches.{owner_view, thief_view, AreThieves};
 ghost use Rattle.sf_crew.specs.declared.fault.Fault.TheVariants.{Memory};
 
 use crate::fault::Fault;
-use crate::handles::{Owner, Thief};
-use crate::history::{Getting, Hiring, Putting};
 use crossbeam_deque::{Steal, Worker};
+pub use handles::{Owner, Thief};
+pub use history::{Event, HandleView};
+use history::{AddingThief, Getting, Putting};
 use sf_book::Lease;
 use std::alloc::{AllocError, Global};
 
@@ -25,12 +30,12 @@ pub fn bench(alloc: Global, thieves: usize) -> Result<(Owner, Vec<Thief>), Fault
     let mut owner = Owner {
         worker: Worker::fifo_as(alloc, ROOM)?,
     };
-    let mut hired = Vec::new(alloc);
+    let mut new_thieves = Vec::new(alloc);
     for given in 0..thieves {
         let thief = owner.add_thief()?;
-        hired.push(thief)?;
+        new_thieves.push(thief)?;
     }
-    Ok((owner, hired))
+    Ok((owner, new_thieves))
 }
 
 impl Owner {
@@ -43,7 +48,7 @@ impl Owner {
             (owner_view self.old).made 0 []) }
     {
         let stealer = self.worker.stealer()?;
-        let pass = self.worker.another::<Hiring>();
+        let pass = self.worker.another::<AddingThief>();
         Ok(Thief { stealer, pass })
     }
 

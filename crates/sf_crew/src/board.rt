@@ -1,12 +1,21 @@
 //! The board: jobs to draw, a least place for each question, the questions with a doubt, and how many sheets were entered.
+
+mod closing;
+mod drawing;
+mod entering;
+mod opening;
+mod steps;
+mod view;
+
 ghost use Rattle.std.specs.Prelude.{◌≡◌, ◌+◌, ◌<◌, ◌≤◌, ◌^◌, nat_lt, length, []};
 ghost use Rattle.std.proofs.Props.{props};
 ghost use Rattle.sf_crew.specs.Views.{questions_of, count_of_regions};
 
-use crate::steps::WholeBoard;
-use crate::view::{BoardKey, View};
 use atomic_table::Table;
 use std::alloc::Global;
+pub(crate) use steps::BITS;
+use steps::WholeBoard;
+pub use view::{BoardKey, EnteredSheet, Note, View};
 
 pub(crate) type Words = Table<u8, View, BoardKey, WholeBoard, Global>;
 

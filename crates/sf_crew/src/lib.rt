@@ -4,28 +4,14 @@
 
 mod benches;
 mod board;
-mod closing;
-mod drawing;
-mod entering;
-mod exploring;
 mod fault;
 mod gate;
-mod handles;
-mod history;
-mod opening;
-mod replying;
-mod setup;
-mod steps;
 mod sweeping;
-mod view;
 mod workers;
 
-pub use benches::bench;
-pub use board::{Board, Seat, Tally};
+pub use benches::{Event, HandleView, Owner, Thief, bench};
+pub use board::{Board, BoardKey, EnteredSheet, Note, Seat, Tally, View};
 pub use fault::Fault;
 pub use gate::{Gate, Open};
-pub use handles::{Owner, Thief};
-pub use history::{Event, HandleView};
-pub use replying::sweep;
-pub use view::{BoardKey, EnteredSheet, Note, View};
+pub use sweeping::sweep;
 pub use workers::{explore, visit};

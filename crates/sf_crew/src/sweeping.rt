@@ -1,4 +1,7 @@
 //! Workers that judge regions by a board.
+
+mod replying;
+
 ghost use Rattle.std.specs.Prelude.{◌≡◌, ◌==◌, if◌then◌else◌, ℕ, ◌+◌, ◌-◌, ◌<◌, ◌≤◌, length, vec_len, All, IfOk, IfErr, OnOk, IfSome, IsTrue, None, Some};
 ghost use Rattle.sf_crew.specs.BoardSteps.{Knows, with_notes};
 ghost use Rattle.sf_crew.specs.Sweeps.{IsWorked, IsFullTally, SkipsOnly};
@@ -6,10 +9,10 @@ ghost use Rattle.sf_crew.specs.Views.{questions_of, regions_of, count_of_regions
 ghost use Rattle.sf_crew.specs.Boards.{about, seat_view, IsSeatOf, IsNewSeat};
 ghost use Rattle.sf_crew.specs.declared.fault.Fault.TheVariants.{Memory};
 
-use crate::board::{Board, Seat, Tally};
+use crate::board::{BITS, Board, Seat, Tally};
 use crate::fault::Fault;
 use crate::gate::Gate;
-use crate::steps::BITS;
+pub use replying::sweep;
 use sf_ask::{Question, Sheet};
 use sf_book::Settled;
 use std::alloc::Global;

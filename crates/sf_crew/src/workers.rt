@@ -1,5 +1,8 @@
 //! Workers that share one book under its lock. Each has a bench of leases, and steals from the benches of the others.
 
+mod exploring;
+mod setup;
+
 ghost use Rattle.std.specs.Prelude.{◌≡◌, ◌⊎◌, ◌<◌, ◌≤◌, IfOk, IfErr, OnOk, OnErr, MatchBool, length, option_map};
 ghost use Rattle.std.specs.Arc.{arc_value};
 ghost use denote.Ref.{Bor};
@@ -13,12 +16,12 @@ ghost use Rattle.sf_crew.specs.Explorations.{IsExhausted, IsExplorationOf, IsExa
 ghost use Rattle.sf_crew.specs.declared.fault.Fault.TheVariants.{Memory, Foreign};
 ghost use Rattle.sf_check.specs.Stacks.{IsPlain};
 
-use crate::exploring::{explore_alone, finished, work_off};
+use crate::benches::{Owner, Thief};
 use crate::fault::Fault;
 use crate::gate::Gate;
-use crate::handles::{Owner, Thief};
-use crate::setup::workers_of;
 use crossbeam_deque::Steal;
+use exploring::{explore_alone, finished, work_off};
+use setup::workers_of;
 use sf_book::{Book, Lease, Settled};
 use sf_check::Stack;
 use sf_piece::{Piece, Work, advance};

@@ -1,9 +1,9 @@
 use Rattle.std.proofs.Common.{◌≡◌, ◌+◌, List, [], ◌∷◌, length, length-append, sym, ap, ◌∙◌, subst, arith}
-use Rattle.sf_crew.specs.declared.history.HandleView.{HandleView}
-use Rattle.sf_crew.specs.declared.handles.Thief.{Thief}
+use Rattle.sf_crew.specs.declared.benches.history.HandleView.{HandleView}
+use Rattle.sf_crew.specs.declared.benches.handles.Thief.{Thief}
 use Rattle.sf_crew.specs.History.{handle_view}
 use Rattle.sf_crew.specs.Benches.{AreThieves, thief_view}
-use Rattle.sf_crew.proofs.NewThieves.{hired_more}
+use Rattle.sf_crew.proofs.NewThieves.{one_thief_more}
 use Rattle.sf_crew.proofs.benches.bench.Goals as goal
 
 pub loop-given-preserved : goal.loop-given-preserved
@@ -11,13 +11,13 @@ loop-given-preserved c =
     let i = c.loop-given.invariant in
     let seen : thief_view c.in_ok-thief.thief ≡ handle_view (c.loop-given.given + 1) 0 [] =
     c.in_ok-thief.ensures.thief ∙ ap (λ (e : HandleView). handle_view e.made 0 []) i.owner in
-    let long : length c.loop-given.hired.items ≡ c.loop-given.given = i.long in
+    let long : length c.loop-given.new_thieves.items ≡ c.loop-given.given = i.long in
     record {
       owner = c.in_ok-thief.ensures.owner ∙ ap (λ (e : HandleView). handle_view e.me (e.made + 1) []) i.owner;
       count = omega (arith, c.in_ok-push.ensures.len, i.count);
       long = ap (λ (l : List Thief). length l) c.in_ok-push.ensures.items
-          ∙ omega (arith, length-append c.loop-given.hired.items (c.in_ok-thief.thief ∷ []), long);
+          ∙ omega (arith, length-append c.loop-given.new_thieves.items (c.in_ok-thief.thief ∷ []), long);
       thieves = subst (AreThieves 1) (sym c.in_ok-push.ensures.items)
-          (hired_more 1 (c.loop-given.given + 1) c.loop-given.hired.items c.in_ok-thief.thief i.thieves
+          (one_thief_more 1 (c.loop-given.given + 1) c.loop-given.new_thieves.items c.in_ok-thief.thief i.thieves
           (omega (arith, long)) seen);
     }

@@ -6,7 +6,7 @@ use Rattle.sf_crew.proofs.benches.bench.Given as goal
 abbrev pub invariant-loop-given : goal.invariant-loop-given
 invariant-loop-given l = record {
   owner : owner_view l.owner ≡ handle_view 0 (l.given + 1) [];
-  count : vec_len l.hired ≡ l.given;
-  long : length l.hired.items ≡ l.given;
-  thieves : AreThieves 1 l.hired.items;
+  count : vec_len l.new_thieves ≡ l.given;
+  long : length l.new_thieves.items ≡ l.given;
+  thieves : AreThieves 1 l.new_thieves.items;
 }

@@ -1,6 +1,6 @@
 use Rattle.std.proofs.Common.{◌≡◌, ◌<◌, List, length, Some, sym, ap, ◌∙◌, subst, arith}
 use Rattle.sf_ask.specs.QuestionData.{QuestionData}
-use Rattle.sf_crew.specs.declared.view.View.{View}
+use Rattle.sf_crew.specs.declared.board.view.View.{View}
 use Rattle.sf_crew.specs.Views.{questions_of}
 use Rattle.sf_crew.proofs.Jobs.{entered_count}
 use Rattle.sf_crew.proofs.Skips.{not_wanted}

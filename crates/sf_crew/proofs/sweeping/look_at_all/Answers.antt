@@ -1,5 +1,5 @@
 use Rattle.std.proofs.Common.{◌≡◌, ◌≢◌, ℕ, ◌+◌, ◌<◌, List, ap, ◌∙◌, refl, arith}
-use Rattle.sf_crew.specs.declared.view.View.{View}
+use Rattle.sf_crew.specs.declared.board.view.View.{View}
 use Rattle.sf_crew.specs.Views.{bit_of}
 use Rattle.sf_crew.specs.BoardSteps.{with_notes}
 use Rattle.sf_crew.specs.Boards.{seat_view}

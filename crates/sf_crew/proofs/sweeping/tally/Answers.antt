@@ -1,5 +1,5 @@
 use Rattle.std.proofs.Common.{List, All, subst, ◌≡◌, ◌+◌, ◌<◌, length, vec_len, sym, ap, ◌∙◌, arith, rules}
-use Rattle.sf_crew.specs.declared.view.View.{View}
+use Rattle.sf_crew.specs.declared.board.view.View.{View}
 use Rattle.sf_crew.specs.Boards.{about, seat_view, IsNewSeat}
 use Rattle.sf_crew.specs.declared.board.Seat.{Seat}
 use Rattle.sf_crew.proofs.FullLemmas.{full_tally, last_of}

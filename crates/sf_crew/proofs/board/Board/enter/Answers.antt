@@ -1,6 +1,6 @@
 use Rattle.std.proofs.Common.{◌≡◌, ◌<◌, List, [], Some, subst, sym, ap, ◌∙◌, arith}
-use Rattle.sf_crew.specs.declared.view.View.{View}
-use Rattle.sf_crew.specs.declared.view.Note.{Note}
+use Rattle.sf_crew.specs.declared.board.view.View.{View}
+use Rattle.sf_crew.specs.declared.board.view.Note.{Note}
 use Rattle.sf_crew.specs.Views.{entered_sheet, Covered}
 use Rattle.sf_crew.specs.BoardSteps.{view_of}
 use Rattle.sf_crew.specs.EnteredSheets.{AreDoubts}

@@ -3,8 +3,8 @@ use Rattle.sf_book.specs.Books.{BookData}
 use Rattle.sf_ask.specs.QuestionData.{QuestionData}
 use Rattle.sf_ask.specs.Sheets.{HasBreak}
 use Rattle.sf_ask.specs.Sheets.{verdict_at}
-use Rattle.sf_crew.specs.declared.view.View.{View}
-use Rattle.sf_crew.specs.declared.view.Note.{Note}
+use Rattle.sf_crew.specs.declared.board.view.View.{View}
+use Rattle.sf_crew.specs.declared.board.view.Note.{Note}
 use Rattle.sf_crew.specs.Views.{questions_of, count_of_regions, note}
 use Rattle.sf_crew.specs.BoardSteps.{with_notes, view_with_note}
 use Rattle.sf_crew.specs.EnteredSheets.{NotesHits}

@@ -1,0 +1,221 @@
+-- What drawing a job keeps of the rule of a board.
+use Rattle.std.proofs.Common.{◌≡◌, ℕ, suc, ◌+◌, ◌/◌, ◌%◌, ◌<◌, ◌≤◌, ◌==◌, if◌then◌else◌, min, List, ◌++◌, map, length, set, slice_index, Some, None, IfSome, sym, refl, ap, ◌∙◌, subst, length-set, lt_of_not-le, arith}
+use Rattle.std.specs.Int.{bit_at}
+use Rattle.std.proofs.lemmas.Bool.Decides.{nat_tests}
+use Rattle.std.proofs.lemmas.List.{get_or-set_same, get_or-set_other}
+use mathlib.Core.Option.{some}
+use native.Mathlib.Decide.{dec_le}
+use lib.ListN.{get_elem?}
+use Rattle.atomic_table.specs.Table.{Me, Allows, keeps}
+use Rattle.sf_crew.specs.declared.board.view.BoardKey.{BoardKey}
+use Rattle.sf_crew.specs.declared.board.view.View.{View}
+use Rattle.sf_crew.specs.Views.{questions_of, count_of_regions, jobs, owed_jobs, times, once_below, total, doubt_at}
+use Rattle.sf_crew.specs.BoardRule.{Sound, Kept, BoardKept, least_in, doubts_in}
+use Rattle.sf_crew.specs.BoardSteps.{view_with_job, view_without_job, HasAllJobs, Draws}
+use Rattle.sf_crew.proofs.Jobs.{jobs_all, count_all}
+use Rattle.sf_crew.proofs.Totals.{total_set, total_at, total_le, top_set, top_at, every_set}
+
+below_next : (x n : ℕ) → once_below x (n + 1) ≡ once_below x n + (if x == n then 1 else 0)
+below_next x n = grind (arith, nat_tests)
+
+pub later : (k : BoardKey) (n m : ℕ) (least less : ℕ → ℕ) (v : View) → n ≤ m → ((q : ℕ) → less q ≤ least q)
+    → Sound k n least v → Sound k m less v
+later k n m least less v up down h = record {
+  about = h.about;
+  idle = h.idle;
+  few = h.few;
+  past = λ some_none. let was = h.past some_none in omega arith;
+  marks = h.marks;
+  noted = λ q r at. let was = h.noted q r at in let now = down q in omega arith;
+  covered = h.covered;
+}
+
+-- the words of doubts are the first four alone
+pub redoubted : (k : BoardKey) (n e : ℕ) (d d' least : ℕ → ℕ) (views : List View) → ((w : ℕ) → w < 4 → d w ≡ d' w)
+    → Kept k n e d least views → Kept k n e d' least views
+redoubted k n e d d' least views same h = record {
+  joined_seats = h.joined_seats;
+  drawn = h.drawn;
+  drawn_count = h.drawn_count;
+  past_end = h.past_end;
+  entered_is = h.entered_is;
+  marked = λ q few. ap (λ x. bit_at x (q % 64)) (sym (same (q / 64) (omega arith))) ∙ h.marked q few;
+  right = h.right;
+  each = h.each;
+}
+
+-- the job word changes
+put_next : (k : BoardKey) (words : List ℕ) (n : ℕ) (views : List View) → length words ≡ length (questions_of k) + 6
+    → Kept k n (slice_index words 1) (doubts_in words) (least_in words) views
+    → (length (set words 0 n) ≡ length (questions_of k) + 6)
+    × Kept k (slice_index (set words 0 n) 0) (slice_index (set words 0 n) 1) (doubts_in (set words 0 n))
+    (least_in (set words 0 n)) views
+put_next k words n views long h =
+    let p0 : slice_index (set words 0 n) 0 ≡ n = get_or-set_same words 0 n 0 (omega arith) in
+    let p1 : slice_index (set words 0 n) 1 ≡ slice_index words 1 = get_or-set_other words 0 1 n 0 (λ e. omega arith) in
+    let pd : (w : ℕ) → slice_index (set words 0 n) (w + 2) ≡ slice_index words (w + 2) =
+    λ w. get_or-set_other words 0 (w + 2) n 0 (λ e. omega arith) in
+    let pl : (q : ℕ) → slice_index (set words 0 n) (q + 6) ≡ slice_index words (q + 6) =
+    λ q. get_or-set_other words 0 (q + 6) n 0 (λ e. omega arith) in (
+      length-set words 0 n ∙ long,
+      subst (λ (x : ℕ × ℕ × (ℕ → ℕ) × (ℕ → ℕ)). Kept k x.0 x.1 x.2 x.3 views)
+          (λ i. (sym p0 i, sym p1 i, λ w. sym (pd w) i, λ q. sym (pl q) i)) h,
+    )
+
+draw_kept : (k : BoardKey) (n e : ℕ) (d least : ℕ → ℕ) (views : List View) (port : ℕ) (v : View)
+    → n < count_of_regions k
+    → v.owes ≡ None → 0 < v.joined_seats → get_elem? views port ≡ some v → Kept k n e d least views
+    → Kept k (n + 1) e d least (set views port (view_with_job v n))
+draw_kept k n e d least views port v below free part at h = let w : View = view_with_job v n in
+    let mine = h.each port v at in record {
+      joined_seats = (let s = total_set (λ u. u.joined_seats) views port v w at in
+          let p = h.joined_seats in omega arith);
+      drawn = λ x.
+          let f : View → ℕ = λ u. times x (jobs u) in
+          let s : total f (set views port w) + f v ≡ total f views + f w = total_set f views port v w at in
+          let mine_was : f v ≡ times x (map (λ e. e.job) v.entered_sheets) =
+          ap (λ o. times x (owed_jobs o ++ map (λ e. e.job) v.entered_sheets)) free in
+          let mine_is : f w ≡ (if x == n then 1 else 0) + times x (map (λ e. e.job) v.entered_sheets) = refl in
+          let before : total f views ≡ once_below x n = h.drawn x ∙ ap (once_below x) (omega arith) in
+          let after : once_below x (min (n + 1) (count_of_regions k)) ≡ once_below x (n + 1) =
+          ap (once_below x) (omega arith) in
+          let b = below_next x n in
+          omega arith;
+      drawn_count =
+          let f : View → ℕ = λ u. length (jobs u) in
+          let s : total f (set views port w) + f v ≡ total f views + f w = total_set f views port v w at in
+          let mine_was : f v ≡ length (map (λ e. e.job) v.entered_sheets) =
+          ap (λ o. length (owed_jobs o ++ map (λ e. e.job) v.entered_sheets)) free in
+          let mine_is : f w ≡ suc (length (map (λ e. e.job) v.entered_sheets)) = refl in
+          let c = h.drawn_count in omega arith;
+      past_end = (let s = total_set (λ u. u.exhausted_seats) views port v w at in let p = h.past_end in omega arith);
+      entered_is = (let s = total_set (λ u. length u.entered_sheets) views port v w at in
+          let p = h.entered_is in omega arith);
+      marked = λ q few. (let s = top_set (doubt_at q) views port v w at (omega arith) in
+          let t = top_at (doubt_at q) views port v at in let p = h.marked q few in
+          let same : doubt_at q w ≡ doubt_at q v = refl in omega arith);
+      right = h.right;
+      each = every_set (Sound k n least) (Sound k (n + 1) least) views port w h.each
+          (λ u s. later k n (n + 1) least least u (omega arith) (λ q. omega arith) s) record {
+            about = mine.about;
+            idle = λ none. absurd (omega arith);
+            few = mine.few;
+            past = λ some_none. let was = mine.past some_none in omega arith;
+            marks = λ none. mine.marks free;
+            noted = mine.noted;
+            covered = mine.covered;
+          };
+    }
+
+pass_kept : (k : BoardKey) (n e : ℕ) (d least : ℕ → ℕ) (views : List View) (port : ℕ) (v : View)
+    → count_of_regions k ≤ n
+    → v.exhausted_seats ≡ 0 → 0 < v.joined_seats → get_elem? views port ≡ some v → Kept k n e d least views
+    → Kept k (n + 1) e d least (set views port (view_without_job v))
+pass_kept k n e d least views port v past fresh part at h = let w : View = view_without_job v in
+    let mine = h.each port v at in record {
+      joined_seats = (let s = total_set (λ u. u.joined_seats) views port v w at in
+          let p = h.joined_seats in omega arith);
+      drawn = λ x.
+          let f : View → ℕ = λ u. times x (jobs u) in
+          let s : total f (set views port w) + f v ≡ total f views + f w = total_set f views port v w at in
+          let same : f w ≡ f v = refl in
+          let before : total f views ≡ once_below x (min n (count_of_regions k)) = h.drawn x in
+          let after : once_below x (min (n + 1) (count_of_regions k)) ≡ once_below x (min n (count_of_regions k)) =
+          ap (once_below x) (omega arith) in
+          omega arith;
+      drawn_count =
+          let f : View → ℕ = λ u. length (jobs u) in
+          let s : total f (set views port w) + f v ≡ total f views + f w = total_set f views port v w at in
+          let same : f w ≡ f v = refl in
+          let c = h.drawn_count in omega arith;
+      past_end = (let s = total_set (λ u. u.exhausted_seats) views port v w at in let p = h.past_end in omega arith);
+      entered_is = (let s = total_set (λ u. length u.entered_sheets) views port v w at in
+          let p = h.entered_is in omega arith);
+      marked = λ q few. (let s = top_set (doubt_at q) views port v w at (omega arith) in
+          let t = top_at (doubt_at q) views port v at in let p = h.marked q few in
+          let same : doubt_at q w ≡ doubt_at q v = refl in omega arith);
+      right = h.right;
+      each = every_set (Sound k n least) (Sound k (n + 1) least) views port w h.each
+          (λ u s. later k n (n + 1) least least u (omega arith) (λ q. omega arith) s) record {
+            about = mine.about;
+            idle = λ none. absurd (omega arith);
+            few = omega arith;
+            past = λ _. omega arith;
+            marks = mine.marks;
+            noted = mine.noted;
+            covered = mine.covered;
+          };
+    }
+
+-- the job word stays far below the end of its type
+nones_below : (k : BoardKey) (n e : ℕ) (d least : ℕ → ℕ) (views : List View) (port : ℕ) (v : View)
+    → v.exhausted_seats ≡ 0
+    → 0 < v.joined_seats → get_elem? views port ≡ some v → Kept k n e d least views
+    → n + 1 ≤ count_of_regions k + k.seats
+nones_below k n e d least views port v fresh part at h =
+    let w : View = view_without_job v in let mine = h.each port v at in
+    let a = total_set (λ u. u.exhausted_seats) views port v w at in
+    let b = total_set (λ u. u.joined_seats) views port v w at in
+    let le : total (λ u. u.exhausted_seats) (set views port w) ≤ total (λ u. u.joined_seats) (set views port w) =
+    total_le (λ u. u.exhausted_seats) (λ u. u.joined_seats) (set views port w)
+    (every_set (λ u. Sound k n least u) (λ u. u.exhausted_seats ≤ u.joined_seats) views port w h.each (λ u s. s.few)
+    (omega arith)) in
+    let p = h.joined_seats in let q = h.past_end in omega arith
+
+draw_step : (k : BoardKey) (words : List ℕ) (views : List View) (id : ℕ) (v : View) → v.owes ≡ None
+    → v.exhausted_seats ≡ 0
+    → 0 < v.joined_seats → count_of_regions k + k.seats < 18446744073709551616
+    → length words ≡ length (questions_of k) + 6 → Kept k (slice_index words 0) (slice_index words 1) (doubts_in words)
+    (least_in words) views → get_elem? views id ≡ some v
+    → Dec (count_of_regions k ≤ slice_index words 0)
+    → (w : View) × Kept k ((slice_index words 0 + 1) % 18446744073709551616) (slice_index words 1) (doubts_in words)
+    (least_in words) (set views id w)
+    × (slice_index words 0 < count_of_regions k → (times (slice_index words 0) (jobs v) ≡ 0)
+    × (length (jobs v) < count_of_regions k)
+    × (w ≡ view_with_job v (slice_index words 0)))
+    × (count_of_regions k ≤ slice_index words 0 → (w ≡ view_without_job v) × HasAllJobs k w)
+draw_step k words views id v free fresh part small long h at (yes past) =
+    let n = slice_index words 0 in let most = nones_below k n _ _ _ views id v fresh part at h in
+    let e : n + 1 ≡ (n + 1) % 18446744073709551616 = omega arith in (
+      view_without_job v,
+      subst (λ m. Kept k m (slice_index words 1) (doubts_in words) (least_in words)
+          (set views id (view_without_job v))) e
+          (pass_kept k n _ _ _ views id v past fresh part at h),
+      (λ below. absurd (omega arith)),
+      (λ _. (
+        refl,
+        λ whole. (
+          count_all k n _ _ _ views id v at h whole ∙ omega arith,
+          λ x. jobs_all k n _ _ _ views id v at h whole x ∙ ap (once_below x) (omega arith),
+        ),
+      )),
+    )
+draw_step k words views id v free fresh part small long h at (no not_past) =
+    let n = slice_index words 0 in let below : n < count_of_regions k = lt_of_not-le not_past in
+    let e : n + 1 ≡ (n + 1) % 18446744073709551616 = omega arith in
+    let mine : times n (jobs v) ≤ total (λ u. times n (jobs u)) views =
+    total_at (λ u. times n (jobs u)) views id v at in
+    let all : total (λ u. times n (jobs u)) views ≡ once_below n (min n (count_of_regions k)) = h.drawn n in
+    let none : once_below n (min n (count_of_regions k)) ≡ 0 = grind (arith, nat_tests) in
+    let count = total_at (λ u. length (jobs u)) views id v at in let counted = h.drawn_count in (
+      view_with_job v n,
+      subst (λ m. Kept k m (slice_index words 1) (doubts_in words) (least_in words)
+          (set views id (view_with_job v n))) e (draw_kept k n _ _ _ views id v below free part at h),
+      (λ _. (omega arith, omega arith, refl)),
+      (λ past. absurd (omega arith)),
+    )
+
+pub draws : (k : BoardKey) (slots id : ℕ) (me : Me ℕ View) → me.0.about ≡ Some k → me.0.owes ≡ None
+    → me.0.exhausted_seats ≡ 0
+    → 0 < me.0.joined_seats → count_of_regions k + k.seats < 18446744073709551616
+    → Allows (BoardKept k) slots id me 0 (λ n. (n + 1) % 18446744073709551616) (λ n w. Draws me.0 n w.0 × (w.1 ≡ me.1))
+draws k slots id me is free fresh part small s h homes at fits =
+    let v : View = me.0 in let n : ℕ = slice_index s.words 0 in
+    let t = draw_step k s.words s.views id v free fresh part small h.0 h.1 at (dec_le (count_of_regions k) n) in
+    let told : IfSome v.about (λ j. (n < count_of_regions j → (times n (jobs v) ≡ 0)
+    × (length (jobs v) < count_of_regions j)
+    × (t.0 ≡ view_with_job v n)) × (count_of_regions j ≤ n → (t.0 ≡ view_without_job v) × HasAllJobs j t.0)) =
+    subst (λ o. IfSome o (λ j. (n < count_of_regions j → (times n (jobs v) ≡ 0) × (length (jobs v) < count_of_regions j)
+    × (t.0 ≡ view_with_job v n)) × (count_of_regions j ≤ n → (t.0 ≡ view_without_job v) × HasAllJobs j t.0)))
+    (sym is) (t.2, t.3) in
+    (t.0, keeps, tt, put_next k s.words _ _ h.0 t.1, (told, refl))

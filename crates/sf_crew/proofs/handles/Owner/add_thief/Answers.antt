@@ -1,5 +1,0 @@
-use Rattle.sf_crew.proofs.Histories.{forks}
-use Rattle.sf_crew.proofs.handles.Owner.add_thief.Goals as goal
-
-pub another-pass-requires : goal.another-pass-requires
-another-pass-requires c = forks _ _ c.args.self.now.port

@@ -1,5 +1,0 @@
-use Rattle.sf_crew.proofs.Histories.{pushes}
-use Rattle.sf_crew.proofs.handles.Owner.put.Goals as goal
-
-pub push_as-requires-clause-pushes : goal.push_as-requires-clause-pushes
-push_as-requires-clause-pushes c = pushes _ _ _ c.args.self.now.port

@@ -1,8 +1,0 @@
-use Rattle.std.proofs.Common.{◌≡◌, length}
-use Rattle.sf_crew.proofs.setup.workers_of.Given as goal
-
-abbrev pub invariant-loop-number : goal.invariant-loop-number
-invariant-loop-number l = record {
-  workers : length l.workers.items ≡ l.number;
-  thieves : length l.thieves.items ≡ l.number;
-}

@@ -1,0 +1,44 @@
+use Rattle.sf_crew.proofs.Replies.{reply_allowed, tally_unbroken, tally_certain, tally_doubtful, tally_first, tally_passed, question_there, place_there, ok_replies}
+use Rattle.sf_crew.proofs.sweeping.replying.reply_of.Goals as goal
+
+pub unbroken-requires-clause-unbroken : goal.unbroken-requires-clause-unbroken
+unbroken-requires-clause-unbroken c = tally_unbroken _ _ c.args.tally.now c.args.q _ _ c.requires.tally
+    c.requires.question.0 (question_there _ c.args.q _ c.requires.question.0 c.index-questions-q.is) c.in_default.is
+    c.is_marked-doubt.ensures
+
+pub unbroken-requires-clause-plain : goal.unbroken-requires-clause-plain
+unbroken-requires-clause-plain c = tally_certain _ _ c.args.tally.now c.args.q _ c.requires.tally c.requires.question.0
+    c.is_marked-doubt.ensures
+
+pub unbroken-requires-clause-doubtful : goal.unbroken-requires-clause-doubtful
+unbroken-requires-clause-doubtful c =
+    tally_doubtful _ _ c.args.tally.now c.args.q _ _ c.requires.tally c.requires.question.0
+    (question_there _ c.args.q _ c.requires.question.0 c.index-questions-q.is) c.is_marked-doubt.ensures
+
+pub returns-in_default-clause-ok : goal.returns-in_default-clause-ok
+returns-in_default-clause-ok c = record {
+  question = c.index-questions-q.result;
+  asked = question_there _ c.args.q _ c.requires.question.0 c.index-questions-q.is;
+  replies = c.unbroken.ensures;
+}
+
+pub judge-requires : goal.judge-requires
+judge-requires c = let b = c.requires.tally.breaks c.args.q c.in-Some.place
+    (place_there _ c.args.q c.in-Some.place c.in-Some.is) in b.0
+
+pub returns-in-Hit-clause-ok : goal.returns-in-Hit-clause-ok
+returns-in-Hit-clause-ok c =
+    let asked = question_there _ c.args.q _ c.requires.question.0 c.index-questions-q.is in record {
+      question = c.index-questions-q.result;
+      asked = asked;
+      replies = reply_allowed _ _ c.in-Some.place c.in-Hit.input (rw c.in-Hit.is at c.in_ok-input.ensures.right)
+          (rw c.in-Hit.is at c.in_ok-input.ensures.tried)
+          (tally_passed _ _ c.args.tally.now c.args.q c.in-Some.place _ c.requires.tally c.requires.question.0 asked
+          (place_there _ c.args.q c.in-Some.place c.in-Some.is))
+          (tally_first _ _ c.args.tally.now c.args.q c.in-Some.place _ c.requires.tally c.requires.question.0 asked
+          (place_there _ c.args.q c.in-Some.place c.in-Some.is));
+    }
+
+pub returns-clause-ok : goal.returns-clause-ok
+returns-clause-ok c = ok_replies _ _ c.args.q _ _
+    (question_there _ c.args.q _ c.requires.question.0 c.index-questions-q.is) c.reply_in_turn.ensures.ok

@@ -1,0 +1,67 @@
+//! What the handles of a bench know of it, for proofs alone.
+use crossbeam_deque::protocol::{Outcome, Protocol, Split};
+use sf_book::Lease;
+use std::collections::LinkedList;
+
+/// What happened on a bench: a lease was put, or the handle of this number got one.
+pub enum Event {
+    /// The owner put this lease.
+    Put(Lease),
+    /// The handle of this number got the first lease that was left.
+    Got(usize),
+}
+
+/// What a handle knows: its number, how many handles there are (the owner alone), and the history up to its last step. No
+/// value of it is made.
+pub struct HandleView {
+    /// The handle's number; the owner has 0.
+    pub me: usize,
+    /// How many handles the owner has made, itself with them; 0 for a thief.
+    pub made: usize,
+    /// The history up to the handle's last step, oldest first.
+    pub events: LinkedList<Event>,
+}
+
+/// The rule of a bench: it holds what was put and not yet got, in the order of putting.
+pub(crate) struct InOrder;
+
+impl Protocol<Lease, HandleView> for InOrder {
+    ghost use Rattle.std.specs.Prelude.{[]};
+    ghost use Rattle.sf_crew.specs.BenchRule.{BenchKept};
+    ghost use Rattle.sf_crew.specs.History.{handle_view};
+
+    ghost holds = { BenchKept };
+
+    ghost first = { handle_view 0 1 [] };
+
+    ghost guest = { handle_view 0 1 [] };
+}
+
+pub(crate) struct Putting;
+
+impl Outcome<Lease, HandleView> for Putting {
+    ghost use Rattle.sf_crew.specs.BenchRule.{PutsAll};
+
+    ghost then = { PutsAll };
+}
+
+pub(crate) struct Getting;
+
+impl Outcome<Lease, HandleView> for Getting {
+    ghost use Rattle.sf_crew.specs.History.{AllGot};
+    ghost use Rattle.sf_crew.specs.BenchRule.{GetsAll};
+
+    ghost then = { GetsAll };
+
+    ghost empty = { AllGot };
+}
+
+pub(crate) struct AddingThief;
+
+impl Split<HandleView> for AddingThief {
+    ghost use Rattle.sf_crew.specs.BenchRule.{owner_with_thief, new_thief_view};
+
+    ghost left = { owner_with_thief };
+
+    ghost right = { new_thief_view };
+}

@@ -1,0 +1,134 @@
+//! Turns of one worker that has the book to itself: pieces are leased, worked and committed until none is left or the
+//! budget is spent.
+
+ghost use Rattle.std.specs.Prelude.{◌≡◌, ◌≢◌, IfOk, IfErr, OnOk, MatchOption, option_map};
+ghost use Rattle.std.specs.Arc.{arc_value};
+ghost use Rattle.sf_piece.specs.Pieces.{children_of};
+ghost use Rattle.sf_crew.specs.Explorations.{IsExhausted, IsFree, HasOnly, MayWork, IsSameExploration, GoesOn, IsExplorationOf, IsExactExploration};
+ghost use Rattle.sf_crew.specs.declared.fault.Fault.TheVariants.{Memory, Foreign};
+ghost use Rattle.sf_check.specs.Stacks.{IsPlain};
+
+use crate::fault::Fault;
+use crate::gate::Gate;
+use sf_book::{Book, Lease, Settled};
+use sf_check::Stack;
+use sf_piece::{Piece, Work, advance};
+use std::alloc::Global;
+use std::sync::Arc;
+
+/// The lease that the last turn left, or else one of the first piece. `None` where no piece is left, or the budget is
+/// spent.
+fn next_lease(book: &mut Book, left: Option<Lease>) -> Result<Option<Lease>, Fault>
+    requires { HasOnly book.old left }
+    ensures same { IsSameExploration book.old book.new }
+    ensures commits { book.new.commits ≡ book.old.commits }
+    ensures ok { IfOk result (λ l. MatchOption l (IsExhausted book.new) (λ x. MayWork book.new x)) }
+    ensures err { IfErr result (λ f. f ≡ Memory) }
+{
+    if book.counts().commits == book.budget() {
+        return Ok(None);
+    }
+    if let Some(lease) = left {
+        return Ok(Some(lease));
+    }
+    Ok(book.lease()?)
+}
+
+/// The false child of a work that split its piece.
+fn false_child(work: &Work) -> Result<Option<Arc<Piece>>, Fault>
+    ensures ok { IfOk result (λ c. option_map (λ p. arc_value p) c
+        ≡ option_map (λ c. c.0) (children_of work.now.step)) }
+    ensures err { IfErr result (λ f. f ≡ Memory) }
+{
+    match work.children() {
+        Some((on_false, _)) => Ok(Some(Arc::try_clone(on_false)?)),
+        None => Ok(None),
+    }
+}
+
+/// One turn: the piece of the lease is worked and committed. Where it is split, the true child is given back, and the
+/// lease of the false one is answered: its name is the first of all. The book is in hand from lease to commit, so the
+/// work is known to be of it, and their stacks aren't compared.
+fn turn<G: Gate>(
+    alloc: Global,
+    book: &mut Book,
+    gate: &G,
+    worker: usize,
+    call: usize,
+    lease: Lease,
+) -> Result<Option<Lease>, Fault>
+    requires { MayWork book.old lease }
+    ensures same { IsSameExploration book.old book.new }
+    ensures ok { IfOk result (λ left. GoesOn book.old left book.new) }
+    ensures err { IfErr result (λ f. f ≡ Memory) }
+{
+    let work = advance(alloc, &lease.piece)?;
+    let child = false_child(&work)?;
+    gate.pass(worker, call);
+    // For the prover: the book is lawful.
+    let _counts = book.counts();
+    let Some((f, t)) = book.commit_own(lease.id, work)? else {
+        return Ok(None);
+    };
+    let Some(piece) = child else { unreachable!() };
+    book.give_back(t);
+    Ok(Some(Lease { id: f, piece }))
+}
+
+/// Works pieces one after another until none is outstanding or the budget is spent. The calls of the worker are
+/// numbered from 1.
+pub(crate) fn work_off<G: Gate>(
+    alloc: Global,
+    book: &mut Book,
+    gate: &G,
+    worker: usize,
+) -> Result<(), Fault>
+    requires { IsFree book.old.outstanding }
+    ensures same { IsSameExploration book.old book.new }
+    ensures end { OnOk result (IsExhausted book.new) }
+    ensures err { IfErr result (λ f. f ≡ Memory) }
+{
+    let budget = book.budget();
+    let mut left = None;
+    for call in 0..budget {
+        let Some(lease) = next_lease(book, left)? else {
+            return Ok(());
+        };
+        left = turn(alloc, book, gate, worker, call as usize + 1, lease)?;
+    }
+    // For the prover: the book is lawful at the end too.
+    let _end = book.counts();
+    Ok(())
+}
+
+/// Closes a book of this budget that was worked off. `Foreign` where it is of another stack.
+pub(crate) fn finished(book: Book, stack: &Arc<Stack>, _budget: u32) -> Result<Settled, Fault>
+    requires end { IsExhausted book }
+    requires budget { book.budget ≡ _budget }
+    ensures ok { IfOk result (λ s. IsExplorationOf (arc_value stack.now) _budget s) }
+    ensures plain { IfOk result (λ s. IsPlain (arc_value stack.now)
+        → IsExactExploration (arc_value stack.now) _budget s) }
+    ensures err { IfErr result (λ f. (f ≡ Foreign) × (book.stack ≢ arc_value stack.now)) }
+{
+    let settled = book.finish(stack)?;
+    // For the prover: what has settled is lawful.
+    let _counts = settled.counts();
+    Ok(settled)
+}
+
+/// Explores a stack by the calling thread alone, as worker 0.
+pub(crate) fn explore_alone<G: Gate>(
+    alloc: Global,
+    stack: Arc<Stack>,
+    budget: u32,
+    gate: &G,
+) -> Result<Settled, Fault>
+    ensures ok { IfOk result (λ s. IsExplorationOf (arc_value stack) budget s) }
+    ensures plain { IfOk result (λ s. IsPlain (arc_value stack)
+        → IsExactExploration (arc_value stack) budget s) }
+    ensures err { IfErr result (λ f. f ≡ Memory) }
+{
+    let mut book = Book::open(alloc, Arc::try_clone(&stack)?, budget)?;
+    work_off(alloc, &mut book, gate, 0)?;
+    finished(book, &stack, budget)
+}

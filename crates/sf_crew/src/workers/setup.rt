@@ -1,0 +1,55 @@
+//! How workers are made: a bench for each, and a thief on it for each other worker.
+
+ghost use Rattle.std.specs.Prelude.{◌≡◌, ◌<◌, ◌≤◌, IfOk, IfErr, length, vec_len};
+ghost use Rattle.sf_crew.specs.declared.fault.Fault.TheVariants.{Memory};
+
+use crate::benches::{Thief, bench};
+use crate::fault::Fault;
+use crate::workers::Worker;
+use std::alloc::Global;
+
+/// Workers with the numbers from 0, and a bench each.
+pub(crate) fn workers_of(alloc: Global, count: usize) -> Result<Vec<Worker>, Fault>
+    requires { (0 < count) × (count ≤ 64) }
+    ensures count { IfOk result (λ v. vec_len v ≡ count) }
+    ensures err { IfErr result (λ f. f ≡ Memory) }
+{
+    let mut workers = Vec::new(alloc);
+    let mut thieves = Vec::new(alloc);
+    for number in 0..count {
+        let (own, new_thieves) = bench(alloc, count - 1)?;
+        workers.push(Worker {
+            number,
+            own,
+            others: Vec::new(alloc),
+        })?;
+        thieves.push(new_thieves)?;
+    }
+    hand_out_all(&mut workers, &mut thieves)?;
+    Ok(workers)
+}
+
+/// Gives each worker a thief on the bench of each other one, the next one's first.
+fn hand_out_all(workers: &mut [Worker], thieves: &mut [Vec<Thief>]) -> Result<(), Fault>
+    requires { (length workers.old ≡ length thieves.old) × (length workers.old ≤ 64) }
+    ensures err { IfErr result (λ f. f ≡ Memory) }
+{
+    for step in 1..workers.len() {
+        hand_out(workers, thieves, step)?;
+    }
+    Ok(())
+}
+
+/// Gives each worker a thief on the bench that is so many steps after its own.
+fn hand_out(workers: &mut [Worker], thieves: &mut [Vec<Thief>], step: usize) -> Result<(), Fault>
+    requires { (length workers.old ≡ length thieves.old) × (length workers.old ≤ 64) × (step < 64) }
+    ensures err { IfErr result (λ f. f ≡ Memory) }
+{
+    for number in 0..workers.len() {
+        let place = (number + step) % thieves.len();
+        if let Some(thief) = thieves[place].pop() {
+            workers[number].others.push(thief)?;
+        }
+    }
+    Ok(())
+}
