@@ -1,7 +1,7 @@
 //! One worker, with no thread.
-use samples::execve_stack;
+use samples::{ALLOW, execve_stack, op, stack_of, telling_apart};
 use sf_check::Stack;
-use sf_crew::{Fault, Gate, explore};
+use sf_crew::{Fault, Gate, Open, explore};
 use std::alloc::Global;
 use std::sync::atomic::{AtomicUsize, Ordering};
 use std::sync::{Arc, Wait};
@@ -49,6 +49,31 @@ fn the_gate_sees_each_commit(rt: HostRuntime) -> Result<(), Fail> {
     assert_eq!(rt; ample, (5, 0, 5));
     let spent = calls_and_commits(&rt, alloc, stack, 3)?;
     assert_eq!(rt; spent, (3, 0, 3));
+    Ok(())
+}
+
+/// 1,500 numbers that a word has, each in a region of its own, and one region of all others.
+#[test]
+fn a_word_has_none_of_many_numbers(rt: HostRuntime) -> Result<(), Fail> {
+    let alloc = rt.alloc();
+    let stack = stack_of(alloc, &[&telling_apart(alloc, 1500)?])?;
+    let settled = explore(&rt, alloc, stack, 3001, 1, &Open)?;
+    let counts = settled.counts();
+    assert_eq!(rt; counts.settled, 1501);
+    assert_eq!(rt; (counts.left, counts.commits), (0, 3001));
+    Ok(())
+}
+
+/// `ld [0]`, 4093 times `add 1`, `jeq #5`, and `ret 0x7fff0000` for both: each sum is a node of its own.
+#[test]
+fn a_path_computes_thousands_of_words(rt: HostRuntime) -> Result<(), Fail> {
+    let alloc = rt.alloc();
+    let mut raws = vec![in alloc; op(0x04, 1); 4094]?;
+    raws[0] = op(0x20, 0);
+    raws.push(op(0x15, 5))?;
+    raws.push(ALLOW)?;
+    let settled = explore(&rt, alloc, stack_of(alloc, &[&raws])?, 3, 1, &Open)?;
+    assert_eq!(rt; (settled.counts().settled, settled.counts().left), (2, 0));
     Ok(())
 }
 

@@ -38,6 +38,13 @@ fn refuses_lengths(rt: HostRuntime) -> Result<(), Fail> {
 }
 
 #[test]
+fn reads_one_instruction_less_than_the_most(rt: HostRuntime) -> Result<(), Fail> {
+    let zeros = vec![in rt.alloc(); 0u8; 8 * 4095]?;
+    assert_eq!(rt; decode(rt.alloc(), &zeros)?.len(), 4095);
+    Ok(())
+}
+
+#[test]
 fn inputs_go_both_ways(rt: HostRuntime) {
     let mut bytes = [0u8; 64];
     bytes[3] = 0x40;

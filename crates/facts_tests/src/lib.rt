@@ -4,6 +4,8 @@
 #[cfg(test)]
 mod facts;
 #[cfg(test)]
+mod faults;
+#[cfg(test)]
 mod instructions;
 #[cfg(test)]
 mod lists;

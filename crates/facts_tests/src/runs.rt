@@ -1,8 +1,8 @@
 //! What a program returns, and what a stack meets and answers.
-use samples::{eight_divided, execve_refused, op, shifted, stack_of};
+use samples::{eight_divided, execve_refused, op, shifted, stack_of, telling_apart};
 use sf_check::check;
 use sf_insn::{Input, RawInsn};
-use sf_run::{Action, Answer, Fault, answer, fold, run, trace};
+use sf_run::{Action, Answer, Fault, answer, fold, run, trace, walk};
 use std::alloc::Global;
 use std::test::Fail;
 
@@ -145,4 +145,19 @@ fn actions_and_numbers_agree(rt: HostRuntime) {
         assert!(rt; Action::named(number) == action);
     }
     assert_eq!(rt; Fault::Memory.number(), 60);
+}
+
+#[test]
+fn the_longest_program_meets_each_of_its_tests(rt: HostRuntime) -> Result<(), Fail> {
+    let alloc = rt.alloc();
+    let raws = telling_apart(alloc, 4094)?;
+    let mut words = [0; 16];
+    words[0] = 4000;
+    let course = walk(alloc, &check(alloc, &raws)?, &Input { words })?;
+    assert_eq!(rt; course.met.len(), 4094);
+    assert_eq!(rt; course.place, 4095);
+    let met = trace(alloc, &*stack_of(alloc, &[&raws])?, &Input { words })?;
+    assert_eq!(rt; met.len(), 4094);
+    assert!(rt; met[4000] && !met[3999] && !met[4093]);
+    Ok(())
 }

@@ -81,6 +81,17 @@ fn a_fork_grows_alone(rt: HostRuntime) -> Result<(), Fail> {
     Ok(())
 }
 
+#[test]
+fn a_long_pool_grows_and_is_forked(rt: HostRuntime) -> Result<(), Fail> {
+    let mut pool = Pool::new(rt.alloc())?;
+    push_constants(&mut pool, 5000)?;
+    let mut copy = pool.fork()?;
+    let id = copy.push(Node::Const(9000))?;
+    assert_eq!(rt; id, NodeId(5016));
+    assert_eq!(rt; pool.len(), 5016);
+    Ok(())
+}
+
 /// Words 100, 7 and then zeros.
 fn input() -> Input {
     let mut words = [0; 16];

@@ -9,3 +9,15 @@ pub fn negating(alloc: Global, negations: usize) -> Result<Vec<RawInsn>, AllocEr
     raws.push(ALLOW)?;
     Ok(raws)
 }
+
+/// `ld [0]`, so many tests whether A is 0, 1, 2 and so on, each of which goes on at the next instruction, and then
+/// `ret 0x7fff0000`.
+pub fn telling_apart(alloc: Global, tests: u32) -> Result<Vec<RawInsn>, AllocError> {
+    let mut raws = Vec::new(alloc);
+    raws.push(op(0x20, 0))?;
+    for number in 0..tests {
+        raws.push(op(0x15, number))?;
+    }
+    raws.push(ALLOW)?;
+    Ok(raws)
+}

@@ -11,5 +11,5 @@ pub use filters::{
     shifted, unset_scratch, x32_refused,
 };
 pub use insns::{ALLOW, op, raw};
-pub use lengths::negating;
+pub use lengths::{negating, telling_apart};
 pub use stacks::{echo_stack, execve_stack, stack_of};

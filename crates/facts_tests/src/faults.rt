@@ -1,0 +1,61 @@
+//! What faults say.
+use std::alloc::Global;
+use std::test::Fail;
+
+/// What a fault of instructions says.
+fn text_of_insn_fault(alloc: Global, fault: sf_insn::Fault) -> Result<String, Fail> {
+    let mut text = String::new(alloc);
+    write!(&mut text, "{fault}")?;
+    Ok(text)
+}
+
+/// What a fault of programs says.
+fn text_of_check_fault(alloc: Global, fault: sf_check::Fault) -> Result<String, Fail> {
+    let mut text = String::new(alloc);
+    write!(&mut text, "{fault}")?;
+    Ok(text)
+}
+
+#[test]
+fn faults_of_instructions_say_what_is_wrong(rt: HostRuntime) -> Result<(), Fail> {
+    let cases = [
+        (sf_insn::Fault::Ragged, "the length is no multiple of 8"),
+        (sf_insn::Fault::Empty, "no instruction"),
+        (sf_insn::Fault::TooLong, "more than 4096 instructions"),
+        (sf_insn::Fault::Memory, "out of memory"),
+    ];
+    for (fault, said) in cases {
+        let text = text_of_insn_fault(rt.alloc(), fault)?;
+        assert!(rt; text.as_str() == said, "{text}");
+    }
+    Ok(())
+}
+
+#[test]
+fn faults_of_programs_say_what_is_wrong_and_where(rt: HostRuntime) -> Result<(), Fail> {
+    use sf_check::Fault;
+    let cases = [
+        (Fault::Empty, "no instruction"),
+        (Fault::TooLong, "more than 4096 instructions"),
+        (Fault::Code(7), "instruction 7 has an unknown code"),
+        (
+            Fault::Field(4095),
+            "instruction 4095 has a field out of range",
+        ),
+        (Fault::Jump(3), "instruction 3 leads outside the program"),
+        (Fault::Last, "the last instruction is no return"),
+        (
+            Fault::Scratch(12),
+            "instruction 12 loads a scratch word that may not be set",
+        ),
+        (Fault::NoFilter, "no filter"),
+        (Fault::TooMany, "more than 64 filters"),
+        (Fault::PathLength, "the path length is above 32768"),
+        (Fault::Memory, "out of memory"),
+    ];
+    for (fault, said) in cases {
+        let text = text_of_check_fault(rt.alloc(), fault)?;
+        assert!(rt; text.as_str() == said, "{text}");
+    }
+    Ok(())
+}
