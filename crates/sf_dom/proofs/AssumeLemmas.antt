@@ -1,6 +1,6 @@
-use Rattle.std.proofs.Common.{◌≡◌, ◌≢◌, ℕ, ◌<◌, ◌↔◌, List, [], ◌++◌, length, take, drop, set, Bool, true, false, arith, refl, sym, ap, ◌∙◌, ◌⊎◌, inl, inr}
+use Rattle.std.proofs.Common.{◌≡◌, ◌≢◌, ℕ, ◌<◌, ◌↔◌, List, [], length, set, Bool, true, false, arith, refl, sym, ap, ◌∙◌, ◌⊎◌, inl, inr}
 use Rattle.std.proofs.lemmas.Bool.{cases_eq}
-use Rattle.std.proofs.lemmas.List.{get_or-set_same, get_or-set_other, drop_all, append-nil, take_all}
+use Rattle.std.proofs.lemmas.List.{get_or-set_same, get_or-set_other, length-set}
 use Rattle.std.specs.Prelude.{Option, Some, None, MatchOption, MatchBool, Contains, slice_index}
 use Rattle.sf_insn.specs.Inputs.{IsInput}
 use Rattle.sf_insn.specs.Words.{apply}
@@ -16,7 +16,7 @@ use Rattle.sf_insn.specs.declared.input.Input.{Input}
 use Rattle.sf_dom.specs.declared.known.Known.{Known}
 use Rattle.sf_dom.specs.declared.guards.Pair.{Pair}
 use Rattle.sf_dom.specs.Known.{Admits, Leaves, IsNarrower, IsDecided, IsConsistent, known_of}
-use Rattle.sf_dom.specs.Propagation.{IsReducedNode, IsLeft, AreExcluded, AreBothExcluded, IsAssumed, IsRestricted, IsPropagated, IsSharp, IsMovedPast, Tells, TestGives, AllNarrower, KeepsAgreeing, NoneAgreesWith, KeepsAgreeingOn, NoneAgreesOn, LeavesPair, LeavesNoPair, HasGoneBack, Holds}
+use Rattle.sf_dom.specs.Propagation.{IsReducedNode, IsLeft, AddsNumber, AreExcluded, AreBothExcluded, IsAssumed, IsRestricted, IsPropagated, IsSharp, IsMovedPast, Tells, TestGives, AllNarrower, KeepsAgreeing, NoneAgreesWith, KeepsAgreeingOn, NoneAgreesOn, LeavesPair, LeavesNoPair, HasGoneBack, Holds}
 use Rattle.sf_dom.specs.Backward.{IsSwappable, IsPropagatedBack}
 use Rattle.sf_dom.proofs.Propagations.{AllNarrower-trans, word-below, operands-below}
 use Rattle.sf_dom.proofs.GuardLemmas.{gives-differs}
@@ -85,11 +85,6 @@ values-left ks ex ns cond v' w' lv lw pair d p a h =
     pair (value_of ns d cond.node.0) (value_of ns d cond.other.0) (a cond.node.0 lv).admitted
     (a cond.other.0 lw).admitted h
 
--- a vector whose items were all written through a slice
-pub written_back : {X : Type 0} (xs ys : List X) (n : ℕ) → length xs ≡ length ys → n ≡ length ys
-    → take n (xs ++ drop (length xs) ys) ≡ xs
-written_back xs ys n e f = rw (drop_all (length xs) ys (omega arith), append-nil xs) (take_all n xs (omega arith))
-
 pub apply-swap : (op : BinOp) (a b : ℕ) → IsSwappable op → apply op a b ≡ apply op b a
 apply-swap Add a b s = elim s [ ]
 apply-swap Sub a b s = elim s [ ]
@@ -126,25 +121,33 @@ pub walked : (ks : List Known) (ex : List (List ℕ)) (ns : List Node) (d : Inpu
 walked ks ex ns d i x c op gained li lx a e g =
     record { admitted = g (value_of ns d x) (a x lx).admitted (rw e at (a i li).admitted); kept = (a x lx).kept }
 
+-- one more number in the list of a word
+pub added-at : (ex : List (List ℕ)) (w : ℕ) (xs : List ℕ) (number : ℕ) → w < length ex
+    → ((m : ℕ) → Contains xs m ↔ (Contains (numbers_at ex w) m ⊎ (m ≡ number)))
+    → AddsNumber ex (set ex w xs) w number
+added-at ex w xs number l h = record {
+  words = length-set ex w xs;
+  word = λ m. rw (get_or-set_same ex w xs [] l) (h m);
+  others = λ v ne. get_or-set_other ex w v xs [] ne;
+}
+
 -- the number of a decided node is excluded for a word
-pub excluded-word : (ex : List (List ℕ)) (i : ℕ) (xs : List ℕ) (n : Node) (other : Known) → i < 16 → length ex ≡ 16
-    → n ≡ Word i → IsDecided other
-    → ((m : ℕ) → Contains xs m ↔ (Contains (numbers_at ex i) m ⊎ (m ≡ other.low)))
-    → AreExcluded ex (set ex i xs) n other
-excluded-word ex i xs n other l len e d h = record {
+pub excluded-word : (ex ex' : List (List ℕ)) (i : ℕ) (n : Node) (other : Known) → n ≡ Word i → IsDecided other
+    → AddsNumber ex ex' i other.low → AreExcluded ex ex' n other
+excluded-word ex ex' i n other e d h = record {
+  words = h.words;
   more = λ j m lj k. elim (cases_eq j i) [
-    | inl s ↦ rw (s, get_or-set_same ex i xs [] (omega arith)) ((h m).1 (inl (rw s at k)))
-    | inr ne ↦ rw (get_or-set_other ex i j xs [] ne) k
+    | inl s ↦ rw s ((h.word m).1 (inl (rw s at k)))
+    | inr ne ↦ rw (h.others j ne) k
   ];
   only = λ j m lj k. elim (cases_eq j i) [
-    | inl s ↦ (elim ((h m).0 (rw (s, get_or-set_same ex i xs [] (omega arith)) at k)) [
+    | inl s ↦ (elim ((h.word m).0 (rw s at k)) [
       | inl old ↦ inl (rw s old)
       | inr new ↦ inr (e ∙ ap Word (sym s), d, new)
     ])
-    | inr ne ↦ inl (rw (get_or-set_other ex i j xs [] ne) at k)
+    | inr ne ↦ inl (rw (h.others j ne) at k)
   ];
-  added = λ j f dd. let s : i ≡ j = cc in rw (← s, get_or-set_same ex i xs [] (omega arith))
-      ((h other.low).1 (inr refl));
+  added = λ j f dd. let s : i ≡ j = cc in rw (← s) ((h.word other.low).1 (inr refl));
 }
 
 -- a number that is not the excluded one stays
@@ -188,6 +191,7 @@ pub both-excluded : (ks : List Known) (ex mid ex' : List (List ℕ)) (ns : List 
     → AreExcluded mid ex' (node_at ns cond.other.0) (known_at ks cond.node.0)
     → cond.test ≡ Equal → cond.sense ≡ false → AreBothExcluded ks ex ex' ns cond
 both-excluded ks ex mid ex' ns cond p len lv lw h k et es = record {
+  words = k.words ∙ h.words;
   keeps = λ d input a holds.
       let differ = gives-differs (value_of ns d cond.node.0) (value_of ns d cond.other.0) (rw (et, es) at holds) in
       let one = exclude-keeps ks ex mid ns d cond.node.0 cond.other.0 p len lv lw h differ

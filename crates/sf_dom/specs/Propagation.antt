@@ -1,5 +1,5 @@
 -- What the steps of learning do to the facts of nodes, a list, and to the numbers that are excluded for words.
-use Rattle.std.specs.Prelude.{◌≡◌, ℕ, ◌-◌, ◌<◌, ◌≤◌, ◌⊎◌, List, length, take, slice_index, Contains, Bool, true, false, All}
+use Rattle.std.specs.Prelude.{◌≡◌, ◌≢◌, ℕ, ◌-◌, ◌<◌, ◌≤◌, ◌↔◌, ◌⊎◌, List, length, take, slice_index, Contains, Bool, true, false, All}
 use Rattle.sf_insn.specs.Inputs.{IsInput}
 use Rattle.sf_insn.specs.Words.{IsOneBit, passes}
 use Rattle.sf_sym.specs.Pool.{node_at, value_of, is_met}
@@ -153,8 +153,15 @@ pub record IsAssumed (old new : List Known) (ex : List (List ℕ)) (ns : List No
       → IsDecided (known_at old cond.other.0)
       → (x : ℕ) → Admits (known_at new cond.node.0) x → TestGives cond.test x (known_at old cond.other.0).low cond.sense
 
+-- one more number is excluded for a word, and for the other words the same numbers
+pub record AddsNumber (old new : List (List ℕ)) (w number : ℕ) : Type 0 where
+  pub words : length new ≡ length old
+  pub word : (m : ℕ) → Contains (numbers_at new w) m ↔ (Contains (numbers_at old w) m ⊎ (m ≡ number))
+  pub others : (v : ℕ) → v ≢ w → numbers_at new v ≡ numbers_at old v
+
 -- the number of a decided node is excluded for a word
 pub record AreExcluded (old new : List (List ℕ)) (n : Node) (other : Known) : Type 0 where
+  pub words : length new ≡ length old
   pub more : (i m : ℕ) → i < 16 → Contains (numbers_at old i) m → Contains (numbers_at new i) m
   pub only : (i m : ℕ) → i < 16 → Contains (numbers_at new i) m → Contains (numbers_at old i) m
       ⊎ ((n ≡ Word i) × IsDecided other × (m ≡ other.low))
@@ -162,6 +169,7 @@ pub record AreExcluded (old new : List (List ℕ)) (n : Node) (other : Known) : 
 
 -- where a condition says that two nodes differ, neither is the number of the other, if that is decided
 pub record AreBothExcluded (ks : List Known) (old new : List (List ℕ)) (ns : List Node) (cond : Cond) : Type 0 where
+  pub words : length new ≡ length old
   pub keeps : (d : Input) → IsInput d → AgreesWith ks old ns d → Holds ns cond d → AgreesWith ks new ns d
   pub more : (w m : ℕ) → w < 16 → Contains (numbers_at old w) m → Contains (numbers_at new w) m
   pub added : (i : ℕ) → node_at ns cond.node.0 ≡ Word i → IsDecided (known_at ks cond.other.0) → cond.test ≡ Equal

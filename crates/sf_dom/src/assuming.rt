@@ -10,7 +10,7 @@ ghost use Rattle.sf_dom.specs.Propagation.{KeepsAgreeing, NoneAgreesWith, KeepsA
 ghost use Rattle.sf_dom.specs.Backward.{IsSwappable, HandsOn, constant_operand_of, IsPropagatedBack};
 ghost use Rattle.sf_dom.specs.Facts.{known_at, numbers_at, excluded_of, AgreesWith};
 
-use crate::exclusions::Exclusions;
+use crate::exclusions::Excluded;
 use crate::fault::Fault;
 use crate::guards::{Pair, at_least, common_bit, differs, equal, greater, no_common_bit};
 use crate::known::Known;
@@ -73,9 +73,8 @@ pub fn constant_operand(pool: &Pool, at: usize) -> Option<(BinOp, usize, u32)>
 }
 
 /// Takes known bits back from a node through constants. False: no input agrees.
-fn propagate_back(nodes: &mut Nodes, excluded: &[Exclusions], pool: &Pool, from: usize) -> bool
+fn propagate_back(nodes: &mut Nodes, excluded: &Excluded, pool: &Pool, from: usize) -> bool
     requires ready { IsReady nodes.old.known pool.now }
-    requires words { length excluded.now ≡ 16 }
     requires start { from < length pool.now }
     ensures kept { MatchBool result
         (KeepsAgreeing nodes.old.known nodes.new.known excluded.now pool.now
@@ -160,15 +159,8 @@ fn assume_test(v: Known, w: Known, test: Test, sense: bool) -> Option<Pair>
 }
 
 /// What is left of a node, by what is known of it and what is told besides, or none where no input agrees.
-fn left_of(
-    nodes: &Nodes,
-    excluded: &[Exclusions],
-    pool: &Pool,
-    at: usize,
-    more: Known,
-) -> Option<Known>
+fn left_of(nodes: &Nodes, excluded: &Excluded, pool: &Pool, at: usize, more: Known) -> Option<Known>
     requires covers { length nodes.now.known ≡ length pool.now }
-    requires words { length excluded.now ≡ 16 }
     requires place { at < length pool.now }
     ensures { MatchOption result
         (NoneAgreesOn nodes.now.known excluded.now pool.now
@@ -182,13 +174,12 @@ fn left_of(
 /// Takes in what is told of a node besides. False: no input agrees.
 pub fn meet_node(
     nodes: &mut Nodes,
-    excluded: &[Exclusions],
+    excluded: &Excluded,
     pool: &Pool,
     at: usize,
     more: Known,
 ) -> bool
     requires ready { IsReady nodes.old.known pool.now }
-    requires words { length excluded.now ≡ 16 }
     requires place { at < length pool.now }
     ensures kept { MatchBool result
         (KeepsAgreeingOn nodes.old.known nodes.new.known excluded.now pool.now
@@ -209,9 +200,8 @@ pub fn meet_node(
 }
 
 /// Whether what is known of its two nodes rules a condition out. It is asked before facts are copied.
-pub fn is_ruled_out(nodes: &Nodes, excluded: &[Exclusions], pool: &Pool, cond: &Cond) -> bool
+pub fn is_ruled_out(nodes: &Nodes, excluded: &Excluded, pool: &Pool, cond: &Cond) -> bool
     requires covers { length nodes.now.known ≡ length pool.now }
-    requires words { length excluded.now ≡ 16 }
     requires node { cond.now.node.0 < length pool.now }
     requires other { cond.now.other.0 < length pool.now }
     ensures { IsTrue result → NoneAgreesOn nodes.now.known excluded.now pool.now
@@ -229,9 +219,8 @@ pub fn is_ruled_out(nodes: &Nodes, excluded: &[Exclusions], pool: &Pool, cond: &
 }
 
 /// Takes a condition into what is known. False: no input that agrees meets it.
-pub fn assume_cond(nodes: &mut Nodes, excluded: &[Exclusions], pool: &Pool, cond: &Cond) -> bool
+pub fn assume_cond(nodes: &mut Nodes, excluded: &Excluded, pool: &Pool, cond: &Cond) -> bool
     requires ready { IsReady nodes.old.known pool.now }
-    requires words { length excluded.now ≡ 16 }
     requires node { cond.now.node.0 < length pool.now }
     requires other { cond.now.other.0 < length pool.now }
     ensures { MatchBool result
@@ -263,18 +252,17 @@ pub fn assume_cond(nodes: &mut Nodes, excluded: &[Exclusions], pool: &Pool, cond
 /// A word is not the number of a node that is decided.
 pub fn exclude(
     alloc: Global,
-    excluded: &mut [Exclusions],
+    excluded: &mut Excluded,
     node: Node,
     other: Known,
 ) -> Result<(), Fault>
-    requires words { length excluded.old ≡ 16 }
     requires word { (i : ℕ) → node ≡ Node.Word i → i < 16 }
     ensures { IfOk result (λ _. AreExcluded excluded.old excluded.new node other) }
 {
     if let Node::Word(i) = node
         && other.low == other.high
     {
-        excluded[i as usize].add(alloc, other.low)?;
+        excluded.add(alloc, i as usize, other.low)?;
     }
     Ok(())
 }
@@ -282,13 +270,12 @@ pub fn exclude(
 /// Two nodes differ, as the condition says: neither is the number of the other, if that is decided.
 pub fn exclude_both(
     alloc: Global,
-    excluded: &mut [Exclusions],
+    excluded: &mut Excluded,
     nodes: &Nodes,
     pool: &Pool,
     cond: &Cond,
 ) -> Result<(), Fault>
     requires covers { length nodes.now.known ≡ length pool.now }
-    requires words { length excluded.old ≡ 16 }
     requires node { cond.now.node.0 < length pool.now }
     requires other { cond.now.other.0 < length pool.now }
     requires differ { (cond.now.test ≡ Test.Equal) × (cond.now.sense ≡ false) }

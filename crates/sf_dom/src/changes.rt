@@ -6,7 +6,7 @@ ghost use Rattle.sf_dom.specs.Known.{Admits};
 ghost use Rattle.sf_dom.specs.Propagation.{NoneAgreesOn, Holds, IsReady, IsRestricted, IsLearnt, AreBothExcluded};
 
 use crate::assuming::{assume_cond, exclude_both, is_ruled_out, meet_node};
-use crate::exclusions::{Excluded, Exclusions, copy_all};
+use crate::exclusions::Excluded;
 use crate::fault::Fault;
 use crate::known::Known;
 use crate::nodes::Nodes;
@@ -24,7 +24,6 @@ fn with_told(
     cond: &Cond,
 ) -> Result<Excluded, Fault>
     requires covers { length nodes.now.known ≡ length pool.now }
-    requires words { length excluded.now ≡ 16 }
     requires below { IsCondBelow (length pool.now) cond.now }
     ensures told { IfOk result (λ e. AreBothExcluded nodes.now.known excluded.now e
         pool.now cond.now) }
@@ -32,9 +31,9 @@ fn with_told(
 {
     match (cond.test, cond.sense) {
         (Test::Equal, false) => {
-            let mut lists = copy_all(alloc, excluded.as_slice())?;
-            exclude_both(alloc, lists.as_mut_slice(), nodes, pool, cond)?;
-            Excluded::of(alloc, lists)
+            let mut more = excluded.copy()?;
+            exclude_both(alloc, &mut more, nodes, pool, cond)?;
+            Ok(more)
         }
         (Test::Equal, true) | (Test::Greater | Test::GreaterOrEqual | Test::AnyBit, _) => {
             excluded.copy()
@@ -51,7 +50,6 @@ pub fn assumed(
     cond: &Cond,
 ) -> Result<Option<(Nodes, Excluded)>, Fault>
     requires ready { IsReady nodes.now.known pool.now }
-    requires words { length excluded.now ≡ 16 }
     requires below { IsCondBelow (length pool.now) cond.now }
     ensures { IfOk result (λ o. MatchOption o
         (NoneAgreesOn nodes.now.known excluded.now pool.now (Holds pool.now cond.now))
@@ -59,27 +57,20 @@ pub fn assumed(
 {
     // For the prover: the pool is lawful.
     let _count = pool.len();
-    if is_ruled_out(nodes, excluded.as_slice(), pool, cond) {
+    if is_ruled_out(nodes, excluded, pool, cond) {
         return Ok(None);
     }
     let mut left = nodes.fork(alloc)?;
     let lists = with_told(alloc, excluded, nodes, pool, cond)?;
-    if !assume_cond(&mut left, lists.as_slice(), pool, cond) {
+    if !assume_cond(&mut left, &lists, pool, cond) {
         return Ok(None);
     }
     Ok(Some((left, lists)))
 }
 
 /// Takes into a word's facts what else is known of it. False: no input that agrees has it.
-fn meet_word(
-    nodes: &mut Nodes,
-    excluded: &[Exclusions],
-    pool: &Pool,
-    word: usize,
-    more: Known,
-) -> bool
+fn meet_word(nodes: &mut Nodes, excluded: &Excluded, pool: &Pool, word: usize, more: Known) -> bool
     requires ready { IsReady nodes.old.known pool.now }
-    requires words { length excluded.now ≡ 16 }
     requires word { word < 16 }
     ensures { MatchBool result
         (IsRestricted nodes.old.known nodes.new.known excluded.now pool.now word more)
@@ -95,13 +86,12 @@ fn meet_word(
 pub fn restricted(
     alloc: Global,
     nodes: &Nodes,
-    excluded: &[Exclusions],
+    excluded: &Excluded,
     pool: &Pool,
     word: usize,
     more: Known,
 ) -> Result<Option<Nodes>, Fault>
     requires ready { IsReady nodes.now.known pool.now }
-    requires words { length excluded.now ≡ 16 }
     requires word { word < 16 }
     ensures { IfOk result (λ o. MatchOption o
         (NoneAgreesOn nodes.now.known excluded.now pool.now

@@ -4,9 +4,11 @@ ghost use Rattle.std.specs.Prelude.{◌≡◌, ℕ, ◌<◌, ◌↔◌, ◌⊎�
 ghost use Rattle.std.specs.Arc.{arc_value};
 ghost use Rattle.sf_dom.specs.Known.{AreSameNumbers};
 ghost use Rattle.sf_dom.specs.Facts.{numbers_at};
+ghost use Rattle.sf_dom.specs.Propagation.{AddsNumber};
 ghost use Rattle.sf_dom.specs.Ascending.{AreAscending};
 
 use crate::fault::Fault;
+use crate::nodes::WORDS;
 use std::alloc::Global;
 use std::marker::Model;
 use std::sync::Arc;
@@ -125,7 +127,7 @@ impl Exclusions {
 }
 
 /// The same lists.
-pub fn copy_all(alloc: Global, lists: &[Exclusions]) -> Result<Vec<Exclusions>, Fault>
+fn copy_all(alloc: Global, lists: &[Exclusions]) -> Result<Vec<Exclusions>, Fault>
     ensures { IfOk result (λ v. v.items ≡ lists.now) }
 {
     let mut copies = Vec::with_capacity(alloc, lists.len())?;
@@ -135,36 +137,63 @@ pub fn copy_all(alloc: Global, lists: &[Exclusions]) -> Result<Vec<Exclusions>, 
     Ok(copies)
 }
 
+/// One more number in the list of a word.
+fn add_at(alloc: Global, lists: &mut [Exclusions], word: usize, number: u32) -> Result<(), Fault>
+    requires { word < length lists.old }
+    ensures { IfOk result (λ _. AddsNumber lists.old lists.new word number) }
+{
+    lists[word].add(alloc, number)?;
+    Ok(())
+}
+
+/// The same lists, with one more number in that of a word.
+fn with_added(
+    alloc: Global,
+    lists: &[Exclusions],
+    word: usize,
+    number: u32,
+) -> Result<Vec<Exclusions>, Fault>
+    requires { word < length lists.now }
+    ensures { IfOk result (λ v. AddsNumber lists.now v.items word number) }
+{
+    let mut more = copy_all(alloc, lists)?;
+    add_at(alloc, more.as_mut_slice(), word, number)?;
+    Ok(more)
+}
+
 /// A list without numbers for each word.
 fn no_exclusions(alloc: Global) -> Result<Vec<Exclusions>, Fault>
     ensures { IfOk result (λ v. (length v.items ≡ 16) × ((w : ℕ) → numbers_at v.items w ≡ [])) }
 {
     let none = Exclusions::new(alloc)?;
-    let mut lists = Vec::with_capacity(alloc, 16)?;
+    let mut lists = Vec::with_capacity(alloc, WORDS)?;
     for _i in 0..16u8 {
         lists.push(none.copy()?)?;
     }
     Ok(lists)
 }
 
-/// The numbers that each word does not have. Copies share all lists, until a word gets another number.
+/// The numbers that each of the sixteen words does not have. Copies share all lists, until a word gets another number.
 #[derive(Drop)]
-pub struct Excluded {
+pub(crate) struct Excluded {
     lists: Arc<Vec<Exclusions>>,
 }
 
 impl Model for Excluded {
-    ghost use Rattle.std.specs.Prelude.{List, ℕ};
+    ghost use Rattle.std.specs.Prelude.{◌≡◌, List, ℕ, length};
     ghost use Rattle.std.specs.Arc.{arc_value};
 
     ghost Value = { List (List ℕ) };
 
     ghost view = { λ e. (arc_value e.lists).items };
+
+    ghost invariant = { λ e. length (arc_value e.lists).items ≡ 16 };
 }
 
 impl Excluded {
     /// These lists. `Memory` where a growth is refused.
-    pub fn of(alloc: Global, lists: Vec<Exclusions>) -> Result<Excluded, Fault>
+    fn of(alloc: Global, lists: Vec<Exclusions>) -> Result<Excluded, Fault>
+        requires { length lists.items ≡ 16 }
         ensures { IfOk result (λ e. e ≡ lists.items) }
     {
         Ok(Excluded {
@@ -173,7 +202,7 @@ impl Excluded {
     }
 
     /// A list without numbers for each word. `Memory` where a growth is refused.
-    pub fn none(alloc: Global) -> Result<Excluded, Fault>
+    pub(crate) fn none(alloc: Global) -> Result<Excluded, Fault>
         ensures { IfOk result (λ e. (length e ≡ 16) × ((w : ℕ) → numbers_at e w ≡ [])) }
     {
         let lists = no_exclusions(alloc)?;
@@ -181,33 +210,54 @@ impl Excluded {
     }
 
     /// The lists, that of the first word first.
-    pub fn as_slice(&self) -> &[Exclusions]
+    fn as_slice(&self) -> &[Exclusions]
         ensures value { result.now ≡ self.now }
+        ensures words { length result.now ≡ 16 }
     {
         self.lists.as_slice()
     }
 
+    /// The numbers that a word, 0 to 15, does not have.
+    pub(crate) fn of_word(&self, word: usize) -> &Exclusions
+        requires { word < 16 }
+        ensures { result.now ≡ numbers_at self.now word }
+    {
+        let lists = self.as_slice();
+        &lists[word]
+    }
+
     /// The same lists, shared. `Memory` where a growth is refused.
-    pub fn copy(&self) -> Result<Excluded, Fault>
-        ensures { IfOk result (λ e. e ≡ self.now) }
+    pub(crate) fn copy(&self) -> Result<Excluded, Fault>
+        ensures same { IfOk result (λ e. e ≡ self.now) }
+        ensures words { IfOk result (λ e. length e ≡ 16) }
     {
         Ok(Excluded {
             lists: self.lists.clone()?,
         })
     }
-}
 
-/// Whether each list has the same numbers as the other's at its place.
-pub fn have_same(left: &[Exclusions], right: &[Exclusions]) -> bool
-    requires left { length left.now ≡ 16 }
-    requires right { length right.now ≡ 16 }
-    ensures { IsTrue result ↔ ((w : ℕ) → w < 16
-        → AreSameNumbers (numbers_at left.now w) (numbers_at right.now w)) }
-{
-    for w in 0..16 {
-        if !left[w].has_same(&right[w]) {
-            return false;
-        }
+    /// Adds a number to those of a word, 0 to 15. `Memory` where a growth is refused: the lists are as they were then.
+    pub(crate) fn add(&mut self, alloc: Global, word: usize, number: u32) -> Result<(), Fault>
+        requires { word < 16 }
+        ensures ok { IfOk result (λ _. AddsNumber self.old self.new word number) }
+        ensures err { OnErr result (self.new ≡ self.old) }
+    {
+        let more = with_added(alloc, self.as_slice(), word, number)?;
+        let next = Excluded::of(alloc, more)?;
+        *self = next;
+        Ok(())
     }
-    true
+
+    /// Whether each word has the same numbers in both.
+    pub(crate) fn has_same(&self, other: &Excluded) -> bool
+        ensures { IsTrue result ↔ ((w : ℕ) → w < 16
+            → AreSameNumbers (numbers_at self.now w) (numbers_at other.now w)) }
+    {
+        for w in 0..WORDS {
+            if !self.of_word(w).has_same(other.of_word(w)) {
+                return false;
+            }
+        }
+        true
+    }
 }

@@ -12,7 +12,7 @@ use std::alloc::Global;
 use std::marker::Model;
 
 /// How many words an input has. They are the first nodes of each pool.
-const WORDS: usize = 16;
+pub(crate) const WORDS: usize = 16;
 
 /// Where what is known of a node stands.
 #[derive(Clone, Copy)]

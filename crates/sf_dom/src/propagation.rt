@@ -9,25 +9,24 @@ ghost use Rattle.sf_dom.specs.Propagation.{KeepsAgreeing, NoneAgreesWith, AreCon
 ghost use Rattle.sf_dom.specs.Facts.{known_at, numbers_at, excluded_of, AgreesWith, AreDecidedOperands};
 ghost use Rattle.sf_dom.specs.Reduction.{IsForced, IsMeet};
 
-use crate::exclusions::Exclusions;
+use crate::exclusions::Excluded;
 use crate::fault::Fault;
 use crate::fitting::is_tight;
 use crate::forward::{forward, negated, top_known};
 use crate::known::{Known, exact_number, reduce_known, reduce_word};
-use crate::nodes::Nodes;
+use crate::nodes::{Nodes, WORDS};
 use sf_sym::{Node, NodeId, Pool};
 use std::alloc::Global;
 
 /// What is known of a node, reduced, or none where no number is left.
-pub fn reduced(known: Known, node: Node, excluded: &[Exclusions]) -> Option<Known>
-    requires words { length excluded.now ≡ 16 }
+pub fn reduced(known: Known, node: Node, excluded: &Excluded) -> Option<Known>
     requires word { (i : ℕ) → node ≡ Node.Word i → i < 16 }
     ensures { MatchOption result
         ((n : ℕ) → ¬ Leaves known (excluded_of excluded.now node) n)
         (λ r. IsReducedNode known r excluded.now node) }
 {
     match node {
-        Node::Word(i) => reduce_word(known, &excluded[i as usize]),
+        Node::Word(i) => reduce_word(known, excluded.of_word(i as usize)),
         _ => reduce_known(known),
     }
 }
@@ -65,9 +64,8 @@ pub fn meet(a: Known, b: Known) -> Known
 
 /// Takes what is known of the older nodes on to each node that may gain. False: no input agrees. A word whose ends are left
 /// for it is as tight as it gets, since nothing follows of it from older nodes.
-pub fn propagate(nodes: &mut Nodes, excluded: &[Exclusions], pool: &Pool) -> bool
+pub fn propagate(nodes: &mut Nodes, excluded: &Excluded, pool: &Pool) -> bool
     requires ready { IsReady nodes.old.known pool.now }
-    requires words { length excluded.now ≡ 16 }
     ensures { MatchBool result
         (IsPropagated nodes.old.known nodes.new.known excluded.now pool.now)
         (NoneAgreesWith nodes.old.known excluded.now pool.now) }
@@ -77,7 +75,7 @@ pub fn propagate(nodes: &mut Nodes, excluded: &[Exclusions], pool: &Pool) -> boo
     for rank in 0..nodes.variable_count() {
         let i = nodes.variable(rank);
         let before = nodes.get(i);
-        if i < excluded.len() && is_tight(before, &excluded[i]) {
+        if i < WORDS && is_tight(before, excluded.of_word(i)) {
             continue;
         }
         let node = pool.node(NodeId(i));
@@ -92,9 +90,8 @@ pub fn propagate(nodes: &mut Nodes, excluded: &[Exclusions], pool: &Pool) -> boo
 
 /// Takes in the nodes of a pool that are new. False: no input agrees. A single new node that isn't taken in, for that
 /// or for want of memory, leaves what is known as it was.
-pub fn append(nodes: &mut Nodes, excluded: &[Exclusions], pool: &Pool) -> Result<bool, Fault>
+pub fn append(nodes: &mut Nodes, excluded: &Excluded, pool: &Pool) -> Result<bool, Fault>
     requires covers { length nodes.old.known ≤ length pool.now }
-    requires words { length excluded.now ≡ 16 }
     requires none { (16 ≤ length nodes.old.known) ⊎ ((w : ℕ) → numbers_at excluded.now w ≡ []) }
     ensures grown { IfOk result (λ b. MatchBool b
         (IsGrown nodes.old.known nodes.new.known excluded.now pool.now)
@@ -120,11 +117,10 @@ pub fn append(nodes: &mut Nodes, excluded: &[Exclusions], pool: &Pool) -> Result
 pub fn extend(
     alloc: Global,
     nodes: &mut Nodes,
-    excluded: &[Exclusions],
+    excluded: &Excluded,
     pool: &Pool,
 ) -> Result<bool, Fault>
     requires covers { length nodes.old.known ≤ length pool.now }
-    requires words { length excluded.now ≡ 16 }
     requires none { (16 ≤ length nodes.old.known) ⊎ ((w : ℕ) → numbers_at excluded.now w ≡ []) }
     ensures grown { IfOk result (λ b. MatchBool b
         (IsGrown nodes.old.known nodes.new.known excluded.now pool.now)

@@ -12,7 +12,7 @@ ghost use Rattle.sf_dom.specs.Backward.{IsPropagatedBack};
 ghost use Rattle.sf_dom.specs.Facts.{known_at, excluded_of, AgreesWith};
 
 use crate::assuming::{backward, constant_operand};
-use crate::exclusions::Exclusions;
+use crate::exclusions::Excluded;
 use crate::known::{Known, is_same};
 use crate::nodes::Nodes;
 use sf_insn::Test;
@@ -88,13 +88,12 @@ impl Known {
 }
 
 /// Whether a number is excluded for a node.
-fn is_excluded(excluded: &[Exclusions], node: Node, number: u32) -> bool
-    requires words { length excluded.now ≡ 16 }
+fn is_excluded(excluded: &Excluded, node: Node, number: u32) -> bool
     requires word { (i : ℕ) → node ≡ Node.Word i → i < 16 }
     ensures { IsTrue result → Contains (excluded_of excluded.now node) number }
 {
     match node {
-        Node::Word(i) => excluded[i as usize].has(number),
+        Node::Word(i) => excluded.of_word(i as usize).has(number),
         _ => false,
     }
 }
@@ -124,14 +123,13 @@ fn are_propagated_back(nodes: &Nodes, pool: &Pool, from: usize) -> bool
 /// Whether a node passes a test against a number on every input that agrees, where what is known of it alone tells that.
 fn told_at(
     nodes: &Nodes,
-    excluded: &[Exclusions],
+    excluded: &Excluded,
     pool: &Pool,
     at: usize,
     test: Test,
     number: u32,
 ) -> Option<bool>
     requires count { length nodes.now.known ≡ length pool.now }
-    requires words { length excluded.now ≡ 16 }
     requires place { at < length pool.now }
     ensures { IfSome result (λ b. (d : Input) → IsInput d
         → AgreesWith nodes.now.known excluded.now pool.now d
@@ -156,14 +154,13 @@ fn told_at(
 /// nothing could be learnt from it: one result leaves the node no number, and the other changes nothing that is known.
 pub fn told_of(
     nodes: &Nodes,
-    excluded: &[Exclusions],
+    excluded: &Excluded,
     pool: &Pool,
     at: usize,
     test: Test,
     number: u32,
 ) -> Option<bool>
     requires count { length nodes.now.known ≡ length pool.now }
-    requires words { length excluded.now ≡ 16 }
     requires place { at < length pool.now }
     ensures told { IfSome result (λ b. (d : Input) → IsInput d
         → AgreesWith nodes.now.known excluded.now pool.now d

@@ -1,6 +1,5 @@
-use Rattle.std.proofs.Common.{◌≡◌, ◌<◌, length, arith, refl, sym, ap, ◌∙◌, inl, inr, []}
+use Rattle.std.proofs.Common.{◌≡◌, ◌<◌, length, arith, refl, sym, ap, ◌∙◌, inl, inr}
 use Rattle.std.proofs.lemmas.Bool.{cases_lt}
-use Rattle.std.proofs.lemmas.List.{get_or_read}
 use Rattle.std.specs.Prelude.{slice_index}
 use Rattle.sf_sym.specs.Pool.{values_of, value_of}
 use Rattle.sf_dom.specs.Facts.{known_at}
@@ -82,7 +81,6 @@ loop-rank-preserved-then-is_tight c =
     let inv = c.loop-rank.invariant in
     let rank = c.loop-rank.rank in
     let i = c.variable-i.result in
-    let words = c.requires.words in
     let told : rank < length n.variables = omega (
       arith,
       ap length inv.variables,
@@ -91,8 +89,7 @@ loop-rank-preserved-then-is_tight c =
     let at : slice_index n.variables rank ≡ i = sym c.variable-i.ensures in
     let below : i < length n.known = omega (arith, inv.laid_out.within rank told, at) in
     let small : i < 16 = omega arith in
-    let here = get_or_read ex i c.index-excluded-i.result (omega arith) c.index-excluded-i.is [] in
-    let tight = rw (c.get-before.ensures, here) at (c.is_tight.ensures c.if-is_tight.true) in
+    let tight = rw (c.get-before.ensures, c.of_word.ensures) at (c.is_tight.ensures c.if-is_tight.true) in
     record {
       keeps = inv.keeps;
       narrower = inv.narrower;

@@ -3,6 +3,7 @@ use Rattle.sf_dom.proofs.facts.Facts.restricted_word.Goals as goal
 
 pub returns-in_ok-copy-in-Some : goal.returns-in_ok-copy-in-Some
 returns-in_ok-copy-in-Some c =
-    let told = rw (c.in-Some.is, c.as_slice.ensures.value) at c.in_ok-restricted.ensures in
-    rw (← c.self.view_is, c.in_ok-copy-in-Some.ensures) (restricted-word _ _ _ c.args.pool.now c.args.word c.args.more
+    let told = rw c.in-Some.is at c.in_ok-restricted.ensures in
+    rw (← c.self.view_is, c.in_ok-copy-in-Some.ensures.same)
+    (restricted-word _ _ _ c.args.pool.now c.args.word c.args.more
     (rw (← c.self.view_is) at c.requires.covers) c.requires.word told)

@@ -3,7 +3,7 @@ use Rattle.sf_dom.proofs.facts.Facts.told.Goals as goal
 
 pub returns-clause-told : goal.returns-clause-told
 unfolding Agrees
-returns-clause-told c = rw (← c.self.view_is) (rw c.as_slice.ensures.value at c.told_of.ensures.told)
+returns-clause-told c = rw (← c.self.view_is) c.told_of.ensures.told
 
 pub returns-clause-walked : goal.returns-clause-walked
 returns-clause-walked c = rw (← c.self.view_is) c.told_of.ensures.walked
