@@ -34,7 +34,7 @@ fn with_bits(known: Known, zeros: u32, ones: u32) -> Known
 }
 
 /// What is known of an operand, with the bits that it gains from those of its node, whose other operand is a constant.
-pub fn backward(op: BinOp, node: Known, c: u32, operand: Known) -> Option<Known>
+pub(crate) fn backward(op: BinOp, node: Known, c: u32, operand: Known) -> Option<Known>
     ensures bits { IfSome result (λ g. (x : ℕ) → Admits operand x
         → Admits node (apply op x c) → Admits g x) }
     ensures swappable { IfSome result (λ g. IsSwappable op) }
@@ -55,7 +55,7 @@ pub fn backward(op: BinOp, node: Known, c: u32, operand: Known) -> Option<Known>
 }
 
 /// The constant operand of a node and its other operand, where exactly one is constant.
-pub fn constant_operand(pool: &Pool, at: usize) -> Option<(BinOp, usize, u32)>
+pub(crate) fn constant_operand(pool: &Pool, at: usize) -> Option<(BinOp, usize, u32)>
     requires { at < length pool.now }
     ensures told { result ≡ constant_operand_of pool.now (node_at pool.now at) }
     ensures smaller { IfSome result (λ o. o.1 < at) }
@@ -172,7 +172,7 @@ fn left_of(nodes: &Nodes, excluded: &Excluded, pool: &Pool, at: usize, more: Kno
 }
 
 /// Takes in what is told of a node besides. False: no input agrees.
-pub fn meet_node(
+pub(crate) fn meet_node(
     nodes: &mut Nodes,
     excluded: &Excluded,
     pool: &Pool,
@@ -200,7 +200,7 @@ pub fn meet_node(
 }
 
 /// Whether what is known of its two nodes rules a condition out. It is asked before facts are copied.
-pub fn is_ruled_out(nodes: &Nodes, excluded: &Excluded, pool: &Pool, cond: &Cond) -> bool
+pub(crate) fn is_ruled_out(nodes: &Nodes, excluded: &Excluded, pool: &Pool, cond: &Cond) -> bool
     requires covers { length nodes.now.known ≡ length pool.now }
     requires node { cond.now.node.0 < length pool.now }
     requires other { cond.now.other.0 < length pool.now }
@@ -219,7 +219,7 @@ pub fn is_ruled_out(nodes: &Nodes, excluded: &Excluded, pool: &Pool, cond: &Cond
 }
 
 /// Takes a condition into what is known. False: no input that agrees meets it.
-pub fn assume_cond(nodes: &mut Nodes, excluded: &Excluded, pool: &Pool, cond: &Cond) -> bool
+pub(crate) fn assume_cond(nodes: &mut Nodes, excluded: &Excluded, pool: &Pool, cond: &Cond) -> bool
     requires ready { IsReady nodes.old.known pool.now }
     requires node { cond.now.node.0 < length pool.now }
     requires other { cond.now.other.0 < length pool.now }
@@ -250,7 +250,7 @@ pub fn assume_cond(nodes: &mut Nodes, excluded: &Excluded, pool: &Pool, cond: &C
 }
 
 /// A word is not the number of a node that is decided.
-pub fn exclude(
+pub(crate) fn exclude(
     alloc: Global,
     excluded: &mut Excluded,
     node: Node,
@@ -268,7 +268,7 @@ pub fn exclude(
 }
 
 /// Two nodes differ, as the condition says: neither is the number of the other, if that is decided.
-pub fn exclude_both(
+pub(crate) fn exclude_both(
     alloc: Global,
     excluded: &mut Excluded,
     nodes: &Nodes,

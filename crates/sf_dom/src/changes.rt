@@ -42,7 +42,7 @@ fn with_told(
 }
 
 /// What a condition leaves, or none where no input that agrees meets it.
-pub fn assumed(
+pub(crate) fn assumed(
     alloc: Global,
     nodes: &Nodes,
     excluded: &Excluded,
@@ -83,7 +83,7 @@ fn meet_word(nodes: &mut Nodes, excluded: &Excluded, pool: &Pool, word: usize, m
 }
 
 /// What else is known of a word leaves this, or none where no input that agrees has it.
-pub fn restricted(
+pub(crate) fn restricted(
     alloc: Global,
     nodes: &Nodes,
     excluded: &Excluded,

@@ -15,7 +15,7 @@ use std::sync::Arc;
 
 /// The numbers that a word does not have, in ascending order. Copies share them, until one gets another number.
 #[derive(Drop)]
-pub struct Exclusions {
+pub(crate) struct Exclusions {
     numbers: Arc<Vec<u32>>,
 }
 
@@ -80,7 +80,7 @@ fn all_stand_in(numbers: &[u32], list: &[u32]) -> bool
 
 impl Exclusions {
     /// No numbers. `Memory` where a growth is refused.
-    pub fn new(alloc: Global) -> Result<Exclusions, Fault>
+    pub(crate) fn new(alloc: Global) -> Result<Exclusions, Fault>
         ensures { IfOk result (λ e. e ≡ []) }
     {
         Ok(Exclusions {
@@ -89,14 +89,14 @@ impl Exclusions {
     }
 
     /// Whether a number is there.
-    pub fn has(&self, number: u32) -> bool
+    pub(crate) fn has(&self, number: u32) -> bool
         ensures { IsTrue result ↔ Contains self.now number }
     {
         stands_in(slice_of(&self.numbers), number)
     }
 
     /// The same numbers, shared. `Memory` where a growth is refused.
-    pub fn copy(&self) -> Result<Exclusions, Fault>
+    pub(crate) fn copy(&self) -> Result<Exclusions, Fault>
         ensures { IfOk result (λ e. e ≡ self.now) }
     {
         Ok(Exclusions {
@@ -105,7 +105,7 @@ impl Exclusions {
     }
 
     /// Adds a number, if it is not there. `Memory` where a growth is refused: the numbers are as they were then.
-    pub fn add(&mut self, alloc: Global, number: u32) -> Result<(), Fault>
+    pub(crate) fn add(&mut self, alloc: Global, number: u32) -> Result<(), Fault>
         ensures ok { IfOk result (λ _. (n : ℕ) → Contains self.new n
             ↔ (Contains self.old n ⊎ (n ≡ number))) }
         ensures err { OnErr result (self.new ≡ self.old) }
@@ -117,7 +117,7 @@ impl Exclusions {
     }
 
     /// Whether both have the same numbers.
-    pub fn has_same(&self, other: &Exclusions) -> bool
+    pub(crate) fn has_same(&self, other: &Exclusions) -> bool
         ensures { IsTrue result ↔ AreSameNumbers self.now other.now }
     {
         let left = slice_of(&self.numbers);

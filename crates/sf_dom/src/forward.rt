@@ -23,7 +23,7 @@ fn between(low: u32, high: u32) -> Known
 }
 
 /// Nothing is known.
-pub fn top_known() -> Known
+pub(crate) fn top_known() -> Known
     ensures { (n : ℕ) → n < 2 ^ 32 → Admits result n }
 {
     between(0, u32::MAX)
@@ -180,7 +180,7 @@ fn shift_right(a: Known, b: Known) -> Known
 }
 
 /// What follows of an operation from what is known of its operands.
-pub fn forward(op: BinOp, a: Known, b: Known) -> Known
+pub(crate) fn forward(op: BinOp, a: Known, b: Known) -> Known
     ensures admits { (x y : ℕ) → Admits a x → Admits b y → Admits result (apply op x y) }
     ensures forced { KeepsDecided op → IsConsistent a → IsConsistent b → IsDecided a → IsDecided b
         → IsForced result }
@@ -199,7 +199,7 @@ pub fn forward(op: BinOp, a: Known, b: Known) -> Known
 }
 
 /// What follows of the negation of a word.
-pub fn negated(a: Known) -> Known
+pub(crate) fn negated(a: Known) -> Known
     ensures admits { (x : ℕ) → Admits a x → Admits result ((2 ^ 32 - x) % 2 ^ 32) }
     ensures forced { IsConsistent a → IsDecided a → IsForced result }
 {

@@ -11,13 +11,13 @@ use crate::propagation::meet;
 
 /// What is known of the two words of a test.
 #[derive(Clone, Copy, Debug, PartialEq, Eq)]
-pub struct Pair {
-    pub node: Known,
-    pub other: Known,
+pub(crate) struct Pair {
+    pub(crate) node: Known,
+    pub(crate) other: Known,
 }
 
 /// The two are equal: each has what is known of both.
-pub fn equal(v: Known, w: Known) -> Pair
+pub(crate) fn equal(v: Known, w: Known) -> Pair
     ensures pair { LeavesPair v w result.node result.other (λ x y. x ≡ y) }
     ensures both { IsMeet v w result.node × IsMeet v w result.other }
     ensures sharp { w.low ≡ w.high → (x : ℕ) → Admits result.node x → x ≡ w.low }
@@ -30,7 +30,7 @@ pub fn equal(v: Known, w: Known) -> Pair
 }
 
 /// The first is greater.
-pub fn greater(v: Known, w: Known) -> Option<Pair>
+pub(crate) fn greater(v: Known, w: Known) -> Option<Pair>
     ensures pair { MatchOption result (LeavesNoPair v w (λ x y. y < x))
         (λ p. LeavesPair v w p.node p.other (λ x y. y < x)) }
     ensures ends { IfSome result (λ p. (w.low < p.node.low) × (p.other.high < v.high)) }
@@ -56,7 +56,7 @@ pub fn greater(v: Known, w: Known) -> Option<Pair>
 }
 
 /// The first is at least the second.
-pub fn at_least(v: Known, w: Known) -> Pair
+pub(crate) fn at_least(v: Known, w: Known) -> Pair
     ensures pair { LeavesPair v w result.node result.other (λ x y. y ≤ x) }
     ensures ends { (w.low ≤ result.node.low) × (result.other.high ≤ v.high) }
     ensures left { (x : ℕ) → Admits result.node x → w.low ≤ x }
@@ -75,7 +75,7 @@ pub fn at_least(v: Known, w: Known) -> Pair
 }
 
 /// A bound that is a number which the word does not have is moved past it.
-pub fn differs(v: Known, number: u32) -> Option<Known>
+pub(crate) fn differs(v: Known, number: u32) -> Option<Known>
     ensures kept { MatchOption result ((x : ℕ) → Admits v x → ¬ (x ≢ number)) (λ r. (x : ℕ)
         → Admits v x → x ≢ number → Admits r x) }
     ensures ends { IfSome result (λ r. (v.low ≡ number → number < r.low)
@@ -99,7 +99,7 @@ pub fn differs(v: Known, number: u32) -> Option<Known>
 }
 
 /// The two have no common bit.
-pub fn no_common_bit(v: Known, bits: u32) -> Known
+pub(crate) fn no_common_bit(v: Known, bits: u32) -> Known
     ensures kept { (x : ℕ) → Admits v x → bit_and x bits ≡ 0 → Admits result x }
     ensures told { AreBitsOf bits result.zeros }
     ensures sharp { (x : ℕ) → Admits result x → bit_and x bits ≡ 0 }
@@ -111,7 +111,7 @@ pub fn no_common_bit(v: Known, bits: u32) -> Known
 }
 
 /// The two have a common bit.
-pub fn common_bit(v: Known, bits: u32) -> Option<Known>
+pub(crate) fn common_bit(v: Known, bits: u32) -> Option<Known>
     ensures kept { MatchOption result ((x : ℕ) → Admits v x → ¬ (bit_and x bits ≢ 0))
         (λ r. (x : ℕ) → Admits v x → bit_and x bits ≢ 0 → Admits r x) }
     ensures told { IsOneBit bits → IfSome result (λ r. AreBitsOf bits r.ones) }

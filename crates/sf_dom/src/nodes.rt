@@ -16,7 +16,7 @@ pub(crate) const WORDS: usize = 16;
 
 /// Where what is known of a node stands.
 #[derive(Clone, Copy)]
-pub enum Slot {
+pub(crate) enum Slot {
     /// The node has this number.
     Number(u32),
     /// At this place of the list of variables.
@@ -31,15 +31,15 @@ impl Default for Slot {
 
 /// A node that may have several numbers, its place in the pool and what is known of it.
 #[derive(Clone, Copy)]
-pub struct Variable {
-    pub place: usize,
-    pub known: Known,
+pub(crate) struct Variable {
+    pub(crate) place: usize,
+    pub(crate) known: Known,
 }
 
 /// What is known of the nodes of a pool, oldest first. A node that comes with one number, as each constant does, is
 /// told in blocks that forks share. The others are the variables: they alone can gain, and may be gone over alone.
 #[derive(Drop)]
-pub struct Nodes {
+pub(crate) struct Nodes {
     slots: SharedList<Slot, 1>,
     variables: Vec<Variable>,
 }
@@ -67,7 +67,7 @@ fn is_number(known: Known) -> bool
 
 impl Nodes {
     /// No nodes. `Memory` where a growth is refused.
-    pub fn new(alloc: Global) -> Result<Nodes, Fault>
+    pub(crate) fn new(alloc: Global) -> Result<Nodes, Fault>
         ensures { IfOk result (λ n. n.known ≡ []) }
     {
         Ok(Nodes {
@@ -77,14 +77,14 @@ impl Nodes {
     }
 
     /// How many nodes there are.
-    pub fn len(&self) -> usize
+    pub(crate) fn len(&self) -> usize
         ensures { result ≡ length self.now.known }
     {
         self.slots.len()
     }
 
     /// What is known of a node.
-    pub fn get(&self, i: usize) -> Known
+    pub(crate) fn get(&self, i: usize) -> Known
         requires { i < length self.now.known }
         ensures { result ≡ known_at self.now.known i }
     {
@@ -95,7 +95,7 @@ impl Nodes {
     }
 
     /// How many variables there are.
-    pub fn variable_count(&self) -> usize
+    pub(crate) fn variable_count(&self) -> usize
         ensures count { result ≡ length self.now.variables }
         ensures laid_out { IsLaidOut self.now }
     {
@@ -103,7 +103,7 @@ impl Nodes {
     }
 
     /// The place of a variable, the oldest at 0.
-    pub fn variable(&self, rank: usize) -> usize
+    pub(crate) fn variable(&self, rank: usize) -> usize
         requires { rank < length self.now.variables }
         ensures { result ≡ slice_index self.now.variables rank }
     {
@@ -111,7 +111,7 @@ impl Nodes {
     }
 
     /// Writes what is known of a node. One that has one number keeps it.
-    pub fn set(&mut self, i: usize, known: Known)
+    pub(crate) fn set(&mut self, i: usize, known: Known)
         requires within { i < length self.old.known }
         requires decided { IsDecided (known_at self.old.known i)
             → known ≡ known_at self.old.known i }
@@ -125,7 +125,7 @@ impl Nodes {
     }
 
     /// Adds what is known of the next node. `Memory` where a growth is refused: what is known is as it was then.
-    pub fn push(&mut self, known: Known) -> Result<(), Fault>
+    pub(crate) fn push(&mut self, known: Known) -> Result<(), Fault>
         ensures ok { IfOk result (λ _. self.new.known ≡ self.old.known ++ known ∷ []) }
         ensures err { OnErr result (self.new ≡ self.old) }
     {
@@ -144,7 +144,7 @@ impl Nodes {
     }
 
     /// The same again, with the shared blocks. `Memory` where a growth is refused.
-    pub fn fork(&self, alloc: Global) -> Result<Nodes, Fault>
+    pub(crate) fn fork(&self, alloc: Global) -> Result<Nodes, Fault>
         ensures { IfOk result (λ n. n ≡ self.now) }
     {
         Ok(Nodes {

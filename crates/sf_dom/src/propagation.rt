@@ -19,7 +19,7 @@ use sf_sym::{Node, NodeId, Pool};
 use std::alloc::Global;
 
 /// What is known of a node, reduced, or none where no number is left.
-pub fn reduced(known: Known, node: Node, excluded: &Excluded) -> Option<Known>
+pub(crate) fn reduced(known: Known, node: Node, excluded: &Excluded) -> Option<Known>
     requires word { (i : ℕ) → node ≡ Node.Word i → i < 16 }
     ensures { MatchOption result
         ((n : ℕ) → ¬ Leaves known (excluded_of excluded.now node) n)
@@ -32,7 +32,7 @@ pub fn reduced(known: Known, node: Node, excluded: &Excluded) -> Option<Known>
 }
 
 /// What follows of a node from what is known of the older ones.
-pub fn transfer(nodes: &Nodes, node: Node) -> Known
+pub(crate) fn transfer(nodes: &Nodes, node: Node) -> Known
     requires { OperandsBelow (length nodes.now.known) node }
     ensures value { (d : Input) (older : List ℕ) → IsInput d
         → ((i : ℕ) → i < length nodes.now.known
@@ -51,7 +51,7 @@ pub fn transfer(nodes: &Nodes, node: Node) -> Known
 }
 
 /// What both know.
-pub fn meet(a: Known, b: Known) -> Known
+pub(crate) fn meet(a: Known, b: Known) -> Known
     ensures { IsMeet a b result }
 {
     Known {
@@ -64,7 +64,7 @@ pub fn meet(a: Known, b: Known) -> Known
 
 /// Takes what is known of the older nodes on to each node that may gain. False: no input agrees. A word whose ends are left
 /// for it is as tight as it gets, since nothing follows of it from older nodes.
-pub fn propagate(nodes: &mut Nodes, excluded: &Excluded, pool: &Pool) -> bool
+pub(crate) fn propagate(nodes: &mut Nodes, excluded: &Excluded, pool: &Pool) -> bool
     requires ready { IsReady nodes.old.known pool.now }
     ensures { MatchBool result
         (IsPropagated nodes.old.known nodes.new.known excluded.now pool.now)
@@ -90,7 +90,7 @@ pub fn propagate(nodes: &mut Nodes, excluded: &Excluded, pool: &Pool) -> bool
 
 /// Takes in the nodes of a pool that are new. False: no input agrees. A single new node that isn't taken in, for that
 /// or for want of memory, leaves what is known as it was.
-pub fn append(nodes: &mut Nodes, excluded: &Excluded, pool: &Pool) -> Result<bool, Fault>
+pub(crate) fn append(nodes: &mut Nodes, excluded: &Excluded, pool: &Pool) -> Result<bool, Fault>
     requires covers { length nodes.old.known ≤ length pool.now }
     requires none { (16 ≤ length nodes.old.known) ⊎ ((w : ℕ) → numbers_at excluded.now w ≡ []) }
     ensures grown { IfOk result (λ b. MatchBool b
@@ -114,7 +114,7 @@ pub fn append(nodes: &mut Nodes, excluded: &Excluded, pool: &Pool) -> Result<boo
 
 /// Takes in the nodes of a pool that are new. False: no input agrees. Where they aren't taken in, for that or for want of
 /// memory, what is known is as it was: a copy to go back to is made only where several came at once.
-pub fn extend(
+pub(crate) fn extend(
     alloc: Global,
     nodes: &mut Nodes,
     excluded: &Excluded,

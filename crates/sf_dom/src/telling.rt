@@ -152,7 +152,7 @@ fn told_at(
 
 /// Whether a node passes a test against a number on every input that agrees, where that is told by what is known of it and
 /// nothing could be learnt from it: one result leaves the node no number, and the other changes nothing that is known.
-pub fn told_of(
+pub(crate) fn told_of(
     nodes: &Nodes,
     excluded: &Excluded,
     pool: &Pool,
