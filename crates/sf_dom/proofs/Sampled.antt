@@ -1,8 +1,8 @@
 -- What facts are after forward propagation and after growth, and where a condition or a range is kept exactly.
 use Rattle.std.proofs.Common.{◌≡◌, ◌≢◌, ℕ, zero, suc, ◌<◌, ◌≤◌, ◌^◌, ◌↔◌, List, [], length, get_or, take, Bool, true, false, IsTrue, arith, refl, sym, ap, subst, ◌∙◌, inl, inr}
-use Rattle.std.proofs.lemmas.Bool.{cases_lt, false≢true}
+use Rattle.std.proofs.lemmas.Bool.{cases_lt, eq-eqb, ne_eqb, false≢true}
 use Rattle.std.proofs.lemmas.List.{get_or-take, get_or_append_left}
-use Rattle.std.specs.Prelude.{slice_index, Contains, replicate}
+use Rattle.std.specs.Prelude.{◌==◌, if◌then◌else◌, slice_index, Contains, Option, Some, None, MatchOption, replicate}
 use Rattle.sf_insn.specs.Inputs.{IsInput}
 use Rattle.sf_insn.specs.declared.input.Input.{Input}
 use Rattle.sf_insn.specs.declared.ops.Test.{Test}
@@ -28,6 +28,22 @@ exact-none old ns met none = ((λ t. absurd (false≢true t)), (λ s. absurd (fa
 pub exact-some : (old new : FactsView) (ns : List Node) (met : Input → Bool) → SomeInput new ns (λ d. true)
     → KeepsOnly old new ns met → IsTrue true ↔ SomeInput old ns met
 exact-some old new ns met s only = let k = only s.0 s.1 s.2 in ((λ _. (s.0, s.1, k.0, k.1)), (λ _. refl))
+
+-- The number of a word where one alone is left: where there is one, where there is none, and how the ends tell.
+pub decided-some : (o : Option ℕ) (k : Known) (n : ℕ) → MatchOption o (¬ IsDecided k) (λ m. IsDecided k × (m ≡ k.low))
+    → o ≡ Some n → IsDecided k × (n ≡ k.low)
+decided-some None k n h e = cc
+decided-some (Some m) k n h e = let s : m ≡ n = cc in (h.0, sym s ∙ h.1)
+
+pub decided-none : (o : Option ℕ) (k : Known) → MatchOption o (¬ IsDecided k) (λ m. IsDecided k × (m ≡ k.low))
+    → o ≡ None → ¬ IsDecided k
+decided-none None k h e = h
+decided-none (Some m) k h e = cc
+
+pub decided-ends : (o : Option ℕ) (k : Known) → MatchOption o (¬ IsDecided k) (λ m. IsDecided k × (m ≡ k.low))
+    → o ≡ (if k.low == k.high then Some k.low else None)
+decided-ends None k h = rw (ne_eqb k.low k.high h) refl
+decided-ends (Some m) k h = rw (eq-eqb k.low k.high h.0, h.1) refl
 
 -- a node of words and constants that is not decided has two numbers
 pub undecided : (f : FactsView) (ns : List Node) (i n : ℕ) → Covers f ns → ArePlainNodes ns → i < length ns

@@ -15,7 +15,7 @@ use crate::fault::Fault;
 use crate::guards::{Pair, at_least, common_bit, differs, equal, greater, no_common_bit};
 use crate::known::Known;
 use crate::nodes::Nodes;
-use crate::propagation::{meet, propagate, reduced};
+use crate::propagation::{propagate, reduced};
 use sf_insn::{BinOp, Test};
 use sf_sym::{Cond, Node, NodeId, Pool, constant_of};
 use std::alloc::Global;
@@ -112,15 +112,13 @@ fn assume_test(v: Known, w: Known, test: Test, sense: bool) -> Option<Pair>
     match (test, sense) {
         (Test::Equal, true) => Some(equal(v, w)),
         (Test::Equal, false) => Some(Pair {
-            node: if w.low == w.high {
-                differs(v, w.low)?
-            } else {
-                v
+            node: match w.decided() {
+                Some(number) => differs(v, number)?,
+                None => v,
             },
-            other: if v.low == v.high {
-                differs(w, v.low)?
-            } else {
-                w
+            other: match v.decided() {
+                Some(number) => differs(w, number)?,
+                None => w,
             },
         }),
         (Test::Greater, true) => greater(v, w),
@@ -140,18 +138,16 @@ fn assume_test(v: Known, w: Known, test: Test, sense: bool) -> Option<Pair>
             })
         }
         (Test::AnyBit, true) => {
-            let node = if w.low == w.high {
-                common_bit(v, w.low)?
-            } else {
-                v
+            let node = match w.decided() {
+                Some(bits) => common_bit(v, bits)?,
+                None => v,
             };
             Some(Pair { node, other: w })
         }
         (Test::AnyBit, false) => {
-            let node = if w.low == w.high {
-                no_common_bit(v, w.low)
-            } else {
-                v
+            let node = match w.decided() {
+                Some(bits) => no_common_bit(v, bits),
+                None => v,
             };
             Some(Pair { node, other: w })
         }
@@ -168,7 +164,7 @@ fn left_of(nodes: &Nodes, excluded: &Excluded, pool: &Pool, at: usize, more: Kno
         (λ next. IsLeft nodes.now.known excluded.now pool.now at more next) }
 {
     let node = pool.node(NodeId(at));
-    reduced(meet(nodes.get(at), more), node, excluded)
+    reduced(nodes.get(at).meet(more), node, excluded)
 }
 
 /// Takes in what is told of a node besides. False: no input agrees.

@@ -9,26 +9,6 @@ ghost use Rattle.sf_dom.specs.Reduction.{IsForced};
 use crate::known::Known;
 use sf_insn::BinOp;
 
-/// An interval, with no bit known.
-fn between(low: u32, high: u32) -> Known
-    ensures admits { (n : ℕ) → low ≤ n → n ≤ high → Admits result n }
-    ensures ends { (result.low ≡ low) × (result.high ≡ high) }
-{
-    Known {
-        low,
-        high,
-        zeros: 0,
-        ones: 0,
-    }
-}
-
-/// Nothing is known.
-pub(crate) fn top_known() -> Known
-    ensures { (n : ℕ) → n < 2 ^ 32 → Admits result n }
-{
-    between(0, u32::MAX)
-}
-
 /// A sum: where none of the sums wraps, or each does, they lie between those of the ends.
 fn add(a: Known, b: Known) -> Known
     ensures admits { (x y : ℕ) → Admits a x → Admits b y → Admits result ((x + y) % 2 ^ 32) }
@@ -37,11 +17,11 @@ fn add(a: Known, b: Known) -> Known
     let fits = a.high <= u32::MAX - b.high;
     let wraps = a.low > u32::MAX - b.low;
     if fits {
-        between(a.low.wrapping_add(b.low), a.high.wrapping_add(b.high))
+        Known::between(a.low.wrapping_add(b.low), a.high.wrapping_add(b.high))
     } else if wraps {
-        between(a.low.wrapping_add(b.low), a.high.wrapping_add(b.high))
+        Known::between(a.low.wrapping_add(b.low), a.high.wrapping_add(b.high))
     } else {
-        top_known()
+        Known::top()
     }
 }
 
@@ -52,11 +32,11 @@ fn sub(a: Known, b: Known) -> Known
     ensures forced { IsConsistent a → IsConsistent b → IsDecided a → IsDecided b → IsForced result }
 {
     if a.low >= b.high {
-        between(a.low.wrapping_sub(b.high), a.high.wrapping_sub(b.low))
+        Known::between(a.low.wrapping_sub(b.high), a.high.wrapping_sub(b.low))
     } else if a.high < b.low {
-        between(a.low.wrapping_sub(b.high), a.high.wrapping_sub(b.low))
+        Known::between(a.low.wrapping_sub(b.high), a.high.wrapping_sub(b.low))
     } else {
-        top_known()
+        Known::top()
     }
 }
 
@@ -65,8 +45,8 @@ fn mul(a: Known, b: Known) -> Known
     ensures { (x y : ℕ) → Admits a x → Admits b y → Admits result ((x * y) % 2 ^ 32) }
 {
     match a.high.checked_mul(b.high) {
-        Some(high) => between(a.low.wrapping_mul(b.low), high),
-        None => top_known(),
+        Some(high) => Known::between(a.low.wrapping_mul(b.low), high),
+        None => Known::top(),
     }
 }
 
@@ -75,9 +55,9 @@ fn div(a: Known, b: Known) -> Known
     ensures { (x y : ℕ) → Admits a x → Admits b y → Admits result (if y == 0 then 0 else x / y) }
 {
     if b.low >= 1 && b.high >= 1 {
-        between(a.low / b.high, a.high / b.low)
+        Known::between(a.low / b.high, a.high / b.low)
     } else {
-        between(0, a.high)
+        Known::between(0, a.high)
     }
 }
 
@@ -161,10 +141,9 @@ fn shifted_right(a: Known, s: u32) -> Known
 fn shift_left(a: Known, b: Known) -> Known
     ensures { (x y : ℕ) → Admits a x → Admits b y → Admits result ((x * 2 ^ (y % 32)) % 2 ^ 32) }
 {
-    if b.low == b.high {
-        shifted_left(a, b.low % 32)
-    } else {
-        top_known()
+    match b.decided() {
+        Some(bits) => shifted_left(a, bits % 32),
+        None => Known::top(),
     }
 }
 
@@ -172,10 +151,9 @@ fn shift_left(a: Known, b: Known) -> Known
 fn shift_right(a: Known, b: Known) -> Known
     ensures { (x y : ℕ) → Admits a x → Admits b y → Admits result (x / 2 ^ (y % 32)) }
 {
-    if b.low == b.high {
-        shifted_right(a, b.low % 32)
-    } else {
-        between(0, a.high)
+    match b.decided() {
+        Some(bits) => shifted_right(a, bits % 32),
+        None => Known::between(0, a.high),
     }
 }
 
@@ -204,10 +182,10 @@ pub(crate) fn negated(a: Known) -> Known
     ensures forced { IsConsistent a → IsDecided a → IsForced result }
 {
     if a.low >= 1 && a.high >= 1 {
-        between(a.high.wrapping_neg(), a.low.wrapping_neg())
+        Known::between(a.high.wrapping_neg(), a.low.wrapping_neg())
     } else if a.high == 0 {
-        between(0, 0)
+        Known::between(0, 0)
     } else {
-        top_known()
+        Known::top()
     }
 }

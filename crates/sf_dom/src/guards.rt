@@ -7,7 +7,6 @@ ghost use Rattle.sf_dom.specs.Reduction.{IsMeet};
 ghost use Rattle.sf_insn.specs.Words.{IsOneBit};
 
 use crate::known::Known;
-use crate::propagation::meet;
 
 /// What is known of the two words of a test.
 #[derive(Clone, Copy, Debug, PartialEq, Eq)]
@@ -22,7 +21,7 @@ pub(crate) fn equal(v: Known, w: Known) -> Pair
     ensures both { IsMeet v w result.node × IsMeet v w result.other }
     ensures sharp { w.low ≡ w.high → (x : ℕ) → Admits result.node x → x ≡ w.low }
 {
-    let both = meet(v, w);
+    let both = v.meet(w);
     Pair {
         node: both,
         other: both,

@@ -6,7 +6,7 @@ ghost use Rattle.sf_dom.specs.Facts.{known_at};
 ghost use Rattle.sf_dom.specs.Nodes.{IsLaidOut};
 
 use crate::fault::Fault;
-use crate::known::{Known, exact_number};
+use crate::known::Known;
 use sf_blocks::shared::SharedList;
 use std::alloc::Global;
 use std::marker::Model;
@@ -62,7 +62,7 @@ fn is_number(known: Known) -> bool
     ensures { IsTrue result → known ≡ known_of known.low known.low
         (4294967295 - known.low) known.low }
 {
-    known == exact_number(known.low)
+    known == Known::exact(known.low)
 }
 
 impl Nodes {
@@ -89,7 +89,7 @@ impl Nodes {
         ensures { result ≡ known_at self.now.known i }
     {
         match self.slots.get(i) {
-            Slot::Number(c) => exact_number(c),
+            Slot::Number(c) => Known::exact(c),
             Slot::Variable(rank) => self.variables[rank].known,
         }
     }

@@ -7,13 +7,13 @@ ghost use Rattle.sf_insn.specs.declared.input.Input.{Input};
 ghost use Rattle.sf_dom.specs.Known.{Admits, Leaves, IsConsistent, known_of};
 ghost use Rattle.sf_dom.specs.Propagation.{KeepsAgreeing, NoneAgreesWith, AreConsistentOperands, IsReducedNode, IsReady, IsPropagated, IsGrown};
 ghost use Rattle.sf_dom.specs.Facts.{known_at, numbers_at, excluded_of, AgreesWith, AreDecidedOperands};
-ghost use Rattle.sf_dom.specs.Reduction.{IsForced, IsMeet};
+ghost use Rattle.sf_dom.specs.Reduction.{IsForced};
 
 use crate::exclusions::Excluded;
 use crate::fault::Fault;
 use crate::fitting::is_tight;
-use crate::forward::{forward, negated, top_known};
-use crate::known::{Known, exact_number, reduce_known, reduce_word};
+use crate::forward::{forward, negated};
+use crate::known::{Known, reduce_known, reduce_word};
 use crate::nodes::{Nodes, WORDS};
 use sf_sym::{Node, NodeId, Pool};
 use std::alloc::Global;
@@ -43,22 +43,10 @@ pub(crate) fn transfer(nodes: &Nodes, node: Node) -> Known
     ensures constant { (c : ℕ) → node ≡ Node.Const c → (result.low ≡ c) × (result.high ≡ c) }
 {
     match node {
-        Node::Const(c) => exact_number(c),
-        Node::Word(_) => top_known(),
+        Node::Const(c) => Known::exact(c),
+        Node::Word(_) => Known::top(),
         Node::Bin(op, a, b) => forward(op, nodes.get(a.0), nodes.get(b.0)),
         Node::Neg(a) => negated(nodes.get(a.0)),
-    }
-}
-
-/// What both know.
-pub(crate) fn meet(a: Known, b: Known) -> Known
-    ensures { IsMeet a b result }
-{
-    Known {
-        low: a.low.max(b.low),
-        high: a.high.min(b.high),
-        zeros: a.zeros | b.zeros,
-        ones: a.ones | b.ones,
     }
 }
 
@@ -79,7 +67,7 @@ pub(crate) fn propagate(nodes: &mut Nodes, excluded: &Excluded, pool: &Pool) -> 
             continue;
         }
         let node = pool.node(NodeId(i));
-        let known = meet(before, transfer(nodes, node));
+        let known = before.meet(transfer(nodes, node));
         match reduced(known, node, excluded) {
             None => return false,
             Some(next) => nodes.set(i, next),

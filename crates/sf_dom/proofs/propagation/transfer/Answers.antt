@@ -4,10 +4,10 @@ use Rattle.sf_dom.specs.FactsLaws.{constant-admits}
 use Rattle.sf_dom.proofs.propagation.transfer.Goals as goal
 
 pub returns-in-Const-clause-value : goal.returns-in-Const-clause-value
-returns-in-Const-clause-value c = λ d older p h. rw (c.in-Const.is, c.exact_number.ensures)
+returns-in-Const-clause-value c = λ d older p h. rw (c.in-Const.is, c.exact.ensures)
     (constant-admits c.in-Const.c (rw c.in-Const.is at c.requires))
 
 pub returns-in-Word-clause-value : goal.returns-in-Word-clause-value
 returns-in-Word-clause-value c = λ d older p h.
     let l : c.in-Word.field-0 < 16 = rw c.in-Word.is at c.requires in
-    rw c.in-Word.is (c.top_known.ensures (slice_index d.words c.in-Word.field-0) (p.each c.in-Word.field-0))
+    rw c.in-Word.is (c.top.ensures (slice_index d.words c.in-Word.field-0) (p.each c.in-Word.field-0))

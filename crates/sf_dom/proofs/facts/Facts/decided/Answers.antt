@@ -1,23 +1,28 @@
-use Rattle.std.proofs.Common.{◌≡◌, arith}
-use Rattle.std.proofs.lemmas.Option.{same_Some}
-use Rattle.sf_dom.specs.Facts.{Agrees}
-use Rattle.sf_dom.proofs.Sampled.{undecided}
+use Rattle.std.proofs.Common.{arith}
+use Rattle.sf_dom.specs.Facts.{Agrees, known_at}
+use Rattle.sf_dom.proofs.Sampled.{undecided, decided-some, decided-none, decided-ends}
 use Rattle.sf_dom.proofs.facts.Facts.decided.Goals as goal
 
-pub returns-then-known-clause-some : goal.returns-then-known-clause-some
+pub returns-clause-some : goal.returns-clause-some
 unfolding Agrees
-returns-then-known-clause-some c =
+returns-clause-some c =
     let covers = rw (← c.self.view_is) at c.requires.covers in
-    let here = c.get-known.ensures in
+    let told = rw c.get-known.ensures at c.decided.ensures in
     rw (← c.self.view_is) (λ n e d p a.
-    let low : c.get-known.result.low ≡ n = same_Some _ _ e in
-    let admitted = rw (← here) at (a c.args.node.0 (omega (arith, c.requires.node, covers.count))).admitted in
-    omega (arith, admitted.above, admitted.below, c.if-known.true, low))
+    let one = decided-some c.decided.result (known_at c.self.inside.nodes.known c.args.node.0) n told e in
+    let admitted = (a c.args.node.0 (omega (arith, c.requires.node, covers.count))).admitted in
+    omega (arith, admitted.above, admitted.below, one.0, one.1))
 
-pub returns-else-known-clause-none : goal.returns-else-known-clause-none
+pub returns-clause-none : goal.returns-clause-none
 unfolding Agrees
-returns-else-known-clause-none c =
+returns-clause-none c =
     let covers = rw (← c.self.view_is) at c.requires.covers in
-    let here = c.get-known.ensures in
+    let told = rw c.get-known.ensures at c.decided.ensures in
     rw (← c.self.view_is) (λ plain e n all.
-    undecided _ c.args.pool.now c.args.node.0 n covers plain c.requires.node (rw here at c.if-known.false) all)
+    undecided _ c.args.pool.now c.args.node.0 n covers plain c.requires.node
+    (decided-none c.decided.result (known_at c.self.inside.nodes.known c.args.node.0) told e) all)
+
+pub returns-clause-ends : goal.returns-clause-ends
+returns-clause-ends c =
+    let told = rw c.get-known.ensures at c.decided.ensures in
+    rw (← c.self.view_is) (decided-ends c.decided.result (known_at c.self.inside.nodes.known c.args.node.0) told)

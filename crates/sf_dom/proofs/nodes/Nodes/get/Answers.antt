@@ -23,7 +23,7 @@ returns-in-Number c =
     let os = c.self.inside.variables.items in
     let within = rw (← c.self.view_is) at c.requires in
     let below : c.args.i < length slots = omega (arith, within, known-length slots os) in
-    rw (← c.self.view_is) (c.exact_number.ensures ∙ sym (known-slot slots os c.args.i below
+    rw (← c.self.view_is) (c.exact.ensures ∙ sym (known-slot slots os c.args.i below
     ∙ ap (slot_known os) (sym (c.get.ensures (Number 0)) ∙ c.in-Number.is)))
 
 pub returns-in-Variable : goal.returns-in-Variable

@@ -1,5 +1,5 @@
 use Rattle.std.proofs.Common.{arith}
-use Rattle.sf_dom.proofs.forward.top_known.Goals as goal
+use Rattle.sf_dom.proofs.known.Known.top.Goals as goal
 
 pub returns : goal.returns
 returns c = λ n l. c.between.ensures.admits n (omega arith) (omega arith)
