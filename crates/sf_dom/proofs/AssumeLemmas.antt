@@ -17,10 +17,11 @@ use Rattle.sf_dom.specs.declared.known.Known.{Known}
 use Rattle.sf_dom.specs.declared.guards.Pair.{Pair}
 use Rattle.sf_dom.specs.Known.{Admits, Leaves, IsNarrower, IsDecided, IsConsistent, known_of}
 use Rattle.sf_dom.specs.Propagation.{IsReducedNode, IsLeft, AddsNumber, AreExcluded, AreBothExcluded, IsAssumed, IsRestricted, IsPropagated, IsSharp, IsMovedPast, Tells, TestGives, AllNarrower, KeepsAgreeing, NoneAgreesWith, KeepsAgreeingOn, NoneAgreesOn, LeavesPair, LeavesNoPair, HasGoneBack, Holds}
+use Rattle.sf_dom.specs.Conditions.{AreLeftAlone}
 use Rattle.sf_dom.specs.Backward.{IsSwappable, IsPropagatedBack}
-use Rattle.sf_dom.proofs.Propagations.{AllNarrower-trans, word-below, operands-below}
+use Rattle.sf_dom.proofs.Propagations.{AllNarrower-trans, AllNarrower-set, AllNarrower-refl, propagate-set, word-below, operands-below}
 use Rattle.sf_dom.proofs.GuardLemmas.{gives-differs}
-use Rattle.sf_dom.proofs.Reductions.{IsNarrower-trans}
+use Rattle.sf_dom.proofs.Reductions.{IsNarrower-trans, IsNarrower-refl}
 use Rattle.sf_dom.specs.FactsLaws.{value-word}
 use Rattle.sf_sym.specs.declared.pool.Cond.{Cond}
 use Rattle.sf_insn.specs.declared.ops.Test.{Test}
@@ -221,6 +222,42 @@ tells-narrower GreaterOrEqual true v w a b c e h k t = (omega (arith, h.low, t.0
 tells-narrower GreaterOrEqual false v w a b c e h k t = (omega (arith, h.high, t.0), omega (arith, k.low, t.1))
 tells-narrower AnyBit true v w a b c e h k t = λ d one i. omega (arith, h.ones i, t d one i)
 tells-narrower AnyBit false v w a b c e h k t = λ d i. omega (arith, h.zeros i, t d i)
+
+-- what is left of both nodes of a condition, by what its test leaves of them
+pub left-alone : (ks : List Known) (ex : List (List ℕ)) (ns : List Node) (cond : Cond) (v' w' node other : Known)
+    → cond.node.0 < length ks → cond.other.0 < length ks
+    → LeavesPair (known_at ks cond.node.0) (known_at ks cond.other.0) v' w' (λ x y. TestGives cond.test x y cond.sense)
+    → Tells cond.test cond.sense (known_at ks cond.node.0) (known_at ks cond.other.0) v' w'
+    → (IsDecided (known_at ks cond.other.0) → IsSharp cond.test cond.sense (known_at ks cond.other.0).low → (x : ℕ)
+    → Admits v' x → TestGives cond.test x (known_at ks cond.other.0).low cond.sense)
+    → (IsConsistent (known_at ks cond.node.0) → IsDecided (known_at ks cond.node.0)
+    → IsDecided (known_at ks cond.other.0)
+    → (x : ℕ) → Admits v' x → TestGives cond.test x (known_at ks cond.other.0).low cond.sense)
+    → IsLeft ks ex ns cond.node.0 v' node → IsLeft ks ex ns cond.other.0 w' other
+    → AreLeftAlone ks ex ns cond node other
+left-alone ks ex ns cond v' w' node other lv lw pair tells sharp decided one two = record {
+  admits = λ d p a h.
+      let q = values-left ks ex ns cond v' w' lv lw pair d p a h in
+      ((one.kept d p a q.0).admitted, (two.kept d p a q.1).admitted);
+  narrower = one.narrower;
+  consistent = one.consistent;
+  tells = tells-narrower cond.test cond.sense (known_at ks cond.node.0) (known_at ks cond.other.0) v' w' node other
+      one.told two.told tells;
+  sharp = λ d s x h. sharp d s x (one.told.numbers x h);
+  decided = λ s d1 d2 x h. decided s d1 d2 x (one.told.numbers x h);
+}
+
+-- the first node gets what is left of it
+pub alone-set : (ks : List Known) (ex : List (List ℕ)) (ns : List Node) (cond : Cond) (node other : Known)
+    → cond.node.0 < length ks → AreLeftAlone ks ex ns cond node other
+    → KeepsAgreeingOn ks (set ks cond.node.0 node) ex ns (λ d. Admits node (value_of ns d cond.node.0))
+    × AllNarrower ks (set ks cond.node.0 node) × IsNarrower node (known_at (set ks cond.node.0 node) cond.node.0)
+alone-set ks ex ns cond node other l h = (
+  (λ d p a m. propagate-set ks ex ns d cond.node.0 node l a
+      (record { admitted = m; kept = (a cond.node.0 l).kept })),
+  AllNarrower-set ks ks cond.node.0 node refl l (AllNarrower-refl ks) h.narrower,
+  narrower-at ks cond.node.0 node node l (IsNarrower-refl node),
+)
 
 -- a condition is taken in, step by step
 pub assume-steps : (o a b c e : List Known) (ex : List (List ℕ)) (ns : List Node) (cond : Cond) (v' w' : Known)

@@ -8,7 +8,8 @@ use Rattle.sf_sym.specs.declared.pool.Cond.{Cond}
 use Rattle.sf_sym.specs.declared.pool.Node.{Node}
 use Rattle.sf_dom.specs.declared.known.Known.{Known}
 use Rattle.sf_dom.specs.Facts.{FactsView, AgreesWith, Covers, AreNarrower, IsPlainCondition, DecidesTest}
-use Rattle.sf_dom.specs.Propagation.{IsReady, IsLearnt, IsTold, IsRestricted, RestrictsWord}
+use Rattle.sf_dom.specs.Conditions.{AreLeftAlone}
+use Rattle.sf_dom.specs.Propagation.{IsReady, AreBothExcluded, IsLearnt, IsTold, IsRestricted, RestrictsWord}
 use Rattle.sf_dom.proofs.Sampled.{propagate-facts, agrees-back, agrees-with-fewer, admits-word, decides-test, plain-gives}
 
 -- facts of a pool's nodes are ready for a condition
@@ -46,6 +47,19 @@ assumed-told old new ex ex' ns cond t = record {
   sharp = t.consistent.sharp;
   excluded = t.both.added;
   excluded_other = t.both.added_other;
+}
+
+-- what a condition leaves of its nodes it leaves where more numbers are excluded
+pub alone-with-more : (ks : List Known) (ex ex' : List (List ℕ)) (ns : List Node) (cond : Cond) (node other : Known)
+    → IsPool ns → length ks ≡ length ns → AreBothExcluded ks ex ex' ns cond → AreLeftAlone ks ex ns cond node other
+    → AreLeftAlone ks ex' ns cond node other
+alone-with-more ks ex ex' ns cond node other p len both h = record {
+  admits = λ d i a holds. h.admits d i (agrees-with-fewer ks ex ex' ns d p len both.more a) holds;
+  narrower = h.narrower;
+  consistent = h.consistent;
+  tells = h.tells;
+  sharp = h.sharp;
+  decided = h.decided;
 }
 
 pub assumed-decides : (old new : List Known) (ex ex' : List (List ℕ)) (ns : List Node) (cond : Cond)

@@ -7,6 +7,7 @@ ghost use Rattle.sf_sym.specs.Pool.{OperandsBelow, IsPool, node_at, node_value, 
 ghost use Rattle.sf_insn.specs.declared.input.Input.{Input};
 ghost use Rattle.sf_dom.specs.Known.{AreBitsOf, HasBits, Admits, Leaves, IsNarrower, IsConsistent, IsDecided};
 ghost use Rattle.sf_dom.specs.Propagation.{KeepsAgreeing, NoneAgreesWith, KeepsAgreeingOn, NoneAgreesOn, LeavesPair, LeavesNoPair, IsSharp, Tells, TestGives, AllNarrower, IsReady, IsLeft, IsAssumed, AreExcluded, AreBothExcluded, Holds};
+ghost use Rattle.sf_dom.specs.Conditions.{AreLeftAlone};
 ghost use Rattle.sf_dom.specs.Backward.{IsSwappable, HandsOn, constant_operand_of, IsPropagatedBack};
 ghost use Rattle.sf_dom.specs.Facts.{known_at, numbers_at, excluded_of, AgreesWith};
 
@@ -195,54 +196,60 @@ pub(crate) fn meet_node(
     }
 }
 
-/// Whether what is known of its two nodes rules a condition out. It is asked before facts are copied.
-pub(crate) fn is_ruled_out(nodes: &Nodes, excluded: &Excluded, pool: &Pool, cond: &Cond) -> bool
+/// What a condition leaves of its two nodes, each by itself, or none where that rules it out. It is asked before facts are
+/// copied.
+pub(crate) fn left_alone(
+    nodes: &Nodes,
+    excluded: &Excluded,
+    pool: &Pool,
+    cond: &Cond,
+) -> Option<Pair>
     requires covers { length nodes.now.known ≡ length pool.now }
     requires node { cond.now.node.0 < length pool.now }
     requires other { cond.now.other.0 < length pool.now }
-    ensures { IsTrue result → NoneAgreesOn nodes.now.known excluded.now pool.now
-        (Holds pool.now cond.now) }
+    ensures { MatchOption result
+        (NoneAgreesOn nodes.now.known excluded.now pool.now (Holds pool.now cond.now))
+        (λ p. AreLeftAlone nodes.now.known excluded.now pool.now cond.now p.node p.other) }
 {
     let v = cond.node.0;
     let w = cond.other.0;
-    match assume_test(nodes.get(v), nodes.get(w), cond.test, cond.sense) {
-        None => true,
-        Some(pair) => {
-            left_of(nodes, excluded, pool, v, pair.node).is_none()
-                || left_of(nodes, excluded, pool, w, pair.other).is_none()
-        }
-    }
+    let pair = assume_test(nodes.get(v), nodes.get(w), cond.test, cond.sense)?;
+    let node = left_of(nodes, excluded, pool, v, pair.node)?;
+    let other = left_of(nodes, excluded, pool, w, pair.other)?;
+    Some(Pair { node, other })
 }
 
-/// Takes a condition into what is known. False: no input that agrees meets it.
-pub(crate) fn assume_cond(nodes: &mut Nodes, excluded: &Excluded, pool: &Pool, cond: &Cond) -> bool
+/// Takes a condition into what is known, with what it leaves of its two nodes alone. False: no input that agrees meets it.
+/// The second is met with what is known of it then, since both may be one node.
+pub(crate) fn assume_cond(
+    nodes: &mut Nodes,
+    excluded: &Excluded,
+    pool: &Pool,
+    cond: &Cond,
+    alone: Pair,
+) -> bool
     requires ready { IsReady nodes.old.known pool.now }
     requires node { cond.now.node.0 < length pool.now }
     requires other { cond.now.other.0 < length pool.now }
+    requires left { AreLeftAlone nodes.old.known excluded.now pool.now cond.now
+        alone.node alone.other }
     ensures { MatchBool result
         (IsAssumed nodes.old.known nodes.new.known excluded.now pool.now cond.now)
         (NoneAgreesOn nodes.old.known excluded.now pool.now (Holds pool.now cond.now)) }
 {
     let v = cond.node.0;
     let w = cond.other.0;
-    match assume_test(nodes.get(v), nodes.get(w), cond.test, cond.sense) {
-        None => false,
-        Some(pair) => {
-            if !meet_node(nodes, excluded, pool, v, pair.node) {
-                return false;
-            }
-            if !meet_node(nodes, excluded, pool, w, pair.other) {
-                return false;
-            }
-            if !propagate_back(nodes, excluded, pool, v) {
-                return false;
-            }
-            if !propagate_back(nodes, excluded, pool, w) {
-                return false;
-            }
-            propagate(nodes, excluded, pool)
-        }
+    nodes.set(v, alone.node);
+    if !meet_node(nodes, excluded, pool, w, alone.other) {
+        return false;
     }
+    if !propagate_back(nodes, excluded, pool, v) {
+        return false;
+    }
+    if !propagate_back(nodes, excluded, pool, w) {
+        return false;
+    }
+    propagate(nodes, excluded, pool)
 }
 
 /// A word is not the number of a node that is decided.

@@ -5,7 +5,7 @@ ghost use Rattle.sf_sym.specs.Pool.{IsCondBelow};
 ghost use Rattle.sf_dom.specs.Known.{Admits};
 ghost use Rattle.sf_dom.specs.Propagation.{NoneAgreesOn, Holds, IsReady, IsRestricted, IsLearnt, AreBothExcluded};
 
-use crate::assuming::{assume_cond, exclude_both, is_ruled_out, meet_node};
+use crate::assuming::{assume_cond, exclude_both, left_alone, meet_node};
 use crate::exclusions::Excluded;
 use crate::fault::Fault;
 use crate::known::Known;
@@ -57,12 +57,12 @@ pub(crate) fn assumed(
 {
     // For the prover: the pool is lawful.
     let _count = pool.len();
-    if is_ruled_out(nodes, excluded, pool, cond) {
+    let Some(alone) = left_alone(nodes, excluded, pool, cond) else {
         return Ok(None);
-    }
+    };
     let mut left = nodes.fork(alloc)?;
     let lists = with_told(alloc, excluded, nodes, pool, cond)?;
-    if !assume_cond(&mut left, &lists, pool, cond) {
+    if !assume_cond(&mut left, &lists, pool, cond, alone) {
         return Ok(None);
     }
     Ok(Some((left, lists)))

@@ -1,56 +1,66 @@
 use Rattle.std.proofs.Common.{arith, refl}
-use Rattle.sf_dom.proofs.AssumeLemmas.{assumed-all, values-left}
+use Rattle.sf_dom.proofs.AssumeLemmas.{assumed-all, alone-set}
+use Rattle.sf_dom.proofs.Propagations.{IsReady-set, decided-kept}
 use Rattle.sf_dom.proofs.assuming.assume_cond.Goals as goal
+
+pub set-requires-clause-decided : goal.set-requires-clause-decided
+set-requires-clause-decided c = λ d.
+    let count = c.requires.ready.count in
+    decided-kept _ _ (c.requires.ready.consistent c.args.cond.now.node.0 (omega (arith, c.requires.node)))
+    c.requires.left.narrower c.requires.left.consistent d
+
+pub meet_node-requires-clause-ready : goal.meet_node-requires-clause-ready
+meet_node-requires-clause-ready c =
+    let count = c.requires.ready.count in
+    rw c.set.ensures.known (IsReady-set c.args.nodes.now.known c.args.pool.now c.args.cond.now.node.0 c.args.alone.node
+    (omega (arith, c.requires.node)) c.requires.ready c.requires.left.narrower c.requires.left.consistent)
 
 pub returns-then-not-meet_node : goal.returns-then-not-meet_node
 returns-then-not-meet_node c = λ d p a h.
     let count = c.requires.ready.count in
-    let pair = rw (c.get.ensures, c.get-2.ensures) at c.in-Some.ensures.pair in
-    let told = values-left _ _ c.args.pool.now c.args.cond.now _ _ (omega arith) (omega arith) pair d p a h in
-    c.if-not-meet_node.ensures.kept d p a told.0
-
-pub returns-then-not-meet_node-2 : goal.returns-then-not-meet_node-2
-returns-then-not-meet_node-2 c = λ d p a h.
-    let count = c.requires.ready.count in
-    let pair = rw (c.get.ensures, c.get-2.ensures) at c.in-Some.ensures.pair in
-    let told = values-left _ _ c.args.pool.now c.args.cond.now _ _ (omega arith) (omega arith) pair d p a h in
-    c.if-not-meet_node-2.ensures.kept d p (c.if-not-meet_node.ensures.kept.0 d p a told.0) told.1
+    let step = rw (← c.set.ensures.known) at (alone-set c.args.nodes.now.known c.args.excluded.now c.args.pool.now
+    c.args.cond.now c.args.alone.node c.args.alone.other (omega (arith, c.requires.node)) c.requires.left) in
+    let told = c.requires.left.admits d p a h in
+    c.if-not-meet_node.ensures.kept d p (step.0 d p a told.0) told.1
 
 pub returns-then-not-propagate_back : goal.returns-then-not-propagate_back
 returns-then-not-propagate_back c = λ d p a h.
     let count = c.requires.ready.count in
-    let pair = rw (c.get.ensures, c.get-2.ensures) at c.in-Some.ensures.pair in
-    let told = values-left _ _ c.args.pool.now c.args.cond.now _ _ (omega arith) (omega arith) pair d p a h in
-    c.if-not-propagate_back.ensures.kept d p (c.if-not-meet_node-2.ensures.kept.0 d p
-    (c.if-not-meet_node.ensures.kept.0 d p a told.0) told.1)
+    let step = rw (← c.set.ensures.known) at (alone-set c.args.nodes.now.known c.args.excluded.now c.args.pool.now
+    c.args.cond.now c.args.alone.node c.args.alone.other (omega (arith, c.requires.node)) c.requires.left) in
+    let told = c.requires.left.admits d p a h in
+    c.if-not-propagate_back.ensures.kept d p (c.if-not-meet_node.ensures.kept.0 d p (step.0 d p a told.0) told.1)
 
 pub returns-then-not-propagate_back-2 : goal.returns-then-not-propagate_back-2
 returns-then-not-propagate_back-2 c = λ d p a h.
     let count = c.requires.ready.count in
-    let pair = rw (c.get.ensures, c.get-2.ensures) at c.in-Some.ensures.pair in
-    let told = values-left _ _ c.args.pool.now c.args.cond.now _ _ (omega arith) (omega arith) pair d p a h in
+    let step = rw (← c.set.ensures.known) at (alone-set c.args.nodes.now.known c.args.excluded.now c.args.pool.now
+    c.args.cond.now c.args.alone.node c.args.alone.other (omega (arith, c.requires.node)) c.requires.left) in
+    let told = c.requires.left.admits d p a h in
     c.if-not-propagate_back-2.ensures.kept d p (c.if-not-propagate_back.ensures.kept.0 d p
-    (c.if-not-meet_node-2.ensures.kept.0 d p (c.if-not-meet_node.ensures.kept.0 d p a told.0) told.1))
+    (c.if-not-meet_node.ensures.kept.0 d p (step.0 d p a told.0) told.1))
 
-pub returns-else-not-propagate_back-2 : goal.returns-else-not-propagate_back-2
-returns-else-not-propagate_back-2 c =
+pub returns : goal.returns
+returns c =
     let ns = c.args.pool.now in
     let ex = c.args.excluded.now in
     let o = c.args.nodes.now.known in
     let cond = c.args.cond.now in
     let count = c.requires.ready.count in
-    let pair = rw (c.get.ensures, c.get-2.ensures) at c.in-Some.ensures.pair in
-    let sharp = rw c.get-2.ensures at c.in-Some.ensures.sharp in
-    let decided = rw (c.get.ensures, c.get-2.ensures) at c.in-Some.ensures.decided in
-    let tells = rw (c.get.ensures, c.get-2.ensures) at c.in-Some.ensures.tells in
-    assumed-all c.propagate.result o c.meet_node.new.nodes.known c.meet_node-in-Some.new.nodes.known
-    c.propagate_back.new.nodes.known c.propagate_back-in-Some.new.nodes.known c.propagate.new.nodes.known ex ns cond
-    c.in-Some.pair.node
-    c.in-Some.pair.other
-    count c.meet_node.ensures.ready.count c.meet_node-in-Some.ensures.ready.count c.propagate_back.ensures.ready.count
-    c.propagate_back-in-Some.ensures.ready.count c.requires.node c.requires.other
-    (values-left o ex ns cond _ _ (omega arith) (omega arith) pair)
-    c.if-not-meet_node.ensures.kept c.if-not-meet_node-2.ensures.kept c.if-not-propagate_back.ensures.kept
+    let left = c.requires.left in
+    let within = c.requires.node in
+    let step = rw (← c.set.ensures.known) at (alone-set o ex ns cond c.args.alone.node c.args.alone.other (omega arith)
+    left) in
+    let ready = rw (← c.set.ensures.known) at (IsReady-set o ns cond.node.0 c.args.alone.node (omega arith)
+    c.requires.ready left.narrower left.consistent) in
+    assumed-all c.propagate.result o c.set.new.self.known c.meet_node.new.nodes.known
+    c.propagate_back.new.nodes.known c.propagate_back-2.new.nodes.known c.propagate.new.nodes.known ex ns cond
+    c.args.alone.node c.args.alone.other
+    count ready.count c.meet_node.ensures.ready.count c.propagate_back.ensures.ready.count
+    c.propagate_back-2.ensures.ready.count c.requires.node c.requires.other
+    left.admits
+    step c.if-not-meet_node.ensures.kept c.if-not-propagate_back.ensures.kept
     c.if-not-propagate_back-2.ensures.kept
-    tells (c.if-not-propagate_back.ensures.backward refl) (c.if-not-propagate_back-2.ensures.backward refl) sharp
-    decided c.propagate.ensures
+    left.tells (c.if-not-propagate_back.ensures.backward refl)
+    (c.if-not-propagate_back-2.ensures.backward refl) left.sharp
+    left.decided c.propagate.ensures
