@@ -25,23 +25,33 @@ on_a m id = record m { a = id; place = m.place + 1; taken = 0; value = 0 }
 abbrev on_x : SymbolicMachine → NodeId → SymbolicMachine
 on_x m id = record m { x = id; place = m.place + 1; taken = 0; value = 0 }
 
-pub set_a_goes : (p : PieceData) (i : Insn) (node : Node) (q : PieceData) (id : NodeId) → IsPushed p node q id
-    → SetsA p i node → GoesTo q i (on_a q.machine id)
-set_a_goes p i node q id h sets = subst (λ (r : PieceData). GoesTo r i (on_a r.machine id)) (sym h.grown.same) (record {
+-- the machine at a place of the same program, with these words
+abbrev moved : SymbolicMachine → ℕ → NodeId → NodeId → List (Option NodeId) → SymbolicMachine
+moved m place a x scratch = record m { place = place; a = a; x = x; scratch = scratch; taken = 0; value = 0 }
+
+goes_to : (p : PieceData) (i : Insn) (place : ℕ) (a x : NodeId) (scratch : List (Option NodeId))
+    → a.0 < length p.pool → x.0 < length p.pool → p.machine.zero.0 < length p.pool
+    → ((k : ℕ) (w : NodeId) → slice_get scratch k ≡ Some (Some w) → w.0 < length p.pool)
+    → GoesBy p i (moved p.machine place a x scratch) → GoesTo p i (moved p.machine place a x scratch)
+goes_to p i place a x scratch a_below x_below zero_below scratch_below run = record {
   program = refl;
   so_far = refl;
   zero = refl;
   taken = refl;
   value = refl;
-  nodes = record { a = h.within; x = h.grown.nodes.x; zero = h.grown.nodes.zero; scratch = h.grown.nodes.scratch };
-  run = by sets;
-})
+  nodes = record { a = a_below; x = x_below; zero = zero_below; scratch = scratch_below };
+  run = run;
+}
+
+pub set_a_goes : (p : PieceData) (i : Insn) (node : Node) (q : PieceData) (id : NodeId) → IsPushed p node q id
+    → SetsA p i node → GoesTo q i (on_a q.machine id)
+set_a_goes p i node q id h sets = subst (λ (r : PieceData). GoesTo r i (on_a r.machine id)) (sym h.grown.same)
+    (goes_to (record p { pool = q.pool; facts = q.facts }) i (p.machine.place + 1) id p.machine.x p.machine.scratch
+    h.within h.grown.nodes.x h.grown.nodes.zero h.grown.nodes.scratch (by sets))
   where
     to : (d : Input) (v : ℕ) → value_of q.pool d id.0 ≡ v → concrete_state q.pool (on_a p.machine id) d
         ≡ record (concrete_state p.pool p.machine d) { place = p.machine.place + 1; a = v }
-    to d v e =
-        ap (λ (s : State). record s { place = p.machine.place + 1; a = value_of q.pool d id.0 }) (h.grown.state d)
-        ∙ ap (λ (n : ℕ). record (concrete_state p.pool p.machine d) { place = p.machine.place + 1; a = n }) e
+    to d v e = λ j. record (h.grown.state d j) { place = p.machine.place + 1; a = e j }
 
     by : SetsA p i node → GoesBy (record p { pool = q.pool; facts = q.facts }) i (on_a p.machine id)
     by (inl run) = inl (λ d. ap (λ (s : State). insn_progress d s i) (h.grown.state d) ∙ run d
@@ -58,22 +68,14 @@ set_a_goes p i node q id h sets = subst (λ (r : PieceData). GoesTo r i (on_a r.
 
 pub set_x_goes : (p : PieceData) (i : Insn) (k : ℕ) (q : PieceData) (id : NodeId) → IsPushed p (Const k) q id
     → SetsX p i k → GoesTo q i (on_x q.machine id)
-set_x_goes p i k q id h sets = subst (λ (r : PieceData). GoesTo r i (on_x r.machine id)) (sym h.grown.same) (record {
-  program = refl;
-  so_far = refl;
-  zero = refl;
-  taken = refl;
-  value = refl;
-  nodes = record { a = h.grown.nodes.a; x = h.within; zero = h.grown.nodes.zero; scratch = h.grown.nodes.scratch };
-  run = inl (λ d. ap (λ (s : State). insn_progress d s i) (h.grown.state d) ∙ sets d
-      ∙ ap (goes []) (sym (to d (h.value d))));
-})
+set_x_goes p i k q id h sets = subst (λ (r : PieceData). GoesTo r i (on_x r.machine id)) (sym h.grown.same)
+    (goes_to (record p { pool = q.pool; facts = q.facts }) i (p.machine.place + 1) p.machine.a id p.machine.scratch
+    h.grown.nodes.a h.within h.grown.nodes.zero h.grown.nodes.scratch
+    (inl (λ d. ap (λ (s : State). insn_progress d s i) (h.grown.state d) ∙ sets d ∙ ap (goes []) (sym (to d)))))
   where
-    to : (d : Input) → value_of q.pool d id.0 ≡ k → concrete_state q.pool (on_x p.machine id) d
+    to : (d : Input) → concrete_state q.pool (on_x p.machine id) d
         ≡ record (concrete_state p.pool p.machine d) { place = p.machine.place + 1; x = k }
-    to d e =
-        ap (λ (s : State). record s { place = p.machine.place + 1; x = value_of q.pool d id.0 }) (h.grown.state d)
-        ∙ ap (λ (n : ℕ). record (concrete_state p.pool p.machine d) { place = p.machine.place + 1; x = n }) e
+    to d = λ j. record (h.grown.state d j) { place = p.machine.place + 1; x = h.value d j }
 
 -- ---- moves
 
@@ -111,98 +113,50 @@ on m = record m { place = m.place + 1; taken = 0; value = 0 }
 
 pub load_goes : (p : PieceData) (k : ℕ) (w : NodeId) → AreNodesBelow (length p.pool) p.machine
     → slice_get p.machine.scratch k ≡ Some (Some w) → GoesTo p (LoadScratch k) (record (on p.machine) { a = w })
-load_goes p k w b at = record {
-  program = refl;
-  so_far = refl;
-  zero = refl;
-  taken = refl;
-  value = refl;
-  nodes = record { a = b.scratch k w at; x = b.x; zero = b.zero; scratch = b.scratch };
-  run = inl (λ d. rw (map_at (λ n. value_of p.pool d n.0) p.machine.scratch k w at) refl);
-}
+load_goes p k w b at = goes_to p (LoadScratch k) (p.machine.place + 1) w p.machine.x p.machine.scratch
+    (b.scratch k w at) b.x b.zero b.scratch
+    (inl (λ d. rw (map_at (λ n. value_of p.pool d n.0) p.machine.scratch k w at) refl))
 
 pub load_x_goes : (p : PieceData) (k : ℕ) (w : NodeId) → AreNodesBelow (length p.pool) p.machine
     → slice_get p.machine.scratch k ≡ Some (Some w) → GoesTo p (LoadXScratch k) (record (on p.machine) { x = w })
-load_x_goes p k w b at = record {
-  program = refl;
-  so_far = refl;
-  zero = refl;
-  taken = refl;
-  value = refl;
-  nodes = record { a = b.a; x = b.scratch k w at; zero = b.zero; scratch = b.scratch };
-  run = inl (λ d. rw (map_at (λ n. value_of p.pool d n.0) p.machine.scratch k w at) refl);
-}
+load_x_goes p k w b at = goes_to p (LoadXScratch k) (p.machine.place + 1) p.machine.a w p.machine.scratch
+    b.a (b.scratch k w at) b.zero b.scratch
+    (inl (λ d. rw (map_at (λ n. value_of p.pool d n.0) p.machine.scratch k w at) refl))
+
+-- an instruction that stores the value of a node
+stored_goes : (p : PieceData) (i : Insn) (k : ℕ) (v : NodeId) → AreNodesBelow (length p.pool) p.machine
+    → v.0 < length p.pool
+    → ((d : Input) → insn_progress d (concrete_state p.pool p.machine d) i
+    ≡ goes [] (record (concrete_state p.pool p.machine d) {
+      place = p.machine.place + 1;
+      scratch = slice_set (concrete_state p.pool p.machine d).scratch k (Some (value_of p.pool d v.0));
+    })) → GoesTo p i (record (on p.machine) { scratch = slice_set p.machine.scratch k (Some v) })
+stored_goes p i k v b below steps = goes_to p i (p.machine.place + 1) p.machine.a p.machine.x
+    (slice_set p.machine.scratch k (Some v)) b.a b.x b.zero
+    (set_below (length p.pool) p.machine.scratch k v b.scratch below)
+    (inl (λ d. steps d ∙ ap (λ (l : List (Option ℕ)).
+    goes [] (record (concrete_state p.pool p.machine d) { place = p.machine.place + 1; scratch = l }))
+    (sym (map_set (λ n. value_of p.pool d n.0) p.machine.scratch k v))))
 
 pub store_goes : (p : PieceData) (k : ℕ) → AreNodesBelow (length p.pool) p.machine
     → GoesTo p (StoreA k) (record (on p.machine) { scratch = slice_set p.machine.scratch k (Some p.machine.a) })
-store_goes p k b = record {
-  program = refl;
-  so_far = refl;
-  zero = refl;
-  taken = refl;
-  value = refl;
-  nodes = record {
-    a = b.a;
-    x = b.x;
-    zero = b.zero;
-    scratch = set_below (length p.pool) p.machine.scratch k p.machine.a b.scratch b.a;
-  };
-  run = inl (λ d. ap (λ (l : List (Option ℕ)).
-      goes [] (record (concrete_state p.pool p.machine d) { place = p.machine.place + 1; scratch = l }))
-      (sym (map_set (λ n. value_of p.pool d n.0) p.machine.scratch k p.machine.a)));
-}
+store_goes p k b = stored_goes p (StoreA k) k p.machine.a b b.a (λ d. refl)
 
 pub store_x_goes : (p : PieceData) (k : ℕ) → AreNodesBelow (length p.pool) p.machine
     → GoesTo p (StoreX k) (record (on p.machine) { scratch = slice_set p.machine.scratch k (Some p.machine.x) })
-store_x_goes p k b = record {
-  program = refl;
-  so_far = refl;
-  zero = refl;
-  taken = refl;
-  value = refl;
-  nodes = record {
-    a = b.a;
-    x = b.x;
-    zero = b.zero;
-    scratch = set_below (length p.pool) p.machine.scratch k p.machine.x b.scratch b.x;
-  };
-  run = inl (λ d. ap (λ (l : List (Option ℕ)).
-      goes [] (record (concrete_state p.pool p.machine d) { place = p.machine.place + 1; scratch = l }))
-      (sym (map_set (λ n. value_of p.pool d n.0) p.machine.scratch k p.machine.x)));
-}
+store_x_goes p k b = stored_goes p (StoreX k) k p.machine.x b b.x (λ d. refl)
 
 pub tax_goes : (p : PieceData) → AreNodesBelow (length p.pool) p.machine
     → GoesTo p Tax (record (on p.machine) { x = p.machine.a })
-tax_goes p b = record {
-  program = refl;
-  so_far = refl;
-  zero = refl;
-  taken = refl;
-  value = refl;
-  nodes = record { a = b.a; x = b.a; zero = b.zero; scratch = b.scratch };
-  run = inl (λ d. refl);
-}
+tax_goes p b = goes_to p Tax (p.machine.place + 1) p.machine.a p.machine.a p.machine.scratch b.a b.a b.zero b.scratch
+    (inl (λ d. refl))
 
 pub txa_goes : (p : PieceData) → AreNodesBelow (length p.pool) p.machine
     → GoesTo p Txa (record (on p.machine) { a = p.machine.x })
-txa_goes p b = record {
-  program = refl;
-  so_far = refl;
-  zero = refl;
-  taken = refl;
-  value = refl;
-  nodes = record { a = b.x; x = b.x; zero = b.zero; scratch = b.scratch };
-  run = inl (λ d. refl);
-}
+txa_goes p b = goes_to p Txa (p.machine.place + 1) p.machine.x p.machine.x p.machine.scratch b.x b.x b.zero b.scratch
+    (inl (λ d. refl))
 
 pub jump_goes : (p : PieceData) (k : ℕ) → AreNodesBelow (length p.pool) p.machine
     → GoesTo p (Jump k) (record (on p.machine) { place = p.machine.place + 1 + k })
-jump_goes p k b = record {
-  program = refl;
-  so_far = refl;
-  zero = refl;
-  taken = refl;
-  value = refl;
-  nodes = record { a = b.a; x = b.x; zero = b.zero; scratch = b.scratch };
-  run = inl (λ d. refl);
-}
+jump_goes p k b = goes_to p (Jump k) (p.machine.place + 1 + k) p.machine.a p.machine.x p.machine.scratch
+    b.a b.x b.zero b.scratch (inl (λ d. refl))
