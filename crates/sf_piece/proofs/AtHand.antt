@@ -1,7 +1,6 @@
 -- The instruction at hand, the end, and the first piece.
 use Rattle.std.proofs.Common.{◌≡◌, ℕ, zero, suc, ◌+◌, ◌-◌, ◌*◌, ◌<◌, ◌≤◌, ◌^◌, Bool, true, false, List, [], ◌∷◌, ◌++◌, length, drop, map, reverse, get_or, Option, Some, None, slice_get, refl, sym, ap, subst, ◌∙◌, inl, inr, arith, append-nil, length-drop}
 use Rattle.std.specs.Prelude.{option_map, replicate, if◌then◌else◌}
-use Rattle.std.specs.List.{AllByRecursion}
 use Rattle.std.proofs.lemmas.List.{get_or-reverse, length-reverse}
 use Rattle.std.proofs.lemmas.Option.{same_Some}
 use Rattle.std.proofs.Math.Nat.{pow-le-pow_right}
@@ -9,15 +8,14 @@ use Rattle.std.proofs.lemmas.List.{get_or_default}
 use Rattle.sf_insn.specs.declared.input.Input.{Input}
 use Rattle.sf_insn.specs.Inputs.{IsInput}
 use Rattle.sf_check.specs.declared.insn.Insn.{Insn}
-use Rattle.sf_check.specs.Programs.{IsAt, IsLawfulProgram}
+use Rattle.sf_check.specs.Programs.{IsAt}
 use Rattle.sf_check.specs.Stacks.{IsLawfulStack}
 use Rattle.sf_run.specs.declared.action.Action.TheVariants.{Allow}
 use Rattle.sf_run.specs.Machine.{start}
 use Rattle.sf_run.specs.Answers.{IsAnswer}
 use Rattle.sf_run.specs.AnswerLaws.{answer_none}
-use Rattle.sf_run.specs.Routes.{IsWholeRoute, AreWays}
-use Rattle.sf_run.specs.RunLaws.{safe_start, load_is_set}
-use Rattle.sf_run.specs.Reachable.{IsReachable}
+use Rattle.sf_run.specs.Routes.{IsWholeRoute}
+use Rattle.sf_run.specs.RunLaws.{load_is_set}
 use Rattle.sf_run.specs.TraceLaws.{newest_first}
 use Rattle.sf_sym.specs.declared.pool.Node.{Node}
 use Rattle.sf_sym.specs.declared.pool.NodeId.{NodeId}
@@ -25,10 +23,10 @@ use Rattle.sf_sym.specs.Pool.{IsPool, value_of}
 use Rattle.sf_dom.specs.Facts.{FactsView, Covers, Agrees}
 use Rattle.sf_piece.specs.declared.machine.SymbolicMachine.{SymbolicMachine}
 use Rattle.sf_piece.specs.Pieces.{PieceData, is_member, IsRightAnswer, IsRoot}
-use Rattle.sf_piece.specs.SymbolicRun.{concrete_state, number_from, IsPending, InProgram, HasTaken, RouteFrom, StandsAt, IsPiece, IsLawfulPiece}
+use Rattle.sf_piece.specs.SymbolicRun.{concrete_state, number_from, IsPending, StandsAt, IsPiece, IsLawfulPiece}
 use Rattle.sf_piece.specs.Works.{HasAtHand}
-use Rattle.sf_piece.proofs.Moves.{runs_whole}
-use Rattle.sf_piece.proofs.Kept.{some_input}
+use Rattle.sf_piece.proofs.Moves.{runs_whole, route_whole, starts_in, none_taken}
+use Rattle.sf_piece.proofs.Kept.{some_input, none_set}
 
 drop_first : (n : ℕ) (xs : List (List Insn)) (x : List Insn) (ys : List (List Insn)) → drop n xs ≡ x ∷ ys
     → x ≡ get_or xs n []
@@ -59,9 +57,63 @@ number_small n (b ∷ bs) =
 pub pow_le : (k m : ℕ) → k ≤ m → 2 ^ k ≤ 2 ^ m
 pow_le k m h = pow-le-pow_right {n = 2} (omega arith) h
 
+-- how many programs are left
+left_count : (p : PieceData) (rest : List (List Insn)) (base pre : List Bool) → StandsAt p rest base pre
+    → length rest ≡ length p.stack - p.machine.program
+left_count p rest base pre s = omega (
+  arith,
+  ap length s.rest_is,
+  length-drop p.machine.program (reverse p.stack),
+  length-reverse p.stack,
+)
+
+-- where a program is left, the piece stands in the one that the stack has there
+record StandsIn (p : PieceData) (base pre : List Bool) : Type 0 where
+  code : List Insn
+  later : List (List Insn)
+  stands : StandsAt p (code ∷ later) base pre
+  is : code ≡ get_or p.stack (length p.stack - 1 - p.machine.program) []
+
+stands_in : (p : PieceData) (rest : List (List Insn)) (base pre : List Bool) → StandsAt p rest base pre
+    → p.machine.program < length p.stack → StandsIn p base pre
+stands_in p [] base pre s running = absurd (let none = left_count p [] base pre s in omega arith)
+stands_in p (code ∷ later) base pre s running = record {
+  code = code;
+  later = later;
+  stands = s;
+  is = drop_first p.machine.program (reverse p.stack) code later s.rest_is
+      ∙ get_or-reverse p.stack p.machine.program [] running;
+}
+
 pub at_hand : (p : PieceData) (i : Insn) → IsPiece p → p.machine.program < length p.stack
     → IsAt (get_or p.stack (length p.stack - 1 - p.machine.program) []) p.machine.place i → HasAtHand p i
-at_hand p i h running at = by h.rest h.stands
+at_hand p i h running at =
+    let in_code = stands_in p h.rest h.base h.pre h.stands running in
+    let s = in_code.stands in
+    let here : IsAt in_code.code p.machine.place i =
+    subst (λ (c : List Insn). IsAt c p.machine.place i) (sym in_code.is) at in
+    let safe = s.inside.safe some_input in
+    let short = pre_short in_code.code p.machine.place p.machine.taken h.pre s.inside.pending in
+    record {
+      code = in_code.code;
+      later = in_code.later;
+      base = h.base;
+      pre = h.pre;
+      stands = s;
+      at = here;
+      lawful = h.lawful;
+      running = running;
+      small = omega (arith, safe.inside, s.laws.0.short);
+      in_range = s.laws.0.in_range p.machine.place i here;
+      nodes = h.nodes;
+      zero = h.zero;
+      set = λ k loads.
+          let w = load_is_set in_code.code (concrete_state p.pool p.machine some_input) i k s.laws.0 safe here loads in
+          unmap (λ n. value_of p.pool some_input n.0) p.machine.scratch k w.0 w.1;
+      taken = short.0;
+      value = λ less. let b = number_small 0 h.pre in let c = pow_le (length h.pre) 31 (omega (arith, short.1)) in
+          omega (arith, b, c, s.number);
+    }
   where
     pre_short : (code : List Insn) (place taken : ℕ) (pre : List Bool) → IsPending code place taken pre → (taken ≤ 32)
         × (length pre ≡ taken)
@@ -69,71 +121,17 @@ at_hand p i h running at = by h.rest h.stands
     pre_short code place taken pre (inr (inl q)) = (q.1, q.2)
     pre_short code place taken pre (inr (inr q)) = (omega (arith, q.1), ap length q.2 ∙ sym q.1)
 
-    by : (rest : List (List Insn)) → StandsAt p rest h.base h.pre → HasAtHand p i
-    by [] s = absurd (omega (
-      arith,
-      ap length s.rest_is,
-      length-drop p.machine.program (reverse p.stack),
-      length-reverse p.stack,
-    ))
-    by (code ∷ later) s =
-        let is : code ≡ get_or p.stack (length p.stack - 1 - p.machine.program) [] =
-        drop_first p.machine.program (reverse p.stack) code later s.rest_is
-        ∙ get_or-reverse p.stack p.machine.program [] running in
-        let here : IsAt code p.machine.place i = subst (λ (c : List Insn). IsAt c p.machine.place i) (sym is) at in
-        let safe = s.inside.safe some_input in
-        let short = pre_short code p.machine.place p.machine.taken h.pre s.inside.pending in
-        record {
-          code = code;
-          later = later;
-          base = h.base;
-          pre = h.pre;
-          stands = s;
-          at = here;
-          lawful = h.lawful;
-          running = running;
-          small = omega (arith, safe.inside, s.laws.0.short);
-          in_range = s.laws.0.in_range p.machine.place i here;
-          nodes = h.nodes;
-          zero = h.zero;
-          set = λ k loads.
-              let w = load_is_set code (concrete_state p.pool p.machine some_input) i k s.laws.0 safe here loads in
-              unmap (λ n. value_of p.pool some_input n.0) p.machine.scratch k w.0 w.1;
-          taken = short.0;
-          value = λ less. let b = number_small 0 h.pre in let c = pow_le (length h.pre) 31 (omega (arith, short.1)) in
-              omega (arith, b, c, s.number);
-        }
-
 -- the place is in the program
 pub place_inside : (p : PieceData) → IsPiece p → p.machine.program < length p.stack
     → p.machine.place < length (get_or p.stack (length p.stack - 1 - p.machine.program) [])
-place_inside p h running = by h.rest h.stands
-  where
-    by : (rest : List (List Insn)) → StandsAt p rest h.base h.pre
-        → p.machine.place < length (get_or p.stack (length p.stack - 1 - p.machine.program) [])
-    by [] s = absurd (omega (
-      arith,
-      ap length s.rest_is,
-      length-drop p.machine.program (reverse p.stack),
-      length-reverse p.stack,
-    ))
-    by (code ∷ later) s =
-        let is : code ≡ get_or p.stack (length p.stack - 1 - p.machine.program) [] =
-        drop_first p.machine.program (reverse p.stack) code later s.rest_is
-        ∙ get_or-reverse p.stack p.machine.program [] running in
-        subst (λ (c : List Insn). p.machine.place < length c) is (s.inside.safe some_input).inside
+place_inside p h running = let s = stands_in p h.rest h.base h.pre h.stands running in
+    subst (λ (c : List Insn). p.machine.place < length c) s.is (s.stands.inside.safe some_input).inside
 
 pub at_end : (p : PieceData) → IsPiece p → length p.stack ≤ p.machine.program → IsRightAnswer p p.name p.machine.so_far
 at_end p h over = by h.rest h.stands
   where
     by : (rest : List (List Insn)) → StandsAt p rest h.base h.pre → IsRightAnswer p p.name p.machine.so_far
-    by (code ∷ later) s =
-        absurd (omega (
-          arith,
-          ap length s.rest_is,
-          length-drop p.machine.program (reverse p.stack),
-          length-reverse p.stack,
-        ))
+    by (code ∷ later) s = absurd (let some = left_count p (code ∷ later) h.base h.pre s in omega arith)
     by [] s =
         let name : p.name ≡ h.base ++ [] = s.name_is ∙ ap (λ (l : List Bool). h.base ++ l) s.inside in
         record {
@@ -178,7 +176,7 @@ first_is stack pool zero_id fs lawful is within zeros covers known = record {
   lawful = lawful;
   pool = is;
   bounded = tt;
-  nodes = record { a = within; x = within; zero = within; scratch = λ k w e. absurd (unset 16 k w e) };
+  nodes = record { a = within; x = within; zero = within; scratch = λ k w e. absurd (none_set 16 k w e) };
   zero = zeros;
   covers = covers;
   known = λ d inp member. known d inp;
@@ -191,42 +189,20 @@ first_is stack pool zero_id fs lawful is within zeros covers known = record {
     laws = newest_first stack lawful;
     name_is = refl;
     number = refl;
-    inside = by (reverse stack) (newest_first stack lawful);
-    route = λ more r. whole (reverse stack) more r;
+    inside = starts_in (reverse stack) pool (first_machine zero_id) at_start refl (newest_first stack lawful);
+    route = λ more r. route_whole (reverse stack) more r;
     runs = λ d inp member. record {
       ends = λ more vs r.
           let all = runs_whole (reverse stack) d (concrete_state pool (first_machine zero_id) d) more vs (at_start d)
           (newest_first stack lawful) r in
           (sym all.0, ([], sym all.1, answer_none));
-      taken = none_taken (reverse stack) d;
+      taken = none_taken (reverse stack) d (concrete_state pool (first_machine zero_id) d);
     };
   };
 }
   where
-    unset : (n k : ℕ) (w : NodeId) → slice_get (replicate n None) k ≡ Some (Some w) → ⊥
-    unset zero k w e = cc
-    unset (suc n) zero w e = cc
-    unset (suc n) (suc k) w e = unset n k w e
-
     at_start : (d : Input) → concrete_state pool (first_machine zero_id) d ≡ start
     at_start d = rw (zeros d) refl
-
-    by : (rest : List (List Insn)) → AllByRecursion IsLawfulProgram rest
-        → InProgram rest pool (first_machine zero_id) []
-    by [] laws = refl
-    by (c ∷ rest) laws = record {
-      safe = λ d. subst (IsReachable c) (sym (at_start d)) (safe_start c laws.0.some);
-      pending = inl (refl, refl);
-    }
-
-    whole : (rest : List (List Insn)) (more : List Bool) → RouteFrom rest 0 more → AreWays rest more
-    whole [] more r = r
-    whole (code ∷ later) more r = r
-
-    none_taken : (rest : List (List Insn)) (d : Input)
-        → HasTaken rest d (concrete_state pool (first_machine zero_id) d) 0 []
-    none_taken [] d = tt
-    none_taken (c ∷ rest) d = refl
 
 pub first_root : (stack : List (List Insn)) (pool : List Node) (zero_id : NodeId) (fs : FactsView)
     → IsLawfulPiece (first_piece stack pool zero_id fs) → IsRoot stack (first_piece stack pool zero_id fs)

@@ -1,6 +1,6 @@
 -- Pieces that go on by an instruction.
 use Rattle.std.proofs.Common.{◌≡◌, ℕ, zero, suc, ◌+◌, ◌*◌, ◌/◌, ◌%◌, ◌^◌, ◌<◌, ◌≤◌, Bool, true, false, List, [], ◌∷◌, ◌++◌, length, take, Option, Some, None, slice_get, refl, sym, ap, subst, ◌∙◌, inl, inr, arith, append-nil}
-use Rattle.std.specs.Prelude.{if◌then◌else◌, ◌==◌, Contains}
+use Rattle.std.specs.Prelude.{if◌then◌else◌, ◌==◌, Contains, replicate}
 use Rattle.std.specs.List.{AllByRecursion}
 use Rattle.std.proofs.lemmas.Option.{same_Some}
 use Rattle.std.proofs.lemmas.Nat.{mod-pow-add}
@@ -15,12 +15,13 @@ use Rattle.sf_check.specs.Insns.{successors, stored_by}
 use Rattle.sf_check.specs.Programs.{IsAt, IsLawfulProgram, Stores}
 use Rattle.sf_check.specs.ContainsLaws.{contains_here, any_cons}
 use Rattle.sf_check.specs.ProgramLaws.{successors_inside, below_in}
-use Rattle.sf_run.specs.Machine.{State, Progress, goes, returns, stuck, bits, insn_progress, step}
+use Rattle.sf_run.specs.Machine.{State, Progress, goes, returns, stuck, bits, insn_progress, step, trace_of}
 use Rattle.sf_run.specs.Routes.{MayMeet}
 use Rattle.sf_run.specs.RunLaws.{safe_next, step_is}
 use Rattle.sf_run.specs.Reachable.{IsReachable}
 use Rattle.sf_run.specs.TraceLaws.{step_allowed}
 use Rattle.sf_sym.specs.declared.pool.Cond.{Cond}
+use Rattle.sf_sym.specs.declared.pool.NodeId.{NodeId}
 use Rattle.sf_sym.specs.Pool.{value_of, IsCondBelow}
 use Rattle.sf_sym.specs.SizeLaws.{value-small}
 use Rattle.sf_dom.specs.Facts.{FactsView, Covers, Agrees}
@@ -42,17 +43,23 @@ div_clash : (b : Bool) (u t : State) → (if b then returns (true ∷ []) 0 else
 div_clash true u t e = cc
 div_clash false u t e = cc
 
+-- only a return of A and a division by X have truth values in the name while they are at hand
+none_pending : (code : List Insn) (place taken : ℕ) (pre : List Bool) (i : Insn) → IsPending code place taken pre
+    → IsAt code place i → (i ≡ ReturnA → ⊥) → (i ≡ Alu Div X → ⊥) → pre ≡ []
+none_pending code place taken pre i (inl p) at no_return no_division = p.1
+none_pending code place taken pre i (inr (inl p)) at no_return no_division =
+    absurd (no_return (at_same code place i ReturnA at p.0))
+none_pending code place taken pre i (inr (inr p)) at no_return no_division =
+    absurd (no_division (at_same code place i (Alu Div X) at p.0))
+
 -- where a step meets nothing, nothing of it is in the name
 nothing_taken : (code : List Insn) (place taken : ℕ) (pre : List Bool) (i : Insn) (d : Input) (s t : State)
     → IsPending code place taken pre → IsAt code place i → insn_progress d s i ≡ goes [] t → pre ≡ []
-nothing_taken code place taken pre i d s t (inl p) at e = p.1
-nothing_taken code place taken pre i d s t (inr (inl p)) at e =
-    let clash : insn_progress d s ReturnA ≡ goes [] t =
-    subst (λ (j : Insn). insn_progress d s j ≡ goes [] t) (at_same code place i ReturnA at p.0) e in
-    absurd cc
-nothing_taken code place taken pre i d s t (inr (inr p)) at e =
-    absurd (div_clash (s.x == 0) (record s { place = s.place + 1; a = apply Div s.a s.x }) t
-    (subst (λ (j : Insn). insn_progress d s j ≡ goes [] t) (at_same code place i (Alu Div X) at p.0) e))
+nothing_taken code place taken pre i d s t pending at e = none_pending code place taken pre i pending at
+    (λ is. let clash : insn_progress d s ReturnA ≡ goes [] t =
+    subst (λ (j : Insn). insn_progress d s j ≡ goes [] t) is e in absurd cc)
+    (λ is. div_clash (s.x == 0) (record s { place = s.place + 1; a = apply Div s.a s.x }) t
+    (subst (λ (j : Insn). insn_progress d s j ≡ goes [] t) is e))
 
 abbrev Allowed : ℕ → Insn → Progress → Type 0
 Allowed at i (goes met next) = MayMeet at i met (Some next.place)
@@ -86,7 +93,7 @@ pub assembled : (p : PieceData) (name : List Bool) (cs : List Cond) (m : Symboli
     → Covers fs p.pool
     → ((d : Input) → IsInput d → is_member (made p name cs m fs) d ≡ true → Agrees fs p.pool d)
     → ((d : Input) → IsInput d → is_member (made p name cs m fs) d
-    ≡ is_prefix name (Rattle.sf_run.specs.Machine.trace_of p.stack d))
+    ≡ is_prefix name (trace_of p.stack d))
     → (rest : List (List Insn)) (base pre : List Bool) → StandsAt (made p name cs m fs) rest base pre
     → IsPiece (made p name cs m fs)
 assembled p name cs m fs h bounded nodes zero_is covers known members rest base pre stands = record {
@@ -94,7 +101,7 @@ assembled p name cs m fs h bounded nodes zero_is covers known members rest base 
   pool = h.pool;
   bounded = bounded;
   nodes = nodes;
-  zero = λ d. ap (λ (n : Rattle.sf_sym.specs.declared.pool.NodeId.NodeId). value_of p.pool d n.0) zero_is ∙ h.zero d;
+  zero = λ d. ap (λ (n : NodeId). value_of p.pool d n.0) zero_is ∙ h.zero d;
   covers = covers;
   known = known;
   members = members;
@@ -229,20 +236,13 @@ unfolding is_member
 return_stands p i v h s (inl is) =
     let at : IsAt s.code p.machine.place (ReturnConstant v) =
     subst (λ (j : Insn). IsAt s.code p.machine.place j) is s.at in
-    let none = pending s.stands.inside.pending at in (
+    let none = none_pending s.code p.machine.place p.machine.taken s.pre (ReturnConstant v) s.stands.inside.pending at
+    (λ is. cc) (λ is. cc) in (
       s.base ++ [],
       stands_returned p s.code s.later s.base s.pre [] (ReturnConstant v) v p.name p.conditions p.facts
           s.stands at (refl, refl)
           (s.stands.name_is ∙ ap (λ (l : List Bool). s.base ++ l) none) h.zero (λ d inp member. (member, refl)),
     )
-  where
-    pending : IsPending s.code p.machine.place p.machine.taken s.pre
-        → IsAt s.code p.machine.place (ReturnConstant v) → s.pre ≡ []
-    pending (inl q) at = q.1
-    pending (inr (inl q)) at = let clash : ReturnA ≡ ReturnConstant v =
-        at_same s.code p.machine.place ReturnA (ReturnConstant v) q.0 at in absurd cc
-    pending (inr (inr q)) at = let clash : Alu Div X ≡ ReturnConstant v =
-        at_same s.code p.machine.place (Alu Div X) (ReturnConstant v) q.0 at in absurd cc
 return_stands p i v h s (inr (is, full, same)) =
     let at : IsAt s.code p.machine.place ReturnA = subst (λ (j : Insn). IsAt s.code p.machine.place j) is s.at in
     let len = pending s.stands.inside.pending at full in (
@@ -272,15 +272,15 @@ return_stands p i v h s (inr (is, full, same)) =
     returns_are : {l l' : List Bool} {n n' : ℕ} → l ≡ l' → n ≡ n' → returns l n ≡ returns l' n'
     returns_are e f = cc
 
+-- no scratch word is set at the start
+pub none_set : (n k : ℕ) (w : NodeId) → slice_get (replicate n None) k ≡ Some (Some w) → ⊥
+none_set zero k w e = cc
+none_set (suc n) zero w e = cc
+none_set (suc n) (suc k) w e = none_set n k w e
+
 pub returned_nodes : (p : PieceData) (v : ℕ) → AreNodesBelow (length p.pool) p.machine
     → AreNodesBelow (length p.pool) (after_return p.machine v)
-returned_nodes p v b = record { a = b.zero; x = b.zero; zero = b.zero; scratch = λ k w e. absurd (unset 16 k w e) }
-  where
-    unset : (n k : ℕ) (w : Rattle.sf_sym.specs.declared.pool.NodeId.NodeId)
-        → slice_get (Rattle.std.specs.Prelude.replicate n None) k ≡ Some (Some w) → ⊥
-    unset zero k w e = cc
-    unset (suc n) zero w e = cc
-    unset (suc n) (suc k) w e = unset n k w e
+returned_nodes p v b = record { a = b.zero; x = b.zero; zero = b.zero; scratch = λ k w e. absurd (none_set 16 k w e) }
 
 pub return_piece : (p : PieceData) (i : Insn) (v : ℕ) → IsPiece p → HasAtHand p i → ReturnsNow p i v
     → IsPiece (gone p (after_return p.machine v))

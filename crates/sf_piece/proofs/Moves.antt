@@ -14,6 +14,7 @@ use Rattle.sf_run.specs.Routes.{MayMeet, returns_at, goes_on, AreWays, IsWholeRo
 use Rattle.sf_run.specs.RunLaws.{safe_start, run_more, run_ends, run_same, lawful_ends}
 use Rattle.sf_run.specs.Reachable.{IsReachable}
 use Rattle.sf_sym.specs.declared.pool.Cond.{Cond}
+use Rattle.sf_sym.specs.declared.pool.Node.{Node}
 use Rattle.sf_sym.specs.Pool.{value_of}
 use Rattle.sf_dom.specs.Facts.{FactsView}
 use Rattle.sf_piece.specs.declared.machine.SymbolicMachine.{SymbolicMachine}
@@ -118,7 +119,7 @@ runs_whole (code ∷ later) d s more vs at laws (n, o, ran, e, v) =
       v ∙ ap (λ (n : ℕ). n ∷ map (λ q. return_of q d) later) alike.1,
     )
 
-route_whole : (later : List (List Insn)) (more : List Bool) → RouteFrom later 0 more → AreWays later more
+pub route_whole : (later : List (List Insn)) (more : List Bool) → RouteFrom later 0 more → AreWays later more
 route_whole [] more r = r
 route_whole (code ∷ later) more r = r
 
@@ -129,6 +130,20 @@ drop_tail zero (z ∷ xs) x ys e = let f : z ∷ xs ≡ x ∷ ys = e in let g : 
 drop_tail (suc n) [] x ys e = absurd cc
 drop_tail (suc n) (z ∷ xs) x ys e = let k : suc n + 1 ≡ suc (n + 1) = omega arith in
     ap (λ (j : ℕ). drop j (z ∷ xs)) k ∙ drop_tail n xs x ys e
+
+-- where the next program starts, or there is none
+pub starts_in : (rest : List (List Insn)) (pool : List Node) (m : SymbolicMachine)
+    → ((d : Input) → concrete_state pool m d ≡ start) → m.taken ≡ 0 → AllByRecursion IsLawfulProgram rest
+    → InProgram rest pool m []
+starts_in [] pool m at none laws = refl
+starts_in (c ∷ rest) pool m at none laws = record {
+  safe = λ d. subst (IsReachable c) (sym (at d)) (safe_start c laws.0.some);
+  pending = inl (none, refl);
+}
+
+pub none_taken : (rest : List (List Insn)) (d : Input) (s : State) → HasTaken rest d s 0 []
+none_taken [] d s = tt
+none_taken (c ∷ rest) d s = refl
 
 pub stands_returned : (p : PieceData) (code : List Insn) (later : List (List Insn)) (base pre met : List Bool)
     (i : Insn) (v : ℕ) (name : List Bool) (cs : List Cond) (fs : FactsView)
@@ -144,7 +159,7 @@ stands_returned p code later base pre met i v name cs fs s at may named zeros ru
   laws = s.laws.1;
   name_is = named ∙ sym (append-nil (base ++ met));
   number = refl;
-  inside = by later s.laws.1;
+  inside = starts_in later p.pool (after_return p.machine v) at_start refl s.laws.1;
   route = λ more r.
       subst (IsWholeRoute p.stack) (sym (append_assoc base met more))
       (s.route (met ++ more) (met, more, returns_at i at may, route_whole later more r, refl));
@@ -169,22 +184,9 @@ stands_returned p code later base pre met i v name cs fs s at may named zeros ru
                 answer_more all.1.0 p.machine.so_far v all.1.2,
               ),
             );
-        taken = none_taken later d;
+        taken = none_taken later d (concrete_state p.pool (after_return p.machine v) d);
       };
 }
   where
     at_start : (d : Input) → concrete_state p.pool (after_return p.machine v) d ≡ start
     at_start d = rw (zeros d) refl
-
-    by : (rest : List (List Insn)) → AllByRecursion IsLawfulProgram rest
-        → InProgram rest p.pool (after_return p.machine v) []
-    by [] laws = refl
-    by (c ∷ rest) laws = record {
-      safe = λ d. subst (IsReachable c) (sym (at_start d)) (safe_start c laws.0.some);
-      pending = inl (refl, refl);
-    }
-
-    none_taken : (rest : List (List Insn)) (d : Input)
-        → HasTaken rest d (concrete_state p.pool (after_return p.machine v) d) 0 []
-    none_taken [] d = tt
-    none_taken (c ∷ rest) d = refl
