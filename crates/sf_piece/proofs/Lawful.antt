@@ -67,28 +67,32 @@ implied_by_numbers p cond m n b h left right is d inp member =
     let known = h.known d inp member in
     passes-met p.pool d (with_sense cond b) (rw (left d inp known, right d inp known) (sym is))
 
--- what the facts tell of a test of A against a number
+-- what holds wherever the facts agree tells of a test of A against a number
+told_by_facts : (p : PieceData) (test : Test) (other : Operand) (n : ℕ) (b : Bool) → IsPiece p → other ≡ Constant n
+    → ((d : Input) → IsInput d → Agrees p.facts p.pool d → passes test (value_of p.pool d p.machine.a.0) n ≡ b)
+    → PassesAlways p test other b
+told_by_facts p test other n b h e told = λ d inp member.
+    ap (λ (r : Operand). passes test (value_of p.pool d p.machine.a.0)
+    (operand_of (concrete_state p.pool p.machine d) r)) e
+    ∙ told d inp (h.known d inp member)
+
+-- and where the facts tell nothing, nothing is said
 pub foretold : (p : PieceData) (test : Test) (other : Operand) (n : ℕ) (o : Option Bool) → IsPiece p
     → other ≡ Constant n
     → IfSome o (λ b. (d : Input) → IsInput d → Agrees p.facts p.pool d
     → passes test (value_of p.pool d p.machine.a.0) n ≡ b)
     → IfSome o (λ b. PassesAlways p test other b)
 foretold p test other n None h e told = told
-foretold p test other n (Some b) h e told = λ d inp member.
-    ap (λ (r : Operand). passes test (value_of p.pool d p.machine.a.0)
-    (operand_of (concrete_state p.pool p.machine d) r)) e
-    ∙ told d inp (h.known d inp member)
+foretold p test other n (Some b) h e told = told_by_facts p test other n b h e told
 
 -- what is known of A tells of a test of it against a number
 pub told_of_known : (p : PieceData) (test : Test) (other : Operand) (n : ℕ) (known : Known) (b : Bool) → IsPiece p
     → other ≡ Constant n → known ≡ known_at p.facts.known p.machine.a.0
     → ((x : ℕ) → Admits known x → passes test x n ≡ b) → PassesAlways p test other b
 unfolding Agrees
-told_of_known p test other n known b h e is told = λ d inp member.
-    ap (λ (r : Operand). passes test (value_of p.pool d p.machine.a.0)
-    (operand_of (concrete_state p.pool p.machine d) r)) e
-    ∙ told (value_of p.pool d p.machine.a.0)
-    (rw is (h.known d inp member p.machine.a.0 (omega (arith, h.nodes.a, h.covers.count))).admitted)
+told_of_known p test other n known b h e is told = told_by_facts p test other n b h e (λ d inp agrees.
+    told (value_of p.pool d p.machine.a.0)
+    (rw is (agrees p.machine.a.0 (omega (arith, h.nodes.a, h.covers.count))).admitted))
 
 -- what is learnt from the piece's facts
 pub learnt_child : (p : PieceData) (cond : Cond) (b : Bool) (o : Option FactsView) → IsPiece p
