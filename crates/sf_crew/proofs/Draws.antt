@@ -1,6 +1,5 @@
 -- What drawing a job keeps of the rule of a board.
-use Rattle.std.proofs.Common.{◌≡◌, ℕ, suc, ◌+◌, ◌/◌, ◌%◌, ◌<◌, ◌≤◌, ◌==◌, if◌then◌else◌, min, List, ◌++◌, map, length, set, slice_index, Some, None, IfSome, sym, refl, ap, ◌∙◌, subst, length-set, lt_of_not-le, arith}
-use Rattle.std.specs.Int.{bit_at}
+use Rattle.std.proofs.Common.{◌≡◌, ℕ, suc, ◌+◌, ◌%◌, ◌<◌, ◌≤◌, ◌==◌, if◌then◌else◌, min, List, ◌++◌, map, length, set, slice_index, Some, None, IfSome, sym, refl, ap, ◌∙◌, subst, inl, inr, length-set, lt_of_not-le, arith}
 use Rattle.std.proofs.lemmas.Bool.Decides.{nat_tests}
 use Rattle.std.proofs.lemmas.List.{get_or-set_same, get_or-set_other}
 use mathlib.Core.Option.{some}
@@ -9,40 +8,15 @@ use lib.ListN.{get_elem?}
 use Rattle.atomic_table.specs.Table.{Me, Allows, keeps}
 use Rattle.sf_crew.specs.declared.board.view.BoardKey.{BoardKey}
 use Rattle.sf_crew.specs.declared.board.view.View.{View}
-use Rattle.sf_crew.specs.Views.{questions_of, count_of_regions, jobs, owed_jobs, times, once_below, total, doubt_at}
+use Rattle.sf_crew.specs.Views.{questions_of, count_of_regions, jobs, owed_jobs, times, once_below, total}
 use Rattle.sf_crew.specs.BoardRule.{Sound, Kept, BoardKept, least_in, doubts_in}
 use Rattle.sf_crew.specs.BoardSteps.{view_with_job, view_without_job, HasAllJobs, Draws}
 use Rattle.sf_crew.proofs.Jobs.{jobs_all, count_all}
-use Rattle.sf_crew.proofs.Totals.{total_set, total_at, total_le, top_set, top_at, every_set}
+use Rattle.sf_crew.proofs.Totals.{total_set, total_at, total_le, every_set}
+use Rattle.sf_crew.proofs.OneView.{one_view, same_marks, later, in_words}
 
 below_next : (x n : ℕ) → once_below x (n + 1) ≡ once_below x n + (if x == n then 1 else 0)
 below_next x n = grind (arith, nat_tests)
-
-pub later : (k : BoardKey) (n m : ℕ) (least less : ℕ → ℕ) (v : View) → n ≤ m → ((q : ℕ) → less q ≤ least q)
-    → Sound k n least v → Sound k m less v
-later k n m least less v up down h = record {
-  about = h.about;
-  idle = h.idle;
-  few = h.few;
-  past = λ some_none. let was = h.past some_none in omega arith;
-  marks = h.marks;
-  noted = λ q r at. let was = h.noted q r at in let now = down q in omega arith;
-  covered = h.covered;
-}
-
--- the words of doubts are the first four alone
-pub redoubted : (k : BoardKey) (n e : ℕ) (d d' least : ℕ → ℕ) (views : List View) → ((w : ℕ) → w < 4 → d w ≡ d' w)
-    → Kept k n e d least views → Kept k n e d' least views
-redoubted k n e d d' least views same h = record {
-  joined_seats = h.joined_seats;
-  drawn = h.drawn;
-  drawn_count = h.drawn_count;
-  past_end = h.past_end;
-  entered_is = h.entered_is;
-  marked = λ q few. ap (λ x. bit_at x (q % 64)) (sym (same (q / 64) (omega arith))) ∙ h.marked q few;
-  right = h.right;
-  each = h.each;
-}
 
 -- the job word changes
 put_next : (k : BoardKey) (words : List ℕ) (n : ℕ) (views : List View) → length words ≡ length (questions_of k) + 6
@@ -51,101 +25,73 @@ put_next : (k : BoardKey) (words : List ℕ) (n : ℕ) (views : List View) → l
     × Kept k (slice_index (set words 0 n) 0) (slice_index (set words 0 n) 1) (doubts_in (set words 0 n))
     (least_in (set words 0 n)) views
 put_next k words n views long h =
-    let p0 : slice_index (set words 0 n) 0 ≡ n = get_or-set_same words 0 n 0 (omega arith) in
-    let p1 : slice_index (set words 0 n) 1 ≡ slice_index words 1 = get_or-set_other words 0 1 n 0 (λ e. omega arith) in
-    let pd : (w : ℕ) → slice_index (set words 0 n) (w + 2) ≡ slice_index words (w + 2) =
-    λ w. get_or-set_other words 0 (w + 2) n 0 (λ e. omega arith) in
-    let pl : (q : ℕ) → slice_index (set words 0 n) (q + 6) ≡ slice_index words (q + 6) =
-    λ q. get_or-set_other words 0 (q + 6) n 0 (λ e. omega arith) in (
-      length-set words 0 n ∙ long,
-      subst (λ (x : ℕ × ℕ × (ℕ → ℕ) × (ℕ → ℕ)). Kept k x.0 x.1 x.2 x.3 views)
-          (λ i. (sym p0 i, sym p1 i, λ w. sym (pd w) i, λ q. sym (pl q) i)) h,
-    )
+    in_words k (set words 0 n) n (slice_index words 1) (doubts_in words) (least_in words) views
+    (length-set words 0 n ∙ long) (get_or-set_same words 0 n 0 (omega arith))
+    (get_or-set_other words 0 1 n 0 (λ e. omega arith))
+    (λ w few. get_or-set_other words 0 (w + 2) n 0 (λ e. omega arith))
+    (λ q. get_or-set_other words 0 (q + 6) n 0 (λ e. omega arith)) h
 
 draw_kept : (k : BoardKey) (n e : ℕ) (d least : ℕ → ℕ) (views : List View) (port : ℕ) (v : View)
     → n < count_of_regions k
     → v.owes ≡ None → 0 < v.joined_seats → get_elem? views port ≡ some v → Kept k n e d least views
     → Kept k (n + 1) e d least (set views port (view_with_job v n))
 draw_kept k n e d least views port v below free part at h = let w : View = view_with_job v n in
-    let mine = h.each port v at in record {
-      joined_seats = (let s = total_set (λ u. u.joined_seats) views port v w at in
-          let p = h.joined_seats in omega arith);
+    let mine = h.each port v at in
+    one_view k n (n + 1) e e d d least least views port v w at (record {
+      joined_seats = refl;
       drawn = λ x.
-          let f : View → ℕ = λ u. times x (jobs u) in
-          let s : total f (set views port w) + f v ≡ total f views + f w = total_set f views port v w at in
-          let mine_was : f v ≡ times x (map (λ e. e.job) v.entered_sheets) =
+          let was : times x (jobs v) ≡ times x (map (λ e. e.job) v.entered_sheets) =
           ap (λ o. times x (owed_jobs o ++ map (λ e. e.job) v.entered_sheets)) free in
-          let mine_is : f w ≡ (if x == n then 1 else 0) + times x (map (λ e. e.job) v.entered_sheets) = refl in
-          let before : total f views ≡ once_below x n = h.drawn x ∙ ap (once_below x) (omega arith) in
+          let is : times x (jobs w) ≡ (if x == n then 1 else 0) + times x (map (λ e. e.job) v.entered_sheets) = refl in
+          let before : once_below x (min n (count_of_regions k)) ≡ once_below x n = ap (once_below x) (omega arith) in
           let after : once_below x (min (n + 1) (count_of_regions k)) ≡ once_below x (n + 1) =
           ap (once_below x) (omega arith) in
           let b = below_next x n in
           omega arith;
       drawn_count =
-          let f : View → ℕ = λ u. length (jobs u) in
-          let s : total f (set views port w) + f v ≡ total f views + f w = total_set f views port v w at in
-          let mine_was : f v ≡ length (map (λ e. e.job) v.entered_sheets) =
+          let was : length (jobs v) ≡ length (map (λ e. e.job) v.entered_sheets) =
           ap (λ o. length (owed_jobs o ++ map (λ e. e.job) v.entered_sheets)) free in
-          let mine_is : f w ≡ suc (length (map (λ e. e.job) v.entered_sheets)) = refl in
-          let c = h.drawn_count in omega arith;
-      past_end = (let s = total_set (λ u. u.exhausted_seats) views port v w at in let p = h.past_end in omega arith);
-      entered_is = (let s = total_set (λ u. length u.entered_sheets) views port v w at in
-          let p = h.entered_is in omega arith);
-      marked = λ q few. (let s = top_set (doubt_at q) views port v w at (omega arith) in
-          let t = top_at (doubt_at q) views port v at in let p = h.marked q few in
-          let same : doubt_at q w ≡ doubt_at q v = refl in omega arith);
-      right = h.right;
-      each = every_set (Sound k n least) (Sound k (n + 1) least) views port w h.each
-          (λ u s. later k n (n + 1) least least u (omega arith) (λ q. omega arith) s) record {
-            about = mine.about;
-            idle = λ none. absurd (omega arith);
-            few = mine.few;
-            past = λ some_none. let was = mine.past some_none in omega arith;
-            marks = λ none. mine.marks free;
-            noted = mine.noted;
-            covered = mine.covered;
-          };
-    }
+          let is : length (jobs w) ≡ suc (length (map (λ e. e.job) v.entered_sheets)) = refl in
+          omega arith;
+      past_end = inl (omega arith);
+      entered_is = refl;
+    }) (same_marks d views port v w at (λ q. refl) h.marked) h.right
+    (λ u s. later k n (n + 1) least least u (omega arith) (λ q. omega arith) s) (record {
+      about = mine.about;
+      idle = λ none. absurd (omega arith);
+      few = mine.few;
+      past = λ some_none. let was = mine.past some_none in omega arith;
+      marks = λ none. mine.marks free;
+      noted = mine.noted;
+      covered = mine.covered;
+    }) h
 
 pass_kept : (k : BoardKey) (n e : ℕ) (d least : ℕ → ℕ) (views : List View) (port : ℕ) (v : View)
     → count_of_regions k ≤ n
     → v.exhausted_seats ≡ 0 → 0 < v.joined_seats → get_elem? views port ≡ some v → Kept k n e d least views
     → Kept k (n + 1) e d least (set views port (view_without_job v))
 pass_kept k n e d least views port v past fresh part at h = let w : View = view_without_job v in
-    let mine = h.each port v at in record {
-      joined_seats = (let s = total_set (λ u. u.joined_seats) views port v w at in
-          let p = h.joined_seats in omega arith);
+    let mine = h.each port v at in
+    one_view k n (n + 1) e e d d least least views port v w at (record {
+      joined_seats = refl;
       drawn = λ x.
-          let f : View → ℕ = λ u. times x (jobs u) in
-          let s : total f (set views port w) + f v ≡ total f views + f w = total_set f views port v w at in
-          let same : f w ≡ f v = refl in
-          let before : total f views ≡ once_below x (min n (count_of_regions k)) = h.drawn x in
+          let same : times x (jobs w) ≡ times x (jobs v) = refl in
           let after : once_below x (min (n + 1) (count_of_regions k)) ≡ once_below x (min n (count_of_regions k)) =
           ap (once_below x) (omega arith) in
           omega arith;
-      drawn_count =
-          let f : View → ℕ = λ u. length (jobs u) in
-          let s : total f (set views port w) + f v ≡ total f views + f w = total_set f views port v w at in
-          let same : f w ≡ f v = refl in
-          let c = h.drawn_count in omega arith;
-      past_end = (let s = total_set (λ u. u.exhausted_seats) views port v w at in let p = h.past_end in omega arith);
-      entered_is = (let s = total_set (λ u. length u.entered_sheets) views port v w at in
-          let p = h.entered_is in omega arith);
-      marked = λ q few. (let s = top_set (doubt_at q) views port v w at (omega arith) in
-          let t = top_at (doubt_at q) views port v at in let p = h.marked q few in
-          let same : doubt_at q w ≡ doubt_at q v = refl in omega arith);
-      right = h.right;
-      each = every_set (Sound k n least) (Sound k (n + 1) least) views port w h.each
-          (λ u s. later k n (n + 1) least least u (omega arith) (λ q. omega arith) s) record {
-            about = mine.about;
-            idle = λ none. absurd (omega arith);
-            few = omega arith;
-            past = λ _. omega arith;
-            marks = mine.marks;
-            noted = mine.noted;
-            covered = mine.covered;
-          };
-    }
+      drawn_count = (let same : length (jobs w) ≡ length (jobs v) = refl in omega arith);
+      past_end = inr (omega arith);
+      entered_is = refl;
+    }) (same_marks d views port v w at (λ q. refl) h.marked) h.right
+    (λ u s. later k n (n + 1) least least u (omega arith) (λ q. omega arith) s) (record {
+      about = mine.about;
+      idle = λ none. absurd (omega arith);
+      few = omega arith;
+      past = λ _. omega arith;
+      marks = mine.marks;
+      noted = mine.noted;
+      covered = mine.covered;
+    }) h
 
 -- the job word stays far below the end of its type
 nones_below : (k : BoardKey) (n e : ℕ) (d least : ℕ → ℕ) (views : List View) (port : ℕ) (v : View)

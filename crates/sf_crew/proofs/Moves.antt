@@ -14,11 +14,11 @@ use Rattle.sf_crew.specs.declared.board.view.EnteredSheet.{EnteredSheet}
 use Rattle.sf_crew.specs.declared.board.view.Note.{Note}
 use Rattle.sf_ask.specs.Sheets.{HasBreak}
 use Rattle.sf_crew.specs.Views.{note, entered_sheet, has, has_doubt, regions_of, questions_of, count_of_regions, jobs, owed_jobs, Noted, Covered, Each, RightPlace, times, total, top, doubt_at}
-use Rattle.sf_crew.specs.BoardRule.{Sound, Kept, BoardKept, least_in, doubts_in}
+use Rattle.sf_crew.specs.BoardRule.{Kept, BoardKept, least_in, doubts_in}
 use Rattle.sf_crew.specs.BoardSteps.{with_notes, view_with_note, view_with_mark, view_with_sheet, Looks}
 use Rattle.sf_crew.proofs.Doubts.{has_same, has_other, has_most, has_doubt_most, question_is, bit_set, bit_kept, bit_most}
-use Rattle.sf_crew.proofs.Totals.{total_set, total_le, top_set, top_at, every_set}
-use Rattle.sf_crew.proofs.Draws.{later, redoubted}
+use Rattle.sf_crew.proofs.Totals.{total_set, total_le, top_set, top_kept}
+use Rattle.sf_crew.proofs.OneView.{one_view, marks_and_notes, same_marks, later, in_words}
 
 pub not_above : (n : ℕ) → nat_lt 0 n ≡ false → n ≡ 0
 not_above n h = grind (arith, nat_tests)
@@ -42,34 +42,18 @@ renoted : (k : BoardKey) (n e : ℕ) (d least less : ℕ → ℕ) (views : List 
     → ((q : ℕ) → less q ≤ least q) → ((q : ℕ) → q < length (questions_of k) → RightPlace k q (less q))
     → ((q r : ℕ) → Noted ns q r → less q ≤ r) → ((q r : ℕ) → Noted v.notes q r → Noted ns q r)
     → Kept k n e d least views → Kept k n e d less (set views port (with_notes v ns))
-renoted k n e d least less views port v ns at down right noted more h = let w : View = with_notes v ns in
-    let mine = h.each port v at in record {
-      joined_seats = (let s = total_set (λ u. u.joined_seats) views port v w at in
-          let p = h.joined_seats in omega arith);
-      drawn = λ x. (let s = total_set (λ u. times x (jobs u)) views port v w at in let p = h.drawn x in omega arith);
-      drawn_count = (let s = total_set (λ u. length (jobs u)) views port v w at in
-          let p = h.drawn_count in omega arith);
-      past_end = (let s = total_set (λ u. u.exhausted_seats) views port v w at in let p = h.past_end in omega arith);
-      entered_is = (let s = total_set (λ u. length u.entered_sheets) views port v w at in
-          let p = h.entered_is in omega arith);
-      marked = λ q few. (let s = top_set (doubt_at q) views port v w at (omega arith) in
-          let t = top_at (doubt_at q) views port v at in let p = h.marked q few in
-          let same : doubt_at q w ≡ doubt_at q v = refl in omega arith);
-      right = right;
-      each = every_set (Sound k n least) (Sound k n less) views port w h.each
-          (λ u s. later k n n least less u (omega arith) down s) record {
-            about = mine.about;
-            idle = mine.idle;
-            few = mine.few;
-            past = mine.past;
-            marks = mine.marks;
-            noted = noted;
-            covered = noted_more k v.notes ns v.entered_sheets more mine.covered;
-          };
-    }
-
-at_least_word : (words : List ℕ) (q : ℕ) → least_in words q ≡ slice_index words (q + 6)
-at_least_word words q = refl
+renoted k n e d least less views port v ns at down right noted more h = let mine = h.each port v at in
+    one_view k n n e e d d least less views port v (with_notes v ns) at (marks_and_notes k n e v v.marked ns)
+    (same_marks d views port v (with_notes v ns) at (λ q. refl) h.marked) right
+    (λ u s. later k n n least less u (omega arith) down s) (record {
+      about = mine.about;
+      idle = mine.idle;
+      few = mine.few;
+      past = mine.past;
+      marks = mine.marks;
+      noted = noted;
+      covered = noted_more k v.notes ns v.entered_sheets more mine.covered;
+    }) h
 
 pub looks : (k : BoardKey) (slots id q : ℕ) (me : Me ℕ View) → me.0.about ≡ Some k → q < length (questions_of k)
     → Allows (BoardKept k) slots id me (q + 6) (λ n. n) (λ n w. Looks me.0 q n w.0 × (w.1 ≡ me.1))
@@ -101,10 +85,6 @@ hits k slots id q j me there below breaks s h homes at fits =
     let w : View = view_with_note v q j in
     let words : List ℕ = set s.words (q + 6) m in
     let mine = (h.1).each id v at in
-    let p0 : slice_index words 0 ≡ slice_index s.words 0 = get_or-set_other s.words (q + 6) 0 m 0 (λ e. omega arith) in
-    let p1 : slice_index words 1 ≡ slice_index s.words 1 = get_or-set_other s.words (q + 6) 1 m 0 (λ e. omega arith) in
-    let pd : (w : ℕ) → w < 4 → doubts_in s.words w ≡ doubts_in words w =
-    λ w few. sym (get_or-set_other s.words (q + 6) (w + 2) m 0 (λ e. omega arith)) in
     let long : length s.words ≡ length (questions_of k) + 6 = h.0 in
     let here : least_in words q ≡ m = get_or-set_same s.words (q + 6) m 0 (omega arith) in
     let others : (p : ℕ) → p ≢ q → least_in words p ≡ least_in s.words p =
@@ -132,14 +112,33 @@ hits k slots id q j me there below breaks s h homes at fits =
       w,
       keeps,
       tt,
-      (
-        length-set s.words (q + 6) m ∙ long,
-        redoubted k _ _ _ (doubts_in words) _ _ pd
-            (subst (λ (x : ℕ × ℕ). Kept k x.0 x.1 (doubts_in s.words) (least_in words) (set s.views id w))
-            (λ i. (sym p0 i, sym p1 i)) kept),
-      ),
+      in_words k words (slice_index s.words 0) (slice_index s.words 1) (doubts_in s.words) (least_in words)
+          (set s.views id w) (length-set s.words (q + 6) m ∙ long)
+          (get_or-set_other s.words (q + 6) 0 m 0 (λ e. omega arith))
+          (get_or-set_other s.words (q + 6) 1 m 0 (λ e. omega arith))
+          (λ x few. get_or-set_other s.words (q + 6) (x + 2) m 0 (λ e. omega arith)) (λ p. refl) kept,
       (refl, refl),
     )
+
+-- where one question more is marked, and its bit is set, the bits stay right
+new_mark : (d d' : ℕ → ℕ) (views : List View) (port : ℕ) (v : View) (q : ℕ) → get_elem? views port ≡ some v
+    → bit_at (d' (q / 64)) (q % 64) ≡ 1 → ((p : ℕ) → p < 256 → p ≢ q
+    → bit_at (d' (p / 64)) (p % 64) ≡ bit_at (d (p / 64)) (p % 64))
+    → ((p : ℕ) → p < 256 → bit_at (d (p / 64)) (p % 64) ≡ top (doubt_at p) views) → (p : ℕ) → p < 256
+    → bit_at (d' (p / 64)) (p % 64) ≡ top (doubt_at p) (set views port (view_with_mark v q))
+new_mark d d' views port v q at here others was p few = let w : View = view_with_mark v q in
+    dite (ℕ_discrete p q)
+    (λ same. (let one : doubt_at q w ≡ max (max 1 (has q v.marked)) (has_doubt q v.entered_sheets) = ap
+    (λ x. max x (has_doubt q v.entered_sheets)) (has_same q v.marked) in
+    let a = has_most q v.marked in let b = has_doubt_most q v.entered_sheets in
+    let up : doubt_at q v ≤ doubt_at q w = omega arith in
+    let s = top_set (doubt_at q) views port v w at up in let most : top (doubt_at p) views ≤ 1 =
+    subst (λ x. x ≤ 1) (was p few) (bit_most (d (p / 64)) (p % 64)) in
+    let most' : top (doubt_at q) views ≤ 1 = subst (λ x. top (doubt_at x) views ≤ 1) same most in
+    subst (λ x. bit_at (d' (x / 64)) (x % 64) ≡ top (doubt_at x) (set views port w)) (sym same)
+    (here ∙ omega arith)))
+    (λ ne. others p few ne ∙ was p few ∙ sym (top_kept (doubt_at p) views port v w at
+    (ap (λ x. max x (has_doubt p v.entered_sheets)) (has_other p q v.marked ne))))
 
 mark_kept : (k : BoardKey) (n e j q : ℕ) (d d' least : ℕ → ℕ) (views : List View) (port : ℕ) (v : View)
     → v.owes ≡ Some j
@@ -147,41 +146,18 @@ mark_kept : (k : BoardKey) (n e j q : ℕ) (d d' least : ℕ → ℕ) (views : L
     → bit_at (d' (p / 64)) (p % 64) ≡ bit_at (d (p / 64)) (p % 64))
     → get_elem? views port ≡ some v → Kept k n e d least views
     → Kept k n e d' least (set views port (view_with_mark v q))
-mark_kept k n e j q d d' least views port v owing here others at h = let w : View = view_with_mark v q in
-    let mine = h.each port v at in record {
-      joined_seats = (let s = total_set (λ u. u.joined_seats) views port v w at in
-          let p = h.joined_seats in omega arith);
-      drawn = λ x. (let s = total_set (λ u. times x (jobs u)) views port v w at in let p = h.drawn x in omega arith);
-      drawn_count = (let s = total_set (λ u. length (jobs u)) views port v w at in
-          let p = h.drawn_count in omega arith);
-      past_end = (let s = total_set (λ u. u.exhausted_seats) views port v w at in let p = h.past_end in omega arith);
-      entered_is = (let s = total_set (λ u. length u.entered_sheets) views port v w at in
-          let p = h.entered_is in omega arith);
-      marked = λ p few. (let t = top_at (doubt_at p) views port v at in let was = h.marked p few in
-          dite (ℕ_discrete p q)
-          (λ same. (let one : doubt_at q w ≡ max (max 1 (has q v.marked)) (has_doubt q v.entered_sheets) = ap
-          (λ x. max x (has_doubt q v.entered_sheets)) (has_same q v.marked) in
-          let a = has_most q v.marked in let b = has_doubt_most q v.entered_sheets in
-          let up : doubt_at q v ≤ doubt_at q w = omega arith in
-          let s = top_set (doubt_at q) views port v w at up in let most : top (doubt_at p) views ≤ 1 =
-          subst (λ x. x ≤ 1) was (bit_most (d (p / 64)) (p % 64)) in
-          let most' : top (doubt_at q) views ≤ 1 = subst (λ x. top (doubt_at x) views ≤ 1) same most in
-          subst (λ x. bit_at (d' (x / 64)) (x % 64) ≡ top (doubt_at x) (set views port w)) (sym same)
-          (here ∙ omega arith)))
-          (λ ne. (let stays : doubt_at p w ≡ doubt_at p v = ap (λ x. max x (has_doubt p v.entered_sheets))
-          (has_other p q v.marked ne) in
-          let s = top_set (doubt_at p) views port v w at (omega arith) in others p few ne ∙ was ∙ omega arith)));
-      right = h.right;
-      each = every_set (Sound k n least) (Sound k n least) views port w h.each (λ u s. s) record {
-        about = mine.about;
-        idle = mine.idle;
-        few = mine.few;
-        past = mine.past;
-        marks = λ none. absurd (cc (owing, none));
-        noted = mine.noted;
-        covered = mine.covered;
-      };
-    }
+mark_kept k n e j q d d' least views port v owing here others at h = let mine = h.each port v at in
+    one_view k n n e e d d' least least views port v (view_with_mark v q) at
+    (marks_and_notes k n e v (q ∷ v.marked) v.notes) (new_mark d d' views port v q at here others h.marked) h.right
+    (λ u s. s) (record {
+      about = mine.about;
+      idle = mine.idle;
+      few = mine.few;
+      past = mine.past;
+      marks = λ none. absurd (cc (owing, none));
+      noted = mine.noted;
+      covered = mine.covered;
+    }) h
 
 pub marks : (k : BoardKey) (slots q j : ℕ) (id : ℕ) (me : Me ℕ View) → me.0.owes ≡ Some j → q < 256
     → Allows (BoardKept k) slots id me (q / 64 + 2) (λ n. bit_or n (1 * 2 ^ (q % 64) % 2 ^ 64))
@@ -191,10 +167,6 @@ marks k slots q j id me owing few s h homes at fits =
     let v : View = me.0 in let i : ℕ = q / 64 + 2 in let low : i < 6 = omega arith in
     let long : length s.words ≡ length (questions_of k) + 6 = h.0 in
     let m : ℕ = bit_or (slice_index s.words i) (1 * 2 ^ (q % 64) % 2 ^ 64) in let words : List ℕ = set s.words i m in
-    let p0 : slice_index words 0 ≡ slice_index s.words 0 = get_or-set_other s.words i 0 m 0 (λ e. omega arith) in
-    let p1 : slice_index words 1 ≡ slice_index s.words 1 = get_or-set_other s.words i 1 m 0 (λ e. omega arith) in
-    let pl : (p : ℕ) → slice_index words (p + 6) ≡ slice_index s.words (p + 6) =
-    λ p. get_or-set_other s.words i (p + 6) m 0 (λ e. omega arith) in
     let here : doubts_in words (q / 64) ≡ m = get_or-set_same s.words i m 0 (omega arith) in
     let others : (p : ℕ) → p < 256 → p ≢ q → bit_at (doubts_in words (p / 64)) (p % 64)
     ≡ bit_at (doubts_in s.words (p / 64)) (p % 64) = λ p low ne. dite (ℕ_discrete (p / 64) (q / 64))
@@ -206,12 +178,10 @@ marks k slots q j id me owing few s h homes at fits =
       view_with_mark v q,
       keeps,
       tt,
-      (
-        length-set s.words i m ∙ long,
-        subst (λ (x : ℕ × ℕ × (ℕ → ℕ)).
-            Kept k x.0 x.1 (doubts_in words) x.2 (set s.views id (view_with_mark v q)))
-            (λ l. (sym p0 l, sym p1 l, λ p. sym (pl p) l)) kept,
-      ),
+      in_words k words (slice_index s.words 0) (slice_index s.words 1) (doubts_in words) (least_in s.words)
+          (set s.views id (view_with_mark v q)) (length-set s.words i m ∙ long)
+          (get_or-set_other s.words i 0 m 0 (λ e. omega arith)) (get_or-set_other s.words i 1 m 0 (λ e. omega arith))
+          (λ w few. refl) (λ p. get_or-set_other s.words i (p + 6) m 0 (λ e. omega arith)) kept,
       ((λ p word mask. ap (view_with_mark v) (question_is q p word mask)), refl),
     )
 
@@ -221,50 +191,37 @@ put_entered : (k : BoardKey) (words : List ℕ) (d : ℕ) (views : List View) �
     × Kept k (slice_index (set words 1 d) 0) (slice_index (set words 1 d) 1) (doubts_in (set words 1 d))
     (least_in (set words 1 d)) views
 put_entered k words d views long h =
-    let p0 : slice_index (set words 1 d) 0 ≡ slice_index words 0 = get_or-set_other words 1 0 d 0 (λ e. omega arith) in
-    let p1 : slice_index (set words 1 d) 1 ≡ d = get_or-set_same words 1 d 0 (omega arith) in
-    let pd : (w : ℕ) → slice_index (set words 1 d) (w + 2) ≡ slice_index words (w + 2) =
-    λ w. get_or-set_other words 1 (w + 2) d 0 (λ e. omega arith) in
-    let pl : (q : ℕ) → slice_index (set words 1 d) (q + 6) ≡ slice_index words (q + 6) =
-    λ q. get_or-set_other words 1 (q + 6) d 0 (λ e. omega arith) in (
-      length-set words 1 d ∙ long,
-      subst (λ (x : ℕ × ℕ × (ℕ → ℕ) × (ℕ → ℕ)). Kept k x.0 x.1 x.2 x.3 views)
-          (λ i. (sym p0 i, sym p1 i, λ w. sym (pd w) i, λ q. sym (pl q) i)) h,
-    )
+    in_words k (set words 1 d) (slice_index words 0) d (doubts_in words) (least_in words) views
+    (length-set words 1 d ∙ long) (get_or-set_other words 1 0 d 0 (λ e. omega arith))
+    (get_or-set_same words 1 d 0 (omega arith))
+    (λ w few. get_or-set_other words 1 (w + 2) d 0 (λ e. omega arith))
+    (λ q. get_or-set_other words 1 (q + 6) d 0 (λ e. omega arith)) h
 
 enter_kept : (k : BoardKey) (n e j : ℕ) (d least : ℕ → ℕ) (views : List View) (port : ℕ) (v : View) → v.owes ≡ Some j
     → 0 < v.joined_seats → Covered k v.notes (entered_sheet j v.marked) → get_elem? views port ≡ some v
     → Kept k n e d least views
     → Kept k n (e + 1) d least (set views port (view_with_sheet v j))
 enter_kept k n e j d least views port v owing part covered at h = let w : View = view_with_sheet v j in
-    let mine = h.each port v at in record {
-      joined_seats = (let s = total_set (λ u. u.joined_seats) views port v w at in
-          let p = h.joined_seats in omega arith);
-      drawn = λ x. (let s = total_set (λ u. times x (jobs u)) views port v w at in let p = h.drawn x in
-          let same : times x (jobs v) ≡ times x (jobs w) =
+    let mine = h.each port v at in
+    one_view k n n e (e + 1) d d least least views port v w at (record {
+      joined_seats = refl;
+      drawn = λ x. (let same : times x (jobs v) ≡ times x (jobs w) =
           ap (λ o. times x (owed_jobs o ++ map (λ y. y.job) v.entered_sheets)) owing in omega arith);
-      drawn_count = (let s = total_set (λ u. length (jobs u)) views port v w at in let p = h.drawn_count in
-          let same : length (jobs v) ≡ length (jobs w) =
+      drawn_count = (let same : length (jobs v) ≡ length (jobs w) =
           ap (λ o. length (owed_jobs o ++ map (λ y. y.job) v.entered_sheets)) owing in omega arith);
-      past_end = (let s = total_set (λ u. u.exhausted_seats) views port v w at in let p = h.past_end in omega arith);
-      entered_is = (let s = total_set (λ u. length u.entered_sheets) views port v w at in
-          let p = h.entered_is in omega arith);
-      marked = λ q few.
-          (let b : doubt_at q w ≡ max (has q []) (max (has q v.marked) (has_doubt q v.entered_sheets)) = refl in
-          let z : has q [] ≡ 0 = refl in
-          let s = top_set (doubt_at q) views port v w at (omega arith) in let t = top_at (doubt_at q) views port v at in
-          let p = h.marked q few in omega arith);
-      right = h.right;
-      each = every_set (Sound k n least) (Sound k n least) views port w h.each (λ u s. s) record {
-        about = mine.about;
-        idle = λ none. absurd (omega arith);
-        few = mine.few;
-        past = mine.past;
-        marks = λ _. refl;
-        noted = mine.noted;
-        covered = (covered, mine.covered);
-      };
-    }
+      past_end = inr (omega arith);
+      entered_is = omega arith;
+    }) (same_marks d views port v w at (λ q.
+    (let b : doubt_at q w ≡ max (has q []) (max (has q v.marked) (has_doubt q v.entered_sheets)) = refl in
+    let z : has q [] ≡ 0 = refl in omega arith)) h.marked) h.right (λ u s. s) (record {
+      about = mine.about;
+      idle = λ none. absurd (omega arith);
+      few = mine.few;
+      past = mine.past;
+      marks = λ _. refl;
+      noted = mine.noted;
+      covered = (covered, mine.covered);
+    }) h
 
 entries_few : (k : BoardKey) (n e j : ℕ) (d least : ℕ → ℕ) (views : List View) (port : ℕ) (v : View) → v.owes ≡ Some j
     → get_elem? views port ≡ some v → Kept k n e d least views → e + 1 ≤ count_of_regions k

@@ -63,22 +63,21 @@ pub top_snoc : (f : View → ℕ) (views : List View) (w : View) → f w ≡ 0 �
 top_snoc f [] w h = omega arith
 top_snoc f (x ∷ xs) w h = let rest = top_snoc f xs w h in omega arith
 
-top_none : (f g : View → ℕ) (views : List View)
-    → ((port : ℕ) (v : View) → get_elem? views port ≡ some v → f v ≡ 0 → g v ≡ 0) → total f views ≡ 0 → top g views ≡ 0
-top_none f g [] h e = refl
-top_none f g (x ∷ xs) h e = let here : g x ≡ 0 = h 0 x refl (omega arith) in
-    let rest = top_none f g xs (λ j v at. h (suc j) v at) (omega arith) in omega arith
+-- the top stays where the view that changes has what the one before it had
+pub top_kept : (f : View → ℕ) (views : List View) (port : ℕ) (v w : View) → get_elem? views port ≡ some v → f w ≡ f v
+    → top f (set views port w) ≡ top f views
+top_kept f views port v w at same = let s = top_set f views port v w at (omega arith) in
+    let t = top_at f views port v at in omega arith
+
+top_below_total : (f : View → ℕ) (views : List View) → top f views ≤ total f views
+top_below_total f [] = omega arith
+top_below_total f (x ∷ xs) = let rest = top_below_total f xs in omega arith
 
 pub top_only : (f g : View → ℕ) (views : List View) (port : ℕ) (v : View)
     → ((j : ℕ) (u : View) → get_elem? views j ≡ some u → f u ≡ 0 → g u ≡ 0) → get_elem? views port ≡ some v
     → total f views ≡ f v → top g views ≡ g v
-top_only f g [] port v h at e = absurd (some-ne-none v (sym at))
-top_only f g (x ∷ xs) zero v h at e =
-    let f_same : f x ≡ f v = ap f (some-injective x v at) in let g_same : g x ≡ g v = ap g (some-injective x v at) in
-    let rest = top_none f g xs (λ j u there. h (suc j) u there) (omega arith) in omega arith
-top_only f g (x ∷ xs) (suc port) v h at e =
-    let most = total_at f xs port v at in let here : g x ≡ 0 = h 0 x refl (omega arith) in
-    let rest = top_only f g xs port v (λ j u there. h (suc j) u there) at (omega arith) in omega arith
+top_only f g views port v h at e = let all = total_only f g views port v h at e in
+    let most = top_below_total g views in let mine = top_at g views port v at in omega arith
 
 pub times_append : (x : ℕ) (xs ys : List ℕ) → times x (xs ++ ys) ≡ times x xs + times x ys
 times_append x [] ys = omega arith

@@ -1,0 +1,104 @@
+-- One view changes, and the words of the board with it: what keeps the rule.
+use Rattle.std.proofs.Common.{◌≡◌, ℕ, ◌+◌, ◌/◌, ◌%◌, ◌<◌, ◌≤◌, ◌⊎◌, min, List, length, set, slice_index, sym, refl, ap, ◌∙◌, subst, inr, ⊎_elim, arith}
+use Rattle.std.specs.Int.{bit_at}
+use mathlib.Core.Option.{some}
+use lib.ListN.{get_elem?}
+use Rattle.sf_crew.specs.declared.board.view.BoardKey.{BoardKey}
+use Rattle.sf_crew.specs.declared.board.view.View.{View}
+use Rattle.sf_crew.specs.declared.board.view.Note.{Note}
+use Rattle.sf_crew.specs.Views.{questions_of, count_of_regions, jobs, RightPlace, times, once_below, top, doubt_at}
+use Rattle.sf_crew.specs.BoardRule.{Sound, Kept, least_in, doubts_in}
+use Rattle.sf_crew.specs.BoardSteps.{with_notes, with_marks}
+use Rattle.sf_crew.proofs.Totals.{total_set, top_kept, every_set}
+
+-- What a view counts for, beside the view that it becomes: the word of the next job goes from n to m, that of the
+-- sheets entered from e to f.
+pub record IsCounted (k : BoardKey) (n m e f : ℕ) (v w : View) : Type 0 where
+  pub joined_seats : w.joined_seats ≡ v.joined_seats
+  pub drawn : (x : ℕ) → times x (jobs w) + once_below x (min n (count_of_regions k))
+      ≡ times x (jobs v) + once_below x (min m (count_of_regions k))
+  pub drawn_count : length (jobs w) + min n (count_of_regions k) ≡ length (jobs v) + min m (count_of_regions k)
+  pub past_end : (m ≤ count_of_regions k) ⊎ (m + v.exhausted_seats ≤ n + w.exhausted_seats)
+  pub entered_is : length w.entered_sheets + e ≡ length v.entered_sheets + f
+
+-- other marks and other notes count for nothing
+pub marks_and_notes : (k : BoardKey) (n e : ℕ) (v : View) (qs : List ℕ) (ns : List Note)
+    → IsCounted k n n e e v (with_marks (with_notes v ns) qs)
+marks_and_notes k n e v qs ns = record {
+  joined_seats = refl;
+  drawn = λ x. refl;
+  drawn_count = refl;
+  past_end = inr (omega arith);
+  entered_is = refl;
+}
+
+-- where a view marks what the one before it marked, the bits stay right
+pub same_marks : (d : ℕ → ℕ) (views : List View) (port : ℕ) (v w : View) → get_elem? views port ≡ some v
+    → ((q : ℕ) → doubt_at q w ≡ doubt_at q v)
+    → ((q : ℕ) → q < 256 → bit_at (d (q / 64)) (q % 64) ≡ top (doubt_at q) views) → (q : ℕ) → q < 256
+    → bit_at (d (q / 64)) (q % 64) ≡ top (doubt_at q) (set views port w)
+same_marks d views port v w at same was q few = was q few ∙ sym (top_kept (doubt_at q) views port v w at (same q))
+
+pub one_view : (k : BoardKey) (n m e f : ℕ) (d d' least less : ℕ → ℕ) (views : List View) (port : ℕ) (v w : View)
+    → get_elem? views port ≡ some v → IsCounted k n m e f v w
+    → ((q : ℕ) → q < 256 → bit_at (d' (q / 64)) (q % 64) ≡ top (doubt_at q) (set views port w))
+    → ((q : ℕ) → q < length (questions_of k) → RightPlace k q (less q))
+    → ((u : View) → Sound k n least u → Sound k m less u) → Sound k m less w
+    → Kept k n e d least views → Kept k m f d' less (set views port w)
+one_view k n m e f d d' least less views port v w at counted marked right others mine h = record {
+  joined_seats = (let s = total_set (λ u. u.joined_seats) views port v w at in let c = counted.joined_seats in
+      let p = h.joined_seats in omega arith);
+  drawn = λ x. (let s = total_set (λ u. times x (jobs u)) views port v w at in let c = counted.drawn x in
+      let p = h.drawn x in omega arith);
+  drawn_count = (let s = total_set (λ u. length (jobs u)) views port v w at in let c = counted.drawn_count in
+      let p = h.drawn_count in omega arith);
+  past_end = (let s = total_set (λ u. u.exhausted_seats) views port v w at in let p = h.past_end in
+      ⊎_elim (λ (y : m ≤ count_of_regions k). omega arith)
+      (λ (y : m + v.exhausted_seats ≤ n + w.exhausted_seats). omega arith) counted.past_end);
+  entered_is = (let s = total_set (λ u. length u.entered_sheets) views port v w at in let c = counted.entered_is in
+      let p = h.entered_is in omega arith);
+  marked = marked;
+  right = right;
+  each = every_set (Sound k n least) (Sound k m less) views port w h.each others mine;
+}
+
+-- a view stays sound where the next job is a later one, and the least places are no greater
+pub later : (k : BoardKey) (n m : ℕ) (least less : ℕ → ℕ) (v : View) → n ≤ m → ((q : ℕ) → less q ≤ least q)
+    → Sound k n least v → Sound k m less v
+later k n m least less v up down h = record {
+  about = h.about;
+  idle = h.idle;
+  few = h.few;
+  past = λ some_none. let was = h.past some_none in omega arith;
+  marks = h.marks;
+  noted = λ q r at. let was = h.noted q r at in let now = down q in omega arith;
+  covered = h.covered;
+}
+
+-- the words of doubts are the first four alone
+redoubted : (k : BoardKey) (n e : ℕ) (d d' least : ℕ → ℕ) (views : List View) → ((w : ℕ) → w < 4 → d w ≡ d' w)
+    → Kept k n e d least views → Kept k n e d' least views
+redoubted k n e d d' least views same h = record {
+  joined_seats = h.joined_seats;
+  drawn = h.drawn;
+  drawn_count = h.drawn_count;
+  past_end = h.past_end;
+  entered_is = h.entered_is;
+  marked = λ q few. ap (λ x. bit_at x (q % 64)) (sym (same (q / 64) (omega arith))) ∙ h.marked q few;
+  right = h.right;
+  each = h.each;
+}
+
+-- the rule of numbers that stand in these words
+pub in_words : (k : BoardKey) (words : List ℕ) (n e : ℕ) (d least : ℕ → ℕ) (views : List View)
+    → length words ≡ length (questions_of k) + 6 → slice_index words 0 ≡ n → slice_index words 1 ≡ e
+    → ((w : ℕ) → w < 4 → doubts_in words w ≡ d w) → ((q : ℕ) → least_in words q ≡ least q)
+    → Kept k n e d least views → (length words ≡ length (questions_of k) + 6)
+    × Kept k (slice_index words 0) (slice_index words 1) (doubts_in words) (least_in words) views
+in_words k words n e d least views long next entered doubts places h = (
+  long,
+  redoubted k (slice_index words 0) (slice_index words 1) d (doubts_in words) (least_in words) views
+      (λ w few. sym (doubts w few))
+      (subst (λ (x : ℕ × ℕ × (ℕ → ℕ)). Kept k x.0 x.1 d x.2 views)
+      (λ i. (sym next i, sym entered i, λ q. sym (places q) i)) h),
+)
