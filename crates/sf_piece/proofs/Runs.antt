@@ -1,5 +1,5 @@
 -- Names compare as their runs of false do.
-use Rattle.std.proofs.Common.{◌≡◌, ℕ, ◌+◌, ◌-◌, ◌<◌, ◌≤◌, Bool, true, false, List, [], ◌∷◌, ◌++◌, length, refl, sym, ◌∙◌, ap, arith, length-append}
+use Rattle.std.proofs.Common.{◌≡◌, ℕ, zero, suc, ◌+◌, ◌-◌, ◌<◌, ◌≤◌, Bool, true, false, List, [], ◌∷◌, ◌++◌, length, refl, sym, ◌∙◌, ap, subst, arith, take, replicate, length-append, append_assoc, append-nil, take_all}
 use Rattle.std.specs.declared.cmp.Ordering.{Ordering}
 use Rattle.std.specs.declared.cmp.Ordering.TheVariants.{Less, Equal, Greater}
 use Rattle.std.specs.Ordering.{bool_cmp, nat_cmp, ordering_then}
@@ -117,3 +117,32 @@ with_true xs rs r h l = record {
   ended = rw (h.ended, h.last) (sym (runs_true xs 0));
   last = sym (rest_true xs 0);
 }
+
+-- ---- so many falses more
+
+rest_falses : (n : ℕ) (xs : List Bool) (rs : List ℕ) (r : ℕ) → AreRuns xs rs r → length xs + n ≤ 4294967295
+    → AreRuns (xs ++ replicate n false) rs (r + n)
+rest_falses zero xs rs r h l =
+    let counts : r ≡ r + 0 = omega arith in
+    subst (λ (k : ℕ). AreRuns (xs ++ []) rs k) counts
+    (subst (λ (y : List Bool). AreRuns y rs r) (sym (append-nil xs)) h)
+rest_falses (suc n) xs rs r h l =
+    let longer = length-append xs (false ∷ []) in
+    let rest = rest_falses n (xs ++ false ∷ []) rs (r + 1) (with_false xs rs r h (omega (arith, l)))
+    (omega (arith, l, longer)) in
+    let counts : r + 1 + n ≡ r + suc n = omega arith in
+    subst (λ (k : ℕ). AreRuns (xs ++ replicate (suc n) false) rs k) counts
+    (subst (λ (y : List Bool). AreRuns y rs (r + 1 + n)) (append_assoc xs (false ∷ []) (replicate n false)) rest)
+
+-- a list of so many, made longer by falses
+pub made_longer : (xs : List Bool) (m n : ℕ) → m ≡ length xs
+    → take (m + n) xs ++ replicate (m + n - m) false ≡ xs ++ replicate n false
+made_longer xs m n h =
+    let all = take_all (m + n) xs (omega (arith, h)) in
+    let more : m + n - m ≡ n = omega arith in
+    rw (all, more) refl
+
+pub with_falses : (xs : List Bool) (rs : List ℕ) (r m n : ℕ) → AreRuns xs rs r → m ≡ length xs → m + n ≤ 4294967295
+    → AreRuns (take (m + n) xs ++ replicate (m + n - m) false) rs (r + n)
+with_falses xs rs r m n h is short =
+    rw (made_longer xs m n is) (rest_falses n xs rs r h (omega (arith, is, short)))

@@ -1,11 +1,12 @@
 -- The parts of a step of the symbolic run: what the functions that work a piece tell each other. Nothing above this
 -- crate speaks of these.
-use Rattle.std.specs.Prelude.{◌≡◌, ℕ, ◌+◌, ◌-◌, ◌*◌, ◌&&◌, not, ◌<◌, ◌≤◌, ◌^◌, ◌⊎◌, Bool, true, false, List, [], ◌∷◌, ◌++◌, length, Option, Some, None, slice_get, if◌then◌else◌, ◌==◌}
+use Rattle.std.specs.Prelude.{◌≡◌, ℕ, ◌+◌, ◌-◌, ◌*◌, ◌&&◌, not, ◌<◌, ◌≤◌, ◌^◌, ◌⊎◌, Bool, true, false, List, [], ◌∷◌, ◌++◌, length, get_or, replicate, Option, Some, None, slice_get, if◌then◌else◌, ◌==◌}
 use Rattle.sf_insn.specs.declared.input.Input.{Input}
 use Rattle.sf_insn.specs.Inputs.{IsInput}
 use Rattle.sf_insn.specs.declared.ops.BinOp.{BinOp}
 use Rattle.sf_insn.specs.declared.ops.BinOp.TheVariants.{Div, And, Or, Xor}
 use Rattle.sf_insn.specs.declared.ops.Test.{Test}
+use Rattle.sf_insn.specs.declared.ops.Test.TheVariants.{Equal}
 use Rattle.sf_check.specs.declared.insn.Insn.{Insn}
 use Rattle.sf_check.specs.declared.insn.Insn.TheVariants.{LoadScratch, LoadXScratch, StoreA, StoreX, Alu, Jump, Branch, ReturnConstant, ReturnA, Tax, Txa}
 use Rattle.sf_check.specs.declared.insn.Operand.{Operand}
@@ -20,6 +21,8 @@ use Rattle.sf_sym.specs.declared.pool.Node.TheVariants.{Const, Bin}
 use Rattle.sf_sym.specs.Pool.{node_at, constant_number, value_of, values_of, node_value, is_met, IsCondBelow}
 use Rattle.sf_sym.specs.declared.pool.Cond.{Cond}
 use Rattle.sf_insn.specs.Words.{apply, passes}
+use Rattle.sf_dom.specs.declared.known.Known.{Known}
+use Rattle.sf_dom.specs.Known.{Admits}
 use Rattle.sf_dom.specs.Facts.{FactsView, Covers, Agrees, AreNarrower, DecidesTest, KeepsOnly, known_at}
 use Rattle.sf_dom.specs.Propagation.{IsTold}
 use Rattle.sf_dom.specs.Facts.{IsPlainCondition as IsPlainCond}
@@ -50,6 +53,32 @@ pub record HasAtHand (p : PieceData) (i : Insn) : Type 0 where
   pub set : (k : ℕ) → loaded_by i ≡ Some k → (w : NodeId) × (slice_get p.machine.scratch k ≡ Some (Some w))
   pub taken : p.machine.taken ≤ 32
   pub value : p.machine.taken < 32 → p.machine.value < 2 ^ 31
+
+-- the instructions of the program that runs
+abbrev pub code_at : PieceData → List Insn
+code_at p = get_or p.stack (length p.stack - 1 - p.machine.program) []
+
+-- these are the instructions of the program that runs, and the place is among them
+pub record IsCodeAtHand (p : PieceData) (code : List Insn) : Type 0 where
+  pub running : p.machine.program < length p.stack
+  pub is : code ≡ code_at p
+  pub inside : p.machine.place < length code
+  pub short : length code ≤ 4096
+
+-- The instruction asks whether A equals a number that no word has of which this is known, and skips so many
+-- instructions where it doesn't.
+pub record IsFailing (i : Insn) (known : Known) (skips : ℕ) : Type 0 where
+  pub number : ℕ
+  pub on_true : ℕ
+  pub is : i ≡ Branch Equal (Constant number) on_true skips
+  pub fails : (x : ℕ) → Admits known x → passes Equal x number ≡ false
+
+-- the piece behind so many tests that fail, at the place where the last one leads
+abbrev pub behind_chain : PieceData → ℕ → ℕ → PieceData
+behind_chain p n place = record p {
+  name = p.name ++ replicate n false;
+  machine = record p.machine { place = place };
+}
 
 -- the same members of the same stack, by the same conditions, and a name that goes on
 pub record IsContinuation (p q : PieceData) : Type 0 where

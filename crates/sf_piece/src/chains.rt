@@ -1,15 +1,18 @@
 //! Chains of tests of one word against numbers.
 
-ghost use Rattle.std.specs.Prelude.{◌≡◌, IfOk};
+ghost use Rattle.std.specs.Prelude.{◌≡◌, IfOk, IfSome};
+ghost use Rattle.sf_dom.specs.Facts.{known_at};
 ghost use Rattle.sf_insn.specs.declared.ops.Test.{Test as ATest};
 ghost use Rattle.sf_check.specs.declared.insn.Operand.{Operand as AnOperand};
 ghost use Rattle.sf_piece.specs.SymbolicRun.{IsLawfulPiece};
-ghost use Rattle.sf_piece.specs.Works.{HasAtHand, HasAdvanced, HasGoneOn, IsForeseen};
+ghost use Rattle.sf_piece.specs.Works.{HasAtHand, HasAdvanced, HasGoneOn, IsForeseen, IsFailing, behind_chain};
 
 use crate::deciding::skipped;
 use crate::fault::Fault;
 use crate::run::Run;
 use sf_check::{Insn, Operand};
+use sf_dom::Known;
+use sf_insn::Test;
 
 /// On over a test with this truth value, which goes into the name. What is known stays as it is.
 pub(crate) fn take_test(
@@ -36,13 +39,82 @@ pub(crate) fn take_test(
     Ok(())
 }
 
+/// A chain of tests that fail.
+#[derive(Clone, Copy)]
+struct Chain {
+    /// How many there are.
+    count: usize,
+    /// The place where the last one leads.
+    behind: usize,
+}
+
+/// How many instructions a test skips where it fails, if it asks whether A equals a number that its interval leaves out.
+/// None for any other instruction.
+fn skipped_by_failing(insn: Insn, known: Known) -> Option<u8>
+    ensures { IfSome result (λ n. IsFailing insn known n) }
+{
+    let Insn::Branch(test, other, _, on_false) = insn else {
+        return None;
+    };
+    let Operand::Constant(number) = other else {
+        return None;
+    };
+    let Test::Equal = test else {
+        return None;
+    };
+    match known.told(Test::Equal, number) {
+        Some(false) => Some(on_false),
+        _ => None,
+    }
+}
+
+/// The tests of this kind that come now, each where the one before leads.
+fn failing_chain(run: &Run, known: Known) -> Chain
+    requires lawful { IsLawfulPiece run.now }
+    requires known { known ≡ known_at run.now.facts.known run.now.machine.a.0 }
+    ensures { HasGoneOn run.now (behind_chain run.now result.count result.behind) }
+{
+    let mut count = 0;
+    let mut place = run.machine.place;
+    let Some(code) = run.code() else {
+        return Chain {
+            count,
+            behind: place,
+        };
+    };
+    while let Some(skips) = skipped_by_failing(code[place], known) {
+        count += 1;
+        place += 1 + skips as usize;
+    }
+    Chain {
+        count,
+        behind: place,
+    }
+}
+
+/// Goes on over these tests at once: each puts a false into the name, and what is known stays as it is.
+fn take_failing(run: &mut Run, known: Known) -> Result<(), Fault>
+    requires lawful { IsLawfulPiece run.old }
+    requires known { known ≡ known_at run.old.facts.known run.old.machine.a.0 }
+    ensures gone { IfOk result (λ _. HasGoneOn run.old run.new) }
+    ensures facts { IfOk result (λ _. run.new.facts ≡ run.old.facts) }
+    ensures a { IfOk result (λ _. run.new.machine.a ≡ run.old.machine.a) }
+{
+    let chain = failing_chain(run, known);
+    run.name.push_falses(chain.count)?;
+    run.machine.place = chain.behind;
+    Ok(())
+}
+
 /// Goes on over the tests of A against numbers that come now, as far as its interval and known bits tell their truth
-/// values. They are looked up once, since none of these tests changes them.
+/// values. They are looked up once, since none of these tests changes them. Most of these tests ask for numbers that A
+/// can't have, one after the other: their falses go into the name at once.
 pub(crate) fn take_told(run: &mut Run) -> Result<(), Fault>
     requires { IsLawfulPiece run.old }
     ensures { IfOk result (λ _. HasGoneOn run.old run.new) }
 {
     let known = run.facts.known(run.machine.a);
+    take_failing(run, known)?;
     while let Some(insn) = run.insn() {
         let Insn::Branch(test, other, on_true, on_false) = insn else {
             return Ok(());
@@ -54,6 +126,7 @@ pub(crate) fn take_told(run: &mut Run) -> Result<(), Fault>
             return Ok(());
         };
         take_test(run, insn, on_true, on_false, sense)?;
+        take_failing(run, known)?;
     }
     Ok(())
 }

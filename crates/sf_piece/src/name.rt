@@ -1,6 +1,6 @@
 //! Names, kept so that they are soon compared.
 
-ghost use Rattle.std.specs.Prelude.{◌≡◌, ◌<◌, [], ◌∷◌, ◌++◌, length, true, false, IfOk, OnOk, OnErr};
+ghost use Rattle.std.specs.Prelude.{◌≡◌, ◌<◌, [], ◌∷◌, ◌++◌, length, replicate, true, false, IfOk, OnOk, OnErr};
 ghost use Rattle.std.specs.Ordering.{bool_cmp};
 ghost use Rattle.std.specs.Cmp.Lexicographic.{slice_cmp};
 
@@ -121,6 +121,22 @@ impl Name {
         } else {
             self.push_false()
         }
+    }
+
+    /// Adds so many falses at the end. `AllocError` where a growth is refused, or where there would be more than 2^32 - 1
+    /// truth values: the name is as it was then.
+    pub(crate) fn push_falses(&mut self, count: usize) -> Result<(), AllocError>
+        ensures ok { OnOk result (self.new ≡ self.old ++ replicate count false) }
+        ensures err { OnErr result (self.new ≡ self.old) }
+    {
+        let before = self.entries.len();
+        let room = LONGEST as usize - before;
+        if room < count {
+            return Err(AllocError);
+        }
+        self.entries.resize(before + count, false)?;
+        self.rest += count as u32;
+        Ok(())
     }
 
     /// Adds a false, which makes the last run longer.

@@ -1,6 +1,6 @@
 //! The symbolic run of a piece.
 
-ghost use Rattle.std.specs.Prelude.{◌≡◌, ◌<◌, IfOk, IfSome, MatchOption, length};
+ghost use Rattle.std.specs.Prelude.{◌≡◌, ◌<◌, ◌≤◌, IfOk, IfSome, MatchOption, length};
 
 use crate::fault::Fault;
 use crate::machine::SymbolicMachine;
@@ -47,7 +47,7 @@ impl Model for Run {
 impl Run {
     ghost use Rattle.sf_piece.specs.Pieces.{IsRightAnswer};
     ghost use Rattle.sf_piece.specs.SymbolicRun.{IsLawfulPiece};
-    ghost use Rattle.sf_piece.specs.Works.{HasAtHand};
+    ghost use Rattle.sf_piece.specs.Works.{HasAtHand, IsCodeAtHand};
 
     /// The same run again. `Memory` where a growth is refused.
     pub(crate) fn fork(&self, alloc: Global) -> Result<Run, Fault>
@@ -63,19 +63,31 @@ impl Run {
         })
     }
 
+    /// The instructions of the program at hand, or none where the last one has returned.
+    pub(crate) fn code(&self) -> Option<&[Insn]>
+        requires { IsLawfulPiece self.now }
+        ensures { MatchOption result (length self.now.stack ≤ self.now.machine.program)
+            (λ code. IsCodeAtHand self.now code.now) }
+    {
+        let programs = self.stack.programs();
+        if self.machine.program < programs.len() {
+            let program = &programs[programs.len() - 1 - self.machine.program];
+            Some(program.insns())
+        } else {
+            None
+        }
+    }
+
     /// The instruction at hand, or none where the last program has returned.
     pub(crate) fn insn(&self) -> Option<Insn>
         requires { IsLawfulPiece self.now }
         ensures { MatchOption result (IsRightAnswer self.now self.now.name
             self.now.machine.so_far) (λ i. HasAtHand self.now i) }
     {
-        let programs = self.stack.programs();
-        if self.machine.program < programs.len() {
-            let program = &programs[programs.len() - 1 - self.machine.program];
-            Some(program.insns()[self.machine.place])
-        } else {
-            None
-        }
+        let Some(code) = self.code() else {
+            return None;
+        };
+        Some(code[self.machine.place])
     }
 
     /// The answer of the stack, where the instruction at hand is the last program's return of a constant. Nothing is left to

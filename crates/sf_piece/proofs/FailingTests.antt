@@ -1,0 +1,90 @@
+-- A piece goes on over tests that fail: over one, and over a chain of them at once.
+use Rattle.std.proofs.Common.{◌≡◌, ℕ, ◌+◌, ◌<◌, ◌≤◌, Bool, false, List, [], ◌∷◌, ◌++◌, length, get_or, replicate, refl, sym, ap, subst, ◌∙◌, arith, append_assoc, append-nil}
+use Rattle.std.proofs.lemmas.List.{replicate_more}
+use Rattle.std.proofs.lemmas.Option.{slice_get-get_or}
+use Rattle.sf_insn.specs.declared.ops.Test.TheVariants.{Equal}
+use Rattle.sf_check.specs.declared.insn.Insn.{Insn}
+use Rattle.sf_check.specs.declared.insn.Insn.TheVariants.{LoadWord}
+use Rattle.sf_check.specs.declared.insn.Operand.TheVariants.{Constant}
+use Rattle.sf_check.specs.Programs.{IsAt}
+use Rattle.sf_dom.specs.declared.known.Known.{Known}
+use Rattle.sf_dom.specs.Facts.{known_at}
+use Rattle.sf_piece.specs.Pieces.{PieceData}
+use Rattle.sf_piece.specs.declared.machine.SymbolicMachine.{SymbolicMachine}
+use Rattle.sf_piece.specs.SymbolicRun.{IsLawfulPiece}
+use Rattle.sf_piece.specs.Works.{HasGoneOn, IsFailing, IsCodeAtHand, AfterTruthValue, behind_chain, code_at}
+use Rattle.sf_piece.proofs.AtHand.{at_hand, place_inside}
+use Rattle.sf_piece.proofs.Children.{taken_on, take_gone, branch_after}
+use Rattle.sf_piece.proofs.Joined.{on_same, on_trans, branch_foreseen}
+use Rattle.sf_piece.proofs.Lawful.{lawful_taken, told_of_known}
+
+gone_same : (p : PieceData) → IsLawfulPiece p → HasGoneOn p p
+gone_same p h = record { is_on = on_same p; left = omega arith; lawful = h }
+
+gone_trans : (p q r : PieceData) → HasGoneOn p q → HasGoneOn q r → HasGoneOn p r
+gone_trans p q r a b = record {
+  is_on = on_trans p q r a.is_on b.is_on;
+  left = omega (arith, a.left, b.left);
+  lawful = b.lawful;
+}
+
+-- less is left, so no more is
+weakened : (m n : ℕ) → m < n → m ≤ n
+weakened m n h = omega (arith, h)
+
+-- the machine where a test that fails leads
+next_place : PieceData → ℕ → SymbolicMachine
+next_place p f = record p.machine { place = p.machine.place + 1 + f }
+
+-- over one test that fails
+over_one : (p : PieceData) (i : Insn) (known : Known) (f : ℕ) → IsLawfulPiece p
+    → p.machine.program < length p.stack → known ≡ known_at p.facts.known p.machine.a.0
+    → IsAt (code_at p) p.machine.place i → IsFailing i known f → HasGoneOn p (taken_on p false (next_place p f))
+unfolding next_place
+over_one p i known f h running is at fails =
+    let standing = at_hand p i h.run running at in
+    let always = told_of_known p Equal (Constant fails.number) fails.number known false h.run refl is fails.fails in
+    let fore = branch_foreseen p i Equal (Constant fails.number) fails.on_true f false fails.is standing always in
+    let after : AfterTruthValue p i false (next_place p f) =
+    branch_after p i Equal (Constant fails.number) fails.on_true f f false fails.is refl in
+    let gone = take_gone p i false (next_place p f) h.run standing fore after in
+    record {
+      is_on = gone.is_on;
+      left = weakened _ _ gone.falls;
+      lawful = lawful_taken p i false (next_place p f) h standing fore after;
+    }
+
+-- over none of them
+pub over_none : (p : PieceData) → IsLawfulPiece p → HasGoneOn p (behind_chain p 0 p.machine.place)
+over_none p h = subst (λ (l : List Bool). HasGoneOn p (record p { name = l })) (sym (append-nil p.name)) (gone_same p h)
+
+-- the place behind them is in the program
+pub inside_behind : (p : PieceData) (code : List Insn) (n place : ℕ) → IsCodeAtHand p code
+    → HasGoneOn p (behind_chain p n place) → place < length code
+inside_behind p code n place at gone =
+    let inside = place_inside (behind_chain p n place) gone.lawful.run at.running in
+    omega (arith, inside, ap length at.is)
+
+-- over one more
+pub over_one_more : (p : PieceData) (code : List Insn) (known : Known) (n place f next : ℕ) → IsCodeAtHand p code
+    → known ≡ known_at p.facts.known p.machine.a.0 → HasGoneOn p (behind_chain p n place)
+    → IsFailing (get_or code place (LoadWord 0)) known f → next ≡ place + (1 + f)
+    → HasGoneOn p (behind_chain p (n + 1) next)
+unfolding next_place
+over_one_more p code known n place f next at is gone fails leads =
+    let q = behind_chain p n place in
+    let i = get_or code place (LoadWord 0) in
+    let here = slice_get-get_or code place (LoadWord 0) (inside_behind p code n place at gone) in
+    let there : IsAt (code_at p) place i = subst (λ (c : List Insn). IsAt c place i) at.is here in
+    let once = over_one q i known f gone.lawful at.running is there fails in
+    let names : (p.name ++ replicate n false) ++ false ∷ [] ≡ p.name ++ replicate (n + 1) false =
+    append_assoc p.name (replicate n false) (false ∷ [])
+    ∙ ap (λ (l : List Bool). p.name ++ l) (replicate_more n false) in
+    let places : place + 1 + f ≡ next = omega (arith, leads) in
+    subst (λ (k : ℕ). HasGoneOn p (record p {
+      name = p.name ++ replicate (n + 1) false;
+      machine = record p.machine { place = k };
+    })) places (subst (λ (l : List Bool). HasGoneOn p (record p {
+      name = l;
+      machine = record p.machine { place = place + 1 + f };
+    })) names (gone_trans p q (taken_on q false (next_place q f)) gone once))

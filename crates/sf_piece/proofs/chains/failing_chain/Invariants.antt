@@ -1,0 +1,12 @@
+use Rattle.std.proofs.Common.{◌-◌, ◌≤◌, length}
+use Rattle.sf_piece.specs.Works.{HasGoneOn, behind_chain}
+use Rattle.sf_piece.proofs.chains.failing_chain.Given as goal
+
+abbrev pub invariant-loop-skips : goal.invariant-loop-skips
+invariant-loop-skips l = record {
+  gone : HasGoneOn l.fn.run (behind_chain l.fn.run l.count l.place);
+  few : l.count ≤ l.place;
+}
+
+abbrev pub decreases-loop-skips : goal.decreases-loop-skips
+decreases-loop-skips l = length l.code - l.place
