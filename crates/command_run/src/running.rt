@@ -45,6 +45,22 @@ pub fn run<R: Print + Threads + Wait + Sync + AllocGlobal>(
     show_end(rt, &err, status)
 }
 
+/// Runs a command line and shows how many bytes it writes.
+pub fn count<R: Print + Threads + Wait + Sync + AllocGlobal>(
+    rt: &R,
+    shelf: &mut Shelf,
+    line: &str,
+) -> Result<(), Fail> {
+    let alloc = rt.alloc();
+    let words = words_of(alloc, line)?;
+    let mut out = Vec::new(alloc);
+    let mut err = no_errors(alloc);
+    let status = command(rt, alloc, &words, shelf, &mut out, &mut err);
+    println!(rt; "$ {line}")?;
+    println!(rt; "{} bytes", out.len())?;
+    show_end(rt, &err, status)
+}
+
 /// What came of a command line over a limited writer.
 #[derive(Drop)]
 struct Ended {

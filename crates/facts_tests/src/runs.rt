@@ -156,8 +156,20 @@ fn the_longest_program_meets_each_of_its_tests(rt: HostRuntime) -> Result<(), Fa
     let course = walk(alloc, &check(alloc, &raws)?, &Input { words })?;
     assert_eq!(rt; course.met.len(), 4094);
     assert_eq!(rt; course.place, 4095);
-    let met = trace(alloc, &*stack_of(alloc, &[&raws])?, &Input { words })?;
-    assert_eq!(rt; met.len(), 4094);
+    Ok(())
+}
+
+/// As many of the longest programs as a path has room for.
+#[test]
+fn a_trace_has_the_tests_of_seven_of_the_longest_programs(rt: HostRuntime) -> Result<(), Fail> {
+    let alloc = rt.alloc();
+    let raws = telling_apart(alloc, 4094)?;
+    let stack = stack_of(alloc, &[raws.as_slice(); 7])?;
+    let mut words = [0; 16];
+    words[0] = 4000;
+    let met = trace(alloc, &stack, &Input { words })?;
+    assert_eq!(rt; met.len(), 28658);
     assert!(rt; met[4000] && !met[3999] && !met[4093]);
+    assert!(rt; met[28564] && !met[28563] && !met[28657]);
     Ok(())
 }

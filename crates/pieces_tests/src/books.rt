@@ -245,6 +245,28 @@ fn many_pieces_are_leased_in_name_order(rt: HostRuntime) -> Result<(), Fail> {
     Ok(())
 }
 
+/// What a fault says.
+fn text_of(alloc: Global, fault: Fault) -> Result<String, Fail> {
+    let mut text = String::new(alloc);
+    write!(&mut text, "{fault}")?;
+    Ok(text)
+}
+
+#[test]
+fn faults_say_what_is_wrong(rt: HostRuntime) -> Result<(), Fail> {
+    let cases = [
+        (Fault::Foreign, "another stack than the book's"),
+        (Fault::Stale, "no such piece is outstanding"),
+        (Fault::Spent, "the budget is spent"),
+        (Fault::Memory, "out of memory"),
+    ];
+    for (fault, said) in cases {
+        let text = text_of(rt.alloc(), fault)?;
+        assert!(rt; text.as_str() == said, "{text}");
+    }
+    Ok(())
+}
+
 #[test]
 fn faults_have_their_numbers(rt: HostRuntime) -> Result<(), Fail> {
     assert_eq!(rt; Fault::Foreign.number(), 30);

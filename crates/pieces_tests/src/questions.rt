@@ -1,7 +1,8 @@
 //! What a question keeps. Why one is refused, and what regions tell of it, stands among the command lines of
 //! `command_run`.
-use sf_ask::{ActionSet, Question};
+use sf_ask::{ActionSet, Fault, Question};
 use sf_run::Action;
+use std::alloc::Global;
 use std::test::Fail;
 
 /// Any number in each word.
@@ -23,5 +24,28 @@ fn keeps_what_it_was_given(rt: HostRuntime) -> Result<(), Fail> {
     assert!(rt; question.actions().has(Action::Allow));
     assert!(rt; !question.actions().has(Action::Errno));
     assert!(rt; !question.actions().has(Action::Other(0x00010000)));
+    Ok(())
+}
+
+/// What a fault says.
+fn text_of(alloc: Global, fault: Fault) -> Result<String, Fail> {
+    let mut text = String::new(alloc);
+    write!(&mut text, "{fault}")?;
+    Ok(text)
+}
+
+#[test]
+fn faults_say_what_is_wrong(rt: HostRuntime) -> Result<(), Fail> {
+    let cases = [
+        (Fault::Name, "the name is not 1 to 64 printable characters"),
+        (Fault::Range, "a range has no number"),
+        (Fault::Mask, "a value has a bit outside its mask"),
+        (Fault::Actions, "no action is named"),
+        (Fault::Memory, "out of memory"),
+    ];
+    for (fault, said) in cases {
+        let text = text_of(rt.alloc(), fault)?;
+        assert!(rt; text.as_str() == said, "{text}");
+    }
     Ok(())
 }

@@ -1,5 +1,5 @@
 //! Pieces and works of small stacks. What audits of such stacks find stands among the command lines of `command_run`.
-use samples::{eight_divided, execve_refused, stack_of, x32_refused};
+use samples::{eight_divided, emptied_late, execve_refused, stack_of, x32_refused};
 use sf_check::Stack;
 use sf_insn::Input;
 use sf_piece::{Piece, Step, advance, root};
@@ -9,7 +9,7 @@ use std::sync::Arc;
 use std::test::Fail;
 
 /// The whole names and answers of the regions, in name order: works piece after piece, the first name first, until none
-/// is left or so many were worked.
+/// is left or so many were worked. A work that doesn't settle tells no name.
 fn explored(
     alloc: Global,
     stack: &Arc<Stack>,
@@ -23,6 +23,9 @@ fn explored(
             break;
         };
         let (_piece, step, name) = advance(alloc, &piece)?.into_parts();
+        if !name.is_empty() && !matches!(step, Step::Settled(_)) {
+            return Err("a name of what didn't settle".into());
+        }
         match step {
             Step::Split(on_false, on_true) => {
                 open.push(on_true)?;
@@ -40,7 +43,8 @@ fn a_trace_is_the_name_of_one_region_with_the_answer(rt: HostRuntime) -> Result<
     let alloc = rt.alloc();
     let login = stack_of(alloc, &[&execve_refused(), &x32_refused()])?;
     let divided = stack_of(alloc, &[&eight_divided()])?;
-    for stack in [login, divided] {
+    let late = stack_of(alloc, &[&emptied_late()])?;
+    for stack in [login, divided, late] {
         let regions = explored(alloc, &stack, 1000)?;
         for (nr, arch, arg) in [
             (59, 0xC000003E, 0),
