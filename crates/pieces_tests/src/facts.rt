@@ -69,8 +69,9 @@ fn carried_facts_are_those_built_afresh(rt: HostRuntime) -> Result<(), Fail> {
     Ok(())
 }
 
-/// Node 18 of the pools of `eight_divided`: the words are 0 to 15, the constants 0 and 8 are 16 and 17.
-const QUOTIENT: NodeId = NodeId(18);
+/// Node 49 of the pools of `eight_divided`: the words are 0 to 15; then come 8, the 31 other numbers of one bit, of which
+/// a returned A may have each, and 0.
+const QUOTIENT: NodeId = NodeId(49);
 
 /// What is known of word 4, and of the quotient once there is one.
 fn write_known(text: &mut String, piece: &Piece) -> Result<(), Fail> {

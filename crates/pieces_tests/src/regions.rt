@@ -99,7 +99,8 @@ fn readers_tell_a_piece_and_a_work(rt: HostRuntime) -> Result<(), Fail> {
         assert_eq!(rt; first_sense(on_false), Some(false));
         assert_eq!(rt; first_sense(on_true), Some(true));
         assert_eq!(rt; on_true.facts().least(1), Some(0xC000003E));
-        assert_eq!(rt; on_true.pool().len(), 18);
+        // The words, the two numbers of the program, and 0.
+        assert_eq!(rt; on_true.pool().len(), 19);
         let settled = advance(alloc, on_false)?;
         assert!(rt; settled.children().is_none());
         assert!(rt; settled.name() == [false].as_slice());

@@ -11,6 +11,7 @@ mod fault;
 mod machine;
 mod name;
 mod nodes;
+mod numbers;
 mod piece;
 mod root_piece;
 mod run;
