@@ -57,8 +57,16 @@ kept-set slots os r i x e k = record {
   variables = λ j q l s. rw (length-set os r (variable_of i x), places-set os r i x e) (k.variables j q l s);
   within = λ j l. rw (places-set os r i x e) (k.within j (omega (arith, length-set os r (variable_of i x))));
   rising = λ j m a l. rw (places-set os r i x e) (k.rising j m a (omega (arith, length-set os r (variable_of i x))));
+  told = λ q l. rw (places-set os r i x e) (k.told q (omega (arith, length-set os r (variable_of i x))));
   numbers = k.numbers;
 }
+
+-- what is known of a variable is known at its place
+pub known-variable_at : (slots : List Slot) (os : List Variable) (r : ℕ) → AreKept slots os → r < length os
+    → known_at (known_by os slots) (slice_index (places_of os) r)
+    ≡ (get_or os r (variable_of 0 (known_of 0 0 0 0))).known
+known-variable_at slots os r k l = known-slot slots os (slice_index (places_of os) r) (k.within r l)
+    ∙ ap (slot_known os) (k.told r l)
 
 -- a variable's facts are written at its place
 pub known-set : (slots : List Slot) (os : List Variable) (r i : ℕ) (x : Known) → AreKept slots os → i < length slots
@@ -109,6 +117,8 @@ kept-number slots os c past k = record {
   ];
   within = λ r l. omega (arith, k.within r l, length_push slots (Number c));
   rising = k.rising;
+  told = λ r l. get_or_append_left slots (Number c ∷ []) (Number 0) (slice_index (places_of os) r) (k.within r l)
+      ∙ k.told r l;
   numbers = λ i d l e. elim (cases_lt i (length slots)) [
     | inl b ↦ k.numbers i d b (rw (get_or_append_left slots (Number c ∷ []) (Number 0) i b) at e)
     | inr g ↦ omega arith
@@ -167,6 +177,12 @@ kept-variable slots os x k = record {
     | inl b ↦ omega (arith, older j (omega arith), older m b, k.rising j m a b)
     | inr g ↦ (let rank : m ≡ length os = omega (arith, length_push os v) in
         rw rank (omega (arith, newest, older j (omega arith), k.within j (omega arith))))
+  ];
+  told = λ r l. elim (cases_lt r (length os)) [
+    | inl b ↦ rw (older r b) (get_or_append_left slots (VariableAt (length os) ∷ []) (Number 0)
+        (slice_index (places_of os) r) (k.within r b) ∙ k.told r b)
+    | inr g ↦ (let rank : r ≡ length os = omega (arith, length_push os v) in
+        rw (rank, newest) (get_or_push slots (VariableAt (length os)) (Number 0) (length slots) refl))
   ];
   numbers = λ i d l e. elim (cases_lt i (length slots)) [
     | inl b ↦ k.numbers i d b (rw (get_or_append_left slots (VariableAt (length os) ∷ []) (Number 0) i b) at e)

@@ -42,4 +42,5 @@ pub record AreKept (slots : List Slot) (os : List Variable) : Type 0 where
       × (slice_index (places_of os) r ≡ i)
   pub within : (r : ℕ) → r < length os → slice_index (places_of os) r < length slots
   pub rising : (j k : ℕ) → j < k → k < length os → slice_index (places_of os) j < slice_index (places_of os) k
+  pub told : (r : ℕ) → r < length os → slot_at slots (slice_index (places_of os) r) ≡ VariableAt r
   pub numbers : (i c : ℕ) → i < length slots → slot_at slots i ≡ Number c → 16 ≤ i

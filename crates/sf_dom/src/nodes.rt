@@ -1,15 +1,17 @@
 //! What is known of each node of a pool, kept so that forks share what can no longer change.
 
-ghost use Rattle.std.specs.Prelude.{◌≡◌, ◌<◌, ◌∷◌, ◌++◌, [], length, set, slice_index, IsTrue, IfOk, OnErr, ◌-◌};
+ghost use Rattle.std.specs.Prelude.{◌≡◌, ℕ, ◌<◌, ◌∷◌, ◌++◌, [], length, set, slice_index, IsTrue, IfOk, OnOk, OnErr, ◌-◌};
+ghost use Rattle.std.specs.Arc.{arc_value};
 ghost use Rattle.sf_dom.specs.Known.{IsDecided, known_of};
 ghost use Rattle.sf_dom.specs.Facts.{known_at};
-ghost use Rattle.sf_dom.specs.Nodes.{IsLaidOut};
+ghost use Rattle.sf_dom.specs.Nodes.{IsLaidOut, slot_at};
 
 use crate::fault::Fault;
 use crate::known::Known;
 use sf_blocks::shared::SharedList;
-use std::alloc::Global;
+use std::alloc::{AllocError, Global};
 use std::marker::Model;
+use std::sync::Arc;
 
 /// How many words an input has. They are the first nodes of each pool.
 pub(crate) const WORDS: usize = 16;
@@ -36,25 +38,30 @@ pub(crate) struct Variable {
     pub(crate) known: Known,
 }
 
+/// Where what is known of each node stands, oldest first.
+type Slots = SharedList<Slot, 1>;
+
 /// What is known of the nodes of a pool, oldest first. A node that comes with one number, as each constant does, is
-/// told in blocks that forks share. The others are the variables: they alone can gain, and may be gone over alone.
+/// told in its slot, and forks share the slots until one of them gets another node. The others are the variables: they
+/// alone can gain, and may be gone over alone.
 #[derive(Drop)]
 pub(crate) struct Nodes {
-    slots: SharedList<Slot, 1>,
+    slots: Arc<Slots>,
     variables: Vec<Variable>,
 }
 
 impl Model for Nodes {
+    ghost use Rattle.std.specs.Arc.{arc_value};
     ghost use Rattle.sf_dom.specs.Nodes.{NodesView, known_by, places_of, AreKept};
 
     ghost Value = { NodesView };
 
     ghost view = { λ n. record {
-      known = known_by n.variables.items n.slots;
+      known = known_by n.variables.items (arc_value n.slots);
       variables = places_of n.variables.items;
     } };
 
-    ghost invariant = { λ n. AreKept n.slots n.variables.items };
+    ghost invariant = { λ n. AreKept (arc_value n.slots) n.variables.items };
 }
 
 /// Whether a number is known in full.
@@ -65,13 +72,45 @@ fn is_number(known: Known) -> bool
     known == Known::exact(known.low)
 }
 
+/// The slot at a place.
+fn slot_of(slots: &Slots, i: usize) -> Slot
+    requires { i < length slots.now }
+    ensures { result ≡ slot_at slots.now i }
+{
+    slots.get(i)
+}
+
+/// A copy with one more slot.
+fn with_slot(alloc: Global, slots: &Slots, slot: Slot) -> Result<Arc<Slots>, AllocError>
+    ensures { IfOk result (λ r. arc_value r ≡ slots.now ++ slot ∷ []) }
+{
+    let mut copy = slots.fork()?;
+    copy.push(slot)?;
+    Ok(Arc::new(alloc, copy)?)
+}
+
+/// Adds a slot: to a copy where others share the slots, which keep what they have. `AllocError` where a growth is refused:
+/// nothing is added then.
+fn add_slot(alloc: Global, slots: &mut Arc<Slots>, slot: Slot) -> Result<(), AllocError>
+    ensures ok { OnOk result (arc_value slots.new ≡ arc_value slots.old ++ slot ∷ []) }
+    ensures err { OnErr result (arc_value slots.new ≡ arc_value slots.old) }
+{
+    match Arc::get_mut(slots) {
+        Some(alone) => alone.push(slot),
+        None => {
+            *slots = with_slot(alloc, slots, slot)?;
+            Ok(())
+        }
+    }
+}
+
 impl Nodes {
     /// No nodes. `Memory` where a growth is refused.
     pub(crate) fn new(alloc: Global) -> Result<Nodes, Fault>
         ensures { IfOk result (λ n. n.known ≡ []) }
     {
         Ok(Nodes {
-            slots: SharedList::new(alloc)?,
+            slots: Arc::new(alloc, SharedList::new(alloc)?)?,
             variables: Vec::new(alloc),
         })
     }
@@ -88,7 +127,7 @@ impl Nodes {
         requires { i < length self.now.known }
         ensures { result ≡ known_at self.now.known i }
     {
-        match self.slots.get(i) {
+        match slot_of(&self.slots, i) {
             Slot::Number(c) => Known::exact(c),
             Slot::Variable(rank) => self.variables[rank].known,
         }
@@ -110,6 +149,14 @@ impl Nodes {
         self.variables[rank].place
     }
 
+    /// What is known of a variable, the oldest at 0: what `get` tells of its place, in fewer steps.
+    pub(crate) fn variable_known(&self, rank: usize) -> Known
+        requires { rank < length self.now.variables }
+        ensures { result ≡ known_at self.now.known (slice_index self.now.variables rank) }
+    {
+        self.variables[rank].known
+    }
+
     /// Writes what is known of a node. One that has one number keeps it.
     pub(crate) fn set(&mut self, i: usize, known: Known)
         requires within { i < length self.old.known }
@@ -119,7 +166,7 @@ impl Nodes {
         ensures variables { self.new.variables ≡ self.old.variables }
         ensures laid_out { IsLaidOut self.new }
     {
-        if let Slot::Variable(rank) = self.slots.get(i) {
+        if let Slot::Variable(rank) = slot_of(&self.slots, i) {
             self.variables[rank] = Variable { place: i, known };
         }
     }
@@ -129,26 +176,27 @@ impl Nodes {
         ensures ok { IfOk result (λ _. self.new.known ≡ self.old.known ++ known ∷ []) }
         ensures err { OnErr result (self.new ≡ self.old) }
     {
+        let alloc = *self.variables.allocator();
         let place = self.slots.len();
         if place >= WORDS && is_number(known) {
-            self.slots.push(Slot::Number(known.low))?;
+            add_slot(alloc, &mut self.slots, Slot::Number(known.low))?;
             return Ok(());
         }
         let rank = self.variables.len();
         self.variables.push(Variable { place, known })?;
-        if let Err(error) = self.slots.push(Slot::Variable(rank)) {
+        if let Err(error) = add_slot(alloc, &mut self.slots, Slot::Variable(rank)) {
             self.variables.truncate(rank);
             return Err(error.into());
         }
         Ok(())
     }
 
-    /// The same again, with the shared blocks. `Memory` where a growth is refused.
+    /// The same again, with the shared slots. `Memory` where a growth is refused.
     pub(crate) fn fork(&self, alloc: Global) -> Result<Nodes, Fault>
         ensures { IfOk result (λ n. n ≡ self.now) }
     {
         Ok(Nodes {
-            slots: self.slots.fork()?,
+            slots: Arc::try_clone(&self.slots)?,
             variables: Vec::from_slice(alloc, self.variables.as_slice())?,
         })
     }

@@ -62,7 +62,7 @@ pub(crate) fn propagate(nodes: &mut Nodes, excluded: &Excluded, pool: &Pool) -> 
     let _count = pool.len();
     for rank in 0..nodes.variable_count() {
         let i = nodes.variable(rank);
-        let before = nodes.get(i);
+        let before = nodes.variable_known(rank);
         if i < WORDS && is_tight(before, excluded.of_word(i)) {
             continue;
         }

@@ -21,7 +21,8 @@ returns-in-None c = λ d p a.
     let agrees = inv.keeps d p a in
     let by_rule = rw c.node-node.ensures.node at
     (c.transfer.ensures.value d (values_of ns d) p (λ j l. (agrees j l).admitted)) in
-    let both = rw c.get-before.ensures at c.meet-known.ensures in
+    let before = c.variable_known-before.ensures ∙ ap (known_at n.known) (sym c.variable-i.ensures) in
+    let both = rw before at c.meet-known.ensures in
     let left = propagate-left n.known ex ns d i c.transfer.result c.meet-known.result
     c.node-node.ensures.lawful inv.ready.count
     below agrees by_rule both in
@@ -38,7 +39,7 @@ loop-rank-preserved c =
     let i = c.variable-i.result in
     let next = c.in-Some.next in
     let count = inv.ready.count in
-    let before = c.requires.ready.count in
+    let count_before = c.requires.ready.count in
     let told : rank < length n.variables = omega (
       arith,
       ap length inv.variables,
@@ -47,7 +48,8 @@ loop-rank-preserved c =
     let at : slice_index n.variables rank ≡ i = sym c.variable-i.ensures in
     let below : i < length n.known = omega (arith, inv.laid_out.within rank told, at) in
     let t = rw c.node-node.ensures.node at c.in-Some.ensures in
-    let both = rw c.get-before.ensures at c.meet-known.ensures in
+    let before = c.variable_known-before.ensures ∙ ap (known_at n.known) (sym c.variable-i.ensures) in
+    let both = rw before at c.meet-known.ensures in
     let narrower = IsNarrower-trans (known_at n.known i) c.meet-known.result next both.left t.narrower in
     let ready : IsReady m.known ns = rw c.set.ensures.known
     (IsReady-set n.known ns i next below inv.ready narrower t.consistent) in
@@ -89,7 +91,8 @@ loop-rank-preserved-then-is_tight c =
     let at : slice_index n.variables rank ≡ i = sym c.variable-i.ensures in
     let below : i < length n.known = omega (arith, inv.laid_out.within rank told, at) in
     let small : i < 16 = omega arith in
-    let tight = rw (c.get-before.ensures, c.of_word.ensures) at (c.is_tight.ensures c.if-is_tight.true) in
+    let before = c.variable_known-before.ensures ∙ ap (known_at n.known) (sym c.variable-i.ensures) in
+    let tight = rw (before, c.of_word.ensures) at (c.is_tight.ensures c.if-is_tight.true) in
     record {
       keeps = inv.keeps;
       narrower = inv.narrower;

@@ -1,64 +1,69 @@
-use Rattle.std.proofs.Common.{◌<◌, length, refl, sym, ap, ◌∙◌, arith}
-use Rattle.sf_dom.specs.declared.nodes.Slot.TheVariants.{Number}
+use Rattle.std.proofs.Common.{◌≡◌, ◌<◌, length, refl, sym, ap, ◌∙◌, arith}
+use Rattle.std.specs.Arc.{arc_value}
 use Rattle.sf_dom.specs.Known.{IsDecided}
 use Rattle.sf_dom.specs.Facts.{known_at}
-use Rattle.sf_dom.specs.Nodes.{slot_known, known_by}
+use Rattle.sf_dom.specs.Nodes.{slot_at, slot_known, known_by}
 use Rattle.sf_dom.proofs.Slots.{laid-out, known-length, known-slot, known-set, kept-set, places-set, number-set}
 use Rattle.sf_dom.proofs.nodes.Nodes.set.Goals as goal
 
 pub index_mut-requires : goal.index_mut-requires
 index_mut-requires c =
-    let slots = c.self.inside.slots in
+    let slots = arc_value c.self.inside.slots in
+    let found : c.slot_of.result ≡ slot_at slots c.args.i = rw c.deref.ensures at c.slot_of.ensures in
     let os = c.self.inside.variables.items in
     let within = rw (← c.self.view_is) at c.requires.within in
     let below : c.args.i < length slots = omega (arith, within, known-length slots os) in
     let kept = c.self.invariant.variables c.args.i c.in-Variable.rank below
-    (sym (c.get.ensures (Number 0)) ∙ c.in-Variable.is) in
+    (sym found ∙ c.in-Variable.is) in
     omega (arith, kept.0)
 
 pub invariant_of-self : goal.invariant_of-self
 invariant_of-self c =
-    let slots = c.self.inside.slots in
+    let slots = arc_value c.self.inside.slots in
+    let found : c.slot_of.result ≡ slot_at slots c.args.i = rw c.deref.ensures at c.slot_of.ensures in
     let os = c.self.inside.variables.items in
     let within = rw (← c.self.view_is) at c.requires.within in
     let below : c.args.i < length slots = omega (arith, within, known-length slots os) in
     let kept = c.self.invariant.variables c.args.i c.in-Variable.rank below
-    (sym (c.get.ensures (Number 0)) ∙ c.in-Variable.is) in
+    (sym found ∙ c.in-Variable.is) in
     kept-set slots os c.in-Variable.rank c.args.i c.args.known kept.1 c.self.invariant
 
 pub returns-in-Variable-clause-known : goal.returns-in-Variable-clause-known
 returns-in-Variable-clause-known c =
-    let slots = c.self.inside.slots in
+    let slots = arc_value c.self.inside.slots in
+    let found : c.slot_of.result ≡ slot_at slots c.args.i = rw c.deref.ensures at c.slot_of.ensures in
     let os = c.self.inside.variables.items in
     let within = rw (← c.self.view_is) at c.requires.within in
     let below : c.args.i < length slots = omega (arith, within, known-length slots os) in
     rw (← c.self.view_is) (known-set slots os c.in-Variable.rank c.args.i c.args.known c.self.invariant below
-    (sym (c.get.ensures (Number 0)) ∙ c.in-Variable.is))
+    (sym found ∙ c.in-Variable.is))
 
 pub returns-in-Variable-clause-variables : goal.returns-in-Variable-clause-variables
 returns-in-Variable-clause-variables c =
-    let slots = c.self.inside.slots in
+    let slots = arc_value c.self.inside.slots in
+    let found : c.slot_of.result ≡ slot_at slots c.args.i = rw c.deref.ensures at c.slot_of.ensures in
     let os = c.self.inside.variables.items in
     let within = rw (← c.self.view_is) at c.requires.within in
     let below : c.args.i < length slots = omega (arith, within, known-length slots os) in
     let kept = c.self.invariant.variables c.args.i c.in-Variable.rank below
-    (sym (c.get.ensures (Number 0)) ∙ c.in-Variable.is) in
+    (sym found ∙ c.in-Variable.is) in
     rw (← c.self.view_is) (places-set os c.in-Variable.rank c.args.i c.args.known kept.1)
 
 pub returns-in_default-clause-known : goal.returns-in_default-clause-known
 returns-in_default-clause-known c =
-    let slots = c.self.inside.slots in
+    let slots = arc_value c.self.inside.slots in
+    let found : c.slot_of.result ≡ slot_at slots c.args.i = rw c.deref.ensures at c.slot_of.ensures in
     let os = c.self.inside.variables.items in
     let i = c.args.i in
     let within = rw (← c.self.view_is) at c.requires.within in
     let below : i < length slots = omega (arith, within, known-length slots os) in
-    let here = known-slot slots os i below ∙ ap (slot_known os) (sym (c.get.ensures (Number 0)) ∙ c.in_default.is) in
+    let here = known-slot slots os i below ∙ ap (slot_known os) (sym found ∙ c.in_default.is) in
     let decided : IsDecided (known_at (known_by os slots) i) = rw here refl in
     rw (← c.self.view_is) (number-set slots os i c.args.known ((rw (← c.self.view_is) at c.requires.decided) decided))
 
 pub returns-in-Variable-clause-laid_out : goal.returns-in-Variable-clause-laid_out
-returns-in-Variable-clause-laid_out c = laid-out c.self.inside.slots _ (invariant_of-self c)
+returns-in-Variable-clause-laid_out c = laid-out (arc_value c.self.inside.slots) _ (invariant_of-self c)
 
 pub returns-in_default-clause-laid_out : goal.returns-in_default-clause-laid_out
 returns-in_default-clause-laid_out c = rw (← c.self.view_is)
-    (laid-out c.self.inside.slots c.self.inside.variables.items c.self.invariant)
+    (laid-out (arc_value c.self.inside.slots) c.self.inside.variables.items c.self.invariant)
