@@ -1,6 +1,6 @@
 //! Verdicts on regions.
 
-ghost use Rattle.std.specs.Prelude.{◌≡◌, ◌<◌, ℕ, true, List, length, slice_get, slice_index, Some, IfOk, IfErr, IsTrue, MatchOption};
+ghost use Rattle.std.specs.Prelude.{◌≡◌, ◌<◌, ℕ, true, List, length, slice_get, slice_index, Some, IfOk, IfErr, IfSome, IsTrue, MatchOption};
 ghost use Rattle.std.specs.Arc.{arc_value};
 ghost use Rattle.sf_insn.specs.Inputs.{IsInput};
 ghost use Rattle.sf_insn.specs.declared.input.Input.{Input as AnInput};
@@ -34,11 +34,27 @@ fn least_input(facts: &Facts) -> Option<Input>
     Some(Input { words })
 }
 
+/// Whether the input meets every condition, where these are on words and numbers alone, as most are: no other node is
+/// computed. None where one is on a computed word.
+fn meets_leaves(piece: &Piece, input: &Input) -> Option<bool>
+    ensures { IfSome result (λ b. b ≡ is_member piece.now input.now) }
+{
+    for i in 0..piece.cond_count() {
+        if !piece.pool().holds_of_leaves(&piece.cond(i), input)? {
+            return Some(false);
+        }
+    }
+    Some(true)
+}
+
 /// Whether the input is a member of the piece: it meets every condition.
 fn is_member_of(alloc: Global, piece: &Piece, input: &Input) -> Result<bool, Fault>
     ensures tells { IfOk result (λ b. b ≡ is_member piece.now input.now) }
     ensures err { IfErr result (λ f. f ≡ Memory) }
 {
+    if let Some(is_member) = meets_leaves(piece, input) {
+        return Ok(is_member);
+    }
     let values = piece.pool().values(alloc, input)?;
     for i in 0..piece.cond_count() {
         if !piece.cond(i).is_met(values.as_slice()) {

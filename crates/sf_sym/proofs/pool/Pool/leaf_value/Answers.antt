@@ -1,0 +1,21 @@
+use Rattle.std.proofs.Common.{◌≡◌, sym, ap, ◌∙◌, take}
+use Rattle.sf_sym.specs.Pool.{node_at, node_value, values_of}
+use Rattle.sf_sym.specs.declared.pool.Node.TheVariants.{Const}
+use Rattle.sf_sym.specs.ValueLaws.{value-last}
+use Rattle.sf_sym.proofs.pool.Pool.leaf_value.Goals as goal
+
+pub returns-in-Const : goal.returns-in-Const
+returns-in-Const c =
+    let ns = c.args.self.now in
+    let d = c.args.input.now in
+    let i = c.args.id.0 in
+    sym (value-last ns d i c.requires
+    ∙ ap (node_value d (values_of (take i ns) d)) (sym c.node.ensures.node ∙ c.in-Const.is))
+
+pub returns-in-Word : goal.returns-in-Word
+returns-in-Word c =
+    let ns = c.args.self.now in
+    let d = c.args.input.now in
+    let i = c.args.id.0 in
+    sym (value-last ns d i c.requires
+    ∙ ap (node_value d (values_of (take i ns) d)) (sym c.node.ensures.node ∙ c.in-Word.is))
