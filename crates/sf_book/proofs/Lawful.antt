@@ -49,6 +49,27 @@ below_without : (b : BookData) (i k : ℕ) (e : OutstandingData) → IsLawfulBoo
 below_without b i k e h l a = rw (remove_without b.outstanding i e h.ids l)
     (All-filter _ (λ f. f.id < k) b.outstanding a)
 
+-- how many of the pieces that are left have the input, and how many names that are left begin the list
+members_left : (b : BookData) (p : PieceData) (i : ℕ) (e : OutstandingData) → IsLawfulBook b → IsReplaced b p i e
+    → (d : Input) → IsInput d → sum_by (λ x. bit (is_member x.piece d)) (remove b.outstanding i) + bit (is_member p d)
+    ≡ sum_by (λ x. bit (is_member x.piece d)) b.outstanding
+members_left b p i e h r d n =
+    let m : OutstandingData → ℕ = λ x. bit (is_member x.piece d) in
+    let out : sum_by m (remove b.outstanding i) + m (get_or b.outstanding i e) ≡ sum_by m b.outstanding =
+    sum_by-remove m b.outstanding i e r.there in
+    let same : m (get_or b.outstanding i e) ≡ bit (is_member p d) = ap bit (same_there b p i e h r d n) in
+    omega arith
+
+names_left : (b : BookData) (p : PieceData) (i : ℕ) (e : OutstandingData) → IsReplaced b p i e → (l : List Bool)
+    → sum_by (λ x. hits x.piece.name l) (remove b.outstanding i) + hits p.name l
+    ≡ sum_by (λ x. hits x.piece.name l) b.outstanding
+names_left b p i e r l =
+    let m : OutstandingData → ℕ = λ x. hits x.piece.name l in
+    let out : sum_by m (remove b.outstanding i) + m (get_or b.outstanding i e) ≡ sum_by m b.outstanding =
+    sum_by-remove m b.outstanding i e r.there in
+    let same : m (get_or b.outstanding i e) ≡ hits p.name l = ap (λ n. hits n l) r.same_name in
+    omega arith
+
 abbrev pub leased_piece : ℕ → PieceData → OutstandingData
 leased_piece k p = record { id = k; piece = p; leased = true }
 
@@ -78,25 +99,21 @@ split_lawful b p f t i j k e h r s below jk =
       regions = h.regions;
       one = λ d n.
           let m : OutstandingData → ℕ = λ x. bit (is_member x.piece d) in
-          let out : sum_by m es + m (get_or b.outstanding i e) ≡ sum_by m b.outstanding =
-          sum_by-remove m b.outstanding i e r.there in
+          let out : sum_by m es + bit (is_member p d) ≡ sum_by m b.outstanding = members_left b p i e h r d n in
           let first : sum_by m (es ++ F ∷ []) ≡ sum_by m es + m F = sum_by_push m es F in
           let second : sum_by m ((es ++ F ∷ []) ++ T ∷ []) ≡ sum_by m (es ++ F ∷ []) + m T =
           sum_by_push m (es ++ F ∷ []) T in
           let both : m F + m T ≡ bit (is_member p d) = split_members p f t r.named s d n in
-          let same : m (get_or b.outstanding i e) ≡ bit (is_member p d) = ap bit (same_there b p i e h r d n) in
           let before = h.one d n in
           omega arith;
       emptied = h.emptied;
       apart = λ l.
           let m : OutstandingData → ℕ = λ x. hits x.piece.name l in
-          let out : sum_by m es + m (get_or b.outstanding i e) ≡ sum_by m b.outstanding =
-          sum_by-remove m b.outstanding i e r.there in
+          let out : sum_by m es + hits p.name l ≡ sum_by m b.outstanding = names_left b p i e r l in
           let first : sum_by m (es ++ F ∷ []) ≡ sum_by m es + m F = sum_by_push m es F in
           let second : sum_by m ((es ++ F ∷ []) ++ T ∷ []) ≡ sum_by m (es ++ F ∷ []) + m T =
           sum_by_push m (es ++ F ∷ []) T in
           let both : m F + m T ≤ hits p.name l = split_names p f t s l in
-          let same : m (get_or b.outstanding i e) ≡ hits p.name l = ap (λ n. hits n l) r.same_name in
           let before = h.apart l in
           omega arith;
       pieces = let before = h.pieces in omega arith;
@@ -130,21 +147,17 @@ answer_lawful b p n a i e h r s =
       one = λ d k.
           let m : OutstandingData → ℕ = λ x. bit (is_member x.piece d) in
           let g : RegionData → ℕ = λ x. bit (is_member x.piece d) in
-          let out : sum_by m es + m (get_or b.outstanding i e) ≡ sum_by m b.outstanding =
-          sum_by-remove m b.outstanding i e r.there in
+          let out : sum_by m es + bit (is_member p d) ≡ sum_by m b.outstanding = members_left b p i e h r d k in
           let added : sum_by g (b.regions ++ R ∷ []) ≡ sum_by g b.regions + g R = sum_by_push g b.regions R in
-          let same : m (get_or b.outstanding i e) ≡ bit (is_member p d) = ap bit (same_there b p i e h r d k) in
           let before = h.one d k in
           omega arith;
       emptied = h.emptied;
       apart = λ l.
           let m : OutstandingData → ℕ = λ x. hits x.piece.name l in
           let g : RegionData → ℕ = λ x. hits x.name l in
-          let out : sum_by m es + m (get_or b.outstanding i e) ≡ sum_by m b.outstanding =
-          sum_by-remove m b.outstanding i e r.there in
+          let out : sum_by m es + hits p.name l ≡ sum_by m b.outstanding = names_left b p i e r l in
           let added : sum_by g (b.regions ++ R ∷ []) ≡ sum_by g b.regions + g R = sum_by_push g b.regions R in
           let less : hits n l ≤ hits p.name l = hits-le p.name n l (answer_begins p n a s) in
-          let same : m (get_or b.outstanding i e) ≡ hits p.name l = ap (λ q. hits q l) r.same_name in
           let before = h.apart l in
           omega arith;
       pieces = let before = h.pieces in omega arith;
@@ -174,9 +187,7 @@ empty_lawful b p i e h r s =
       regions = h.regions;
       one = λ d k.
           let m : OutstandingData → ℕ = λ x. bit (is_member x.piece d) in
-          let out : sum_by m es + m (get_or b.outstanding i e) ≡ sum_by m b.outstanding =
-          sum_by-remove m b.outstanding i e r.there in
-          let same : m (get_or b.outstanding i e) ≡ bit (is_member p d) = ap bit (same_there b p i e h r d k) in
+          let out : sum_by m es + bit (is_member p d) ≡ sum_by m b.outstanding = members_left b p i e h r d k in
           let none : bit (is_member p d) ≡ 0 = ap bit (s.none d k) in
           let before = h.one d k in
           omega arith;
@@ -184,11 +195,9 @@ empty_lawful b p i e h r s =
       apart = λ l.
           let m : OutstandingData → ℕ = λ x. hits x.piece.name l in
           let g : List Bool → ℕ = λ x. hits x l in
-          let out : sum_by m es + m (get_or b.outstanding i e) ≡ sum_by m b.outstanding =
-          sum_by-remove m b.outstanding i e r.there in
+          let out : sum_by m es + hits p.name l ≡ sum_by m b.outstanding = names_left b p i e r l in
           let added : sum_by g (b.emptied ++ p.name ∷ []) ≡ sum_by g b.emptied + g p.name =
           sum_by_push g b.emptied p.name in
-          let same : m (get_or b.outstanding i e) ≡ hits p.name l = ap (λ q. hits q l) r.same_name in
           let before = h.apart l in
           omega arith;
       pieces = let before = h.pieces in omega arith;
