@@ -1,5 +1,5 @@
 -- What a book keeps through its calls.
-use Rattle.std.proofs.Common.{◌≡◌, ℕ, zero, suc, ◌⊎◌, inl, inr, ⊎_elim, cond, drop, length-append, ◌+◌, ◌==◌, ◌<◌, ◌≤◌, Bool, true, false, List, [], ◌∷◌, ◌++◌, length, map, get_or, refl, sym, ◌∙◌, ap, subst, arith, append_assoc, Option, Some}
+use Rattle.std.proofs.Common.{◌≡◌, ℕ, zero, suc, ◌⊎◌, inl, inr, ⊎_elim, cond, length-append, ◌+◌, ◌==◌, ◌<◌, ◌≤◌, Bool, true, false, List, [], ◌∷◌, ◌++◌, length, map, get_or, refl, sym, ◌∙◌, ap, subst, arith, append_assoc, Option, Some}
 use Rattle.std.specs.List.{All, remove, HoldsAt, sum_by}
 use Rattle.std.proofs.lemmas.List.Sums.{sum_by-remove, sum_by-cons}
 use Rattle.std.proofs.lemmas.List.Elements.{All-push, All-map, All-filter, All-cons, All-nil}
@@ -14,7 +14,7 @@ use Rattle.sf_book.proofs.Names.{prefix-append}
 use Rattle.sf_book.proofs.MapLemmas.{some_inj}
 use Rattle.sf_piece.specs.Pieces.{PieceData, WorkData, is_prefix, IsTrulyNamed, IsRightSplit, IsRightAnswer, HasNoMember, IsRoot}
 use Rattle.sf_book.specs.Books.{OutstandingData, BookData, IsLawfulBook, IsKept, fresh}
-use Rattle.sf_book.specs.Changes.{outstanding_at, without, MayCommit, IsStale, Refuses}
+use Rattle.sf_book.specs.Changes.{outstanding_at, without, MayCommit, Refuses}
 use Rattle.sf_book.specs.declared.fault.Fault.{Fault}
 use Rattle.sf_book.specs.declared.fault.Fault.TheVariants.{Memory}
 use Rattle.std.specs.Prelude.{Result, Ok, Err, IfErr}
@@ -113,10 +113,6 @@ no_child b p i d n h l is begins other = λ j e lj same.
     let before = h.apart n in
     absurd (omega arith)
 
-last_differs : (xs : List Bool) → xs ++ false ∷ [] ≡ xs ++ true ∷ [] → ⊥
-last_differs [] h = cc
-last_differs (x ∷ xs) h = last_differs xs (ap (drop 1) h)
-
 longer : (xs on : List Bool) (b : Bool) → xs ≡ xs ++ on ++ b ∷ [] → ⊥
 longer xs on b h =
     let len = ap length h in
@@ -134,9 +130,6 @@ new_names b p f t i d h l is s = λ j e lj. (
   no_child b p i d t.name h l is (rw s.true_name (rw append_assoc (prefix-append p.name (s.on ++ true ∷ []))))
       (λ k. longer p.name s.on true (k ∙ s.true_name)) j e lj,
 )
-
-pub two_names : (p f t : PieceData) → IsRightSplit p f t → f.name ≡ t.name → ⊥
-two_names p f t s h = last_differs (p.name ++ s.on) (sym s.false_name ∙ (h ∙ s.true_name))
 
 -- where the piece under an id is
 find_place : (es : List OutstandingData) (id : ℕ) (x : OutstandingData) → outstanding_at id es ≡ Some x → (i : ℕ)
@@ -176,12 +169,6 @@ low_id b next id w h m =
     let low : (get_or b.outstanding r.0 m.under_id).id < next = h.below r.0 m.under_id r.1.there in
     let is = r.1.has_id m.under_id in
     omega arith
-
--- the piece under the id has another name
-pub stale_name : (es : List OutstandingData) (id : ℕ) (e : OutstandingData) (w : WorkData)
-    → outstanding_at id es ≡ Some e
-    → (e.piece.name ≡ w.piece.name → ⊥) → IsStale id es w
-stale_name es id e w at other = rw at other
 
 -- what a commit replaces, from the place that was found
 pub replaced : (b : BookData) (id : ℕ) (w : WorkData) (i : ℕ) (d : OutstandingData) → IsPlace b.outstanding id w i

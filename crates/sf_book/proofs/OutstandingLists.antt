@@ -15,8 +15,9 @@ use Rattle.std.proofs.lemmas.Simd.{map-map}
 use Rattle.std.proofs.lemmas.List.{map-append}
 use Rattle.std.proofs.lemmas.List.Elements.{All-head, All-tail, All-nil, All-cons}
 use Rattle.sf_piece.specs.Pieces.{PieceData}
-use Rattle.sf_book.specs.Books.{OutstandingData, HasRisingIds}
+use Rattle.sf_book.specs.Books.{OutstandingData}
 use Rattle.sf_book.specs.Changes.{outstanding_at, with_lease_at, without}
+use Rattle.sf_book.specs.ChangeLaws.{all_at}
 use Rattle.sf_book.specs.OutstandingMaps.{name_cmp, piece_at, lease_state_of, outstanding_of, outstanding_list, AreMatchingMaps}
 use Rattle.sf_book.specs.declared.outstanding.LeaseState.{LeaseState}
 use Rattle.sf_book.proofs.Lists.{without-above}
@@ -41,20 +42,6 @@ absent_id (e ∷ ids) i h =
     let low : e.0 < i = All-head P e ids h in
     rw (id_no i e.0 (λ k. let e = k in omega arith)) (absent_id ids i (All-tail P e ids h))
 
-head_or_tail : (b : Bool) (a n : OutstandingData) (o : Option OutstandingData) → cond b (Some a) o ≡ Some n
-    → (a ≡ n) ⊎ (o ≡ Some n)
-head_or_tail true a n o h = inl (some_inj a n h)
-head_or_tail false a n o h = inr h
-
-found_all : (P : OutstandingData → Type 0) (es : List OutstandingData) (i : ℕ) (x : OutstandingData) → All P es
-    → outstanding_at i es ≡ Some x → P x
-found_all P [] i x h at = absurd (cc)
-found_all P (e ∷ es) i x h at =
-    ⊎_elim
-    (λ (k : e ≡ x). subst P k (All-head P e es h))
-    (λ (k : outstanding_at i es ≡ Some x). found_all P es i x (All-tail P e es h) k)
-    (head_or_tail (e.id == i) e x (outstanding_at i es) at)
-
 -- nothing stands under a name that no piece has
 pub absent_name : (ids : Ids) (names : Names) (p : PieceData) → AreMatchingMaps ids names
     → All (λ e. e.piece.name ≢ p.name) (outstanding_list ids names) → lease_state_of names p ≡ None
@@ -64,7 +51,7 @@ absent_name ids names p h apart = go (lease_state_of names p) refl
     go None is = is
     go (Some m) is =
         let r = h.known p m is in
-        absurd (found_all (λ e. e.piece.name ≢ p.name) (outstanding_list ids names) m.id
+        absurd (all_at (λ e. e.piece.name ≢ p.name) (outstanding_list ids names) m.id
         (outstanding_of names (m.id, r.0)) apart
         (entry_at_is ids names m.id ∙ ap (option_map (λ q. outstanding_of names (m.id, q))) r.1) r.2)
 
@@ -217,15 +204,6 @@ rising_above i (e ∷ ids) names h = (below i e.0 h.0, rising_above i ids names 
     below : (i j : ℕ) → nat_cmp i j ≡ Less → i < j
     below i j h = grind (arith, nat_tests)
 
--- the ids rise
-pub maps_ascending : (ids : Ids) (names : Names) → IsStrictlySortedBy nat_cmp (keys_of ids)
-    → HasRisingIds (outstanding_list ids names)
-maps_ascending [] names h = tt
-maps_ascending (e ∷ ids) names h = (
-  rising_above e.0 ids names (sorted_head nat_cmp e.0 (keys_of ids) h),
-  maps_ascending ids names (sorted_tail nat_cmp e.0 (keys_of ids) h),
-)
-
 removed_view : (ids : Ids) (names : Names) (i : ℕ) → IsStrictlySortedBy nat_cmp (keys_of ids)
     → outstanding_list (remove_entry (is_at (nat_cmp i)) ids) names ≡ without i (outstanding_list ids names)
 removed_view [] names i h = refl
@@ -254,25 +232,23 @@ taken_view ids names i p ids' names' h a is =
     ∙ (ap (λ l. outstanding_list l names) is ∙ removed_view ids names i h.rising)
 
 -- an id that no piece has
+none_at : (e : OutstandingData) (es : List OutstandingData) (i : ℕ) → outstanding_at i (e ∷ es) ≡ None
+    → ((e.id == i) ≡ false) × (outstanding_at i es ≡ None)
+none_at e es i h = go (e.id == i) refl h
+  where
+    go : (b : Bool) → (e.id == i) ≡ b → cond b (Some e) (outstanding_at i es) ≡ None
+        → ((e.id == i) ≡ false) × (outstanding_at i es ≡ None)
+    go true is k = absurd (cc)
+    go false is k = (is, k)
+
 pub without_none : (es : List OutstandingData) (i : ℕ) → outstanding_at i es ≡ None → without i es ≡ es
 without_none [] i h = refl
-without_none (e ∷ es) i h = go (e.id == i) h (without_none es i)
-  where
-    go : (b : Bool) → cond b (Some e) (outstanding_at i es) ≡ None → (outstanding_at i es ≡ None → without i es ≡ es)
-        → cond (not b) (e ∷ without i es) (without i es) ≡ e ∷ es
-    go true k next = absurd (cc)
-    go false k next = ap (λ l. e ∷ l) (next k)
+without_none (e ∷ es) i h = let k = none_at e es i h in rw k.0 (ap (λ l. e ∷ l) (without_none es i k.1))
 
 pub same_none : (es : List OutstandingData) (i : ℕ) (on : Bool) → outstanding_at i es ≡ None
     → map (with_lease_at i on) es ≡ es
 same_none [] i on h = refl
-same_none (e ∷ es) i on h = go (e.id == i) h (same_none es i on)
-  where
-    go : (b : Bool) → cond b (Some e) (outstanding_at i es) ≡ None
-        → (outstanding_at i es ≡ None → map (with_lease_at i on) es ≡ es)
-        → record { id = e.id; piece = e.piece; leased = cond b on e.leased } ∷ map (with_lease_at i on) es ≡ e ∷ es
-    go true k next = absurd (cc)
-    go false k next = ap (λ l. e ∷ l) (next k)
+same_none (e ∷ es) i on h = let k = none_at e es i h in rw k.0 (ap (λ l. e ∷ l) (same_none es i on k.1))
 
 -- all ids of the view are below
 below_ids : (ids : Ids) (names : Names) (i : ℕ) → All (λ e. e.id < i) (outstanding_list ids names)
@@ -333,16 +309,6 @@ pub without_last : (es : List OutstandingData) (x : OutstandingData) → All (λ
     → without x.id (es ++ x ∷ []) ≡ es
 without_last es x h = without_append x.id es (x ∷ [])
     ∙ (rw (without_low x.id es h, num_yes x.id x.id refl, append-nil) refl)
-
--- one out below two new ones
-pub without_below : (i : ℕ) (es : List OutstandingData) (x y : OutstandingData) → i < x.id → i < y.id
-    → without i ((es ++ x ∷ []) ++ y ∷ []) ≡ (without i es ++ x ∷ []) ++ y ∷ []
-without_below i es x y lx ly =
-    without_append i (es ++ x ∷ []) (y ∷ []) ∙ (rw (
-      without_append i es (x ∷ []),
-      num_no x.id i (λ k. let e = k in omega arith),
-      num_no y.id i (λ k. let e = k in omega arith),
-    ) refl)
 
 -- the pieces stand in the order of their ids
 pub piece_place : (ids : List (ℕ × PieceData)) (names : List (PieceData × LeaseState)) (i : ℕ) (p : PieceData)

@@ -10,7 +10,7 @@ use Rattle.sf_book.specs.declared.fault.Fault.{Fault}
 use Rattle.sf_book.specs.declared.fault.Fault.TheVariants.{Foreign, Stale, Spent, Memory}
 
 -- what holds of all outstanding pieces holds of the one under an id
-all_at : (P : OutstandingData → Type 0) (es : List OutstandingData) (id : ℕ) (e : OutstandingData) → All P es
+pub all_at : (P : OutstandingData → Type 0) (es : List OutstandingData) (id : ℕ) (e : OutstandingData) → All P es
     → outstanding_at id es ≡ Some e → P e
 all_at P [] id e h at = absurd cc
 all_at P (x ∷ es) id e h at = by (x.id == id) at (All-head P x es h) (λ k. all_at P es id e (All-tail P x es h) k)
@@ -21,7 +21,7 @@ all_at P (x ∷ es) id e h at = by (x.id == id) at (All-head P x es h) (λ k. al
     by false at here rest = rest at
 
 -- the piece under an id, on lease
-leased_at : (es : List OutstandingData) (id : ℕ) (e : OutstandingData) → outstanding_at id es ≡ Some e
+pub leased_at : (es : List OutstandingData) (id : ℕ) (e : OutstandingData) → outstanding_at id es ≡ Some e
     → outstanding_at id (map (with_lease_at id true) es) ≡ Some (with_lease_at id true e)
 leased_at [] id e at = absurd cc
 leased_at (x ∷ es) id e at = by (x.id == id) at (λ k. leased_at es id e k)
