@@ -1,12 +1,10 @@
 -- What the bytes of filter files spell, and why they are refused.
-use Rattle.std.proofs.Common.{◌≡◌, ◌≢◌, ◌==◌, false, ◌⊎◌, inl, inr, ℕ, ◌+◌, ◌*◌, ◌%◌, ◌<◌, ◌≤◌, List, [], ◌∷◌, ◌++◌, length, take, map, suc, Vec, Global, Err, Result, get_or, ◌∙◌, refl, ap, sym, arith}
+use Rattle.std.proofs.Common.{◌≡◌, ◌==◌, false, ◌⊎◌, inl, inr, ℕ, ◌+◌, ◌<◌, ◌≤◌, List, [], ◌∷◌, ◌++◌, length, take, map, suc, Vec, Global, Err, Result, get_or, ◌∙◌, refl, ap, sym, arith}
 use Rattle.std.proofs.lemmas.List.{take_more, get_or-map, length-map}
 use Rattle.std.proofs.lemmas.Option.{slice_get_read}
 use Rattle.sf_check.specs.Stacks.{path_length}
 use Rattle.sf_check.specs.declared.stack.Stack.{Stack}
 use Rattle.sf_insn.specs.declared.raw.RawInsn.{RawInsn}
-use Rattle.sf_insn.specs.declared.fault.Fault.{Fault as DecodeFault}
-use Rattle.sf_insn.specs.declared.fault.Fault.TheVariants as decode
 use Rattle.sf_insn.specs.Spelling.{spelling, AreInsns}
 use Rattle.sf_check.specs.declared.insn.Insn.{Insn}
 use Rattle.sf_check.specs.declared.fault.Fault.{Fault as CheckFault}
@@ -15,18 +13,8 @@ use Rattle.sf_check.specs.Programs.{SpellsProgram}
 use Rattle.sf_check.specs.Refusals.{IsFirstFault}
 use Rattle.sf_audit.specs.declared.fault.Fault.{Fault}
 use Rattle.sf_audit.specs.declared.fault.Fault.TheVariants as faults
-use Rattle.sf_audit.specs.FaultPlaces.{decode_fault, check_fault}
+use Rattle.sf_audit.specs.FaultPlaces.{check_fault}
 use Rattle.sf_audit.specs.Filters.{SpellPrograms, IsRefusalOf, AreFew, SpellLongPath, IsFileRefusal, IsFirstRefusal}
-
-pub undecodable_due : (number : ℕ) (bytes : List ℕ) (e : DecodeFault)
-    → (e ≡ decode.Ragged → length bytes % 8 ≢ 0)
-    → (e ≡ decode.Empty → length bytes ≡ 0)
-    → (e ≡ decode.TooLong → (length bytes % 8 ≡ 0) × (8 * 4096 < length bytes))
-    → (decode_fault number e ≡ faults.Memory) ⊎ IsRefusalOf number bytes (decode_fault number e)
-undecodable_due number bytes decode.Ragged ragged empty long = inr (refl, ragged refl)
-undecodable_due number bytes decode.Empty ragged empty long = inr (refl, empty refl)
-undecodable_due number bytes decode.TooLong ragged empty long = inr (refl, (long refl).0, (long refl).1)
-undecodable_due number bytes decode.Memory ragged empty long = inl refl
 
 pub unlawful_due : (number : ℕ) (bytes : List ℕ) (raws : List RawInsn) (e : CheckFault)
     → AreInsns raws → bytes ≡ spelling raws → 0 < length raws → length raws ≤ 4096

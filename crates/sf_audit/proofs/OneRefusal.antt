@@ -30,50 +30,30 @@ data Kind (number : ℕ) (bytes : List ℕ) (e : Fault) : Type 0 where
   long : e ≡ faults.TooLong number → length bytes % 8 ≡ 0 → 8 * 4096 < length bytes → Kind number bytes e
   spoken : Spoken number bytes e → Kind number bytes e
 
+spoken_of : (number : ℕ) (bytes : List ℕ) (e : Fault) (fault : CheckFault) (spelled : SpellsFault bytes fault)
+    → 0 < length spelled.raws → length spelled.raws ≤ 4096 → e ≡ check_fault number fault → Kind number bytes e
+spoken_of number bytes e fault spelled some short is =
+    spoken (record { fault = fault; spelled = spelled; some = some; short = short; is = is })
+
 kind_of : (number : ℕ) (bytes : List ℕ) (e : Fault) → IsRefusalOf number bytes e → Kind number bytes e
 kind_of number bytes (faults.Ragged f) r = ragged (ap faults.Ragged r.0) r.1
 kind_of number bytes (faults.Empty f) r = empty (ap faults.Empty r.0) r.1
 kind_of number bytes (faults.TooLong f) r = long (ap faults.TooLong r.0) r.1 r.2
 kind_of number bytes (faults.Code f at) r =
-    spoken (record {
-      fault = check.Code at;
-      spelled = r.1;
-      some = r.1.first.0.some;
-      short = r.1.first.0.short;
-      is = ap (λ n. faults.Code n at) r.0;
-    })
+    spoken_of number bytes (faults.Code f at) (check.Code at) r.1 r.1.first.0.some r.1.first.0.short
+    (ap (λ n. faults.Code n at) r.0)
 kind_of number bytes (faults.Field f at) r =
-    spoken (record {
-      fault = check.Field at;
-      spelled = r.1;
-      some = r.1.first.0.some;
-      short = r.1.first.0.short;
-      is = ap (λ n. faults.Field n at) r.0;
-    })
+    spoken_of number bytes (faults.Field f at) (check.Field at) r.1 r.1.first.0.some r.1.first.0.short
+    (ap (λ n. faults.Field n at) r.0)
 kind_of number bytes (faults.Jump f at) r =
-    spoken (record {
-      fault = check.Jump at;
-      spelled = r.1;
-      some = r.1.first.0.some;
-      short = r.1.first.0.short;
-      is = ap (λ n. faults.Jump n at) r.0;
-    })
-kind_of number bytes (faults.Last f) r = spoken
-    (record {
-      fault = check.Last;
-      spelled = r.1;
-      some = r.1.first.0.some;
-      short = r.1.first.0.short;
-      is = ap faults.Last r.0;
-    })
+    spoken_of number bytes (faults.Jump f at) (check.Jump at) r.1 r.1.first.0.some r.1.first.0.short
+    (ap (λ n. faults.Jump n at) r.0)
+kind_of number bytes (faults.Last f) r =
+    spoken_of number bytes (faults.Last f) check.Last r.1 r.1.first.0.some r.1.first.0.short
+    (ap faults.Last r.0)
 kind_of number bytes (faults.Scratch f at) r =
-    spoken (record {
-      fault = check.Scratch at;
-      spelled = r.1;
-      some = r.1.first.0.some;
-      short = r.1.first.0.short;
-      is = ap (λ n. faults.Scratch n at) r.0;
-    })
+    spoken_of number bytes (faults.Scratch f at) (check.Scratch at) r.1 r.1.first.0.some r.1.first.0.short
+    (ap (λ n. faults.Scratch n at) r.0)
 kind_of number bytes _ r = absurd r
 
 -- how long the bytes of instructions with a fault are
