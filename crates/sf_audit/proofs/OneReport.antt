@@ -16,7 +16,7 @@ use Rattle.sf_run.specs.AnswerLaws.{one}
 use Rattle.sf_run.specs.Feasible.{IsFeasible, input_of, feasible_traces}
 use Rattle.sf_run.specs.FeasibleLaws.{feasible_are}
 use Rattle.sf_run.specs.InputLaws.{contains_map}
-use Rattle.sf_piece.specs.Pieces.{is_member, is_prefix}
+use Rattle.sf_piece.specs.Pieces.{is_prefix}
 use Rattle.sf_book.specs.declared.book.Counts.{Counts}
 use Rattle.sf_book.specs.Books.{RegionData, BookData, IsRightRegion, IsLawfulBook, counts_of}
 use Rattle.sf_book.specs.Exact.{IsWorkedOff}
@@ -29,7 +29,7 @@ use Rattle.sf_ask.specs.Verdicts.{IsMemberAt, IsBreakAt, IsFirstBreak, IsLeastEx
 use Rattle.sf_crew.specs.Sweeps.{IsReplyTo, IsRightReplyAt, AreRightReplies}
 use Rattle.sf_audit.specs.Audits.{IsAudit}
 use Rattle.sf_audit.specs.Outcomes.{Found}
-use Rattle.sf_audit.specs.Reports.{line, size_line, name_text, action_text, region_line, region_lines, shown_lines, title_line, counts_line, question_lines, totals_line, head_text, report_text}
+use Rattle.sf_audit.specs.Reports.{line, size_line, name_text, action_text, region_line, region_lines, title_line, counts_line, question_lines, totals_line, report_text}
 use Rattle.sf_audit.proofs.RefusalLemmas.{OneStack}
 
 -- the names of regions, in order
@@ -97,8 +97,7 @@ member_too b c h i d m =
     let right' = right_at c i t.region h.lawful' t.there in
     let begins : is_prefix m.region.name (trace_of b.stack d) ≡ true = sym (right.members d m.input) ∙ m.member in
     let named : is_prefix t.region.name (trace_of c.stack d) ≡ is_prefix m.region.name (trace_of b.stack d) =
-    ap (λ (n : List Bool). is_prefix n (trace_of c.stack d)) t.name
-    ∙ ap (λ (s : List (List Insn)). is_prefix m.region.name (trace_of s d)) (sym h.stack) in
+    λ j. is_prefix (t.name j) (trace_of (sym h.stack j) d) in
     record { region = t.region; there = t.there; input = m.input; member = right'.members d m.input ∙ named ∙ begins }
 
 break_too : (b c : BookData) → AreAlike b c → (i : ℕ) (q : QuestionData) (d : Input) → IsBreakAt b i q d
@@ -210,8 +209,7 @@ abbrev told : ℕ → List Bool → Answer → List ℕ
 told n name a = line (codes "region" ∷ decimal n ∷ name_text name ∷ action_text a.action ∷ decimal a.info ∷ [])
 
 same_line : (n : ℕ) (r s : RegionData) → r.name ≡ s.name → r.answer ≡ s.answer → region_line n r ≡ region_line n s
-same_line n r s name answer = ap (λ (t : List Bool). told n t r.answer) name
-    ∙ ap (λ (a : Answer). told n s.name a) answer
+same_line n r s name answer = λ j. told n (name j) (answer j)
 
 same_lines : (n : ℕ) (rs ss : List RegionData) → names rs ≡ names ss
     → ((i : ℕ) (r s : RegionData) → slice_get rs i ≡ Some r → slice_get ss i ≡ Some s → r.answer ≡ s.answer)
@@ -223,17 +221,10 @@ same_lines n (r ∷ rs) (s ∷ ss) e each =
     let first : r.name ≡ s.name = cc in
     let rest : names rs ≡ names ss = cc in
     let lines = same_lines (n + 1) rs ss rest (λ i x y at at'. each (suc i) x y at at') in
-    ap (λ (l : List ℕ). l ++ region_lines (n + 1) rs) (same_line n r s first (each 0 r s refl refl))
-    ∙ ap (λ (l : List ℕ). region_line n s ++ l) lines
+    let here = same_line n r s first (each 0 r s refl refl) in
+    λ j. here j ++ lines j
 
 -- ---- the same counts
-
-abbrev count : ℕ → ℕ → ℕ → ℕ → ℕ → Counts
-count l s e p c = record { left = l; settled = s; emptied = e; splits = p; commits = c }
-
-count_is : {l l' s s' e e' p p' c c' : ℕ} → l ≡ l' → s ≡ s' → e ≡ e' → p ≡ p' → c ≡ c'
-    → count l s e p c ≡ count l' s' e' p' c'
-count_is a b d e f = cc
 
 same_counts : (b c : BookData) → AreAlike b c → counts_of b ≡ counts_of c
 same_counts b c h =
@@ -249,19 +240,19 @@ same_counts b c h =
     let emptied : length b.emptied ≡ length c.emptied = ap length (h.worked.emptied ∙ sym h.worked'.emptied) in
     let splits_too : b.splits ≡ c.splits = omega arith in
     let commits_too : b.commits ≡ c.commits = omega arith in
-    count_is left settled emptied splits_too commits_too
+    λ j. record {
+      left = left j;
+      settled = settled j;
+      emptied = emptied j;
+      splits = splits_too j;
+      commits = commits_too j;
+    }
 
 -- ---- the same report
 
 abbrev head : List (List Insn) → ℕ → Counts → List ℕ
 head stack questions counts = title_line ++ (size_line (length stack) (path_length stack) questions
     ++ counts_line counts)
-
-abbrev whole : List ℕ → List ℕ → List ℕ → List ℕ → List ℕ
-whole a b c d = a ++ (b ++ (c ++ d))
-
-whole_is : {a a' b b' c c' d d' : List ℕ} → a ≡ a' → b ≡ b' → c ≡ c' → d ≡ d' → whole a b c d ≡ whole a' b' c' d'
-whole_is p q r s = cc
 
 -- what two audits of the files ended with is alike
 alike : OneStack → (files : List (List ℕ)) (questions : List QuestionData) (m n : ℕ) (o p : Found)
@@ -291,17 +282,9 @@ same_report one_stack files questions m n o p f g plain none none' shown =
     subst (λ (qs : List QuestionData). AreRightReplies p.settled qs p.replies) (sym asked) g.found.replies in
     let replies : o.replies ≡ p.replies = same_replies o.settled p.settled h plain o.questions o.replies p.replies
     f.found.replies theirs in
-    let heads : head o.settled.stack (length o.questions) (counts_of o.settled)
-    ≡ head p.settled.stack (length p.questions) (counts_of p.settled) =
-    ap (λ (s : List (List Insn)). head s (length o.questions) (counts_of o.settled)) h.stack
-    ∙ (ap (λ (qs : List QuestionData). head p.settled.stack (length qs) (counts_of o.settled)) asked
-    ∙ ap (λ (c : Counts). head p.settled.stack (length p.questions) c) (same_counts o.settled p.settled h)) in
-    let answers : question_lines 1 o.questions o.replies ≡ question_lines 1 p.questions p.replies =
-    ap (λ (qs : List QuestionData). question_lines 1 qs o.replies) asked
-    ∙ ap (λ (rs : List Reply). question_lines 1 p.questions rs) replies in
+    let counts = same_counts o.settled p.settled h in
     let regions : region_lines 1 o.settled.regions ≡ region_lines 1 p.settled.regions =
     same_lines 1 o.settled.regions p.settled.regions (same_names o.settled p.settled h)
     (same_answer o.settled p.settled h) in
-    let shown_regions : shown_lines shown o.settled.regions ≡ shown_lines shown p.settled.regions =
-    ap (λ (l : List ℕ). if shown then l else []) regions in
-    whole_is heads answers shown_regions (ap (λ (rs : List Reply). totals_line rs) replies)
+    λ j. head (h.stack j) (length (asked j)) (counts j) ++ (question_lines 1 (asked j) (replies j)
+    ++ ((if shown then regions j else []) ++ totals_line (replies j)))
