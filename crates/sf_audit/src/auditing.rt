@@ -19,7 +19,7 @@ fn crew_fault(fault: sf_crew::Fault) -> Fault
 {
     match fault {
         sf_crew::Fault::Memory => Fault::Memory,
-        _ => Fault::Foreign,
+        sf_crew::Fault::Foreign | sf_crew::Fault::Stale | sf_crew::Fault::Spent => Fault::Foreign,
     }
 }
 
