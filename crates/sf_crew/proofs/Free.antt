@@ -1,5 +1,5 @@
 -- Pieces on lease through a turn.
-use Rattle.std.proofs.Common.{◌≡◌, ℕ, ◌<◌, ◌==◌, Bool, true, false, not, cond, List, [], ◌∷◌, ◌++◌, map, Option, Some, None, MatchOption, refl, ◌∙◌, ap, subst, arith, inl}
+use Rattle.std.proofs.Common.{◌≡◌, ℕ, ◌<◌, ◌==◌, Bool, true, false, not, cond, List, [], ◌∷◌, ◌++◌, map, Option, Some, None, MatchOption, refl, ◌∙◌, ap, arith, inl}
 use Rattle.std.specs.List.{All}
 use Rattle.std.proofs.lemmas.Bool.Decides.{nat_tests}
 use Rattle.std.specs.Arc.{arc_value}
@@ -9,6 +9,7 @@ use Rattle.std.proofs.lemmas.List.Elements.{All-head, All-tail, All-cons, All-ni
 use Rattle.sf_piece.specs.Pieces.{PieceData, StepData, WorkData, Split, Settled, Empty, children_of}
 use Rattle.sf_book.specs.Books.{OutstandingData, BookData, IsLawfulBook, IsOutstanding}
 use Rattle.sf_book.specs.Changes.{outstanding_at, with_lease_at, with_lease, without, CommitsAs, Leases, MayCommit}
+use Rattle.sf_book.specs.ChangeLaws.{all_at, leased_at}
 use Rattle.sf_book.specs.declared.book.Lease.{Lease}
 use Rattle.sf_crew.specs.Explorations.{IsExhausted, IsFree, IsOnlyLease, MayWork, IsSameExploration, GoesOn}
 
@@ -42,17 +43,10 @@ left_free id (e ∷ es) h =
 leased_there : (es : List OutstandingData) (id : ℕ) (p : PieceData)
     → outstanding_at id es ≡ Some (record { id = id; piece = p; leased = false })
     → outstanding_at id (map (with_lease_at id true) es) ≡ Some (record { id = id; piece = p; leased = true })
-leased_there [] id p at = absurd cc
-leased_there (x ∷ es) id p at = by (x.id == id) at (leased_there es id p)
-  where
-    by : (b : Bool) → cond b (Some x) (outstanding_at id es) ≡ Some (record { id = id; piece = p; leased = false })
-        → (outstanding_at id es ≡ Some (record { id = id; piece = p; leased = false })
-        → outstanding_at id (map (with_lease_at id true) es) ≡ Some (record { id = id; piece = p; leased = true }))
-        → cond b (Some (record { id = x.id; piece = x.piece; leased = cond b true x.leased }))
-        (outstanding_at id (map (with_lease_at id true) es)) ≡ Some (record { id = id; piece = p; leased = true })
-    by true at rest = ap (λ (k : OutstandingData). Some (record { id = k.id; piece = k.piece; leased = true }))
-        (same_Some x (record { id = id; piece = p; leased = false }) at)
-    by false at rest = rest at
+leased_there es id p at =
+    let same : (id == id) ≡ true = grind (arith, nat_tests) in
+    leased_at es id (record { id = id; piece = p; leased = false }) at
+    ∙ ap (λ (b : Bool). Some (record { id = id; piece = p; leased = cond b true false })) same
 
 pub only_leased : (b c : BookData) (x : Lease) → IsFree b.outstanding → Leases b x.id (arc_value x.piece) c
     → IsOnlyLease c x
@@ -77,22 +71,12 @@ leased_or_end b c (Some x) free room h = record { lease = only_leased b c x free
 
 -- ---- a commit of the leased piece's work
 
-entry_all : (P : OutstandingData → Type 0) (es : List OutstandingData) (id : ℕ) (e : OutstandingData) → All P es
-    → outstanding_at id es ≡ Some e → P e
-entry_all P [] id e h at = absurd cc
-entry_all P (x ∷ es) id e h at = by (x.id == id) at (All-head P x es h) (λ k. entry_all P es id e (All-tail P x es h) k)
-  where
-    by : (b : Bool) → cond b (Some x) (outstanding_at id es) ≡ Some e → P x
-        → (outstanding_at id es ≡ Some e → P e) → P e
-    by true at here rest = subst P (same_Some x e at) here
-    by false at here rest = rest at
-
 -- it is of the book's stack, and of the piece under the lease's id
 pub may_commit : (b : BookData) (x : Lease) (w : WorkData) → IsLawfulBook b → MayWork b x
     → w.piece ≡ arc_value x.piece → MayCommit b x.id w
 may_commit b x w h m is =
     let e : OutstandingData = record { id = x.id; piece = arc_value x.piece; leased = true } in
-    let o : IsOutstanding b.stack e = entry_all (IsOutstanding b.stack) b.outstanding x.id e h.outstanding
+    let o : IsOutstanding b.stack e = all_at (IsOutstanding b.stack) b.outstanding x.id e h.outstanding
     m.lease.there in
     record {
       same_stack = ap (λ (q : PieceData). q.stack) is ∙ o.of;
@@ -107,12 +91,6 @@ pub goes_one : (b c : BookData) (x : Lease) (p : PieceData) (n : List Bool) (s :
 goes_one b c x p n (Split f t) m k = absurd k
 goes_one b c x p n (Settled a) m k = rw k (record { commits = refl; only = m.lease.others })
 goes_one b c x p n Empty m k = rw k (record { commits = refl; only = m.lease.others })
-
-pub split_has_child : (b c : BookData) (id : ℕ) (ids : ℕ × ℕ) (p : PieceData) (n : List Bool) (s : StepData)
-    → CommitsAs b id p n s (Some ids) c → None ≡ option_map (λ k. k.0) (children_of s) → ⊥
-split_has_child b c id ids p n (Split f t) k none = cc
-split_has_child b c id ids p n (Settled a) k none = k
-split_has_child b c id ids p n Empty k none = k
 
 -- ---- a split, after which the second child is given back
 

@@ -1,5 +1,5 @@
 -- What a worker's turn does to the handles of benches.
-use Rattle.std.proofs.Common.{◌≡◌, ◌⊎◌, ⊎_elim, ℕ, zero, suc, ◌<◌, Bool, List, [], ◌∷◌, arith, get_or, set, slice_get, length, Some, None, refl, ap, subst}
+use Rattle.std.proofs.Common.{◌≡◌, ◌⊎◌, ⊎_elim, ℕ, zero, suc, ◌<◌, List, [], ◌∷◌, arith, get_or, set, slice_get, length, Some, refl, ap}
 use Rattle.std.specs.Arc.{arc_value}
 use Rattle.std.proofs.lemmas.Option.{same_Some}
 use Rattle.std.proofs.lemmas.List.{map-set}
@@ -8,26 +8,12 @@ use Rattle.crossbeam_deque.specs.Steals.{MatchSteal}
 use Rattle.crossbeam_deque.specs.declared.steal.Steal.{Steal}
 use Rattle.crossbeam_deque.specs.declared.steal.Steal.TheVariants as steal
 use Rattle.sf_piece.specs.Pieces.{PieceData, StepData, Split, Settled, Empty, children_of}
-use Rattle.sf_book.specs.Books.{BookData}
-use Rattle.sf_book.specs.Changes.{CommitsAs}
 use Rattle.sf_book.specs.declared.book.Lease.{Lease}
 use Rattle.sf_crew.specs.declared.benches.history.HandleView.{HandleView}
 use Rattle.sf_crew.specs.declared.benches.handles.Thief.{Thief}
 use Rattle.sf_crew.specs.History.{Gets, AllGot}
 use Rattle.sf_crew.specs.Benches.{thief_view}
 use Rattle.sf_crew.specs.Workers.{thief_views, GetsOne, PutsOrNot, PutsChildren}
-
--- a commit that tells no ids was of no split
-pub no_split : (b c : BookData) (id : ℕ) (p : PieceData) (n : List Bool) (s : StepData) (v : HandleView)
-    → CommitsAs b id p n s None c → PutsChildren v s v
-no_split b c id p n (Split f t) v h = absurd h
-no_split b c id p n (Settled a) v h = refl
-no_split b c id p n Empty v h = refl
-
-pub no_children : (s : StepData) (v : HandleView) → None ≡ children_of s → PutsChildren v s v
-no_children (Split f t) v e = absurd cc
-no_children (Settled a) v e = refl
-no_children Empty v e = refl
 
 -- both pieces of a split were put
 pub both_put : (s : StepData) (x y : Lease) (v u w : HandleView)
@@ -69,8 +55,3 @@ one_stolen ts i t d x lt got = record {
   gets = got;
   rest = map-set thief_view ts i t;
 }
-
--- the same after some did nothing
-pub later_stolen : (old ts : List Thief) (vs : List HandleView) (x : Lease) → thief_views ts ≡ thief_views old
-    → GetsOne (thief_views ts) x vs → GetsOne (thief_views old) x vs
-later_stolen old ts vs x same got = subst (λ us. GetsOne us x vs) same got
