@@ -1,7 +1,8 @@
 //! One worker, with no thread.
+use crate::kit::anything;
 use samples::{ALLOW, execve_stack, op, stack_of, telling_apart};
 use sf_check::Stack;
-use sf_crew::{Fault, Gate, Open, explore};
+use sf_crew::{Fault, Gate, Open, explore, sweep};
 use std::alloc::Global;
 use std::sync::atomic::{AtomicUsize, Ordering};
 use std::sync::{Arc, Wait};
@@ -13,6 +14,21 @@ use std::thread::Threads;
 struct Counting {
     calls: AtomicUsize,
     strays: AtomicUsize,
+}
+
+impl Counting {
+    fn new() -> Counting {
+        Counting {
+            calls: AtomicUsize::new(0),
+            strays: AtomicUsize::new(0),
+        }
+    }
+
+    /// The calls, and the strays among them.
+    fn seen(&self) -> (usize, usize) {
+        let calls = self.calls.load(Ordering::SeqCst);
+        (calls, self.strays.load(Ordering::SeqCst))
+    }
 }
 
 impl Gate for Counting {
@@ -31,13 +47,9 @@ fn calls_and_commits<R: Threads + Wait + Sync>(
     stack: Arc<Stack>,
     budget: u32,
 ) -> Result<(usize, usize, u32), Fail> {
-    let gate = Counting {
-        calls: AtomicUsize::new(0),
-        strays: AtomicUsize::new(0),
-    };
+    let gate = Counting::new();
     let settled = explore(rt, alloc, stack, budget, 1, &gate)?;
-    let calls = gate.calls.load(Ordering::SeqCst);
-    let strays = gate.strays.load(Ordering::SeqCst);
+    let (calls, strays) = gate.seen();
     Ok((calls, strays, settled.counts().commits))
 }
 
@@ -49,6 +61,22 @@ fn the_gate_sees_each_commit(rt: HostRuntime) -> Result<(), Fail> {
     assert_eq!(rt; ample, (5, 0, 5));
     let spent = calls_and_commits(&rt, alloc, stack, 3)?;
     assert_eq!(rt; spent, (3, 0, 3));
+    let hundred = stack_of(alloc, &[&telling_apart(alloc, 100)?])?;
+    let many = calls_and_commits(&rt, alloc, hundred, 1000)?;
+    assert_eq!(rt; many, (201, 0, 201));
+    Ok(())
+}
+
+/// 100 numbers in a region each, and one of all others.
+#[test]
+fn the_gate_sees_each_sheet(rt: HostRuntime) -> Result<(), Fail> {
+    let alloc = rt.alloc();
+    let stack = stack_of(alloc, &[&telling_apart(alloc, 100)?])?;
+    let settled = explore(&rt, alloc, stack, 201, 1, &Open)?;
+    let gate = Counting::new();
+    let replies = sweep(&rt, alloc, &settled, &[anything(alloc)?], 1, &gate)?;
+    assert_eq!(rt; replies.len(), 1);
+    assert_eq!(rt; gate.seen(), (101, 0));
     Ok(())
 }
 

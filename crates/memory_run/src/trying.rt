@@ -1,6 +1,6 @@
 //! Pools and facts of pieces, and what becomes of them where a growth is refused.
 
-ghost use Rattle.std.specs.Prelude.{length};
+ghost use Rattle.std.specs.Prelude.{◌<◌, length, IfSome};
 ghost use Rattle.sf_sym.specs.Pool.{IsCondBelow};
 ghost use Rattle.sf_dom.specs.Facts.{Covers};
 
@@ -140,6 +140,18 @@ fn grow(alloc: Global, tally: &mut Tally, piece: &Piece) -> Result<(), Refused> 
     Ok(())
 }
 
+/// The node of the number 0, which the pool of each piece has.
+fn zero_of(pool: &Pool) -> Option<NodeId>
+    ensures { IfSome result (λ id. id.0 < length pool.now) }
+{
+    for i in 0..pool.len() {
+        if pool.node(NodeId(i)) == Node::Const(0) {
+            return Some(NodeId(i));
+        }
+    }
+    None
+}
+
 /// Learns of a fork of the piece's facts that word 3 is even, at most 1000 and not 0, which leaves 2 as the least
 /// number; and whether word 0 may be above word 1. The piece reads no word 3.
 pub fn try_facts(alloc: Global, tally: &mut Tally, piece: &Piece) -> Result<bool, Refused> {
@@ -149,14 +161,17 @@ pub fn try_facts(alloc: Global, tally: &mut Tally, piece: &Piece) -> Result<bool
         tally.expect(false);
         return Ok(false);
     }
-    tally.expect(pool.node(NodeId(16)) == Node::Const(0));
+    let Some(zero) = zero_of(pool) else {
+        tally.expect(false);
+        return Ok(false);
+    };
     let mut facts = piece.facts().fork(alloc)?;
     let is_low = confine(alloc, tally, &mut facts, pool)?;
     let is_even = confine_bits(alloc, tally, &mut facts, pool)?;
     let not_0 = Cond {
         node: NodeId(3),
         test: Test::Equal,
-        other: NodeId(16),
+        other: zero,
         sense: false,
     };
     let is_more = learn(alloc, tally, &mut facts, pool, &not_0)?;
