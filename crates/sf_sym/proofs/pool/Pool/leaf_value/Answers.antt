@@ -4,16 +4,16 @@ use Rattle.sf_sym.specs.declared.pool.Node.TheVariants.{Const}
 use Rattle.sf_sym.specs.ValueLaws.{value-last}
 use Rattle.sf_sym.proofs.pool.Pool.leaf_value.Goals as goal
 
-pub returns-in-Const : goal.returns-in-Const
-returns-in-Const c =
+pub returns-in-Const-clause-value : goal.returns-in-Const-clause-value
+returns-in-Const-clause-value c =
     let ns = c.args.self.now in
     let d = c.args.input.now in
     let i = c.args.id.0 in
     sym (value-last ns d i c.requires
     ∙ ap (node_value d (values_of (take i ns) d)) (sym c.node.ensures.node ∙ c.in-Const.is))
 
-pub returns-in-Word : goal.returns-in-Word
-returns-in-Word c =
+pub returns-in-Word-clause-value : goal.returns-in-Word-clause-value
+returns-in-Word-clause-value c =
     let ns = c.args.self.now in
     let d = c.args.input.now in
     let i = c.args.id.0 in
