@@ -33,6 +33,17 @@ pub walked-step : (ks : List Known) (ns : List Node) (at x c : ℕ) (op : BinOp)
 walked-step ks ns at x c op e h more zero = tt
 walked-step ks ns at x c op e h more (suc n) = rw e (λ s. (h, more n))
 
+-- and the other way: its node's bits are the operand's, and what goes back from there has gone
+pub walked-hands : (ks : List Known) (ns : List Node) (at x c : ℕ) (op : BinOp)
+    → constant_operand_of ns (node_at ns at) ≡ Some (op, x, c) → IsSwappable op
+    → ((n : ℕ) → IsPropagatedBack n ks ns at) → HandsOn op c (known_at ks at) (known_at ks x)
+walked-hands ks ns at x c op e s h = ((rw e at (h 1)) s).0
+
+pub walked-on : (ks : List Known) (ns : List Node) (at x c : ℕ) (op : BinOp)
+    → constant_operand_of ns (node_at ns at) ≡ Some (op, x, c) → IsSwappable op
+    → ((n : ℕ) → IsPropagatedBack n ks ns at) → (n : ℕ) → IsPropagatedBack n ks ns x
+walked-on ks ns at x c op e s h n = ((rw e at (h (suc n))) s).1
+
 -- backward propagation ends where no operand alone is a constant
 pub walked-end : (ks : List Known) (ns : List Node) (at : ℕ) → constant_operand_of ns (node_at ns at) ≡ None → (n : ℕ)
     → IsPropagatedBack n ks ns at

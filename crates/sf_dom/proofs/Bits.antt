@@ -149,6 +149,13 @@ bits-of-or a b i = rw (bit_at_or a b i) (omega arith)
 pub bits-of-or_right : (a b : ℕ) → AreBitsOf b (bit_or a b)
 bits-of-or_right a b i = rw (bit_at_or a b i) (omega arith)
 
+-- bits that are there add nothing
+pub or-same : (a b : ℕ) → AreBitsOf b a → bit_or a b ≡ a
+or-same a b h = same_from_bits (bit_or a b) a (λ i. bit_at_or a b i ∙ max_of _ _ (h i))
+  where
+    max_of : (a b : ℕ) → b ≤ a → max a b ≡ a
+    max_of a b l = omega arith
+
 -- and leave room for the known zeros
 pub zeros-le : (n z o : ℕ) → n < 2 ^ 32 → z < 2 ^ 32 → HasBits n z o → n ≤ 4294967295 - z
 zeros-le n z o ln lz h =

@@ -12,3 +12,4 @@ pub mod Sampled
 pub mod Masks
 pub mod Assumed
 pub mod AscendingLemmas
+pub mod Tellings

@@ -26,6 +26,7 @@ fn with_bits(known: Known, zeros: u32, ones: u32) -> Known
     ensures admits { (x : ℕ) → Admits known x → HasBits x zeros ones → Admits result x }
     ensures more { AreBitsOf zeros result.zeros × AreBitsOf ones result.ones }
     ensures narrower { IsNarrower known result }
+    ensures same { AreBitsOf zeros known.zeros → AreBitsOf ones known.ones → result ≡ known }
 {
     Known {
         zeros: known.zeros | zeros,
@@ -42,6 +43,7 @@ pub(crate) fn backward(op: BinOp, node: Known, c: u32, operand: Known) -> Option
     ensures none { result ≡ None → ¬ IsSwappable op }
     ensures told { IfSome result (λ g. HandsOn op c node g) }
     ensures narrower { IfSome result (λ g. IsNarrower operand g) }
+    ensures same { IfSome result (λ g. HandsOn op c node operand → g ≡ operand) }
 {
     match op {
         BinOp::And => Some(with_bits(operand, node.zeros & c, node.ones)),

@@ -1,6 +1,6 @@
 //! What is known of a node tells whether it passes a test against a number, and nothing could be learnt from that.
 
-ghost use Rattle.std.specs.Prelude.{◌≡◌, ◌≢◌, ℕ, ◌<◌, ◌≤◌, ◌-◌, length, Contains, MatchBool, IfSome, IsTrue, bit_and, true, false};
+ghost use Rattle.std.specs.Prelude.{◌≡◌, ◌≢◌, ℕ, ◌<◌, ◌≤◌, ◌-◌, ◌↔◌, ◌⊎◌, length, Contains, MatchBool, MatchOption, IfSome, IfNone, IsTrue, bit_and, true, false};
 ghost use Rattle.sf_insn.specs.Inputs.{IsInput};
 ghost use Rattle.sf_insn.specs.Words.{passes};
 ghost use Rattle.sf_insn.specs.declared.input.Input.{Input};
@@ -10,6 +10,7 @@ ghost use Rattle.sf_dom.specs.Known.{Admits, HasBits};
 ghost use Rattle.sf_dom.specs.Propagation.{TestGives};
 ghost use Rattle.sf_dom.specs.Backward.{IsPropagatedBack};
 ghost use Rattle.sf_dom.specs.Facts.{known_at, excluded_of, AgreesWith};
+ghost use Rattle.sf_dom.specs.Telling.{IsOpen, IsOpenAt};
 
 use crate::assuming::{backward, constant_operand};
 use crate::exclusions::Excluded;
@@ -20,7 +21,8 @@ use sf_sym::{Node, NodeId, Pool};
 
 /// Whether a word equals a number, where its interval tells it.
 fn told_equal(known: Known, number: u32) -> Option<bool>
-    ensures { IfSome result (λ b. (x : ℕ) → Admits known x → TestGives Test.Equal x number b) }
+    ensures { MatchOption result (IsOpen Test.Equal known number)
+        (λ b. (x : ℕ) → Admits known x → TestGives Test.Equal x number b) }
 {
     if number < known.low || known.high < number {
         return Some(false);
@@ -33,7 +35,8 @@ fn told_equal(known: Known, number: u32) -> Option<bool>
 
 /// Whether a word is greater than a number, where its interval tells it.
 fn told_greater(known: Known, number: u32) -> Option<bool>
-    ensures { IfSome result (λ b. (x : ℕ) → Admits known x → TestGives Test.Greater x number b) }
+    ensures { MatchOption result (IsOpen Test.Greater known number)
+        (λ b. (x : ℕ) → Admits known x → TestGives Test.Greater x number b) }
 {
     if number < known.low {
         return Some(true);
@@ -46,8 +49,8 @@ fn told_greater(known: Known, number: u32) -> Option<bool>
 
 /// Whether a word is at least a number, where its interval tells it.
 fn told_at_least(known: Known, number: u32) -> Option<bool>
-    ensures { IfSome result (λ b. (x : ℕ) → Admits known x
-        → TestGives Test.GreaterOrEqual x number b) }
+    ensures { MatchOption result (IsOpen Test.GreaterOrEqual known number)
+        (λ b. (x : ℕ) → Admits known x → TestGives Test.GreaterOrEqual x number b) }
 {
     if number <= known.low {
         return Some(true);
@@ -60,7 +63,8 @@ fn told_at_least(known: Known, number: u32) -> Option<bool>
 
 /// Whether a word has a common bit with a number, where its known bits tell it.
 fn told_common(known: Known, number: u32) -> Option<bool>
-    ensures { IfSome result (λ b. (x : ℕ) → Admits known x → TestGives Test.AnyBit x number b) }
+    ensures { MatchOption result (IsOpen Test.AnyBit known number)
+        (λ b. (x : ℕ) → Admits known x → TestGives Test.AnyBit x number b) }
 {
     if known.ones & number != 0 {
         return Some(true);
@@ -76,7 +80,8 @@ impl Known {
     /// facts keep them, both ends are numbers that are left for the word, so a result that they tell moves no end and adds
     /// no bit, and the other one leaves no number.
     pub fn told(&self, test: Test, number: u32) -> Option<bool>
-        ensures { IfSome result (λ b. (x : ℕ) → Admits self.now x → passes test x number ≡ b) }
+        ensures { MatchOption result (IsOpen test self.now number)
+            (λ b. (x : ℕ) → Admits self.now x → passes test x number ≡ b) }
     {
         match test {
             Test::Equal => told_equal(*self, number),
@@ -90,7 +95,7 @@ impl Known {
 /// Whether a number is excluded for a node.
 fn is_excluded(excluded: &Excluded, node: Node, number: u32) -> bool
     requires word { (i : ℕ) → node ≡ Node.Word i → i < 16 }
-    ensures { IsTrue result → Contains (excluded_of excluded.now node) number }
+    ensures { IsTrue result ↔ Contains (excluded_of excluded.now node) number }
 {
     match node {
         Node::Word(i) => excluded.of_word(i as usize).has(number),
@@ -102,7 +107,7 @@ fn is_excluded(excluded: &Excluded, node: Node, number: u32) -> bool
 fn are_propagated_back(nodes: &Nodes, pool: &Pool, from: usize) -> bool
     requires count { length nodes.now.known ≡ length pool.now }
     requires start { from < length pool.now }
-    ensures { IsTrue result → (n : ℕ) → IsPropagatedBack n nodes.now.known pool.now from }
+    ensures { IsTrue result ↔ ((n : ℕ) → IsPropagatedBack n nodes.now.known pool.now from) }
 {
     let mut at = from;
     while let Some((op, x, c)) = constant_operand(pool, at) {
@@ -131,8 +136,9 @@ fn told_at(
 ) -> Option<bool>
     requires count { length nodes.now.known ≡ length pool.now }
     requires place { at < length pool.now }
-    ensures { IfSome result (λ b. (d : Input) → IsInput d
-        → AgreesWith nodes.now.known excluded.now pool.now d
+    ensures { MatchOption result
+        (IsOpenAt nodes.now.known excluded.now pool.now at test number)
+        (λ b. (d : Input) → IsInput d → AgreesWith nodes.now.known excluded.now pool.now d
         → TestGives test (value_of pool.now d at) number b) }
 {
     if let Some(sense) = nodes.get(at).told(test, number) {
@@ -166,6 +172,8 @@ pub(crate) fn told_of(
         → AgreesWith nodes.now.known excluded.now pool.now d
         → TestGives test (value_of pool.now d at) number b) }
     ensures walked { IfSome result (λ b. (n : ℕ) → IsPropagatedBack n nodes.now.known pool.now at) }
+    ensures none { IfNone result (IsOpenAt nodes.now.known excluded.now pool.now at test number
+        ⊎ ¬ ((n : ℕ) → IsPropagatedBack n nodes.now.known pool.now at)) }
 {
     let sense = told_at(nodes, excluded, pool, at, test, number)?;
     if !are_propagated_back(nodes, pool, at) {

@@ -1,5 +1,5 @@
-use Rattle.std.proofs.Common.{arith}
-use Rattle.sf_dom.proofs.Bits.{join-bits, bits-of-or_right}
+use Rattle.std.proofs.Common.{arith, refl}
+use Rattle.sf_dom.proofs.Bits.{join-bits, bits-of-or_right, or-same}
 use Rattle.sf_dom.proofs.Reductions.{narrowed}
 use Rattle.sf_dom.proofs.assuming.with_bits.Goals as goal
 
@@ -19,3 +19,9 @@ returns-clause-more c = (
   bits-of-or_right c.args.known.zeros c.args.zeros,
   bits-of-or_right c.args.known.ones c.args.ones,
 )
+
+pub returns-clause-same : goal.returns-clause-same
+returns-clause-same c = λ z o. rw (
+  or-same c.args.known.zeros c.args.zeros z,
+  or-same c.args.known.ones c.args.ones o,
+) refl

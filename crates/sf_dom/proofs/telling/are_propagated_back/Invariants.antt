@@ -7,6 +7,8 @@ invariant-loop-op l = record {
   within : l.at < length l.pool;
   back : ((n : ℕ) → IsPropagatedBack n l.nodes.known l.pool l.at) → (n : ℕ)
       → IsPropagatedBack n l.nodes.known l.pool l.from;
+  on : ((n : ℕ) → IsPropagatedBack n l.nodes.known l.pool l.from) → (n : ℕ)
+      → IsPropagatedBack n l.nodes.known l.pool l.at;
 }
 
 abbrev pub decreases-loop-op : goal.decreases-loop-op

@@ -7,3 +7,6 @@ returns-clause-told c = rw (← c.self.view_is) c.told_of.ensures.told
 
 pub returns-clause-walked : goal.returns-clause-walked
 returns-clause-walked c = rw (← c.self.view_is) c.told_of.ensures.walked
+
+pub returns-clause-none : goal.returns-clause-none
+returns-clause-none c = rw (← c.self.view_is) c.told_of.ensures.none

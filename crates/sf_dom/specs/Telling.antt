@@ -1,0 +1,27 @@
+-- When what is known of a word, and of the nodes of a pool, leaves the result of a test open.
+use Rattle.std.specs.Prelude.{◌≡◌, ℕ, ◌≤◌, List, Contains, Bool, true, false, bit_and}
+use Rattle.sf_insn.specs.declared.ops.Test.{Test}
+use Rattle.sf_insn.specs.declared.ops.Test.TheVariants.{Equal, AnyBit}
+use Rattle.sf_sym.specs.Pool.{node_at}
+use Rattle.sf_sym.specs.declared.pool.Node.{Node}
+use Rattle.sf_dom.specs.declared.known.Known.{Known}
+use Rattle.sf_dom.specs.Known.{AreBitsOf}
+use Rattle.sf_dom.specs.Facts.{known_at, excluded_of}
+use Rattle.sf_dom.specs.Propagation.{TestGives}
+
+-- some number between the ends of an interval gives a test against a number this result
+abbrev pub SomeBetweenGives : Known → Test → ℕ → Bool → Type 0
+SomeBetweenGives k test number sense = (x : ℕ) × (k.low ≤ x) × (x ≤ k.high) × TestGives test x number sense
+
+-- What is known of a word leaves the result of a test against a number open. For a common bit the known bits do: none
+-- of the number's bits is known to be 1, and not all are known to be 0. For any other test the interval does: some
+-- number between its ends passes, and some number between them fails.
+abbrev pub IsOpen : Test → Known → ℕ → Type 0
+IsOpen AnyBit k number = (bit_and k.ones number ≡ 0) × ¬ AreBitsOf number k.zeros
+IsOpen test k number = SomeBetweenGives k test number true × SomeBetweenGives k test number false
+
+-- the same of a node: for an equal, the number isn't excluded for it either
+pub record IsOpenAt (ks : List Known) (ex : List (List ℕ)) (ns : List Node) (at : ℕ) (test : Test)
+    (number : ℕ) : Type 0 where
+  pub known : IsOpen test (known_at ks at) number
+  pub kept : test ≡ Equal → ¬ Contains (excluded_of ex (node_at ns at)) number
