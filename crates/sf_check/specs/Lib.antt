@@ -2,6 +2,7 @@ pub mod Codes
 pub mod Insns
 pub mod Programs
 pub mod Packing
+pub mod EqualTests
 pub mod Refusals
 pub mod Masks
 pub mod Stacks
