@@ -1,6 +1,6 @@
 -- Laws of runs: a lawful program is never stuck, and comes to one end.
 use Rattle.std.proofs.Common.{◌≡◌, ℕ, zero, suc, ◌+◌, ◌<◌, ◌≤◌, get_or, Bool, true, false, List, [], ◌∷◌, ◌++◌, length, Option, Some, None, slice_get, refl, sym, ap, subst, ◌∙◌, ◌⊎◌, inl, inr, arith, length-set, set}
-use Rattle.std.specs.Prelude.{Contains, Any, IsSome, option_map, slice_set, if◌then◌else◌, ◌==◌}
+use Rattle.std.specs.Prelude.{Contains, IsSome, option_map, slice_set, if◌then◌else◌, ◌==◌}
 use Rattle.std.proofs.lemmas.Bool.{cases_eq}
 use Rattle.std.proofs.lemmas.Option.{same_Some, slice_get-get_or, slice_get_within, get_or_from_slice_get}
 use Rattle.std.proofs.lemmas.List.{get_or-set_same, get_or-set_other}
@@ -13,7 +13,7 @@ use Rattle.sf_check.specs.declared.insn.Insn.TheVariants.{LoadWord, LoadConstant
 use Rattle.sf_check.specs.declared.insn.Operand.{Operand}
 use Rattle.sf_check.specs.declared.insn.Operand.TheVariants.{Constant, X}
 use Rattle.sf_check.specs.Insns.{stored_by, loaded_by, successors, IsInRange}
-use Rattle.sf_check.specs.Programs.{IsAt, IsPath, Stores, IsLawfulProgram}
+use Rattle.sf_check.specs.Programs.{IsAt, Stores, IsLawfulProgram}
 use Rattle.sf_check.specs.ContainsLaws.{contains_here, contains_there, any_nil, any_cons}
 use Rattle.sf_check.specs.ProgramLaws.{successor_after, successors_inside, below_in}
 use Rattle.sf_run.specs.Reachable.{put, Keeps, Moves, IsReachable}

@@ -36,7 +36,7 @@ loaded_allowed s k f i fine = by (slice_get s.scratch k) refl
     by (Some None) at = rw at tt
     by None at = rw at tt
 
-pub step_allowed : (d : Input) (s : State) (i : Insn) → Allowed s.place i (insn_progress d s i)
+step_allowed : (d : Input) (s : State) (i : Insn) → Allowed s.place i (insn_progress d s i)
 step_allowed d s (LoadWord k) = (refl, refl)
 step_allowed d s (LoadConstant k) = (refl, refl)
 step_allowed d s (LoadScratch k) = loaded_allowed s k (with_a s) (LoadScratch k) (λ n. (refl, refl))
@@ -64,6 +64,11 @@ step_allowed d s (ReturnConstant k) = (refl, refl)
 step_allowed d s ReturnA = (refl, refl)
 step_allowed d s Tax = (refl, refl)
 step_allowed d s Txa = (refl, refl)
+
+-- so a step that goes on leads where control allows, with what it meets
+pub may_go : (d : Input) (s : State) (i : Insn) (met : List Bool) (t : State) → insn_progress d s i ≡ goes met t
+    → MayMeet s.place i met (Some t.place)
+may_go d s i met t e = subst (λ (q : Progress). Allowed s.place i q) e (step_allowed d s i)
 
 -- what a run that comes to an end meets is a way
 pub run_is_way : (n : ℕ) (code : List Insn) (d : Input) (s : State) (o : List Bool × ℕ) → run_for n code d s ≡ Some o

@@ -10,7 +10,7 @@ use sf_check::{Insn, Operand, Program, Stack};
 use sf_insn::{BinOp, Input};
 use std::alloc::Global;
 
-// Adds the bits of a word, the highest first.
+/// Adds the bits of a word, the highest first.
 fn push_bits(met: &mut Vec<bool>, word: u32) -> Result<(), Fault>
     ensures pushed { OnOk result (met.new.items ≡ met.old.items ++ bits 32 word) }
     ensures only { MatchResult result (λ _. Unit {0}) (λ e. e ≡ Fault.Memory) }
@@ -21,7 +21,7 @@ fn push_bits(met: &mut Vec<bool>, word: u32) -> Result<(), Fault>
     Ok(())
 }
 
-// Adds the truth values that the instruction meets.
+/// Adds the truth values that the instruction meets.
 fn push_met(met: &mut Vec<bool>, machine: &Machine, insn: &Insn) -> Result<(), Fault>
     ensures pushed { OnOk result (met.new.items ≡ met.old.items
         ++ met_at (state_of 0 machine.now) insn.now) }
@@ -33,12 +33,26 @@ fn push_met(met: &mut Vec<bool>, machine: &Machine, insn: &Insn) -> Result<(), F
         }
         Insn::Alu(BinOp::Div, Operand::X) => met.push(machine.x == 0)?,
         Insn::ReturnA => push_bits(met, machine.a)?,
-        _ => {}
+        Insn::LoadWord(_)
+        | Insn::LoadConstant(_)
+        | Insn::LoadScratch(_)
+        | Insn::LoadLength
+        | Insn::LoadXConstant(_)
+        | Insn::LoadXScratch(_)
+        | Insn::LoadXLength
+        | Insn::StoreA(_)
+        | Insn::StoreX(_)
+        | Insn::Alu(_, _)
+        | Insn::Negate
+        | Insn::Jump(_)
+        | Insn::ReturnConstant(_)
+        | Insn::Tax
+        | Insn::Txa => {}
     }
     Ok(())
 }
 
-// Adds the truth values that the program meets.
+/// Adds the truth values that the program meets.
 fn push_program(met: &mut Vec<bool>, program: &Program, input: &Input) -> Result<(), Fault>
     ensures pushed { OnOk result (met.new.items ≡ met.old.items ++ met_by program.now input.now) }
     ensures only { MatchResult result (λ _. Unit {0}) (λ e. e ≡ Fault.Memory) }

@@ -41,7 +41,7 @@ pub struct Course {
     pub value: u32,
 }
 
-// Adds what the instruction meets.
+/// Adds what the instruction meets.
 fn push_meeting(
     met: &mut Vec<Meeting>,
     machine: &Machine,
@@ -59,7 +59,21 @@ fn push_meeting(
         }
         Insn::Alu(BinOp::Div, Operand::X) => Met::Divided(machine.x),
         Insn::ReturnA => Met::Returned(machine.a),
-        _ => return Ok(()),
+        Insn::LoadWord(_)
+        | Insn::LoadConstant(_)
+        | Insn::LoadScratch(_)
+        | Insn::LoadLength
+        | Insn::LoadXConstant(_)
+        | Insn::LoadXScratch(_)
+        | Insn::LoadXLength
+        | Insn::StoreA(_)
+        | Insn::StoreX(_)
+        | Insn::Alu(_, _)
+        | Insn::Negate
+        | Insn::Jump(_)
+        | Insn::ReturnConstant(_)
+        | Insn::Tax
+        | Insn::Txa => return Ok(()),
     };
     met.push(Meeting { place, met: here })?;
     Ok(())
