@@ -2,7 +2,7 @@
 use Rattle.std.proofs.Common.{◌≡◌, ℕ, zero, suc, ◌+◌, ◌-◌, ◌*◌, ◌<◌, ◌≤◌, ◌^◌, Bool, true, false, List, [], ◌∷◌, ◌++◌, length, drop, map, reverse, get_or, Option, Some, None, slice_get, refl, sym, ap, subst, ◌∙◌, inl, inr, arith, append-nil, length-drop}
 use Rattle.std.specs.Prelude.{option_map, replicate, if◌then◌else◌}
 use Rattle.std.proofs.lemmas.List.{get_or-reverse, length-reverse}
-use Rattle.std.proofs.lemmas.Option.{same_Some}
+use Rattle.std.proofs.lemmas.Option.{same_Some, slice_get-get_or}
 use Rattle.std.proofs.Math.Nat.{pow-le-pow_right}
 use Rattle.std.proofs.lemmas.List.{get_or_default}
 use Rattle.sf_insn.specs.declared.input.Input.{Input}
@@ -209,9 +209,17 @@ pub first_root : (stack : List (List Insn)) (pool : List Node) (zero_id : NodeId
 unfolding is_member
 first_root stack pool zero_id fs h = record { of = refl; name = refl; named = h.named; all = λ d inp. refl }
 
--- the instructions that the code reads
-pub at_code : (stack lent : List (List Insn)) (n : ℕ) (p insns : List Insn) → lent ≡ stack → n < length lent
-    → p ≡ get_or lent (length lent - 1 - n) p → insns ≡ p → insns ≡ get_or stack (length stack - 1 - n) []
-at_code stack lent n p insns same lt here is =
-    is ∙ here ∙ sym (get_or_default lent (length lent - 1 - n) [] p (omega arith))
+-- the program that the code lends
+pub at_program : (stack lent : List (List Insn)) (n : ℕ) (p : List Insn) → lent ≡ stack → n < length lent
+    → p ≡ get_or lent (length lent - 1 - n) p → p ≡ get_or stack (length stack - 1 - n) []
+at_program stack lent n p same lt here =
+    here ∙ sym (get_or_default lent (length lent - 1 - n) [] p (omega arith))
     ∙ ap (λ (t : List (List Insn)). get_or t (length t - 1 - n) []) same
+
+-- it isn't long
+pub short_program : (stack : List (List Insn)) (n : ℕ) → IsLawfulStack stack → n < length stack
+    → length (get_or stack (length stack - 1 - n) []) ≤ 4096
+short_program stack n h lt =
+    let at = length stack - 1 - n in
+    let p : List Insn = get_or stack at [] in
+    (h.each at p (slice_get-get_or stack at [] (omega arith))).short

@@ -1,18 +1,21 @@
 -- A piece goes on over tests that fail: over one, and over a chain of them at once.
-use Rattle.std.proofs.Common.{◌≡◌, ℕ, ◌+◌, ◌<◌, ◌≤◌, Bool, false, List, [], ◌∷◌, ◌++◌, length, get_or, replicate, refl, sym, ap, subst, ◌∙◌, arith, append_assoc, append-nil}
+use Rattle.std.proofs.Common.{◌≡◌, ◌≢◌, ◌==◌, ℕ, zero, suc, ◌+◌, ◌-◌, ◌<◌, ◌≤◌, Bool, false, List, [], ◌∷◌, ◌++◌, length, get_or, replicate, refl, sym, ap, subst, ◌∙◌, arith, append_assoc, append-nil}
 use Rattle.std.proofs.lemmas.List.{replicate_more}
-use Rattle.std.proofs.lemmas.Option.{slice_get-get_or}
+use Rattle.std.proofs.lemmas.Bool.Decides.{nat_tests}
+use Rattle.std.proofs.lemmas.Option.{slice_get-get_or, get_or_from_slice_get}
 use Rattle.sf_insn.specs.declared.ops.Test.TheVariants.{Equal}
 use Rattle.sf_check.specs.declared.insn.Insn.{Insn}
 use Rattle.sf_check.specs.declared.insn.Insn.TheVariants.{LoadWord}
 use Rattle.sf_check.specs.declared.insn.Operand.TheVariants.{Constant}
 use Rattle.sf_check.specs.Programs.{IsAt}
+use Rattle.sf_check.specs.EqualTests.{IsBehindOthers}
 use Rattle.sf_dom.specs.declared.known.Known.{Known}
+use Rattle.sf_dom.specs.Known.{Admits}
 use Rattle.sf_dom.specs.Facts.{known_at}
 use Rattle.sf_piece.specs.Pieces.{PieceData}
 use Rattle.sf_piece.specs.declared.machine.SymbolicMachine.{SymbolicMachine}
 use Rattle.sf_piece.specs.SymbolicRun.{IsLawfulPiece}
-use Rattle.sf_piece.specs.Works.{HasGoneOn, IsFailing, IsCodeAtHand, AfterTruthValue, behind_chain, code_at}
+use Rattle.sf_piece.specs.Works.{HasGoneOn, IsFailing, AreFailing, IsCodeAtHand, AfterTruthValue, behind_chain, code_at}
 use Rattle.sf_piece.proofs.AtHand.{at_hand, place_inside}
 use Rattle.sf_piece.proofs.Children.{taken_on, take_gone, branch_after}
 use Rattle.sf_piece.proofs.Joined.{on_same, on_trans, branch_foreseen}
@@ -88,3 +91,65 @@ over_one_more p code known n place f next at is gone fails leads =
       name = l;
       machine = record p.machine { place = place + 1 + f };
     })) names (gone_trans p q (taken_on q false (next_place q f)) gone once))
+
+-- a test for another number than the one that A has fails
+pub other_fails : (code : List Insn) (known : Known) (place number behind : ℕ)
+    → ((x : ℕ) → Admits known x → x ≡ number) → IsBehindOthers code place number behind
+    → AreFailing code known place behind
+other_fails code known place number behind only others = record {
+  from = others.from;
+  inside = others.inside;
+  fail = λ at from before.
+      let t = others.others at from before in
+      let test = t.2 in (
+        test.insn,
+        test.here,
+        record {
+          number = t.0;
+          on_true = test.asks.on_true;
+          is = test.asks.is;
+          fails = λ x admits. not_equal x t.0 (λ e. t.1 (sym e ∙ only x admits));
+        },
+      );
+}
+  where
+    not_equal : (x k : ℕ) → x ≢ k → x == k ≡ false
+    not_equal x k apart = grind (arith, nat_tests)
+
+-- none from a place up to itself
+pub none_fail : (code : List Insn) (known : Known) (place : ℕ) → place < length code → AreFailing code known place place
+none_fail code known place inside = record {
+  from = omega arith;
+  inside = inside;
+  fail = λ at from before. absurd (omega arith);
+}
+
+-- over so many of them
+over_some : (p : PieceData) (code : List Insn) (known : Known) (behind n : ℕ) → IsLawfulPiece p → IsCodeAtHand p code
+    → known ≡ known_at p.facts.known p.machine.a.0 → AreFailing code known p.machine.place behind
+    → p.machine.place + n ≤ behind → HasGoneOn p (behind_chain p n (p.machine.place + n))
+over_some p code known behind zero h at is failing le =
+    let here : p.machine.place ≡ p.machine.place + 0 = omega arith in
+    subst (λ (k : ℕ). HasGoneOn p (behind_chain p 0 k)) here (over_none p h)
+over_some p code known behind (suc n) h at is failing le =
+    let place = p.machine.place + n in
+    let before = over_some p code known behind n h at is failing (omega (arith, le)) in
+    let f = failing.fail place (omega arith) (omega (arith, le)) in
+    let read : get_or code place (LoadWord 0) ≡ f.0 = get_or_from_slice_get code place f.0 (LoadWord 0) f.1 in
+    let fails : IsFailing (get_or code place (LoadWord 0)) known 0 =
+    subst (λ (i : Insn). IsFailing i known 0) (sym read) f.2 in
+    let more : n + 1 ≡ suc n = omega arith in
+    let next : p.machine.place + suc n ≡ place + (1 + 0) = omega arith in
+    subst (λ (k : ℕ). HasGoneOn p (behind_chain p k (p.machine.place + suc n))) more
+    (over_one_more p code known n place 0 (p.machine.place + suc n) at is before fails next)
+
+-- over all of them
+pub over_failing : (p : PieceData) (code : List Insn) (known : Known) (behind : ℕ) → IsLawfulPiece p
+    → IsCodeAtHand p code
+    → known ≡ known_at p.facts.known p.machine.a.0 → AreFailing code known p.machine.place behind
+    → HasGoneOn p (behind_chain p (behind - p.machine.place) behind)
+over_failing p code known behind h at is failing =
+    let from = failing.from in
+    let whole : p.machine.place + (behind - p.machine.place) ≡ behind = omega arith in
+    subst (λ (k : ℕ). HasGoneOn p (behind_chain p (behind - p.machine.place) k)) whole
+    (over_some p code known behind (behind - p.machine.place) h at is failing (omega arith))

@@ -15,11 +15,10 @@ use Rattle.sf_check.specs.Insns.{successors, stored_by}
 use Rattle.sf_check.specs.Programs.{IsAt, IsLawfulProgram, Stores}
 use Rattle.sf_check.specs.ContainsLaws.{contains_here, any_cons}
 use Rattle.sf_check.specs.ProgramLaws.{successors_inside, below_in}
-use Rattle.sf_run.specs.Machine.{State, Progress, goes, returns, stuck, bits, insn_progress, step, trace_of}
-use Rattle.sf_run.specs.Routes.{MayMeet}
+use Rattle.sf_run.specs.Machine.{State, Progress, goes, returns, bits, insn_progress, step, trace_of}
 use Rattle.sf_run.specs.RunLaws.{safe_next, step_is}
 use Rattle.sf_run.specs.Reachable.{IsReachable}
-use Rattle.sf_run.specs.TraceLaws.{step_allowed}
+use Rattle.sf_run.specs.TraceLaws.{may_go}
 use Rattle.sf_sym.specs.declared.pool.Cond.{Cond}
 use Rattle.sf_sym.specs.declared.pool.NodeId.{NodeId}
 use Rattle.sf_sym.specs.Pool.{value_of, IsCondBelow}
@@ -60,15 +59,6 @@ nothing_taken code place taken pre i d s t pending at e = none_pending code plac
     subst (λ (j : Insn). insn_progress d s j ≡ goes [] t) is e in absurd cc)
     (λ is. div_clash (s.x == 0) (record s { place = s.place + 1; a = apply Div s.a s.x }) t
     (subst (λ (j : Insn). insn_progress d s j ≡ goes [] t) is e))
-
-abbrev Allowed : ℕ → Insn → Progress → Type 0
-Allowed at i (goes met next) = MayMeet at i met (Some next.place)
-Allowed at i (returns met value) = MayMeet at i met None
-Allowed at i stuck = Unit {0}
-
-pub may_go : (d : Input) (s : State) (i : Insn) (met : List Bool) (t : State) → insn_progress d s i ≡ goes met t
-    → MayMeet s.place i met (Some t.place)
-may_go d s i met t e = subst (λ (q : Progress). Allowed s.place i q) e (step_allowed d s i)
 
 -- the same scratch words at a place to which the instruction leads
 pub safe_moved : (code : List Insn) (s t : State) (i : Insn) → IsLawfulProgram code → IsReachable code s

@@ -1,5 +1,5 @@
 -- Pieces stay lawful: the symbolic run stands where it should, and on a plain stack nothing is lost.
-use Rattle.std.proofs.Common.{◌≡◌, ℕ, zero, suc, ◌^◌, ◌<◌, Bool, List, [], ◌∷◌, ◌++◌, length, replicate, refl, sym, ap, ◌∙◌, arith}
+use Rattle.std.proofs.Common.{◌≡◌, ℕ, zero, suc, ◌^◌, ◌<◌, Bool, List, [], ◌∷◌, ◌++◌, length, replicate, refl, ap, ◌∙◌, arith}
 use Rattle.std.specs.Prelude.{slice_index, Option, Some, None, IfSome, MatchOption}
 use Rattle.std.proofs.lemmas.List.Elements.{All-nil}
 use Rattle.sf_insn.specs.declared.input.Input.{Input}
@@ -15,7 +15,6 @@ use Rattle.sf_sym.specs.declared.pool.Node.{Node}
 use Rattle.sf_sym.specs.declared.pool.NodeId.{NodeId}
 use Rattle.sf_sym.specs.declared.pool.Cond.{Cond}
 use Rattle.sf_sym.specs.Pool.{IsPool, ArePlainNodes, value_of, is_met}
-use Rattle.sf_sym.specs.ValueLaws.{passes-met}
 use Rattle.sf_dom.specs.declared.known.Known.{Known}
 use Rattle.sf_dom.specs.Known.{Admits}
 use Rattle.sf_dom.specs.Facts.{FactsView, known_at, Covers, Agrees, AreNarrower, DecidesTest, KeepsInputs, KeepsOnly, NoInput, TakesIn}
@@ -25,7 +24,7 @@ use Rattle.sf_piece.specs.declared.machine.SymbolicMachine.{SymbolicMachine}
 use Rattle.sf_piece.specs.Pieces.{PieceData, is_member}
 use Rattle.sf_piece.specs.PlainPieces.{IsPlainPiece}
 use Rattle.sf_piece.specs.SymbolicRun.{IsPiece, IsLawfulPiece, concrete_state}
-use Rattle.sf_piece.specs.Works.{HasAtHand, GoesTo, ReturnsNow, IsQuery, IsForeseen, PassesAlways, IsImplied, AfterTruthValue, AreChildFacts, IsChild, IsNever, with_sense}
+use Rattle.sf_piece.specs.Works.{HasAtHand, GoesTo, ReturnsNow, IsQuery, IsForeseen, PassesAlways, AfterTruthValue, AreChildFacts, IsChild, IsNever, with_sense}
 use Rattle.sf_piece.specs.Machines.{after_return}
 use Rattle.sf_piece.proofs.Kept.{gone, go_piece, return_piece}
 use Rattle.sf_piece.proofs.Children.{taken_on, take_piece, child_of, child_piece, child_is, piece_named}
@@ -57,15 +56,6 @@ pub lawful_child : (p : PieceData) (i : Insn) (cond : Cond) (b : Bool) (m : Symb
 lawful_child p i cond b m fs h s e facts after =
     lawful (child_of p cond b m fs) (child_piece p i cond b m fs h.run s e facts after)
     (λ is. plain_child p cond b m fs (h.plain is) (e.plain is) facts (facts.plain is))
-
--- where two words have one number each on every member, every member has the truth value that their test says
-pub implied_by_numbers : (p : PieceData) (cond : Cond) (m n : ℕ) (b : Bool) → IsPiece p
-    → ((d : Input) → IsInput d → Agrees p.facts p.pool d → value_of p.pool d cond.node.0 ≡ m)
-    → ((d : Input) → IsInput d → Agrees p.facts p.pool d → value_of p.pool d cond.other.0 ≡ n)
-    → b ≡ passes cond.test m n → IsImplied p cond b
-implied_by_numbers p cond m n b h left right is d inp member =
-    let known = h.known d inp member in
-    passes-met p.pool d (with_sense cond b) (rw (left d inp known, right d inp known) (sym is))
 
 -- what holds wherever the facts agree tells of a test of A against a number
 told_by_facts : (p : PieceData) (test : Test) (other : Operand) (n : ℕ) (b : Bool) → IsPiece p → other ≡ Constant n

@@ -73,6 +73,12 @@ pub record IsFailing (i : Insn) (known : Known) (skips : ℕ) : Type 0 where
   pub is : i ≡ Branch Equal (Constant number) on_true skips
   pub fails : (x : ℕ) → Admits known x → passes Equal x number ≡ false
 
+-- From one place of a program up to another each instruction is such a test, and leads to the next place.
+pub record AreFailing (code : List Insn) (known : Known) (place behind : ℕ) : Type 0 where
+  pub from : place ≤ behind
+  pub inside : behind < length code
+  pub fail : (at : ℕ) → place ≤ at → at < behind → (i : Insn) × IsAt code at i × IsFailing i known 0
+
 -- the piece behind so many tests that fail, at the place where the last one leads
 abbrev pub behind_chain : PieceData → ℕ → ℕ → PieceData
 behind_chain p n place = record p {

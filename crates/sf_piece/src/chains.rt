@@ -1,16 +1,17 @@
 //! Chains of tests of one word against numbers.
 
-ghost use Rattle.std.specs.Prelude.{◌≡◌, IfOk, IfSome};
+ghost use Rattle.std.specs.Prelude.{◌≡◌, ◌<◌, ℕ, length, IfOk, IfSome};
+ghost use Rattle.sf_dom.specs.Known.{Admits};
 ghost use Rattle.sf_dom.specs.Facts.{known_at};
 ghost use Rattle.sf_insn.specs.declared.ops.Test.{Test as ATest};
 ghost use Rattle.sf_check.specs.declared.insn.Operand.{Operand as AnOperand};
 ghost use Rattle.sf_piece.specs.SymbolicRun.{IsLawfulPiece};
-ghost use Rattle.sf_piece.specs.Works.{HasAtHand, HasAdvanced, HasGoneOn, IsForeseen, IsFailing, behind_chain};
+ghost use Rattle.sf_piece.specs.Works.{HasAtHand, HasAdvanced, HasGoneOn, IsForeseen, IsFailing, AreFailing, behind_chain};
 
 use crate::deciding::skipped;
 use crate::fault::Fault;
 use crate::run::Run;
-use sf_check::{Insn, Operand};
+use sf_check::{Insn, Operand, Program};
 use sf_dom::Known;
 use sf_insn::Test;
 
@@ -68,20 +69,45 @@ fn skipped_by_failing(insn: Insn, known: Known) -> Option<u8>
     }
 }
 
+/// The number of a word of which this is known, where one alone is left.
+fn only_number(known: Known) -> Option<u32>
+    ensures { IfSome result (λ n. (x : ℕ) → Admits known x → x ≡ n) }
+{
+    if known.low == known.high {
+        Some(known.low)
+    } else {
+        None
+    }
+}
+
+/// The place behind those tests of this kind, from this place on, that each lead to the next place where they fail: looked
+/// up where A has one number alone, and else none is taken.
+fn behind_others(program: &Program, place: usize, known: Known) -> usize
+    requires { place < length program.now }
+    ensures { AreFailing program.now known place result }
+{
+    match only_number(known) {
+        Some(number) => program.behind_others(place, number),
+        None => place,
+    }
+}
+
 /// The tests of this kind that come now, each where the one before leads.
 fn failing_chain(run: &Run, known: Known) -> Chain
     requires lawful { IsLawfulPiece run.now }
     requires known { known ≡ known_at run.now.facts.known run.now.machine.a.0 }
     ensures { HasGoneOn run.now (behind_chain run.now result.count result.behind) }
 {
-    let mut count = 0;
-    let mut place = run.machine.place;
-    let Some(code) = run.code() else {
+    let first = run.machine.place;
+    let Some(program) = run.program() else {
         return Chain {
-            count,
-            behind: place,
+            count: 0,
+            behind: first,
         };
     };
+    let code = program.insns();
+    let mut place = behind_others(program, first, known);
+    let mut count = place - first;
     while let Some(skips) = skipped_by_failing(code[place], known) {
         count += 1;
         place += 1 + skips as usize;

@@ -56,7 +56,13 @@ pub(crate) fn execute(alloc: Global, run: &mut Run) -> Result<Executed, Fault>
             Ok(Executed::Done)
         }
         Insn::ReturnA => return_a(alloc, run),
-        _ => {
+        Insn::LoadScratch(_)
+        | Insn::LoadXScratch(_)
+        | Insn::StoreA(_)
+        | Insn::StoreX(_)
+        | Insn::Tax
+        | Insn::Txa
+        | Insn::Jump(_) => {
             move_on(run, insn);
             Ok(Executed::Done)
         }

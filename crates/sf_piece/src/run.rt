@@ -6,7 +6,7 @@ use crate::fault::Fault;
 use crate::machine::SymbolicMachine;
 use crate::name::Name;
 use sf_blocks::shared::SharedList;
-use sf_check::{Insn, Stack};
+use sf_check::{Insn, Program, Stack};
 use sf_dom::Facts;
 use sf_run::{Answer, fold};
 use sf_sym::{Cond, Pool};
@@ -63,16 +63,16 @@ impl Run {
         })
     }
 
-    /// The instructions of the program at hand, or none where the last one has returned.
-    pub(crate) fn code(&self) -> Option<&[Insn]>
+    /// The program at hand, or none where the last one has returned.
+    pub(crate) fn program(&self) -> Option<&Program>
         requires { IsLawfulPiece self.now }
         ensures { MatchOption result (length self.now.stack ≤ self.now.machine.program)
-            (λ code. IsCodeAtHand self.now code.now) }
+            (λ program. IsCodeAtHand self.now program.now) }
     {
         let programs = self.stack.programs();
         if self.machine.program < programs.len() {
             let program = &programs[programs.len() - 1 - self.machine.program];
-            Some(program.insns())
+            Some(program)
         } else {
             None
         }
@@ -84,9 +84,10 @@ impl Run {
         ensures { MatchOption result (IsRightAnswer self.now self.now.name
             self.now.machine.so_far) (λ i. HasAtHand self.now i) }
     {
-        let Some(code) = self.code() else {
+        let Some(program) = self.program() else {
             return None;
         };
+        let code = program.insns();
         Some(code[self.machine.place])
     }
 
