@@ -1,3 +1,4 @@
+pub mod NameNumbers
 pub mod Numbers
 pub mod Books
 pub mod Changes

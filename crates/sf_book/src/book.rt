@@ -208,14 +208,7 @@ impl Book {
                 Ok(Some((next, next + 1)))
             }
             Step::Settled(answer) => {
-                add(
-                    &mut self.regions,
-                    Region {
-                        piece,
-                        name,
-                        answer,
-                    },
-                )?;
+                add(&mut self.regions, Region::of(piece, name, answer))?;
                 self.outstanding.take(id);
                 self.commits += 1;
                 Ok(None)

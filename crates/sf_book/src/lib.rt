@@ -6,6 +6,7 @@ mod book;
 mod fault;
 mod laws;
 mod name_key;
+mod name_number;
 mod outstanding;
 mod regions;
 mod settled;

@@ -9,6 +9,7 @@ ghost use Rattle.std.specs.Cmp.Rules.{comparing};
 ghost use Rattle.std.proofs.Common.{rules};
 ghost use Rattle.sf_book.specs.OutstandingMaps.{name_cmp, name_total, name_ties};
 
+use crate::name_number::{number_of, order_of_numbers};
 use sf_piece::Piece;
 use std::cmp::Ordering;
 use std::marker::Model;
@@ -17,15 +18,21 @@ use std::sync::Arc;
 /// A piece under its name: two of one name are one key.
 #[derive(Drop)]
 pub(crate) struct NameKey {
+    // That of the name. It tells most keys apart in a map's own memory, while a piece lies elsewhere.
+    number: u64,
     piece: Arc<Piece>,
 }
 
 impl Model for NameKey {
+    ghost use Rattle.std.specs.Prelude.{◌≡◌};
     ghost use Rattle.sf_piece.specs.Pieces.{PieceData};
+    ghost use Rattle.sf_book.specs.NameNumbers.{name_number};
 
     ghost Value = { PieceData };
 
     ghost view = { λ n. n.piece.value };
+
+    ghost invariant = { λ n. n.number ≡ name_number n.piece.value.name };
 }
 
 impl NameKey {
@@ -33,7 +40,10 @@ impl NameKey {
     pub(crate) fn of(piece: Arc<Piece>) -> NameKey
         ensures { result ≡ arc_value piece }
     {
-        NameKey { piece }
+        NameKey {
+            number: number_of(piece.name()),
+            piece,
+        }
     }
 
     /// The piece itself.
@@ -79,6 +89,9 @@ impl Ord for NameKey {
     ghost matches_eq = { λ x y. name_ties x y };
 
     fn cmp(&self, other: &NameKey) -> Ordering {
-        self.piece.name_order(&other.piece)
+        match order_of_numbers(self.number, other.number) {
+            Some(order) => order,
+            None => self.piece.name_order(&other.piece),
+        }
     }
 }

@@ -8,6 +8,7 @@ ghost use Rattle.sf_book.specs.Books.{IsInNameOrder};
 ghost use Rattle.sf_book.specs.declared.fault.Fault.TheVariants.{Memory};
 
 use crate::fault::Fault;
+use crate::name_number::{number_of, order_of_numbers};
 use sf_check::Stack;
 use sf_piece::{Piece, Work};
 use sf_run::Answer;
@@ -18,20 +19,38 @@ use std::sync::Arc;
 /// A settled piece: each member has this whole name as its trace, and this answer.
 #[derive(Drop)]
 pub struct Region {
-    pub(crate) piece: Arc<Piece>,
-    pub(crate) name: Vec<bool>,
-    pub(crate) answer: Answer,
+    // That of the name, which tells most names apart where regions are put in order.
+    number: u64,
+    piece: Arc<Piece>,
+    name: Vec<bool>,
+    answer: Answer,
 }
 
 impl Model for Region {
+    ghost use Rattle.std.specs.Prelude.{◌≡◌};
     ghost use Rattle.sf_book.specs.Books.{RegionData};
+    ghost use Rattle.sf_book.specs.NameNumbers.{name_number};
 
     ghost Value = { RegionData };
 
     ghost view = { λ r. record { piece = r.piece.value; name = r.name.items; answer = r.answer } };
+
+    ghost invariant = { λ r. r.number ≡ name_number r.name.items };
 }
 
 impl Region {
+    /// The region of a piece that settled, with its whole name.
+    pub(crate) fn of(piece: Arc<Piece>, name: Vec<bool>, answer: Answer) -> Region
+        ensures { result ≡ record { piece = arc_value piece; name = name.items; answer = answer } }
+    {
+        Region {
+            number: number_of(&name),
+            piece,
+            name,
+            answer,
+        }
+    }
+
     /// The piece that settled: its path condition and its facts are those of the region.
     pub fn piece(&self) -> &Arc<Piece>
         ensures { arc_value result.now ≡ self.now.piece }
@@ -104,7 +123,10 @@ pub(crate) fn is_of(work: &Work, stack: &Arc<Stack>) -> bool
 fn by_name(a: &Region, b: &Region) -> Ordering
     ensures { result ≡ slice_cmp bool_cmp a.now.name b.now.name }
 {
-    a.name.as_slice().cmp(b.name.as_slice())
+    match order_of_numbers(a.number, b.number) {
+        Some(order) => order,
+        None => a.name.as_slice().cmp(b.name.as_slice()),
+    }
 }
 
 /// Puts regions in name order, in place.

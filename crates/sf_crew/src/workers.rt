@@ -26,7 +26,8 @@ use sf_book::{Book, Lease, Settled};
 use sf_check::Stack;
 use sf_piece::{Piece, Work, advance};
 use std::alloc::Global;
-use std::sync::{Arc, Mutex, Wait};
+use std::hint::spin_loop;
+use std::sync::{Arc, Mutex, MutexGuard, Wait};
 use std::thread;
 use std::thread::{Threads, yield_now};
 
@@ -109,6 +110,21 @@ fn steal_from(others: &mut [Thief]) -> Option<Lease>
     None
 }
 
+/// How often a worker looks whether the lock is free before it sleeps.
+const LOOKS: usize = 400;
+
+/// The book, once its lock is got. Another worker soon has done with it, while a thread that sleeps is woken late: so it
+/// looks a while before it waits.
+fn locked<'a, R: Wait>(rt: &R, book: &'a Mutex<Book>) -> MutexGuard<'a, Book> {
+    for _ in 0..LOOKS {
+        if let Some(guard) = book.try_lock() {
+            return guard;
+        }
+        spin_loop();
+    }
+    book.lock(rt)
+}
+
 impl Worker {
     /// A lease from its own bench, or else a stolen one, the next worker's first, or else one from the book.
     fn next_lease<R: Wait>(&mut self, rt: &R, book: &Mutex<Book>) -> Result<Option<Held>, Fault>
@@ -122,7 +138,7 @@ impl Worker {
         if let Some(lease) = steal_from(self.others.as_mut_slice()) {
             return Ok(Some(Held { lease }));
         }
-        match book.lock(rt).lease()? {
+        match locked(rt, book).lease()? {
             Some(lease) => Ok(Some(Held { lease })),
             None => Ok(None),
         }
@@ -162,14 +178,16 @@ impl Worker {
         ensures ok { OnOk result (WorksOn held.lease self.old self.new) }
         ensures err { OnErr result (own_view self.new ≡ own_view self.old) }
     {
+        // Gone after the commit, so that the piece's memory is given back when the lock has been left.
+        let _piece = Arc::try_clone(&held.lease.piece);
         let Made { work, children } = match self.make(alloc, gate, &held.lease.piece, call) {
             Ok(made) => made,
             Err(fault) => {
-                give_back(&mut book.lock(rt), held);
+                give_back(&mut locked(rt, book), held);
                 return Err(fault);
             }
         };
-        let Some((f_id, t_id)) = hand_in(&mut book.lock(rt), held, work)? else {
+        let Some((f_id, t_id)) = hand_in(&mut locked(rt, book), held, work)? else {
             return Ok(());
         };
         let Some((f, t)) = children else {
@@ -186,7 +204,7 @@ impl Worker {
         ensures put { PutsOrNot (own_view self.old) lease (own_view self.new) }
     {
         if let Err(lease) = self.own.put(lease) {
-            give_back(&mut book.lock(rt), Held { lease });
+            give_back(&mut locked(rt, book), Held { lease });
         }
     }
 
@@ -198,7 +216,7 @@ impl Worker {
             let Some(lease) = self.own.take() else {
                 return;
             };
-            give_back(&mut book.lock(rt), Held { lease });
+            give_back(&mut locked(rt, book), Held { lease });
         }
         unreachable!()
     }

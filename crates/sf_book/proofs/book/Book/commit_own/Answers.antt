@@ -33,7 +33,7 @@ pub invariant_of-self-in-Settled : goal.invariant_of-self-in-Settled
 invariant_of-self-in-Settled c =
     let parts = c.into_parts-piece.ensures in
     let is : c.args.work.step ≡ Settled c.in-Settled.answer = sym parts.step ∙ ap step_data c.in-Settled.is in
-    rw (c.take.ensures, c.in_ok-add-in-Settled.ensures.ok, parts.piece, parts.name)
+    rw (c.take.ensures, c.in_ok-add-in-Settled.ensures.ok, c.of.ensures, parts.piece, parts.name)
     (answer_book _ c.self.inside.next_id c.args.id c.args.work c.in-Settled.answer c.self.invariant
     (rw (← c.self.view_is) at c.requires.may) (rw (← c.self.view_is) at c.requires.room)
     (record { right = parts.right; plain = parts.plain; is = is }))

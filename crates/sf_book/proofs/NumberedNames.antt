@@ -1,0 +1,120 @@
+-- Names by the number that their first truth values spell: the bit of one, the bound of all, and their order.
+use Rattle.std.proofs.Common.{◌≡◌, ℕ, zero, suc, ◌+◌, ◌-◌, ◌*◌, ◌%◌, ◌<◌, ◌≤◌, ◌^◌, ◌⊎◌, inl, inr, Bool, true, false, List, [], ◌∷◌, length, min, drop, get_or, refl, ap, ◌∙◌, arith}
+use Rattle.std.specs.Ordering.{bool_cmp}
+use Rattle.std.specs.declared.cmp.Ordering.TheVariants.{Less, Greater}
+use Rattle.std.specs.Cmp.Lexicographic.{slice_cmp}
+use Rattle.std.proofs.lemmas.List.{drop_more}
+use Rattle.std.proofs.lemmas.Bool.{cases_lt}
+use Rattle.std.proofs.lemmas.Nat.{pow_pos}
+use Rattle.std.proofs.Math.ListN.{drop_of_length-le}
+use Rattle.std.proofs.Math.Nat.{mod-eq_of_lt}
+use Rattle.std.proofs.Math.Pow.{pow-lt}
+use Rattle.sf_book.specs.NameNumbers.{leading_number, name_number}
+
+-- what so many values spell is below the next power of two
+pub leading_below : (n : ℕ) (values : List Bool) → leading_number n values < 2 ^ n
+leading_below zero values = omega arith
+leading_below (suc n) [] = pow_pos (suc n)
+leading_below (suc n) (false ∷ values) = omega (arith, leading_below n values)
+leading_below (suc n) (true ∷ values) = omega (arith, leading_below n values)
+
+-- no values spell nothing
+nothing_leads : (n : ℕ) → leading_number n [] ≡ 0
+nothing_leads zero = refl
+nothing_leads (suc n) = refl
+
+nothing_left_by : (n place : ℕ) (values : List Bool) → min (length values) n ≤ place → (place < n) ⊎ (n ≤ place)
+    → leading_number (n - place) (drop place values) ≡ 0
+nothing_left_by n place values ended (inr all) =
+    let none : n - place ≡ 0 = omega (arith, all) in
+    ap (λ k. leading_number k (drop place values)) none
+nothing_left_by n place values ended (inl some) =
+    let all : length values ≤ place = omega (arith, ended, some) in
+    ap (leading_number (n - place)) (drop_of_length-le values all) ∙ nothing_leads (n - place)
+
+-- behind all values, or behind so many of them, nothing is left to spell
+pub nothing_left : (n place : ℕ) (values : List Bool) → min (length values) n ≤ place
+    → leading_number (n - place) (drop place values) ≡ 0
+nothing_left n place values ended = nothing_left_by n place values ended (cases_lt place n)
+
+-- the value at a place is true: what is spelled from there on has its bit
+pub leading_true : (n place : ℕ) (values : List Bool) → place < n → place < length values
+    → get_or values place false ≡ true → leading_number (n - place) (drop place values)
+    ≡ 2 ^ (n - (place + 1)) + leading_number (n - (place + 1)) (drop (place + 1) values)
+leading_true n place values few inside is =
+    let count : n - place ≡ suc (n - (place + 1)) = omega (arith, few) in
+    let more = drop_more values place false inside ∙ ap (λ b. b ∷ drop (place + 1) values) is in
+    ap (λ k. leading_number k (drop place values)) count ∙ ap (leading_number (suc (n - (place + 1)))) more
+
+-- it is false: nothing is gained there
+pub leading_false : (n place : ℕ) (values : List Bool) → place < n → place < length values
+    → get_or values place false ≡ false → leading_number (n - place) (drop place values)
+    ≡ leading_number (n - (place + 1)) (drop (place + 1) values)
+leading_false n place values few inside is =
+    let count : n - place ≡ suc (n - (place + 1)) = omega (arith, few) in
+    let more = drop_more values place false inside ∙ ap (λ b. b ∷ drop (place + 1) values) is in
+    ap (λ k. leading_number k (drop place values)) count ∙ ap (leading_number (suc (n - (place + 1)))) more
+
+-- one bit, shifted inside 58
+pub one_bit : (place : ℕ) → 1 * 2 ^ (57 - place) % 18446744073709551616 ≡ 2 ^ (58 - (place + 1))
+one_bit place =
+    let same : 57 - place ≡ 58 - (place + 1) = omega arith in
+    let small : 2 ^ (57 - place) < 2 ^ 64 = pow-lt {i = 57 - place} {j = 64} (omega arith) in
+    let one : 1 * 2 ^ (57 - place) ≡ 2 ^ (57 - place) = omega arith in
+    ap (λ k. k % 18446744073709551616) one ∙ mod-eq_of_lt small ∙ ap (λ k. 2 ^ k) same
+
+-- a list of values is before one that spells more, or that spells the same and is longer, as far as so many values tell
+before_by : (n : ℕ) (xs ys : List Bool) → (leading_number n xs < leading_number n ys)
+    ⊎ ((leading_number n xs ≡ leading_number n ys) × (min (length xs) n < min (length ys) n))
+    → slice_cmp bool_cmp xs ys ≡ Less
+before_by zero xs ys (inl h) = absurd (omega (arith, h))
+before_by zero xs ys (inr h) = absurd (omega (arith, h.1))
+before_by (suc n) xs [] (inl h) = absurd (omega (arith, h))
+before_by (suc n) xs [] (inr h) = absurd (omega (arith, h.1))
+before_by (suc n) [] (y ∷ ys) h = refl
+before_by (suc n) (false ∷ xs) (false ∷ ys) (inl h) = before_by n xs ys (inl h)
+before_by (suc n) (false ∷ xs) (false ∷ ys) (inr h) = before_by n xs ys (inr (h.0, omega (arith, h.1)))
+before_by (suc n) (false ∷ xs) (true ∷ ys) h = refl
+before_by (suc n) (true ∷ xs) (false ∷ ys) (inl h) = absurd (omega (arith, h, leading_below n ys))
+before_by (suc n) (true ∷ xs) (false ∷ ys) (inr h) = absurd (omega (arith, h.0, leading_below n ys))
+before_by (suc n) (true ∷ xs) (true ∷ ys) (inl h) = before_by n xs ys (inl (omega (arith, h)))
+before_by (suc n) (true ∷ xs) (true ∷ ys) (inr h) = before_by n xs ys (inr (omega (arith, h.0), omega (arith, h.1)))
+
+-- and behind one that spells less, or the same and is shorter
+behind_by : (n : ℕ) (xs ys : List Bool) → (leading_number n ys < leading_number n xs)
+    ⊎ ((leading_number n ys ≡ leading_number n xs) × (min (length ys) n < min (length xs) n))
+    → slice_cmp bool_cmp xs ys ≡ Greater
+behind_by zero xs ys (inl h) = absurd (omega (arith, h))
+behind_by zero xs ys (inr h) = absurd (omega (arith, h.1))
+behind_by (suc n) [] ys (inl h) = absurd (omega (arith, h))
+behind_by (suc n) [] ys (inr h) = absurd (omega (arith, h.1))
+behind_by (suc n) (x ∷ xs) [] h = refl
+behind_by (suc n) (false ∷ xs) (false ∷ ys) (inl h) = behind_by n xs ys (inl h)
+behind_by (suc n) (false ∷ xs) (false ∷ ys) (inr h) = behind_by n xs ys (inr (h.0, omega (arith, h.1)))
+behind_by (suc n) (true ∷ xs) (false ∷ ys) h = refl
+behind_by (suc n) (false ∷ xs) (true ∷ ys) (inl h) = absurd (omega (arith, h, leading_below n xs))
+behind_by (suc n) (false ∷ xs) (true ∷ ys) (inr h) = absurd (omega (arith, h.0, leading_below n xs))
+behind_by (suc n) (true ∷ xs) (true ∷ ys) (inl h) = behind_by n xs ys (inl (omega (arith, h)))
+behind_by (suc n) (true ∷ xs) (true ∷ ys) (inr h) = behind_by n xs ys (inr (omega (arith, h.0), omega (arith, h.1)))
+
+-- of two numbers made of such parts, the parts tell which is less
+parts_tell : (a b k l : ℕ) → k ≤ 58 → l ≤ 58 → 64 * a + k < 64 * b + l → (a < b) ⊎ (b ≤ a)
+    → (a < b) ⊎ ((a ≡ b) × (k < l))
+parts_tell a b k l small few h (inl less) = inl less
+parts_tell a b k l small few h (inr least) =
+    inr (omega (arith, h, small, few, least), omega (arith, h, small, few, least))
+
+parts_of_less : (xs ys : List Bool) → name_number xs < name_number ys
+    → (leading_number 58 xs < leading_number 58 ys)
+    ⊎ ((leading_number 58 xs ≡ leading_number 58 ys) × (min (length xs) 58 < min (length ys) 58))
+parts_of_less xs ys h =
+    parts_tell (leading_number 58 xs) (leading_number 58 ys) (min (length xs) 58) (min (length ys) 58) (omega arith)
+    (omega arith) h (cases_lt (leading_number 58 xs) (leading_number 58 ys))
+
+-- a name with a less number is before one with a greater
+pub less_before : (xs ys : List Bool) → name_number xs < name_number ys → slice_cmp bool_cmp xs ys ≡ Less
+less_before xs ys h = before_by 58 xs ys (parts_of_less xs ys h)
+
+-- and one with a greater number is behind it
+pub greater_behind : (xs ys : List Bool) → name_number ys < name_number xs → slice_cmp bool_cmp xs ys ≡ Greater
+greater_behind xs ys h = behind_by 58 xs ys (parts_of_less ys xs h)

@@ -1,0 +1,40 @@
+//! The beginning of a name as one number, by which most names are told apart.
+
+ghost use Rattle.std.specs.Prelude.{◌≡◌, List, Bool, IfSome};
+ghost use Rattle.std.specs.Ordering.{bool_cmp};
+ghost use Rattle.std.specs.Cmp.Lexicographic.{slice_cmp};
+ghost use Rattle.sf_book.specs.NameNumbers.{name_number};
+
+use std::cmp::Ordering;
+
+/// Of how many truth values a number tells.
+const LEADING: usize = 58;
+
+/// The first 58 truth values of a name as the bits of a number, the first one highest, and in the lowest six bits how many
+/// these are: so a name that is a beginning of another has a less number.
+pub(crate) fn number_of(name: &[bool]) -> u64
+    ensures { result ≡ name_number name.now }
+{
+    let count = name.len().min(LEADING);
+    let mut number = 0;
+    for place in 0..count {
+        if name[place] {
+            number += 1u64 << (57 - place);
+        }
+    }
+    64 * number + count as u64
+}
+
+/// How two names compare, where their numbers tell it: a name with a less number is before one with a greater.
+pub(crate) fn order_of_numbers(left: u64, right: u64) -> Option<Ordering>
+    ensures { (m n : List Bool) → left ≡ name_number m → right ≡ name_number n
+        → IfSome result (λ order. slice_cmp bool_cmp m n ≡ order) }
+{
+    if left < right {
+        Some(Ordering::Less)
+    } else if right < left {
+        Some(Ordering::Greater)
+    } else {
+        None
+    }
+}
