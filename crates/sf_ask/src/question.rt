@@ -44,24 +44,21 @@ impl Model for Question {
     }) };
 }
 
+/// Whether each byte is from 0x21 to 0x7e.
 fn is_printable_text(bytes: &[u8]) -> bool
     ensures { result ≡ list_all is_printable bytes.now }
 {
     bytes.iter().all(|byte| 0x21 <= *byte && *byte <= 0x7e)
 }
 
-fn is_name_text(text: &str) -> bool
-    ensures { result ≡ is_name text.now }
-{
-    1 <= text.len() && text.len() <= 64 && is_printable_text(text.as_bytes())
-}
-
+/// Whether no low end is above its high end.
 fn are_in_order(ranges: &[(u32, u32)]) -> bool
     ensures { result ≡ list_all is_in_order ranges.now }
 {
     ranges.iter().all(|range| range.0 <= range.1)
 }
 
+/// Whether no value has a bit outside its mask.
 fn are_inside_masks(masks: &[(u32, u32)]) -> bool
     ensures { result ≡ list_all is_inside_mask masks.now }
 {
@@ -69,6 +66,13 @@ fn are_inside_masks(masks: &[(u32, u32)]) -> bool
 }
 
 impl Question {
+    /// Whether a text can be the name of a question: it is 1 to 64 bytes from 0x21 to 0x7e.
+    pub fn is_name(text: &str) -> bool
+        ensures { result ≡ is_name text.now }
+    {
+        1 <= text.len() && text.len() <= 64 && is_printable_text(text.as_bytes())
+    }
+
     /// The question with this name, these ranges and no masks.
     ///
     /// Refusals, tried in this order: `Name` where the name isn't 1 to 64 bytes from 0x21 to 0x7e, `Range` where a
@@ -98,7 +102,7 @@ impl Question {
     ) -> Result<Question, Fault>
         ensures { MakesQuestion result (question_of name.now ranges masks actions) }
     {
-        if !is_name_text(name) {
+        if !Question::is_name(name) {
             return Err(Fault::Name);
         }
         if !are_in_order(&ranges) {

@@ -1,16 +1,17 @@
--- `Question::of_masked` of an encoded entry gives what is due for the entry.
-use Rattle.std.proofs.Common.{◌≡◌, ℕ, ℤ, pos, negsuc, ◌+◌, ◌++◌, Bool, true, false, not, ◌&&◌, ◌||◌, length, List, [], ◌∷◌, map, refl, ap, sym, ◌∙◌, if◌then◌else◌, Option, Some, None, Result, Ok, Err, ◌⊎◌, append_assoc, ◌<◌, drop, get_or, codes, option_map}
+-- What `Question::of_masked` gives for the parts of an entry is what is due for the entry.
+use Rattle.std.proofs.Common.{◌≡◌, ℕ, ◌+◌, ◌++◌, Bool, true, false, not, ◌&&◌, ◌||◌, length, List, [], ◌∷◌, map, refl, ap, sym, ◌∙◌, if◌then◌else◌, Option, Some, None, Result, Ok, Err, ◌⊎◌, append_assoc, ◌<◌, drop, get_or, codes, option_map}
 use Rattle.std.proofs.Common.{inl, inr}
 use Rattle.std.specs.List.{list_all}
 use Rattle.sf_ask.specs.declared.fault.Fault.{Fault as AskFault}
 use Rattle.sf_ask.specs.Actions.{is_no_action}
 use Rattle.sf_ask.specs.QuestionData.{QuestionData}
-use Rattle.sf_ask.specs.Questions.{is_name, is_in_order, is_inside_mask, question_of}
+use Rattle.sf_ask.specs.Questions.{is_name, is_in_order, is_inside_mask}
 use Rattle.sf_ask.specs.declared.fault.Fault.TheVariants as ask
 use Rattle.sf_audit.specs.declared.fault.Fault.{Fault}
 use Rattle.sf_audit.specs.declared.fault.Fault.TheVariants as faults
 use Rattle.sf_audit.specs.declared.policy.words.WordEntry.{WordEntry}
-use Rattle.sf_audit.specs.Words.{is_word, word_of, has_words, has_range, has_mask, range_of, mask_of, entry_at}
+use Rattle.sf_audit.specs.Faults.{Gives}
+use Rattle.sf_audit.specs.Words.{has_words, has_range, has_mask, range_of, mask_of, entry_at}
 use Rattle.std.specs.Str.{bytes_eq}
 use Rattle.std.proofs.lemmas.List.{drop_more}
 use Rattle.toml.specs.Data.{Members, get_member}
@@ -21,67 +22,35 @@ use Rattle.sf_audit.specs.declared.policy.Version.{Version}
 use Rattle.sf_audit.specs.Keys.{has_only, question_keys, word_keys}
 use Rattle.sf_audit.specs.Trees.{each_of, text_at}
 use Rattle.sf_audit.specs.Actions.{is_action, are_actions, is_named, set_of, names_at}
-use Rattle.sf_audit.specs.Encoding.{no_actions, word_in, four_of, encoded_word, encoded_range, encoded_mask, encoded_set, numbered_fault, with_number, table_or_empty}
+use Rattle.sf_audit.specs.Encoding.{no_actions, ranges_and_masks, encoded_set, numbered_fault, with_number, question_of_parts, table_or_empty}
 use Rattle.sf_audit.specs.Policies.{Entry, question_entry_of_parts, question_of_entry, question_where_read, question_of_table, question_cons, questions_from}
-
-word_in_cases : (z : ℤ) → word_in z ≡ if is_word z then Some (word_of z) else None
-word_in_cases (pos n) = refl
-word_in_cases (negsuc n) = refl
-
-four_cases : (a b c d : Bool) (k l m n : ℕ)
-    → four_of (if a then Some k else None) (if b then Some l else None) (if c then Some m
-    else None) (if d then Some n else None)
-    ≡ if a && b && c && d then ((k, l), (m, n)) else ((1, 0), (0, 0))
-four_cases true true true true k l m n = refl
-four_cases true true true false k l m n = refl
-four_cases true true false d k l m n = refl
-four_cases true false c d k l m n = refl
-four_cases false b c d k l m n = refl
-
-encoded_cases : (w : WordEntry) → encoded_word w ≡ if has_words w then (range_of w, mask_of w) else ((1, 0), (0, 0))
-encoded_cases w =
-    rw (word_in_cases w.low, word_in_cases w.high, word_in_cases w.mask, word_in_cases w.value)
-    (four_cases (is_word w.low) (is_word w.high) (is_word w.mask) (is_word w.value) (word_of w.low) (word_of w.high)
-    (word_of w.mask) (word_of w.value))
-
-abbrev chosen : Bool → ℕ × ℕ → ℕ × ℕ → (ℕ × ℕ) × (ℕ × ℕ)
-chosen b range mask = if b then (range, mask) else ((1, 0), (0, 0))
-
-pick_order : (b : Bool) (range mask : ℕ × ℕ) → is_in_order (chosen b range mask).0 ≡ (b && is_in_order range)
-pick_order true range mask = refl
-pick_order false range mask = refl
-
-encoded_order : (w : WordEntry) → is_in_order (encoded_range w) ≡ has_range w
-encoded_order w = ap (λ e. is_in_order e.0) (encoded_cases w) ∙ pick_order (has_words w) (range_of w) (mask_of w)
-
-all_orders : (ws : List WordEntry) → list_all is_in_order (map encoded_range ws) ≡ list_all has_range ws
-all_orders [] = refl
-all_orders (w ∷ ws) = rw (encoded_order w, all_orders ws) refl
-
-pick_both : (a b : Bool) (e f : (ℕ × ℕ) × (ℕ × ℕ)) → (a && b) ≡ true → (if a then e else f) ≡ e
-pick_both true b e f h = refl
-pick_both false b e f h = cc
-
--- an entry with a range is handed on as it is
-in_range : (w : WordEntry) → has_range w ≡ true → encoded_word w ≡ (range_of w, mask_of w)
-in_range w h = encoded_cases w ∙ pick_both (has_words w) _ _ _ h
 
 both_true : (a b : Bool) → (a && b) ≡ true → (a ≡ true) × (b ≡ true)
 both_true true true h = (refl, refl)
 both_true true false h = cc
 both_true false b h = cc
 
-ranges_same : (ws : List WordEntry) → list_all has_range ws ≡ true → map encoded_range ws ≡ map range_of ws
-ranges_same [] h = refl
-ranges_same (w ∷ ws) h =
-    let (one, others) = both_true (has_range w) _ h in
-    rw (ap (λ e. e.0) (in_range w one), ranges_same ws others) refl
+and_true : (a b : Bool) → a ≡ true → (a && b) ≡ b
+and_true true b h = refl
+and_true false b h = cc
 
-masks_same : (ws : List WordEntry) → list_all has_range ws ≡ true → map encoded_mask ws ≡ map mask_of ws
-masks_same [] h = refl
-masks_same (w ∷ ws) h =
-    let (one, others) = both_true (has_range w) _ h in
-    rw (ap (λ e. e.1) (in_range w one), masks_same ws others) refl
+-- entries whose numbers are of 32 bits have ranges where the ends are in order
+all_orders : (ws : List WordEntry) → list_all has_words ws ≡ true
+    → list_all is_in_order (map range_of ws) ≡ list_all has_range ws
+all_orders [] h = refl
+all_orders (w ∷ ws) h =
+    let (one, others) = both_true (has_words w) _ h in
+    rw (and_true (has_words w) (is_in_order (range_of w)) one, all_orders ws others) refl
+
+one_outside : (a b c d : Bool) → (a && b) ≡ false → (b ≡ false → d ≡ false) → ((a && c) && d) ≡ false
+one_outside true b true d h k = k h
+one_outside true b false d h k = refl
+one_outside false b c d h k = refl
+
+-- where an entry has a number outside 32 bits, not all have ranges
+no_range : (ws : List WordEntry) → list_all has_words ws ≡ false → list_all has_range ws ≡ false
+no_range [] h = cc
+no_range (w ∷ ws) h = one_outside (has_words w) _ _ _ h (no_range ws)
 
 all_masks : (ws : List WordEntry) → list_all is_inside_mask (map mask_of ws) ≡ list_all has_mask ws
 all_masks [] = refl
@@ -143,31 +112,51 @@ same_actions : (number : ℕ) (b none : Bool) (q q' : QuestionData) → none ≡
 same_actions number true none q q' e h = rw e (ap Ok (h refl))
 same_actions number false none q q' e h = rw e refl
 
-asked : (name : List ℕ) (ranges ranges' masks masks' : List (ℕ × ℕ)) (set set' : ActionSet) → ranges' ≡ ranges
-    → masks' ≡ masks → set' ≡ set
-    → let question : List (ℕ × ℕ) → List (ℕ × ℕ) → ActionSet → QuestionData =
-    λ r m s. record { name = name; ranges = r; masks = m; actions = s } in
-    question ranges' masks' set' ≡ question ranges masks set
-asked name ranges ranges' masks masks' set set' p q r = rw (p, q, r) refl
+asked : (name : List ℕ) (ranges masks : List (ℕ × ℕ)) (set set' : ActionSet) → set' ≡ set
+    → let question : ActionSet → QuestionData =
+    λ s. record { name = name; ranges = ranges; masks = masks; actions = s } in
+    question set' ≡ question set
+asked name ranges masks set set' e = rw e refl
 
-pub encoded_due : (number : ℕ) (e : Entry)
-    → with_number number (question_of e.name (map encoded_range e.words) (map encoded_mask e.words)
-    (encoded_set e.actions)) ≡ question_of_entry number e
-encoded_due number e =
+outside_due : (number : ℕ) (named ranged : Bool) (rest : Result QuestionData Fault) → ranged ≡ false
+    → let due : Result QuestionData Fault = Err (if named then faults.Range number else faults.Name number) in
+    due ≡ (if not named then Err (faults.Name number) else if not ranged then Err (faults.Range number) else rest)
+outside_due number true ranged rest h = rw h refl
+outside_due number false ranged rest h = refl
+
+entry_due_where : (number : ℕ) (b : Bool) (e : Entry) → list_all has_words e.words ≡ b
+    → question_of_parts number e.name (if b then Some (map range_of e.words, map mask_of e.words) else None)
+    (encoded_set e.actions) ≡ question_of_entry number e
+entry_due_where number true e h =
     same_test number ask.Name (is_name e.name) (is_name e.name) _ _ refl (λ named.
-    same_test number ask.Range (list_all has_range e.words) (list_all is_in_order (map encoded_range e.words)) _ _
-    (all_orders e.words) (λ ranged.
-    same_test number ask.Mask (list_all has_mask e.words) (list_all is_inside_mask (map encoded_mask e.words)) _ _
-    (ap (λ l. list_all is_inside_mask l) (masks_same e.words ranged) ∙ all_masks e.words) (λ masked.
+    same_test number ask.Range (list_all has_range e.words) (list_all is_in_order (map range_of e.words)) _ _
+    (all_orders e.words h) (λ ranged.
+    same_test number ask.Mask (list_all has_mask e.words) (list_all is_inside_mask (map mask_of e.words)) _ _
+    (all_masks e.words) (λ masked.
     same_actions number (are_actions e.actions) (is_no_action (encoded_set e.actions)) _ _
     (empty_or_not (are_actions e.actions) (set_of e.actions) (some_action e.actions))
-    (λ some. asked e.name _ _ _ _ _ _ (ranges_same e.words ranged) (masks_same e.words ranged)
+    (λ some. asked e.name (map range_of e.words) (map mask_of e.words) _ _
     (set_same (are_actions e.actions) (set_of e.actions) some)))))
+entry_due_where number false e h =
+    outside_due number (is_name e.name) (list_all has_range e.words) _ (no_range e.words h)
+
+entry_due : (number : ℕ) (e : Entry)
+    → question_of_parts number e.name (ranges_and_masks e.words) (encoded_set e.actions) ≡ question_of_entry number e
+entry_due number e = entry_due_where number (list_all has_words e.words) e refl
+
+-- what is wrong with a question that has a number outside 32 bits is due
+pub outside_fails : (number : ℕ) (named : Bool) (fault : Fault)
+    → fault ≡ (if named then faults.Range number else faults.Name number)
+    → let given : Result QuestionData Fault = Err fault in
+    let due : Result QuestionData Fault = Err (if named then faults.Range number else faults.Name number) in
+    Gives {X = QuestionData} {Y = QuestionData} (λ q. q) given due
+outside_fails number true fault e = rw e refl
+outside_fails number false fault e = rw e refl
 
 parts_due : (number : ℕ) (only : Bool) (name' : Option (List ℕ)) (words' : Option (List WordEntry))
     (texts' : Option (List (List ℕ))) (name : List ℕ) (words : List WordEntry) (set : ActionSet)
     → only ≡ true → Some name ≡ name' → Some words ≡ words' → Some set ≡ option_map encoded_set texts'
-    → with_number number (question_of name (map encoded_range words) (map encoded_mask words) set)
+    → question_of_parts number name (ranges_and_masks words) set
     ≡ question_where_read number (if only then question_entry_of_parts name' words' texts' else None)
 parts_due number false name' words' texts' name words set h k l m = cc
 parts_due number true None words' texts' name words set h k l m = cc
@@ -177,7 +166,7 @@ parts_due number true (Some name') (Some words') (Some texts) name words set h k
     let same_name : name ≡ name' = cc in
     let same_words : words ≡ words' = cc in
     let same_set : set ≡ encoded_set texts = cc in
-    rw (same_name, same_words, same_set) (encoded_due number (record { name = name'; words = words'; actions = texts }))
+    rw (same_name, same_words, same_set) (entry_due number (record { name = name'; words = words'; actions = texts }))
 
 -- The table of a question, where each of its parts was read.
 pub table_due : (version : Version) (number : ℕ) (ms : Members) (name : List ℕ) (words : List WordEntry)
@@ -186,8 +175,7 @@ pub table_due : (version : Version) (number : ℕ) (ms : Members) (name : List �
     → Some name ≡ text_at (codes "name") ms
     → Some words ≡ each_of (λ key. entry_at version (get_member key ms)) word_keys
     → Some set ≡ option_map encoded_set (names_at (get_member (codes "actions") ms))
-    → with_number number (question_of name (map encoded_range words) (map encoded_mask words) set)
-    ≡ question_of_table version number ms
+    → question_of_parts number name (ranges_and_masks words) set ≡ question_of_table version number ms
 table_due version number ms name words set h k l m = parts_due number _ _ _ _ name words set h k l m
 
 -- the questions that were read, in front of those that are left

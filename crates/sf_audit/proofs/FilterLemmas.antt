@@ -1,7 +1,8 @@
 -- What the bytes of filter files spell, and why they are refused.
-use Rattle.std.proofs.Common.{◌≡◌, ◌==◌, false, ◌⊎◌, inl, inr, ℕ, ◌+◌, ◌<◌, ◌≤◌, List, [], ◌∷◌, ◌++◌, length, take, map, suc, Vec, Global, Err, Result, get_or, ◌∙◌, refl, ap, sym, arith}
+use Rattle.std.proofs.Common.{◌≡◌, ◌==◌, false, ◌⊎◌, inl, inr, ℕ, ◌+◌, ◌<◌, ◌≤◌, List, [], ◌∷◌, ◌++◌, length, take, map, suc, Vec, Global, Ok, Err, Result, MatchResult, IfErr, IsErrAnd, get_or, ◌∙◌, refl, ap, sym, subst, arith}
 use Rattle.std.proofs.lemmas.List.{take_more, get_or-map, length-map}
 use Rattle.std.proofs.lemmas.Option.{slice_get_read}
+use Rattle.std.proofs.lemmas.Result.{err_from_is_err_and}
 use Rattle.sf_check.specs.Stacks.{path_length}
 use Rattle.sf_check.specs.declared.stack.Stack.{Stack}
 use Rattle.sf_insn.specs.declared.raw.RawInsn.{RawInsn}
@@ -14,7 +15,27 @@ use Rattle.sf_check.specs.Refusals.{IsFirstFault}
 use Rattle.sf_audit.specs.declared.fault.Fault.{Fault}
 use Rattle.sf_audit.specs.declared.fault.Fault.TheVariants as faults
 use Rattle.sf_audit.specs.FaultPlaces.{check_fault}
-use Rattle.sf_audit.specs.Filters.{SpellPrograms, IsRefusalOf, AreFew, SpellLongPath, IsFileRefusal, IsFirstRefusal}
+use Rattle.sf_audit.specs.Filters.{SpellPrograms, IsRefusalOf, AreFew, IsFileRefusal, IsFirstRefusal}
+
+-- a value that `map_err` leaves as it is
+pub mapped_ok : {X E D : Type 0} (Post : E → D → Type 0) (r : Result X E) (s : Result X D) (x : X)
+    → MatchResult r (λ y. s ≡ Ok y) (λ e. IsErrAnd s (Post e)) → s ≡ Ok x → r ≡ Ok x
+mapped_ok Post (Ok y) s x same is =
+    let value : y ≡ x = cc in
+    ap Ok value
+mapped_ok Post (Err e) s x other is =
+    let (d, at, post) = err_from_is_err_and s other in
+    absurd cc
+
+-- an error that is another one by `map_err`
+pub mapped_err : {X E D : Type 0} {Post : E → D → Type 0} {P : E → Type 0} {Q : D → Type 0} (r : Result X E)
+    (s : Result X D)
+    → MatchResult r (λ x. s ≡ Ok x) (λ e. IsErrAnd s (Post e)) → IfErr r P
+    → ((e : E) (d : D) → r ≡ Err e → Post e d → P e → Q d) → IfErr s Q
+mapped_err {Q = Q} (Ok x) s same refused due = subst (λ t. IfErr t Q) (sym same) tt
+mapped_err {Q = Q} (Err e) s other refused due =
+    let (d, is, post) = err_from_is_err_and s other in
+    subst (λ t. IfErr t Q) (sym is) (due e d refl post refused)
 
 pub unlawful_due : (number : ℕ) (bytes : List ℕ) (raws : List RawInsn) (e : CheckFault)
     → AreInsns raws → bytes ≡ spelling raws → 0 < length raws → length raws ≤ 4096
@@ -92,15 +113,16 @@ one_file_refused files programs i file e h is before (inr refused) =
       refused = refused;
     })
 
--- Files whose programs make no stack, though they are few.
-pub path_too_long : (files : List (List ℕ)) (programs : List (List Insn)) (r : Result Stack CheckFault) (e : CheckFault)
+-- Files whose programs make no stack, though they are few: their path is too long.
+pub stack_refused : (files : List (List ℕ)) (programs : List (List Insn)) (number : ℕ) (r : Result Stack CheckFault)
+    (e : CheckFault)
     → AreFew files → SpellPrograms files programs → r ≡ Err e
     → (e ≡ check.NoFilter) ⊎ ((e ≡ check.TooMany) ⊎ (e ≡ check.PathLength))
     → (r ≡ Err check.NoFilter → length programs ≡ 0)
     → (r ≡ Err check.TooMany → 64 < length programs)
     → (r ≡ Err check.PathLength → (length programs ≤ 64) × (32768 < path_length programs))
-    → SpellLongPath files
-path_too_long files programs r e few spelled is only none many long =
+    → (check_fault number e ≡ faults.Memory) ⊎ IsFirstRefusal files (check_fault number e)
+stack_refused files programs number r e few spelled is only none many long =
     let count = as_many files programs spelled in
     let some = few.some in
     let most = few.few in
@@ -108,42 +130,12 @@ path_too_long files programs r e few spelled is only none many long =
       | inl empty ↦ let zero : length programs ≡ 0 = none (is ∙ ap (λ f. Err f) empty) in absurd (omega arith)
       | inr other ↦ elim other [
         | inl too ↦ let above : 64 < length programs = many (is ∙ ap (λ f. Err f) too) in absurd (omega arith)
-        | inr path ↦ record { programs = programs; spelled = spelled; long = (long (is ∙ ap (λ f. Err f) path)).1 }
+        | inr path ↦ rw path (inr (
+          few,
+          record { programs = programs; spelled = spelled; long = (long (is ∙ ap (λ f. Err f) path)).1 },
+        ))
       ]
     ]
-
--- a file's refusal is the first one
-pub first_refusal : (files : List (List ℕ)) (e : Fault) → AreFew files → IsFileRefusal files e → IsFirstRefusal files e
-first_refusal files (faults.Ragged f) few r = (few, r)
-first_refusal files (faults.Empty f) few r = (few, r)
-first_refusal files (faults.TooLong f) few r = (few, r)
-first_refusal files (faults.Code f at) few r = (few, r)
-first_refusal files (faults.Field f at) few r = (few, r)
-first_refusal files (faults.Jump f at) few r = (few, r)
-first_refusal files (faults.Last f) few r = (few, r)
-first_refusal files (faults.Scratch f at) few r = (few, r)
-first_refusal files faults.NoFilter few r = absurd r.refused
-first_refusal files faults.TooMany few r = absurd r.refused
-first_refusal files faults.PathLength few r = absurd r.refused
-first_refusal files faults.Foreign few r = (few, r)
-first_refusal files faults.Version few r = (few, r)
-first_refusal files faults.TopKey few r = (few, r)
-first_refusal files (faults.Key q) few r = (few, r)
-first_refusal files (faults.Range q) few r = (few, r)
-first_refusal files (faults.Actions q) few r = (few, r)
-first_refusal files (faults.Name q) few r = (few, r)
-first_refusal files faults.Count few r = (few, r)
-first_refusal files faults.Syntax few r = (few, r)
-first_refusal files faults.Input few r = (few, r)
-first_refusal files (faults.Mask q) few r = (few, r)
-first_refusal files faults.Read few r = (few, r)
-first_refusal files faults.Write few r = (few, r)
-first_refusal files faults.Memory few r = (few, r)
-
-pub refused_or_memory : (files : List (List ℕ)) (e : Fault) → AreFew files → (e ≡ faults.Memory) ⊎ IsFileRefusal files e
-    → (e ≡ faults.Memory) ⊎ IsFirstRefusal files e
-refused_or_memory files e few (inl memory) = inl memory
-refused_or_memory files e few (inr refused) = inr (first_refusal files e few refused)
 
 pub few_files : (files : List (Vec ℕ Global)) → (length files == 0) ≡ false → length files ≤ 64
     → AreFew (bytes_of files)

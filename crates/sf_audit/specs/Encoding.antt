@@ -1,36 +1,36 @@
--- How an entry is handed to `Question::of_masked`, so that it is refused there in its turn: a number outside 32 bits by
--- a range without a number, an unknown action by the empty set.
-use Rattle.std.specs.Prelude.{ℕ, ℤ, pos, negsuc, ◌^◌, false, Option, Some, None, nat_lt, if◌then◌else◌, List, [], unwrap_or, Result, Ok, Err}
+-- How an entry whose numbers are of 32 bits is handed to `Question::of_masked`, so that it is refused there in its
+-- turn, an unknown action by the empty set; and what is wrong with one that has another number.
+use Rattle.std.specs.Prelude.{ℕ, ℤ, pos, negsuc, ◌^◌, false, Option, Some, None, nat_lt, if◌then◌else◌, List, [], map, unwrap_or, Result, Ok, Err}
+use Rattle.std.specs.List.{list_all}
 use Rattle.toml.specs.Data.{Data, as_str, as_table, Members, no_members}
 use Rattle.sf_ask.specs.declared.fault.Fault.{Fault as AskFault}
 use Rattle.sf_ask.specs.declared.fault.Fault.TheVariants as ask
 use Rattle.sf_audit.specs.declared.fault.Fault.{Fault}
 use Rattle.sf_audit.specs.declared.fault.Fault.TheVariants as faults
 use Rattle.sf_ask.specs.declared.actions.ActionSet.{ActionSet}
+use Rattle.sf_ask.specs.QuestionData.{QuestionData}
+use Rattle.sf_ask.specs.Questions.{is_name, question_of}
 use Rattle.sf_audit.specs.declared.policy.words.WordEntry.{WordEntry}
 use Rattle.sf_audit.specs.Actions.{are_actions, set_of}
+use Rattle.sf_audit.specs.Words.{has_words, range_of, mask_of}
 
 -- the number, where it is one of 32 bits
 abbrev pub word_in : ℤ → Option ℕ
 word_in (pos n) = if nat_lt n (2 ^ 32) then Some n else None
 word_in (negsuc n) = None
 
--- the words of an entry: the ends of its range, its mask and its value
-abbrev pub four_of : Option ℕ → Option ℕ → Option ℕ → Option ℕ → (ℕ × ℕ) × (ℕ × ℕ)
-four_of (Some low) (Some high) (Some mask) (Some value) = ((low, high), (mask, value))
-four_of _ _ _ _ = ((1, 0), (0, 0))
+-- the ends of a range, and a mask and its value, where all four numbers are there
+abbrev pub four_of : Option ℕ → Option ℕ → Option ℕ → Option ℕ → Option ((ℕ × ℕ) × (ℕ × ℕ))
+four_of (Some low) (Some high) (Some mask) (Some value) = Some ((low, high), (mask, value))
+four_of _ _ _ _ = None
 
--- what is handed in of a word's entry; the range has no number where one of the four isn't of 32 bits
-abbrev pub encoded_word : WordEntry → (ℕ × ℕ) × (ℕ × ℕ)
-encoded_word w = four_of (word_in w.low) (word_in w.high) (word_in w.mask) (word_in w.value)
+-- those of an entry, where all its numbers are of 32 bits
+abbrev pub numbers_in : WordEntry → Option ((ℕ × ℕ) × (ℕ × ℕ))
+numbers_in w = four_of (word_in w.low) (word_in w.high) (word_in w.mask) (word_in w.value)
 
--- the ends that are handed in: of no number, where the entry has one outside 32 bits
-abbrev pub encoded_range : WordEntry → ℕ × ℕ
-encoded_range w = (encoded_word w).0
-
--- the mask and the value that are handed in, both 0 where the entry has a number outside 32 bits
-abbrev pub encoded_mask : WordEntry → ℕ × ℕ
-encoded_mask w = (encoded_word w).1
+-- the ranges and the masks of entries, where all their numbers are of 32 bits
+abbrev pub ranges_and_masks : List WordEntry → Option (List (ℕ × ℕ) × List (ℕ × ℕ))
+ranges_and_masks ws = if list_all has_words ws then Some (map range_of ws, map mask_of ws) else None
 
 -- the set without an action
 abbrev pub no_actions : ActionSet
@@ -70,3 +70,13 @@ numbered_fault number ask.Memory = faults.Memory
 abbrev pub with_number : {X : Type 0} → ℕ → Result X AskFault → Result X Fault
 with_number number (Ok x) = Ok x
 with_number number (Err fault) = Err (numbered_fault number fault)
+
+-- what is wrong with a question that has a number outside 32 bits: its name, or else a range
+abbrev pub fault_outside : ℕ → List ℕ → Fault
+fault_outside number name = if is_name name then faults.Range number else faults.Name number
+
+-- the question of a name, of ranges and masks, where they are there, and of actions, or what is wrong with it
+abbrev pub question_of_parts : ℕ → List ℕ → Option (List (ℕ × ℕ) × List (ℕ × ℕ)) → ActionSet
+    → Result QuestionData Fault
+question_of_parts number name (Some ws) set = with_number number (question_of name ws.0 ws.1 set)
+question_of_parts number name None set = Err (fault_outside number name)

@@ -14,6 +14,7 @@ use std::alloc::Global;
 use std::sync::{Arc, Wait};
 use std::thread::Threads;
 
+/// The fault of an audit for a fault of its workers.
 fn crew_fault(fault: sf_crew::Fault) -> Fault
     ensures { result ≡ crew_fault fault }
 {
@@ -23,7 +24,7 @@ fn crew_fault(fault: sf_crew::Fault) -> Fault
     }
 }
 
-// The outcome for a stack and up to 256 questions.
+/// The outcome for a stack and up to 256 questions.
 fn outcome_of<R: Threads + Wait + Sync, G: Gate>(
     rt: &R,
     alloc: Global,
@@ -40,18 +41,13 @@ fn outcome_of<R: Threads + Wait + Sync, G: Gate>(
     ensures alone { workers ≡ 1 → IfErr result (λ e. e ≡ Fault.Memory) }
 {
     let stack = Arc::new(alloc, stack)?;
-    let settled = match explore(rt, alloc, stack, budget, workers, gate) {
-        Ok(settled) => settled,
-        Err(fault) => return Err(crew_fault(fault)),
-    };
-    match sweep(rt, alloc, &settled, &questions, workers, gate) {
-        Ok(replies) => Ok(Outcome {
-            settled,
-            questions,
-            replies,
-        }),
-        Err(fault) => Err(crew_fault(fault)),
-    }
+    let settled = explore(rt, alloc, stack, budget, workers, gate).map_err(crew_fault)?;
+    let replies = sweep(rt, alloc, &settled, &questions, workers, gate).map_err(crew_fault)?;
+    Ok(Outcome {
+        settled,
+        questions,
+        replies,
+    })
 }
 
 /// Audits the stack of these filter files, which stand in order of installation, the newest last: explores it by at
@@ -83,10 +79,7 @@ pub fn audit<R: Threads + Wait + Sync, G: Gate>(
     ensures alone { workers ≡ 1 → IfErr result (λ e. (e ≡ Fault.Memory)
         ⊎ IsAuditRefusal (map (λ f. f.items) filters.now) questions.items e) }
 {
-    let stack = match stack_of(alloc, filters) {
-        Ok(stack) => stack,
-        Err(fault) => return Err(fault),
-    };
+    let stack = stack_of(alloc, filters)?;
     if questions.is_empty() || questions.len() > MOST_QUESTIONS {
         return Err(Fault::Count);
     }

@@ -139,3 +139,11 @@ impl<T: Drop> From<AllocFailed<T>> for Fault {
         Fault::Memory
     }
 }
+
+impl From<sf_run::Fault> for Fault {
+    ghost from_gives = { λ _ e. e ≡ Memory };
+
+    fn from(_e: sf_run::Fault) -> Fault {
+        Fault::Memory
+    }
+}

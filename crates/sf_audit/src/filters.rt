@@ -13,6 +13,7 @@ use std::alloc::Global;
 /// The most filters of a stack.
 const MOST_FILTERS: usize = 64;
 
+/// What is wrong with the bytes of the filter with this number.
 fn undecodable(filter: usize, fault: sf_insn::Fault) -> Fault
     ensures { result ≡ decode_fault filter fault }
 {
@@ -24,6 +25,7 @@ fn undecodable(filter: usize, fault: sf_insn::Fault) -> Fault
     }
 }
 
+/// What is wrong with the program of the filter with this number, or with a stack whose last filter it is.
 fn unlawful(filter: usize, fault: sf_check::Fault) -> Fault
     ensures { result ≡ check_fault filter fault }
 {
@@ -54,21 +56,16 @@ fn unlawful(filter: usize, fault: sf_check::Fault) -> Fault
     }
 }
 
-// The program that the bytes of the filter with this number spell.
+/// The program that the bytes of the filter with this number spell.
 fn program_of(alloc: Global, filter: usize, bytes: &[u8]) -> Result<Program, Fault>
     ensures accepted { IfOk result (SpellsProgram bytes.now) }
     ensures refused { IfErr result (λ e. (e ≡ Fault.Memory) ⊎ IsRefusalOf filter bytes.now e) }
 {
-    let raws = match decode(alloc, bytes) {
-        Ok(raws) => raws,
-        Err(fault) => return Err(undecodable(filter, fault)),
-    };
-    match check(alloc, &raws) {
-        Ok(program) => Ok(program),
-        Err(fault) => Err(unlawful(filter, fault)),
-    }
+    let raws = decode(alloc, bytes).map_err(|fault| undecodable(filter, fault))?;
+    check(alloc, &raws).map_err(|fault| unlawful(filter, fault))
 }
 
+/// The programs that the filter files spell, in the same order.
 fn programs_of(alloc: Global, filters: &[Vec<u8>]) -> Result<Vec<Program>, Fault>
     requires { length filters.now ≤ 64 }
     ensures accepted { IfOk result (λ v. SpellPrograms (map (λ f. f.items) filters.now) v.items) }
@@ -77,10 +74,8 @@ fn programs_of(alloc: Global, filters: &[Vec<u8>]) -> Result<Vec<Program>, Fault
 {
     let mut programs = Vec::new(alloc);
     for (i, bytes) in filters.iter().enumerate() {
-        match program_of(alloc, i + 1, bytes) {
-            Ok(program) => programs.push(program)?,
-            Err(fault) => return Err(fault),
-        }
+        let program = program_of(alloc, i + 1, bytes)?;
+        programs.push(program)?;
     }
     Ok(programs)
 }
@@ -101,12 +96,6 @@ pub fn stack_of(alloc: Global, filters: &[Vec<u8>]) -> Result<Stack, Fault>
     if filters.len() > MOST_FILTERS {
         return Err(Fault::TooMany);
     }
-    let programs = match programs_of(alloc, filters) {
-        Ok(programs) => programs,
-        Err(fault) => return Err(fault),
-    };
-    match Stack::of(programs) {
-        Ok(stack) => Ok(stack),
-        Err(_) => Err(Fault::PathLength),
-    }
+    let programs = programs_of(alloc, filters)?;
+    Stack::of(programs).map_err(|fault| unlawful(filters.len(), fault))
 }

@@ -30,6 +30,7 @@ enum Version {
     Two,
 }
 
+/// The version that a policy names, where it is a known one.
 fn version_in(table: &Table) -> Option<Version>
     ensures { result ≡ version_of (number_at (codes "version") (table_view table.now)) }
 {
@@ -40,12 +41,14 @@ fn version_in(table: &Table) -> Option<Version>
     }
 }
 
+/// Whether each value is a table.
 fn are_tables(items: &[Value]) -> bool
     ensures { result ≡ list_all (λ v. is_some (as_table (view v))) items.now }
 {
     items.iter().all(|value| value.is_table())
 }
 
+/// The questions of tables, of which there are to be 1 to 256.
 #[tactic(auto, using(crate::proofs::TreeLemmas::count_view))]
 fn questions_counted(
     alloc: Global,
@@ -61,6 +64,7 @@ fn questions_counted(
     questions_in(alloc, version, items)
 }
 
+/// The questions of an array, whose values are to be tables.
 fn questions_of_items(
     alloc: Global,
     version: Version,
@@ -76,6 +80,7 @@ fn questions_of_items(
     }
 }
 
+/// The questions of a value, which is to be an array of tables.
 fn questions_of_value(
     alloc: Global,
     version: Version,
@@ -90,6 +95,7 @@ fn questions_of_value(
     }
 }
 
+/// The questions of a policy, by its version, its keys at the top and their values.
 fn policy_of_table(alloc: Global, table: &Table) -> Result<Vec<Question>, Fault>
     ensures { Gives (λ v. v.items) result (policy_of (table_view table.now)) }
 {

@@ -53,8 +53,6 @@ pub fn write_report<W: Write>(
     ensures refused { IfErr result (λ e. (e ≡ WriteFault)
         ⊎ ((e ≡ MemoryFault) × (out.new ≡ out.old))) }
 {
-    match report_of(alloc, outcome, regions) {
-        Ok(text) => write_bytes(text.as_bytes(), out),
-        Err(_) => Err(Fault::Memory),
-    }
+    let text = report_of(alloc, outcome, regions)?;
+    write_bytes(text.as_bytes(), out)
 }

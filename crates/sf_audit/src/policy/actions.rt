@@ -13,6 +13,7 @@ use super::keys::{is_among, value_at};
 use sf_ask::ActionSet;
 use toml::{Table, Value};
 
+/// The names that a policy has for the actions.
 const ACTION_NAMES: [&str; 9] = [
     "KILL_PROCESS",
     "KILL_THREAD",
@@ -25,39 +26,42 @@ const ACTION_NAMES: [&str; 9] = [
     "OTHER",
 ];
 
+/// The text of a value, empty where it is no text.
 fn text_of(value: &Value) -> &str
     ensures { result.now ≡ text_or_empty (view value.now) }
 {
-    match value.as_str() {
-        Some(text) => text,
-        None => "",
-    }
+    value.as_str().unwrap_or("")
 }
 
+/// Whether a value names an action.
 fn is_action(value: &Value) -> bool
     ensures { result ≡ is_action (text_or_empty (view value.now)) }
 {
     is_among(text_of(value), ACTION_NAMES.as_slice())
 }
 
+/// Whether each value is a text.
 fn are_texts(items: &[Value]) -> bool
     ensures { result ≡ list_all (λ v. is_some (as_str (view v))) items.now }
 {
     items.iter().all(|value| value.is_str())
 }
 
+/// Whether each value names an action.
 fn are_all_actions(items: &[Value]) -> bool
     ensures { result ≡ list_all (λ v. is_action (text_or_empty (view v))) items.now }
 {
     items.iter().all(|value| is_action(value))
 }
 
+/// Whether one of the values is this text.
 fn has_text(items: &[Value], name: &str) -> bool
     ensures { result ≡ list_any (λ v. bytes_eq (text_or_empty (view v)) name.now) items.now }
 {
     items.iter().any(|value| text_of(value) == name)
 }
 
+/// Whether there are values, and each names an action.
 #[tactic(auto, using(crate::proofs::ActionLemmas::are_actions_view))]
 fn are_actions(items: &[Value]) -> bool
     ensures { result ≡ are_actions (map (λ v. text_or_empty (view v)) items.now) }
@@ -65,6 +69,7 @@ fn are_actions(items: &[Value]) -> bool
     !items.is_empty() && are_all_actions(items)
 }
 
+/// The set of the actions that texts name, empty where one of them names none.
 #[tactic(auto, using(crate::proofs::ActionLemmas::is_named_view))]
 fn set_from(items: &[Value]) -> ActionSet
     ensures { result ≡ encoded_set (map (λ v. text_or_empty (view v)) items.now) }
@@ -85,6 +90,7 @@ fn set_from(items: &[Value]) -> ActionSet
     }
 }
 
+/// The same of an array, none where a value is no text.
 #[tactic(auto, using(crate::proofs::TreeLemmas::texts_view, crate::proofs::TreeLemmas::no_texts_view))]
 fn set_in_items(items: &[Value]) -> Option<ActionSet>
     ensures { result ≡ option_map encoded_set (texts_of (items_view items.now)) }
@@ -96,6 +102,7 @@ fn set_in_items(items: &[Value]) -> Option<ActionSet>
     }
 }
 
+/// The same of a value, none where it is no array of texts.
 fn set_in(value: &Value) -> Option<ActionSet>
     ensures { result ≡ option_map encoded_set (texts_of_value (view value.now)) }
 {

@@ -2,20 +2,20 @@
 
 ghost use Rattle.std.specs.Prelude.{◌≡◌, ◌≤◌, length, map};
 ghost use Rattle.toml.specs.View.{view, table_view};
-ghost use Rattle.sf_ask.specs.Questions.{question_of};
 ghost use Rattle.sf_audit.specs.Faults.{Gives};
-ghost use Rattle.sf_audit.specs.Encoding.{encoded_range, encoded_mask, table_or_empty, numbered_fault, with_number};
+ghost use Rattle.sf_audit.specs.Encoding.{ranges_and_masks, table_or_empty, numbered_fault, fault_outside, question_of_parts};
 ghost use Rattle.sf_audit.specs.Policies.{question_of_table, questions_from};
 
 use super::Version;
 use super::actions::actions_in;
 use super::keys::{has_question_keys, text_in};
-use super::words::{WordEntry, entries_in, masks_of, ranges_of};
+use super::words::{WordEntry, entries_in, words_of};
 use crate::fault::Fault;
 use sf_ask::{ActionSet, Question};
 use std::alloc::Global;
 use toml::{Table, Value};
 
+/// What is wrong with the question with this number.
 fn numbered(question: usize, fault: sf_ask::Fault) -> Fault
     ensures { result ≡ numbered_fault question fault }
 {
@@ -28,6 +28,18 @@ fn numbered(question: usize, fault: sf_ask::Fault) -> Fault
     }
 }
 
+/// What is wrong with a question that has a number outside 32 bits: its name, or else a range.
+fn outside(number: usize, name: &str) -> Fault
+    ensures { result ≡ fault_outside number name.now }
+{
+    if Question::is_name(name) {
+        Fault::Range { question: number }
+    } else {
+        Fault::Name { question: number }
+    }
+}
+
+/// The question of a name, of what is said of the sixteen words, and of actions.
 fn question_of_parts(
     alloc: Global,
     number: usize,
@@ -35,16 +47,19 @@ fn question_of_parts(
     entries: &[WordEntry; 16],
     actions: ActionSet,
 ) -> Result<Question, Fault>
-    ensures { Gives (λ q. q) result (with_number number
-        (question_of name.now (map encoded_range entries.now)
-        (map encoded_mask entries.now) actions)) }
+    ensures { Gives (λ q. q) result (question_of_parts number name.now
+        (ranges_and_masks entries.now) actions) }
 {
-    match Question::of_masked(alloc, name, ranges_of(entries), masks_of(entries), actions) {
-        Ok(question) => Ok(question),
-        Err(fault) => Err(numbered(number, fault)),
-    }
+    let Some(words) = words_of(entries) else {
+        return Err(outside(number, name));
+    };
+    let ranges = words.0;
+    let masks = words.1;
+    let question = Question::of_masked(alloc, name, ranges, masks, actions);
+    question.map_err(|fault| numbered(number, fault))
 }
 
+/// The question of a table, each of whose values is to be of its kind.
 fn question_of_table(
     alloc: Global,
     version: Version,
@@ -68,6 +83,7 @@ fn question_of_table(
     question_of_parts(alloc, number, name, &entries, actions)
 }
 
+/// The question of a value, which is to be a table.
 fn question_of_value(
     alloc: Global,
     version: Version,
@@ -95,13 +111,8 @@ pub(super) fn questions_in(
 {
     let mut questions = Vec::new(alloc);
     for (i, value) in items.iter().enumerate() {
-        match question_of_value(alloc, version, i + 1, value) {
-            Ok(question) => match questions.push(question) {
-                Ok(()) => {}
-                Err(_) => return Err(Fault::Memory),
-            },
-            Err(fault) => return Err(fault),
-        }
+        let question = question_of_value(alloc, version, i + 1, value)?;
+        questions.push(question)?;
     }
     Ok(questions)
 }

@@ -6,7 +6,7 @@ ghost use Rattle.toml.specs.View.{view, items_view, table_view};
 ghost use Rattle.sf_audit.specs.Keys.{word_keys};
 ghost use Rattle.sf_audit.specs.Trees.{each_of};
 ghost use Rattle.sf_audit.specs.Words.{between, entry_of_array, entry_of_table, entry_of_versioned, entry_of, entry_at};
-ghost use Rattle.sf_audit.specs.Encoding.{word_in, encoded_word, encoded_range, encoded_mask};
+ghost use Rattle.sf_audit.specs.Encoding.{word_in, numbers_in, ranges_and_masks};
 
 use super::Version;
 use super::keys::{WORD_KEYS, has_mask_keys, number_in, number_in_or, value_at};
@@ -21,8 +21,10 @@ pub(crate) struct WordEntry {
     pub(crate) value: i64,
 }
 
+/// The greatest number of 32 bits.
 const MOST: i64 = 0xffff_ffff;
 
+/// A word that isn't named: it may have any number.
 const ANY_NUMBER: WordEntry = WordEntry {
     low: 0,
     high: MOST,
@@ -30,6 +32,7 @@ const ANY_NUMBER: WordEntry = WordEntry {
     value: 0,
 };
 
+/// A range, without a mask.
 fn range_entry(low: i64, high: i64) -> WordEntry
     ensures { result ≡ between low high }
 {
@@ -41,6 +44,7 @@ fn range_entry(low: i64, high: i64) -> WordEntry
     }
 }
 
+/// What an array says: the two ends of a range.
 fn array_entry(items: &[Value]) -> Option<WordEntry>
     ensures { result ≡ entry_of_array (items_view items.now) }
 {
@@ -50,6 +54,7 @@ fn array_entry(items: &[Value]) -> Option<WordEntry>
     }
 }
 
+/// What a table says: a mask and its value, and the ends of a range where they are named.
 fn table_entry(table: &Table) -> Option<WordEntry>
     ensures { result ≡ entry_of_table (table_view table.now) }
 {
@@ -64,6 +69,7 @@ fn table_entry(table: &Table) -> Option<WordEntry>
     })
 }
 
+/// The same in a policy of this version: in the first a table says nothing.
 fn versioned_entry(version: Version, table: &Table) -> Option<WordEntry>
     ensures { result ≡ entry_of_versioned version (table_view table.now) }
 {
@@ -73,6 +79,7 @@ fn versioned_entry(version: Version, table: &Table) -> Option<WordEntry>
     }
 }
 
+/// What the value of a word says, none where it is of a wrong kind.
 fn value_entry(version: Version, value: &Value) -> Option<WordEntry>
     ensures { result ≡ entry_of version (view value.now) }
 {
@@ -84,6 +91,7 @@ fn value_entry(version: Version, value: &Value) -> Option<WordEntry>
     }
 }
 
+/// What a table says of the word with this key, none where its value is of a wrong kind.
 fn entry_in(version: Version, table: &Table, key: &str) -> Option<WordEntry>
     ensures { result ≡ entry_at version (get_member key.now (table_view table.now)) }
 {
@@ -93,6 +101,7 @@ fn entry_in(version: Version, table: &Table, key: &str) -> Option<WordEntry>
     }
 }
 
+/// The same of sixteen words, none where one of the values is of a wrong kind.
 fn entries_at(version: Version, table: &Table, keys: &[&str; 16]) -> Option<[WordEntry; 16]>
     ensures { result ≡ each_of (λ key. entry_at version (get_member key (table_view table.now)))
         (map (λ key. key.now) keys.now) }
@@ -112,41 +121,33 @@ pub(super) fn entries_in(version: Version, table: &Table) -> Option<[WordEntry; 
     entries_at(version, table, &WORD_KEYS)
 }
 
+/// The number, where it is of 32 bits.
 fn word_from(number: i64) -> Option<u32>
     ensures { result ≡ word_in number }
 {
     u32::try_from(number).ok()
 }
 
-fn encode(entry: WordEntry) -> ((u32, u32), (u32, u32))
-    ensures { result ≡ encoded_word entry }
+/// The ends of an entry's range, and its mask and value, where all four are of 32 bits.
+fn numbers_of(entry: WordEntry) -> Option<((u32, u32), (u32, u32))>
+    ensures { result ≡ numbers_in entry }
 {
-    let low = word_from(entry.low);
-    let high = word_from(entry.high);
-    match (low, high, word_from(entry.mask), word_from(entry.value)) {
-        (Some(low), Some(high), Some(mask), Some(value)) => ((low, high), (mask, value)),
-        _ => ((1, 0), (0, 0)),
-    }
+    Some((
+        (word_from(entry.low)?, word_from(entry.high)?),
+        (word_from(entry.mask)?, word_from(entry.value)?),
+    ))
 }
 
-/// The ranges of the entries; an entry with a number outside 32 bits has one without a number.
-pub(super) fn ranges_of(entries: &[WordEntry; 16]) -> [(u32, u32); 16]
-    ensures { result ≡ map encoded_range entries.now }
+/// The ranges of the entries, and their masks, each with its value, or none where a number isn't of 32 bits.
+pub(super) fn words_of(entries: &[WordEntry; 16]) -> Option<([(u32, u32); 16], [(u32, u32); 16])>
+    ensures { result ≡ ranges_and_masks entries.now }
 {
     let mut ranges = [(0, 0); 16];
-    for (i, entry) in entries.iter().enumerate() {
-        ranges[i] = encode(*entry).0;
-    }
-    ranges
-}
-
-/// The masks of the entries, each with its value.
-pub(super) fn masks_of(entries: &[WordEntry; 16]) -> [(u32, u32); 16]
-    ensures { result ≡ map encoded_mask entries.now }
-{
     let mut masks = [(0, 0); 16];
     for (i, entry) in entries.iter().enumerate() {
-        masks[i] = encode(*entry).1;
+        let numbers = numbers_of(*entry)?;
+        ranges[i] = numbers.0;
+        masks[i] = numbers.1;
     }
-    masks
+    Some((ranges, masks))
 }

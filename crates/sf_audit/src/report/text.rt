@@ -12,6 +12,7 @@ use sf_book::{Counts, Region, Settled};
 use sf_insn::{Input, bytes_of_input};
 use std::alloc::{AllocError, Global};
 
+/// A region's name, a letter for each truth value, or a dash where there is none.
 fn push_trace(text: &mut String, name: &[bool]) -> Result<(), AllocError>
     ensures { OnOk result (string_bytes text.new ≡ string_bytes text.old ++ name_text name.now) }
 {
@@ -24,6 +25,7 @@ fn push_trace(text: &mut String, name: &[bool]) -> Result<(), AllocError>
     Ok(())
 }
 
+/// The line of a region: its number, its name and its answer.
 fn push_region(text: &mut String, number: usize, region: &Region) -> Result<(), AllocError>
     ensures { OnOk result (string_bytes text.new ≡ string_bytes text.old
         ++ region_line number region.now) }
@@ -37,6 +39,7 @@ fn push_region(text: &mut String, number: usize, region: &Region) -> Result<(), 
     write!(text, " {info}\n")
 }
 
+/// The lines of all regions, in the order of their names.
 fn push_regions(text: &mut String, settled: &Settled) -> Result<(), AllocError>
     ensures { OnOk result (string_bytes text.new ≡ string_bytes text.old
         ++ region_lines 1 settled.now.regions) }
@@ -47,6 +50,7 @@ fn push_regions(text: &mut String, settled: &Settled) -> Result<(), AllocError>
     Ok(())
 }
 
+/// The same where they are asked for, else nothing.
 fn push_shown_regions(text: &mut String, shown: bool, settled: &Settled) -> Result<(), AllocError>
     ensures { OnOk result (string_bytes text.new ≡ string_bytes text.old
         ++ shown_lines shown settled.now.regions) }
@@ -57,6 +61,7 @@ fn push_shown_regions(text: &mut String, shown: bool, settled: &Settled) -> Resu
     Ok(())
 }
 
+/// The hexadecimal digits of an input's bytes.
 fn hex_of(alloc: Global, input: &Input) -> Result<String, AllocError>
     ensures { IfOk result (λ digits. string_bytes digits ≡ hex_text input.now) }
 {
@@ -64,6 +69,7 @@ fn hex_of(alloc: Global, input: &Input) -> Result<String, AllocError>
     hex::encode(alloc, &bytes)
 }
 
+/// The line of a question: its number, its name and its reply, with the example of an allowed one.
 fn push_question(
     alloc: Global,
     text: &mut String,
@@ -84,6 +90,7 @@ fn push_question(
     }
 }
 
+/// The lines of all questions, in their order.
 fn push_questions(
     alloc: Global,
     text: &mut String,
@@ -100,6 +107,7 @@ fn push_questions(
     Ok(())
 }
 
+/// The line that tells how much was audited.
 fn push_size(
     text: &mut String,
     filters: usize,
@@ -115,6 +123,7 @@ fn push_size(
     )
 }
 
+/// The line of an exploration's counts.
 fn push_counts(text: &mut String, counts: Counts) -> Result<(), AllocError>
     ensures { OnOk result (string_bytes text.new ≡ string_bytes text.old ++ counts_line counts) }
 {
@@ -129,6 +138,7 @@ fn push_counts(text: &mut String, counts: Counts) -> Result<(), AllocError>
     )
 }
 
+/// The line that tells how much was audited, of a stack.
 fn push_stack(text: &mut String, settled: &Settled, questions: usize) -> Result<(), AllocError>
     ensures { OnOk result (string_bytes text.new ≡ string_bytes text.old
         ++ size_line (length settled.now.stack) (path_length settled.now.stack) questions) }
@@ -137,6 +147,7 @@ fn push_stack(text: &mut String, settled: &Settled, questions: usize) -> Result<
     push_size(text, stack.programs().len(), stack.path_length(), questions)
 }
 
+/// What stands above the questions: the report's version, how much was audited, and the counts.
 fn push_head(text: &mut String, settled: &Settled, questions: usize) -> Result<(), AllocError>
     ensures { OnOk result (string_bytes text.new ≡ string_bytes text.old
         ++ head_text settled.now questions) }
@@ -146,6 +157,7 @@ fn push_head(text: &mut String, settled: &Settled, questions: usize) -> Result<(
     push_counts(text, settled.counts())
 }
 
+/// The line that tells how many questions got which reply.
 fn push_total(
     text: &mut String,
     never: usize,
@@ -161,6 +173,7 @@ fn push_total(
     )
 }
 
+/// The same line, for these replies.
 fn push_totals(text: &mut String, replies: &[Reply]) -> Result<(), AllocError>
     ensures { OnOk result (string_bytes text.new ≡ string_bytes text.old
         ++ totals_line replies.now) }

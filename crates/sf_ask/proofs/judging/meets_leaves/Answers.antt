@@ -11,7 +11,7 @@ returns-then-not-branch c =
     let p = c.args.piece.now in
     let d = c.args.input.now in
     let met : c.in_ok-holds_of_leaves.field-0 ≡ is_met p.pool d c.cond.result =
-    c.in_ok-holds_of_leaves.ensures ∙ ap (λ ns. is_met ns d c.cond.result) c.pool.ensures.value in
+    c.in_ok-holds_of_leaves.ensures.met ∙ ap (λ ns. is_met ns d c.cond.result) c.pool.ensures.value in
     sym (not-met (is_met p.pool d) p.conditions c.loop-i.i c.cond.result c.cond.ensures.value
     (sym met ∙ c.if-not-branch.true))
 
@@ -20,7 +20,7 @@ loop-i-preserved c =
     let p = c.args.piece.now in
     let d = c.args.input.now in
     let met : c.in_ok-holds_of_leaves.field-0 ≡ is_met p.pool d c.cond.result =
-    c.in_ok-holds_of_leaves.ensures ∙ ap (λ ns. is_met ns d c.cond.result) c.pool.ensures.value in
+    c.in_ok-holds_of_leaves.ensures.met ∙ ap (λ ns. is_met ns d c.cond.result) c.pool.ensures.value in
     met-more (is_met p.pool d) p.conditions c.loop-i.i c.cond.result c.cond.ensures.value
     c.loop-i.invariant (sym met ∙ c.if-not-branch.false)
 

@@ -1,20 +1,13 @@
-use Rattle.sf_audit.proofs.FilterLemmas.{unlawful_due}
+use Rattle.std.proofs.Common.{◌≡◌, rules}
+use Rattle.sf_audit.specs.FaultPlaces.{check_fault}
+use Rattle.sf_audit.proofs.FilterLemmas.{mapped_err, unlawful_due}
 use Rattle.sf_audit.proofs.filters.program_of.Goals as goal
-
-pub returns-in-Ok-check-clause-accepted : goal.returns-in-Ok-check-clause-accepted
-returns-in-Ok-check-clause-accepted c =
-    let accepted = rw c.deref.ensures.value at c.in-Ok-check.ensures.accepted in
-    record {
-      raws = c.in-Ok.raws.items;
-      fields = c.in-Ok.ensures.fields;
-      spelled = c.in-Ok.ensures.spelled;
-      read = accepted.0;
-      lawful = accepted.1;
-    }
 
 pub returns-clause-refused : goal.returns-clause-refused
 returns-clause-refused c =
-    rw c.unlawful.ensures
-    (unlawful_due c.args.filter c.args.bytes.now c.in-Ok.raws.items c.in-Err-check.fault c.in-Ok.ensures.fields
-    c.in-Ok.ensures.spelled c.in-Ok.ensures.some c.in-Ok.ensures.short
-    (rw c.deref.ensures.value at c.in-Err-check.ensures.refused))
+    mapped_err c.check.result c.map_err-2.result c.map_err-2.ensures.cases c.check.ensures.refused
+    (λ e d is post refused.
+    let same : d ≡ check_fault c.args.filter e = search rules in
+    rw same
+    (unlawful_due c.args.filter c.args.bytes.now c.in_ok-raws.raws.items e (search rules) (search rules) (search rules)
+    (search rules) (rw c.deref.ensures.value at refused)))

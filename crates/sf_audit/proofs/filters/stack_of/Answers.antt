@@ -1,16 +1,14 @@
-use Rattle.std.proofs.Common.{arith, rules, inr}
-use Rattle.sf_audit.proofs.FilterLemmas.{path_too_long, refused_or_memory, few_files}
+use Rattle.std.proofs.Common.{◌≡◌, length, arith, rules}
+use Rattle.sf_audit.specs.FaultPlaces.{check_fault}
+use Rattle.sf_audit.proofs.FilterLemmas.{mapped_err, stack_refused, few_files}
 use Rattle.sf_audit.proofs.filters.stack_of.Goals as goal
 
-pub returns-in-Err-of-clause-refused : goal.returns-in-Err-of-clause-refused
-returns-in-Err-of-clause-refused c =
+pub returns-clause-refused : goal.returns-clause-refused
+returns-clause-refused c =
     let few = few_files c.args.filters.now (search rules) (omega arith) in
-    inr (
-      few,
-      path_too_long _ _ c.of.result c.in-Err-of.field-0 few c.in-Ok.ensures.accepted c.in-Err-of.is
-          c.in-Err-of.ensures.only c.of.ensures.no_filter.0 c.of.ensures.too_many.0 c.of.ensures.path_length.0,
-    )
-
-pub returns-in-Err-clause-refused : goal.returns-in-Err-clause-refused
-returns-in-Err-clause-refused c =
-    refused_or_memory _ _ (few_files c.args.filters.now (search rules) (omega arith)) c.in-Err.ensures.refused
+    mapped_err c.of.result c.map_err.result c.map_err.ensures.cases c.of.ensures.only
+    (λ e d is post only.
+    let same : d ≡ check_fault (length c.args.filters.now) e = search rules in
+    rw same
+    (stack_refused _ _ (length c.args.filters.now) c.of.result e few c.in_ok-programs.ensures.accepted is only
+    c.of.ensures.no_filter.0 c.of.ensures.too_many.0 c.of.ensures.path_length.0))
