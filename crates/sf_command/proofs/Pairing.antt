@@ -19,9 +19,6 @@ pub record PairedSoFar {X Y : Type 0} (Holds : X → Y → Type 0) (xs : List X)
   pub count : length ys ≡ place
   pub each : (n : ℕ) (x : X) → n < place → slice_get xs n ≡ Some x → (y : Y) × (slice_get ys n ≡ Some y) × Holds x y
 
-pub paired_none : {X Y : Type 0} (Holds : X → Y → Type 0) (xs : List X) → PairedSoFar Holds xs [] 0
-paired_none Holds xs = record { count = refl; each = λ n x lt. absurd (omega arith) }
-
 pub paired_more : {X Y : Type 0} (Holds : X → Y → Type 0) (xs : List X) (ys ys' : List Y) (place : ℕ) (x : X) (y : Y)
     → PairedSoFar Holds xs ys place → slice_get xs place ≡ Some x → Holds x y → ys' ≡ ys ++ y ∷ []
     → PairedSoFar Holds xs ys' (place + 1)

@@ -37,10 +37,8 @@ pub fn input_of(text: &str) -> Result<Input, Fault>
     ensures spelled { IfOk result (λ d. decode_sized text.now 64 ≡ Ok (input_bytes d)) }
     ensures refused { IfErr result (λ e. (e ≡ InputFault) × (IsOk (decode_sized text.now 64) → ⊥)) }
 {
-    match <[u8; 64] as FromHex>::from_hex(text) {
-        Ok(bytes) => Ok(input_of_bytes(&bytes)),
-        Err(_) => Err(Fault::Input),
-    }
+    let bytes = <[u8; 64] as FromHex>::from_hex(text).map_err(|_| Fault::Input)?;
+    Ok(input_of_bytes(&bytes))
 }
 
 /// Writes the number of instructions of each filter and the path length of their stack.
@@ -73,10 +71,8 @@ fn eval_text(
     if !traced && !brief {
         return Ok(text);
     }
-    match push_trace(alloc, &mut text, stack, input, answer, brief) {
-        Ok(()) => Ok(text),
-        Err(_) => Err(Fault::Memory),
-    }
+    push_trace(alloc, &mut text, stack, input, answer, brief)?;
+    Ok(text)
 }
 
 /// Writes what the stack of the filters answers to the input, and where that comes from, if it is asked for.

@@ -154,6 +154,7 @@ fn explain<O: Write, E: Write>(
     }
 }
 
+/// Does what the words say, and gives the exit status, or why it could not be done.
 fn reply<R: Threads + Wait + Sync, F: Files, O: Write, E: Write>(
     rt: &R,
     alloc: Global,

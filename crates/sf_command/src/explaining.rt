@@ -7,6 +7,7 @@ ghost use Rattle.sf_command.specs.Runs.{IsUnasked, subcommand_at};
 use crate::options::explains_of;
 use crate::places::position_of;
 use crate::policies::push_refusal;
+use crate::subjects::{Subject, subject_of};
 use crate::words;
 use clap::ArgMatches;
 use sf_audit::Fault;
@@ -22,26 +23,12 @@ pub struct Notes {
 }
 
 impl Notes {
+    /// Nothing was read yet.
     pub fn new(alloc: Global) -> Notes {
         Notes {
             policy: Vec::new(alloc),
             files: 0,
         }
-    }
-}
-
-/// The filter that a fault names, from 1.
-fn filter_of(fault: &Fault) -> Option<usize> {
-    match fault {
-        Fault::Ragged { filter } => Some(*filter),
-        Fault::Empty { filter } => Some(*filter),
-        Fault::TooLong { filter } => Some(*filter),
-        Fault::Last { filter } => Some(*filter),
-        Fault::Code { filter, .. } => Some(*filter),
-        Fault::Field { filter, .. } => Some(*filter),
-        Fault::Jump { filter, .. } => Some(*filter),
-        Fault::Scratch { filter, .. } => Some(*filter),
-        _ => None,
     }
 }
 
@@ -72,10 +59,8 @@ fn push_unread(text: &mut String, path: &str, reason: &str) -> Result<(), AllocE
     write!(text, "file {path:?}: {reason}\n")
 }
 
-fn push_filter(text: &mut String, found: &ArgMatches<'_>, fault: &Fault) -> Result<(), AllocError> {
-    let Some(filter) = filter_of(fault) else {
-        return Ok(());
-    };
+/// The number and the file of a filter that is refused.
+fn push_filter(text: &mut String, found: &ArgMatches<'_>, filter: usize) -> Result<(), AllocError> {
     let path = filter_path(found, filter.saturating_sub(1));
     write!(text, "filter {filter} {path:?}\n")
 }
@@ -92,6 +77,7 @@ fn no_digit(input: &str) -> Option<usize> {
     None
 }
 
+/// Why a text spells no input.
 fn push_input(text: &mut String, input: &str) -> Result<(), AllocError> {
     match no_digit(input) {
         Some(place) => write!(text, "character {place} is no hexadecimal digit\n"),
@@ -129,14 +115,19 @@ fn told(
     reason: &str,
 ) -> Result<String, AllocError> {
     let mut text = String::new(alloc);
-    match fault.number() {
-        40..=46 | 48 => {
+    match subject_of(fault) {
+        Subject::Filter(filter) => push_filter(&mut text, found, filter)?,
+        Subject::Text
+        | Subject::Version
+        | Subject::TopKey
+        | Subject::Count
+        | Subject::Question(_) => {
             let path = found.get_str("policy").unwrap_or("");
             push_policy(alloc, &mut text, path, &notes.policy, fault)?;
         }
-        47 => push_input(&mut text, found.get_str("input").unwrap_or(""))?,
-        50 => push_unread(&mut text, unread_path(found, notes.files), reason)?,
-        _ => push_filter(&mut text, found, fault)?,
+        Subject::Input => push_input(&mut text, found.get_str("input").unwrap_or(""))?,
+        Subject::File => push_unread(&mut text, unread_path(found, notes.files), reason)?,
+        Subject::Other => {}
     }
     Ok(text)
 }

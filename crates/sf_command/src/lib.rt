@@ -11,6 +11,7 @@ mod options;
 mod places;
 mod policies;
 mod status;
+mod subjects;
 mod telling;
 mod texts;
 mod tracing;

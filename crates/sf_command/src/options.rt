@@ -37,30 +37,37 @@ pub fn workers_of(found: &ArgMatches<'_>) -> u8
     if 0 < asked && asked <= 64 { asked } else { 4 }
 }
 
+/// Whether an option without a value is given.
+fn is_on(found: &ArgMatches<'_>, name: &str) -> bool
+    ensures { IsSwitch (one_of name.now (rows_of (found_of found.now))) result }
+{
+    found.get_flag(name)
+}
+
 /// Whether the report of an audit lists the settled regions.
 pub fn regions_of(found: &ArgMatches<'_>) -> bool
     ensures { IsSwitch (one_of (codes "regions") (rows_of (found_of found.now))) result }
 {
-    found.get_flag("regions")
+    is_on(found, "regions")
 }
 
 /// Whether an evaluation tells where its answer comes from.
 pub fn traced_of(found: &ArgMatches<'_>) -> bool
     ensures { IsSwitch (one_of (codes "trace") (rows_of (found_of found.now))) result }
 {
-    found.get_flag("trace")
+    is_on(found, "trace")
 }
 
 /// Whether it leaves out what is false there.
 pub fn brief_of(found: &ArgMatches<'_>) -> bool
     ensures { IsSwitch (one_of (codes "trace-true") (rows_of (found_of found.now))) result }
 {
-    found.get_flag("trace-true")
+    is_on(found, "trace-true")
 }
 
 /// Whether it is told where an error lies.
 pub fn explains_of(found: &ArgMatches<'_>) -> bool
     ensures { IsSwitch (one_of (codes "explain-errors") (rows_of (found_of found.now))) result }
 {
-    found.get_flag("explain-errors")
+    is_on(found, "explain-errors")
 }

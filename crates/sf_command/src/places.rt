@@ -30,6 +30,7 @@ fn is_at_key(text: &str, key: &str) -> bool {
     }
 }
 
+/// Whether a line is the header of a table.
 fn is_header(line: &str) -> bool {
     line.trim_start().starts_with('[')
 }
@@ -116,6 +117,7 @@ struct Reading {
     questions: usize,
 }
 
+/// Nothing of the array was read yet.
 const UNREAD: Reading = Reading {
     depth: 0,
     closing: None,

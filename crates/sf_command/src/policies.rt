@@ -2,6 +2,7 @@
 
 use crate::keys::{refused_key, refused_top_key};
 use crate::places::{position_of, question_line, top_line};
+use crate::subjects::{Subject, subject_of};
 use sf_audit::Fault;
 use std::alloc::{AllocError, Global};
 use toml::{Table, Value};
@@ -11,18 +12,6 @@ const MOST_CHARACTERS: usize = 160;
 
 /// The first question that is one too many.
 const TOO_MANY: usize = 257;
-
-/// The question that a fault names, from 1.
-fn question_of(fault: &Fault) -> Option<usize> {
-    match fault {
-        Fault::Key { question } => Some(*question),
-        Fault::Range { question } => Some(*question),
-        Fault::Actions { question } => Some(*question),
-        Fault::Name { question } => Some(*question),
-        Fault::Mask { question } => Some(*question),
-        _ => None,
-    }
-}
 
 /// The text of a line, without what a terminal would obey.
 fn push_shown(text: &mut String, line: &str) -> Result<(), AllocError> {
@@ -107,21 +96,6 @@ fn push_count(text: &mut String, policy: &str, table: &Table) -> Result<(), Allo
     push_line(text, policy, question_line(policy, TOO_MANY, ""))
 }
 
-/// What is wrong with a policy, but for its questions one by one.
-fn push_top(
-    text: &mut String,
-    policy: &str,
-    table: &Table,
-    fault: &Fault,
-) -> Result<(), AllocError> {
-    match fault {
-        Fault::Version => push_top_key(text, policy, table, "version"),
-        Fault::TopKey => push_top_key(text, policy, table, refused_top_key(table)),
-        Fault::Count => push_count(text, policy, table),
-        _ => Ok(()),
-    }
-}
-
 /// The table of a question, by its number from 1.
 fn table_of(policy: &Table, question: usize) -> Option<&Table> {
     let place = question.checked_sub(1)?;
@@ -176,6 +150,27 @@ fn push_question(
     push_question_key(text, policy, question, asked, refused)
 }
 
+/// What is wrong with a policy that is TOML.
+fn push_cause(
+    alloc: Global,
+    text: &mut String,
+    policy: &str,
+    table: &Table,
+    fault: &Fault,
+) -> Result<(), AllocError> {
+    match subject_of(fault) {
+        Subject::Version => push_top_key(text, policy, table, "version"),
+        Subject::TopKey => push_top_key(text, policy, table, refused_top_key(table)),
+        Subject::Count => push_count(text, policy, table),
+        Subject::Question(question) => {
+            push_question(alloc, text, policy, table, question, fault.number())
+        }
+        Subject::Filter(_) | Subject::Text | Subject::Input | Subject::File | Subject::Other => {
+            Ok(())
+        }
+    }
+}
+
 /// Why a policy is refused, and where, as far as that is known.
 pub fn push_refusal(
     alloc: Global,
@@ -184,12 +179,7 @@ pub fn push_refusal(
     fault: &Fault,
 ) -> Result<(), AllocError> {
     match toml::table_from_str(alloc, policy) {
-        Ok(table) => match question_of(fault) {
-            Some(question) => {
-                push_question(alloc, text, policy, &table, question, fault.number())
-            }
-            None => push_top(text, policy, &table, fault),
-        },
+        Ok(table) => push_cause(alloc, text, policy, &table, fault),
         Err(error) => push_syntax(text, policy, &error),
     }
 }

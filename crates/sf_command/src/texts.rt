@@ -18,6 +18,7 @@ pub fn answer_text(alloc: Global, answer: Answer) -> Result<String, AllocError>
     Ok(text)
 }
 
+/// The line of a filter: its number, and how many instructions it has.
 fn push_filter(text: &mut String, number: usize, instructions: usize) -> Result<(), AllocError>
     ensures { OnOk result (string_bytes text.new ≡ string_bytes text.old
         ++ filter_line number instructions) }
@@ -25,6 +26,7 @@ fn push_filter(text: &mut String, number: usize, instructions: usize) -> Result<
     write!(text, "filter {number} {instructions} instructions\n")
 }
 
+/// The lines of all filters, in order of installation.
 fn push_filters(text: &mut String, programs: &[Program]) -> Result<(), AllocError>
     ensures { OnOk result (string_bytes text.new ≡ string_bytes text.old
         ++ filter_lines 1 programs.now) }
@@ -35,6 +37,7 @@ fn push_filters(text: &mut String, programs: &[Program]) -> Result<(), AllocErro
     Ok(())
 }
 
+/// The line of a stack's path length.
 fn push_path(text: &mut String, path: usize) -> Result<(), AllocError>
     ensures { OnOk result (string_bytes text.new ≡ string_bytes text.old ++ path_line path) }
 {

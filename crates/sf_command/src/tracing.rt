@@ -17,6 +17,7 @@ fn push_word(text: &mut String, word: u32) -> Result<(), AllocError>
     write!(text, "0x{word:08X}")
 }
 
+/// The line of a field of 64 bits.
 fn push_field(text: &mut String, name: &str, low: u32, high: u32) -> Result<(), AllocError>
     ensures { OnOk result (string_bytes text.new ≡ string_bytes text.old
         ++ field_line name.now low high) }
@@ -26,6 +27,7 @@ fn push_field(text: &mut String, name: &str, low: u32, high: u32) -> Result<(), 
     write!(text, "{low:08X}\n")
 }
 
+/// The lines of the call's number, the architecture and the instruction pointer.
 fn push_call(text: &mut String, input: &Input) -> Result<(), AllocError>
     ensures { OnOk result (string_bytes text.new ≡ string_bytes text.old ++ call_text input.now) }
 {
@@ -36,6 +38,7 @@ fn push_call(text: &mut String, input: &Input) -> Result<(), AllocError>
     push_field(text, "ip", input.words[2], input.words[3])
 }
 
+/// The lines of the arguments 0 to 2.
 fn push_first_arguments(text: &mut String, input: &Input) -> Result<(), AllocError>
     ensures { OnOk result (string_bytes text.new ≡ string_bytes text.old
         ++ first_arguments input.now) }
@@ -45,6 +48,7 @@ fn push_first_arguments(text: &mut String, input: &Input) -> Result<(), AllocErr
     push_field(text, "arg2", input.words[8], input.words[9])
 }
 
+/// The lines of the arguments 3 to 5.
 fn push_last_arguments(text: &mut String, input: &Input) -> Result<(), AllocError>
     ensures { OnOk result (string_bytes text.new ≡ string_bytes text.old
         ++ last_arguments input.now) }
@@ -54,6 +58,7 @@ fn push_last_arguments(text: &mut String, input: &Input) -> Result<(), AllocErro
     push_field(text, "arg5", input.words[14], input.words[15])
 }
 
+/// The lines of all fields of an input.
 fn push_input(text: &mut String, input: &Input) -> Result<(), AllocError>
     ensures { OnOk result (string_bytes text.new ≡ string_bytes text.old ++ input_text input.now) }
 {
@@ -74,12 +79,14 @@ fn sign_of(test: Test) -> &'static str
     }
 }
 
+/// The word for a truth value.
 fn truth_of(truth: bool) -> &'static str
     ensures { result.now ≡ truth_text truth }
 {
     if truth { "true" } else { "false" }
 }
 
+/// What A is compared with, and how that came out.
 fn push_compared(text: &mut String, sign: &str, other: u32, truth: bool) -> Result<(), AllocError>
     ensures { OnOk result (string_bytes text.new ≡ string_bytes text.old
         ++ compared_text sign.now other truth) }
@@ -88,6 +95,7 @@ fn push_compared(text: &mut String, sign: &str, other: u32, truth: bool) -> Resu
     write!(text, " {sign} 0x{other:08X} {truth}\n")
 }
 
+/// The line of a comparison of A.
 fn push_test(
     text: &mut String,
     number: usize,
@@ -105,6 +113,7 @@ fn push_test(
     push_compared(text, sign, other, truth)
 }
 
+/// The line of what a filter met.
 fn push_meeting(text: &mut String, number: usize, meeting: Meeting) -> Result<(), AllocError>
     ensures { OnOk result (string_bytes text.new ≡ string_bytes text.old
         ++ meeting_line number meeting) }
@@ -133,6 +142,7 @@ fn is_false(met: Met) -> bool
     }
 }
 
+/// The same, but in brief nothing where it is false.
 fn push_shown(
     text: &mut String,
     brief: bool,
@@ -148,6 +158,7 @@ fn push_shown(
     push_meeting(text, number, meeting)
 }
 
+/// The lines of all that a filter met, in order.
 fn push_meetings(
     text: &mut String,
     brief: bool,
@@ -218,6 +229,7 @@ fn push_filter(
     Ok(stands)
 }
 
+/// Whether one of the two is true.
 fn either(one: bool, other: bool) -> bool
     ensures { result ≡ (one || other) }
 {

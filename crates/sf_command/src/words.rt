@@ -35,6 +35,15 @@ fn option<'a>(alloc: Global, name: &'a str, value: &'a str) -> Arg<'a>
     Arg::new(alloc, name).long(name).value_name(value)
 }
 
+/// An option without a value.
+fn switch<'a>(alloc: Global, name: &'a str) -> Arg<'a>
+    ensures rule { rule_of result ≡ switch_rule name.entry.now }
+    ensures own { result.global ≡ false }
+{
+    Arg::new(alloc, name).long(name).action(ArgAction::SetTrue)
+}
+
+/// `--policy`: the file that asks the questions.
 fn policy<'a>(alloc: Global) -> Arg<'a>
     ensures rule { rule_of result ≡ needed_rule (codes "policy") }
     ensures own { result.global ≡ false }
@@ -44,6 +53,7 @@ fn policy<'a>(alloc: Global) -> Arg<'a>
         .help("The policy file, which asks the questions")
 }
 
+/// `--budget`: how many works are committed at most.
 fn budget<'a>(alloc: Global) -> Arg<'a>
     ensures rule { rule_of result ≡ number_rule (codes "budget") 1000000 (codes "100000") }
     ensures own { result.global ≡ false }
@@ -55,6 +65,7 @@ fn budget<'a>(alloc: Global) -> Arg<'a>
         .help("The most pieces that are worked on, 1 to 1000000")
 }
 
+/// `--workers`: how many workers there are.
 fn workers<'a>(alloc: Global) -> Arg<'a>
     ensures rule { rule_of result ≡ number_rule (codes "workers") 64 (codes "4") }
     ensures own { result.global ≡ false }
@@ -66,16 +77,15 @@ fn workers<'a>(alloc: Global) -> Arg<'a>
         .help("The number of workers, 1 to 64")
 }
 
+/// `--regions`: whether a report lists the regions.
 fn regions<'a>(alloc: Global) -> Arg<'a>
     ensures rule { rule_of result ≡ switch_rule (codes "regions") }
     ensures own { result.global ≡ false }
 {
-    Arg::new(alloc, "regions")
-        .long("regions")
-        .action(ArgAction::SetTrue)
-        .help("List the settled regions too")
+    switch(alloc, "regions").help("List the settled regions too")
 }
 
+/// `--input`: the input that is evaluated.
 fn input<'a>(alloc: Global) -> Arg<'a>
     ensures rule { rule_of result ≡ needed_rule (codes "input") }
     ensures own { result.global ≡ false }
@@ -85,36 +95,31 @@ fn input<'a>(alloc: Global) -> Arg<'a>
     )
 }
 
+/// `--trace`: whether an evaluation tells where its answer comes from.
 fn trace<'a>(alloc: Global) -> Arg<'a>
     ensures rule { rule_of result ≡ switch_rule (codes "trace") }
     ensures own { result.global ≡ false }
 {
-    Arg::new(alloc, "trace")
-        .long("trace")
-        .action(ArgAction::SetTrue)
-        .help("Show what each filter meets and returns too")
+    switch(alloc, "trace").help("Show what each filter meets and returns too")
 }
 
+/// `--trace-true`: whether it tells that without what is false.
 fn trace_true<'a>(alloc: Global) -> Arg<'a>
     ensures rule { rule_of result ≡ switch_rule (codes "trace-true") }
     ensures own { result.global ≡ false }
 {
-    Arg::new(alloc, "trace-true")
-        .long("trace-true")
-        .action(ArgAction::SetTrue)
-        .help("The same without the comparisons that are false")
+    switch(alloc, "trace-true").help("The same without the comparisons that are false")
 }
 
+/// `--explain-errors`: whether a fault is explained under its line.
 fn explain<'a>(alloc: Global) -> Arg<'a>
     ensures rule { rule_of result ≡ switch_rule (codes "explain-errors") }
     ensures own { result.global ≡ false }
 {
-    Arg::new(alloc, "explain-errors")
-        .long("explain-errors")
-        .action(ArgAction::SetTrue)
-        .help("Explain an error under its line")
+    switch(alloc, "explain-errors").help("Explain an error under its line")
 }
 
+/// The filter files.
 fn filters<'a>(alloc: Global) -> Arg<'a>
     ensures rule { rule_of result ≡ filters_rule }
     ensures own { result.global ≡ false }
