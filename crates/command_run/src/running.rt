@@ -29,39 +29,7 @@ fn show_end<R: Print>(rt: &R, err: &Counted, status: u8) -> Result<(), Fail> {
     Ok(())
 }
 
-/// Runs a command line and shows what it writes.
-pub fn run<R: Print + Threads + Wait + Sync + AllocGlobal>(
-    rt: &R,
-    shelf: &mut Shelf,
-    line: &str,
-) -> Result<(), Fail> {
-    let alloc = rt.alloc();
-    let words = words_of(alloc, line)?;
-    let mut out = Vec::new(alloc);
-    let mut err = no_errors(alloc);
-    let status = command(rt, alloc, &words, shelf, &mut out, &mut err);
-    println!(rt; "$ {line}")?;
-    print!(rt; "{}", std::str::from_utf8(&out)?)?;
-    show_end(rt, &err, status)
-}
-
-/// Runs a command line and shows how many bytes it writes.
-pub fn count<R: Print + Threads + Wait + Sync + AllocGlobal>(
-    rt: &R,
-    shelf: &mut Shelf,
-    line: &str,
-) -> Result<(), Fail> {
-    let alloc = rt.alloc();
-    let words = words_of(alloc, line)?;
-    let mut out = Vec::new(alloc);
-    let mut err = no_errors(alloc);
-    let status = command(rt, alloc, &words, shelf, &mut out, &mut err);
-    println!(rt; "$ {line}")?;
-    println!(rt; "{} bytes", out.len())?;
-    show_end(rt, &err, status)
-}
-
-/// What came of a command line over a limited writer.
+/// What came of a command line.
 #[derive(Drop)]
 struct Ended {
     out: Limited,
@@ -88,6 +56,40 @@ fn run_over<R: Print + Threads + Wait + Sync + AllocGlobal>(
     let mut err = no_errors(alloc);
     let status = command(rt, alloc, words, shelf, &mut out, &mut err);
     Ended { out, err, status }
+}
+
+/// Shows a command line, and runs it over a writer that takes all.
+fn run_whole<R: Print + Threads + Wait + Sync + AllocGlobal>(
+    rt: &R,
+    shelf: &mut Shelf,
+    line: &str,
+) -> Result<Ended, Fail> {
+    let words = words_of(rt.alloc(), line)?;
+    println!(rt; "$ {line}")?;
+    let all = usize::MAX;
+    Ok(run_over(rt, shelf, &words, all, all, Full::Fails))
+}
+
+/// Runs a command line and shows what it writes.
+pub fn run<R: Print + Threads + Wait + Sync + AllocGlobal>(
+    rt: &R,
+    shelf: &mut Shelf,
+    line: &str,
+) -> Result<(), Fail> {
+    let Ended { out, err, status } = run_whole(rt, shelf, line)?;
+    print!(rt; "{}", std::str::from_utf8(&out.held)?)?;
+    show_end(rt, &err, status)
+}
+
+/// Runs a command line and shows how many bytes it writes.
+pub fn count<R: Print + Threads + Wait + Sync + AllocGlobal>(
+    rt: &R,
+    shelf: &mut Shelf,
+    line: &str,
+) -> Result<(), Fail> {
+    let Ended { out, err, status } = run_whole(rt, shelf, line)?;
+    println!(rt; "{} bytes", out.held.len())?;
+    show_end(rt, &err, status)
 }
 
 /// Whether two runs wrote the same and ended with the same status.

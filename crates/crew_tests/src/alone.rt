@@ -1,6 +1,6 @@
 //! One worker, with no thread.
 use crate::kit::anything;
-use samples::{ALLOW, execve_stack, op, stack_of, telling_apart};
+use samples::{ALLOW, execve_stack, op, other_text, stack_of, telling_apart};
 use sf_check::Stack;
 use sf_crew::{Fault, Gate, Open, explore, sweep};
 use std::alloc::Global;
@@ -105,13 +105,6 @@ fn a_path_computes_thousands_of_words(rt: HostRuntime) -> Result<(), Fail> {
     Ok(())
 }
 
-/// What a fault says.
-fn text_of(alloc: Global, fault: Fault) -> Result<String, Fail> {
-    let mut text = String::new(alloc);
-    write!(&mut text, "{fault}")?;
-    Ok(text)
-}
-
 #[test]
 fn faults_say_what_is_wrong(rt: HostRuntime) -> Result<(), Fail> {
     let cases = [
@@ -120,10 +113,7 @@ fn faults_say_what_is_wrong(rt: HostRuntime) -> Result<(), Fail> {
         (Fault::Spent, "the budget is spent"),
         (Fault::Memory, "out of memory"),
     ];
-    for (fault, said) in cases {
-        let text = text_of(rt.alloc(), fault)?;
-        assert!(rt; text.as_str() == said, "{text}");
-    }
+    assert_eq!(rt; other_text(rt.alloc(), &cases)?, None);
     Ok(())
 }
 

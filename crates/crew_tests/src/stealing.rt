@@ -8,6 +8,7 @@ use std::alloc::{AllocError, Global};
 use std::sync::Arc;
 use std::test::Fail;
 use std::thread;
+use std::thread::Threads;
 
 /// Leases all pieces.
 fn lease_all(alloc: Global, book: &mut Book) -> Result<Vec<Lease>, Fail> {
@@ -92,43 +93,52 @@ fn rises(ids: &[u64]) -> bool {
     true
 }
 
+/// Puts all leases, under ids from 0. False: one was handed back.
+fn put_all(owner: &mut Owner, leases: Vec<Lease>) -> bool {
+    for (place, lease) in leases.into_iter().enumerate() {
+        let (id, piece) = (place as u64, lease.piece);
+        if owner.put(Lease { id, piece }).is_err() {
+            return false;
+        }
+    }
+    true
+}
+
+/// All ids that the ends get, each on a thread of its own and in rising order.
+fn drain_all<R: Threads + Sync>(rt: &R, alloc: Global, ends: Vec<Any>) -> Result<Vec<u64>, Fail> {
+    let got = thread::map_vec(
+        rt,
+        ends,
+        &|end: Any| -> Result<Vec<u64>, AllocError> { drain(alloc, end) },
+    )?;
+    let mut all = Vec::new(alloc);
+    for ids in got {
+        let ids = ids?;
+        if !rises(&ids) {
+            return Err("ids that don't rise".into());
+        }
+        all.extend_from_slice(&ids)?;
+    }
+    Ok(all)
+}
+
 #[test]
 fn each_of_many_leases_is_got_once_and_in_order(rt: HostRuntime) -> Result<(), Fail> {
     let alloc = rt.alloc();
     let (mut owner, mut thieves) = bench(alloc, 3)?;
-    let mut put = Vec::new(alloc);
-    for (place, lease) in many_leases(alloc)?.into_iter().enumerate() {
-        put.push(lease.id)?;
-        assert!(rt;
-            owner
-                .put(Lease {
-                    id: place as u64,
-                    piece: lease.piece
-                })
-                .is_ok()
-        );
-    }
-    assert_eq!(rt; put.len(), 512);
-    let mut ends = Vec::new(alloc);
+    let leases = many_leases(alloc)?;
+    assert_eq!(rt; leases.len(), 512);
+    assert!(rt; put_all(&mut owner, leases));
     let mut first = thieves.pop().ok_or("no thief")?;
     assert!(rt; matches!(first.steal(), Steal::Success(lease) if lease.id == 0));
+    let mut ends = Vec::new(alloc);
     ends.push(Any::Stealing(first))?;
     ends.push(Any::Owning(owner))?;
     for thief in thieves {
         ends.push(Any::Stealing(thief))?;
     }
-    let got = thread::map_vec(
-        &rt,
-        ends,
-        &|end: Any| -> Result<Vec<u64>, AllocError> { drain(alloc, end) },
-    )?;
-    let mut all = Vec::new(alloc);
+    let mut all = drain_all(&rt, alloc, ends)?;
     all.push(0)?;
-    for ids in got {
-        let ids = ids?;
-        assert!(rt; rises(&ids));
-        all.extend_from_slice(&ids)?;
-    }
     all.sort()?;
     assert_eq!(rt; all.len(), 512);
     assert!(rt; rises(&all));

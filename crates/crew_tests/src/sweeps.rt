@@ -1,6 +1,6 @@
 //! Sweeps by several workers.
 use crate::kit::anything;
-use crate::together::Meeting;
+use crate::together::{Counting, Meeting};
 use samples::{low_bits, stack_of};
 use sf_ask::Reply;
 use sf_crew::{Open, explore, sweep};
@@ -16,5 +16,19 @@ fn two_workers_judge_at_once(rt: HostRuntime) -> Result<(), Fail> {
     let replies = sweep(&rt, alloc, &settled, &[anything(alloc)?], 2, &gate)?;
     assert_eq!(rt; gate.failed.load(Ordering::SeqCst), 0);
     assert_eq!(rt; replies.first(), Some(&Reply::Never));
+    Ok(())
+}
+
+#[test]
+fn the_gate_sees_each_sheet_of_all_workers(rt: HostRuntime) -> Result<(), Fail> {
+    let alloc = rt.alloc();
+    let stack = stack_of(alloc, &[&low_bits(0xff)])?;
+    let settled = explore(&rt, alloc, stack, 511, 1, &Open)?;
+    for workers in [2, 8, 64] {
+        let gate = Counting::new();
+        let replies = sweep(&rt, alloc, &settled, &[anything(alloc)?], workers, &gate)?;
+        assert_eq!(rt; replies.first(), Some(&Reply::Never));
+        assert_eq!(rt; gate.seen(), 256);
+    }
     Ok(())
 }

@@ -11,8 +11,20 @@ use std::thread::Threads;
 
 /// Counts all calls.
 #[derive(Drop)]
-struct Counting {
+pub struct Counting {
     calls: AtomicUsize,
+}
+
+impl Counting {
+    pub fn new() -> Counting {
+        Counting {
+            calls: AtomicUsize::new(0),
+        }
+    }
+
+    pub fn seen(&self) -> usize {
+        self.calls.load(Ordering::SeqCst)
+    }
 }
 
 impl Gate for Counting {
@@ -28,12 +40,10 @@ fn calls_and_commits<R: Threads + Wait + Sync>(
     stack: &Arc<Stack>,
     workers: usize,
 ) -> Result<(usize, u32), Fail> {
-    let gate = Counting {
-        calls: AtomicUsize::new(0),
-    };
+    let gate = Counting::new();
     let workers = workers.clamp(1, 64);
-    let settled = explore(rt, alloc, Arc::try_clone(stack)?, 100, workers, &gate)?;
-    Ok((gate.calls.load(Ordering::SeqCst), settled.counts().commits))
+    let settled = explore(rt, alloc, Arc::try_clone(stack)?, 1000, workers, &gate)?;
+    Ok((gate.seen(), settled.counts().commits))
 }
 
 #[test]
@@ -43,6 +53,7 @@ fn the_gate_sees_each_commit_of_all_workers(rt: HostRuntime) -> Result<(), Fail>
         (execve_stack(alloc)?, 5),
         (stack_of(alloc, &[&nested()])?, 3),
         (stack_of(alloc, &[&four_tests()])?, 7),
+        (stack_of(alloc, &[&low_bits(0xff)])?, 511),
     ] {
         for workers in [1, 2, 8, 64] {
             let seen = calls_and_commits(&rt, alloc, &stack, workers)?;

@@ -1,20 +1,6 @@
 //! What faults say.
-use std::alloc::Global;
+use samples::other_text;
 use std::test::Fail;
-
-/// What a fault of instructions says.
-fn text_of_insn_fault(alloc: Global, fault: sf_insn::Fault) -> Result<String, Fail> {
-    let mut text = String::new(alloc);
-    write!(&mut text, "{fault}")?;
-    Ok(text)
-}
-
-/// What a fault of programs says.
-fn text_of_check_fault(alloc: Global, fault: sf_check::Fault) -> Result<String, Fail> {
-    let mut text = String::new(alloc);
-    write!(&mut text, "{fault}")?;
-    Ok(text)
-}
 
 #[test]
 fn faults_of_instructions_say_what_is_wrong(rt: HostRuntime) -> Result<(), Fail> {
@@ -24,10 +10,7 @@ fn faults_of_instructions_say_what_is_wrong(rt: HostRuntime) -> Result<(), Fail>
         (sf_insn::Fault::TooLong, "more than 4096 instructions"),
         (sf_insn::Fault::Memory, "out of memory"),
     ];
-    for (fault, said) in cases {
-        let text = text_of_insn_fault(rt.alloc(), fault)?;
-        assert!(rt; text.as_str() == said, "{text}");
-    }
+    assert_eq!(rt; other_text(rt.alloc(), &cases)?, None);
     Ok(())
 }
 
@@ -53,9 +36,6 @@ fn faults_of_programs_say_what_is_wrong_and_where(rt: HostRuntime) -> Result<(),
         (Fault::PathLength, "the path length is above 32768"),
         (Fault::Memory, "out of memory"),
     ];
-    for (fault, said) in cases {
-        let text = text_of_check_fault(rt.alloc(), fault)?;
-        assert!(rt; text.as_str() == said, "{text}");
-    }
+    assert_eq!(rt; other_text(rt.alloc(), &cases)?, None);
     Ok(())
 }

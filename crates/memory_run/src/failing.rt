@@ -1,4 +1,5 @@
-//! Explorations of which one worker gets no more memory: the others work what it gives back.
+//! Explorations of which one worker gets no more memory: the others work what it gives back; and of which none gets more: the
+//! calling thread works what all have left.
 //!
 //! A gate asks for a growth of an odd size on that worker's thread. `tools/refuse.c` can be told the size: then it refuses that
 //! growth, and all that the thread asks for later. Else nothing comes of it, and the explorations find the same.
@@ -28,16 +29,17 @@ fn is_starved(alloc: Global) -> bool {
 }
 
 /// The count with one more.
-fn add_one(count: &AtomicUsize) -> usize {
+pub fn add_one(count: &AtomicUsize) -> usize {
     count.fetch_add(1, Ordering::SeqCst).wrapping_add(1)
 }
 
 /// How often a call that is held looks for what it waits for.
 const TURNS: usize = 1_000_000;
 
-fn is_reached(count: &AtomicUsize) -> bool {
-    for _ in 0..TURNS {
-        if count.load(Ordering::SeqCst) != 0 {
+/// Whether the count gets so great while others may run so often.
+pub fn is_reached(count: &AtomicUsize, wanted: usize, turns: usize) -> bool {
+    for _ in 0..turns {
+        if count.load(Ordering::SeqCst) >= wanted {
             return true;
         }
         yield_now();
@@ -87,6 +89,17 @@ fn tell(tally: &mut Tally, starved: bool, is_right: bool) {
     }
 }
 
+/// The line of an exploration by so many workers.
+pub fn write_counts(text: &mut String, workers: usize, settled: &Settled) -> Result<(), Refused> {
+    let counts = settled.counts();
+    let (regions, left, commits) = (counts.settled, counts.left, counts.commits);
+    write!(
+        text,
+        "workers {workers} regions {regions} open {left} commits {commits}\n"
+    )?;
+    Ok(())
+}
+
 /// Explores by so many workers, one of which is starved. The others work all that it gives back, so nothing is left for the
 /// calling thread.
 fn starve_one<R: Threads + Wait + Sync + AllocGlobal>(
@@ -108,13 +121,71 @@ fn starve_one<R: Threads + Wait + Sync + AllocGlobal>(
     let settled = explore(rt, rt.alloc(), Arc::try_clone(stack)?, 31, workers, &gate)?;
     let starved = gate.starved.load(Ordering::SeqCst) != 0;
     tell(tally, starved, gate.strays.load(Ordering::SeqCst) == 0);
-    let counts = settled.counts();
-    let (regions, left, commits) = (counts.settled, counts.left, counts.commits);
-    write!(
-        text,
-        "workers {workers} regions {regions} open {left} commits {commits}\n"
-    )?;
-    Ok(())
+    write_counts(text, workers, &settled)
+}
+
+/// Starves each worker at its first call, so that the calling thread works off what is left.
+#[derive(Drop)]
+struct StarvingAll {
+    alloc: Global,
+    workers: usize,
+    /// All calls, those of the calling thread too.
+    calls: AtomicUsize,
+    starved: AtomicUsize,
+    /// The calls of the calling thread, which come under the number of workers.
+    rest: AtomicUsize,
+    /// Calls that come under a greater number, and those of the calling thread that aren't its next.
+    strays: AtomicUsize,
+}
+
+impl StarvingAll {
+    fn of(alloc: Global, workers: usize) -> StarvingAll {
+        StarvingAll {
+            alloc,
+            workers,
+            calls: AtomicUsize::new(0),
+            starved: AtomicUsize::new(0),
+            rest: AtomicUsize::new(0),
+            strays: AtomicUsize::new(0),
+        }
+    }
+
+    /// Whether so many commits have passed, and each call of the calling thread was its next.
+    fn has_seen(&self, commits: u32) -> bool {
+        let calls = self.calls.load(Ordering::SeqCst);
+        commits as usize <= calls && self.strays.load(Ordering::SeqCst) == 0
+    }
+}
+
+impl Gate for StarvingAll {
+    fn pass(&self, worker: usize, call: usize) {
+        add_one(&self.calls);
+        if worker < self.workers {
+            if call == 1 && is_starved(self.alloc) {
+                add_one(&self.starved);
+            }
+        } else if worker != self.workers || add_one(&self.rest) != call {
+            add_one(&self.strays);
+        }
+    }
+}
+
+/// Explores by so many workers, all of which are starved. Each makes one call, so the gate has seen as many calls as there are
+/// commits only where it sees those of the calling thread.
+fn starve_each<R: Threads + Wait + Sync + AllocGlobal>(
+    rt: &R,
+    tally: &mut Tally,
+    stack: &Arc<Stack>,
+    workers: usize,
+    text: &mut String,
+) -> Result<(), Refused>
+    requires { (0 < workers) × (workers ≤ 64) }
+{
+    let gate = StarvingAll::of(rt.alloc(), workers);
+    let settled = explore(rt, rt.alloc(), Arc::try_clone(stack)?, 31, workers, &gate)?;
+    let starved = gate.starved.load(Ordering::SeqCst) != 0;
+    tell(tally, starved, gate.has_seen(settled.counts().commits));
+    write_counts(text, workers, &settled)
 }
 
 /// Holds two workers so that the one that works the root then works one half of the tree as far as its fifth call, where it is
@@ -135,7 +206,7 @@ struct Halving {
 
 impl Halving {
     fn wait_for(&self, count: &AtomicUsize) {
-        if !is_reached(count) {
+        if !is_reached(count, 1, TURNS) {
             add_one(&self.missed);
         }
     }
@@ -234,5 +305,7 @@ pub fn starve_all<R: Threads + Wait + Sync + AllocGlobal>(
     starve_one(rt, tally, &stack, 2, &mut text)?;
     starve_one(rt, tally, &stack, 8, &mut text)?;
     starve_half(rt, tally, &stack, &mut text)?;
+    starve_each(rt, tally, &stack, 2, &mut text)?;
+    starve_each(rt, tally, &stack, 8, &mut text)?;
     Ok(text)
 }

@@ -1,5 +1,5 @@
-//! Makes the calls of the libraries that take memory, on three stacks, and shows what they answer; and explores a fourth one by
-//! workers of which one may find no more memory.
+//! Explores a stack by two workers, so that a bench grows; makes the calls of the libraries that take memory, on three stacks, and
+//! shows what they answer; and explores a fifth stack by workers of which one or all may find no more memory.
 //!
 //! Where a call on a value finds no memory, the value is compared with what it was, and the call is made once more; where another
 //! call finds none, all is made once more for that stack. (A book can be compared whole only once: with another one that took the
@@ -12,6 +12,7 @@ mod auditing;
 mod books;
 mod exploring;
 mod failing;
+mod filling;
 mod refused;
 mod stacks;
 mod trying;
@@ -19,6 +20,7 @@ mod trying;
 use crate::auditing::{Page, audited, refusals};
 use crate::exploring::{bench_of, explored, judged};
 use crate::failing::starve_all;
+use crate::filling::fill_bench;
 use crate::refused::{Refused, Tally};
 use crate::stacks::{DIVIDES, LOGIN, MASKS, NO_X32, TWO_BITS, stack_in};
 use std::io;
@@ -32,7 +34,10 @@ enum Part {
     Refusals,
     /// All on one stack.
     Calls,
-    /// Explorations of which one worker finds no memory.
+    /// An exploration of which a bench grows. It comes first: after others by several workers, which growth is the bench's would
+    /// differ from run to run.
+    Bench,
+    /// Explorations of which one worker finds no memory, or all.
     Workers,
 }
 
@@ -65,6 +70,7 @@ fn all_of<R: Threads + Wait + Sync + AllocGlobal>(
         Part::Refusals => refusals(rt),
         Part::Calls => calls_on(rt, tally, files, page),
         Part::Workers => starve_all(rt, tally),
+        Part::Bench => fill_bench(rt),
     }
 }
 
@@ -94,6 +100,7 @@ fn main(rt: HostRuntime) -> io::Result<()> {
         refused: 0,
         wrong: 0,
     };
+    show(&rt, &mut tally, Part::Bench, "bench", &[])?;
     show(&rt, &mut tally, Part::Refusals, "none", &[])?;
     show(&rt, &mut tally, Part::Calls, "login", &[LOGIN.as_slice()])?;
     show(

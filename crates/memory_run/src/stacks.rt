@@ -44,6 +44,12 @@ pub const FOUR_BITS: [u8; 32] = [
     0, 0, 0, 0, 0, 0,
 ];
 
+/// Returns the lowest eight bits of word 4 as the data of ERRNO: `ld [16]; and #255; or #0x50000; ret a`. 256 regions, by 511 works.
+pub const EIGHT_BITS: [u8; 32] = [
+    0x20, 0, 0, 0, 0x10, 0, 0, 0, 0x54, 0, 0, 0, 0xff, 0, 0, 0, 0x44, 0, 0, 0, 0, 0, 5, 0, 0x16, 0,
+    0, 0, 0, 0, 0, 0,
+];
+
 /// Questions of version 2, with masks.
 pub const POLICY: &str = r#"
 version = 2

@@ -83,42 +83,51 @@ fn learn(
     }
 }
 
-/// Takes in that word 3 lies from 0 to 1000.
+/// What is taken in of word 3.
+#[derive(Clone, Copy)]
+enum Limit {
+    /// It lies from 0 to 1000.
+    Low,
+    /// It is even.
+    Even,
+}
+
+/// Takes in a limit, by one call.
+fn confine_once(
+    alloc: Global,
+    facts: &mut Facts,
+    pool: &Pool,
+    limit: Limit,
+) -> Result<bool, sf_dom::Fault>
+    requires { Covers facts.old pool.now }
+    ensures { Covers facts.new pool.now }
+{
+    match limit {
+        Limit::Low => facts.confine(alloc, pool, 3, 0, 1000),
+        Limit::Even => facts.confine_bits(alloc, pool, 3, 1, 0),
+    }
+}
+
+/// Takes in a limit. False: no input has it, and the facts are as they were.
 fn confine(
     alloc: Global,
     tally: &mut Tally,
     facts: &mut Facts,
     pool: &Pool,
+    limit: Limit,
 ) -> Result<bool, Refused>
     requires { Covers facts.old pool.now }
     ensures { Covers facts.new pool.now }
 {
     let before = facts.fork(alloc)?;
-    match facts.confine(alloc, pool, 3, 0, 1000) {
-        Ok(taken) => Ok(taken),
-        Err(fault) => {
-            tally.refuse(fault.into(), facts.equals(&before));
-            Ok(facts.confine(alloc, pool, 3, 0, 1000)?)
+    match confine_once(alloc, facts, pool, limit) {
+        Ok(taken) => {
+            tally.expect(taken || facts.equals(&before));
+            Ok(taken)
         }
-    }
-}
-
-/// Takes in that word 3 is even.
-fn confine_bits(
-    alloc: Global,
-    tally: &mut Tally,
-    facts: &mut Facts,
-    pool: &Pool,
-) -> Result<bool, Refused>
-    requires { Covers facts.old pool.now }
-    ensures { Covers facts.new pool.now }
-{
-    let before = facts.fork(alloc)?;
-    match facts.confine_bits(alloc, pool, 3, 1, 0) {
-        Ok(taken) => Ok(taken),
         Err(fault) => {
             tally.refuse(fault.into(), facts.equals(&before));
-            Ok(facts.confine_bits(alloc, pool, 3, 1, 0)?)
+            Ok(confine_once(alloc, facts, pool, limit)?)
         }
     }
 }
@@ -166,8 +175,8 @@ pub fn try_facts(alloc: Global, tally: &mut Tally, piece: &Piece) -> Result<bool
         return Ok(false);
     };
     let mut facts = piece.facts().fork(alloc)?;
-    let is_low = confine(alloc, tally, &mut facts, pool)?;
-    let is_even = confine_bits(alloc, tally, &mut facts, pool)?;
+    let is_low = confine(alloc, tally, &mut facts, pool, Limit::Low)?;
+    let is_even = confine(alloc, tally, &mut facts, pool, Limit::Even)?;
     let not_0 = Cond {
         node: NodeId(3),
         test: Test::Equal,

@@ -1,5 +1,5 @@
 //! Books, worked by hand.
-use samples::{echo_stack, emptied_late, execve_stack, op, stack_of};
+use samples::{echo_stack, emptied_late, execve_stack, op, other_text, stack_of};
 use sf_book::{Book, Counts, Fault, Settled};
 use sf_piece::{Piece, Work, advance, root};
 use sf_run::{Action, Answer};
@@ -245,13 +245,6 @@ fn many_pieces_are_leased_in_name_order(rt: HostRuntime) -> Result<(), Fail> {
     Ok(())
 }
 
-/// What a fault says.
-fn text_of(alloc: Global, fault: Fault) -> Result<String, Fail> {
-    let mut text = String::new(alloc);
-    write!(&mut text, "{fault}")?;
-    Ok(text)
-}
-
 #[test]
 fn faults_say_what_is_wrong(rt: HostRuntime) -> Result<(), Fail> {
     let cases = [
@@ -260,10 +253,7 @@ fn faults_say_what_is_wrong(rt: HostRuntime) -> Result<(), Fail> {
         (Fault::Spent, "the budget is spent"),
         (Fault::Memory, "out of memory"),
     ];
-    for (fault, said) in cases {
-        let text = text_of(rt.alloc(), fault)?;
-        assert!(rt; text.as_str() == said, "{text}");
-    }
+    assert_eq!(rt; other_text(rt.alloc(), &cases)?, None);
     Ok(())
 }
 

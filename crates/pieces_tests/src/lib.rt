@@ -4,6 +4,8 @@
 #[cfg(test)]
 mod books;
 #[cfg(test)]
+mod chains;
+#[cfg(test)]
 mod facts;
 #[cfg(test)]
 mod questions;

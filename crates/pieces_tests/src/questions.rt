@@ -1,8 +1,8 @@
 //! What a question keeps. Why one is refused, and what regions tell of it, stands among the command lines of
 //! `command_run`.
+use samples::other_text;
 use sf_ask::{ActionSet, Fault, Question};
 use sf_run::Action;
-use std::alloc::Global;
 use std::test::Fail;
 
 /// Any number in each word.
@@ -27,13 +27,6 @@ fn keeps_what_it_was_given(rt: HostRuntime) -> Result<(), Fail> {
     Ok(())
 }
 
-/// What a fault says.
-fn text_of(alloc: Global, fault: Fault) -> Result<String, Fail> {
-    let mut text = String::new(alloc);
-    write!(&mut text, "{fault}")?;
-    Ok(text)
-}
-
 #[test]
 fn faults_say_what_is_wrong(rt: HostRuntime) -> Result<(), Fail> {
     let cases = [
@@ -43,9 +36,6 @@ fn faults_say_what_is_wrong(rt: HostRuntime) -> Result<(), Fail> {
         (Fault::Actions, "no action is named"),
         (Fault::Memory, "out of memory"),
     ];
-    for (fault, said) in cases {
-        let text = text_of(rt.alloc(), fault)?;
-        assert!(rt; text.as_str() == said, "{text}");
-    }
+    assert_eq!(rt; other_text(rt.alloc(), &cases)?, None);
     Ok(())
 }

@@ -10,7 +10,7 @@ use std::test::Fail;
 
 /// The whole names and answers of the regions, in name order: works piece after piece, the first name first, until none
 /// is left or so many were worked. A work that doesn't settle tells no name.
-fn explored(
+pub(crate) fn explored(
     alloc: Global,
     stack: &Arc<Stack>,
     most: usize,

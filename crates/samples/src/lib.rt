@@ -1,10 +1,11 @@
-//! Filters and stacks that the tests of several crates share.
+//! Filters, stacks and looks at texts that the tests of several crates share.
 #![tactic(auto)]
 
 mod filters;
 mod insns;
 mod lengths;
 mod stacks;
+mod texts;
 
 pub use filters::{
     any_bit, echo, eight_divided, emptied_late, execve_refused, four_tests, low_bits, nested,
@@ -13,3 +14,4 @@ pub use filters::{
 pub use insns::{ALLOW, op, raw};
 pub use lengths::{negating, telling_apart};
 pub use stacks::{echo_stack, execve_stack, stack_of};
+pub use texts::other_text;
