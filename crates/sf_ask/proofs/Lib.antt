@@ -1,3 +1,4 @@
+pub mod BitLemmas
 pub mod Words
 pub mod Leasts
 pub mod Searching

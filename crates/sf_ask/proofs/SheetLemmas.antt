@@ -8,8 +8,9 @@ use Rattle.std.proofs.lemmas.Bool.{cases_lt}
 use Rattle.sf_book.specs.Books.{BookData}
 use Rattle.sf_ask.specs.declared.verdict.Verdict.TheVariants.{Clear}
 use Rattle.sf_ask.specs.QuestionData.{QuestionData}
+use Rattle.sf_ask.specs.QuestionBits.{has_bit}
 use Rattle.sf_ask.specs.Verdicts.{IsRightVerdict}
-use Rattle.sf_ask.specs.Sheets.{verdict_at, is_wanted, is_skipped, is_clear_or_skipped, clear_if_wanted, first_verdicts, IsRightWhereGiven}
+use Rattle.sf_ask.specs.Sheets.{verdict_at, is_skipped, is_clear_or_skipped, clear_if_wanted, first_verdicts, IsRightOn, IsRightWhereGiven}
 
 pub first-length : (wanted : List ℕ) (n : ℕ) → length (first_verdicts wanted n) ≡ n
 first-length wanted zero = refl
@@ -33,10 +34,6 @@ first-at wanted (suc n) q h = by (cases_lt q n) (first-at wanted n q)
         get_or_push (first_verdicts wanted n) (clear_if_wanted wanted n) None q
         (first-length wanted n ∙ same) ∙ ap (clear_if_wanted wanted) same
 
-pub first-more : (wanted : List ℕ) (n : ℕ)
-    → first_verdicts wanted n ++ clear_if_wanted wanted n ∷ [] ≡ first_verdicts wanted (n + 1)
-first-more wanted n = let next : suc n ≡ n + 1 = omega arith in ap (first_verdicts wanted) next
-
 of-clear : (b : Bool) → is_clear_or_skipped (if b then Some Clear else None) ≡ true
 of-clear true = refl
 of-clear false = refl
@@ -45,22 +42,27 @@ pub first-clear : (wanted : List ℕ) (n : ℕ) → list_all is_clear_or_skipped
 first-clear wanted zero = refl
 first-clear wanted (suc n) =
     list_all-append is_clear_or_skipped (first_verdicts wanted n) (clear_if_wanted wanted n ∷ [])
-    ∙ rw (first-clear wanted n, of-clear (is_wanted wanted n)) refl
+    ∙ rw (first-clear wanted n, of-clear (has_bit wanted n)) refl
 
-pub skipped : (wanted : List ℕ) (q : ℕ) → is_skipped (clear_if_wanted wanted q) ≡ not (is_wanted wanted q)
-skipped wanted q = by (is_wanted wanted q)
+pub skipped : (wanted : List ℕ) (q : ℕ) → is_skipped (clear_if_wanted wanted q) ≡ not (has_bit wanted q)
+skipped wanted q = by (has_bit wanted q)
   where
     by : (b : Bool) → is_skipped (if b then Some Clear else None) ≡ not b
     by true = refl
     by false = refl
 
-pub right-if-wanted : (s : BookData) (questions : List QuestionData) (job q : ℕ) (question : QuestionData)
-    (wanted : List ℕ) → slice_get questions q ≡ Some question
-    → (is_wanted wanted q ≡ true → IsRightVerdict s job question Clear)
+-- a verdict that is clear tells all that a sheet's verdicts tell
+pub clear-is-right : (s : BookData) (questions : List QuestionData) (job q : ℕ) (question : QuestionData)
+    → slice_get questions q ≡ Some question → IsRightVerdict s job question Clear → IsRightOn s questions job q Clear
+clear-is-right s questions job q question asked right =
+    record { question = question; asked = asked; right = right; tried = tt; decisive = λ p. tt }
+
+pub right-if-wanted : (s : BookData) (questions : List QuestionData) (job q : ℕ) (wanted : List ℕ)
+    → (has_bit wanted q ≡ true → IsRightOn s questions job q Clear)
     → IsRightWhereGiven s questions job q (clear_if_wanted wanted q)
-right-if-wanted s questions job q question wanted asked right = by (is_wanted wanted q) right
+right-if-wanted s questions job q wanted right = by (has_bit wanted q) right
   where
-    by : (b : Bool) → (b ≡ true → IsRightVerdict s job question Clear)
+    by : (b : Bool) → (b ≡ true → IsRightOn s questions job q Clear)
         → IsRightWhereGiven s questions job q (if b then Some Clear else None)
-    by true right = record { question = question; asked = asked; right = right refl; tried = tt; decisive = λ p. tt }
+    by true right = right refl
     by false right = tt

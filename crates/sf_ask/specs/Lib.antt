@@ -1,5 +1,6 @@
 pub mod Numbers
 pub mod Actions
+pub mod QuestionBits
 pub mod QuestionData
 pub mod Questions
 pub mod Breaking

@@ -1,11 +1,11 @@
 -- Sheets of verdicts: what contracts see of one, and when it is right.
-use Rattle.std.specs.Prelude.{◌≡◌, ℕ, zero, suc, [], ◌∷◌, ◌++◌, if◌then◌else◌, ◌<◌, ◌/◌, ◌%◌, ◌==◌, not, Bool, true, false, List, length, Option, Some, None, slice_get, slice_index, slice_index_or}
-use Rattle.std.specs.Int.{bit_at}
+use Rattle.std.specs.Prelude.{◌≡◌, ℕ, zero, suc, [], ◌∷◌, ◌++◌, if◌then◌else◌, ◌<◌, not, Bool, true, false, List, length, Option, Some, None, slice_get, slice_index_or}
 use Rattle.sf_insn.specs.declared.input.Input.{Input}
 use Rattle.sf_check.specs.Stacks.{IsPlain}
 use Rattle.sf_book.specs.Books.{BookData}
 use Rattle.sf_ask.specs.declared.verdict.Verdict.{Verdict}
 use Rattle.sf_ask.specs.declared.verdict.Verdict.TheVariants.{Clear, Hit, Doubt}
+use Rattle.sf_ask.specs.QuestionBits.{has_bit}
 use Rattle.sf_ask.specs.QuestionData.{QuestionData}
 use Rattle.sf_ask.specs.Verdicts.{IsBreakAt, IsRightVerdict, TellsTriedAt, IsDecisive}
 
@@ -46,13 +46,9 @@ is_clear_or_skipped (Some Clear) = true
 is_clear_or_skipped (Some (Hit d)) = false
 is_clear_or_skipped (Some Doubt) = false
 
--- a question is asked for where its bit is set: bit q % 64 of word q / 64
-abbrev pub is_wanted : List ℕ → ℕ → Bool
-is_wanted wanted q = bit_at (slice_index wanted (q / 64)) (q % 64) == 1
-
 -- a question that is clear where it is asked for
 abbrev pub clear_if_wanted : List ℕ → ℕ → Option Verdict
-clear_if_wanted wanted q = if is_wanted wanted q then Some Clear else None
+clear_if_wanted wanted q = if has_bit wanted q then Some Clear else None
 
 -- so many of these, from the first question on
 abbrev pub first_verdicts : List ℕ → ℕ → List (Option Verdict)
@@ -86,7 +82,12 @@ pub record IsRightOn (s : BookData) (questions : List QuestionData) (place q : �
   pub tried : TellsTriedAt s place question v
   pub decisive : IsPlain s.stack → IsDecisive v
 
--- the same where there is a verdict
+-- the verdict on each question whose bit isn't set is clear
+abbrev pub AreClearBut : BookData → List QuestionData → ℕ → List ℕ → Type 0
+AreClearBut s questions place bits =
+    (q : ℕ) → q < length questions → has_bit bits q ≡ false → IsRightOn s questions place q Clear
+
+-- a verdict is right where there is one
 abbrev pub IsRightWhereGiven : BookData → List QuestionData → ℕ → ℕ → Option Verdict → Type 0
 IsRightWhereGiven s questions place q None = Unit {0}
 IsRightWhereGiven s questions place q (Some v) = IsRightOn s questions place q v
@@ -100,4 +101,4 @@ pub record IsRightSheet (s : SheetData) : Type 0 where
 
 -- a verdict stands exactly for each question that is asked for
 abbrev pub HasWanted : List ℕ → SheetData → Type 0
-HasWanted wanted s = (q : ℕ) → q < length s.questions → is_skipped (verdict_at s.verdicts q) ≡ not (is_wanted wanted q)
+HasWanted wanted s = (q : ℕ) → q < length s.questions → is_skipped (verdict_at s.verdicts q) ≡ not (has_bit wanted q)

@@ -9,7 +9,7 @@ ghost use Rattle.sf_ask.specs.declared.fault.Fault.TheVariants.{Memory};
 ghost use Rattle.sf_piece.specs.Pieces.{is_member};
 ghost use Rattle.sf_book.specs.Books.{IsRightRegion};
 ghost use Rattle.sf_ask.specs.Verdicts.{IsRightVerdict, TellsTriedAt, IsDecisive};
-ghost use Rattle.sf_ask.specs.Searches.{AreKnownWords, AreWordsOf, IsRightSearch, TellsTried};
+ghost use Rattle.sf_ask.specs.Searches.{AreWordsOf, IsRightSearch, TellsTried};
 ghost use Rattle.sf_ask.specs.Trying.{IsLeastInput};
 
 use crate::confining::{confined, known_words, rules_out};
@@ -87,19 +87,15 @@ fn try_least(alloc: Global, piece: &Piece, question: &Question) -> Result<Verdic
 }
 
 /// Looks for a member of the piece that is in the question: one input is tried where the facts don't rule it out at once.
-fn search(
-    alloc: Global,
-    piece: &Piece,
-    words: &[Known; 16],
-    question: &Question,
-) -> Result<Verdict, Fault>
-    requires { AreKnownWords piece.now.facts words.now }
+fn search(alloc: Global, piece: &Piece, question: &Question) -> Result<Verdict, Fault>
     ensures right { IfOk result (IsRightSearch piece.now question.now) }
     ensures tried { IfOk result (TellsTried piece.now question.now) }
     ensures decisive { IsPlain piece.now.stack → IfOk result IsDecisive }
     ensures err { IfErr result (λ f. f ≡ Memory) }
 {
-    if rules_out(piece.facts(), words, question) {
+    let facts = piece.facts();
+    let words = known_words(facts);
+    if rules_out(facts, &words, question) {
         return Ok(Verdict::Clear);
     }
     try_least(alloc, piece, question)
@@ -133,28 +129,6 @@ pub(crate) fn is_clear_at_once(
     true
 }
 
-/// The verdict on the settled region at this place, where what is known of its words was read before.
-pub(crate) fn judge_known(
-    alloc: Global,
-    settled: &Settled,
-    region: usize,
-    words: &[Known; 16],
-    question: &Question,
-) -> Result<Verdict, Fault>
-    requires region { region < length settled.now.regions }
-    requires words { AreWordsOf settled.now region words.now }
-    ensures right { IfOk result (IsRightVerdict settled.now region question.now) }
-    ensures tried { IfOk result (TellsTriedAt settled.now region question.now) }
-    ensures decisive { IsPlain settled.now.stack → IfOk result IsDecisive }
-    ensures err { IfErr result (λ f. f ≡ Memory) }
-{
-    let settled_region = settled.region(region);
-    if !question.actions().has(settled_region.answer().action) {
-        return Ok(Verdict::Clear);
-    }
-    search(alloc, settled_region.piece(), words, question)
-}
-
 /// The verdict on the settled region at this place in the order of names. The caller's condition: there is a region at
 /// the place.
 ///
@@ -174,6 +148,9 @@ pub fn judge(
     ensures decisive { IsPlain settled.now.stack → IfOk result IsDecisive }
     ensures err { IfErr result (λ f. f ≡ Memory) }
 {
-    let words = words_of(settled, region);
-    judge_known(alloc, settled, region, &words, question)
+    let settled_region = settled.region(region);
+    if !question.actions().has(settled_region.answer().action) {
+        return Ok(Verdict::Clear);
+    }
+    search(alloc, settled_region.piece(), question)
 }

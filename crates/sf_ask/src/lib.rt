@@ -2,6 +2,7 @@
 #![tactic(auto)]
 
 mod actions;
+mod bits;
 mod confining;
 mod fault;
 mod judging;
@@ -10,8 +11,9 @@ mod sheet;
 mod verdict;
 
 pub use actions::ActionSet;
+pub use bits::{has_bit, set_bit};
 pub use fault::Fault;
 pub use judging::judge;
 pub use question::Question;
-pub use sheet::Sheet;
+pub use sheet::{Sheet, questions_to_judge};
 pub use verdict::{Reply, Verdict};

@@ -1,17 +1,17 @@
 //! Sheets of verdicts.
 
-ghost use Rattle.std.specs.Prelude.{◌≡◌, ◌<◌, ◌≤◌, ℕ, not, length, map, IfOk, IfErr, IsTrue, Some, None, slice_get};
-ghost use Rattle.sf_ask.specs.Searches.{AreWordsOf};
-ghost use Rattle.sf_ask.specs.Sheets.{SheetData, verdict_at, clear_if_wanted, first_verdicts, is_skipped, is_hit, is_doubt, is_clear_or_skipped, is_wanted, IsRightWhereGiven, IsRightSheet, HasWanted};
+ghost use Rattle.std.specs.Prelude.{◌≡◌, ◌<◌, ◌≤◌, ℕ, not, length, map, IfOk, IfErr, Some, None, slice_get};
+ghost use Rattle.sf_ask.specs.QuestionBits.{has_bit};
+ghost use Rattle.sf_ask.specs.Sheets.{SheetData, verdict_at, clear_if_wanted, is_skipped, is_hit, is_doubt, is_clear_or_skipped, AreClearBut, IsRightWhereGiven, IsRightSheet, HasWanted};
 ghost use Rattle.std.specs.List.{list_all};
 ghost use Rattle.sf_ask.specs.declared.fault.Fault.TheVariants.{Memory};
 
+use crate::bits::{has_bit, set_bit, share_none};
 use crate::fault::Fault;
-use crate::judging::{is_clear_at_once, judge_known, words_of};
+use crate::judging::{is_clear_at_once, judge, words_of};
 use crate::question::Question;
 use crate::verdict::Verdict;
 use sf_book::Settled;
-use sf_dom::Known;
 use std::alloc::Global;
 use std::marker::Model;
 use std::snapshot::Snapshot;
@@ -24,7 +24,7 @@ pub struct Sheet {
     questions: Vec<Snapshot<Question>>,
     job: usize,
     wanted: [u64; 4],
-    // None where each question that is asked for is clear at once, as on most sheets.
+    // None where the verdict on each question that is asked for is clear at once, as on most sheets.
     verdicts: Option<Vec<Option<Verdict>>>,
     finds_nothing: bool,
 }
@@ -62,17 +62,9 @@ fn snapshots(alloc: Global, questions: &[Question]) -> Result<Vec<Snapshot<Quest
 {
     let mut all = Vec::with_capacity(alloc, questions.len())?;
     for question in questions {
-        all.push(Snapshot::of(question))?;
+        all.push_reserved(Snapshot::of(question));
     }
     Ok(all)
-}
-
-/// Whether the bit of the question is set.
-fn asks_for(wanted: &[u64; 4], q: usize) -> bool
-    requires { q < 256 }
-    ensures { result ≡ is_wanted wanted.now q }
-{
-    (wanted[q / 64] >> (q % 64)) & 1 == 1
 }
 
 /// Whether there is neither a hit nor a doubt.
@@ -85,72 +77,49 @@ fn is_clear(verdict: Option<Verdict>) -> bool
     }
 }
 
+/// The questions on which a region is to be judged, as bits: its verdict on each other question is clear at once, since its
+/// action isn't asked about or what is known of some word rules out the word's range. The caller's conditions: there is a
+/// region at the place, and there are at most 256 questions.
+pub fn questions_to_judge(settled: &Settled, job: usize, questions: &[Question]) -> [u64; 4]
+    requires job { job < length settled.now.regions }
+    requires questions { length questions.now ≤ 256 }
+    ensures { AreClearBut settled.now questions.now job result }
+{
+    let words = words_of(settled, job);
+    let mut to_judge = [0u64; 4];
+    for q in 0..questions.len() {
+        if !is_clear_at_once(settled, job, &words, &questions[q]) {
+            set_bit(&mut to_judge, q);
+        }
+    }
+    to_judge
+}
+
 /// The verdict on a question that is asked for, and none on another.
 fn verdict_if_wanted(
     alloc: Global,
     settled: &Settled,
     job: usize,
-    words: &[Known; 16],
     questions: &[Question],
     q: usize,
+    to_judge: &[u64; 4],
     wanted: &[u64; 4],
 ) -> Result<Option<Verdict>, Fault>
     requires job { job < length settled.now.regions }
-    requires words { AreWordsOf settled.now job words.now }
     requires question { (q < length questions.now) × (q < 256) }
+    requires clear { AreClearBut settled.now questions.now job to_judge.now }
     ensures right { IfOk result (IsRightWhereGiven settled.now questions.now job q) }
-    ensures wanted { IfOk result (λ e. is_skipped e ≡ not (is_wanted wanted.now q)) }
+    ensures wanted { IfOk result (λ e. is_skipped e ≡ not (has_bit wanted.now q)) }
     ensures err { IfErr result (λ f. f ≡ Memory) }
 {
-    if !asks_for(wanted, q) {
+    if !has_bit(wanted, q) {
         return Ok(None);
     }
-    let verdict = judge_known(alloc, settled, job, words, &questions[q])?;
+    if !has_bit(to_judge, q) {
+        return Ok(Some(Verdict::Clear));
+    }
+    let verdict = judge(alloc, settled, job, &questions[q])?;
     Ok(Some(verdict))
-}
-
-/// Whether a question is skipped, or the verdict on it is clear at once.
-fn is_skipped_or_clear(
-    settled: &Settled,
-    job: usize,
-    words: &[Known; 16],
-    questions: &[Question],
-    q: usize,
-    wanted: &[u64; 4],
-) -> bool
-    requires job { job < length settled.now.regions }
-    requires words { AreWordsOf settled.now job words.now }
-    requires question { (q < length questions.now) × (q < 256) }
-    ensures { IsTrue result → IsRightWhereGiven settled.now questions.now job q
-        (clear_if_wanted wanted.now q) }
-{
-    if !asks_for(wanted, q) {
-        return true;
-    }
-    is_clear_at_once(settled, job, words, &questions[q])
-}
-
-/// How many questions, from the first on, are skipped or clear at once.
-fn clear_count(
-    settled: &Settled,
-    job: usize,
-    words: &[Known; 16],
-    questions: &[Question],
-    wanted: &[u64; 4],
-) -> usize
-    requires job { job < length settled.now.regions }
-    requires words { AreWordsOf settled.now job words.now }
-    requires questions { length questions.now ≤ 256 }
-    ensures within { result ≤ length questions.now }
-    ensures right { (q : ℕ) → q < result → IsRightWhereGiven settled.now questions.now job q
-        (clear_if_wanted wanted.now q) }
-{
-    for q in 0..questions.len() {
-        if !is_skipped_or_clear(settled, job, words, questions, q, wanted) {
-            return q;
-        }
-    }
-    questions.len()
 }
 
 /// The verdict on a question that is clear where it is asked for.
@@ -158,56 +127,36 @@ fn clear_verdict(wanted: &[u64; 4], q: usize) -> Option<Verdict>
     requires { q < 256 }
     ensures { result ≡ clear_if_wanted wanted.now q }
 {
-    if asks_for(wanted, q) {
+    if has_bit(wanted, q) {
         Some(Verdict::Clear)
     } else {
         None
     }
 }
 
-/// The verdicts on so many questions that are skipped or clear at once, with room for `count`.
-fn clear_verdicts(
-    alloc: Global,
-    wanted: &[u64; 4],
-    clear: usize,
-    count: usize,
-) -> Result<Vec<Option<Verdict>>, Fault>
-    requires { clear ≤ 256 }
-    ensures each { IfOk result (λ v. v.items ≡ first_verdicts wanted.now clear) }
-    ensures err { IfErr result (λ f. f ≡ Memory) }
-{
-    let mut verdicts = Vec::with_capacity(alloc, count)?;
-    for q in 0..clear {
-        verdicts.push(clear_verdict(wanted, q))?;
-    }
-    Ok(verdicts)
-}
-
-/// A verdict on each question that is asked for, of which the first ones are clear at once.
+/// A verdict on each question that is asked for.
 fn verdicts_on(
     alloc: Global,
     settled: &Settled,
     job: usize,
-    words: &[Known; 16],
     questions: &[Question],
+    to_judge: &[u64; 4],
     wanted: &[u64; 4],
-    clear: usize,
 ) -> Result<Vec<Option<Verdict>>, Fault>
     requires job { job < length settled.now.regions }
-    requires words { AreWordsOf settled.now job words.now }
-    requires questions { (clear ≤ length questions.now) × (length questions.now ≤ 256) }
-    requires clear { (q : ℕ) → q < clear → IsRightWhereGiven settled.now questions.now job q
-        (clear_if_wanted wanted.now q) }
+    requires questions { length questions.now ≤ 256 }
+    requires clear { AreClearBut settled.now questions.now job to_judge.now }
     ensures each { IfOk result (λ v. length v.items ≡ length questions.now) }
     ensures right { IfOk result (λ v. (q : ℕ) → q < length questions.now
         → IsRightWhereGiven settled.now questions.now job q (verdict_at v.items q)) }
     ensures wanted { IfOk result (λ v. (q : ℕ) → q < length questions.now
-        → is_skipped (verdict_at v.items q) ≡ not (is_wanted wanted.now q)) }
+        → is_skipped (verdict_at v.items q) ≡ not (has_bit wanted.now q)) }
     ensures err { IfErr result (λ f. f ≡ Memory) }
 {
-    let mut verdicts = clear_verdicts(alloc, wanted, clear, questions.len())?;
-    for q in clear..questions.len() {
-        verdicts.push(verdict_if_wanted(alloc, settled, job, words, questions, q, wanted)?)?;
+    let mut verdicts = Vec::with_capacity(alloc, questions.len())?;
+    for q in 0..questions.len() {
+        let verdict = verdict_if_wanted(alloc, settled, job, questions, q, to_judge, wanted)?;
+        verdicts.push(verdict)?;
     }
     Ok(verdicts)
 }
@@ -238,9 +187,30 @@ impl Sheet {
         ensures wanted { IfOk result (HasWanted wanted) }
         ensures err { IfErr result (λ f. f ≡ Memory) }
     {
-        let words = words_of(settled, job);
-        let clear = clear_count(settled, job, &words, questions, &wanted);
-        if clear == questions.len() {
+        let to_judge = questions_to_judge(settled, job, questions);
+        Sheet::judging(alloc, settled, job, questions, &to_judge, wanted)
+    }
+
+    /// The same sheet, where it was looked before which questions are to be judged. The caller's conditions: those of
+    /// `of`, and the verdict on each question that is not to be judged is clear. `Memory` where a growth is refused.
+    pub fn judging(
+        alloc: Global,
+        settled: &Settled,
+        job: usize,
+        questions: &[Question],
+        to_judge: &[u64; 4],
+        wanted: [u64; 4],
+    ) -> Result<Sheet, Fault>
+        requires job { job < length settled.now.regions }
+        requires questions { length questions.now ≤ 256 }
+        requires clear { AreClearBut settled.now questions.now job to_judge.now }
+        ensures settled { IfOk result (λ s. s.settled ≡ settled.now) }
+        ensures questions { IfOk result (λ s. s.questions ≡ questions.now) }
+        ensures job { IfOk result (λ s. s.job ≡ job) }
+        ensures wanted { IfOk result (HasWanted wanted) }
+        ensures err { IfErr result (λ f. f ≡ Memory) }
+    {
+        if share_none(to_judge, &wanted) {
             return Ok(Sheet {
                 settled: Snapshot::of(settled),
                 questions: snapshots(alloc, questions)?,
@@ -250,7 +220,7 @@ impl Sheet {
                 finds_nothing: true,
             });
         }
-        let listed = verdicts_on(alloc, settled, job, &words, questions, &wanted, clear)?;
+        let listed = verdicts_on(alloc, settled, job, questions, to_judge, &wanted)?;
         let finds_nothing = are_clear(listed.as_slice());
         Ok(Sheet {
             settled: Snapshot::of(settled),

@@ -3,11 +3,10 @@ use Rattle.std.proofs.Common.{◌≡◌, ◌≢◌, ℕ, ◌+◌, ◌*◌, ◌/�
 use Rattle.std.specs.Int.{bit_at}
 use Rattle.std.proofs.lemmas.Bool.Decides.{nat_tests}
 use Rattle.std.proofs.lemmas.Nat.Bits.{bit_at-lt, bit_at-zero, bit_at_set_same, bit_at_set_other}
-use Rattle.std.proofs.lemmas.List.{get_or-set_same, get_or-set_other}
 use mathlib.Core.Logic.{dite}
 use native.Mathlib.Decide.{ℕ_discrete}
 use Rattle.sf_crew.specs.declared.board.view.EnteredSheet.{EnteredSheet}
-use Rattle.sf_crew.specs.Views.{has, has_doubt, bit_of}
+use Rattle.sf_crew.specs.Views.{has, has_doubt}
 
 pub has_same : (x : ℕ) (xs : List ℕ) → has x (x ∷ xs) ≡ max 1 (has x xs)
 has_same x xs = let t : (if x == x then 1 else 0) ≡ 1 = grind (arith, nat_tests) in ap (λ n. max n (has x xs)) t
@@ -57,21 +56,3 @@ bit_kept word p q ne same = bit_at_set_other w64 word (q % 64) (omega arith) (p 
 
 pub bit_most : (word b : ℕ) → bit_at word b ≤ 1
 bit_most word b = let lt = bit_at-lt word b in omega arith
-
--- the bit of q is set in four words, and no other is changed
-pub bits_more : (words : List ℕ) (p q : ℕ) → length words ≡ 4 → q < 256
-    → bit_of (set words (q / 64) (bit_or (slice_index words (q / 64)) (1 * 2 ^ (q % 64) % 2 ^ 64))) p
-    ≡ (if p == q then 1 else bit_of words p)
-bits_more words p q long low =
-    let w : ℕ = q / 64 in let m : ℕ = bit_or (slice_index words w) (1 * 2 ^ (q % 64) % 2 ^ 64) in
-    let here : slice_index (set words w m) w ≡ m = get_or-set_same words w m 0 (omega arith) in
-    let one : bit_of (set words w m) q ≡ 1 = ap (λ x. bit_at x (q % 64)) here ∙ bit_set (slice_index words w) q in
-    dite (ℕ_discrete p q)
-    (λ e. (let t : (if p == q then 1 else bit_of words p) ≡ 1 = grind (arith, nat_tests) in
-    subst (λ x. bit_of (set words w m) x ≡ 1) (sym e) one ∙ sym t))
-    (λ ne. (let t : (if p == q then 1 else bit_of words p) ≡ bit_of words p = grind (arith, nat_tests) in
-    dite (ℕ_discrete (p / 64) w)
-    (λ same. ap (λ x. bit_at (slice_index (set words w m) x) (p % 64)) same ∙ ap (λ x. bit_at x (p % 64)) here
-    ∙ bit_kept (slice_index words w) p q ne same ∙ ap (λ x. bit_at (slice_index words x) (p % 64))
-    (sym same) ∙ sym t)
-    (λ apart. ap (λ x. bit_at x (p % 64)) (get_or-set_other words w (p / 64) m 0 apart) ∙ sym t)))

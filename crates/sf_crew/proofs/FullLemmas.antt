@@ -11,7 +11,8 @@ use Rattle.sf_crew.specs.declared.board.view.BoardKey.{BoardKey}
 use Rattle.sf_crew.specs.declared.board.view.View.{View}
 use Rattle.sf_crew.specs.declared.board.view.EnteredSheet.{EnteredSheet}
 use Rattle.sf_crew.specs.declared.board.Tally.{Tally}
-use Rattle.sf_crew.specs.Views.{regions_of, questions_of, count_of_regions, jobs, owed_jobs, has, has_doubt, bit_of, IsInDoubt, Each, times, once_below}
+use Rattle.sf_ask.specs.QuestionBits.{bit_of}
+use Rattle.sf_crew.specs.Views.{regions_of, questions_of, count_of_regions, jobs, owed_jobs, has, has_doubt, IsInDoubt, Each, times, once_below}
 use Rattle.sf_crew.specs.BoardSteps.{HasAllJobs, Knows}
 use Rattle.sf_crew.specs.Tallies.{RightTally, IsBelow}
 use Rattle.sf_crew.specs.Sweeps.{IsFullTally}

@@ -18,7 +18,7 @@ use Rattle.sf_ask.specs.Verdicts.{IsMemberAt, IsBreakAt, IsRightVerdict, IsRight
 use Rattle.sf_check.specs.Stacks.{IsPlain}
 use Rattle.sf_ask.specs.Sheets.{HasNoBreak, IsRightWhereGiven}
 use Rattle.sf_crew.specs.declared.board.Tally.{Tally}
-use Rattle.sf_crew.specs.Views.{bit_of}
+use Rattle.sf_ask.specs.QuestionBits.{bit_of}
 use Rattle.sf_crew.specs.Sweeps.{IsWithoutHit, HasDoubt, IsUnbroken, IsReplyTo, IsRightReplyAt, IsFullTally}
 use Rattle.sf_crew.specs.declared.fault.Fault.{Fault}
 

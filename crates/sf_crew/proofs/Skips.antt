@@ -1,12 +1,14 @@
 -- The questions that a sheet skips.
-use Rattle.std.proofs.Common.{◌≡◌, ◌≢◌, ◌/◌, ◌%◌, not, true, ap, slice_index, ℕ, ◌+◌, ◌<◌, ◌==◌, if◌then◌else◌, List, sym, ◌∙◌, subst, arith}
+use Rattle.std.proofs.Common.{◌≡◌, ◌≢◌, ◌/◌, ◌%◌, not, true, ap, slice_index, ℕ, zero, suc, ◌+◌, ◌<◌, ◌==◌, if◌then◌else◌, List, [], ◌∷◌, refl, sym, ◌∙◌, subst, arith}
+use Rattle.std.specs.Int.{bit_at}
 use Rattle.std.proofs.lemmas.Bool.Decides.{nat_tests}
+use Rattle.std.proofs.lemmas.Nat.Bits.{bit_at_ones}
 use mathlib.Core.Logic.{dite}
 use native.Mathlib.Decide.{ℕ_discrete}
 use Rattle.sf_crew.specs.declared.board.view.Note.{Note}
-use Rattle.sf_ask.specs.Sheets.{is_wanted}
+use Rattle.sf_ask.specs.QuestionBits.{bit_of, has_bit}
 use Rattle.sf_crew.proofs.Doubts.{bit_most}
-use Rattle.sf_crew.specs.Views.{bit_of, Noted}
+use Rattle.sf_crew.specs.Views.{Noted}
 
 -- a place below the job was noted for the question
 abbrev pub IsBeaten : ℕ → List Note → ℕ → Type 0
@@ -31,7 +33,21 @@ set_else n before after h q ne = let t : (if q == n then 1 else bit_of before q)
     grind (arith, nat_tests) in h q ∙ t
 
 -- a question that is not asked for has its bit at 0
-pub not_wanted : (words : List ℕ) (q : ℕ) → true ≡ not (is_wanted words q) → bit_of words q ≡ 0
+pub not_wanted : (words : List ℕ) (q : ℕ) → true ≡ not (has_bit words q) → bit_of words q ≡ 0
 not_wanted words q h = let most = bit_most (slice_index words (q / 64)) (q % 64) in dite (ℕ_discrete (bit_of words q) 1)
-    (λ one. absurd (let t : is_wanted words q ≡ true = ap (λ x. x == 1) one in cc (h, t)))
+    (λ one. absurd (let t : has_bit words q ≡ true = ap (λ x. x == 1) one in cc (h, t)))
     (λ ne. omega arith)
+
+-- each word of four is the same
+four : (m w : ℕ) → w < 4 → slice_index (m ∷ m ∷ m ∷ m ∷ []) w ≡ m
+four m zero h = refl
+four m (suc zero) h = refl
+four m (suc (suc zero)) h = refl
+four m (suc (suc (suc zero))) h = refl
+four m (suc (suc (suc (suc w)))) h = absurd (omega arith)
+
+-- where all bits are set, each of the 256 is
+pub all_set : (q : ℕ) → q < 256
+    → bit_of (18446744073709551615 ∷ 18446744073709551615 ∷ 18446744073709551615 ∷ 18446744073709551615 ∷ []) q ≡ 1
+all_set q few = ap (λ x. bit_at x (q % 64)) (four 18446744073709551615 (q / 64) (omega (arith, few)))
+    ∙ bit_at_ones 64 (q % 64) (omega arith)

@@ -5,7 +5,8 @@ use Rattle.sf_crew.specs.declared.board.view.BoardKey.{BoardKey}
 use Rattle.sf_crew.specs.declared.board.view.View.{View}
 use Rattle.sf_crew.specs.declared.board.view.EnteredSheet.{EnteredSheet}
 use Rattle.sf_crew.specs.declared.board.Tally.{Tally}
-use Rattle.sf_crew.specs.Views.{regions_of, questions_of, count_of_regions, has, has_doubt, bit_of, IsInDoubt, Each, times, once_below}
+use Rattle.sf_ask.specs.QuestionBits.{bit_of}
+use Rattle.sf_crew.specs.Views.{regions_of, questions_of, count_of_regions, has, has_doubt, IsInDoubt, Each, times, once_below}
 
 -- the jobs of the sheets that a seat, and those joined into it, have entered
 abbrev pub entered_jobs : View → List ℕ

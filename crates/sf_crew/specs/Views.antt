@@ -1,6 +1,5 @@
 -- What a seat of a board knows, and words on it.
-use Rattle.std.specs.Prelude.{◌≡◌, ℕ, ◌+◌, ◌<◌, ◌≤◌, ◌⊎◌, ◌==◌, nat_lt, if◌then◌else◌, max, ◌/◌, ◌%◌, slice_index, List, [], ◌∷◌, ◌++◌, map, length, Option, Some, None}
-use Rattle.std.specs.Int.{bit_at}
+use Rattle.std.specs.Prelude.{◌≡◌, ℕ, ◌+◌, ◌<◌, ◌≤◌, ◌⊎◌, ◌==◌, nat_lt, if◌then◌else◌, max, List, [], ◌∷◌, ◌++◌, map, length, Option, Some, None}
 use Rattle.sf_book.specs.Books.{BookData}
 use Rattle.sf_ask.specs.QuestionData.{QuestionData}
 use Rattle.sf_ask.specs.Sheets.{HasBreak, HasNoBreak, IsRightWhereGiven}
@@ -48,10 +47,6 @@ has x (y ∷ ys) = max (if x == y then 1 else 0) (has x ys)
 abbrev pub has_doubt : ℕ → List EnteredSheet → ℕ
 has_doubt q [] = 0
 has_doubt q (e ∷ es) = max (has q e.doubts) (has_doubt q es)
-
--- the bit of question q in four words of 64 bits: bit q modulo 64 of word q / 64
-abbrev pub bit_of : List ℕ → ℕ → ℕ
-bit_of words q = bit_at (slice_index words (q / 64)) (q % 64)
 
 -- a place was noted for the question
 abbrev pub Noted : List Note → ℕ → ℕ → Type 0

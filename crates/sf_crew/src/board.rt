@@ -13,7 +13,6 @@ ghost use Rattle.sf_crew.specs.Views.{questions_of, count_of_regions};
 
 use atomic_table::Table;
 use std::alloc::Global;
-pub(crate) use steps::BITS;
 use steps::WholeBoard;
 pub use view::{BoardKey, EnteredSheet, Note, View};
 

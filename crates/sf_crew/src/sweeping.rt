@@ -2,33 +2,25 @@
 
 mod replying;
 
-ghost use Rattle.std.specs.Prelude.{◌≡◌, ◌==◌, if◌then◌else◌, ℕ, ◌+◌, ◌-◌, ◌<◌, ◌≤◌, length, vec_len, All, IfOk, IfErr, OnOk, IfSome, IsTrue, None, Some};
+ghost use Rattle.std.specs.Prelude.{◌≡◌, ℕ, ◌+◌, ◌-◌, ◌<◌, ◌≤◌, length, vec_len, All, IfOk, IfErr, OnOk, IfSome, IsTrue, None, Some};
 ghost use Rattle.sf_crew.specs.BoardSteps.{Knows, with_notes};
 ghost use Rattle.sf_crew.specs.Sweeps.{IsWorked, IsFullTally, SkipsOnly};
-ghost use Rattle.sf_crew.specs.Views.{questions_of, regions_of, count_of_regions, jobs, bit_of, Noted};
+ghost use Rattle.sf_crew.specs.Views.{questions_of, regions_of, count_of_regions, jobs, Noted};
 ghost use Rattle.sf_crew.specs.Boards.{about, seat_view, IsSeatOf, IsNewSeat};
 ghost use Rattle.sf_crew.specs.declared.fault.Fault.TheVariants.{Memory};
 
-use crate::board::{BITS, Board, Seat, Tally};
+use crate::board::{Board, Seat, Tally};
 use crate::fault::Fault;
 use crate::gate::Gate;
 pub use replying::sweep;
-use sf_ask::{Question, Sheet};
+use sf_ask::{Question, Sheet, has_bit, questions_to_judge, set_bit};
 use sf_book::Settled;
 use std::alloc::Global;
 use std::thread;
 use std::thread::Threads;
 
-/// Sets the bit of this question.
-fn want(wanted: &mut [u64; 4], q: usize)
-    requires { q < 256 }
-    ensures { (p : ℕ) → bit_of wanted.new p ≡ (if p == q then 1 else bit_of wanted.old p) }
-{
-    wanted[q / BITS] |= 1 << (q % BITS);
-}
-
-/// Whether a place below the job is seen for the question.
-fn is_beaten(board: &Board, seat: &mut Seat, job: usize, q: usize) -> bool
+/// Whether the question is to be judged, and a place below the job is seen for it.
+fn is_beaten(board: &Board, seat: &mut Seat, job: usize, q: usize, to_judge: &[u64; 4]) -> bool
     requires seat { IsSeatOf board.now seat.old }
     requires there { q < length (questions_of (about board.now)) }
     ensures same { IsSeatOf board.now seat.new }
@@ -37,29 +29,37 @@ fn is_beaten(board: &Board, seat: &mut Seat, job: usize, q: usize) -> bool
         → Noted (seat_view seat.new).notes p r }
     ensures beaten { IsTrue result → (r : ℕ) × Noted (seat_view seat.new).notes q r × (r < job) }
 {
+    if !has_bit(to_judge, q) {
+        return false;
+    }
     match board.look(seat, q) {
         Some(place) => place < job,
         None => false,
     }
 }
 
-/// Looks at each question: the bits of those for which no place below the job was seen.
-fn look_at_all(board: &Board, seat: &mut Seat, job: usize) -> [u64; 4]
+/// Looks at each question that is to be judged: the bits of all but those for which a place below the job was seen. Of most
+/// regions none is.
+fn look_at(board: &Board, seat: &mut Seat, job: usize, to_judge: &[u64; 4]) -> [u64; 4]
     requires seat { IsSeatOf board.now seat.old }
     ensures same { IsSeatOf board.now seat.new }
     ensures wanted { SkipsOnly (questions_of (about board.now)) job (seat_view seat.old)
         (seat_view seat.new) result }
 {
+    if to_judge.iter().all(|word| *word == 0) {
+        return [u64::MAX; 4];
+    }
     let mut wanted = [0u64; 4];
     for q in 0..board.questions {
-        if !is_beaten(board, seat, job, q) {
-            want(&mut wanted, q);
+        if !is_beaten(board, seat, job, q, to_judge) {
+            set_bit(&mut wanted, q);
         }
     }
     wanted
 }
 
-/// Judges the job that the seat owes and enters the sheet. Questions with a lower place seen are skipped.
+/// Judges the job that the seat owes and enters the sheet. Questions that are to be judged and have a lower place seen are
+/// skipped.
 pub(crate) fn enter_job<G: Gate>(
     alloc: Global,
     board: &Board,
@@ -83,8 +83,9 @@ pub(crate) fn enter_job<G: Gate>(
     ensures count { OnOk result (length (jobs (seat_view seat.new))
         ≡ length (jobs (seat_view seat.old))) }
 {
-    let wanted = look_at_all(board, seat, job);
-    let sheet = Sheet::of(alloc, settled, job, questions, wanted)?;
+    let to_judge = questions_to_judge(settled, job, questions);
+    let wanted = look_at(board, seat, job, &to_judge);
+    let sheet = Sheet::judging(alloc, settled, job, questions, &to_judge, wanted)?;
     gate.pass(pass.0, pass.1);
     board.enter(seat, sheet);
     Ok(())

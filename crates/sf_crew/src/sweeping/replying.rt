@@ -2,15 +2,14 @@
 ghost use Rattle.std.specs.Prelude.{◌≡◌, ◌==◌, ◌<◌, ◌≤◌, ℕ, Some, true, false, length, slice_get, IfOk, IfErr};
 ghost use Rattle.sf_ask.specs.QuestionData.{QuestionData};
 ghost use Rattle.sf_check.specs.Stacks.{IsPlain};
-ghost use Rattle.sf_crew.specs.Views.{bit_of};
 ghost use Rattle.sf_crew.specs.Sweeps.{IsFullTally, IsUnbroken, HasDoubt, IsReplyTo, AreRightReplies, IsRightReplyAt};
 ghost use Rattle.sf_crew.specs.declared.fault.Fault.TheVariants.{Memory};
 
-use crate::board::{BITS, Tally};
+use crate::board::Tally;
 use crate::fault::Fault;
 use crate::gate::Gate;
 use crate::sweeping::tally;
-use sf_ask::{Question, Reply, Verdict, judge};
+use sf_ask::{Question, Reply, Verdict, has_bit, judge};
 use sf_book::Settled;
 use std::alloc::Global;
 use std::sync::Wait;
@@ -51,14 +50,6 @@ fn reply_in_turn(alloc: Global, settled: &Settled, question: &Question) -> Resul
     Ok(unbroken(settled, question, doubt))
 }
 
-/// Whether the bit of the question is set.
-fn is_marked(doubts: &[u64; 4], q: usize) -> bool
-    requires { q < 256 }
-    ensures { result ≡ (bit_of doubts.now q == 1) }
-{
-    (doubts[q / BITS] >> (q % BITS)) & 1 == 1
-}
-
 /// The reply to one question. Its least place is judged again, for the example. Should that give none, the regions are
 /// judged in turn.
 fn reply_of(
@@ -75,7 +66,7 @@ fn reply_of(
 {
     let question = &questions[q];
     let Some(place) = tally.least[q] else {
-        let doubt = is_marked(&tally.doubts, q);
+        let doubt = has_bit(&tally.doubts, q);
         return Ok(unbroken(settled, question, doubt));
     };
     if let Verdict::Hit(input) = judge(alloc, settled, place, question)? {

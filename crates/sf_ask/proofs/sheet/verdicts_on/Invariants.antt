@@ -1,11 +1,12 @@
 use Rattle.std.proofs.Common.{◌≡◌, ℕ, ◌<◌, length}
 use Rattle.std.specs.Prelude.{not}
-use Rattle.sf_ask.specs.Sheets.{IsRightWhereGiven, is_skipped, is_wanted, verdict_at}
+use Rattle.sf_ask.specs.QuestionBits.{has_bit}
+use Rattle.sf_ask.specs.Sheets.{IsRightWhereGiven, is_skipped, verdict_at}
 use Rattle.sf_ask.proofs.sheet.verdicts_on.Given as goal
 
 abbrev pub invariant-loop-q : goal.invariant-loop-q
 invariant-loop-q l = record {
   long : length l.verdicts.items ≡ l.q;
   right : (q : ℕ) → q < l.q → IsRightWhereGiven l.settled l.questions l.job q (verdict_at l.verdicts.items q);
-  wanted : (q : ℕ) → q < l.q → is_skipped (verdict_at l.verdicts.items q) ≡ not (is_wanted l.wanted q);
+  wanted : (q : ℕ) → q < l.q → is_skipped (verdict_at l.verdicts.items q) ≡ not (has_bit l.wanted q);
 }

@@ -9,7 +9,7 @@ use Rattle.sf_crew.proofs.sweeping.enter_job.Goals as goal
 
 pub enter-requires-clause-sheet : goal.enter-requires-clause-sheet
 enter-requires-clause-sheet g c =
-    let made = c.in_ok-sheet.ensures in let looked = c.look_at_all-wanted.ensures.wanted in
+    let made = c.in_ok-sheet.ensures in let looked = c.look_at-wanted.ensures.wanted in
     let same : length (questions_of (about c.args.board.now)) ≡ length c.args.questions.now =
     ap (λ y. length y) c.requires.matter.1 in
     record {
@@ -25,5 +25,5 @@ enter-requires-clause-sheet g c =
 
 pub returns-clause-count : goal.returns-clause-count
 returns-clause-count g c = entered_count (seat_view c.args.seat.now)
-    (seat_view c.look_at_all-wanted.new.seat) _ c.in_ok-sheet.sheet _ c.look_at_all-wanted.ensures.wanted.same
+    (seat_view c.look_at-wanted.new.seat) _ c.in_ok-sheet.sheet _ c.look_at-wanted.ensures.wanted.same
     c.requires.owes.0 c.enter.ensures.entered

@@ -4,16 +4,16 @@ use Rattle.sf_crew.proofs.sweeping.replying.reply_of.Goals as goal
 pub unbroken-requires-clause-unbroken : goal.unbroken-requires-clause-unbroken
 unbroken-requires-clause-unbroken c = tally_unbroken _ _ c.args.tally.now c.args.q _ _ c.requires.tally
     c.requires.question.0 (question_there _ c.args.q _ c.requires.question.0 c.index-questions-q.is) c.in_default.is
-    c.is_marked-doubt.ensures
+    c.has_bit-doubt.ensures
 
 pub unbroken-requires-clause-plain : goal.unbroken-requires-clause-plain
 unbroken-requires-clause-plain c = tally_certain _ _ c.args.tally.now c.args.q _ c.requires.tally c.requires.question.0
-    c.is_marked-doubt.ensures
+    c.has_bit-doubt.ensures
 
 pub unbroken-requires-clause-doubtful : goal.unbroken-requires-clause-doubtful
 unbroken-requires-clause-doubtful c =
     tally_doubtful _ _ c.args.tally.now c.args.q _ _ c.requires.tally c.requires.question.0
-    (question_there _ c.args.q _ c.requires.question.0 c.index-questions-q.is) c.is_marked-doubt.ensures
+    (question_there _ c.args.q _ c.requires.question.0 c.index-questions-q.is) c.has_bit-doubt.ensures
 
 pub returns-in_default-clause-ok : goal.returns-in_default-clause-ok
 returns-in_default-clause-ok c = record {

@@ -1,8 +1,9 @@
 use Rattle.std.proofs.Common.{◌≡◌, ℕ, ◌<◌}
-use Rattle.sf_crew.specs.Views.{bit_of, Noted}
+use Rattle.sf_ask.specs.QuestionBits.{bit_of}
+use Rattle.sf_crew.specs.Views.{Noted}
 use Rattle.sf_crew.specs.BoardSteps.{with_notes}
 use Rattle.sf_crew.specs.Boards.{seat_view, IsSeatOf}
-use Rattle.sf_crew.proofs.sweeping.look_at_all.Given as goal
+use Rattle.sf_crew.proofs.sweeping.look_at.Given as goal
 
 abbrev pub invariant-loop-q : goal.invariant-loop-q
 invariant-loop-q l = record {

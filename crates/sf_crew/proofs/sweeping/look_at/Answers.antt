@@ -1,11 +1,11 @@
 use Rattle.std.proofs.Common.{◌≡◌, ◌≢◌, ℕ, ◌+◌, ◌<◌, List, ap, ◌∙◌, refl, arith}
 use Rattle.sf_crew.specs.declared.board.view.View.{View}
-use Rattle.sf_crew.specs.Views.{bit_of}
+use Rattle.sf_ask.specs.QuestionBits.{bit_of}
 use Rattle.sf_crew.specs.BoardSteps.{with_notes}
 use Rattle.sf_crew.specs.Boards.{seat_view}
-use Rattle.sf_crew.proofs.Skips.{IsBeaten, skips_more, set_here, set_else}
-use Rattle.sf_crew.proofs.sweeping.look_at_all.Goals.{then-not-is_beaten, else-not-is_beaten}
-use Rattle.sf_crew.proofs.sweeping.look_at_all.Goals as goal
+use Rattle.sf_crew.proofs.Skips.{IsBeaten, skips_more, set_here, set_else, all_set}
+use Rattle.sf_crew.proofs.sweeping.look_at.Goals.{then-not-is_beaten, else-not-is_beaten}
+use Rattle.sf_crew.proofs.sweeping.look_at.Goals as goal
 
 pub loop-q-preserved : goal.loop-q-preserved
 loop-q-preserved c =
@@ -19,10 +19,17 @@ loop-q-preserved c =
       seat = e.same;
       same = e.view ∙ ap (λ (v : View). with_notes v new.notes) i.same;
       skips = elim c.if-not-is_beaten.branch [
-        | then-not-is_beaten w ↦ rw w.wanted-is (next w.want.new.wanted
-            (λ none. absurd (let one = set_here n c.loop-q.wanted w.want.new.wanted w.want.ensures in omega arith))
-            (set_else n c.loop-q.wanted w.want.new.wanted w.want.ensures))
+        | then-not-is_beaten w ↦ rw w.wanted-is (next w.set_bit.new.bits
+            (λ none. absurd (let one = set_here n c.loop-q.wanted w.set_bit.new.bits w.set_bit.ensures in omega arith))
+            (set_else n c.loop-q.wanted w.set_bit.new.bits w.set_bit.ensures))
         | else-not-is_beaten w ↦ rw w.wanted-is (next c.loop-q.wanted
             (λ none. e.beaten w.if-not-is_beaten.false) (λ q ne. refl))
       ];
     }
+
+pub returns-then-all-clause-wanted : goal.returns-then-all-clause-wanted
+returns-then-all-clause-wanted c = record {
+  same = refl;
+  skips = λ q lt none. absurd (let set = all_set q (omega (arith, lt, c.args.board.now.few)) in
+      omega (arith, set, none));
+}

@@ -2,7 +2,7 @@ use Rattle.std.proofs.Common.{sym, ◌∙◌}
 use Rattle.sf_ask.specs.Verdicts.{IsRightVerdict, TellsTriedAt}
 use Rattle.sf_ask.specs.Searches.{IsRightSearch, TellsTried}
 use Rattle.sf_ask.proofs.Searching.{not-asked, region-right, region-tried, if-ok, if-both-ok}
-use Rattle.sf_ask.proofs.judging.judge_known.Goals as goal
+use Rattle.sf_ask.proofs.judging.judge.Goals as goal
 
 pub returns-then-not-has-clause-right : goal.returns-then-not-has-clause-right
 returns-then-not-has-clause-right c =

@@ -1,0 +1,61 @@
+-- The bits of questions.
+use Rattle.std.proofs.Common.{◌≡◌, ◌≢◌, ℕ, ◌+◌, ◌*◌, ◌/◌, ◌%◌, ◌^◌, ◌<◌, ◌==◌, if◌then◌else◌, min, bit_and, bit_or, true, false, List, slice_index, set, length, w64, sym, ap, ◌∙◌, subst, arith}
+use Rattle.std.specs.Int.{bit_at}
+use Rattle.std.proofs.lemmas.Bool.Decides.{nat_tests}
+use Rattle.std.proofs.lemmas.Nat.Bits.{bit_at-zero, bit_at_and, bit_at_set_same, bit_at_set_other}
+use Rattle.std.proofs.lemmas.List.{get_or-set_same, get_or-set_other}
+use mathlib.Core.Logic.{dite}
+use native.Mathlib.Decide.{ℕ_discrete}
+use Rattle.sf_ask.specs.QuestionBits.{bit_of, has_bit}
+
+-- the bit of q is set in four words, and no other is changed
+pub bits-more : (words : List ℕ) (p q : ℕ) → length words ≡ 4 → q < 256
+    → bit_of (set words (q / 64) (bit_or (slice_index words (q / 64)) (1 * 2 ^ (q % 64) % 2 ^ 64))) p
+    ≡ (if p == q then 1 else bit_of words p)
+bits-more words p q long low =
+    let w : ℕ = q / 64 in let m : ℕ = bit_or (slice_index words w) (1 * 2 ^ (q % 64) % 2 ^ 64) in
+    let here : slice_index (set words w m) w ≡ m = get_or-set_same words w m 0 (omega arith) in
+    let one : bit_of (set words w m) q ≡ 1 = ap (λ x. bit_at x (q % 64)) here
+    ∙ bit_at_set_same w64 (slice_index words w) (q % 64) (omega arith) in
+    dite (ℕ_discrete p q)
+    (λ e. (let t : (if p == q then 1 else bit_of words p) ≡ 1 = grind (arith, nat_tests) in
+    subst (λ x. bit_of (set words w m) x ≡ 1) (sym e) one ∙ sym t))
+    (λ ne. (let t : (if p == q then 1 else bit_of words p) ≡ bit_of words p = grind (arith, nat_tests) in
+    dite (ℕ_discrete (p / 64) w)
+    (λ same. ap (λ x. bit_at (slice_index (set words w m) x) (p % 64)) same ∙ ap (λ x. bit_at x (p % 64)) here
+    ∙ bit_at_set_other w64 (slice_index words w) (q % 64) (omega arith) (p % 64) (λ e. ne (omega arith))
+    ∙ ap (λ x. bit_at (slice_index words x) (p % 64)) (sym same) ∙ sym t)
+    (λ other. ap (λ x. bit_at x (p % 64)) (get_or-set_other words w (p / 64) m 0 other) ∙ sym t)))
+
+-- a question whose bit was set
+pub set-here : (n : ℕ) (before after : List ℕ) → ((p : ℕ) → bit_of after p ≡ (if p == n then 1 else bit_of before p))
+    → has_bit after n ≡ true
+set-here n before after h = let t : (if n == n then 1 else bit_of before n) ≡ 1 = grind (arith, nat_tests) in
+    ap (λ x. x == 1) (h n ∙ t)
+
+-- the others keep their bits
+pub set-else : (n : ℕ) (before after : List ℕ) → ((p : ℕ) → bit_of after p ≡ (if p == n then 1 else bit_of before p))
+    → (q : ℕ) → q ≢ n → has_bit after q ≡ has_bit before q
+set-else n before after h q ne = let t : (if q == n then 1 else bit_of before q) ≡ bit_of before q =
+    grind (arith, nat_tests) in ap (λ x. x == 1) (h q ∙ t)
+
+-- two words without a common bit: where one has a bit, the other hasn't
+apart-at : (a b i : ℕ) → bit_and a b ≡ 0 → (bit_at b i == 1) ≡ true → (bit_at a i == 1) ≡ false
+apart-at a b i none set =
+    let both : min (bit_at a i) (bit_at b i) ≡ 0 = sym (bit_at_and a b i) ∙ ap (λ x. bit_at x i) none ∙ bit_at-zero i in
+    grind (arith, nat_tests)
+
+pub apart : (first second : List ℕ) (q : ℕ)
+    → bit_and (slice_index first (q / 64)) (slice_index second (q / 64)) ≡ 0 → has_bit second q ≡ true
+    → has_bit first q ≡ false
+apart first second q none set =
+    apart-at (slice_index first (q / 64)) (slice_index second (q / 64)) (q % 64) none set
+
+-- what holds of each question whose bit isn't set, with one question more
+pub clear-more : (P : ℕ → Type 0) (n : ℕ) (before after : List ℕ)
+    → ((q : ℕ) → q < n → has_bit before q ≡ false → P q) → (has_bit after n ≡ false → P n)
+    → ((q : ℕ) → q ≢ n → has_bit after q ≡ has_bit before q)
+    → (q : ℕ) → q < n + 1 → has_bit after q ≡ false → P q
+clear-more P n before after all this same q lt none = dite (ℕ_discrete q n)
+    (λ e. subst P (sym e) (this (subst (λ x. has_bit after x ≡ false) e none)))
+    (λ ne. all q (omega arith) (sym (same q ne) ∙ none))
