@@ -1,5 +1,6 @@
 -- Names by the number that their first truth values spell: the bit of one, the bound of all, and their order.
 use Rattle.std.proofs.Common.{◌≡◌, ℕ, zero, suc, ◌+◌, ◌-◌, ◌*◌, ◌%◌, ◌<◌, ◌≤◌, ◌^◌, ◌⊎◌, inl, inr, Bool, true, false, List, [], ◌∷◌, length, min, drop, get_or, refl, ap, ◌∙◌, arith}
+use Rattle.std.specs.Int.{from_bool}
 use Rattle.std.specs.Ordering.{bool_cmp}
 use Rattle.std.specs.declared.cmp.Ordering.TheVariants.{Less, Greater}
 use Rattle.std.specs.Cmp.Lexicographic.{slice_cmp}
@@ -8,7 +9,7 @@ use Rattle.std.proofs.lemmas.Bool.{cases_lt}
 use Rattle.std.proofs.lemmas.Nat.{pow_pos}
 use Rattle.std.proofs.Math.ListN.{drop_of_length-le}
 use Rattle.std.proofs.Math.Nat.{mod-eq_of_lt}
-use Rattle.std.proofs.Math.Pow.{pow-lt}
+use native.Mathlib.Nat.{two-pow-succ, le-mul_of_pos_right}
 use Rattle.sf_book.specs.NameNumbers.{leading_number, name_number}
 
 -- what so many values spell is below the next power of two
@@ -55,13 +56,41 @@ leading_false n place values few inside is =
     let more = drop_more values place false inside ∙ ap (λ b. b ∷ drop (place + 1) values) is in
     ap (λ k. leading_number k (drop place values)) count ∙ ap (leading_number (suc (n - (place + 1)))) more
 
--- one bit, shifted inside 58
-pub one_bit : (place : ℕ) → 1 * 2 ^ (57 - place) % 18446744073709551616 ≡ 2 ^ (58 - (place + 1))
-one_bit place =
-    let same : 57 - place ≡ 58 - (place + 1) = omega arith in
-    let small : 2 ^ (57 - place) < 2 ^ 64 = pow-lt {i = 57 - place} {j = 64} (omega arith) in
-    let one : 1 * 2 ^ (57 - place) ≡ 2 ^ (57 - place) = omega arith in
-    ap (λ k. k % 18446744073709551616) one ∙ mod-eq_of_lt small ∙ ap (λ k. 2 ^ k) same
+spelled_by : (n place number : ℕ) (values : List Bool) (value : Bool) → get_or values place false ≡ value → place < n
+    → place < length values → number * 2 ^ (n - place) + leading_number (n - place) (drop place values)
+    ≡ (2 * number + from_bool value) * 2 ^ (n - (place + 1))
+    + leading_number (n - (place + 1)) (drop (place + 1) values)
+spelled_by n place number values true is few inside =
+    let count : n - place ≡ suc (n - (place + 1)) = omega (arith, few) in
+    let twice = ap (λ k. number * 2 ^ k) count ∙ ap (λ x. number * x) (two-pow-succ (n - (place + 1))) in
+    omega (arith, twice, leading_true n place values few inside is)
+spelled_by n place number values false is few inside =
+    let count : n - place ≡ suc (n - (place + 1)) = omega (arith, few) in
+    let twice = ap (λ k. number * 2 ^ k) count ∙ ap (λ x. number * x) (two-pow-succ (n - (place + 1))) in
+    omega (arith, twice, leading_false n place values few inside is)
+
+-- what the values before a place spell, doubled, takes up the value at the place
+pub spelled_more : (n place number : ℕ) (values : List Bool) → place < n → place < length values
+    → number * 2 ^ (n - place) + leading_number (n - place) (drop place values)
+    ≡ (2 * number + from_bool (get_or values place false)) * 2 ^ (n - (place + 1))
+    + leading_number (n - (place + 1)) (drop (place + 1) values)
+spelled_more n place number values = spelled_by n place number values (get_or values place false) refl
+
+-- it is below the bound of all
+pub spelled_below : (n place number : ℕ) (values : List Bool)
+    → number * 2 ^ (n - place) + leading_number (n - place) (drop place values) ≡ leading_number n values
+    → number < 2 ^ n
+spelled_below n place number values h =
+    omega (arith, h, leading_below n values, le-mul_of_pos_right {m = 2 ^ (n - place)} number (pow_pos (n - place)))
+
+-- shifted up to 58 bits it is what all values spell, where no value is left
+pub spelled_whole : (place number : ℕ) (values : List Bool) → min (length values) 58 ≤ place
+    → number * 2 ^ (58 - place) + leading_number (58 - place) (drop place values) ≡ leading_number 58 values
+    → number * 2 ^ (58 - place) % 18446744073709551616 ≡ leading_number 58 values
+spelled_whole place number values ended h =
+    let is : number * 2 ^ (58 - place) ≡ leading_number 58 values =
+    omega (arith, h, nothing_left 58 place values ended) in
+    mod-eq_of_lt (omega (arith, is, leading_below 58 values)) ∙ is
 
 -- a list of values is before one that spells more, or that spells the same and is longer, as far as so many values tell
 before_by : (n : ℕ) (xs ys : List Bool) → (leading_number n xs < leading_number n ys)

@@ -1,6 +1,6 @@
 //! A piece as the key of a map, in the order of names.
 
-ghost use Rattle.std.specs.Prelude.{◌≡◌, Some, refl};
+ghost use Rattle.std.specs.Prelude.{◌≡◌, Some, refl, IfOk, IfErr};
 ghost use Rattle.std.specs.Ordering.{eq_by_cmp};
 ghost use Rattle.std.specs.Arc.{arc_value};
 ghost use Rattle.std.specs.Cmp.{eq_by_cmp_equiv, partial_order_from_agreeing_total};
@@ -8,7 +8,9 @@ ghost use Rattle.std.specs.Cmp;
 ghost use Rattle.std.specs.Cmp.Rules.{comparing};
 ghost use Rattle.std.proofs.Common.{rules};
 ghost use Rattle.sf_book.specs.OutstandingMaps.{name_cmp, name_total, name_ties};
+ghost use Rattle.sf_book.specs.declared.fault.Fault.TheVariants.{Memory};
 
+use crate::fault::Fault;
 use crate::name_number::{number_of, order_of_numbers};
 use sf_piece::Piece;
 use std::cmp::Ordering;
@@ -44,6 +46,17 @@ impl NameKey {
             number: number_of(piece.name()),
             piece,
         }
+    }
+
+    /// The same key again, with the same number. `Memory` where the piece can't be shared once more.
+    pub(crate) fn twin(&self) -> Result<NameKey, Fault>
+        ensures ok { IfOk result (λ k. k ≡ self.now) }
+        ensures err { IfErr result (λ f. f ≡ Memory) }
+    {
+        Ok(NameKey {
+            number: self.number,
+            piece: Arc::try_clone(&self.piece)?,
+        })
     }
 
     /// The piece itself.

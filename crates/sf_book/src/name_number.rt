@@ -16,13 +16,11 @@ pub(crate) fn number_of(name: &[bool]) -> u64
     ensures { result ≡ name_number name.now }
 {
     let count = name.len().min(LEADING);
-    let mut number = 0;
+    let mut number = 0u64;
     for place in 0..count {
-        if name[place] {
-            number += 1u64 << (57 - place);
-        }
+        number = 2 * number + name[place] as u64;
     }
-    64 * number + count as u64
+    64 * (number << (LEADING - count)) + count as u64
 }
 
 /// How two names compare, where their numbers tell it: a name with a less number is before one with a greater.

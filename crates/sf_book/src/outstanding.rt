@@ -144,8 +144,9 @@ impl OutstandingPieces {
         } ∷ []) }
         ensures err { IfErr result (λ f. (f ≡ Memory) × (self.new ≡ self.old)) }
     {
-        let twin = NameKey::of(Arc::try_clone(&piece)?);
-        put_id(&mut self.by_id, id, NameKey::of(piece))?;
+        let named = NameKey::of(piece);
+        let twin = named.twin()?;
+        put_id(&mut self.by_id, id, named)?;
         match put_name(&mut self.by_name, twin, LeaseState { id, leased }) {
             Ok(()) => Ok(()),
             Err(fault) => {

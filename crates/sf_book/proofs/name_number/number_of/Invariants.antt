@@ -1,8 +1,9 @@
-use Rattle.std.proofs.Common.{◌≡◌, ◌+◌, ◌-◌, drop}
+use Rattle.std.proofs.Common.{◌≡◌, ◌+◌, ◌-◌, ◌*◌, ◌^◌, drop}
 use Rattle.sf_book.specs.NameNumbers.{leading_number}
 use Rattle.sf_book.proofs.name_number.number_of.Given as goal
 
 abbrev pub invariant-loop-place : goal.invariant-loop-place
 invariant-loop-place l = record {
-  whole : l.number + leading_number (58 - l.place) (drop l.place l.name) ≡ leading_number 58 l.name;
+  whole : l.number * 2 ^ (58 - l.place) + leading_number (58 - l.place) (drop l.place l.name)
+      ≡ leading_number 58 l.name;
 }

@@ -9,8 +9,8 @@ invariant_of-self-in-Ok c =
     let p = c.args.piece.value in
     let above = rw (← c.self.view_is) at c.requires.above in
     let apart = rw (← c.self.view_is) at c.requires.apart in
-    let put = rw c.of.ensures at c.in_ok-put_id.ensures.updates in
-    let named = rw (c.of-twin.ensures, c.in_ok-try_clone.ensures) at c.in-Ok.ensures.updates in
+    let put = rw c.of-named.ensures at c.in_ok-put_id.ensures.updates in
+    let named = rw (c.in_ok-twin.ensures.ok, c.of-named.ensures) at c.in-Ok.ensures.updates in
     added_maps ids names c.args.id p c.args.leased _ _ c.self.invariant
     (is_added ids names c.args.id p c.args.leased c.put_id.new.by_id.entries c.put_name.new.by_name.entries
     c.self.invariant above apart put.0 named.0 c.put_id.ensures.ordered c.put_name.ensures.ordered)
@@ -22,9 +22,9 @@ returns-in-Ok-clause-ok c =
     let p = c.args.piece.value in
     let above = rw (← c.self.view_is) at c.requires.above in
     let apart = rw (← c.self.view_is) at c.requires.apart in
-    let put = rw c.of.ensures at c.in_ok-put_id.ensures.updates in
-    let named = rw (c.of-twin.ensures, c.in_ok-try_clone.ensures) at c.in-Ok.ensures.updates in
-    let is = rw c.of.ensures at c.in_ok-put_id.ensures.entries in
+    let put = rw c.of-named.ensures at c.in_ok-put_id.ensures.updates in
+    let named = rw (c.in_ok-twin.ensures.ok, c.of-named.ensures) at c.in-Ok.ensures.updates in
+    let is = rw c.of-named.ensures at c.in_ok-put_id.ensures.entries in
     rw (← c.self.view_is) (added_view ids names c.args.id p c.args.leased c.put_id.new.by_id.entries
     c.put_name.new.by_name.entries c.self.invariant
     (is_added ids names c.args.id p c.args.leased c.put_id.new.by_id.entries c.put_name.new.by_name.entries
@@ -40,7 +40,7 @@ invariant_of-self-in-Err c =
       c.in-Err.ensures.err.1,
       c.drop_id.ensures,
       c.in_ok-put_id.ensures.entries,
-      put_back ids names c.args.id c.of.result above,
+      put_back ids names c.args.id c.of-named.result above,
     ) c.self.invariant
 
 pub returns-in-Err-clause-err : goal.returns-in-Err-clause-err
@@ -54,6 +54,6 @@ returns-in-Err-clause-err c =
         c.in-Err.ensures.err.1,
         c.drop_id.ensures,
         c.in_ok-put_id.ensures.entries,
-        put_back ids names c.args.id c.of.result above,
+        put_back ids names c.args.id c.of-named.result above,
       ) refl,
     )
