@@ -5,7 +5,8 @@ ghost use Rattle.sf_insn.specs.declared.input.Input.{Input};
 ghost use Rattle.sf_insn.specs.Inputs.{IsInput};
 ghost use Rattle.sf_run.specs.Feasible.{feasible_traces};
 ghost use Rattle.sf_book.specs.Books.{BookData, IsLawfulBook, IsSettled};
-ghost use Rattle.sf_book.specs.Exact.{HasMembers, IsWorkedOff};
+ghost use Rattle.sf_book.specs.Exact.{IsWorkedOff};
+ghost use Rattle.sf_book.specs.PlainBooks.{IsPlainBook};
 ghost use Rattle.sf_book.specs.Partition.{parts_of, names_of, LiesInOne, NoneBeginsAnother};
 
 /// Each input lies in exactly one outstanding piece or settled region of a lawful book.
@@ -20,31 +21,28 @@ pub fn no_name_begins_another()
     ensures { (b : BookData) → IsLawfulBook b → NoneBeginsAnother (names_of b) }
 {}
 
-/// A lawful book in which each piece and each region has a member has at most one of them for each feasible trace of
-/// its stack.
-#[tactic(auto, using(crate::specs::ExactLaws::one_for_each_trace))]
+/// A lawful book of a plain stack has at most one piece or region for each feasible trace of the stack.
 pub fn at_most_one_for_each_trace()
-    ensures { (b : BookData) → IsLawfulBook b → HasMembers b →
+    ensures { (b : BookData) → IsLawfulBook b → IsPlainBook b →
         length b.outstanding + length b.regions ≤ length (feasible_traces b.stack) }
 {}
 
-/// With nothing outstanding, the names of its regions are exactly the feasible traces, in order.
+/// Where an exploration of a plain stack ended with nothing outstanding, the names of its regions are exactly the feasible
+/// traces, in order.
 pub fn what_is_worked_off_names_each_trace()
-    ensures { (b : BookData) → IsSettled b → HasMembers b → b.outstanding ≡ [] →
+    ensures { (b : BookData) → IsSettled b → IsPlainBook b → b.outstanding ≡ [] →
         IsWorkedOff b (feasible_traces b.stack) }
 {}
 
-/// While something is outstanding, fewer works were committed than make all regions.
-#[tactic(auto, using(crate::specs::ExactLaws::left_unworked))]
+/// While something of a plain stack is outstanding, fewer works were committed than make all regions.
 pub fn what_is_left_took_fewer_works()
-    ensures { (b : BookData) → IsLawfulBook b → HasMembers b → 0 < length b.outstanding →
+    ensures { (b : BookData) → IsLawfulBook b → IsPlainBook b → 0 < length b.outstanding →
         b.commits + 1 < 2 * length (feasible_traces b.stack) }
 {}
 
-/// An ended exploration has nothing outstanding exactly where its budget was enough.
-#[tactic(auto, using(crate::specs::ExactLaws::enough))]
+/// An ended exploration of a plain stack has nothing outstanding exactly where its budget was enough.
 pub fn a_budget_is_enough_or_not()
-    ensures { (b : BookData) → IsSettled b → HasMembers b → (b.outstanding ≡ [])
+    ensures { (b : BookData) → IsSettled b → IsPlainBook b → (b.outstanding ≡ [])
         ⊎ (b.commits ≡ b.budget) →
         (b.outstanding ≡ []) ↔ (2 * length (feasible_traces b.stack) ≤ b.budget + 1) }
 {}

@@ -4,7 +4,7 @@
 
 mod book;
 mod fault;
-mod laws;
+pub mod laws;
 mod name_key;
 mod name_number;
 mod outstanding;
@@ -13,6 +13,5 @@ mod settled;
 
 pub use book::{Book, Counts, Lease};
 pub use fault::Fault;
-pub use laws::{each_input_lies_in_one, no_name_begins_another};
 pub use regions::Region;
 pub use settled::Settled;

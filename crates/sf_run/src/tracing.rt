@@ -1,6 +1,6 @@
 //! The truth values that a stack meets on one input.
 
-ghost use Rattle.std.specs.Prelude.{◌≡◌, ◌++◌, IfOk, OnOk, MatchResult};
+ghost use Rattle.std.specs.Prelude.{◌≡◌, ◌++◌, IfOk, OnOk};
 ghost use Rattle.sf_run.specs.Machine.{bits, met_by, trace_of};
 ghost use Rattle.sf_run.specs.Code.{met_at, state_of};
 
@@ -13,7 +13,6 @@ use std::alloc::Global;
 /// Adds the bits of a word, the highest first.
 fn push_bits(met: &mut Vec<bool>, word: u32) -> Result<(), Fault>
     ensures pushed { OnOk result (met.new.items ≡ met.old.items ++ bits 32 word) }
-    ensures only { MatchResult result (λ _. Unit {0}) (λ e. e ≡ Fault.Memory) }
 {
     for i in 0..32u32 {
         met.push((word >> (31 - i)) & 1 == 1)?;
@@ -25,7 +24,6 @@ fn push_bits(met: &mut Vec<bool>, word: u32) -> Result<(), Fault>
 fn push_met(met: &mut Vec<bool>, machine: &Machine, insn: &Insn) -> Result<(), Fault>
     ensures pushed { OnOk result (met.new.items ≡ met.old.items
         ++ met_at (state_of 0 machine.now) insn.now) }
-    ensures only { MatchResult result (λ _. Unit {0}) (λ e. e ≡ Fault.Memory) }
 {
     match insn {
         Insn::Branch(test, other, _, _) => {
@@ -55,7 +53,6 @@ fn push_met(met: &mut Vec<bool>, machine: &Machine, insn: &Insn) -> Result<(), F
 /// Adds the truth values that the program meets.
 fn push_program(met: &mut Vec<bool>, program: &Program, input: &Input) -> Result<(), Fault>
     ensures pushed { OnOk result (met.new.items ≡ met.old.items ++ met_by program.now input.now) }
-    ensures only { MatchResult result (λ _. Unit {0}) (λ e. e ≡ Fault.Memory) }
 {
     let code = program.insns();
     let mut machine = Machine::start();
@@ -75,7 +72,6 @@ fn push_program(met: &mut Vec<bool>, program: &Program, input: &Input) -> Result
 /// of them. `Memory` where a growth is refused.
 pub fn trace(alloc: Global, stack: &Stack, input: &Input) -> Result<Vec<bool>, Fault>
     ensures met { IfOk result (λ v. v.items ≡ trace_of stack.now input.now) }
-    ensures only { MatchResult result (λ _. Unit {0}) (λ e. e ≡ Fault.Memory) }
 {
     let mut met = Vec::new(alloc);
     for program in stack.programs().iter().rev() {

@@ -1,6 +1,6 @@
 //! The run of a program on one input, with all that it meets and the words that it compares.
 
-ghost use Rattle.std.specs.Prelude.{◌≡◌, ◌++◌, Some, IfOk, OnOk, MatchResult};
+ghost use Rattle.std.specs.Prelude.{◌≡◌, ◌++◌, Some, IfOk, OnOk};
 ghost use Rattle.sf_run.specs.Code.{state_of};
 ghost use Rattle.std.specs.List.{flat_map};
 ghost use Rattle.sf_run.specs.Machine.{met_by, return_of};
@@ -50,7 +50,6 @@ fn push_meeting(
 ) -> Result<(), Fault>
     ensures pushed { OnOk result (met.new.items ≡ met.old.items
         ++ meeting_at (state_of place machine.now) insn.now) }
-    ensures only { MatchResult result (λ _. Unit {0}) (λ e. e ≡ Fault.Memory) }
 {
     let here = match insn {
         Insn::Branch(test, other, _, _) => {
@@ -89,7 +88,6 @@ pub fn walk(alloc: Global, program: &Program, input: &Input) -> Result<Course, F
     // So it has the value that the program returns, and the truth values that it meets.
     ensures run { IfOk result (λ w. (w.value ≡ return_of program.now input.now)
         × (flat_map truths w.met.items ≡ met_by program.now input.now)) }
-    ensures only { MatchResult result (λ _. Unit {0}) (λ e. e ≡ Fault.Memory) }
 {
     let code = program.insns();
     let mut met = Vec::new(alloc);

@@ -1,5 +1,6 @@
 use Rattle.sf_book.specs.ExactLaws.{worked_off}
+use Rattle.sf_book.specs.PlainLaws.{plain_has_members}
 use Rattle.sf_book.proofs.laws.what_is_worked_off_names_each_trace.Goals as goal
 
 pub returns : goal.returns
-returns c = worked_off
+returns c = λ b settled plain. worked_off b settled (plain_has_members b plain)

@@ -45,8 +45,8 @@ loop-machine-preserved c =
           on.took c.in_ok-push_met.ensures.pushed (before.same (suc n) (on.met ++ o.0, o.1) (on.more n o rest));
     }
 
-pub returns-in-Returns-clause-pushed : goal.returns-in-Returns-clause-pushed
-returns-in-Returns-clause-pushed c =
+pub returns-in-Returns : goal.returns-in-Returns
+returns-in-Returns c =
     let code = c.insns-code.result.now in
     let d = c.args.input.now in
     let v = c.in-Returns.field-0 in
@@ -55,6 +55,8 @@ returns-in-Returns-clause-pushed c =
     let before = c.loop-machine.invariant in
     let h = at_hand _ code s _ c.insns-code.ensures.same c.insns-code.ensures.lawful before.safe in
     let out = goes_out code d s _ v c.execute.new.machine h c.in-Returns.ensures in
-    met_ends code d c.loop-machine.place m.a m.x m.scratch _ out.met v c.loop-machine.met.items
-    c.push_met.new.met.items _ out.took c.in_ok-push_met.ensures.pushed (before.same 1 (out.met, v) out.ends)
-    ∙ ap (λ (p : List Insn). c.args.met.now.items ++ met_by p d) c.insns-code.ensures.same
+    record {
+      pushed = met_ends code d c.loop-machine.place m.a m.x m.scratch _ out.met v c.loop-machine.met.items
+          c.push_met.new.met.items _ out.took c.in_ok-push_met.ensures.pushed (before.same 1 (out.met, v) out.ends)
+          ∙ ap (λ (p : List Insn). c.args.met.now.items ++ met_by p d) c.insns-code.ensures.same;
+    }

@@ -1,0 +1,6 @@
+use Rattle.sf_book.specs.ExactLaws.{one_for_each_trace}
+use Rattle.sf_book.specs.PlainLaws.{plain_has_members}
+use Rattle.sf_book.proofs.laws.at_most_one_for_each_trace.Goals as goal
+
+pub returns : goal.returns
+returns c = λ b lawful plain. one_for_each_trace b lawful (plain_has_members b plain)

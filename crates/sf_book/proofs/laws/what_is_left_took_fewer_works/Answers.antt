@@ -1,0 +1,6 @@
+use Rattle.sf_book.specs.ExactLaws.{left_unworked}
+use Rattle.sf_book.specs.PlainLaws.{plain_has_members}
+use Rattle.sf_book.proofs.laws.what_is_left_took_fewer_works.Goals as goal
+
+pub returns : goal.returns
+returns c = λ b lawful plain left. left_unworked b lawful (plain_has_members b plain) left
