@@ -62,6 +62,10 @@ letter false = 70
 abbrev pub name_text : List Bool → List ℕ
 name_text name = if length name == 0 then codes "-" else map letter name
 
+-- eight hexadecimal digits, in lower case: what std makes of the format {value:08x}
+abbrev pub lower_case_digits : ℕ → List ℕ
+lower_case_digits value = padded_integral (format_spec 32 0 4 8 (2 ^ 64 - 1)) false [] (digits 16 false value)
+
 -- the action's name, or OTHER with its number by eight hexadecimal digits
 abbrev pub action_text : Action → List ℕ
 action_text KillProcess = codes "KILL_PROCESS"
@@ -72,8 +76,7 @@ action_text UserNotif = codes "USER_NOTIF"
 action_text Trace = codes "TRACE"
 action_text Log = codes "LOG"
 action_text Allow = codes "ALLOW"
-action_text (Other value) = codes "OTHER:0x" ++ padded_integral (format_spec 32 0 4 8 (2 ^ 64 - 1)) false []
-    (digits 16 false value)
+action_text (Other value) = codes "OTHER:0x" ++ lower_case_digits value
 
 -- a region's number and name, and the action and data that it is answered with
 abbrev pub region_line : ℕ → RegionData → List ℕ
