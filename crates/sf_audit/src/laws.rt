@@ -54,7 +54,8 @@ pub fn an_audit_is_not_refused()
 /// Two audits of one plain stack with the same questions that leave nothing outstanding have the same report, whatever
 /// their budgets, and whoever worked.
 pub fn one_report()
-    ensures { (files : List (List ℕ)) (questions : List QuestionData) (b c : ℕ) (o p : Found) →
+    ensures { (files : List (List ℕ)) (questions : List QuestionData)
+        (b c : ℕ) (o p : Found) →
         IsAudit files questions b o → IsAudit files questions c p → IsPlain o.settled.stack →
         o.settled.outstanding ≡ [] → p.settled.outstanding ≡ [] →
         (shown : Bool) → report_text o shown ≡ report_text p shown }

@@ -12,7 +12,8 @@ ghost use Rattle.sf_book.specs.Partition.{parts_of, names_of, LiesInOne, NoneBeg
 /// Each input lies in exactly one outstanding piece or settled region of a lawful book.
 #[tactic(auto, using(crate::specs::PartitionLaws::lies_in_one))]
 pub fn each_input_lies_in_one()
-    ensures { (b : BookData) → IsLawfulBook b → (d : Input) → IsInput d → LiesInOne (parts_of b) d }
+    ensures { (b : BookData) → IsLawfulBook b → (d : Input) → IsInput d
+        → LiesInOne (parts_of b) d }
 {}
 
 /// No name of a lawful book begins another: not of an outstanding piece, a region or an emptied piece.

@@ -228,7 +228,8 @@ fn put_name(
     state: LeaseState,
 ) -> Result<(), Fault>
     ensures updates { OnOk result (Updates name_cmp by_name.old by_name.new piece (Some state)) }
-    ensures err { IfErr result (λ f. (f ≡ Memory) × (by_name.new.entries ≡ by_name.old.entries)) }
+    ensures err { IfErr result (λ f. (f ≡ Memory)
+        × (by_name.new.entries ≡ by_name.old.entries)) }
     ensures ordered { IsOrdered name_cmp by_name.new }
 {
     by_name.insert(piece, state)?;

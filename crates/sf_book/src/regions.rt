@@ -41,7 +41,11 @@ impl Model for Region {
 impl Region {
     /// The region of a piece that settled, with its whole name.
     pub(crate) fn of(piece: Arc<Piece>, name: Vec<bool>, answer: Answer) -> Region
-        ensures { result ≡ record { piece = arc_value piece; name = name.items; answer = answer } }
+        ensures { result ≡ record {
+          piece = arc_value piece;
+          name = name.items;
+          answer = answer;
+        } }
     {
         Region {
             number: number_of(&name),

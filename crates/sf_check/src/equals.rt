@@ -24,7 +24,8 @@ pub(crate) struct EqualTests {
 
 /// The number for which the instruction asks so, if it does.
 fn asked_number(insn: &Insn) -> Option<u32>
-    ensures { MatchOption result ((k : ℕ) → AsksFor insn.now k → ⊥) (λ k. AsksFor insn.now k) }
+    ensures { MatchOption result ((k : ℕ) → AsksFor insn.now k → ⊥)
+        (λ k. AsksFor insn.now k) }
 {
     let Insn::Branch(test, other, _, on_false) = insn else {
         return None;

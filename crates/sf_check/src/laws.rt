@@ -12,7 +12,8 @@ use sf_insn::laws::one_spelling;
 
 /// Instructions spell at most one program.
 pub fn one_program()
-    ensures { (raws : List RawInsn) (a b : List Insn) → Spells raws a → Spells raws b → a ≡ b }
+    ensures { (raws : List RawInsn) (a b : List Insn) → Spells raws a
+        → Spells raws b → a ≡ b }
 {}
 
 /// The bytes of a filter file spell at most one lawful program.

@@ -37,7 +37,8 @@ fn questions_in<F: Files>(
     notes: &mut Notes,
 ) -> Result<Vec<Question>, Fault>
     ensures asked { IfOk result (λ v. IsPolicyFile (F.holds files.old path.now) v.items) }
-    ensures refused { IfErr result (λ e. ((e ≡ ReadFault) × (F.holds files.old path.now ≡ None))
+    ensures refused { IfErr result (λ e. ((e ≡ ReadFault)
+        × (F.holds files.old path.now ≡ None))
         ⊎ (e ≡ MemoryFault) ⊎ RefusesPolicyFile (F.holds files.old path.now) e) }
     ensures same { (p : List ℕ) → F.holds files.new p ≡ F.holds files.old p }
 {
@@ -69,7 +70,8 @@ pub fn audit<R: Threads + Wait + Sync, F: Files, O: Write>(
         options.budget options.regions s (O.contents out.old) (O.contents out.new)) }
     ensures status { IfOk result (λ s. s ≤ 2) }
     ensures refused { IfErr result (RefusesAudit (F.holds files.old) policy.now paths.now) }
-    ensures quiet { IfErr result (λ e. (fault_status (fault_number e) ≡ 5) ⊎ (out.new ≡ out.old)) }
+    ensures quiet { IfErr result (λ e. (fault_status (fault_number e) ≡ 5)
+        ⊎ (out.new ≡ out.old)) }
 {
     let questions = questions_in(alloc, policy, files, notes)?;
     let filters = read_all(alloc, paths, files, notes)?;

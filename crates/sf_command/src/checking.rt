@@ -35,7 +35,8 @@ pub fn print<O: Write>(text: &str, out: &mut O) -> Result<(), Fault>
 /// seccomp(2) has it. `Input` where the text is anything else.
 pub fn input_of(text: &str) -> Result<Input, Fault>
     ensures spelled { IfOk result (λ d. decode_sized text.now 64 ≡ Ok (input_bytes d)) }
-    ensures refused { IfErr result (λ e. (e ≡ InputFault) × (IsOk (decode_sized text.now 64) → ⊥)) }
+    ensures refused { IfErr result (λ e. (e ≡ InputFault)
+        × (IsOk (decode_sized text.now 64) → ⊥)) }
 {
     let bytes = <[u8; 64] as FromHex>::from_hex(text).map_err(|_| Fault::Input)?;
     Ok(input_of_bytes(&bytes))

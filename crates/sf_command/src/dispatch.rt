@@ -35,7 +35,8 @@ fn run_audit<R: Threads + Wait + Sync, F: Files, O: Write>(
     ensures done { IfOk result (λ s. Audits (F.holds files.old) (rows_of (found_of found.now)) s
         (O.contents out.old) (O.contents out.new)) }
     ensures status { IfOk result (λ s. s ≤ 2) }
-    ensures quiet { IfErr result (λ e. (fault_status (fault_number e) ≡ 5) ⊎ (out.new ≡ out.old)) }
+    ensures quiet { IfErr result (λ e. (fault_status (fault_number e) ≡ 5)
+        ⊎ (out.new ≡ out.old)) }
     ensures refused { IfErr result (λ e. OnPaths (rows_of (found_of found.now))
         (λ paths. RefusesAudit (F.holds files.old)
         (text_of (codes "policy") (rows_of (found_of found.now))) paths e)) }
@@ -60,7 +61,8 @@ fn run_check<F: Files, O: Write>(
 ) -> Result<u8, Fault>
     ensures done { IfOk result (λ s. Checks (F.holds files.old) (rows_of (found_of found.now)) s
         (O.contents out.old) (O.contents out.new)) }
-    ensures quiet { IfErr result (λ e. (fault_status (fault_number e) ≡ 5) ⊎ (out.new ≡ out.old)) }
+    ensures quiet { IfErr result (λ e. (fault_status (fault_number e) ≡ 5)
+        ⊎ (out.new ≡ out.old)) }
     ensures refused { IfErr result (λ e. OnPaths (rows_of (found_of found.now))
         (λ paths. RefusesCheck (F.holds files.old) paths e)) }
 {
@@ -79,7 +81,8 @@ fn run_eval<F: Files, O: Write>(
 ) -> Result<u8, Fault>
     ensures done { IfOk result (λ s. Evaluates (F.holds files.old)
         (rows_of (found_of found.now)) s (O.contents out.old) (O.contents out.new)) }
-    ensures quiet { IfErr result (λ e. (fault_status (fault_number e) ≡ 5) ⊎ (out.new ≡ out.old)) }
+    ensures quiet { IfErr result (λ e. (fault_status (fault_number e) ≡ 5)
+        ⊎ (out.new ≡ out.old)) }
     ensures refused { IfErr result (λ e. OnPaths (rows_of (found_of found.now))
         (λ paths. RefusesEval (text_of (codes "input") (rows_of (found_of found.now)))
         (F.holds files.old) paths e)) }
@@ -106,7 +109,8 @@ fn run<R: Threads + Wait + Sync, F: Files, O: Write>(
         (subcommand_rows_of matches.now) s (O.contents out.old) (O.contents out.new)) }
     ensures usage { IfOk result (λ s. s ≡ 4 → ¬ IsKnown (subcommand_rows_of matches.now)
         × (files.new ≡ files.old) × (out.new ≡ out.old)) }
-    ensures quiet { IfErr result (λ e. (fault_status (fault_number e) ≡ 5) ⊎ (out.new ≡ out.old)) }
+    ensures quiet { IfErr result (λ e. (fault_status (fault_number e) ≡ 5)
+        ⊎ (out.new ≡ out.old)) }
     ensures refused { IfErr result (RefusesAs (F.holds files.old)
         (subcommand_rows_of matches.now)) }
 {
@@ -167,9 +171,11 @@ fn reply<R: Threads + Wait + Sync, F: Files, O: Write, E: Write>(
     ensures status { IfOk result (λ s. (s ≤ 2) ⊎ (s ≡ 4)) }
     ensures done { IfOk result (λ s. s ≤ 2 → DoesAsTold (F.holds files.old)
         (map string_bytes words.now) s (O.contents out.old) (O.contents out.new)) }
-    ensures usage { IfOk result (λ s. s ≡ 4 → ¬ (errors_at (map string_bytes words.now) ≡ [])
+    ensures usage { IfOk result (λ s. s ≡ 4
+        → ¬ (errors_at (map string_bytes words.now) ≡ [])
         × (files.new ≡ files.old) × (out.new ≡ out.old)) }
-    ensures quiet { IfErr result (λ e. (fault_status (fault_number e) ≡ 5) ⊎ (out.new ≡ out.old)) }
+    ensures quiet { IfErr result (λ e. (fault_status (fault_number e) ≡ 5)
+        ⊎ (out.new ≡ out.old)) }
     ensures refused { IfErr result (RefusesAsTold (F.holds files.old)
         (map string_bytes words.now)) }
 {
@@ -195,7 +201,8 @@ pub fn command<R: Threads + Wait + Sync, F: Files, O: Write, E: Write>(
     err: &mut E,
 ) -> u8
     ensures status { result ≤ 5 }
-    ensures done { result ≤ 2 → DoesAsTold (F.holds files.old) (map string_bytes words.now) result
+    ensures done { result ≤ 2 → DoesAsTold (F.holds files.old)
+        (map string_bytes words.now) result
         (O.contents out.old) (O.contents out.new) }
     ensures usage { result ≡ 4 → ¬ (errors_at (map string_bytes words.now) ≡ [])
         × (files.new ≡ files.old) × (out.new ≡ out.old) }

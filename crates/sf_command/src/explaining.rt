@@ -140,7 +140,8 @@ fn told_if_asked(
     notes: &Notes,
     reason: &str,
 ) -> Option<String>
-    ensures { one_of (codes "explain-errors") (rows_of (found_of found.now)) ≡ Some (codes "false")
+    ensures { one_of (codes "explain-errors") (rows_of (found_of found.now))
+        ≡ Some (codes "false")
         → result ≡ None }
 {
     if !explains_of(found) {

@@ -60,7 +60,8 @@ fn push_last_arguments(text: &mut String, input: &Input) -> Result<(), AllocErro
 
 /// The lines of all fields of an input.
 fn push_input(text: &mut String, input: &Input) -> Result<(), AllocError>
-    ensures { OnOk result (string_bytes text.new ≡ string_bytes text.old ++ input_text input.now) }
+    ensures { OnOk result (string_bytes text.new ≡ string_bytes text.old
+        ++ input_text input.now) }
 {
     push_call(text, input)?;
     push_first_arguments(text, input)?;

@@ -42,7 +42,8 @@ impl Owner {
     /// One thief more, as long as nothing was put.
     fn add_thief(&mut self) -> Result<Thief, AllocError>
         requires { (owner_view self.old).events ≡ [] }
-        ensures owner { IfOk result (λ _. owner_view self.new ≡ handle_view (owner_view self.old).me
+        ensures owner { IfOk result (λ _. owner_view self.new ≡ handle_view
+            (owner_view self.old).me
             ((owner_view self.old).made + 1) []) }
         ensures thief { IfOk result (λ t. thief_view t ≡ handle_view
             (owner_view self.old).made 0 []) }

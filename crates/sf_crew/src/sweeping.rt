@@ -24,10 +24,12 @@ fn is_beaten(board: &Board, seat: &mut Seat, job: usize, q: usize, to_judge: &[u
     requires seat { IsSeatOf board.now seat.old }
     requires there { q < length (questions_of (about board.now)) }
     ensures same { IsSeatOf board.now seat.new }
-    ensures view { seat_view seat.new ≡ with_notes (seat_view seat.old) (seat_view seat.new).notes }
+    ensures view { seat_view seat.new ≡ with_notes (seat_view seat.old)
+        (seat_view seat.new).notes }
     ensures more { (p r : ℕ) → Noted (seat_view seat.old).notes p r
         → Noted (seat_view seat.new).notes p r }
-    ensures beaten { IsTrue result → (r : ℕ) × Noted (seat_view seat.new).notes q r × (r < job) }
+    ensures beaten { IsTrue result → (r : ℕ) × Noted (seat_view seat.new).notes q r
+        × (r < job) }
 {
     if !has_bit(to_judge, q) {
         return false;

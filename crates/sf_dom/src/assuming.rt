@@ -83,7 +83,8 @@ fn propagate_back(nodes: &mut Nodes, excluded: &Excluded, pool: &Pool, from: usi
         (KeepsAgreeing nodes.old.known nodes.new.known excluded.now pool.now
         × AllNarrower nodes.old.known nodes.new.known)
         (NoneAgreesWith nodes.old.known excluded.now pool.now) }
-    ensures backward { IsTrue result → (n : ℕ) → IsPropagatedBack n nodes.new.known pool.now from }
+    ensures backward { IsTrue result → (n : ℕ) → IsPropagatedBack n
+        nodes.new.known pool.now from }
     ensures ready { IsReady nodes.new.known pool.now }
 {
     let mut at = from;

@@ -163,7 +163,8 @@ fn with_added(
 
 /// A list without numbers for each word.
 fn no_exclusions(alloc: Global) -> Result<Vec<Exclusions>, Fault>
-    ensures { IfOk result (λ v. (length v.items ≡ 16) × ((w : ℕ) → numbers_at v.items w ≡ [])) }
+    ensures { IfOk result (λ v. (length v.items ≡ 16)
+        × ((w : ℕ) → numbers_at v.items w ≡ [])) }
 {
     let none = Exclusions::new(alloc)?;
     let mut lists = Vec::with_capacity(alloc, WORDS)?;

@@ -11,8 +11,10 @@ use sf_insn::BinOp;
 
 /// A sum: where none of the sums wraps, or each does, they lie between those of the ends.
 fn add(a: Known, b: Known) -> Known
-    ensures admits { (x y : ℕ) → Admits a x → Admits b y → Admits result ((x + y) % 2 ^ 32) }
-    ensures forced { IsConsistent a → IsConsistent b → IsDecided a → IsDecided b → IsForced result }
+    ensures admits { (x y : ℕ) → Admits a x → Admits b y
+        → Admits result ((x + y) % 2 ^ 32) }
+    ensures forced { IsConsistent a → IsConsistent b → IsDecided a → IsDecided b
+        → IsForced result }
 {
     let fits = a.high <= u32::MAX - b.high;
     let wraps = a.low > u32::MAX - b.low;
@@ -29,7 +31,8 @@ fn add(a: Known, b: Known) -> Known
 fn sub(a: Known, b: Known) -> Known
     ensures admits { (x y : ℕ) → Admits a x → Admits b y
         → Admits result ((x + (2 ^ 32 - y)) % 2 ^ 32) }
-    ensures forced { IsConsistent a → IsConsistent b → IsDecided a → IsDecided b → IsForced result }
+    ensures forced { IsConsistent a → IsConsistent b → IsDecided a → IsDecided b
+        → IsForced result }
 {
     if a.low >= b.high {
         Known::between(a.low.wrapping_sub(b.high), a.high.wrapping_sub(b.low))
@@ -52,7 +55,8 @@ fn mul(a: Known, b: Known) -> Known
 
 /// A quotient, which is 0 where the divisor is: where no divisor is 0, the quotients lie between those of the ends.
 fn div(a: Known, b: Known) -> Known
-    ensures { (x y : ℕ) → Admits a x → Admits b y → Admits result (if y == 0 then 0 else x / y) }
+    ensures { (x y : ℕ) → Admits a x → Admits b y
+        → Admits result (if y == 0 then 0 else x / y) }
 {
     if b.low >= 1 && b.high >= 1 {
         Known::between(a.low / b.high, a.high / b.low)
@@ -64,7 +68,8 @@ fn div(a: Known, b: Known) -> Known
 /// An OR is at least each operand; its bit is 0 where both are, and 1 where one is.
 fn or(a: Known, b: Known) -> Known
     ensures admits { (x y : ℕ) → Admits a x → Admits b y → Admits result (bit_or x y) }
-    ensures forced { IsConsistent a → IsConsistent b → IsDecided a → IsDecided b → IsForced result }
+    ensures forced { IsConsistent a → IsConsistent b → IsDecided a → IsDecided b
+        → IsForced result }
 {
     Known {
         low: a.low.max(b.low),
@@ -77,7 +82,8 @@ fn or(a: Known, b: Known) -> Known
 /// An AND is at most each operand; its bit is 0 where one is, and 1 where both are.
 fn and(a: Known, b: Known) -> Known
     ensures admits { (x y : ℕ) → Admits a x → Admits b y → Admits result (bit_and x y) }
-    ensures forced { IsConsistent a → IsConsistent b → IsDecided a → IsDecided b → IsForced result }
+    ensures forced { IsConsistent a → IsConsistent b → IsDecided a → IsDecided b
+        → IsForced result }
 {
     Known {
         low: 0,
@@ -90,7 +96,8 @@ fn and(a: Known, b: Known) -> Known
 /// The bit of an XOR is known where both are.
 fn xor(a: Known, b: Known) -> Known
     ensures admits { (x y : ℕ) → Admits a x → Admits b y → Admits result (bit_xor x y) }
-    ensures forced { IsConsistent a → IsConsistent b → IsDecided a → IsDecided b → IsForced result }
+    ensures forced { IsConsistent a → IsConsistent b → IsDecided a → IsDecided b
+        → IsForced result }
 {
     Known {
         low: 0,
@@ -139,7 +146,8 @@ fn shifted_right(a: Known, s: u32) -> Known
 
 /// A shift to the left goes by the second operand modulo 32; where that is not decided, nothing is known.
 fn shift_left(a: Known, b: Known) -> Known
-    ensures { (x y : ℕ) → Admits a x → Admits b y → Admits result ((x * 2 ^ (y % 32)) % 2 ^ 32) }
+    ensures { (x y : ℕ) → Admits a x → Admits b y
+        → Admits result ((x * 2 ^ (y % 32)) % 2 ^ 32) }
 {
     match b.decided() {
         Some(bits) => shifted_left(a, bits % 32),
@@ -160,7 +168,8 @@ fn shift_right(a: Known, b: Known) -> Known
 /// What follows of an operation from what is known of its operands.
 pub(crate) fn forward(op: BinOp, a: Known, b: Known) -> Known
     ensures admits { (x y : ℕ) → Admits a x → Admits b y → Admits result (apply op x y) }
-    ensures forced { KeepsDecided op → IsConsistent a → IsConsistent b → IsDecided a → IsDecided b
+    ensures forced { KeepsDecided op → IsConsistent a → IsConsistent b
+        → IsDecided a → IsDecided b
         → IsForced result }
 {
     match op {

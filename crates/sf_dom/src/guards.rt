@@ -75,11 +75,13 @@ pub(crate) fn at_least(v: Known, w: Known) -> Pair
 
 /// A bound that is a number which the word does not have is moved past it.
 pub(crate) fn differs(v: Known, number: u32) -> Option<Known>
-    ensures kept { MatchOption result ((x : ℕ) → Admits v x → ¬ (x ≢ number)) (λ r. (x : ℕ)
+    ensures kept { MatchOption result ((x : ℕ) → Admits v x
+        → ¬ (x ≢ number)) (λ r. (x : ℕ)
         → Admits v x → x ≢ number → Admits r x) }
     ensures ends { IfSome result (λ r. (v.low ≡ number → number < r.low)
         × (v.high ≡ number → r.high < number)) }
-    ensures moved { IfSome result (λ r. v.low ≡ v.high → (x : ℕ) → Admits r x → x ≢ number) }
+    ensures moved { IfSome result (λ r. v.low ≡ v.high → (x : ℕ)
+        → Admits r x → x ≢ number) }
 {
     let mut at = v;
     if at.low == number {
@@ -114,8 +116,10 @@ pub(crate) fn common_bit(v: Known, bits: u32) -> Option<Known>
     ensures kept { MatchOption result ((x : ℕ) → Admits v x → ¬ (bit_and x bits ≢ 0))
         (λ r. (x : ℕ) → Admits v x → bit_and x bits ≢ 0 → Admits r x) }
     ensures told { IsOneBit bits → IfSome result (λ r. AreBitsOf bits r.ones) }
-    ensures sharp { IsOneBit bits → IfSome result (λ r. (x : ℕ) → Admits r x → bit_and x bits ≢ 0) }
-    ensures decided { IsConsistent v → IsDecided v → IfSome result (λ r. (x : ℕ) → Admits r x
+    ensures sharp { IsOneBit bits → IfSome result (λ r. (x : ℕ) → Admits r x
+        → bit_and x bits ≢ 0) }
+    ensures decided { IsConsistent v → IsDecided v
+        → IfSome result (λ r. (x : ℕ) → Admits r x
         → bit_and x bits ≢ 0) }
 {
     let open = bits & !v.zeros;

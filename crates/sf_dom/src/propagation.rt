@@ -40,7 +40,8 @@ pub(crate) fn transfer(nodes: &Nodes, node: Node) -> Known
         → Admits result (node_value d older node) }
     ensures forced { AreConsistentOperands nodes.now.known node
         → AreDecidedOperands nodes.now.known node → IsForced result }
-    ensures constant { (c : ℕ) → node ≡ Node.Const c → (result.low ≡ c) × (result.high ≡ c) }
+    ensures constant { (c : ℕ) → node ≡ Node.Const c → (result.low ≡ c)
+        × (result.high ≡ c) }
 {
     match node {
         Node::Const(c) => Known::exact(c),
@@ -80,7 +81,8 @@ pub(crate) fn propagate(nodes: &mut Nodes, excluded: &Excluded, pool: &Pool) -> 
 /// or for want of memory, leaves what is known as it was.
 pub(crate) fn append(nodes: &mut Nodes, excluded: &Excluded, pool: &Pool) -> Result<bool, Fault>
     requires covers { length nodes.old.known ≤ length pool.now }
-    requires none { (16 ≤ length nodes.old.known) ⊎ ((w : ℕ) → numbers_at excluded.now w ≡ []) }
+    requires none { (16 ≤ length nodes.old.known)
+        ⊎ ((w : ℕ) → numbers_at excluded.now w ≡ []) }
     ensures grown { IfOk result (λ b. MatchBool b
         (IsGrown nodes.old.known nodes.new.known excluded.now pool.now)
         (NoneAgreesWith nodes.old.known excluded.now pool.now)) }
@@ -109,7 +111,8 @@ pub(crate) fn extend(
     pool: &Pool,
 ) -> Result<bool, Fault>
     requires covers { length nodes.old.known ≤ length pool.now }
-    requires none { (16 ≤ length nodes.old.known) ⊎ ((w : ℕ) → numbers_at excluded.now w ≡ []) }
+    requires none { (16 ≤ length nodes.old.known)
+        ⊎ ((w : ℕ) → numbers_at excluded.now w ≡ []) }
     ensures grown { IfOk result (λ b. MatchBool b
         (IsGrown nodes.old.known nodes.new.known excluded.now pool.now)
         (NoneAgreesWith nodes.old.known excluded.now pool.now)) }

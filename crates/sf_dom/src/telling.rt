@@ -171,7 +171,8 @@ pub(crate) fn told_of(
     ensures told { IfSome result (λ b. (d : Input) → IsInput d
         → AgreesWith nodes.now.known excluded.now pool.now d
         → TestGives test (value_of pool.now d at) number b) }
-    ensures walked { IfSome result (λ b. (n : ℕ) → IsPropagatedBack n nodes.now.known pool.now at) }
+    ensures walked { IfSome result (λ b. (n : ℕ)
+        → IsPropagatedBack n nodes.now.known pool.now at) }
     ensures none { IfNone result (IsOpenAt nodes.now.known excluded.now pool.now at test number
         ⊎ ¬ ((n : ℕ) → IsPropagatedBack n nodes.now.known pool.now at)) }
 {

@@ -14,12 +14,14 @@ ghost use Rattle.sf_run.specs.Feasible.{AreFeasibleTraces, all_inputs, feasible_
 
 /// The machine is never stuck in a lawful program, and comes to a return.
 pub fn lawful_programs_return()
-    ensures { (code : List Insn) (d : Input) → IsLawfulProgram code → IsSome (outcome_of code d) }
+    ensures { (code : List Insn) (d : Input) → IsLawfulProgram code
+        → IsSome (outcome_of code d) }
 {}
 
 /// Return values make at most one answer.
 pub fn one_answer()
-    ensures { (values : List ℕ) (a b : Answer) → IsAnswer values a → IsAnswer values b → a ≡ b }
+    ensures { (values : List ℕ) (a b : Answer) → IsAnswer values a
+        → IsAnswer values b → a ≡ b }
 {}
 
 /// Each trace is a whole route.

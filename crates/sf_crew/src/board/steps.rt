@@ -48,7 +48,8 @@ impl Play<u8, View> for Hits {
     ghost use Rattle.std.specs.Prelude.{◌≡◌, ◌-◌};
     ghost use Rattle.sf_crew.specs.BoardSteps.{view_with_note};
 
-    ghost then = { λ st m n w. (w.0 ≡ view_with_note m.0 (st.word - 6) st.first) × (w.1 ≡ m.1) };
+    ghost then = { λ st m n w. (w.0 ≡ view_with_note m.0 (st.word - 6) st.first)
+        × (w.1 ≡ m.1) };
 }
 
 pub(crate) struct Mark;

@@ -22,7 +22,8 @@ fn next_lease(book: &mut Book, left: Option<Lease>) -> Result<Option<Lease>, Fau
     requires { HasOnly book.old left }
     ensures same { IsSameExploration book.old book.new }
     ensures commits { book.new.commits ≡ book.old.commits }
-    ensures ok { IfOk result (λ l. MatchOption l (IsExhausted book.new) (λ x. MayWork book.new x)) }
+    ensures ok { IfOk result (λ l. MatchOption l (IsExhausted book.new)
+        (λ x. MayWork book.new x)) }
     ensures err { IfErr result (λ f. f ≡ Memory) }
 {
     if book.counts().commits == book.budget() {

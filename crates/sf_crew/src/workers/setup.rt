@@ -42,7 +42,8 @@ fn hand_out_all(workers: &mut [Worker], thieves: &mut [Vec<Thief>]) -> Result<()
 
 /// Gives each worker a thief on the bench that is so many steps after its own.
 fn hand_out(workers: &mut [Worker], thieves: &mut [Vec<Thief>], step: usize) -> Result<(), Fault>
-    requires { (length workers.old ≡ length thieves.old) × (length workers.old ≤ 64) × (step < 64) }
+    requires { (length workers.old ≡ length thieves.old)
+        × (length workers.old ≤ 64) × (step < 64) }
     ensures err { IfErr result (λ f. f ≡ Memory) }
 {
     for number in 0..workers.len() {
