@@ -109,6 +109,44 @@ fn a_false_test_leads_past_a_return(rt: HostRuntime) -> Result<(), Fail> {
 }
 
 #[test]
+fn each_test_has_a_return_behind_it(rt: HostRuntime) -> Result<(), Fail> {
+    let alloc = rt.alloc();
+    for (number, name) in [
+        (10, "T."),
+        (15, "FFFFFT."),
+        (21, "FFFFFFFFFFFT."),
+        (22, "FFFFFFFFFFFF."),
+        (9, "FFFFFFFFFFFF."),
+    ] {
+        let mut code = loading(alloc, number)?;
+        for asked in 10..22 {
+            code.push(raw(0x15, 0, 1, asked))?;
+            code.push(op(0x06, asked))?;
+        }
+        assert_eq!(rt; names(alloc, code)?.as_str(), name);
+    }
+    Ok(())
+}
+
+#[test]
+fn a_chain_ends_in_the_midst_of_another(rt: HostRuntime) -> Result<(), Fail> {
+    // From a test for 50 that jumps to the chain of 1 to 9 where A is 50, and else behind it, to a chain of 10 to 20.
+    let alloc = rt.alloc();
+    for (number, name) in [
+        (50, "TFFFFFFFFFFFFFFFFFFFF."),
+        (5, "FFFFFFFFFFFF."),
+        (14, "FFFFFTFFFFFF."),
+    ] {
+        let mut code = loading(alloc, number)?;
+        code.push(raw(0x15, 0, 9, 50))?;
+        ask(&mut code, 1, 10)?;
+        ask(&mut code, 10, 21)?;
+        assert_eq!(rt; names(alloc, code)?.as_str(), name);
+    }
+    Ok(())
+}
+
+#[test]
 fn another_test_stands_between_two_chains(rt: HostRuntime) -> Result<(), Fail> {
     let alloc = rt.alloc();
     for (number, name) in [

@@ -1,79 +1,124 @@
 -- The tables of tests by which programs ask A for one number after the other: how they are made, and what a look-up in
 -- them finds.
-use Rattle.std.proofs.Common.{◌≡◌, ◌≢◌, true, false, ltb, ℕ, ◌+◌, ◌-◌, ◌<◌, ◌≤◌, List, [], ◌∷◌, ◌++◌, length, take, replicate, slice_get, refl, sym, ap, subst, ◌∙◌, inl, inr, arith}
+use Rattle.std.proofs.Common.{◌≡◌, ◌≢◌, true, false, ltb, ℕ, zero, suc, ◌+◌, ◌-◌, ◌*◌, ◌<◌, ◌≤◌, ◌⊎◌, List, [], ◌∷◌, ◌++◌, length, set, replicate, refl, sym, ap, subst, ◌∙◌, inl, inr, arith, length-set}
 use Rattle.std.specs.Prelude.{All, Contains, slice_index}
 use Rattle.std.specs.List.Sorted.{IsNonDecreasing, IsPermutation, IsPartitionPoint}
 use Rattle.std.proofs.lemmas.Bool.{cases_lt, cases_eq}
 use Rattle.std.proofs.lemmas.Bool.Decides.{nat_tests}
 use Rattle.std.proofs.lemmas.Option.{same_Some, slice_get_within}
-use Rattle.std.proofs.lemmas.List.{take_all, get_or_default, get_or_append_left, get_or-append_right, get_or-replicate, length-append, length-replicate}
+use Rattle.std.proofs.lemmas.List.{get_or_default, get_or-set_same, get_or-set_other, get_or-replicate, length-replicate}
 use Rattle.std.proofs.lemmas.List.Elements.{All-nil, All-push, Contains-push, Contains-append_left}
 use Rattle.std.proofs.lemmas.List.Sorted.{All-permutation, Contains-permutation}
 use Rattle.sf_check.specs.declared.insn.Insn.{Insn}
-use Rattle.sf_check.specs.Insns.{IsReturn}
-use Rattle.sf_check.specs.Programs.{IsAt, EndsInReturn}
-use Rattle.sf_check.specs.EqualTests.{AsksFor, IsEqualTest, IsBehindOthers, test_key, IsTestKey, IsEnd, AreTestKeys, AreEqualTests}
+use Rattle.sf_check.specs.Insns.{targets}
+use Rattle.sf_check.specs.Programs.{AllBelow, IsAt}
+use Rattle.sf_check.specs.EqualTests.{AsksFor, IsEqualTest, ArePassed, LeadsOn, IsInChain, AreChains, test_key, IsTestKey, AreTestKeys, LeadInside}
+use Rattle.sf_check.specs.Joining.{AreJoined, AreOwn, IsReached}
 
 -- an instruction asks for one number
-same_number : (i : Insn) (j k : ℕ) → AsksFor i j → AsksFor i k → j ≡ k
-same_number i j k a b = let e = a.is in let f = b.is in cc
+same_number : (i : Insn) (j k r s : ℕ) → AsksFor i j r → AsksFor i k s → j ≡ k
+same_number i j k r s a b = let e = a.is in let f = b.is in cc
 
 -- and so does a place
-one_number : (code : List Insn) (at j k : ℕ) → IsEqualTest code at j → IsEqualTest code at k → j ≡ k
-one_number code at j k a b =
+pub one_number : (code : List Insn) (at j k p q : ℕ) → IsEqualTest code at j p → IsEqualTest code at k q → j ≡ k
+one_number code at j k p q a b =
     let same : a.insn ≡ b.insn = same_Some a.insn b.insn (sym a.here ∙ b.here) in
-    same_number b.insn j k (subst (λ (i : Insn). AsksFor i j) same a.asks) b.asks
+    same_number b.insn j k a.skips b.skips (subst (λ (i : Insn). AsksFor i j a.skips) same a.asks) b.asks
 
 -- an instruction that isn't such a test is none where it stands
-none_here : (code : List Insn) (at : ℕ) (i : Insn) → IsAt code at i → ((k : ℕ) → AsksFor i k → ⊥) → (k : ℕ)
-    → IsEqualTest code at k → ⊥
-none_here code at i here none k t =
-    none k (subst (λ (j : Insn). AsksFor j k) (same_Some t.insn i (sym t.here ∙ here)) t.asks)
+pub none_here : (code : List Insn) (at : ℕ) (i : Insn) → IsAt code at i → ((k skips : ℕ) → AsksFor i k skips → ⊥)
+    → (k next : ℕ) → IsEqualTest code at k next → ⊥
+none_here code at i here none k next t =
+    none k t.skips (subst (λ (j : Insn). AsksFor j k t.skips) (same_Some t.insn i (sym t.here ∙ here)) t.asks)
 
--- no test of a chain below a place is for the number
-abbrev pub NoneBelow : List Insn → ℕ → ℕ → ℕ → Type 0
-NoneBelow code place number end = (at : ℕ) → place ≤ at → at < end → IsEqualTest code at number → ⊥
+-- an instruction that is such a test is one where it stands
+pub test_here : (code : List Insn) (at number skips : ℕ) (i : Insn) → IsAt code at i → AsksFor i number skips
+    → IsEqualTest code at number (at + 1 + skips)
+test_here code at number skips i here asks =
+    record { insn = i; here = here; skips = skips; asks = asks; leads = refl }
 
--- the others of a chain, below a place
-others_below : (code : List Insn) (place number behind end : ℕ) → IsEnd code place end → behind ≤ end
-    → NoneBelow code place number behind → (at : ℕ) → place ≤ at → at < behind
-    → (k : ℕ) × (k ≢ number) × IsEqualTest code at k
-others_below code place number behind end chain le none at from below =
-    let t = chain.tests at from (omega arith) in
-    (t.0, λ e. none at from below (subst (IsEqualTest code at) e t.1), t.1)
+-- a test for the number itself is for no other one
+pub only_number : (code : List Insn) (at number asked skips : ℕ) (i : Insn) → IsAt code at i → AsksFor i asked skips
+    → asked ≡ number → (k next : ℕ) → IsEqualTest code at k next → k ≡ number
+only_number code at number asked skips i here asks is k next t =
+    one_number code at k asked next (at + 1 + skips) t (test_here code at asked skips i here asks) ∙ is
 
--- one of a chain is for the number
-pub behind_found : (code : List Insn) (place number at end : ℕ) (i : Insn) → IsEnd code place end
-    → place ≤ at → at < end
-    → IsAt code at i → AsksFor i number → NoneBelow code place number at → IsBehindOthers code place number at
-behind_found code place number at end i chain from below here asks none =
-    let test : IsEqualTest code at number = record { insn = i; here = here; asks = asks } in
-    record {
-      from = from;
-      inside = omega (arith, chain.inside);
-      others = others_below code place number at end chain (omega arith) none;
-      ends = λ k t. one_number code at k number t test;
-    }
+-- the tests of a program lead inside if its targets are inside
+pub tests_inside : (code : List Insn) → ((at : ℕ) (i : Insn) → IsAt code at i → AllBelow (length code) (targets at i))
+    → LeadInside code
+tests_inside code inside at k next t =
+    let below : AllBelow (length code) (targets at t.insn) = inside at t.insn t.here in
+    let there = subst (λ (i : Insn). AllBelow (length code) (targets at i)) t.asks.is below in
+    omega (arith, t.leads, there.1.0)
 
--- none of a chain is
-pub behind_none : (code : List Insn) (place number end : ℕ) → IsEnd code place end → NoneBelow code place number end
-    → IsBehindOthers code place number end
-behind_none code place number end chain none = record {
-  from = chain.from;
-  inside = chain.inside;
-  others = others_below code place number end end chain (omega arith) none;
-  ends = λ k t. absurd (chain.ends k t);
-}
+-- ---- passing tests
 
--- one place further
-pub none_more : (code : List Insn) (place number at : ℕ) (i : Insn) → IsAt code at i → (AsksFor i number → ⊥)
-    → NoneBelow code place number at → NoneBelow code place number (at + 1)
-none_more code place number at i here not none j from below t = elim (cases_eq j at) [
-  | inl e ↦
-      let same : t.insn ≡ i = same_Some t.insn i (sym t.here ∙ ap (slice_get code) e ∙ here) in
-      not (subst (λ (k : Insn). AsksFor k number) same t.asks)
-  | inr ne ↦ none j from (omega arith) t
+-- so many and then so many more
+pub passed_more : (code : List Insn) (number m n place middle behind : ℕ) → ArePassed code number m place middle
+    → ArePassed code number n middle behind → ArePassed code number (m + n) place behind
+passed_more code number zero n place middle behind some more =
+    let e : 0 + n ≡ n = omega arith in
+    rw e (subst (λ (p : ℕ). ArePassed code number n p behind) some more)
+passed_more code number (suc m) n place middle behind some more =
+    let e : suc m + n ≡ suc (m + n) = omega arith in
+    rw e (some.0, some.1, some.2, some.3, passed_more code number m n some.1 middle behind some.4 more)
+
+-- so many, one, and then so many more
+pub passed_one_more : (code : List Insn) (number m n all k place at next behind : ℕ)
+    → ArePassed code number m place at → k ≢ number → IsEqualTest code at k next
+    → ArePassed code number n next behind → all ≡ m + (1 + n) → ArePassed code number all place behind
+passed_one_more code number m n all k place at next behind some other test more is =
+    let e : all ≡ m + suc n = omega (arith, is) in
+    rw e (passed_more code number m (suc n) place at behind some (k, next, other, test, more))
+
+-- ---- going on in a chain
+
+-- a walk on the chain comes to a place that is reached
+walked : (code : List Insn) (chains steps lasts : List ℕ) (number fuel p t : ℕ) → AreChains code chains steps lasts
+    → t ≤ p + fuel → IsReached code chains p number t
+    → (n : ℕ) × (slice_index steps t ≡ slice_index steps p + n) × (p + n ≤ t) × ArePassed code number n p t
+walked code chains steps lasts number zero p t are fuelled reached =
+    let e : t ≡ p = omega (arith, fuelled, reached.from) in
+    (0, rw e (omega arith), omega (arith, reached.from), e)
+walked code chains steps lasts number (suc fuel) p t are fuelled reached = elim (cases_eq t p) [
+  | inl e ↦ (0, rw e (omega arith), omega (arith, reached.from), e)
+  | inr ne ↦
+      let before : p < t = omega (arith, reached.from) in
+      let on = are.on p t before reached.inside reached.same in
+      let further : p < on.next = omega (arith, on.test.leads) in
+      let rest = walked code chains steps lasts number fuel on.next t are (omega (arith, fuelled)) (record {
+        from = on.near;
+        inside = reached.inside;
+        same = on.same ∙ reached.same;
+        others = λ q next from less same test.
+            reached.others q next (omega (arith, from, further)) less (same ∙ on.same) test;
+      }) in
+      let other : on.number ≢ number = λ e. reached.others p on.next (omega arith) before refl
+      (subst (λ (k : ℕ). IsEqualTest code p k on.next) e on.test) in (
+        suc rest.0,
+        omega (arith, rest.1, on.step),
+        omega (arith, rest.2, further),
+        (on.number, on.next, other, on.test, rest.3),
+      )
 ]
+
+-- what is told of a look-up
+pub record IsPassed (code : List Insn) (steps : List ℕ) (place number behind : ℕ) : Type 0 where
+  pub forward : slice_index steps place ≤ slice_index steps behind
+  pub passed : ArePassed code number (slice_index steps behind - slice_index steps place) place behind
+  pub on : place + (slice_index steps behind - slice_index steps place) ≤ behind
+
+pub passed_to : (code : List Insn) (chains steps lasts : List ℕ) (place number at : ℕ)
+    → AreChains code chains steps lasts → IsReached code chains place number at
+    → IsPassed code steps place number at
+passed_to code chains steps lasts place number at are reached =
+    let walk = walked code chains steps lasts number at place at are (omega arith) reached in
+    let e : walk.0 ≡ slice_index steps at - slice_index steps place = omega (arith, walk.1) in
+    record {
+      forward = omega (arith, walk.1);
+      passed = subst (λ (n : ℕ). ArePassed code number n place at) e walk.3;
+      on = omega (arith, walk.1, walk.2);
+    }
 
 -- ---- looking a number up
 
@@ -90,15 +135,16 @@ cut_at keys found from key is point = record {
   above = λ m after within. let t = point.1 m 0 after within in grind (arith, nat_tests);
 }
 
--- a later test for the number has its key from there on, and the key there is at most that
-least_key : (code : List Insn) (keys : List ℕ) (found place number at : ℕ) → AreTestKeys code keys
-    → IsCut keys found (test_key number place) → place ≤ at → IsEqualTest code at number
-    → (found < length keys) × (slice_index keys found ≤ test_key number at)
-least_key code keys found place number at tables cut from test =
-    let there = tables.of at number test in
+-- a later test of the chain for the number has its key from there on, and the key there is at most that
+least_key : (code : List Insn) (chains keys : List ℕ) (found place number at next : ℕ) → AreTestKeys code chains keys
+    → IsCut keys found (test_key (slice_index chains place) number place) → place ≤ at
+    → slice_index chains at ≡ slice_index chains place → IsEqualTest code at number next
+    → (found < length keys) × (slice_index keys found ≤ test_key (slice_index chains place) number at)
+least_key code chains keys found place number at next tables cut from same test =
+    let there = rw same at (tables.of at number next test) in
     let m = there.0 in
-    let is : slice_index keys m ≡ test_key number at =
-    get_or_default keys m 0 (test_key number at) there.1 ∙ there.2 in
+    let key = test_key (slice_index chains place) number at in
+    let is : slice_index keys m ≡ key = get_or_default keys m 0 key there.1 ∙ there.2 in
     elim (cases_lt m found) [
       | inl before ↦ absurd (let less = cut.below m before in omega (arith, less, is))
       | inr after ↦
@@ -106,141 +152,344 @@ least_key code keys found place number at tables cut from test =
           (omega (arith, there.1), omega (arith, order, is))
     ]
 
--- no key is in reach, so no test of the chain is for the number
-pub none_by_key : (code : List Insn) (keys : List ℕ) (found place number end : ℕ) → AreTestKeys code keys
-    → IsEnd code place end → IsCut keys found (test_key number place)
-    → (found < length keys → test_key number end ≤ slice_index keys found) → IsBehindOthers code place number end
-none_by_key code keys found place number end tables chain cut past =
-    behind_none code place number end chain (λ at from before test.
-    let least = least_key code keys found place number at tables cut from test in
-    let far = past least.0 in
-    omega (arith, least.1, far))
+-- where a chain is looked through up to its last place
+pub record IsSearched (code : List Insn) (chains keys : List ℕ) (found place last number : ℕ) : Type 0 where
+  pub keys_are : AreTestKeys code chains keys
+  pub short : length code ≤ 4096
+  pub cut : IsCut keys found (test_key (slice_index chains place) number place)
+  pub from : place ≤ last
+  pub inside : last < length code
+  pub same : slice_index chains last ≡ slice_index chains place
+
+-- no key is in reach, so no test before the last is for the number
+pub none_by_key : (code : List Insn) (chains keys : List ℕ) (found place last number : ℕ)
+    → IsSearched code chains keys found place last number
+    → (found < length keys → test_key (slice_index chains place) number last ≤ slice_index keys found)
+    → IsReached code chains place number last
+none_by_key code chains keys found place last number by past = record {
+  from = by.from;
+  inside = by.inside;
+  same = sym by.same;
+  others = λ q next from before same test.
+      let least = least_key code chains keys found place number q next by.keys_are by.cut from same test in
+      let far = past least.0 in
+      omega (arith, least.1, far);
+}
 
 -- the key at hand is of the first test of the chain that is for the number
-pub found_by_key : (code : List Insn) (keys : List ℕ) (found place number end : ℕ) → AreTestKeys code keys
-    → IsEnd code place end → IsCut keys found (test_key number place) → found < length keys
-    → slice_index keys found < test_key number end
-    → IsBehindOthers code place number (place + (slice_index keys found - test_key number place))
-found_by_key code keys found place number end tables chain cut within before =
-    let key = tables.are found 0 within in
-    let from = cut.above found (omega arith) within in
+pub found_by_key : (code : List Insn) (chains keys : List ℕ) (found place last number : ℕ)
+    → IsSearched code chains keys found place last number → number < 4294967296 → found < length keys
+    → slice_index keys found < test_key (slice_index chains place) number last
+    → IsReached code chains place number
+    (place + (slice_index keys found - test_key (slice_index chains place) number place))
+found_by_key code chains keys found place last number by small within before =
+    let key = by.keys_are.are found 0 within in
+    let from = by.cut.above found (omega arith) within in
     let inside = slice_get_within code key.at key.test.insn key.test.here in
-    let short = tables.short in
-    let last = chain.inside in
-    let number_is : key.number ≡ number = omega (arith, key.is) in
-    let at_is : place + (slice_index keys found - test_key number place) ≡ key.at = omega (arith, key.is) in
-    let asks : AsksFor key.test.insn number = subst (AsksFor key.test.insn) number_is key.test.asks in
-    subst (IsBehindOthers code place number) (sym at_is) (behind_found code place number key.at end key.test.insn chain
-    (omega arith) (omega (arith, key.is)) key.test.here asks (λ at after less test.
-    let least = least_key code keys found place number at tables cut after test in
-    omega (arith, least.1, key.is)))
+    let short = by.short in
+    let end = by.inside in
+    let mark : 4294967296 * slice_index chains key.at + key.number
+    ≡ 4294967296 * slice_index chains place + number =
+    omega (arith, key.is, from, before, inside, short, end) in
+    let chain_is : slice_index chains key.at ≡ slice_index chains place =
+    omega (arith, mark, key.small, small) in
+    let at_is : place + (slice_index keys found - test_key (slice_index chains place) number place) ≡ key.at =
+    omega (arith, key.is, mark, from) in
+    subst (IsReached code chains place number) (sym at_is) (record {
+      from = omega (arith, key.is, mark, from);
+      inside = inside;
+      same = sym chain_is;
+      others = λ q next after less same test.
+          let least = least_key code chains keys found place number q next by.keys_are by.cut after same test in
+          omega (arith, least.1, key.is, mark);
+    })
 
--- ---- making the tables
+-- ---- making the chains
 
--- what is in the tables once the instructions below a place were read
-pub record Gathered (code : List Insn) (keys ends : List ℕ) (place : ℕ) : Type 0 where
-  pub keys_are : All (IsTestKey code) keys
-  pub keyed : (at k : ℕ) → at < place → IsEqualTest code at k → Contains keys (test_key k at)
-  pub few : length ends ≤ place
-  pub ends_are : (at : ℕ) → at < length ends → IsEnd code at (slice_index ends at)
-  pub tests : (at : ℕ) → length ends ≤ at → at < place → (k : ℕ) × IsEqualTest code at k
+-- each place is a chain of its own
+pub none_joined : (code : List Insn) (chains steps lasts : List ℕ) → AreOwn chains (length code)
+    → AreOwn lasts (length code) → steps ≡ replicate (length code) 0 → AreJoined code chains steps lasts 0
+none_joined code chains steps lasts own ends none = record {
+  are = record {
+    each_chain = own.each;
+    each_step = rw none (length-replicate (length code) 0);
+    each_last = ends.each;
+    member = λ p within.
+        let chain = own.own p within in
+        let last = ends.own p within in
+        let step : slice_index steps p ≡ 0 = rw none (get_or-replicate (length code) p 0 0 within) in
+        record {
+          begins = omega (arith, chain);
+          few = omega (arith, step);
+          before_last = rw chain (omega (arith, last));
+          inside = rw chain (omega (arith, last, within));
+          same = rw (chain, last, chain) refl;
+        };
+    on = λ p q before within same. absurd (apart p q before within same);
+  };
+  front = λ p q before within same. absurd (apart p q before within same);
+}
+  where
+    apart : (p q : ℕ) → p < q → q < length code → slice_index chains p ≡ slice_index chains q → ⊥
+    apart p q before within same =
+        let this = own.own p (omega (arith, before, within)) in
+        let that = own.own q within in
+        omega (arith, before, same, this, that)
 
-pub gathered_none : (code : List Insn) → Gathered code [] [] 0
-gathered_none code = record {
-  keys_are = All-nil (IsTestKey code);
-  keyed = λ at k less t. absurd (omega arith);
-  few = omega arith;
-  ends_are = λ at less. absurd (omega arith);
-  tests = λ at from less. absurd (omega arith);
+-- one place further, where nothing is joined
+pub not_joined : (code : List Insn) (chains steps lasts : List ℕ) (place : ℕ) → AreJoined code chains steps lasts place
+    → AreJoined code chains steps lasts (place + 1)
+not_joined code chains steps lasts place joined = record {
+  are = joined.are;
+  front = λ p q before within same. let less = joined.front p q before within same in omega (arith, less);
+}
+
+-- what is written where the place to which a test leads joins the test's chain
+record IsWritten (chains steps lasts chains' steps' lasts' : List ℕ) (place next chain : ℕ) : Type 0 where
+  pub chain_is : slice_index chains place ≡ chain
+  pub each_chain : length chains' ≡ length chains
+  pub each_step : length steps' ≡ length steps
+  pub each_last : length lasts' ≡ length lasts
+  pub new_chain : slice_index chains' next ≡ chain
+  pub new_step : slice_index steps' next ≡ slice_index steps place + 1
+  pub new_last : slice_index lasts' chain ≡ next
+  pub old_chain : (p : ℕ) → p ≢ next → slice_index chains' p ≡ slice_index chains p
+  pub old_step : (p : ℕ) → p ≢ next → slice_index steps' p ≡ slice_index steps p
+  pub old_last : (c : ℕ) → c ≢ chain → slice_index lasts' c ≡ slice_index lasts c
+
+-- the chains then
+joined_by : (code : List Insn) (chains steps lasts chains' steps' lasts' : List ℕ) (place next number chain : ℕ)
+    → AreJoined code chains steps lasts place → IsEqualTest code place number next → next < length code
+    → slice_index chains next ≡ next → IsWritten chains steps lasts chains' steps' lasts' place next chain
+    → AreJoined code chains' steps' lasts' (place + 1)
+joined_by code chains steps lasts chains' steps' lasts' place next number chain joined test inside single by = record {
+  are = record {
+    each_chain = by.each_chain ∙ are.each_chain;
+    each_step = by.each_step ∙ are.each_step;
+    each_last = by.each_last ∙ are.each_last;
+    member = λ p within. member p within (cases_eq p next);
+    on = λ p q before within same. (pairs p q before within same).1;
+  };
+  front = λ p q before within same. (pairs p q before within same).0;
+}
+  where
+    are : AreChains code chains steps lasts
+    are = joined.are
+
+    further : place < next
+    further = omega (arith, test.leads)
+
+    this : IsInChain code chains steps lasts place
+    this = are.member place (omega (arith, further, inside))
+
+    begins : chain ≤ place
+    begins = omega (arith, this.begins, by.chain_is)
+
+    -- no place behind this one is in its chain
+    none_behind : (p : ℕ) → place < p → p < length code → slice_index chains p ≡ chain → ⊥
+    none_behind p behind within same =
+        let less = joined.front place p behind within (by.chain_is ∙ sym same) in
+        omega (arith, less)
+
+    -- no place below the one that is joined is in a chain of its number
+    none_single : (p : ℕ) → p < next → slice_index chains p ≡ next → ⊥
+    none_single p before same =
+        let old = are.member p (omega (arith, before, inside)) in
+        omega (arith, before, same, old.begins)
+
+    mine : (p : ℕ) → p ≢ next → p ≤ place → slice_index chains p ≡ chain
+        → IsInChain code chains' steps' lasts' p
+    mine p ne before e =
+        let old = are.member p (omega (arith, before, further, inside)) in
+        let e' : slice_index chains' p ≡ chain = by.old_chain p ne ∙ e in
+        record {
+          begins = omega (arith, e', e, old.begins);
+          few = omega (arith, by.old_step p ne, old.few);
+          before_last = rw (e', by.new_last) (omega (arith, before, further));
+          inside = rw (e', by.new_last) inside;
+          same = rw (e', by.new_last) by.new_chain;
+        }
+
+    others : (p : ℕ) → p ≢ next → p < length code → slice_index chains p ≢ chain
+        → IsInChain code chains' steps' lasts' p
+    others p ne within apart =
+        let old = are.member p within in
+        let c = slice_index chains p in
+        let l = slice_index lasts c in
+        let e' : slice_index chains' p ≡ c = by.old_chain p ne in
+        let last : slice_index lasts' c ≡ l = by.old_last c apart in
+        let not_next : l ≢ next = λ e.
+        let same : c ≡ next = sym old.same ∙ ap (slice_index chains) e ∙ single in
+        ne (omega (arith, old.before_last, old.begins, same, e)) in
+        record {
+          begins = omega (arith, e', old.begins);
+          few = omega (arith, by.old_step p ne, old.few);
+          before_last = rw (e', last) old.before_last;
+          inside = rw (e', last) old.inside;
+          same = rw (e', last) (by.old_chain l not_next ∙ old.same);
+        }
+
+    itself : IsInChain code chains' steps' lasts' next
+    itself = record {
+      begins = omega (arith, by.new_chain, begins, further);
+      few = omega (arith, by.new_step, this.few, further);
+      before_last = rw (by.new_chain, by.new_last) (omega arith);
+      inside = rw (by.new_chain, by.new_last) inside;
+      same = rw (by.new_chain, by.new_last) by.new_chain;
+    }
+
+    member : (p : ℕ) → p < length code → (p ≡ next) ⊎ (p ≡ next → ⊥) → IsInChain code chains' steps' lasts' p
+    member p within (inl e) = subst (IsInChain code chains' steps' lasts') (sym e) itself
+    member p within (inr ne) = elim (cases_eq (slice_index chains p) chain) [
+      | inl e ↦ elim (cases_lt place p) [
+        | inl behind ↦ absurd (none_behind p behind within e)
+        | inr before ↦ mine p ne before e
+      ]
+      | inr apart ↦ others p ne within apart
+    ]
+
+    -- what was in one chain still is
+    kept : (p q : ℕ) → LeadsOn code chains steps p q → p ≢ next → p < length code → LeadsOn code chains' steps' p q
+    kept p q link ne within =
+        let apart : link.next ≢ next = λ e.
+        let same : slice_index chains p ≡ next = sym link.same ∙ ap (slice_index chains) e ∙ single in
+        none_single p (omega (arith, link.test.leads, e)) same in
+        record {
+          number = link.number;
+          next = link.next;
+          test = link.test;
+          near = link.near;
+          same = by.old_chain link.next apart ∙ link.same ∙ sym (by.old_chain p ne);
+          step = omega (arith, by.old_step link.next apart, link.step, by.old_step p ne);
+        }
+
+    -- the places before the one that is joined
+    to_next : (p : ℕ) → p < next → slice_index chains p ≡ chain → (p < place + 1) × LeadsOn code chains' steps' p next
+    to_next p less is = elim (cases_lt place p) [
+      | inl behind ↦ absurd (none_behind p behind (omega (arith, less, inside)) is)
+      | inr le ↦ elim (cases_eq p place) [
+        | inl here ↦ (
+          omega (arith, le),
+          record {
+            number = number;
+            next = next;
+            test = subst (λ (a : ℕ). IsEqualTest code a number next) (sym here) test;
+            near = omega arith;
+            same = by.new_chain ∙ sym is ∙ sym (by.old_chain p (λ e. omega (arith, less, e)));
+            step = rw (by.new_step, by.old_step p (λ e. omega (arith, less, e)), here) refl;
+          },
+        )
+        | inr ne ↦
+            let link = are.on p place (omega (arith, le, ne)) (omega (arith, further, inside)) (is ∙ sym by.chain_is) in
+            let new = kept p place link (λ e. omega (arith, less, e)) (omega (arith, less, inside)) in (
+              omega (arith, le),
+              record {
+                number = new.number;
+                next = new.next;
+                test = new.test;
+                near = omega (arith, new.near, further);
+                same = new.same;
+                step = new.step;
+              },
+            )
+      ]
+    ]
+
+    pairs : (p q : ℕ) → p < q → q < length code → slice_index chains' p ≡ slice_index chains' q
+        → (p < place + 1) × LeadsOn code chains' steps' p q
+    pairs p q before within same = elim (cases_eq q next) [
+      | inl e ↦
+          let less : p < next = omega (arith, before, e) in
+          let is : slice_index chains p ≡ chain =
+          sym (by.old_chain p (λ f. omega (arith, less, f))) ∙ same ∙ ap (slice_index chains') e ∙ by.new_chain in
+          subst (λ (r : ℕ). (p < place + 1) × LeadsOn code chains' steps' p r) (sym e) (to_next p less is)
+      | inr q_other ↦ elim (cases_eq p next) [
+        | inl e ↦ absurd (none_behind q (omega (arith, before, e, further)) within
+            (sym (by.old_chain q q_other) ∙ sym same ∙ ap (slice_index chains') e ∙ by.new_chain))
+        | inr p_other ↦
+            let alike = sym (by.old_chain p p_other) ∙ same ∙ by.old_chain q q_other in
+            let link = are.on p q before within alike in
+            let less = joined.front p q before within alike in
+            (omega (arith, less), kept p q link p_other (omega (arith, before, within)))
+      ]
+    ]
+
+-- the place where a test leads joins its chain
+pub joined_one : (code : List Insn) (chains steps lasts : List ℕ) (place next number : ℕ)
+    → AreJoined code chains steps lasts place → IsEqualTest code place number next → next < length code
+    → slice_index chains next ≡ next
+    → AreJoined code (set chains next (slice_index chains place)) (set steps next (slice_index steps place + 1))
+    (set lasts (slice_index chains place) next) (place + 1)
+joined_one code chains steps lasts place next number joined test inside single =
+    let are = joined.are in
+    let chain = slice_index chains place in
+    let step = slice_index steps place + 1 in
+    let further : place < next = omega (arith, test.leads) in
+    let this = are.member place (omega (arith, further, inside)) in
+    joined_by code chains steps lasts (set chains next chain) (set steps next step) (set lasts chain next) place next
+    number chain joined test inside single (record {
+      chain_is = refl;
+      each_chain = length-set chains next chain;
+      each_step = length-set steps next step;
+      each_last = length-set lasts chain next;
+      new_chain = get_or-set_same chains next chain 0 (omega (arith, inside, are.each_chain));
+      new_step = get_or-set_same steps next step 0 (omega (arith, inside, are.each_step));
+      new_last = get_or-set_same lasts chain next 0 (omega (arith, this.begins, further, inside, are.each_last));
+      old_chain = λ p ne. get_or-set_other chains next p chain 0 ne;
+      old_step = λ p ne. get_or-set_other steps next p step 0 ne;
+      old_last = λ c ne. get_or-set_other lasts chain c next 0 ne;
+    })
+
+-- ---- making the keys
+
+-- the keys once the instructions below a place were read
+pub record Gathered (code : List Insn) (chains keys : List ℕ) (place : ℕ) : Type 0 where
+  pub keys_are : All (IsTestKey code chains) keys
+  pub keyed : (at k next : ℕ) → at < place → IsEqualTest code at k next
+      → Contains keys (test_key (slice_index chains at) k at)
+
+pub gathered_none : (code : List Insn) (chains : List ℕ) → Gathered code chains [] 0
+gathered_none code chains = record {
+  keys_are = All-nil (IsTestKey code chains);
+  keyed = λ at k next less t. absurd (omega arith);
 }
 
 -- one such test more
-pub gathered_test : (code : List Insn) (keys ends : List ℕ) (place number : ℕ) (i : Insn)
-    → Gathered code keys ends place → IsAt code place i → AsksFor i number
-    → Gathered code (keys ++ test_key number place ∷ []) ends (place + 1)
-gathered_test code keys ends place number i so_far here asks =
-    let key = test_key number place in
-    let test : IsEqualTest code place number = record { insn = i; here = here; asks = asks } in
+pub gathered_test : (code : List Insn) (chains keys : List ℕ) (place number next : ℕ)
+    → Gathered code chains keys place → IsEqualTest code place number next → number < 4294967296
+    → Gathered code chains (keys ++ test_key (slice_index chains place) number place ∷ []) (place + 1)
+gathered_test code chains keys place number next so_far test small =
+    let key = test_key (slice_index chains place) number place in
     record {
-      keys_are = All-push (IsTestKey code) keys key so_far.keys_are
-          (record { number = number; at = place; test = test; is = refl });
-      keyed = λ at k less t. elim (cases_eq at place) [
+      keys_are = All-push (IsTestKey code chains) keys key so_far.keys_are
+          (record { number = number; at = place; next = next; test = test; small = small; is = refl });
+      keyed = λ at k on less t. elim (cases_eq at place) [
         | inl e ↦
-            let same = one_number code place k number (subst (λ (q : ℕ). IsEqualTest code q k) e t) test in
+            let same = one_number code place k number on next (subst (λ (q : ℕ). IsEqualTest code q k on) e t) test in
             rw (e, same) (Contains-push keys key)
-        | inr ne ↦ Contains-append_left keys (key ∷ []) (test_key k at) (so_far.keyed at k (omega arith) t)
-      ];
-      few = omega (arith, so_far.few);
-      ends_are = so_far.ends_are;
-      tests = λ at from less. elim (cases_eq at place) [
-        | inl e ↦ (number, subst (λ (q : ℕ). IsEqualTest code q number) (sym e) test)
-        | inr ne ↦ so_far.tests at from (omega arith)
+        | inr ne ↦ Contains-append_left keys (key ∷ []) (test_key (slice_index chains at) k at)
+            (so_far.keyed at k on (omega arith) t)
       ];
     }
 
--- another instruction, at which the tests before it end
-pub gathered_end : (code : List Insn) (keys ends more : List ℕ) (place : ℕ) (i : Insn) → Gathered code keys ends place
-    → IsAt code place i → ((k : ℕ) → AsksFor i k → ⊥)
-    → more ≡ take (place + 1) ends ++ replicate (place + 1 - length ends) place → Gathered code keys more (place + 1)
-gathered_end code keys ends more place i so_far here none is = rw filled (record {
+-- another instruction
+pub gathered_other : (code : List Insn) (chains keys : List ℕ) (place : ℕ) (i : Insn)
+    → Gathered code chains keys place → IsAt code place i → ((k skips : ℕ) → AsksFor i k skips → ⊥)
+    → Gathered code chains keys (place + 1)
+gathered_other code chains keys place i so_far here none = record {
   keys_are = so_far.keys_are;
-  keyed = λ at k less t. elim (cases_eq at place) [
-    | inl e ↦ absurd (behind k (subst (λ (q : ℕ). IsEqualTest code q k) e t))
-    | inr ne ↦ so_far.keyed at k (omega arith) t
+  keyed = λ at k next less t. elim (cases_eq at place) [
+    | inl e ↦ absurd (none_here code place i here none k next (subst (λ (q : ℕ). IsEqualTest code q k next) e t))
+    | inr ne ↦ so_far.keyed at k next (omega arith) t
   ];
-  few = omega (arith, size);
-  ends_are = λ at less. elim (cases_lt at (length ends)) [
-    | inl old ↦ rw (get_or_append_left ends (replicate (place + 1 - length ends) place) 0 at old)
-        (so_far.ends_are at old)
-    | inr new ↦ rw (value at new (omega (arith, size))) (record {
-      from = omega (arith, size);
-      inside = slice_get_within code place i here;
-      tests = λ j from before. so_far.tests j (omega arith) before;
-      ends = behind;
-    })
-  ];
-  tests = λ at from less. absurd (omega (arith, size));
-})
-  where
-    filled : more ≡ ends ++ replicate (place + 1 - length ends) place
-    filled = is ∙ ap (λ (l : List ℕ). l ++ replicate (place + 1 - length ends) place)
-        (take_all (place + 1) ends (omega (arith, so_far.few)))
-
-    size : length (ends ++ replicate (place + 1 - length ends) place) ≡ place + 1
-    size = omega (
-      arith,
-      length-append ends (replicate (place + 1 - length ends) place),
-      length-replicate (place + 1 - length ends) place,
-      so_far.few,
-    )
-
-    behind : (k : ℕ) → IsEqualTest code place k → ⊥
-    behind = none_here code place i here none
-
-    value : (at : ℕ) → length ends ≤ at → at < place + 1
-        → slice_index (ends ++ replicate (place + 1 - length ends) place) at ≡ place
-    value at from less =
-        get_or-append_right ends (replicate (place + 1 - length ends) place) (length ends) at 0 refl from
-        ∙ get_or-replicate (place + 1 - length ends) (at - length ends) place 0 (omega arith)
-
--- all of them, with the keys in order
-pub gathered_all : (code : List Insn) (keys sorted ends : List ℕ) → Gathered code keys ends (length code)
-    → 0 < length code → length code ≤ 4096 → EndsInReturn code → IsPermutation keys sorted → IsNonDecreasing sorted
-    → AreEqualTests code sorted ends
-gathered_all code keys sorted ends all some short returns moved ascending = record {
-  keys_are = record {
-    ascending = ascending;
-    are = All-permutation (IsTestKey code) keys sorted moved all.keys_are;
-    of = λ at k t. Contains-permutation keys sorted (test_key k at) moved
-        (all.keyed at k (slice_get_within code at t.insn t.here) t);
-    short = short;
-  };
-  ends_are = record { size = size; are = λ at less. all.ends_are at (omega (arith, size)) };
 }
-  where
-    size : length ends ≡ length code
-    size = elim (cases_lt (length ends) (length code)) [
-      | inl less ↦ absurd (let t = all.tests (length code - 1) (omega arith) (omega arith) in
-          subst IsReturn t.1.asks.is (returns t.1.insn t.1.here))
-      | inr enough ↦ omega (arith, all.few)
-    ]
+
+-- all of them, in order
+pub gathered_all : (code : List Insn) (chains keys sorted : List ℕ) → Gathered code chains keys (length code)
+    → IsPermutation keys sorted → IsNonDecreasing sorted → AreTestKeys code chains sorted
+gathered_all code chains keys sorted all moved ascending = record {
+  ascending = ascending;
+  are = All-permutation (IsTestKey code chains) keys sorted moved all.keys_are;
+  of = λ at k next t. Contains-permutation keys sorted (test_key (slice_index chains at) k at) moved
+      (all.keyed at k next (slice_get_within code at t.insn t.here) t);
+}

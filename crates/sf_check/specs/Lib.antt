@@ -3,6 +3,7 @@ pub mod Insns
 pub mod Programs
 pub mod Packing
 pub mod EqualTests
+pub mod Joining
 pub mod Refusals
 pub mod Masks
 pub mod Stacks

@@ -1,126 +1,235 @@
 //! Chains of tests that ask A for one number after the other: which of them asks for a number is looked up, and not
 //! each of them run.
 
-ghost use Rattle.std.specs.Prelude.{◌≡◌, ◌<◌, ◌≤◌, ◌↔◌, ℕ, length, IfOk, IfErr, MatchOption, IsTrue};
-ghost use Rattle.sf_check.specs.Programs.{EndsInReturn};
-ghost use Rattle.sf_check.specs.EqualTests.{AsksFor, AreEqualTests, AreTestKeys, IsBehindOthers, IsEnd, test_key};
+ghost use Rattle.std.specs.Prelude.{◌≡◌, ◌≢◌, ◌+◌, ◌<◌, ◌≤◌, ℕ, length, slice_index, IfOk, IfErr, IfSome, IfNone};
+ghost use Rattle.sf_check.specs.EqualTests.{IsEqualTest, ArePassed, IsBehindOthers, AreChains, AreTestKeys, AreEqualTests, LeadInside, test_key};
+ghost use Rattle.sf_check.specs.Joining.{AreJoined, AreOwn, IsReached};
 
 use crate::fault::Fault;
-use crate::insn::{Insn, Operand};
-use sf_insn::Test;
-use std::alloc::Global;
+use crate::insn::Insn;
+use std::alloc::{AllocError, Global};
 
-/// Up to here it takes less to look at each test of a chain than to look the number up.
+/// Up to here it takes less to look at each instruction of a chain than to look the number up.
 const SHORT: usize = 8;
 
-/// The tests of a program that ask whether A equals a number, and go on to the next place where it doesn't.
+/// The tests of a program that ask whether A equals a number, in chains: each test of a chain leads to the next one where
+/// A is another number. Where several tests lead to one place, it is in the chain of the first of them.
 #[derive(Debug, Drop)]
 pub(crate) struct EqualTests {
-    // Each as one number, ascending, so that those for one number stand together, in order of their places.
+    // Each as one number, ascending, so that those of one chain for one number stand together, in order of their places.
     pub(crate) keys: Vec<u64>,
-    // For each place the first one from there on where no such test stands.
-    pub(crate) ends: Vec<u16>,
+    // The chain of each place: a chain has the number of its first place.
+    pub(crate) chains: Vec<u16>,
+    // How many tests of its chain lead to each place.
+    pub(crate) steps: Vec<u16>,
+    // The last place of each chain.
+    pub(crate) lasts: Vec<u16>,
 }
 
-/// The number for which the instruction asks so, if it does.
-fn asked_number(insn: &Insn) -> Option<u32>
-    ensures { MatchOption result ((k : ℕ) → AsksFor insn.now k → ⊥)
-        (λ k. AsksFor insn.now k) }
-{
-    let Insn::Branch(test, other, _, on_false) = insn else {
-        return None;
-    };
-    let Operand::Constant(number) = other else {
-        return None;
-    };
-    let Test::Equal = test else {
-        return None;
-    };
-    if *on_false == 0 { Some(*number) } else { None }
+/// Tests that were passed, one behind the other.
+#[derive(Clone, Copy, Debug, PartialEq, Eq)]
+pub struct Passed {
+    /// How many there are.
+    pub count: usize,
+    /// The place where the last one leads.
+    pub behind: usize,
 }
 
-/// Whether the instruction asks for this number so.
-fn asks_for(insn: &Insn, number: u32) -> bool
-    ensures { IsTrue result ↔ AsksFor insn.now number }
+/// Such a test as one number: by its chain, by what it asks for, and then by where it stands.
+fn key_of(chain: u16, number: u32, place: usize) -> u64
+    requires { place < 4096 }
+    ensures { result ≡ test_key chain number place }
 {
-    match asked_number(insn) {
-        Some(asked) => asked == number,
-        None => false,
+    4096 * (0x1_0000_0000 * chain as u64 + number as u64) + place as u64
+}
+
+/// Where the test at a place leads, if it asks for another number than this one.
+fn next_of_other(insns: &[Insn], place: usize, number: u32) -> Option<usize>
+    requires inside { place < length insns.now }
+    requires short { length insns.now ≤ 4096 }
+    ensures some { IfSome result (λ next. (k : ℕ) × (k ≢ number)
+        × IsEqualTest insns.now place k next) }
+    ensures none { IfNone result ((k next : ℕ) → IsEqualTest insns.now place k next
+        → k ≡ number) }
+{
+    let Some(test) = insns[place].equal_test() else {
+        return None;
+    };
+    if test.number == number {
+        None
+    } else {
+        Some(place + 1 + test.skips as usize)
     }
 }
 
-/// Such a test as one number: by what it asks for, and then by where it stands.
-fn key_of(number: u32, place: usize) -> u64
-    requires { place < 4096 }
-    ensures { result ≡ test_key number place }
+/// The places below a number, in order.
+fn own_places(alloc: Global, size: usize) -> Result<Vec<u16>, AllocError>
+    requires { size ≤ 4096 }
+    ensures { IfOk result (λ places. AreOwn places.items size) }
 {
-    4096 * number as u64 + place as u64
+    let mut places = Vec::with_capacity(alloc, size)?;
+    for place in 0..size {
+        places.push(place as u16)?;
+    }
+    Ok(places)
 }
 
-/// The first place of a chain whose test asks for the number, or else its end: by one test after the other.
-fn scanned(insns: &[Insn], place: usize, end: usize, number: u32) -> usize
-    requires { IsEnd insns.now place end }
-    ensures { IsBehindOthers insns.now place number result }
+/// The place where a test leads comes into the chain of the test, unless it is in another one already.
+fn join(
+    insns: &[Insn],
+    chains: &mut [u16],
+    steps: &mut [u16],
+    lasts: &mut [u16],
+    place: usize,
+    next: usize,
+)
+    requires short { length insns.now ≤ 4096 }
+    requires inside { next < length insns.now }
+    requires test { (k : ℕ) × IsEqualTest insns.now place k next }
+    requires joined { AreJoined insns.now chains.old steps.old lasts.old place }
+    ensures { AreJoined insns.now chains.new steps.new lasts.new (place + 1) }
 {
-    for at in place..end {
-        if asks_for(&insns[at], number) {
-            return at;
+    // For the prover: only clauses speak of them.
+    let _insns = insns;
+    if chains[next] as usize == next {
+        let chain = chains[place];
+        chains[next] = chain;
+        steps[next] = steps[place] + 1;
+        lasts[chain as usize] = next as u16;
+    }
+}
+
+/// Makes the chains, of places that each are a chain of their own.
+fn join_all(insns: &[Insn], chains: &mut [u16], steps: &mut [u16], lasts: &mut [u16])
+    requires short { length insns.now ≤ 4096 }
+    requires inside { LeadInside insns.now }
+    requires single { AreJoined insns.now chains.old steps.old lasts.old 0 }
+    ensures { AreChains insns.now chains.new steps.new lasts.new }
+{
+    for (place, insn) in insns.iter().enumerate() {
+        if let Some(test) = insn.equal_test() {
+            join(
+                insns,
+                chains,
+                steps,
+                lasts,
+                place,
+                place + 1 + test.skips as usize,
+            );
         }
     }
-    end
 }
 
-/// The first place of a chain whose test asks for the number, or else its end: by the keys.
-fn searched(keys: &[u64], insns: &[Insn], place: usize, end: usize, number: u32) -> usize
-    requires keys { AreTestKeys insns.now keys.now }
-    requires chain { IsEnd insns.now place end }
-    ensures { IsBehindOthers insns.now place number result }
+/// The keys of all tests, ascending.
+fn keys_of(alloc: Global, insns: &[Insn], chains: &[u16]) -> Result<Vec<u64>, AllocError>
+    requires short { length insns.now ≤ 4096 }
+    requires each { length chains.now ≡ length insns.now }
+    ensures { IfOk result (λ keys. AreTestKeys insns.now chains.now keys.items) }
 {
-    let from = key_of(number, place);
+    let mut keys = Vec::with_capacity(alloc, insns.len())?;
+    for (place, insn) in insns.iter().enumerate() {
+        if let Some(test) = insn.equal_test() {
+            keys.push(key_of(chains[place], test.number, place))?;
+        }
+    }
+    keys.sort_unstable();
+    Ok(keys)
+}
+
+/// The first place of a chain, from this one on, whose test asks for the number, or else the chain's last.
+fn searched(
+    insns: &[Insn],
+    keys: &[u64],
+    chains: &[u16],
+    place: usize,
+    last: usize,
+    number: u32,
+) -> usize
+    requires short { length insns.now ≤ 4096 }
+    requires keys { AreTestKeys insns.now chains.now keys.now }
+    requires each { length chains.now ≡ length insns.now }
+    requires from { place ≤ last }
+    requires inside { last < length insns.now }
+    requires same { slice_index chains.now last ≡ slice_index chains.now place }
+    ensures { IsReached insns.now chains.now place number result }
+{
+    // For the prover: only clauses speak of them.
+    let _insns = insns;
+    let chain = chains[place];
+    let from = key_of(chain, number, place);
     let found = keys.partition_point(|key| *key < from);
     if found >= keys.len() {
-        return end;
+        return last;
     }
     let key = keys[found];
-    if key < key_of(number, end) {
+    if key < key_of(chain, number, last) {
         place + (key - from) as usize
     } else {
-        end
+        last
     }
 }
 
 impl EqualTests {
     /// The tables of a program. `Memory` where a growth is refused.
     pub(crate) fn of(alloc: Global, insns: &[Insn]) -> Result<EqualTests, Fault>
-        requires some { 0 < length insns.now }
         requires short { length insns.now ≤ 4096 }
-        requires ends { EndsInReturn insns.now }
-        ensures tables { IfOk result (λ t. AreEqualTests insns.now t.keys.items t.ends.items) }
+        requires inside { LeadInside insns.now }
+        ensures tables { IfOk result (λ t. AreEqualTests insns.now t.keys.items t.chains.items
+            t.steps.items t.lasts.items) }
         ensures only { IfErr result (λ e. e ≡ Fault.Memory) }
     {
-        let mut keys = Vec::with_capacity(alloc, insns.len())?;
-        let mut ends = Vec::with_capacity(alloc, insns.len())?;
-        for (place, insn) in insns.iter().enumerate() {
-            match asked_number(insn) {
-                Some(number) => keys.push(key_of(number, place))?,
-                None => ends.resize(place + 1, place as u16)?,
-            }
-        }
-        keys.sort_unstable();
-        Ok(EqualTests { keys, ends })
+        let mut chains = own_places(alloc, insns.len())?;
+        let mut lasts = own_places(alloc, insns.len())?;
+        let mut steps = vec![in alloc; 0; insns.len()]?;
+        join_all(insns, &mut chains, &mut steps, &mut lasts);
+        let keys = keys_of(alloc, insns, &chains)?;
+        Ok(EqualTests {
+            keys,
+            chains,
+            steps,
+            lasts,
+        })
     }
 
-    /// The first place from this one on whose instruction is no such test for another number.
-    pub(crate) fn first_behind(&self, insns: &[Insn], place: usize, number: u32) -> usize
-        requires tables { AreEqualTests insns.now self.now.keys.items self.now.ends.items }
+    /// Passes tests for other numbers of the chain of a place, as far as they are looked up.
+    fn passed_in_chain(&self, insns: &[Insn], place: usize, number: u32) -> Passed
+        requires tables { AreEqualTests insns.now self.now.keys.items self.now.chains.items
+            self.now.steps.items self.now.lasts.items }
         requires inside { place < length insns.now }
-        ensures { IsBehindOthers insns.now place number result }
+        ensures passed { ArePassed insns.now number result.count place result.behind }
+        ensures inside { result.behind < length insns.now }
+        ensures on { place + result.count ≤ result.behind }
     {
-        let end = self.ends[place] as usize;
-        if end - place <= SHORT {
-            scanned(insns, place, end, number)
-        } else {
-            searched(&self.keys, insns, place, end, number)
+        let last = self.lasts[self.chains[place] as usize] as usize;
+        if last - place <= SHORT {
+            return Passed {
+                count: 0,
+                behind: place,
+            };
         }
+        let behind = searched(insns, &self.keys, &self.chains, place, last, number);
+        Passed {
+            count: (self.steps[behind] - self.steps[place]) as usize,
+            behind,
+        }
+    }
+
+    /// Passes all tests for other numbers that come from a place on, each where the one before leads.
+    pub(crate) fn behind_others(&self, insns: &[Insn], place: usize, number: u32) -> Passed
+        requires tables { AreEqualTests insns.now self.now.keys.items self.now.chains.items
+            self.now.steps.items self.now.lasts.items }
+        requires inside { place < length insns.now }
+        ensures { IsBehindOthers insns.now place number result.count result.behind }
+    {
+        let Passed {
+            mut count,
+            mut behind,
+        } = self.passed_in_chain(insns, place, number);
+        while let Some(next) = next_of_other(insns, behind, number) {
+            let more = self.passed_in_chain(insns, next, number);
+            count += 1 + more.count;
+            behind = more.behind;
+        }
+        Passed { count, behind }
     }
 }

@@ -8,7 +8,7 @@ use Rattle.sf_check.specs.declared.insn.Insn.{Insn}
 use Rattle.sf_check.specs.declared.insn.Insn.TheVariants.{LoadWord}
 use Rattle.sf_check.specs.declared.insn.Operand.TheVariants.{Constant}
 use Rattle.sf_check.specs.Programs.{IsAt}
-use Rattle.sf_check.specs.EqualTests.{IsBehindOthers}
+use Rattle.sf_check.specs.EqualTests.{ArePassed}
 use Rattle.sf_dom.specs.declared.known.Known.{Known}
 use Rattle.sf_dom.specs.Known.{Admits}
 use Rattle.sf_dom.specs.Facts.{known_at}
@@ -92,64 +92,60 @@ over_one_more p code known n place f next at is gone fails leads =
       machine = record p.machine { place = place + 1 + f };
     })) names (gone_trans p q (taken_on q false (next_place q f)) gone once))
 
--- a test for another number than the one that A has fails
-pub other_fails : (code : List Insn) (known : Known) (place number behind : ℕ)
-    → ((x : ℕ) → Admits known x → x ≡ number) → IsBehindOthers code place number behind
-    → AreFailing code known place behind
-other_fails code known place number behind only others = record {
-  from = others.from;
-  inside = others.inside;
-  fail = λ at from before.
-      let t = others.others at from before in
-      let test = t.2 in (
-        test.insn,
-        test.here,
-        record {
-          number = t.0;
-          on_true = test.asks.on_true;
-          is = test.asks.is;
-          fails = λ x admits. not_equal x t.0 (λ e. t.1 (sym e ∙ only x admits));
-        },
-      );
-}
+-- tests for other numbers than the one that A has fail
+pub others_fail : (code : List Insn) (known : Known) (number n place behind : ℕ)
+    → ((x : ℕ) → Admits known x → x ≡ number) → ArePassed code number n place behind
+    → AreFailing code known n place behind
+others_fail code known number zero place behind only passed = passed
+others_fail code known number (suc n) place behind only passed =
+    let test = passed.3 in (
+      test.insn,
+      test.skips,
+      test.here,
+      record {
+        number = passed.0;
+        on_true = test.asks.on_true;
+        is = test.asks.is;
+        fails = λ x admits. not_equal x passed.0 (λ e. passed.2 (sym e ∙ only x admits));
+      },
+      others_fail code known number n (place + 1 + test.skips) behind only
+          (subst (λ (p : ℕ). ArePassed code number n p behind) test.leads passed.4),
+    )
   where
     not_equal : (x k : ℕ) → x ≢ k → x == k ≡ false
     not_equal x k apart = grind (arith, nat_tests)
 
--- none from a place up to itself
-pub none_fail : (code : List Insn) (known : Known) (place : ℕ) → place < length code → AreFailing code known place place
-none_fail code known place inside = record {
-  from = omega arith;
-  inside = inside;
-  fail = λ at from before. absurd (omega arith);
-}
+-- each leads on
+pub few_failing : (code : List Insn) (known : Known) (n place behind : ℕ) → AreFailing code known n place behind
+    → place + n ≤ behind
+few_failing code known zero place behind failing = omega (arith, failing)
+few_failing code known (suc n) place behind failing =
+    omega (arith, few_failing code known n (place + 1 + failing.1) behind failing.4)
 
--- over so many of them
-over_some : (p : PieceData) (code : List Insn) (known : Known) (behind n : ℕ) → IsLawfulPiece p → IsCodeAtHand p code
-    → known ≡ known_at p.facts.known p.machine.a.0 → AreFailing code known p.machine.place behind
-    → p.machine.place + n ≤ behind → HasGoneOn p (behind_chain p n (p.machine.place + n))
-over_some p code known behind zero h at is failing le =
-    let here : p.machine.place ≡ p.machine.place + 0 = omega arith in
-    subst (λ (k : ℕ). HasGoneOn p (behind_chain p 0 k)) here (over_none p h)
-over_some p code known behind (suc n) h at is failing le =
-    let place = p.machine.place + n in
-    let before = over_some p code known behind n h at is failing (omega (arith, le)) in
-    let f = failing.fail place (omega arith) (omega (arith, le)) in
-    let read : get_or code place (LoadWord 0) ≡ f.0 = get_or_from_slice_get code place f.0 (LoadWord 0) f.1 in
-    let fails : IsFailing (get_or code place (LoadWord 0)) known 0 =
-    subst (λ (i : Insn). IsFailing i known 0) (sym read) f.2 in
-    let more : n + 1 ≡ suc n = omega arith in
-    let next : p.machine.place + suc n ≡ place + (1 + 0) = omega arith in
-    subst (λ (k : ℕ). HasGoneOn p (behind_chain p k (p.machine.place + suc n))) more
-    (over_one_more p code known n place 0 (p.machine.place + suc n) at is before fails next)
+-- over all of them, behind those that are gone over already
+over_more : (p : PieceData) (code : List Insn) (known : Known) (m n place behind : ℕ) → IsCodeAtHand p code
+    → known ≡ known_at p.facts.known p.machine.a.0 → HasGoneOn p (behind_chain p m place)
+    → AreFailing code known n place behind → HasGoneOn p (behind_chain p (m + n) behind)
+over_more p code known m zero place behind at is gone failing =
+    let e : m ≡ m + 0 = omega arith in
+    subst (λ (k : ℕ). HasGoneOn p (behind_chain p k behind)) e
+    (subst (λ (q : ℕ). HasGoneOn p (behind_chain p m q)) (sym failing) gone)
+over_more p code known m (suc n) place behind at is gone failing =
+    let i = failing.0 in
+    let skips = failing.1 in
+    let read : get_or code place (LoadWord 0) ≡ i = get_or_from_slice_get code place i (LoadWord 0) failing.2 in
+    let fails : IsFailing (get_or code place (LoadWord 0)) known skips =
+    subst (λ (j : Insn). IsFailing j known skips) (sym read) failing.3 in
+    let once = over_one_more p code known m place skips (place + 1 + skips) at is gone fails (omega arith) in
+    let e : m + 1 + n ≡ m + suc n = omega arith in
+    subst (λ (k : ℕ). HasGoneOn p (behind_chain p k behind)) e
+    (over_more p code known (m + 1) n (place + 1 + skips) behind at is once failing.4)
 
--- over all of them
-pub over_failing : (p : PieceData) (code : List Insn) (known : Known) (behind : ℕ) → IsLawfulPiece p
-    → IsCodeAtHand p code
-    → known ≡ known_at p.facts.known p.machine.a.0 → AreFailing code known p.machine.place behind
-    → HasGoneOn p (behind_chain p (behind - p.machine.place) behind)
-over_failing p code known behind h at is failing =
-    let from = failing.from in
-    let whole : p.machine.place + (behind - p.machine.place) ≡ behind = omega arith in
-    subst (λ (k : ℕ). HasGoneOn p (behind_chain p (behind - p.machine.place) k)) whole
-    (over_some p code known behind (behind - p.machine.place) h at is failing (omega arith))
+-- over all of them, from where the piece stands
+pub over_failing : (p : PieceData) (code : List Insn) (known : Known) (n behind : ℕ) → IsLawfulPiece p
+    → IsCodeAtHand p code → known ≡ known_at p.facts.known p.machine.a.0
+    → AreFailing code known n p.machine.place behind → HasGoneOn p (behind_chain p n behind)
+over_failing p code known n behind h at is failing =
+    let e : 0 + n ≡ n = omega arith in
+    subst (λ (k : ℕ). HasGoneOn p (behind_chain p k behind)) e
+    (over_more p code known 0 n p.machine.place behind at is (over_none p h) failing)

@@ -1,6 +1,6 @@
 -- The parts of a step of the symbolic run: what the functions that work a piece tell each other. Nothing above this
 -- crate speaks of these.
-use Rattle.std.specs.Prelude.{◌≡◌, ℕ, ◌+◌, ◌-◌, ◌*◌, ◌&&◌, not, ◌<◌, ◌≤◌, ◌^◌, ◌⊎◌, Bool, true, false, List, [], ◌∷◌, ◌++◌, length, get_or, replicate, Option, Some, None, slice_get, if◌then◌else◌, ◌==◌}
+use Rattle.std.specs.Prelude.{◌≡◌, ℕ, zero, suc, ◌+◌, ◌-◌, ◌*◌, ◌&&◌, not, ◌<◌, ◌≤◌, ◌^◌, ◌⊎◌, Bool, true, false, List, [], ◌∷◌, ◌++◌, length, get_or, replicate, Option, Some, None, slice_get, if◌then◌else◌, ◌==◌}
 use Rattle.sf_insn.specs.declared.input.Input.{Input}
 use Rattle.sf_insn.specs.Inputs.{IsInput}
 use Rattle.sf_insn.specs.declared.ops.BinOp.{BinOp}
@@ -73,11 +73,12 @@ pub record IsFailing (i : Insn) (known : Known) (skips : ℕ) : Type 0 where
   pub is : i ≡ Branch Equal (Constant number) on_true skips
   pub fails : (x : ℕ) → Admits known x → passes Equal x number ≡ false
 
--- From one place of a program up to another each instruction is such a test, and leads to the next place.
-pub record AreFailing (code : List Insn) (known : Known) (place behind : ℕ) : Type 0 where
-  pub from : place ≤ behind
-  pub inside : behind < length code
-  pub fail : (at : ℕ) → place ≤ at → at < behind → (i : Insn) × IsAt code at i × IsFailing i known 0
+-- So many such tests, each where the one before leads if it fails, lead from one place of a program to another.
+abbrev pub AreFailing : List Insn → Known → ℕ → ℕ → ℕ → Type 0
+AreFailing code known zero place behind = behind ≡ place
+AreFailing code known (suc n) place behind =
+    (i : Insn) × (skips : ℕ) × IsAt code place i × IsFailing i known skips
+    × AreFailing code known n (place + 1 + skips) behind
 
 -- the piece behind so many tests that fail, at the place where the last one leads
 abbrev pub behind_chain : PieceData → ℕ → ℕ → PieceData

@@ -11,7 +11,7 @@ ghost use Rattle.sf_piece.specs.Works.{HasAtHand, HasAdvanced, HasGoneOn, IsFore
 use crate::deciding::skipped;
 use crate::fault::Fault;
 use crate::run::Run;
-use sf_check::{Insn, Operand, Program};
+use sf_check::{Insn, Operand, Passed, Program};
 use sf_dom::Known;
 use sf_insn::Test;
 
@@ -40,31 +40,14 @@ pub(crate) fn take_test(
     Ok(())
 }
 
-/// A chain of tests that fail.
-#[derive(Clone, Copy)]
-struct Chain {
-    /// How many there are.
-    count: usize,
-    /// The place where the last one leads.
-    behind: usize,
-}
-
 /// How many instructions a test skips where it fails, if it asks whether A equals a number that its interval leaves out.
 /// None for any other instruction.
 fn skipped_by_failing(insn: Insn, known: Known) -> Option<u8>
     ensures { IfSome result (λ n. IsFailing insn known n) }
 {
-    let Insn::Branch(test, other, _, on_false) = insn else {
-        return None;
-    };
-    let Operand::Constant(number) = other else {
-        return None;
-    };
-    let Test::Equal = test else {
-        return None;
-    };
-    match known.told(Test::Equal, number) {
-        Some(false) => Some(on_false),
+    let test = insn.equal_test()?;
+    match known.told(Test::Equal, test.number) {
+        Some(false) => Some(test.skips),
         _ => None,
     }
 }
@@ -80,42 +63,44 @@ fn only_number(known: Known) -> Option<u32>
     }
 }
 
-/// The place behind those tests of this kind, from this place on, that each lead to the next place where they fail: looked
-/// up where A has one number alone, and else none is taken.
-fn behind_others(program: &Program, place: usize, known: Known) -> usize
+/// Those tests of this kind that come from a place on, each where the one before leads: looked up where A has one number
+/// alone, and else none is taken.
+fn behind_others(program: &Program, place: usize, known: Known) -> Passed
     requires { place < length program.now }
-    ensures { AreFailing program.now known place result }
+    ensures { AreFailing program.now known result.count place result.behind }
 {
     match only_number(known) {
         Some(number) => program.behind_others(place, number),
-        None => place,
+        None => Passed {
+            count: 0,
+            behind: place,
+        },
     }
 }
 
 /// The tests of this kind that come now, each where the one before leads.
-fn failing_chain(run: &Run, known: Known) -> Chain
+fn failing_chain(run: &Run, known: Known) -> Passed
     requires lawful { IsLawfulPiece run.now }
     requires known { known ≡ known_at run.now.facts.known run.now.machine.a.0 }
     ensures { HasGoneOn run.now (behind_chain run.now result.count result.behind) }
 {
     let first = run.machine.place;
     let Some(program) = run.program() else {
-        return Chain {
+        return Passed {
             count: 0,
             behind: first,
         };
     };
     let code = program.insns();
-    let mut place = behind_others(program, first, known);
-    let mut count = place - first;
-    while let Some(skips) = skipped_by_failing(code[place], known) {
+    let Passed {
+        mut count,
+        mut behind,
+    } = behind_others(program, first, known);
+    while let Some(skips) = skipped_by_failing(code[behind], known) {
         count += 1;
-        place += 1 + skips as usize;
+        behind += 1 + skips as usize;
     }
-    Chain {
-        count,
-        behind: place,
-    }
+    Passed { count, behind }
 }
 
 /// Goes on over these tests at once: each puts a false into the name, and what is known stays as it is.

@@ -11,6 +11,8 @@ use Rattle.sf_check.specs.Packing.{ArePacked}
 use Rattle.sf_check.specs.Refusals.{AreFineBefore}
 use Rattle.sf_check.specs.ProgramLaws.{successors_inside}
 use Rattle.sf_check.proofs.Reading.{read_more, all_spelled, all_fine, lawful, size_is}
+use Rattle.sf_check.specs.EqualTests.{LeadInside}
+use Rattle.sf_check.proofs.EqualLemmas.{tests_inside}
 use Rattle.sf_check.proofs.checker.check.Goals as goal
 
 no_raw : RawInsn
@@ -158,3 +160,12 @@ returns-clause-accepted c =
       all_spelled raws code place c.loop-place.invariant (omega arith) (omega arith),
       lawful raws code place c.loop-place.invariant (omega arith) (omega arith) some (omega arith) ends set,
     )
+
+pub of-requires-clause-inside : goal.of-requires-clause-inside
+of-requires-clause-inside c =
+    let raws = c.args.raws.now in
+    let code = c.loop-place.insns.items in
+    let size = size_is raws code c.loop-place.place c.loop-place.invariant (omega arith) (omega arith) in
+    let inside : LeadInside code =
+    tests_inside code (λ at i h. rw size (c.loop-place.invariant.inside at i h)) in
+    subst LeadInside (sym c.deref-3.ensures.value) inside

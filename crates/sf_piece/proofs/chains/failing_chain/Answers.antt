@@ -1,29 +1,34 @@
 use Rattle.std.proofs.Common.{List, length, ap, sym, subst, arith}
 use Rattle.sf_check.specs.declared.insn.Insn.{Insn}
 use Rattle.sf_piece.specs.Works.{IsCodeAtHand}
-use Rattle.sf_piece.proofs.FailingTests.{over_none, over_failing, over_one_more, inside_behind}
+use Rattle.sf_piece.proofs.FailingTests.{over_none, over_failing, over_one_more, few_failing, inside_behind}
 use Rattle.sf_piece.proofs.chains.failing_chain.Goals as goal
 
 pub returns-in_default : goal.returns-in_default
 returns-in_default c = rw (← c.run.view_is) (over_none _ (rw (← c.run.view_is) at c.requires.lawful))
 
 pub loop-skips-init : goal.loop-skips-init
-loop-skips-init c = record {
-  gone = rw (← c.run.view_is) (over_failing _ c.in-Some.program.now c.args.known c.behind_others-place.result
-      (rw (← c.run.view_is) at c.requires.lawful) (rw (← c.run.view_is) at c.in-Some.ensures)
-      (rw (← c.run.view_is) at c.requires.known) c.behind_others-place.ensures);
-  few = omega arith;
-}
+loop-skips-init c =
+    let passed = c.behind_others-count.result in
+    record {
+      gone = rw (← c.run.view_is) (over_failing _ c.in-Some.program.now c.args.known passed.count passed.behind
+          (rw (← c.run.view_is) at c.requires.lawful) (rw (← c.run.view_is) at c.in-Some.ensures)
+          (rw (← c.run.view_is) at c.requires.known) c.behind_others-count.ensures);
+      few = omega (
+        arith,
+        few_failing c.in-Some.program.now c.args.known passed.count _ passed.behind c.behind_others-count.ensures,
+      );
+    }
 
-pub bounds-code-place : goal.bounds-code-place
-bounds-code-place c =
-    let inside = inside_behind c.args.run.now c.in-Some.program.now c.loop-skips.count c.loop-skips.place
+pub bounds-code-behind : goal.bounds-code-behind
+bounds-code-behind c =
+    let inside = inside_behind c.args.run.now c.in-Some.program.now c.loop-skips.count c.loop-skips.behind
     c.in-Some.ensures c.loop-skips.invariant.gone in
     omega (arith, inside, ap length c.insns-code.ensures.same)
 
-pub offset_bounds-code-place : goal.offset_bounds-code-place
-offset_bounds-code-place c =
-    let inside = inside_behind c.args.run.now c.in-Some.program.now c.loop-skips.count c.loop-skips.place
+pub offset_bounds-code-behind : goal.offset_bounds-code-behind
+offset_bounds-code-behind c =
+    let inside = inside_behind c.args.run.now c.in-Some.program.now c.loop-skips.count c.loop-skips.behind
     c.in-Some.ensures c.loop-skips.invariant.gone in
     omega (arith, inside, ap length c.insns-code.ensures.same, c.in-Some.ensures.short)
 
@@ -32,7 +37,7 @@ loop-skips-preserved c =
     let at = subst (λ (l : List Insn). IsCodeAtHand c.args.run.now l) (sym c.insns-code.ensures.same)
     c.in-Some.ensures in
     record {
-      gone = over_one_more c.args.run.now c.insns-code.result.now c.args.known c.loop-skips.count c.loop-skips.place
+      gone = over_one_more c.args.run.now c.insns-code.result.now c.args.known c.loop-skips.count c.loop-skips.behind
           c.in-Some-skipped_by_failing.skips _ at c.requires.known c.loop-skips.invariant.gone
           c.in-Some-skipped_by_failing.ensures (omega arith);
       few = omega (arith, c.loop-skips.invariant.few);

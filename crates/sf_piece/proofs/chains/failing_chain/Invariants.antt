@@ -4,9 +4,9 @@ use Rattle.sf_piece.proofs.chains.failing_chain.Given as goal
 
 abbrev pub invariant-loop-skips : goal.invariant-loop-skips
 invariant-loop-skips l = record {
-  gone : HasGoneOn l.fn.run (behind_chain l.fn.run l.count l.place);
-  few : l.count ≤ l.place;
+  gone : HasGoneOn l.fn.run (behind_chain l.fn.run l.count l.behind);
+  few : l.count ≤ l.behind;
 }
 
 abbrev pub decreases-loop-skips : goal.decreases-loop-skips
-decreases-loop-skips l = length l.code - l.place
+decreases-loop-skips l = length l.code - l.behind

@@ -1,0 +1,23 @@
+use Rattle.std.proofs.Common.{arith}
+use Rattle.std.proofs.lemmas.Option.{slice_get-get_or}
+use Rattle.sf_check.proofs.EqualLemmas.{none_here, test_here, only_number}
+use Rattle.sf_check.proofs.equals.next_of_other.Goals as goal
+
+pub returns-in_default-clause-none : goal.returns-in_default-clause-none
+returns-in_default-clause-none c k next t =
+    let here = slice_get-get_or c.args.insns.now c.args.place _ c.requires.inside in
+    absurd (none_here c.args.insns.now c.args.place _ here c.in_default.ensures k next t)
+
+pub returns-then-test-number-clause-none : goal.returns-then-test-number-clause-none
+returns-then-test-number-clause-none c k next t =
+    let here = slice_get-get_or c.args.insns.now c.args.place _ c.requires.inside in
+    only_number c.args.insns.now c.args.place c.args.number c.in-Some.test.number c.in-Some.test.skips _ here
+    c.in-Some.ensures (omega (arith, c.if-test-number.true)) k next t
+
+pub returns-else-test-number-clause-some : goal.returns-else-test-number-clause-some
+returns-else-test-number-clause-some c =
+    let here = slice_get-get_or c.args.insns.now c.args.place _ c.requires.inside in (
+      c.in-Some.test.number,
+      λ e. omega (arith, c.if-test-number.false, e),
+      test_here c.args.insns.now c.args.place c.in-Some.test.number c.in-Some.test.skips _ here c.in-Some.ensures,
+    )

@@ -1,0 +1,5 @@
+use Rattle.sf_check.specs.Joining.{AreOwn}
+use Rattle.sf_check.proofs.equals.own_places.Given as goal
+
+abbrev pub invariant-loop-place : goal.invariant-loop-place
+invariant-loop-place l = AreOwn l.places.items l.place
