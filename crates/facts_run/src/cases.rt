@@ -50,6 +50,11 @@ fn op_of(word: &str) -> Option<BinOp> {
     }
 }
 
+fn id(text: &str) -> Option<NodeId> {
+    let place = text.parse::<u32>().ok()?;
+    Some(NodeId(place))
+}
+
 fn test_of(word: &str) -> Option<Test> {
     match word {
         "=" => Some(Test::Equal),
@@ -63,8 +68,8 @@ fn test_of(word: &str) -> Option<Test> {
 fn node_of(words: &[&str]) -> Option<Node> {
     match words {
         ["const", c] => Some(Node::Const(number(c)?)),
-        ["neg", a] => Some(Node::Neg(NodeId(place(a)?))),
-        [op, a, b] => Some(Node::Bin(op_of(op)?, NodeId(place(a)?), NodeId(place(b)?))),
+        ["neg", a] => Some(Node::Neg(id(a)?)),
+        [op, a, b] => Some(Node::Bin(op_of(op)?, id(a)?, id(b)?)),
         _ => None,
     }
 }

@@ -18,8 +18,8 @@ fn is_lawful(pool: &Pool, node: Node) -> bool
     match node {
         Node::Const(_) => true,
         Node::Word(i) => i < 16,
-        Node::Bin(_, a, b) => a.0 < count && b.0 < count,
-        Node::Neg(a) => a.0 < count,
+        Node::Bin(_, a, b) => (a.0 as usize) < count && (b.0 as usize) < count,
+        Node::Neg(a) => (a.0 as usize) < count,
     }
 }
 
@@ -51,9 +51,9 @@ fn learn(
         return Err(Fail::from("a condition on no node"));
     }
     let cond = Cond {
-        node: NodeId(node),
+        node: NodeId(node as u32),
         test,
-        other: NodeId(other),
+        other: NodeId(other as u32),
         sense,
     };
     let copy = facts.learnt(alloc, pool, &cond)?;
@@ -124,7 +124,7 @@ fn told(alloc: Global, facts: &Facts, pool: &Pool, at: usize, taken: bool) -> Re
     if at >= pool.len() {
         return Err(Fail::from("no node is shown"));
     }
-    let known = facts.known(NodeId(at));
+    let known = facts.known(NodeId(at as u32));
     let (low, high, zeros, ones) = (known.low, known.high, known.zeros, known.ones);
     let mut text = String::new(alloc);
     text.push_str(if taken { "taken" } else { "contradicts" })?;
@@ -132,7 +132,7 @@ fn told(alloc: Global, facts: &Facts, pool: &Pool, at: usize, taken: bool) -> Re
         &mut text,
         ", from {low} to {high}, zeros {zeros:08x}, ones {ones:08x}"
     )?;
-    if let Some(number) = facts.decided(pool, NodeId(at)) {
+    if let Some(number) = facts.decided(pool, NodeId(at as u32)) {
         write!(&mut text, ", decided {number}")?;
     }
     Ok(text)

@@ -17,7 +17,7 @@ pub fn are_same(left: &Pool, right: &Pool) -> bool {
         return false;
     }
     for i in 0..left.len() {
-        if i >= right.len() || left.node(NodeId(i)) != right.node(NodeId(i)) {
+        if i >= right.len() || left.node_at(i) != right.node_at(i) {
             return false;
         }
     }
@@ -154,8 +154,8 @@ fn zero_of(pool: &Pool) -> Option<NodeId>
     ensures { IfSome result (λ id. id.0 < length pool.now) }
 {
     for i in 0..pool.len() {
-        if pool.node(NodeId(i)) == Node::Const(0) {
-            return Some(NodeId(i));
+        if pool.node_at(i) == Node::Const(0) {
+            return Some(NodeId(i as u32));
         }
     }
     None

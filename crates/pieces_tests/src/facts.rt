@@ -77,7 +77,7 @@ const QUOTIENT: NodeId = NodeId(49);
 fn write_known(text: &mut String, piece: &Piece) -> Result<(), Fail> {
     let word = piece.facts().known(NodeId(4));
     write!(&mut *text, "{}-{}", word.low, word.high)?;
-    if piece.pool().len() > QUOTIENT.0 {
+    if piece.pool().len() > QUOTIENT.0 as usize {
         let known = piece.facts().known(QUOTIENT);
         write!(
             &mut *text,

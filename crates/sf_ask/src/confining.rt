@@ -25,7 +25,7 @@ pub(crate) fn known_words(facts: &Facts) -> [Known; 16]
 {
     let mut words = [facts.known(NodeId(0)); 16];
     for word in 0..16 {
-        words[word] = facts.known(NodeId(word));
+        words[word] = facts.known(NodeId(word as u32));
     }
     words
 }

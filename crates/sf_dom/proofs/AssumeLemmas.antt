@@ -15,8 +15,8 @@ use Rattle.std.proofs.lemmas.Nat.{or_comm, and_comm, xor_comm}
 use Rattle.sf_insn.specs.declared.input.Input.{Input}
 use Rattle.sf_dom.specs.declared.known.Known.{Known}
 use Rattle.sf_dom.specs.declared.guards.Pair.{Pair}
-use Rattle.sf_dom.specs.Known.{Admits, Leaves, IsNarrower, IsDecided, IsConsistent, known_of}
-use Rattle.sf_dom.specs.Propagation.{IsReducedNode, IsLeft, AddsNumber, AreExcluded, AreBothExcluded, IsAssumed, IsRestricted, IsPropagated, IsSharp, IsMovedPast, Tells, TestGives, AllNarrower, KeepsAgreeing, NoneAgreesWith, KeepsAgreeingOn, NoneAgreesOn, LeavesPair, LeavesNoPair, HasGoneBack, Holds}
+use Rattle.sf_dom.specs.Known.{Admits, Leaves, IsNarrower, IsDecided, IsConsistent, IsTight, known_of}
+use Rattle.sf_dom.specs.Propagation.{IsReducedNode, IsLeft, AreTightWords, KeepsTight, AreOthersTight, AddsNumber, AreExcluded, AreBothExcluded, IsAssumed, IsRestricted, IsPropagated, IsSharp, IsMovedPast, Tells, TestGives, AllNarrower, KeepsAgreeing, NoneAgreesWith, KeepsAgreeingOn, NoneAgreesOn, LeavesPair, LeavesNoPair, HasGoneBack, Holds}
 use Rattle.sf_dom.specs.Conditions.{AreLeftAlone}
 use Rattle.sf_dom.specs.Backward.{IsSwappable, IsPropagatedBack}
 use Rattle.sf_dom.proofs.Propagations.{AllNarrower-trans, AllNarrower-set, AllNarrower-refl, propagate-set, word-below, operands-below}
@@ -74,6 +74,7 @@ left-of (Some r) ks ex ns i more met l m h = record {
   narrower = IsNarrower-trans (known_at ks i) met r m.left h.narrower;
   told = IsNarrower-trans more met r m.right h.narrower;
   consistent = h.consistent;
+  tight = h.tight;
 }
 
 -- the values of a condition's nodes are left by its test
@@ -200,6 +201,13 @@ both-excluded ks ex mid ex' ns cond p len lv lw h k et es = record {
       exclude-keeps ks mid ex' ns d cond.other.0 cond.node.0 p len lw lv k (λ e. differ (sym e))
       (a cond.node.0 lv).admitted one;
   more = λ w m l c. k.more w m l (h.more w m l c);
+  others = λ w m l one two c. elim (k.only w m l c) [
+    | inr new ↦ absurd (two new.0)
+    | inl old ↦ elim (h.only w m l old) [
+      | inr new ↦ absurd (one new.0)
+      | inl older ↦ older
+    ]
+  ];
   added_other = λ i e dec et2 es2. k.added i e dec;
   added = λ i e dec et2 es2. k.more i _ (word-below cond.node.0 (node_at ns cond.node.0)
       (operands-below ns cond.node.0 p (omega arith)) i e) (h.added i e dec);
@@ -258,6 +266,36 @@ alone-set ks ex ns cond node other l h = (
   AllNarrower-set ks ks cond.node.0 node refl l (AllNarrower-refl ks) h.narrower,
   narrower-at ks cond.node.0 node node l (IsNarrower-refl node),
 )
+
+-- what is known of the first node leaves the other words as tight as they are
+pub others-set : (ks : List Known) (ex : List (List ℕ)) (ns : List Node) (cond : Cond) (node : Known) → IsPool ns
+    → AreOthersTight ks ex ns cond → AreOthersTight (set ks cond.node.0 node) ex ns cond
+others-set ks ex ns cond node p h w l one two =
+    let apart : w ≢ cond.node.0 = λ e. one (ap (node_at ns) (sym e) ∙ p.word w l) in
+    rw (get_or-set_other ks cond.node.0 w node (known_of 0 0 0 0) apart) (h w l one two)
+
+-- a node is a word, or it isn't
+pub is-word : (n : Node) (w : ℕ) → (n ≡ Word w) ⊎ (n ≢ Word w)
+is-word (Const c) w = inr (λ e. let clash : Const c ≡ Word w = e in absurd cc)
+is-word (Bin op a b) w = inr (λ e. let clash : Bin op a b ≡ Word w = e in absurd cc)
+is-word (Neg a) w = inr (λ e. let clash : Neg a ≡ Word w = e in absurd cc)
+is-word (Word i) w = elim (cases_eq i w) [
+  | inl e ↦ inl (ap Word e)
+  | inr ne ↦ inr (λ e. let both : Word i ≡ Word w = e in let same : i ≡ w = cc in ne same)
+]
+
+-- all words are tight, once the two nodes of a condition are
+pub tight-all : (o a b : List Known) (ex : List (List ℕ)) (ns : List Node) (cond : Cond) → AreOthersTight o ex ns cond
+    → KeepsTight o a ex → KeepsTight a b ex
+    → ((i : ℕ) → node_at ns cond.node.0 ≡ Word i → IsTight (known_at a i) (numbers_at ex i))
+    → ((i : ℕ) → node_at ns cond.other.0 ≡ Word i → IsTight (known_at b i) (numbers_at ex i)) → AreTightWords b ex
+tight-all o a b ex ns cond h k m one two w l = elim (is-word (node_at ns cond.other.0) w) [
+  | inl e ↦ two w e
+  | inr other ↦ m w l (elim (is-word (node_at ns cond.node.0) w) [
+    | inl e ↦ one w e
+    | inr node ↦ k w l (h w l node other)
+  ])
+]
 
 -- a condition is taken in, step by step
 pub assume-steps : (o a b c e : List Known) (ex : List (List ℕ)) (ns : List Node) (cond : Cond) (v' w' : Known)

@@ -7,9 +7,9 @@ use Rattle.sf_sym.specs.ValueLaws.{met-passes, passes-met}
 use Rattle.sf_sym.specs.declared.pool.Cond.{Cond}
 use Rattle.sf_sym.specs.declared.pool.Node.{Node}
 use Rattle.sf_dom.specs.declared.known.Known.{Known}
-use Rattle.sf_dom.specs.Facts.{FactsView, AgreesWith, Covers, AreNarrower, IsPlainCondition, DecidesTest}
+use Rattle.sf_dom.specs.Facts.{FactsView, known_at, AgreesWith, Covers, AreNarrower, IsPlainCondition, DecidesTest}
 use Rattle.sf_dom.specs.Conditions.{AreLeftAlone}
-use Rattle.sf_dom.specs.Propagation.{IsReady, AreBothExcluded, IsLearnt, IsTold, IsRestricted, RestrictsWord}
+use Rattle.sf_dom.specs.Propagation.{IsReady, AreTightWords, AreOthersTight, AreBothExcluded, IsLearnt, IsTold, IsRestricted, RestrictsWord}
 use Rattle.sf_dom.proofs.Sampled.{propagate-facts, agrees-back, agrees-with-fewer, admits-word, decides-test, plain-gives}
 
 -- facts of a pool's nodes are ready for a condition
@@ -48,6 +48,22 @@ assumed-told old new ex ex' ns cond t = record {
   excluded = t.both.added;
   excluded_other = t.both.added_other;
 }
+
+-- the words that are no nodes of a condition are as tight as they were, since it excludes no number for them
+pub others-tight : (ks : List Known) (ex ex' : List (List ℕ)) (ns : List Node) (cond : Cond) → AreTightWords ks ex
+    → AreBothExcluded ks ex ex' ns cond → AreOthersTight ks ex' ns cond
+others-tight ks ex ex' ns cond tight both w l one two =
+    let h = tight w l in
+    record {
+      low = record {
+        admitted = h.low.admitted;
+        kept = λ k. h.low.kept (both.others w (known_at ks w).low l one two k);
+      };
+      high = record {
+        admitted = h.high.admitted;
+        kept = λ k. h.high.kept (both.others w (known_at ks w).high l one two k);
+      };
+    }
 
 -- what a condition leaves of its nodes it leaves where more numbers are excluded
 pub alone-with-more : (ks : List Known) (ex ex' : List (List ℕ)) (ns : List Node) (cond : Cond) (node other : Known)

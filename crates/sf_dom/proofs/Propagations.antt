@@ -1,8 +1,8 @@
-use Rattle.std.proofs.Common.{◌≡◌, ◌≢◌, ℕ, ◌<◌, ◌≤◌, ◌-◌, ◌+◌, min, max, List, [], ◌∷◌, ◌++◌, length, set, arith, refl, sym, ap, ◌∙◌, ◌⊎◌, inl, inr}
+use Rattle.std.proofs.Common.{◌≡◌, ◌≢◌, ℕ, Bool, true, false, ◌<◌, ◌≤◌, ◌-◌, ◌+◌, min, max, List, [], ◌∷◌, ◌++◌, length, set, arith, refl, sym, ap, ◌∙◌, ◌⊎◌, inl, inr}
 use Rattle.std.proofs.lemmas.Bool.{cases_lt, cases_eq}
 use Rattle.std.proofs.lemmas.Nat.{or_comm}
 use Rattle.std.proofs.lemmas.List.{get_or-set_same, get_or-set_other, length-set, get_or_append_left, get_or_push, length_push}
-use Rattle.std.specs.Prelude.{bit_or, Contains, slice_index}
+use Rattle.std.specs.Prelude.{bit_or, Contains, slice_index, zero, suc, MatchBool}
 use Rattle.sf_sym.specs.Pool.{IsPool, node_at, node_value, values_of, value_of}
 use Rattle.sf_sym.specs.declared.pool.Node.{Node}
 use Rattle.sf_insn.specs.declared.input.Input.{Input}
@@ -11,7 +11,7 @@ use Rattle.sf_dom.specs.declared.known.Known.{Known}
 use Rattle.sf_dom.specs.Known.{Admits, Leaves, IsNarrower, IsConsistent, IsTight, IsDecided, known_of}
 use Rattle.sf_dom.proofs.Reductions.{narrowed}
 use Rattle.sf_dom.specs.Nodes.{NodesView, IsLaidOut}
-use Rattle.sf_dom.specs.Propagation.{AreConsistentOperands, IsReducedNode, IsReady, IsPropagatedAt, AllNarrower}
+use Rattle.sf_dom.specs.Propagation.{AreConsistentOperands, IsReducedNode, IsReady, IsPropagated, IsPropagatedAt, AllNarrower, AreTightWords, KeepsAgreeing, KeepsTight, NoneAgreesWith}
 use Rattle.sf_dom.proofs.Reductions.{IsNarrower-trans, IsNarrower-refl}
 use Rattle.sf_sym.specs.Pool.{OperandsBelow}
 use Rattle.sf_sym.specs.declared.pool.Node.TheVariants.{Const, Word, Bin, Neg}
@@ -268,6 +268,61 @@ tight-passed ks ex ns i p l consistent tight =
       decided = λ o. absurd (rw here at o);
       constant = λ c n. let clash : Const c ≡ Word i = sym n ∙ here in absurd cc;
     }
+
+-- the first variables are the words
+pub words-first : (n : NodesView) (m j : ℕ) → IsLaidOut n → 16 ≤ length n.known → m ≤ 16 → j < m
+    → j < length n.variables → slice_index n.variables j ≤ j
+words-first n zero j laid l b lt lj = absurd (omega arith)
+words-first n (suc m) j laid l b lt lj = elim (cases_lt j m) [
+  | inl s ↦ words-first n m j laid l (omega arith) s lj
+  | inr g ↦ elim (laid.rest j (omega arith)) [
+    | inl o ↦ elim (cases_lt o.0 j) [
+      | inl s ↦ absurd (omega (arith, words-first n m o.0 laid l (omega arith) (omega arith) o.1, o.2))
+      | inr q ↦ elim (cases_eq o.0 j) [
+        | inl same ↦ omega (arith, rw same at o.2)
+        | inr ne ↦ omega (arith, laid.rising j o.0 (omega arith) o.1, o.2)
+      ]
+    ]
+    | inr o ↦ absurd (omega (arith, o.0))
+  ]
+]
+
+-- where the words are tight, what stands before each variable past them needs no step of forward propagation
+pub words-passed : (n : NodesView) (ex : List (List ℕ)) (ns : List Node) → IsPool ns → IsReady n.known ns → IsLaidOut n
+    → AreTightWords n.known ex → (k : ℕ) → k < length n.known
+    → ((j : ℕ) → 16 ≤ j → j < length n.variables → k < slice_index n.variables j) → IsPropagatedAt n.known ex ns k
+words-passed n ex ns p ready laid tight k l before =
+    let words = p.words in
+    let count = ready.count in
+    elim (cases_lt k 16) [
+      | inl b ↦ tight-passed n.known ex ns k p b (ready.consistent k l) (tight k b)
+      | inr g ↦ unlisted-passed n ex ns k ready laid l (λ j lj e. elim (cases_lt j 16) [
+        | inl s ↦ absurd (omega (arith, words-first n 16 j laid (omega arith) (omega arith) s lj, e))
+        | inr t ↦ absurd (omega (arith, before j (omega arith) lj, e))
+      ])
+    ]
+
+-- a reduced node leaves the words as tight as they are
+pub tight-set : (ks : List Known) (ex : List (List ℕ)) (ns : List Node) (i : ℕ) (next : Known) → IsPool ns
+    → i < length ks → ((j : ℕ) → node_at ns i ≡ Word j → IsTight next (numbers_at ex j))
+    → KeepsTight ks (set ks i next) ex
+tight-set ks ex ns i next p l t w b h = elim (cases_eq w i) [
+  | inl e ↦ rw (e, get_or-set_same ks i next (known_of 0 0 0 0) l) (t i (p.word i (omega arith)))
+  | inr ne ↦ rw (get_or-set_other ks i w next (known_of 0 0 0 0) ne) h
+]
+
+-- forward propagation after a step that keeps every input
+pub propagated-after : (r : Bool) (a b n : List Known) (ex : List (List ℕ)) (ns : List Node)
+    → length a ≡ length ns → length b ≡ length ns → KeepsAgreeing a b ex ns × AllNarrower a b
+    → MatchBool r (IsPropagated b n ex ns) (NoneAgreesWith b ex ns)
+    → MatchBool r (IsPropagated a n ex ns) (NoneAgreesWith a ex ns)
+propagated-after true a b n ex ns la lb s h = record {
+  count = h.count;
+  keeps = λ d p g. h.keeps d p (s.0 d p g);
+  narrower = AllNarrower-trans a b n (omega arith) s.1 h.narrower;
+  passed = h.passed;
+}
+propagated-after false a b n ex ns la lb s h = λ d p g. h d p (s.0 d p g)
 
 -- what was gone over, and the node at hand, and those up to the next variable
 pub passed-up_to : (n m : NodesView) (ex : List (List ℕ)) (ns : List Node) (rank i : ℕ) → IsReady m.known ns

@@ -1,8 +1,8 @@
 -- How what is known of nodes is kept: constants in their slots, the others in a list of variables.
 use Rattle.std.proofs.Common.{◌≡◌, ◌≢◌, ℕ, ◌-◌, ◌<◌, ◌≤◌, List, [], ◌∷◌, ◌++◌, length, get_or, set, arith, refl, sym, ap, ◌∙◌, ◌⊎◌, inl, inr}
 use Rattle.std.proofs.lemmas.Bool.{cases_lt, cases_eq}
-use Rattle.std.proofs.lemmas.List.{get_or-set_same, get_or-set_other, length-set, length-map, length_push, get_or-map, get_or_append_left, get_or_push, map-append, map-set, set-get_or, ext_get_or}
-use Rattle.std.specs.Prelude.{slice_index}
+use Rattle.std.proofs.lemmas.List.{get_or-set_same, get_or-set_other, length-set, length-map, length_push, get_or-map, get_or_read, get_or_append_left, get_or_push, map-append, map-set, set-get_or, ext_get_or}
+use Rattle.std.specs.Prelude.{slice_index, zero, suc}
 use Rattle.sf_dom.specs.declared.known.Known.{Known}
 use Rattle.sf_dom.specs.declared.nodes.Variable.{Variable}
 use Rattle.sf_dom.specs.declared.nodes.Slot.{Slot}
@@ -29,6 +29,30 @@ places-length os = length-map os (λ o. o.place)
 pub place-at : (os : List Variable) (r : ℕ) → r < length os → slice_index (places_of os) r
     ≡ (get_or os r (variable_of 0 (known_of 0 0 0 0))).place
 place-at os r l = get_or-map (λ o. o.place) os r (variable_of 0 (known_of 0 0 0 0)) 0 l
+
+-- a variable that is read tells its place
+pub place-read : (os : List Variable) (r i : ℕ) (o : Variable) → r < length os → o ≡ get_or os r o
+    → slice_index (places_of os) r ≡ i → o.place ≡ i
+place-read os r i o l read e = ap (λ (v : Variable). v.place) (get_or_read os r o l read
+    (variable_of 0 (known_of 0 0 0 0))) ∙ sym (place-at os r l) ∙ e
+
+-- a variable's place is no less than its rank
+pub rank-below : (slots : List Slot) (os : List Variable) (r : ℕ) → AreKept slots os → r < length os
+    → r ≤ slice_index (places_of os) r
+rank-below slots os zero k l = omega arith
+rank-below slots os (suc r) k l = omega (
+  arith,
+  rank-below slots os r k (omega arith),
+  k.rising r (suc r) (omega arith) l,
+)
+
+-- there are no more variables than slots
+pub variables-fit : (slots : List Slot) (os : List Variable) → AreKept slots os → length os ≤ length slots
+variables-fit slots os k = elim (cases_eq (length os) 0) [
+  | inl e ↦ omega arith
+  | inr ne ↦ (let last : length os - 1 < length os = omega arith in
+      omega (arith, rank-below slots os (length os - 1) k last, k.within (length os - 1) last))
+]
 
 -- what is kept so is laid out
 pub laid-out : (slots : List Slot) (os : List Variable) → AreKept slots os

@@ -51,6 +51,20 @@ pub record IsPropagatedAt (ks : List Known) (ex : List (List ℕ)) (ns : List No
   pub decided : AreDecidedOperands ks (node_at ns i) → IsDecided (known_at ks i)
   pub constant : (c : ℕ) → node_at ns i ≡ Const c → ((known_at ks i).low ≡ c) × ((known_at ks i).high ≡ c)
 
+-- both ends of each word's interval are left for it
+abbrev pub AreTightWords : List Known → List (List ℕ) → Type 0
+AreTightWords ks ex = (w : ℕ) → w < 16 → IsTight (known_at ks w) (numbers_at ex w)
+
+-- each word of which this was so is so still
+abbrev pub KeepsTight : List Known → List Known → List (List ℕ) → Type 0
+KeepsTight old new ex = (w : ℕ) → w < 16 → IsTight (known_at old w) (numbers_at ex w)
+    → IsTight (known_at new w) (numbers_at ex w)
+
+-- it is so of each word that is neither node of a condition
+abbrev pub AreOthersTight : List Known → List (List ℕ) → List Node → Cond → Type 0
+AreOthersTight ks ex ns cond = (w : ℕ) → w < 16 → node_at ns cond.node.0 ≢ Word w → node_at ns cond.other.0 ≢ Word w
+    → IsTight (known_at ks w) (numbers_at ex w)
+
 -- nothing known of any node is lost
 abbrev pub AllNarrower : List Known → List Known → Type 0
 AllNarrower old new = (i : ℕ) → i < length old → IsNarrower (known_at old i) (known_at new i)
@@ -85,6 +99,7 @@ pub record IsLeft (ks : List Known) (ex : List (List ℕ)) (ns : List Node) (at 
   pub narrower : IsNarrower (known_at ks at) next
   pub told : IsNarrower more next
   pub consistent : IsConsistent next
+  pub tight : (i : ℕ) → node_at ns at ≡ Word i → IsTight next (numbers_at ex i)
 
 -- what a test of two words with this result leaves of both
 abbrev pub LeavesPair : Known → Known → Known → Known → (ℕ → ℕ → Type 0) → Type 0
@@ -172,6 +187,8 @@ pub record AreBothExcluded (ks : List Known) (old new : List (List ℕ)) (ns : L
   pub words : length new ≡ length old
   pub keeps : (d : Input) → IsInput d → AgreesWith ks old ns d → Holds ns cond d → AgreesWith ks new ns d
   pub more : (w m : ℕ) → w < 16 → Contains (numbers_at old w) m → Contains (numbers_at new w) m
+  pub others : (w m : ℕ) → w < 16 → node_at ns cond.node.0 ≢ Word w → node_at ns cond.other.0 ≢ Word w
+      → Contains (numbers_at new w) m → Contains (numbers_at old w) m
   pub added : (i : ℕ) → node_at ns cond.node.0 ≡ Word i → IsDecided (known_at ks cond.other.0) → cond.test ≡ Equal
       → cond.sense ≡ false
       → Contains (numbers_at new i) (known_at ks cond.other.0).low

@@ -6,7 +6,7 @@ ghost use Rattle.sf_insn.specs.Words.{apply};
 ghost use Rattle.sf_sym.specs.Pool.{OperandsBelow, IsPool, node_at, node_value, values_of, value_of};
 ghost use Rattle.sf_insn.specs.declared.input.Input.{Input};
 ghost use Rattle.sf_dom.specs.Known.{AreBitsOf, HasBits, Admits, Leaves, IsNarrower, IsConsistent, IsDecided};
-ghost use Rattle.sf_dom.specs.Propagation.{KeepsAgreeing, NoneAgreesWith, KeepsAgreeingOn, NoneAgreesOn, LeavesPair, LeavesNoPair, IsSharp, Tells, TestGives, AllNarrower, IsReady, IsLeft, IsAssumed, AreExcluded, AreBothExcluded, Holds};
+ghost use Rattle.sf_dom.specs.Propagation.{KeepsAgreeing, NoneAgreesWith, KeepsAgreeingOn, NoneAgreesOn, LeavesPair, LeavesNoPair, IsSharp, Tells, TestGives, AllNarrower, IsReady, IsLeft, IsAssumed, AreExcluded, AreBothExcluded, Holds, IsPropagated, KeepsTight, AreOthersTight};
 ghost use Rattle.sf_dom.specs.Conditions.{AreLeftAlone};
 ghost use Rattle.sf_dom.specs.Backward.{IsSwappable, HandsOn, constant_operand_of, IsPropagatedBack};
 ghost use Rattle.sf_dom.specs.Facts.{known_at, numbers_at, excluded_of, AgreesWith};
@@ -16,9 +16,9 @@ use crate::fault::Fault;
 use crate::guards::{Pair, at_least, common_bit, differs, equal, greater, no_common_bit};
 use crate::known::Known;
 use crate::nodes::Nodes;
-use crate::propagation::{propagate, reduced};
+use crate::propagation::{propagate, reduced, tighten};
 use sf_insn::{BinOp, Test};
-use sf_sym::{Cond, Node, NodeId, Pool, constant_of};
+use sf_sym::{Cond, Node, Pool, constant_of};
 use std::alloc::Global;
 
 /// What is known, with more known bits.
@@ -65,10 +65,10 @@ pub(crate) fn constant_operand(pool: &Pool, at: usize) -> Option<(BinOp, usize, 
     ensures value { IfSome result (λ o. (d : Input) → IsInput d → IsSwappable o.0
         → value_of pool.now d at ≡ apply o.0 (value_of pool.now d o.1) o.2) }
 {
-    match pool.node(NodeId(at)) {
+    match pool.node_at(at) {
         Node::Bin(op, a, b) => match (constant_of(pool.node(a)), constant_of(pool.node(b))) {
-            (None, Some(c)) => Some((op, a.0, c)),
-            (Some(c), None) => Some((op, b.0, c)),
+            (None, Some(c)) => Some((op, a.0 as usize, c)),
+            (Some(c), None) => Some((op, b.0 as usize, c)),
             _ => None,
         },
         _ => None,
@@ -83,13 +83,14 @@ fn propagate_back(nodes: &mut Nodes, excluded: &Excluded, pool: &Pool, from: usi
         (KeepsAgreeing nodes.old.known nodes.new.known excluded.now pool.now
         × AllNarrower nodes.old.known nodes.new.known)
         (NoneAgreesWith nodes.old.known excluded.now pool.now) }
+    ensures tight { IsTrue result → KeepsTight nodes.old.known nodes.new.known excluded.now }
     ensures backward { IsTrue result → (n : ℕ) → IsPropagatedBack n
         nodes.new.known pool.now from }
     ensures ready { IsReady nodes.new.known pool.now }
 {
     let mut at = from;
     while let Some((op, x, c)) = constant_operand(pool, at) {
-        let node = pool.node(NodeId(x));
+        let node = pool.node_at(x);
         match backward(op, nodes.get(at), c, nodes.get(x)) {
             None => return true,
             Some(gained) => match reduced(gained, node, excluded) {
@@ -167,7 +168,7 @@ fn left_of(nodes: &Nodes, excluded: &Excluded, pool: &Pool, at: usize, more: Kno
         (λ d. Admits more (value_of pool.now d at)))
         (λ next. IsLeft nodes.now.known excluded.now pool.now at more next) }
 {
-    let node = pool.node(NodeId(at));
+    let node = pool.node_at(at);
     reduced(nodes.get(at).meet(more), node, excluded)
 }
 
@@ -188,8 +189,11 @@ pub(crate) fn meet_node(
         × IsNarrower more (known_at nodes.new.known at))
         (NoneAgreesOn nodes.old.known excluded.now pool.now
         (λ d. Admits more (value_of pool.now d at))) }
+    ensures tight { IsTrue result → KeepsTight nodes.old.known nodes.new.known excluded.now }
     ensures ready { IsReady nodes.new.known pool.now }
 {
+    // For the prover: the pool is lawful.
+    let _count = pool.len();
     match left_of(nodes, excluded, pool, at, more) {
         None => false,
         Some(next) => {
@@ -214,12 +218,31 @@ pub(crate) fn left_alone(
         (NoneAgreesOn nodes.now.known excluded.now pool.now (Holds pool.now cond.now))
         (λ p. AreLeftAlone nodes.now.known excluded.now pool.now cond.now p.node p.other) }
 {
-    let v = cond.node.0;
-    let w = cond.other.0;
+    let v = cond.node.0 as usize;
+    let w = cond.other.0 as usize;
     let pair = assume_test(nodes.get(v), nodes.get(w), cond.test, cond.sense)?;
     let node = left_of(nodes, excluded, pool, v, pair.node)?;
     let other = left_of(nodes, excluded, pool, w, pair.other)?;
     Some(Pair { node, other })
+}
+
+/// Forward propagation after a condition: of the words, its two nodes alone may not be tight.
+fn propagate_on(nodes: &mut Nodes, excluded: &Excluded, pool: &Pool, cond: &Cond) -> bool
+    requires ready { IsReady nodes.old.known pool.now }
+    requires node { cond.now.node.0 < length pool.now }
+    requires other { cond.now.other.0 < length pool.now }
+    requires tight { AreOthersTight nodes.old.known excluded.now pool.now cond.now }
+    ensures { MatchBool result
+        (IsPropagated nodes.old.known nodes.new.known excluded.now pool.now)
+        (NoneAgreesWith nodes.old.known excluded.now pool.now) }
+{
+    if !tighten(nodes, excluded, pool, cond.node) {
+        return false;
+    }
+    if !tighten(nodes, excluded, pool, cond.other) {
+        return false;
+    }
+    propagate(nodes, excluded, pool)
 }
 
 /// Takes a condition into what is known, with what it leaves of its two nodes alone. False: no input that agrees meets it.
@@ -236,12 +259,15 @@ pub(crate) fn assume_cond(
     requires other { cond.now.other.0 < length pool.now }
     requires left { AreLeftAlone nodes.old.known excluded.now pool.now cond.now
         alone.node alone.other }
+    requires tight { AreOthersTight nodes.old.known excluded.now pool.now cond.now }
     ensures { MatchBool result
         (IsAssumed nodes.old.known nodes.new.known excluded.now pool.now cond.now)
         (NoneAgreesOn nodes.old.known excluded.now pool.now (Holds pool.now cond.now)) }
 {
-    let v = cond.node.0;
-    let w = cond.other.0;
+    // For the prover: the pool is lawful.
+    let _count = pool.len();
+    let v = cond.node.0 as usize;
+    let w = cond.other.0 as usize;
     nodes.set(v, alone.node);
     if !meet_node(nodes, excluded, pool, w, alone.other) {
         return false;
@@ -252,7 +278,7 @@ pub(crate) fn assume_cond(
     if !propagate_back(nodes, excluded, pool, w) {
         return false;
     }
-    propagate(nodes, excluded, pool)
+    propagate_on(nodes, excluded, pool, cond)
 }
 
 /// A word is not the number of a node that is decided.
@@ -290,7 +316,7 @@ pub(crate) fn exclude_both(
 {
     let left = pool.node(cond.node);
     let right = pool.node(cond.other);
-    exclude(alloc, excluded, left, nodes.get(cond.other.0))?;
-    exclude(alloc, excluded, right, nodes.get(cond.node.0))?;
+    exclude(alloc, excluded, left, nodes.get(cond.other.0 as usize))?;
+    exclude(alloc, excluded, right, nodes.get(cond.node.0 as usize))?;
     Ok(())
 }

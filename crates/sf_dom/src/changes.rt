@@ -3,7 +3,7 @@
 ghost use Rattle.std.specs.Prelude.{◌≡◌, ℕ, ◌<◌, ◌≤◌, length, slice_index, MatchBool, MatchOption, IfOk, IfSome};
 ghost use Rattle.sf_sym.specs.Pool.{IsCondBelow};
 ghost use Rattle.sf_dom.specs.Known.{Admits};
-ghost use Rattle.sf_dom.specs.Propagation.{NoneAgreesOn, Holds, IsReady, IsRestricted, IsLearnt, AreBothExcluded};
+ghost use Rattle.sf_dom.specs.Propagation.{NoneAgreesOn, Holds, IsReady, IsRestricted, IsLearnt, AreBothExcluded, AreTightWords};
 
 use crate::assuming::{assume_cond, exclude_both, left_alone, meet_node};
 use crate::exclusions::Excluded;
@@ -50,6 +50,7 @@ pub(crate) fn assumed(
     cond: &Cond,
 ) -> Result<Option<(Nodes, Excluded)>, Fault>
     requires ready { IsReady nodes.now.known pool.now }
+    requires tight { AreTightWords nodes.now.known excluded.now }
     requires below { IsCondBelow (length pool.now) cond.now }
     ensures { IfOk result (λ o. MatchOption o
         (NoneAgreesOn nodes.now.known excluded.now pool.now (Holds pool.now cond.now))
@@ -71,6 +72,7 @@ pub(crate) fn assumed(
 /// Takes into a word's facts what else is known of it. False: no input that agrees has it.
 fn meet_word(nodes: &mut Nodes, excluded: &Excluded, pool: &Pool, word: usize, more: Known) -> bool
     requires ready { IsReady nodes.old.known pool.now }
+    requires tight { AreTightWords nodes.old.known excluded.now }
     requires word { word < 16 }
     ensures { MatchBool result
         (IsRestricted nodes.old.known nodes.new.known excluded.now pool.now word more)
@@ -92,6 +94,7 @@ pub(crate) fn restricted(
     more: Known,
 ) -> Result<Option<Nodes>, Fault>
     requires ready { IsReady nodes.now.known pool.now }
+    requires tight { AreTightWords nodes.now.known excluded.now }
     requires word { word < 16 }
     ensures { IfOk result (λ o. MatchOption o
         (NoneAgreesOn nodes.now.known excluded.now pool.now

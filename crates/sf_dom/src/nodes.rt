@@ -22,7 +22,7 @@ pub(crate) enum Slot {
     /// The node has this number.
     Number(u32),
     /// At this place of the list of variables.
-    Variable(usize),
+    Variable(u32),
 }
 
 impl Default for Slot {
@@ -34,7 +34,7 @@ impl Default for Slot {
 /// A node that may have several numbers, its place in the pool and what is known of it.
 #[derive(Clone, Copy)]
 pub(crate) struct Variable {
-    pub(crate) place: usize,
+    pub(crate) place: u32,
     pub(crate) known: Known,
 }
 
@@ -129,7 +129,7 @@ impl Nodes {
     {
         match slot_of(&self.slots, i) {
             Slot::Number(c) => Known::exact(c),
-            Slot::Variable(rank) => self.variables[rank].known,
+            Slot::Variable(rank) => self.variables[rank as usize].known,
         }
     }
 
@@ -146,7 +146,7 @@ impl Nodes {
         requires { rank < length self.now.variables }
         ensures { result ≡ slice_index self.now.variables rank }
     {
-        self.variables[rank].place
+        self.variables[rank].place as usize
     }
 
     /// What is known of a variable, the oldest at 0: what `get` tells of its place, in fewer steps.
@@ -167,7 +167,7 @@ impl Nodes {
         ensures laid_out { IsLaidOut self.new }
     {
         if let Slot::Variable(rank) = slot_of(&self.slots, i) {
-            self.variables[rank] = Variable { place: i, known };
+            self.variables[rank as usize].known = known;
         }
     }
 
@@ -183,8 +183,12 @@ impl Nodes {
             return Ok(());
         }
         let rank = self.variables.len();
-        self.variables.push(Variable { place, known })?;
-        if let Err(error) = add_slot(alloc, &mut self.slots, Slot::Variable(rank)) {
+        let variable = Variable {
+            place: place as u32,
+            known,
+        };
+        self.variables.push(variable)?;
+        if let Err(error) = add_slot(alloc, &mut self.slots, Slot::Variable(rank as u32)) {
             self.variables.truncate(rank);
             return Err(error.into());
         }

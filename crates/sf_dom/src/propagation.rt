@@ -4,8 +4,8 @@ ghost use Rattle.std.specs.Prelude.{◌≡◌, ℕ, ◌+◌, ◌-◌, ◌*◌, �
 ghost use Rattle.sf_insn.specs.Inputs.{IsInput};
 ghost use Rattle.sf_sym.specs.Pool.{OperandsBelow, IsPool, node_at, node_value, value_of};
 ghost use Rattle.sf_insn.specs.declared.input.Input.{Input};
-ghost use Rattle.sf_dom.specs.Known.{Admits, Leaves, IsConsistent, known_of};
-ghost use Rattle.sf_dom.specs.Propagation.{KeepsAgreeing, NoneAgreesWith, AreConsistentOperands, IsReducedNode, IsReady, IsPropagated, IsGrown};
+ghost use Rattle.sf_dom.specs.Known.{Admits, Leaves, IsConsistent, IsTight, known_of};
+ghost use Rattle.sf_dom.specs.Propagation.{KeepsAgreeing, NoneAgreesWith, AreConsistentOperands, IsReducedNode, IsReady, IsPropagated, IsGrown, AllNarrower, AreTightWords, KeepsTight};
 ghost use Rattle.sf_dom.specs.Facts.{known_at, numbers_at, excluded_of, AgreesWith, AreDecidedOperands};
 ghost use Rattle.sf_dom.specs.Reduction.{IsForced};
 
@@ -46,28 +46,55 @@ pub(crate) fn transfer(nodes: &Nodes, node: Node) -> Known
     match node {
         Node::Const(c) => Known::exact(c),
         Node::Word(_) => Known::top(),
-        Node::Bin(op, a, b) => forward(op, nodes.get(a.0), nodes.get(b.0)),
-        Node::Neg(a) => negated(nodes.get(a.0)),
+        Node::Bin(op, a, b) => forward(op, nodes.get(a.0 as usize), nodes.get(b.0 as usize)),
+        Node::Neg(a) => negated(nodes.get(a.0 as usize)),
     }
 }
 
-/// Takes what is known of the older nodes on to each node that may gain. False: no input agrees. A word whose ends are left
-/// for it is as tight as it gets, since nothing follows of it from older nodes.
+/// Makes a word as tight as it gets, where a node is a word. False: no input agrees.
+pub(crate) fn tighten(nodes: &mut Nodes, excluded: &Excluded, pool: &Pool, at: NodeId) -> bool
+    requires ready { IsReady nodes.old.known pool.now }
+    requires place { at.0 < length pool.now }
+    ensures kept { MatchBool result
+        (KeepsAgreeing nodes.old.known nodes.new.known excluded.now pool.now
+        × AllNarrower nodes.old.known nodes.new.known)
+        (NoneAgreesWith nodes.old.known excluded.now pool.now) }
+    ensures ready { IsReady nodes.new.known pool.now }
+    ensures tight { IsTrue result → KeepsTight nodes.old.known nodes.new.known excluded.now }
+    ensures word { IsTrue result → (i : ℕ) → node_at pool.now at.0 ≡ Node.Word i
+        → IsTight (known_at nodes.new.known i) (numbers_at excluded.now i) }
+{
+    let Node::Word(i) = pool.node(at) else {
+        return true;
+    };
+    let known = nodes.get(i as usize);
+    if is_tight(known, excluded.of_word(i as usize)) {
+        return true;
+    }
+    match reduced(known, Node::Word(i), excluded) {
+        None => false,
+        Some(next) => {
+            nodes.set(i as usize, next);
+            true
+        }
+    }
+}
+
+/// Takes what is known of the older nodes on to each node that may gain. False: no input agrees. The first variables are the
+/// words. These are as tight as they get, and nothing follows of them from older nodes.
 pub(crate) fn propagate(nodes: &mut Nodes, excluded: &Excluded, pool: &Pool) -> bool
     requires ready { IsReady nodes.old.known pool.now }
+    requires tight { AreTightWords nodes.old.known excluded.now }
     ensures { MatchBool result
         (IsPropagated nodes.old.known nodes.new.known excluded.now pool.now)
         (NoneAgreesWith nodes.old.known excluded.now pool.now) }
 {
     // For the prover: the pool is lawful.
     let _count = pool.len();
-    for rank in 0..nodes.variable_count() {
+    for rank in WORDS..nodes.variable_count() {
         let i = nodes.variable(rank);
         let before = nodes.variable_known(rank);
-        if i < WORDS && is_tight(before, excluded.of_word(i)) {
-            continue;
-        }
-        let node = pool.node(NodeId(i));
+        let node = pool.node_at(i);
         let known = before.meet(transfer(nodes, node));
         match reduced(known, node, excluded) {
             None => return false,
@@ -92,7 +119,7 @@ pub(crate) fn append(nodes: &mut Nodes, excluded: &Excluded, pool: &Pool) -> Res
         → OnErr result (nodes.new ≡ nodes.old) }
 {
     for i in nodes.len()..pool.len() {
-        let node = pool.node(NodeId(i));
+        let node = pool.node_at(i);
         let known = transfer(nodes, node);
         match reduced(known, node, excluded) {
             None => return Ok(false),

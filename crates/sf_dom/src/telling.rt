@@ -17,7 +17,7 @@ use crate::exclusions::Excluded;
 use crate::known::{Known, is_same};
 use crate::nodes::Nodes;
 use sf_insn::Test;
-use sf_sym::{Node, NodeId, Pool};
+use sf_sym::{Node, Pool};
 
 /// Whether a word equals a number, where its interval tells it.
 fn told_equal(known: Known, number: u32) -> Option<bool>
@@ -146,7 +146,7 @@ fn told_at(
     }
     match test {
         Test::Equal => {
-            if is_excluded(excluded, pool.node(NodeId(at)), number) {
+            if is_excluded(excluded, pool.node_at(at), number) {
                 Some(false)
             } else {
                 None

@@ -1,6 +1,6 @@
 //! The nodes of a pool with an index, so that a node that is there is found without a scan.
 
-ghost use Rattle.std.specs.Prelude.{◌≡◌, ◌≢◌, ℕ, ◌<◌, [], ◌∷◌, ◌++◌, length, OnOk, OnErr, IfOk, IsTrue, false};
+ghost use Rattle.std.specs.Prelude.{◌≡◌, ◌≢◌, ℕ, ◌<◌, ◌*◌, ◌^◌, [], ◌∷◌, ◌++◌, length, OnOk, OnErr, IfOk, IsTrue, false};
 ghost use Rattle.std.specs.Arc.{arc_value};
 ghost use Rattle.sf_sym.specs.Pool.{node_at};
 ghost use Rattle.sf_sym.specs.Index.{hash_of, nodes_of, IsIndexed};
@@ -42,8 +42,8 @@ fn hash(node: Node) -> usize
     match node {
         Node::Const(c) => c as usize % BUCKETS,
         Node::Word(i) => i as usize % BUCKETS,
-        Node::Bin(_, a, b) => (a.0 % BUCKETS * 31 + b.0 % BUCKETS * 7) % BUCKETS,
-        Node::Neg(a) => (a.0 % BUCKETS + 5) % BUCKETS,
+        Node::Bin(_, a, b) => (a.0 as usize % BUCKETS * 31 + b.0 as usize % BUCKETS * 7) % BUCKETS,
+        Node::Neg(a) => (a.0 as usize % BUCKETS + 5) % BUCKETS,
     }
 }
 
@@ -131,7 +131,8 @@ impl Indexed {
 
     /// How many nodes there are.
     pub fn len(&self) -> usize
-        ensures { result ≡ length self.now }
+        ensures count { result ≡ length self.now }
+        ensures small { result < 3 * 2 ^ 30 }
     {
         self.interned_nodes.len()
     }

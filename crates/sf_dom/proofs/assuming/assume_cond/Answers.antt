@@ -1,5 +1,5 @@
 use Rattle.std.proofs.Common.{arith, refl}
-use Rattle.sf_dom.proofs.AssumeLemmas.{assumed-all, alone-set}
+use Rattle.sf_dom.proofs.AssumeLemmas.{assumed-all, alone-set, others-set}
 use Rattle.sf_dom.proofs.Propagations.{IsReady-set, decided-kept}
 use Rattle.sf_dom.proofs.assuming.assume_cond.Goals as goal
 
@@ -40,6 +40,13 @@ returns-then-not-propagate_back-2 c = λ d p a h.
     c.if-not-propagate_back-2.ensures.kept d p (c.if-not-propagate_back.ensures.kept.0 d p
     (c.if-not-meet_node.ensures.kept.0 d p (step.0 d p a told.0) told.1))
 
+pub propagate_on-requires-clause-tight : goal.propagate_on-requires-clause-tight
+propagate_on-requires-clause-tight c = λ w l one two.
+    let others = rw (← c.set.ensures.known) at (others-set c.args.nodes.now.known c.args.excluded.now c.args.pool.now
+    c.args.cond.now c.args.alone.node c.len-count.ensures.lawful c.requires.tight) in
+    c.if-not-propagate_back-2.ensures.tight refl w l (c.if-not-propagate_back.ensures.tight refl w l
+    (c.if-not-meet_node.ensures.tight refl w l (others w l one two)))
+
 pub returns : goal.returns
 returns c =
     let ns = c.args.pool.now in
@@ -53,8 +60,8 @@ returns c =
     left) in
     let ready = rw (← c.set.ensures.known) at (IsReady-set o ns cond.node.0 c.args.alone.node (omega arith)
     c.requires.ready left.narrower left.consistent) in
-    assumed-all c.propagate.result o c.set.new.self.known c.meet_node.new.nodes.known
-    c.propagate_back.new.nodes.known c.propagate_back-2.new.nodes.known c.propagate.new.nodes.known ex ns cond
+    assumed-all c.propagate_on.result o c.set.new.self.known c.meet_node.new.nodes.known
+    c.propagate_back.new.nodes.known c.propagate_back-2.new.nodes.known c.propagate_on.new.nodes.known ex ns cond
     c.args.alone.node c.args.alone.other
     count ready.count c.meet_node.ensures.ready.count c.propagate_back.ensures.ready.count
     c.propagate_back-2.ensures.ready.count c.requires.node c.requires.other
@@ -63,4 +70,4 @@ returns c =
     c.if-not-propagate_back-2.ensures.kept
     left.tells (c.if-not-propagate_back.ensures.backward refl)
     (c.if-not-propagate_back-2.ensures.backward refl) left.sharp
-    left.decided c.propagate.ensures
+    left.decided c.propagate_on.ensures

@@ -1,5 +1,5 @@
 use Rattle.std.proofs.Common.{arith}
-use Rattle.sf_dom.proofs.Propagations.{propagate-set, AllNarrower-set, AllNarrower-refl, IsReady-set}
+use Rattle.sf_dom.proofs.Propagations.{propagate-set, AllNarrower-set, AllNarrower-refl, IsReady-set, tight-set}
 use Rattle.sf_dom.proofs.AssumeLemmas.{narrower-at}
 use Rattle.sf_dom.proofs.assuming.meet_node.Goals as goal
 
@@ -16,6 +16,12 @@ returns-in-Some-clause-kept c =
       AllNarrower-set ks ks at next (omega arith) (omega arith) (AllNarrower-refl ks) left.narrower,
       narrower-at ks at c.args.more next (omega arith) left.told,
     )
+
+pub returns-in-Some-clause-tight : goal.returns-in-Some-clause-tight
+returns-in-Some-clause-tight c = λ _.
+    let count = c.requires.ready.count in
+    rw c.set.ensures.known (tight-set c.args.nodes.now.known c.args.excluded.now c.args.pool.now c.args.at
+    c.in-Some.next c.len-count.ensures.lawful (omega arith) c.in-Some.ensures.tight)
 
 pub returns-in-Some-clause-ready : goal.returns-in-Some-clause-ready
 returns-in-Some-clause-ready c =

@@ -1,6 +1,6 @@
 use Rattle.std.proofs.Common.{arith, sym}
 use Rattle.sf_sym.specs.Pool.{value_of}
-use Rattle.sf_dom.proofs.Propagations.{propagate-set, AllNarrower-set, AllNarrower-refl, IsReady-set}
+use Rattle.sf_dom.proofs.Propagations.{propagate-set, AllNarrower-set, AllNarrower-refl, IsReady-set, tight-set}
 use Rattle.sf_dom.proofs.Reductions.{IsNarrower-trans}
 use Rattle.sf_dom.specs.Facts.{known_at}
 use Rattle.sf_dom.proofs.AssumeLemmas.{walked}
@@ -12,6 +12,7 @@ loop-op-init c = record {
   within = omega arith;
   keeps = λ d p a. a;
   narrower = AllNarrower-refl c.args.nodes.now.known;
+  tight = λ w b h. h;
   ready = c.requires.ready;
   carries = λ last same narrower more. more;
 }
@@ -29,7 +30,7 @@ returns-in-None-reduced-clause-kept c = λ d p a.
     let bits = rw (c.get.ensures, c.get-in-Some.ensures) at c.in-Some-backward.ensures.bits in
     let left = walked ks ex ns d c.loop-op.at o.x o.c o.op c.in-Some-backward.gained (omega arith)
     (omega (arith, o.ensures.smaller)) agrees (o.ensures.value d p c.in-Some-backward.ensures.swappable) bits in
-    rw c.node-node.ensures.node at c.in-None-reduced.ensures (value_of ns d o.x) left
+    rw c.node_at-node.ensures.node at c.in-None-reduced.ensures (value_of ns d o.x) left
 
 pub loop-op-preserved : goal.loop-op-preserved
 loop-op-preserved c =
@@ -41,7 +42,7 @@ loop-op-preserved c =
     let within = inv.within in
     let count = inv.ready.count in
     let next = c.in-Some-reduced.next in
-    let t = rw c.node-node.ensures.node at c.in-Some-reduced.ensures in
+    let t = rw c.node_at-node.ensures.node at c.in-Some-reduced.ensures in
     let bits = rw (c.get.ensures, c.get-in-Some.ensures) at c.in-Some-backward.ensures.bits in
     let gained = rw c.get-in-Some.ensures at c.in-Some-backward.ensures.narrower in
     let narrower = IsNarrower-trans (known_at ks o.x) c.in-Some-backward.gained next gained t.narrower in
@@ -54,12 +55,20 @@ loop-op-preserved c =
           propagate-set ks ex ns d o.x next (omega (arith, o.ensures.smaller)) agrees (t.same (value_of ns d o.x) left);
       narrower = AllNarrower-set c.args.nodes.now.known ks o.x next (omega arith)
           (omega (arith, o.ensures.smaller)) inv.narrower narrower;
+      tight = λ w b h. tight-set ks ex ns o.x next c.node_at-node.ensures.lawful
+          (omega (arith, o.ensures.smaller)) t.tight w b (inv.tight w b h);
       ready = IsReady-set ks ns o.x next (omega (arith, o.ensures.smaller)) inv.ready narrower t.consistent;
       carries = carries-step ks ns c.args.from c.loop-op.at o.x o.c o.op next o.ensures.smaller
           (omega (arith, o.ensures.smaller)) (sym o.ensures.told)
           (hands-on-narrower o.op o.c (known_at ks c.loop-op.at) c.in-Some-backward.gained next t.narrower
           (rw c.get.ensures at c.in-Some-backward.ensures.told)) inv.carries;
     })
+
+pub returns-in-None-clause-tight : goal.returns-in-None-clause-tight
+returns-in-None-clause-tight c = λ _. c.loop-op.invariant.tight
+
+pub returns-clause-tight : goal.returns-clause-tight
+returns-clause-tight c = λ _. c.loop-op.invariant.tight
 
 pub returns-in-None-clause-backward : goal.returns-in-None-clause-backward
 returns-in-None-clause-backward c = λ t.

@@ -1,10 +1,15 @@
-use Rattle.sf_dom.proofs.Assumed.{alone-with-more}
+use Rattle.sf_dom.proofs.Assumed.{alone-with-more, others-tight}
 use Rattle.sf_dom.proofs.changes.assumed.Goals as goal
 
 pub assume_cond-requires-clause-left : goal.assume_cond-requires-clause-left
 assume_cond-requires-clause-left c = rw c.in_ok-left.ensures (alone-with-more c.args.nodes.now.known
     c.args.excluded.now c.in_ok-lists.lists c.args.pool.now c.args.cond.now _ _ c.len-count.ensures.lawful
     c.requires.ready.count c.in_ok-lists.ensures.told c.in-Some.ensures)
+
+pub assume_cond-requires-clause-tight : goal.assume_cond-requires-clause-tight
+assume_cond-requires-clause-tight c = rw c.in_ok-left.ensures (others-tight c.args.nodes.now.known
+    c.args.excluded.now c.in_ok-lists.lists c.args.pool.now c.args.cond.now c.requires.tight
+    c.in_ok-lists.ensures.told)
 
 pub returns-then-not-assume_cond : goal.returns-then-not-assume_cond
 returns-then-not-assume_cond c =

@@ -27,11 +27,11 @@ returns-in-None-clause-grown c = λ d p a.
     let count = inv.count in
     let longer = inv.longer in
     let agrees = inv.keeps d p a in
-    let by_rule = rw c.node-node.ensures.node at (c.transfer-known.ensures.value d (values_of ns d) p) in
-    let left = grown-left ks ex ns d i c.transfer-known.result c.node-node.ensures.lawful (omega arith)
+    let by_rule = rw c.node_at-node.ensures.node at (c.transfer-known.ensures.value d (values_of ns d) p) in
+    let left = grown-left ks ex ns d i c.transfer-known.result c.node_at-node.ensures.lawful (omega arith)
     (still-none c.args.nodes.now.known ks ex longer c.requires.none) agrees
     (by_rule (λ j l. (agrees j l).admitted)) in
-    rw c.node-node.ensures.node at c.in-None.ensures (value_of ns d i) left
+    rw c.node_at-node.ensures.node at c.in-None.ensures (value_of ns d i) left
 
 pub loop-i-preserved : goal.loop-i-preserved
 loop-i-preserved c =
@@ -44,8 +44,8 @@ loop-i-preserved c =
     let count = inv.count in
     let longer = inv.longer in
     let next = c.in-Some.next in
-    let t = rw c.node-node.ensures.node at c.in-Some.ensures in
-    let lawful = c.node-node.ensures.lawful in
+    let t = rw c.node_at-node.ensures.node at c.in-Some.ensures in
+    let lawful = c.node_at-node.ensures.lawful in
     rw c.in_ok-push-in-Some.ensures.ok (record {
       count = omega (arith, length_push ks next);
       kept = take-append-le (length old) ks (next ∷ []) longer ∙ inv.kept;
@@ -53,7 +53,7 @@ loop-i-preserved c =
       untouched = λ same. absurd (omega arith);
       keeps = λ d p a.
           let agrees = inv.keeps d p a in
-          let by_rule = rw c.node-node.ensures.node at (c.transfer-known.ensures.value d (values_of ns d) p) in
+          let by_rule = rw c.node_at-node.ensures.node at (c.transfer-known.ensures.value d (values_of ns d) p) in
           let left = grown-left ks ex ns d i c.transfer-known.result lawful (omega arith)
           (still-none old ks ex longer c.requires.none) agrees (by_rule (λ j l. (agrees j l).admitted)) in
           agrees-push ks ex ns d i next count agrees (t.same (value_of ns d i) left);
@@ -65,8 +65,8 @@ loop-i-preserved c =
             | inr g ↦ (inv.passed consistent k g l).consistent
           ])
           (inv.passed consistent)
-          (rw c.node-node.ensures.node at c.transfer-known.ensures.forced)
-          (rw c.node-node.ensures.node at c.transfer-known.ensures.constant) t;
+          (rw c.node_at-node.ensures.node at c.transfer-known.ensures.forced)
+          (rw c.node_at-node.ensures.node at c.transfer-known.ensures.constant) t;
     })
 
 pub returns-clause-grown : goal.returns-clause-grown

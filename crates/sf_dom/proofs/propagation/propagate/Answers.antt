@@ -1,12 +1,22 @@
-use Rattle.std.proofs.Common.{◌≡◌, ◌<◌, length, arith, refl, sym, ap, ◌∙◌, inl, inr}
-use Rattle.std.proofs.lemmas.Bool.{cases_lt}
+use Rattle.std.proofs.Common.{◌≡◌, ◌<◌, length, arith, refl, sym, ap, ◌∙◌}
 use Rattle.std.specs.Prelude.{slice_index}
 use Rattle.sf_sym.specs.Pool.{values_of, value_of}
 use Rattle.sf_dom.specs.Facts.{known_at}
 use Rattle.sf_dom.specs.Propagation.{IsReady}
-use Rattle.sf_dom.proofs.Propagations.{variable-before, passed-up_to, tight-passed, propagate-left, propagate-set, passed-set, AllNarrower-set, IsReady-set}
+use Rattle.sf_dom.proofs.Propagations.{variable-before, passed-up_to, words-passed, AllNarrower-refl, propagate-left, propagate-set, passed-set, AllNarrower-set, IsReady-set}
 use Rattle.sf_dom.proofs.Reductions.{IsNarrower-trans}
 use Rattle.sf_dom.proofs.propagation.propagate.Goals as goal
+
+pub loop-rank-init : goal.loop-rank-init
+loop-rank-init c = record {
+  keeps = λ d p a. a;
+  narrower = AllNarrower-refl c.args.nodes.now.known;
+  ready = c.requires.ready;
+  variables = refl;
+  laid_out = c.variable_count-rank-end.ensures.laid_out;
+  passed = words-passed c.args.nodes.now c.args.excluded.now c.args.pool.now c.len-count.ensures.lawful
+      c.requires.ready c.variable_count-rank-end.ensures.laid_out c.requires.tight;
+}
 
 pub returns-in-None : goal.returns-in-None
 returns-in-None c = λ d p a.
@@ -19,14 +29,14 @@ returns-in-None c = λ d p a.
     omega (arith, ap length inv.variables, c.variable_count-rank-end.ensures.count) in
     let below : i < length n.known = omega (arith, inv.laid_out.within c.loop-rank.rank told, c.variable-i.ensures) in
     let agrees = inv.keeps d p a in
-    let by_rule = rw c.node-node.ensures.node at
+    let by_rule = rw c.node_at-node.ensures.node at
     (c.transfer.ensures.value d (values_of ns d) p (λ j l. (agrees j l).admitted)) in
     let before = c.variable_known-before.ensures ∙ ap (known_at n.known) (sym c.variable-i.ensures) in
     let both = rw before at c.meet-known.ensures in
     let left = propagate-left n.known ex ns d i c.transfer.result c.meet-known.result
-    c.node-node.ensures.lawful inv.ready.count
+    c.node_at-node.ensures.lawful inv.ready.count
     below agrees by_rule both in
-    rw c.node-node.ensures.node at c.in-None.ensures (value_of ns d i) left
+    rw c.node_at-node.ensures.node at c.in-None.ensures (value_of ns d i) left
 
 pub loop-rank-preserved : goal.loop-rank-preserved
 loop-rank-preserved c =
@@ -47,7 +57,7 @@ loop-rank-preserved c =
     ) in
     let at : slice_index n.variables rank ≡ i = sym c.variable-i.ensures in
     let below : i < length n.known = omega (arith, inv.laid_out.within rank told, at) in
-    let t = rw c.node-node.ensures.node at c.in-Some.ensures in
+    let t = rw c.node_at-node.ensures.node at c.in-Some.ensures in
     let before = c.variable_known-before.ensures ∙ ap (known_at n.known) (sym c.variable-i.ensures) in
     let both = rw before at c.meet-known.ensures in
     let narrower = IsNarrower-trans (known_at n.known i) c.meet-known.result next both.left t.narrower in
@@ -56,10 +66,10 @@ loop-rank-preserved c =
     record {
       keeps = rw c.set.ensures.known (λ d p a.
           let agrees = inv.keeps d p a in
-          let by_rule = rw c.node-node.ensures.node at
+          let by_rule = rw c.node_at-node.ensures.node at
           (c.transfer.ensures.value d (values_of ns d) p (λ j l. (agrees j l).admitted)) in
           let left = propagate-left n.known ex ns d i c.transfer.result c.meet-known.result
-          c.node-node.ensures.lawful count
+          c.node_at-node.ensures.lawful count
           below agrees by_rule both in
           propagate-set n.known ex ns d i next below agrees (t.same (value_of ns d i) left));
       narrower = rw c.set.ensures.known (AllNarrower-set c.args.nodes.now.known n.known i next
@@ -69,42 +79,8 @@ loop-rank-preserved c =
       laid_out = c.set.ensures.laid_out;
       passed = passed-up_to n m ex ns rank i ready inv.laid_out c.set.ensures.laid_out c.set.ensures.variables told at
           (rw c.set.ensures.known (passed-set n.known ex ns i c.transfer.result c.meet-known.result next
-          c.node-node.ensures.lawful count below
+          c.node_at-node.ensures.lawful count below
           (λ k b. inv.passed k (omega arith) (λ j a l. variable-before n rank j k inv.laid_out a l (omega (arith, at))))
-          (rw c.node-node.ensures.node at c.transfer.ensures.forced)
-          (rw c.node-node.ensures.node at c.transfer.ensures.constant) both.right t));
-    }
-
-pub loop-rank-preserved-then-is_tight : goal.loop-rank-preserved-then-is_tight
-loop-rank-preserved-then-is_tight c =
-    let n = c.loop-rank.nodes in
-    let ns = c.args.pool.now in
-    let ex = c.args.excluded.now in
-    let inv = c.loop-rank.invariant in
-    let rank = c.loop-rank.rank in
-    let i = c.variable-i.result in
-    let told : rank < length n.variables = omega (
-      arith,
-      ap length inv.variables,
-      c.variable_count-rank-end.ensures.count,
-    ) in
-    let at : slice_index n.variables rank ≡ i = sym c.variable-i.ensures in
-    let below : i < length n.known = omega (arith, inv.laid_out.within rank told, at) in
-    let small : i < 16 = omega arith in
-    let before = c.variable_known-before.ensures ∙ ap (known_at n.known) (sym c.variable-i.ensures) in
-    let tight = rw (before, c.of_word.ensures) at (c.is_tight.ensures c.if-is_tight.true) in
-    record {
-      keeps = inv.keeps;
-      narrower = inv.narrower;
-      ready = inv.ready;
-      variables = inv.variables;
-      laid_out = inv.laid_out;
-      passed = passed-up_to n n ex ns rank i inv.ready inv.laid_out inv.laid_out refl told at (λ k b.
-          elim (cases_lt k i) [
-            | inl l ↦ inv.passed k (omega arith) (λ j a m. variable-before n rank j k inv.laid_out a m
-                (omega (arith, at)))
-            | inr g ↦ (let e : k ≡ i = omega arith in
-                rw e (tight-passed n.known ex ns i c.len-count.ensures.lawful small
-                (inv.ready.consistent i below) tight))
-          ]);
+          (rw c.node_at-node.ensures.node at c.transfer.ensures.forced)
+          (rw c.node_at-node.ensures.node at c.transfer.ensures.constant) both.right t));
     }

@@ -1,6 +1,6 @@
 use Rattle.sf_sym.specs.ValueLaws.{met-passes}
 use Rattle.sf_dom.specs.Facts.{Agrees}
-use Rattle.sf_dom.proofs.Assumed.{not_met, assumed-keeps, assumed-told, assumed-decides, assumed-only}
+use Rattle.sf_dom.proofs.Assumed.{not_met, assumed-keeps, assumed-narrower, assumed-told, assumed-decides, assumed-only}
 use Rattle.sf_dom.proofs.facts.Facts.learnt.Goals as goal
 
 pub returns-in-None-clause-sound : goal.returns-in-None-clause-sound
@@ -14,6 +14,11 @@ unfolding Agrees
 returns-in-Some-clause-sound c =
     let told = rw c.in-Some.is at c.in_ok-assumed.ensures in
     rw (← c.self.view_is) (assumed-keeps _ _ _ _ c.args.pool.now c.args.cond.now told)
+
+pub returns-in-Some-clause-narrower : goal.returns-in-Some-clause-narrower
+returns-in-Some-clause-narrower c =
+    let told = rw c.in-Some.is at c.in_ok-assumed.ensures in
+    rw (← c.self.view_is) (assumed-narrower _ _ _ _ c.args.pool.now c.args.cond.now told)
 
 pub returns-in-Some-clause-decided : goal.returns-in-Some-clause-decided
 returns-in-Some-clause-decided c =

@@ -1,7 +1,21 @@
 use Rattle.std.proofs.Common.{◌≡◌, length, ap, arith}
 use Rattle.std.specs.Arc.{arc_value}
-use Rattle.sf_dom.proofs.Slots.{kept-number, known-variable, kept-variable}
+use Rattle.sf_dom.proofs.Slots.{variables-fit, kept-number, known-variable, kept-variable}
 use Rattle.sf_dom.proofs.nodes.Nodes.push.Goals as goal
+
+pub overflow_cast-rank : goal.overflow_cast-rank
+overflow_cast-rank c =
+    let rank : c.self.inside.variables.len ≡ length c.self.inside.variables.items =
+    omega (arith, c.self.inside.variables.ok.0) in
+    omega (
+      arith,
+      c.len-rank.ensures,
+      rank,
+      variables-fit (arc_value c.self.inside.slots) c.self.inside.variables.items c.self.invariant,
+      c.len-place.ensures.value,
+      c.len-place.ensures.small,
+      ap length c.deref.ensures,
+    )
 
 pub invariant_of-self-then-is_number : goal.invariant_of-self-then-is_number
 invariant_of-self-then-is_number c =

@@ -3,7 +3,7 @@ use Rattle.std.specs.Arc.{arc_value}
 use Rattle.sf_dom.specs.Known.{IsDecided}
 use Rattle.sf_dom.specs.Facts.{known_at}
 use Rattle.sf_dom.specs.Nodes.{slot_at, slot_known, known_by}
-use Rattle.sf_dom.proofs.Slots.{laid-out, known-length, known-slot, known-set, kept-set, places-set, number-set}
+use Rattle.sf_dom.proofs.Slots.{place-read, laid-out, known-length, known-slot, known-set, kept-set, places-set, number-set}
 use Rattle.sf_dom.proofs.nodes.Nodes.set.Goals as goal
 
 pub index_mut-requires : goal.index_mut-requires
@@ -26,7 +26,9 @@ invariant_of-self c =
     let below : c.args.i < length slots = omega (arith, within, known-length slots os) in
     let kept = c.self.invariant.variables c.args.i c.in-Variable.rank below
     (sym found ∙ c.in-Variable.is) in
-    kept-set slots os c.in-Variable.rank c.args.i c.args.known kept.1 c.self.invariant
+    let place = place-read os c.in-Variable.rank c.args.i c.index_mut.result.now kept.0
+    c.index_mut.ensures.value kept.1 in
+    rw place (kept-set slots os c.in-Variable.rank c.args.i c.args.known kept.1 c.self.invariant)
 
 pub returns-in-Variable-clause-known : goal.returns-in-Variable-clause-known
 returns-in-Variable-clause-known c =
@@ -35,7 +37,11 @@ returns-in-Variable-clause-known c =
     let os = c.self.inside.variables.items in
     let within = rw (← c.self.view_is) at c.requires.within in
     let below : c.args.i < length slots = omega (arith, within, known-length slots os) in
-    rw (← c.self.view_is) (known-set slots os c.in-Variable.rank c.args.i c.args.known c.self.invariant below
+    let kept = c.self.invariant.variables c.args.i c.in-Variable.rank below
+    (sym found ∙ c.in-Variable.is) in
+    let place = place-read os c.in-Variable.rank c.args.i c.index_mut.result.now kept.0
+    c.index_mut.ensures.value kept.1 in
+    rw (← c.self.view_is, place) (known-set slots os c.in-Variable.rank c.args.i c.args.known c.self.invariant below
     (sym found ∙ c.in-Variable.is))
 
 pub returns-in-Variable-clause-variables : goal.returns-in-Variable-clause-variables
@@ -47,7 +53,9 @@ returns-in-Variable-clause-variables c =
     let below : c.args.i < length slots = omega (arith, within, known-length slots os) in
     let kept = c.self.invariant.variables c.args.i c.in-Variable.rank below
     (sym found ∙ c.in-Variable.is) in
-    rw (← c.self.view_is) (places-set os c.in-Variable.rank c.args.i c.args.known kept.1)
+    let place = place-read os c.in-Variable.rank c.args.i c.index_mut.result.now kept.0
+    c.index_mut.ensures.value kept.1 in
+    rw (← c.self.view_is, place) (places-set os c.in-Variable.rank c.args.i c.args.known kept.1)
 
 pub returns-in_default-clause-known : goal.returns-in_default-clause-known
 returns-in_default-clause-known c =

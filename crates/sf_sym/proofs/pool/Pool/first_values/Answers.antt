@@ -7,7 +7,7 @@ compute-value-requires c =
     let count = length-values_of c.args.self.now c.args.input.now c.loop-i.i (omega arith) in
     let e : length c.as_slice.result.now ≡ c.loop-i.i =
     ap length (c.as_slice.ensures.value ∙ c.loop-i.invariant) ∙ count in
-    rw e c.node.ensures.operands
+    rw e c.node_at.ensures.operands
 
 pub loop-i-preserved : goal.loop-i-preserved
 loop-i-preserved c =
@@ -16,7 +16,7 @@ loop-i-preserved c =
     let p = c.in_ok-push.ensures.items in
     let inv = c.loop-i.invariant in
     let s = c.as_slice.ensures.value in
-    let n = c.node.ensures.node in
+    let n = c.node_at.ensures.node in
     cc
 
 pub returns-clause-count : goal.returns-clause-count

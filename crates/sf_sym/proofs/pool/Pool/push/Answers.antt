@@ -7,15 +7,15 @@ use Rattle.sf_sym.proofs.pool.Pool.push.Goals as goal
 
 pub returns-in-Some-clause-within : goal.returns-in-Some-clause-within
 returns-in-Some-clause-within c =
-    let there = rw c.deref-2.ensures at c.in-Some.ensures.found c.in-Some.at refl in
+    let there = rw c.deref-3.ensures at c.in-Some.ensures.found c.in-Some.at refl in
     omega (arith, ap length c.self.view_is, there.0)
 
 pub returns-in-Some-clause-value : goal.returns-in-Some-clause-value
 returns-in-Some-clause-value c = λ d.
     let ns = arc_value c.self.inside.nodes in
     let lawful = c.self.invariant in
-    let there = rw c.deref-2.ensures at c.in-Some.ensures.found c.in-Some.at refl in
-    let folds = c.fold-node.ensures ∙ ap (λ ms. folded_node ms c.args.node) c.deref.ensures in
+    let there = rw c.deref-3.ensures at c.in-Some.ensures.found c.in-Some.at refl in
+    let folds = c.fold-node.ensures ∙ ap (λ ms. folded_node ms c.args.node) c.deref-2.ensures in
     let operands : OperandsBelow (length ns) c.args.node = rw (← c.self.view_is) at c.requires in
     rw (← c.self.view_is) (value-node ns d c.in-Some.at lawful there.0
     ∙ ap (node_value d (values_of ns d)) (there.1 ∙ folds)
@@ -23,15 +23,15 @@ returns-in-Some-clause-value c = λ d.
 
 pub returns-in-Some-clause-added : goal.returns-in-Some-clause-added
 returns-in-Some-clause-added c = λ absent.
-    let there = rw c.deref-2.ensures at c.in-Some.ensures.found c.in-Some.at refl in
-    let folds = c.fold-node.ensures ∙ ap (λ ms. folded_node ms c.args.node) c.deref.ensures in
+    let there = rw c.deref-3.ensures at c.in-Some.ensures.found c.in-Some.at refl in
+    let folds = c.fold-node.ensures ∙ ap (λ ms. folded_node ms c.args.node) c.deref-2.ensures in
     absurd (rw (← c.self.view_is) at absent c.in-Some.at there.0 (there.1 ∙ folds))
 
 pub invariant_of-self-2 : goal.invariant_of-self-2
 invariant_of-self-2 c =
     let ns = arc_value c.self.inside.nodes in
     let given : OperandsBelow (length ns) c.args.node = rw (← c.self.view_is) at c.requires in
-    rw (c.in_ok-at.ensures.ok, c.fold-node.ensures, c.deref.ensures)
+    rw (c.in_ok-at.ensures.ok, c.fold-node.ensures, c.deref-2.ensures)
     (IsPool-push ns (folded_node ns c.args.node) c.self.invariant
     (folded_node-operands ns c.args.node c.self.invariant given))
 
@@ -40,18 +40,24 @@ returns-clause-value c = λ d.
     let ns = arc_value c.self.inside.nodes in
     let given : OperandsBelow (length ns) c.args.node = rw (← c.self.view_is) at c.requires in
     let at : c.in_ok-at.at ≡ length ns = c.in_ok-at.ensures.place in
-    rw (← c.self.view_is, c.in_ok-at.ensures.ok, c.fold-node.ensures, c.deref.ensures, at)
+    rw (← c.self.view_is, c.in_ok-at.ensures.ok, c.fold-node.ensures, c.deref-2.ensures, at)
     (value-pushed ns (folded_node ns c.args.node) d ∙ folded_node-value ns d c.args.node c.self.invariant given)
 
 pub returns-clause-plain : goal.returns-clause-plain
 returns-clause-plain c = λ k e plain.
-    rw (c.in_ok-at.ensures.ok, c.fold-node.ensures, c.deref.ensures, e)
+    rw (c.in_ok-at.ensures.ok, c.fold-node.ensures, c.deref-2.ensures, e)
     (ArePlainNodes-push (arc_value c.self.inside.nodes) k (rw (← c.self.view_is) at plain))
 
 pub returns-clause-lawful : goal.returns-clause-lawful
 returns-clause-lawful c =
     let ns = arc_value c.self.inside.nodes in
     let given : OperandsBelow (length ns) c.args.node = rw (← c.self.view_is) at c.requires in
-    rw (c.in_ok-at.ensures.ok, c.fold-node.ensures, c.deref.ensures)
+    rw (c.in_ok-at.ensures.ok, c.fold-node.ensures, c.deref-2.ensures)
     (IsPool-push ns (folded_node ns c.args.node) c.self.invariant
     (folded_node-operands ns c.args.node c.self.invariant given))
+
+pub overflow_cast-result : goal.overflow_cast-result
+overflow_cast-result c =
+    let there = rw c.deref-3.ensures at c.in-Some.ensures.found c.in-Some.at refl in
+    let count : length c.deref.result.now ≡ length (arc_value c.self.inside.nodes) = ap length c.deref.ensures in
+    omega (arith, there.0, count, c.len-count.ensures.count, c.len-count.ensures.small)
