@@ -3,3 +3,4 @@ pub mod Words
 pub mod Leasts
 pub mod Searching
 pub mod SheetLemmas
+pub mod ProbeLemmas

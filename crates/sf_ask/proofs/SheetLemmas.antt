@@ -1,11 +1,20 @@
 -- The verdicts on questions that are clear at once.
-use Rattle.std.proofs.Common.{◌≡◌, ℕ, zero, suc, ◌+◌, ◌<◌, ◌≤◌, not, Bool, true, false, List, [], ◌∷◌, ◌++◌, length, Some, None, refl, ap, ◌∙◌, inl, inr, ◌⊎◌, arith, length-append}
+use Rattle.std.proofs.Common.{◌≡◌, ℕ, zero, suc, ◌<◌, ◌≤◌, not, Bool, true, false, List, [], ◌∷◌, length, Some, None, refl, sym, ap, subst, ◌∙◌, inl, inr, ◌⊎◌, arith, length-append}
 use Rattle.std.specs.Prelude.{slice_get, if◌then◌else◌}
 use Rattle.std.specs.List.{list_all}
 use Rattle.std.proofs.lemmas.List.{get_or_append_left, get_or_push}
 use Rattle.std.proofs.lemmas.List.Folds.{list_all-append}
 use Rattle.std.proofs.lemmas.Bool.{cases_lt}
-use Rattle.sf_book.specs.Books.{BookData}
+use Rattle.sf_insn.specs.declared.input.Input.{Input}
+use Rattle.sf_insn.specs.Inputs.{IsInput}
+use Rattle.sf_dom.specs.Facts.{Agrees, Covers}
+use Rattle.sf_piece.specs.Pieces.{PieceData, is_member}
+use Rattle.sf_book.specs.Books.{BookData, RegionData, IsRightRegion}
+use Rattle.sf_ask.specs.Actions.{has_action}
+use Rattle.sf_ask.specs.Probing.{AreAskers, IsRuledOutIfAsked}
+use Rattle.sf_ask.specs.Searches.{IsRightSearch}
+use Rattle.sf_ask.proofs.ProbeLemmas.{there-is}
+use Rattle.sf_ask.proofs.Searching.{not-asked, ruled-out, region-right}
 use Rattle.sf_ask.specs.declared.verdict.Verdict.TheVariants.{Clear}
 use Rattle.sf_ask.specs.QuestionData.{QuestionData}
 use Rattle.sf_ask.specs.QuestionBits.{has_bit}
@@ -66,3 +75,42 @@ right-if-wanted s questions job q wanted right = by (has_bit wanted q) right
         → IsRightWhereGiven s questions job q (if b then Some Clear else None)
     by true right = right refl
     by false right = tt
+
+-- ---- what probes tell
+
+clear-unasked : (s : BookData) (questions : List QuestionData) (job q : ℕ) (r : RegionData) (x : QuestionData)
+    → slice_get s.regions job ≡ Some r → IsRightRegion s.stack r → slice_get questions q ≡ Some x
+    → has_action x.actions r.answer.action ≡ false → IsRightOn s questions job q Clear
+clear-unasked s questions job q r x there right asking none =
+    clear-is-right s questions job q x asking (not-asked s job x r there right none)
+
+clear-ruled-out : (s : BookData) (questions : List QuestionData) (job q : ℕ) (r : RegionData) (x : QuestionData)
+    → slice_get s.regions job ≡ Some r → IsRightRegion s.stack r → slice_get questions q ≡ Some x
+    → has_action x.actions r.answer.action ≡ true → IsRightSearch r.piece x Clear
+    → IsRightOn s questions job q Clear
+clear-ruled-out s questions job q r x there right asking asked none =
+    clear-is-right s questions job q x asking (region-right s job x r Clear there right asked none)
+
+-- a question that doesn't ask about the region's action
+pub clear-not-asked : (s : BookData) (questions : List QuestionData) (job q : ℕ) (r : RegionData) (asked : List ℕ)
+    → slice_get s.regions job ≡ Some r → IsRightRegion s.stack r → q < length questions
+    → AreAskers questions r.answer.action asked → has_bit asked q ≡ false → IsRightOn s questions job q Clear
+clear-not-asked s questions job q r asked there right l askers none =
+    let x = there-is questions q l in
+    clear-unasked s questions job q r x.0 there right x.1 (sym (askers q x.0 x.1) ∙ none)
+
+-- a question that is ruled out where it asks
+pub clear-if-asked : (s : BookData) (questions : List QuestionData) (job q : ℕ) (r : RegionData) (p : PieceData)
+    (asked : List ℕ) → slice_get s.regions job ≡ Some r → IsRightRegion s.stack r → q < length questions
+    → AreAskers questions r.answer.action asked → p ≡ r.piece
+    → ((d : Input) → IsInput d → is_member p d ≡ true → Agrees p.facts p.pool d) → Covers p.facts p.pool
+    → IsRuledOutIfAsked p.facts questions asked q → IsRightOn s questions job q Clear
+clear-if-asked s questions job q r p asked there right l askers same known covers out = by (has_bit asked q) refl
+  where
+    by : (b : Bool) → has_bit asked q ≡ b → IsRightOn s questions job q Clear
+    by false none = clear-not-asked s questions job q r asked there right l askers none
+    by true set =
+        let x = there-is questions q l in
+        clear-ruled-out s questions job q r x.0 there right x.1 (sym (askers q x.0 x.1) ∙ set)
+        (subst (λ (y : PieceData). IsRightSearch y x.0 Clear) same
+        (ruled-out p x.0 p.facts p.pool known (out x.0 x.1 set p.pool covers)))

@@ -7,5 +7,6 @@ pub mod Breaking
 pub mod Trying
 pub mod Verdicts
 pub mod Searches
+pub mod Probing
 pub mod Sheets
 pub mod SheetLaws

@@ -1,12 +1,11 @@
 -- What the search for a member in a question does, step by step: for the functions of this crate alone.
-use Rattle.std.specs.Prelude.{◌≡◌, ℕ, ◌<◌, ◌≤◌, true, false, List, Some, slice_get, slice_index, bit_and}
+use Rattle.std.specs.Prelude.{◌≡◌, ℕ, ◌<◌, ◌≤◌, true, false, List, slice_index, bit_and}
 use Rattle.sf_insn.specs.declared.input.Input.{Input}
 use Rattle.sf_insn.specs.Inputs.{IsInput}
 use Rattle.sf_sym.specs.declared.pool.Node.{Node}
 use Rattle.sf_dom.specs.declared.known.Known.{Known}
 use Rattle.sf_dom.specs.Facts.{FactsView, Agrees, known_at, lies_in, has_masked}
 use Rattle.sf_piece.specs.Pieces.{PieceData, is_member}
-use Rattle.sf_book.specs.Books.{BookData, RegionData}
 use Rattle.sf_ask.specs.declared.verdict.Verdict.{Verdict}
 use Rattle.sf_ask.specs.declared.verdict.Verdict.TheVariants.{Clear, Hit, Doubt}
 use Rattle.sf_ask.specs.QuestionData.{QuestionData, range_at, mask_at}
@@ -49,10 +48,6 @@ IsWordNumber q at word n = word ≡ at → IsNumberOf q at n
 -- the array has what is known of each word
 abbrev pub AreKnownWords : FactsView → List Known → Type 0
 AreKnownWords f ks = (word : ℕ) → word < 16 → known_at ks word ≡ known_at f.known word
-
--- the array has what is known of each word of the region at a place
-abbrev pub AreWordsOf : BookData → ℕ → List Known → Type 0
-AreWordsOf s place ks = (r : RegionData) → slice_get s.regions place ≡ Some r → AreKnownWords r.piece.facts ks
 
 -- what a search for a member in the question tells is right
 abbrev pub IsRightSearch : PieceData → QuestionData → Verdict → Type 0

@@ -9,7 +9,7 @@ ghost use Rattle.sf_ask.specs.declared.fault.Fault.TheVariants.{Memory};
 ghost use Rattle.sf_piece.specs.Pieces.{is_member};
 ghost use Rattle.sf_book.specs.Books.{IsRightRegion};
 ghost use Rattle.sf_ask.specs.Verdicts.{IsRightVerdict, TellsTriedAt, IsDecisive};
-ghost use Rattle.sf_ask.specs.Searches.{AreWordsOf, IsRightSearch, TellsTried};
+ghost use Rattle.sf_ask.specs.Searches.{IsRightSearch, TellsTried};
 ghost use Rattle.sf_ask.specs.Trying.{IsLeastInput};
 
 use crate::confining::{confined, known_words, rules_out};
@@ -17,7 +17,7 @@ use crate::fault::Fault;
 use crate::question::Question;
 use crate::verdict::Verdict;
 use sf_book::Settled;
-use sf_dom::{Facts, Known};
+use sf_dom::Facts;
 use sf_insn::Input;
 use sf_piece::Piece;
 use std::alloc::Global;
@@ -99,34 +99,6 @@ fn search(alloc: Global, piece: &Piece, question: &Question) -> Result<Verdict, 
         return Ok(Verdict::Clear);
     }
     try_least(alloc, piece, question)
-}
-
-/// What is known of the words of the settled region at this place, to be read once for many questions.
-pub(crate) fn words_of(settled: &Settled, region: usize) -> [Known; 16]
-    requires { region < length settled.now.regions }
-    ensures { AreWordsOf settled.now region result }
-{
-    let piece = settled.region(region).piece();
-    known_words(piece.facts())
-}
-
-/// Whether the verdict on the settled region at this place is clear at once: its action isn't asked about, or what is known
-/// of some word rules out the word's range. False tells nothing.
-pub(crate) fn is_clear_at_once(
-    settled: &Settled,
-    region: usize,
-    words: &[Known; 16],
-    question: &Question,
-) -> bool
-    requires region { region < length settled.now.regions }
-    requires words { AreWordsOf settled.now region words.now }
-    ensures { IsTrue result → IsRightVerdict settled.now region question.now Verdict.Clear }
-{
-    let settled_region = settled.region(region);
-    if question.actions().has(settled_region.answer().action) {
-        return rules_out(settled_region.piece().facts(), words, question);
-    }
-    true
 }
 
 /// The verdict on the settled region at this place in the order of names. The caller's condition: there is a region at

@@ -6,9 +6,9 @@ ghost use Rattle.sf_ask.specs.Sheets.{SheetData, verdict_at, clear_if_wanted, is
 ghost use Rattle.std.specs.List.{list_all};
 ghost use Rattle.sf_ask.specs.declared.fault.Fault.TheVariants.{Memory};
 
-use crate::bits::{has_bit, set_bit, share_none};
+use crate::bits::{has_bit, share_none};
 use crate::fault::Fault;
-use crate::judging::{is_clear_at_once, judge, words_of};
+use crate::judging::judge;
 use crate::question::Question;
 use crate::verdict::Verdict;
 use sf_book::Settled;
@@ -75,24 +75,6 @@ fn is_clear(verdict: Option<Verdict>) -> bool
         None | Some(Verdict::Clear) => true,
         Some(Verdict::Hit(_)) | Some(Verdict::Doubt) => false,
     }
-}
-
-/// The questions on which a region is to be judged, as bits: its verdict on each other question is clear at once, since its
-/// action isn't asked about or what is known of some word rules out the word's range. The caller's conditions: there is a
-/// region at the place, and there are at most 256 questions.
-pub fn questions_to_judge(settled: &Settled, job: usize, questions: &[Question]) -> [u64; 4]
-    requires job { job < length settled.now.regions }
-    requires questions { length questions.now ≤ 256 }
-    ensures { AreClearBut settled.now questions.now job result }
-{
-    let words = words_of(settled, job);
-    let mut to_judge = [0u64; 4];
-    for q in 0..questions.len() {
-        if !is_clear_at_once(settled, job, &words, &questions[q]) {
-            set_bit(&mut to_judge, q);
-        }
-    }
-    to_judge
 }
 
 /// The verdict on a question that is asked for, and none on another.
@@ -187,8 +169,7 @@ impl Sheet {
         ensures wanted { IfOk result (HasWanted wanted) }
         ensures err { IfErr result (λ f. f ≡ Memory) }
     {
-        let to_judge = questions_to_judge(settled, job, questions);
-        Sheet::judging(alloc, settled, job, questions, &to_judge, wanted)
+        Sheet::judging(alloc, settled, job, questions, &[u64::MAX; 4], wanted)
     }
 
     /// The same sheet, where it was looked before which questions are to be judged. The caller's conditions: those of

@@ -1,8 +1,8 @@
 -- The questions that a sheet skips.
-use Rattle.std.proofs.Common.{◌≡◌, ◌≢◌, ◌/◌, ◌%◌, not, true, ap, slice_index, ℕ, zero, suc, ◌+◌, ◌<◌, ◌==◌, if◌then◌else◌, List, [], ◌∷◌, refl, sym, ◌∙◌, subst, arith}
-use Rattle.std.specs.Int.{bit_at}
-use Rattle.std.proofs.lemmas.Bool.Decides.{nat_tests}
-use Rattle.std.proofs.lemmas.Nat.Bits.{bit_at_ones}
+use Rattle.std.proofs.Common.{◌≡◌, ◌≢◌, ◌/◌, ◌%◌, not, true, ap, slice_index, ℕ, zero, suc, ◌+◌, ◌<◌, ◌==◌, bit_and, ◌*◌, ◌^◌, set, w64, length, List, [], ◌∷◌, refl, sym, ◌∙◌, subst, arith}
+use Rattle.std.specs.Int.{bit_at, bit_not}
+use Rattle.std.proofs.lemmas.Nat.Bits.{bit_at_ones, bit_at_clear_other}
+use Rattle.std.proofs.lemmas.List.{get_or-set_same, get_or-set_other}
 use mathlib.Core.Logic.{dite}
 use native.Mathlib.Decide.{ℕ_discrete}
 use Rattle.sf_crew.specs.declared.board.view.Note.{Note}
@@ -14,23 +14,43 @@ use Rattle.sf_crew.specs.Views.{Noted}
 abbrev pub IsBeaten : ℕ → List Note → ℕ → Type 0
 IsBeaten job ns q = (r : ℕ) × Noted ns q r × (r < job)
 
--- one question more
-pub skips_more : (n job : ℕ) (ns ms : List Note) (before after : List ℕ) → ((q r : ℕ) → Noted ns q r → Noted ms q r)
-    → ((q : ℕ) → q < n → bit_of before q ≡ 0 → IsBeaten job ns q)
-    → (bit_of after n ≡ 0 → IsBeaten job ms n) → ((q : ℕ) → q ≢ n → bit_of after q ≡ bit_of before q) → (q : ℕ)
-    → q < n + 1 → bit_of after q ≡ 0 → IsBeaten job ms q
-skips_more n job ns ms before after more all this same q lt none = dite (ℕ_discrete q n)
-    (λ e. subst (IsBeaten job ms) (sym e) (this (subst (λ x. bit_of after x ≡ 0) e none)))
-    (λ ne. let was = all q (omega arith) (sym (same q ne) ∙ none) in (was.0, more q was.0 was.1, was.2))
+-- one bit of a word less
+pub skips_more : (word job n at : ℕ) (ns ms : List Note) → at < 64 → ((q r : ℕ) → Noted ns q r → Noted ms q r)
+    → ((bit : ℕ) → bit < 64 → bit_at n bit ≡ 0 → IsBeaten job ns (word * 64 + bit)) → IsBeaten job ms (word * 64 + at)
+    → (bit : ℕ) → bit < 64 → bit_at (bit_and n (bit_not w64 (1 * 2 ^ at % 2 ^ 64))) bit ≡ 0
+    → IsBeaten job ms (word * 64 + bit)
+skips_more word job n at ns ms within more all this bit low none = dite (ℕ_discrete bit at)
+    (λ e. subst (λ i. IsBeaten job ms (word * 64 + i)) (sym e) this)
+    (λ ne. let was = all bit low (sym (bit_at_clear_other w64 n at within bit low ne) ∙ none) in
+    (was.0, more (word * 64 + bit) was.0 was.1, was.2))
 
-pub set_here : (n : ℕ) (before after : List ℕ) → ((p : ℕ) → bit_of after p ≡ (if p == n then 1 else bit_of before p))
-    → bit_of after n ≡ 1
-set_here n before after h = let t : (if n == n then 1 else bit_of before n) ≡ 1 = grind (arith, nat_tests) in h n ∙ t
+-- more notes alone
+pub skips_still : (word job n : ℕ) (ns ms : List Note) → ((q r : ℕ) → Noted ns q r → Noted ms q r)
+    → ((bit : ℕ) → bit < 64 → bit_at n bit ≡ 0 → IsBeaten job ns (word * 64 + bit)) → (bit : ℕ) → bit < 64
+    → bit_at n bit ≡ 0 → IsBeaten job ms (word * 64 + bit)
+skips_still word job n ns ms more all bit low none =
+    let was = all bit low none in (was.0, more (word * 64 + bit) was.0 was.1, was.2)
 
-pub set_else : (n : ℕ) (before after : List ℕ) → ((p : ℕ) → bit_of after p ≡ (if p == n then 1 else bit_of before p))
-    → (q : ℕ) → q ≢ n → bit_of after q ≡ bit_of before q
-set_else n before after h q ne = let t : (if q == n then 1 else bit_of before q) ≡ bit_of before q =
-    grind (arith, nat_tests) in h q ∙ t
+-- all bits are set at first
+pub skips_none : (word job : ℕ) (ns : List Note) (bit : ℕ) → bit < 64 → bit_at 18446744073709551615 bit ≡ 0
+    → IsBeaten job ns (word * 64 + bit)
+skips_none word job ns bit low none = absurd (let set = bit_at_ones 64 bit low in omega (arith, set, none))
+
+-- one word of four more
+pub words_more : (words : List ℕ) (word job m : ℕ) (ns ms : List Note) → length words ≡ 4 → word < 4
+    → ((q r : ℕ) → Noted ns q r → Noted ms q r)
+    → ((q : ℕ) → q < 256 → bit_of words q ≡ 0 → IsBeaten job ns q)
+    → ((bit : ℕ) → bit < 64 → bit_at m bit ≡ 0 → IsBeaten job ms (word * 64 + bit))
+    → (q : ℕ) → q < 256 → bit_of (set words word m) q ≡ 0 → IsBeaten job ms q
+words_more words word job m ns ms long within more all these q few none = dite (ℕ_discrete (q / 64) word)
+    (λ e. (let place : word * 64 + q % 64 ≡ q = omega (arith, e) in
+    let here : slice_index (set words word m) (q / 64) ≡ m =
+    ap (λ i. slice_index (set words word m) i) e ∙ get_or-set_same words word m 0 (omega (arith, long, within)) in
+    subst (IsBeaten job ms) place
+    (these (q % 64) (omega arith) (ap (λ x. bit_at x (q % 64)) (sym here) ∙ none))))
+    (λ ne. (let was = all q few
+    (ap (λ x. bit_at x (q % 64)) (sym (get_or-set_other words word (q / 64) m 0 ne)) ∙ none) in
+    (was.0, more q was.0 was.1, was.2)))
 
 -- a question that is not asked for has its bit at 0
 pub not_wanted : (words : List ℕ) (q : ℕ) → true ≡ not (has_bit words q) → bit_of words q ≡ 0

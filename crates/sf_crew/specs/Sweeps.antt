@@ -1,5 +1,6 @@
 -- What a sweep does: the jobs of each worker, and the tally of all regions.
-use Rattle.std.specs.Prelude.{◌≡◌, ℕ, ◌<◌, ◌≤◌, ◌⊎◌, Bool, false, IsTrue, List, length, Some, None, slice_get}
+use Rattle.std.specs.Prelude.{◌≡◌, ℕ, ◌+◌, ◌*◌, ◌<◌, ◌≤◌, ◌⊎◌, Bool, false, IsTrue, List, length, Some, None, slice_get}
+use Rattle.std.specs.Int.{bit_at}
 use Rattle.sf_book.specs.Books.{BookData}
 use Rattle.sf_ask.specs.QuestionData.{QuestionData}
 use Rattle.sf_insn.specs.declared.input.Input.{Input}
@@ -23,6 +24,13 @@ use Rattle.sf_crew.specs.Boards.{IsSeatOf, seat_view}
 pub record SkipsOnly (questions : List QuestionData) (job : ℕ) (v w : View) (wanted : List ℕ) : Type 0 where
   pub same : w ≡ with_notes v w.notes
   pub skips : (q : ℕ) → q < length questions → bit_of wanted q ≡ 0 → (r : ℕ) × Noted w.notes q r × (r < job)
+
+-- looking at the questions of one word of bits adds notes alone, and each that isn't wanted has a noted place below the
+-- job
+pub record SkipsOnlyIn (word job : ℕ) (v w : View) (wanted : ℕ) : Type 0 where
+  pub same : w ≡ with_notes v w.notes
+  pub more : (p r : ℕ) → Noted v.notes p r → Noted w.notes p r
+  pub skips : (bit : ℕ) → bit < 64 → bit_at wanted bit ≡ 0 → (r : ℕ) × Noted w.notes (word * 64 + bit) r × (r < job)
 
 -- a worker's seat, and whether it found the end
 abbrev pub IsWorked : Board → Seat × Bool → Type 0

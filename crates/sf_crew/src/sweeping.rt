@@ -3,8 +3,9 @@
 mod replying;
 
 ghost use Rattle.std.specs.Prelude.{◌≡◌, ℕ, ◌+◌, ◌-◌, ◌<◌, ◌≤◌, length, vec_len, All, IfOk, IfErr, OnOk, IfSome, IsTrue, None, Some};
+ghost use Rattle.sf_ask.specs.Probing.{AreProbesOf};
 ghost use Rattle.sf_crew.specs.BoardSteps.{Knows, with_notes};
-ghost use Rattle.sf_crew.specs.Sweeps.{IsWorked, IsFullTally, SkipsOnly};
+ghost use Rattle.sf_crew.specs.Sweeps.{IsWorked, IsFullTally, SkipsOnly, SkipsOnlyIn};
 ghost use Rattle.sf_crew.specs.Views.{questions_of, regions_of, count_of_regions, jobs, Noted};
 ghost use Rattle.sf_crew.specs.Boards.{about, seat_view, IsSeatOf, IsNewSeat};
 ghost use Rattle.sf_crew.specs.declared.fault.Fault.TheVariants.{Memory};
@@ -13,16 +14,15 @@ use crate::board::{Board, Seat, Tally};
 use crate::fault::Fault;
 use crate::gate::Gate;
 pub use replying::sweep;
-use sf_ask::{Question, Sheet, has_bit, questions_to_judge, set_bit};
+use sf_ask::{Probes, Question, Sheet, questions_to_judge};
 use sf_book::Settled;
 use std::alloc::Global;
 use std::thread;
 use std::thread::Threads;
 
-/// Whether the question is to be judged, and a place below the job is seen for it.
-fn is_beaten(board: &Board, seat: &mut Seat, job: usize, q: usize, to_judge: &[u64; 4]) -> bool
+/// Whether there is such a question, and a place below the job is seen for it.
+fn is_beaten(board: &Board, seat: &mut Seat, job: usize, q: usize) -> bool
     requires seat { IsSeatOf board.now seat.old }
-    requires there { q < length (questions_of (about board.now)) }
     ensures same { IsSeatOf board.now seat.new }
     ensures view { seat_view seat.new ≡ with_notes (seat_view seat.old)
         (seat_view seat.new).notes }
@@ -31,7 +31,7 @@ fn is_beaten(board: &Board, seat: &mut Seat, job: usize, q: usize, to_judge: &[u
     ensures beaten { IsTrue result → (r : ℕ) × Noted (seat_view seat.new).notes q r
         × (r < job) }
 {
-    if !has_bit(to_judge, q) {
+    if q >= board.questions {
         return false;
     }
     match board.look(seat, q) {
@@ -40,21 +40,38 @@ fn is_beaten(board: &Board, seat: &mut Seat, job: usize, q: usize, to_judge: &[u
     }
 }
 
+/// Looks at each question whose bit is set in one word of the four: all bits but those for which a place below the job was
+/// seen.
+fn look_at_word(board: &Board, seat: &mut Seat, job: usize, word: usize, to_judge: u64) -> u64
+    requires seat { IsSeatOf board.now seat.old }
+    requires word { word < 4 }
+    ensures same { IsSeatOf board.now seat.new }
+    ensures wanted { SkipsOnlyIn word job (seat_view seat.old) (seat_view seat.new) result }
+{
+    let mut wanted = u64::MAX;
+    let mut left = to_judge;
+    while left != 0 {
+        let bit = left.trailing_zeros();
+        if is_beaten(board, seat, job, word * 64 + bit as usize) {
+            wanted &= !(1 << bit);
+        }
+        left &= left - 1;
+    }
+    wanted
+}
+
 /// Looks at each question that is to be judged: the bits of all but those for which a place below the job was seen. Of most
-/// regions none is.
+/// regions few are to be judged.
 fn look_at(board: &Board, seat: &mut Seat, job: usize, to_judge: &[u64; 4]) -> [u64; 4]
     requires seat { IsSeatOf board.now seat.old }
     ensures same { IsSeatOf board.now seat.new }
     ensures wanted { SkipsOnly (questions_of (about board.now)) job (seat_view seat.old)
         (seat_view seat.new) result }
 {
-    if to_judge.iter().all(|word| *word == 0) {
-        return [u64::MAX; 4];
-    }
-    let mut wanted = [0u64; 4];
-    for q in 0..board.questions {
-        if !is_beaten(board, seat, job, q, to_judge) {
-            set_bit(&mut wanted, q);
+    let mut wanted = [u64::MAX; 4];
+    for word in 0..4 {
+        if to_judge[word] != 0 {
+            wanted[word] = look_at_word(board, seat, job, word, to_judge[word]);
         }
     }
     wanted
@@ -68,6 +85,7 @@ pub(crate) fn enter_job<G: Gate>(
     seat: &mut Seat,
     settled: &Settled,
     questions: &[Question],
+    probes: &Probes,
     job: usize,
     gate: &G,
     pass: (usize, usize),
@@ -77,6 +95,7 @@ pub(crate) fn enter_job<G: Gate>(
         × (job < count_of_regions (about board.now)) }
     requires matter { (regions_of (about board.now) ≡ settled.now)
         × (questions_of (about board.now) ≡ questions.now) }
+    requires probes { AreProbesOf questions.now probes.now }
     ensures same { IsSeatOf board.now seat.new }
     ensures joined_seats { (seat_view seat.new).joined_seats ≡ (seat_view seat.old).joined_seats }
     ensures exhausted_seats { (seat_view seat.new).exhausted_seats
@@ -85,7 +104,7 @@ pub(crate) fn enter_job<G: Gate>(
     ensures count { OnOk result (length (jobs (seat_view seat.new))
         ≡ length (jobs (seat_view seat.old))) }
 {
-    let to_judge = questions_to_judge(settled, job, questions);
+    let to_judge = questions_to_judge(settled, job, questions, probes);
     let wanted = look_at(board, seat, job, &to_judge);
     let sheet = Sheet::judging(alloc, settled, job, questions, &to_judge, wanted)?;
     gate.pass(pass.0, pass.1);
@@ -100,12 +119,14 @@ fn work<G: Gate>(
     mut seat: Seat,
     settled: &Settled,
     questions: &[Question],
+    probes: &Probes,
     gate: &G,
     worker: usize,
 ) -> (Seat, bool)
     requires seat { IsSeatOf board.now seat × ((seat_view seat).owes ≡ None) }
     requires matter { (regions_of (about board.now) ≡ settled.now)
         × (questions_of (about board.now) ≡ questions.now) }
+    requires probes { AreProbesOf questions.now probes.now }
     ensures seat { IsSeatOf board.now result.0 }
     ensures joined_seats { (seat_view result.0).joined_seats ≡ (seat_view seat).joined_seats }
     ensures done { IsTrue result.1 → ((seat_view result.0).owes ≡ None)
@@ -115,7 +136,11 @@ fn work<G: Gate>(
     while let Some(job) = board.draw(&mut seat) {
         call = call.wrapping_add(1);
         let pass = (worker, call);
-        if enter_job(alloc, board, &mut seat, settled, questions, job, gate, pass).is_err() {
+        if enter_job(
+            alloc, board, &mut seat, settled, questions, probes, job, gate, pass,
+        )
+        .is_err()
+        {
             return (seat, false);
         }
     }
@@ -163,7 +188,8 @@ fn numbered(alloc: Global, board: &Board, mut seats: Vec<Seat>) -> Result<Vec<Nu
     Ok(numbered_seats)
 }
 
-/// The tally of all regions, by as many workers, each of which has a seat. Then the calling thread draws with a seat
+/// The tally of all regions, by as many workers, each of which has a seat. What is looked at first of each question is made
+/// before they begin, and they share it. Then the calling thread draws with a seat
 /// of its own, under the next number.
 pub(crate) fn tally<R: Threads + Sync, G: Gate>(
     rt: &R,
@@ -178,6 +204,8 @@ pub(crate) fn tally<R: Threads + Sync, G: Gate>(
     ensures ok { IfOk result (λ t. IsFullTally settled.now questions.now t) }
     ensures err { IfErr result (λ f. f ≡ Memory) }
 {
+    let made = Probes::of(alloc, questions)?;
+    let probes = &made;
     let (board, mut seats) = Board::new(alloc, settled, questions, workers + 1)?;
     let Some(mine) = seats.pop() else {
         unreachable!()
@@ -190,7 +218,8 @@ pub(crate) fn tally<R: Threads + Sync, G: Gate>(
         &|part: NumberedSeat| -> (Seat, bool)
             requires { IsNewSeat shared.now part.seat
                 × (regions_of (about shared.now) ≡ settled.now)
-                × (questions_of (about shared.now) ≡ questions.now) }
+                × (questions_of (about shared.now) ≡ questions.now)
+                × AreProbesOf questions.now probes.now }
             ensures { IsWorked shared.entry.now result }
         {
             work(
@@ -199,12 +228,15 @@ pub(crate) fn tally<R: Threads + Sync, G: Gate>(
                 part.seat,
                 settled,
                 questions,
+                probes,
                 gate,
                 part.number,
             )
         },
     )?;
-    let (mine, done) = work(alloc, shared, mine, settled, questions, gate, workers);
+    let (mine, done) = work(
+        alloc, shared, mine, settled, questions, probes, gate, workers,
+    );
     if !done {
         return Err(Fault::Memory);
     }

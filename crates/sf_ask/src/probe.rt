@@ -1,0 +1,155 @@
+//! Probes: what of a question is looked at first, made once for many regions.
+
+ghost use Rattle.std.specs.Prelude.{◌≡◌, ◌<◌, ◌≤◌, ℕ, true, false, length, slice_get, Some, IfOk, IfErr};
+ghost use Rattle.sf_run.specs.declared.action.Action.{Action as AnAction};
+ghost use Rattle.sf_ask.specs.Actions.{has_action};
+ghost use Rattle.sf_ask.specs.QuestionData.{range_at};
+ghost use Rattle.sf_ask.specs.Probing.{is_whole, asked_about, IsProbeOf, AreProbes, AreAskers, AreProbesOf};
+ghost use Rattle.sf_ask.specs.declared.fault.Fault.TheVariants.{Memory};
+
+use crate::bits::set_bit;
+use crate::fault::Fault;
+use crate::question::Question;
+use sf_run::Action;
+use std::alloc::Global;
+
+/// The first bounded word of a question, and its range.
+#[derive(Clone, Copy, Debug, PartialEq, Eq)]
+pub(crate) struct Probe {
+    pub(crate) word: usize,
+    pub(crate) low: u32,
+    pub(crate) high: u32,
+}
+
+/// Whether the range leaves no number out.
+fn is_whole(range: (u32, u32)) -> bool
+    ensures { result ≡ is_whole range }
+{
+    range.0 == 0 && range.1 == u32::MAX
+}
+
+/// The first word whose range leaves a number out, or the last word where no other one does.
+fn first_bounded(question: &Question) -> usize
+    ensures word { result < 16 }
+    ensures first { (word : ℕ) → word < result → is_whole
+        (range_at question.now word) ≡ true }
+    ensures bounded { result < 15 → is_whole (range_at question.now result) ≡ false }
+{
+    for word in 0..15 {
+        if !is_whole(question.range(word)) {
+            return word;
+        }
+    }
+    15
+}
+
+impl Probe {
+    /// The probe of a question.
+    fn of(question: &Question) -> Probe
+        ensures { IsProbeOf question.now result }
+    {
+        let word = first_bounded(question);
+        let (low, high) = question.range(word);
+        Probe { word, low, high }
+    }
+}
+
+/// For each action the questions that ask about it, as bits; `other` stands for every action without a name.
+#[derive(Drop)]
+pub(crate) struct Askers {
+    kill_process: [u64; 4],
+    kill_thread: [u64; 4],
+    trap: [u64; 4],
+    errno: [u64; 4],
+    user_notif: [u64; 4],
+    trace: [u64; 4],
+    log: [u64; 4],
+    allow: [u64; 4],
+    other: [u64; 4],
+}
+
+/// The questions that ask about an action, as bits.
+fn askers_about(questions: &[Question], action: Action) -> [u64; 4]
+    requires { length questions.now ≤ 256 }
+    ensures { AreAskers questions.now action result }
+{
+    let mut askers = [0u64; 4];
+    for q in 0..questions.len() {
+        if questions[q].actions().has(action) {
+            set_bit(&mut askers, q);
+        }
+    }
+    askers
+}
+
+impl Askers {
+    /// Those of these questions.
+    fn of(questions: &[Question]) -> Askers
+        requires { length questions.now ≤ 256 }
+        ensures { (action : AnAction) → AreAskers questions.now action
+            (asked_about result action) }
+    {
+        Askers {
+            kill_process: askers_about(questions, Action::KillProcess),
+            kill_thread: askers_about(questions, Action::KillThread),
+            trap: askers_about(questions, Action::Trap),
+            errno: askers_about(questions, Action::Errno),
+            user_notif: askers_about(questions, Action::UserNotif),
+            trace: askers_about(questions, Action::Trace),
+            log: askers_about(questions, Action::Log),
+            allow: askers_about(questions, Action::Allow),
+            other: askers_about(questions, Action::Other(0)),
+        }
+    }
+
+    /// The questions that ask about this action.
+    pub(crate) fn about(&self, action: Action) -> &[u64; 4]
+        ensures { result.now ≡ asked_about self.now action }
+    {
+        match action {
+            Action::KillProcess => &self.kill_process,
+            Action::KillThread => &self.kill_thread,
+            Action::Trap => &self.trap,
+            Action::Errno => &self.errno,
+            Action::UserNotif => &self.user_notif,
+            Action::Trace => &self.trace,
+            Action::Log => &self.log,
+            Action::Allow => &self.allow,
+            Action::Other(_) => &self.other,
+        }
+    }
+}
+
+/// A probe of each question.
+fn probes_of(alloc: Global, questions: &[Question]) -> Result<Vec<Probe>, Fault>
+    ensures each { IfOk result (λ v. AreProbes questions.now v.items) }
+    ensures err { IfErr result (λ f. f ≡ Memory) }
+{
+    let mut probes = Vec::with_capacity(alloc, questions.len())?;
+    for q in 0..questions.len() {
+        probes.push(Probe::of(&questions[q]))?;
+    }
+    Ok(probes)
+}
+
+/// What is looked at first of questions: who asks about an action, and the first bounded word of each. It is made once,
+/// and then serves for every region.
+#[derive(Drop)]
+pub struct Probes {
+    pub(crate) askers: Askers,
+    pub(crate) each: Vec<Probe>,
+}
+
+impl Probes {
+    /// The probes of these questions. The caller's condition: there are at most 256. `Memory` where a growth is refused.
+    pub fn of(alloc: Global, questions: &[Question]) -> Result<Probes, Fault>
+        requires { length questions.now ≤ 256 }
+        ensures ok { IfOk result (AreProbesOf questions.now) }
+        ensures err { IfErr result (λ f. f ≡ Memory) }
+    {
+        Ok(Probes {
+            askers: Askers::of(questions),
+            each: probes_of(alloc, questions)?,
+        })
+    }
+}
