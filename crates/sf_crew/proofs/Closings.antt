@@ -1,5 +1,5 @@
 -- The tally is right.
-use Rattle.std.proofs.Common.{◌≡◌, ◌≢◌, ℕ, zero, suc, ◌+◌, ◌<◌, ◌≤◌, ◌/◌, ◌%◌, min, max, List, [], ◌∷◌, length, set, slice_index, slice_get, Option, Some, None, sym, refl, ap, ◌∙◌, subst, inl, inr, ⊎_elim, length-append, arith}
+use Rattle.std.proofs.Common.{◌≡◌, ◌≢◌, ℕ, zero, suc, ◌+◌, ◌<◌, ◌≤◌, ◌/◌, ◌%◌, min, max, List, [], ◌∷◌, All, sum_by, length, get_or, set, slice_index, slice_get, Option, Some, None, sym, refl, ap, ◌∙◌, subst, inl, inr, ⊎_elim, length-append, arith}
 use Rattle.std.specs.Int.{bit_at}
 use Rattle.std.proofs.lemmas.Bool.Decides.{nat_tests}
 use Rattle.std.proofs.lemmas.List.{length-map}
@@ -17,12 +17,12 @@ use Rattle.sf_crew.specs.declared.board.view.EnteredSheet.{EnteredSheet}
 use Rattle.sf_crew.specs.declared.board.view.Note.{Note}
 use Rattle.sf_crew.specs.declared.board.Tally.{Tally}
 use Rattle.sf_ask.specs.QuestionBits.{bit_of}
-use Rattle.sf_crew.specs.Views.{has, has_doubt, IsInDoubt, regions_of, questions_of, count_of_regions, jobs, owed_jobs, Noted, Covered, Each, times, once_below, total, top, doubt_at}
+use Rattle.sf_crew.specs.Views.{has, has_doubt, IsInDoubt, regions_of, questions_of, count_of_regions, jobs, owed_jobs, Noted, Covered, once_below, top, doubt_at}
 use Rattle.sf_crew.specs.BoardRule.{Kept, BoardKept, least_in, doubts_in}
 use Rattle.sf_crew.specs.Tallies.{RightTally, IsBelow, IsCleared, entered_jobs}
 use Rattle.sf_crew.specs.LeastWords.{LeastIs}
 use Rattle.sf_crew.proofs.Doubts.{bit_most, has_most}
-use Rattle.sf_crew.proofs.Totals.{total_at, total_only, top_at, top_only, times_append}
+use Rattle.sf_crew.proofs.Totals.{times, total_at, total_only, top_at, top_only, times_append}
 use Rattle.sf_crew.proofs.Jobs.{jobs_once}
 
 once_up : (x n p : ℕ) → n ≤ p → once_below x n ≤ once_below x p
@@ -32,39 +32,44 @@ times_none : (x : ℕ) (xs : List ℕ) → length xs ≡ 0 → times x xs ≡ 0
 times_none x [] h = refl
 times_none x (y ∷ ys) h = absurd (omega arith)
 
+-- the doubts of each sheet are doubts of the list
+has_doubt_at : (q : ℕ) (es : List EnteredSheet) (i : ℕ) (d : EnteredSheet) → i < length es
+    → has q (get_or es i d).doubts ≤ has_doubt q es
+has_doubt_at q [] i d there = absurd (omega arith)
+has_doubt_at q (e ∷ es) zero d there = omega arith
+has_doubt_at q (e ∷ es) (suc i) d there = let rest = has_doubt_at q es i d (omega arith) in omega arith
+
 cleared_all : (k : BoardKey) (t : Tally) (words : List ℕ) (ns : List Note) (es : List EnteredSheet)
     → ((q r : ℕ) → Noted ns q r → slice_index words (q + 6) ≤ r)
     → LeastIs words (count_of_regions k) (length (questions_of k)) t.least
-    → ((q : ℕ) → q < length (questions_of k) → has_doubt q es ≤ bit_of t.doubts q) → Each (Covered k ns) es
-    → Each (λ e. (q : ℕ) → q < length (questions_of k) → IsBelow t q e.job → IsCleared k t e q) es
-cleared_all k t words ns [] noted least masked h = tt
-cleared_all k t words ns (e ∷ es) noted least masked h = (
-  (λ q lt below. ⊎_elim
-      (λ (x : (r : ℕ) × Noted ns q r × (r ≤ e.job)). let place : ℕ = slice_index words (q + 6) in
-      let under = noted q x.0 x.1 in let le = x.2 in let small = h.0.there in
-      let here : place < count_of_regions k = omega arith in
-      absurd (let above = below place (least.1 q lt here) in omega arith))
-      (λ x. ⊎_elim (λ (y : HasNoBreak (regions_of k) (questions_of k) e.job q). inl y)
-      (λ (y : has q e.doubts ≡ 1). let m = masked q lt in let one = bit_most (slice_index t.doubts (q / 64)) (q % 64) in
-      inr (y, omega arith)) x)
-      (h.0.cleared q lt)),
-  cleared_all k t words ns es noted least (λ q lt. let m = masked q lt in omega arith) h.1,
-)
+    → ((q : ℕ) → q < length (questions_of k) → has_doubt q es ≤ bit_of t.doubts q) → All (Covered k ns) es
+    → All (λ e. (q : ℕ) → q < length (questions_of k) → IsBelow t q e.job → IsCleared k t e q) es
+cleared_all k t words ns es noted least masked h = λ i d there q lt below.
+    let e : EnteredSheet = get_or es i d in let c : Covered k ns e = h i d there in
+    ⊎_elim
+    (λ (x : (r : ℕ) × Noted ns q r × (r ≤ e.job)). let place : ℕ = slice_index words (q + 6) in
+    let under = noted q x.0 x.1 in let le = x.2 in let small = c.there in
+    let here : place < count_of_regions k = omega arith in
+    absurd (let above = below place (least.1 q lt here) in omega arith))
+    (λ x. ⊎_elim (λ (y : HasNoBreak (regions_of k) (questions_of k) e.job q). inl y)
+    (λ (y : has q e.doubts ≡ 1). let m = masked q lt in let part = has_doubt_at q es i d there in
+    let one = bit_most (slice_index t.doubts (q / 64)) (q % 64) in
+    inr (y, omega arith)) x)
+    (c.cleared q lt)
 
-doubts_right : (k : BoardKey) (ns : List Note) (es : List EnteredSheet) → Each (Covered k ns) es
-    → Each (λ e. (q : ℕ) → has q e.doubts ≡ 1 → IsInDoubt k e.job q) es
-doubts_right k ns [] h = tt
-doubts_right k ns (e ∷ es) h = (h.0.doubts, doubts_right k ns es h.1)
+doubts_right : (k : BoardKey) (ns : List Note) (es : List EnteredSheet) → All (Covered k ns) es
+    → All (λ e. (q : ℕ) → has q e.doubts ≡ 1 → IsInDoubt k e.job q) es
+doubts_right k ns es h = λ i d there. let c : Covered k ns (get_or es i d) = h i d there in c.doubts
 
 -- no sheet has a doubt for a question past the last one
 none_past : (k : BoardKey) (q : ℕ) (es : List EnteredSheet) → length (questions_of k) ≤ q
-    → Each (λ e. (p : ℕ) → has p e.doubts ≡ 1 → IsInDoubt k e.job p) es → has_doubt q es ≡ 0
+    → All (λ e. (p : ℕ) → has p e.doubts ≡ 1 → IsInDoubt k e.job p) es → has_doubt q es ≡ 0
 none_past k q [] out h = refl
 none_past k q (e ∷ es) out h =
-    let rest = none_past k q es out h.1 in
+    let rest = none_past k q es out (λ i d there. h (suc i) d (omega arith)) in
     let most = has_most q e.doubts in
     let none : has q e.doubts ≢ 1 =
-    λ one. (let d : IsRightOn (regions_of k) (questions_of k) e.job q Doubt = h.0 q one in
+    λ one. (let d : IsRightOn (regions_of k) (questions_of k) e.job q Doubt = h 0 e (omega arith) q one in
     let there = slice_get_within (questions_of k) q d.question d.asked in omega arith) in
     omega arith
 
@@ -119,7 +124,7 @@ close_right k s id v t few h at unmarked doubts entered least =
           let b = kept.entered_is in omega arith);
       complete = λ full x.
           (let a = total_at (λ u. length (jobs u)) s.views id v at in let b = kept.drawn_count in
-          let whole : total (λ u. length (jobs u)) s.views ≡ length (jobs v) = omega arith in
+          let whole : sum_by (λ u. length (jobs u)) s.views ≡ length (jobs v) = omega arith in
           let only = total_only (λ u. length (jobs u)) (λ u. times x (jobs u)) s.views id v
           (λ j u there none. times_none x (jobs u) none) at whole in
           let p = parted x in let none : times x (owed_jobs v.owes) ≡ 0 =

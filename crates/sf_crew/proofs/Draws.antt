@@ -1,5 +1,5 @@
 -- What drawing a job keeps of the rule of a board.
-use Rattle.std.proofs.Common.{◌≡◌, ℕ, suc, ◌+◌, ◌%◌, ◌<◌, ◌≤◌, ◌==◌, if◌then◌else◌, min, List, ◌++◌, map, length, set, slice_index, Some, None, IfSome, sym, refl, ap, ◌∙◌, subst, inl, inr, length-set, lt_of_not-le, arith}
+use Rattle.std.proofs.Common.{◌≡◌, ℕ, suc, ◌+◌, ◌%◌, ◌<◌, ◌≤◌, ◌==◌, if◌then◌else◌, min, List, ◌++◌, sum_by, map, length, set, slice_index, Some, None, IfSome, sym, refl, ap, ◌∙◌, subst, inl, inr, length-set, lt_of_not-le, arith}
 use Rattle.std.proofs.lemmas.Bool.Decides.{nat_tests}
 use Rattle.std.proofs.lemmas.List.{get_or-set_same, get_or-set_other}
 use mathlib.Core.Option.{some}
@@ -8,11 +8,11 @@ use lib.ListN.{get_elem?}
 use Rattle.atomic_table.specs.Table.{Me, Allows, keeps}
 use Rattle.sf_crew.specs.declared.board.view.BoardKey.{BoardKey}
 use Rattle.sf_crew.specs.declared.board.view.View.{View}
-use Rattle.sf_crew.specs.Views.{questions_of, count_of_regions, jobs, owed_jobs, times, once_below, total}
+use Rattle.sf_crew.specs.Views.{questions_of, count_of_regions, jobs, owed_jobs, once_below}
 use Rattle.sf_crew.specs.BoardRule.{Sound, Kept, BoardKept, least_in, doubts_in}
 use Rattle.sf_crew.specs.BoardSteps.{view_with_job, view_without_job, HasAllJobs, Draws}
 use Rattle.sf_crew.proofs.Jobs.{jobs_all, count_all}
-use Rattle.sf_crew.proofs.Totals.{total_set, total_at, total_le, every_set}
+use Rattle.sf_crew.proofs.Totals.{times, times_cons, total_set, total_at, total_le, every_set}
 use Rattle.sf_crew.proofs.OneView.{one_view, same_marks, later, in_words}
 
 below_next : (x n : ℕ) → once_below x (n + 1) ≡ once_below x n + (if x == n then 1 else 0)
@@ -42,7 +42,8 @@ draw_kept k n e d least views port v below free part at h = let w : View = view_
       drawn = λ x.
           let was : times x (jobs v) ≡ times x (map (λ e. e.job) v.entered_sheets) =
           ap (λ o. times x (owed_jobs o ++ map (λ e. e.job) v.entered_sheets)) free in
-          let is : times x (jobs w) ≡ (if x == n then 1 else 0) + times x (map (λ e. e.job) v.entered_sheets) = refl in
+          let is : times x (jobs w) ≡ (if x == n then 1 else 0) + times x (map (λ e. e.job) v.entered_sheets) =
+          times_cons x n (map (λ e. e.job) v.entered_sheets) in
           let before : once_below x (min n (count_of_regions k)) ≡ once_below x n = ap (once_below x) (omega arith) in
           let after : once_below x (min (n + 1) (count_of_regions k)) ≡ once_below x (n + 1) =
           ap (once_below x) (omega arith) in
@@ -102,7 +103,7 @@ nones_below k n e d least views port v fresh part at h =
     let w : View = view_without_job v in let mine = h.each port v at in
     let a = total_set (λ u. u.exhausted_seats) views port v w at in
     let b = total_set (λ u. u.joined_seats) views port v w at in
-    let le : total (λ u. u.exhausted_seats) (set views port w) ≤ total (λ u. u.joined_seats) (set views port w) =
+    let le : sum_by (λ u. u.exhausted_seats) (set views port w) ≤ sum_by (λ u. u.joined_seats) (set views port w) =
     total_le (λ u. u.exhausted_seats) (λ u. u.joined_seats) (set views port w)
     (every_set (λ u. Sound k n least u) (λ u. u.exhausted_seats ≤ u.joined_seats) views port w h.each (λ u s. s.few)
     (omega arith)) in
@@ -139,9 +140,9 @@ draw_step k words views id v free fresh part small long h at (yes past) =
 draw_step k words views id v free fresh part small long h at (no not_past) =
     let n = slice_index words 0 in let below : n < count_of_regions k = lt_of_not-le not_past in
     let e : n + 1 ≡ (n + 1) % 18446744073709551616 = omega arith in
-    let mine : times n (jobs v) ≤ total (λ u. times n (jobs u)) views =
+    let mine : times n (jobs v) ≤ sum_by (λ u. times n (jobs u)) views =
     total_at (λ u. times n (jobs u)) views id v at in
-    let all : total (λ u. times n (jobs u)) views ≡ once_below n (min n (count_of_regions k)) = h.drawn n in
+    let all : sum_by (λ u. times n (jobs u)) views ≡ once_below n (min n (count_of_regions k)) = h.drawn n in
     let none : once_below n (min n (count_of_regions k)) ≡ 0 = grind (arith, nat_tests) in
     let count = total_at (λ u. length (jobs u)) views id v at in let counted = h.drawn_count in (
       view_with_job v n,

@@ -1,7 +1,8 @@
 -- The tally of all regions is full.
-use Rattle.std.proofs.Common.{◌≡◌, ◌≢◌, ℕ, suc, ◌<◌, ◌≤◌, inl, inr, All, ◌==◌, if◌then◌else◌, List, [], ◌∷◌, ◌++◌, map, length, Some, None, IfSome, sym, ap, ◌∙◌, subst, ⊎_elim, arith}
+use Rattle.std.proofs.Common.{◌≡◌, ◌≢◌, ℕ, suc, ◌<◌, ◌≤◌, inl, inr, All, ◌==◌, if◌then◌else◌, List, [], ◌∷◌, ◌++◌, get_or, map, length, Some, None, IfSome, sym, ap, ◌∙◌, subst, ⊎_elim, arith}
 use Rattle.std.proofs.lemmas.Bool.Decides.{nat_tests}
 use Rattle.std.proofs.lemmas.List.{length-map}
+use Rattle.std.proofs.lemmas.List.Elements.{All-cons, All-nil}
 use mathlib.Core.Logic.{dite}
 use native.Mathlib.Decide.{ℕ_discrete}
 use Rattle.sf_book.specs.Books.{BookData}
@@ -12,11 +13,12 @@ use Rattle.sf_crew.specs.declared.board.view.View.{View}
 use Rattle.sf_crew.specs.declared.board.view.EnteredSheet.{EnteredSheet}
 use Rattle.sf_crew.specs.declared.board.Tally.{Tally}
 use Rattle.sf_ask.specs.QuestionBits.{bit_of}
-use Rattle.sf_crew.specs.Views.{regions_of, questions_of, count_of_regions, jobs, owed_jobs, has, has_doubt, IsInDoubt, Each, times, once_below}
+use Rattle.sf_crew.specs.Views.{regions_of, questions_of, count_of_regions, jobs, owed_jobs, has, has_doubt, IsInDoubt, once_below}
 use Rattle.sf_crew.specs.BoardSteps.{HasAllJobs, Knows}
 use Rattle.sf_crew.specs.Tallies.{RightTally, IsBelow}
 use Rattle.sf_crew.specs.Sweeps.{IsFullTally}
 use Rattle.sf_crew.proofs.Doubts.{has_most}
+use Rattle.sf_crew.proofs.Totals.{times, times_cons}
 
 abbrev one_if : ℕ → ℕ → ℕ
 one_if r j = if r == j then 1 else 0
@@ -24,12 +26,15 @@ one_if r j = if r == j then 1 else 0
 miss : (r j : ℕ) → r ≢ j → one_if r j ≡ 0
 miss r j ne = grind (arith, nat_tests)
 
-each_find : (P : EnteredSheet → Type 0) (r : ℕ) (es : List EnteredSheet) → Each P es → 0 < times r (map (λ e. e.job) es)
-    → (e : EnteredSheet)
-    × P e × (e.job ≡ r)
-each_find P r [] h some_one = absurd (omega arith)
-each_find P r (e ∷ es) h some_one = dite (ℕ_discrete e.job r) (λ same. (e, h.0, same))
-    (λ ne. let none : one_if r e.job ≡ 0 = miss r e.job (λ x. ne (sym x)) in each_find P r es h.1 (omega arith))
+-- a job that stands in the list of their jobs is one of an entered sheet
+job_place : (r : ℕ) (es : List EnteredSheet) → times r (map (λ e. e.job) es) ≡ 1 → (i : ℕ) × (d : EnteredSheet)
+    × (i < length es) × ((get_or es i d).job ≡ r)
+job_place r [] one = absurd (omega arith)
+job_place r (e ∷ es) one = dite (ℕ_discrete e.job r) (λ same. (0, e, omega arith, same))
+    (λ ne. let none : one_if r e.job ≡ 0 = miss r e.job (λ x. ne (sym x)) in
+    let all = times_cons r e.job (map (λ (y : EnteredSheet). y.job) es) in
+    let rest = job_place r es (omega arith) in
+    (suc rest.0, rest.1, (let there = rest.2 in omega arith), rest.3))
 
 one_same : (x : ℕ) → one_if x x ≡ 1
 one_same x = grind (arith, nat_tests)
@@ -41,32 +46,22 @@ once_one : (x n : ℕ) → x < n → once_below x n ≡ 1
 once_one x n h = grind (arith, nat_tests)
 
 -- what stands in a list of places is below their number
-each_there : (k : BoardKey) (es : List EnteredSheet)
-    → ((x : ℕ) → times x (map (λ e. e.job) es) ≤ once_below x (count_of_regions k))
-    → Each (λ e. e.job < count_of_regions k) es
-each_there k [] h = tt
-each_there k (e ∷ es) h = (
-  below_of e.job (count_of_regions k) (let one = h e.job in let t = one_same e.job in omega arith),
-  each_there k es (λ x. let one = h x in omega arith),
-)
-
--- a job that stands in the list of all jobs is one of an entered sheet
-times_map : (P : EnteredSheet → Type 0) (r : ℕ) (es : List EnteredSheet) → Each P es → times r (map (λ e. e.job) es) ≡ 1
-    → (e : EnteredSheet)
-    × P e × (e.job ≡ r)
-times_map P r es h one = each_find P r es h (omega arith)
+jobs_below : (n : ℕ) (es : List EnteredSheet) → ((x : ℕ) → times x (map (λ e. e.job) es) ≤ once_below x n)
+    → All (λ e. e.job < n) es
+jobs_below n [] h = All-nil (λ (e : EnteredSheet). e.job < n)
+jobs_below n (e ∷ es) h =
+    let all = λ (x : ℕ). times_cons x e.job (map (λ (y : EnteredSheet). y.job) es) in
+    All-cons (λ (y : EnteredSheet). y.job < n) e es
+    (below_of e.job n (let one = h e.job in let t = one_same e.job in let a = all e.job in omega arith))
+    (jobs_below n es (λ x. let one = h x in let a = all x in omega arith))
 
 -- an entered sheet with a doubt
-doubt_find : (P : EnteredSheet → Type 0) (q : ℕ) (es : List EnteredSheet) → Each P es → has_doubt q es ≡ 1
-    → (e : EnteredSheet) × P e
-    × (has q e.doubts ≡ 1)
-doubt_find P q [] h one = absurd (cc)
-doubt_find P q (e ∷ es) h one = dite (ℕ_discrete (has q e.doubts) 1) (λ is. (e, h.0, is))
-    (λ ne. doubt_find P q es h.1 (let most = has_most q e.doubts in omega arith))
-
-each_both : (P Q : EnteredSheet → Type 0) (es : List EnteredSheet) → Each P es → Each Q es → Each (λ e. P e × Q e) es
-each_both P Q [] a b = tt
-each_both P Q (e ∷ es) a b = ((a.0, b.0), each_both P Q es a.1 b.1)
+doubt_place : (q : ℕ) (es : List EnteredSheet) → has_doubt q es ≡ 1 → (i : ℕ) × (d : EnteredSheet)
+    × (i < length es) × (has q (get_or es i d).doubts ≡ 1)
+doubt_place q [] one = absurd (cc)
+doubt_place q (e ∷ es) one = dite (ℕ_discrete (has q e.doubts) 1) (λ is. (0, e, omega arith, is))
+    (λ ne. let rest = doubt_place q es (let most = has_most q e.doubts in omega arith) in
+    (suc rest.0, rest.1, (let there = rest.2 in omega arith), rest.3))
 
 pub full_tally : (s : BookData) (qs : List QuestionData) (k : BoardKey) (v : View) (t : Tally) → RightTally k v t
     → v.about ≡ Some k → v.owes ≡ None → v.joined_seats ≡ k.seats → 0 < v.exhausted_seats → Knows v → regions_of k ≡ s
@@ -84,19 +79,20 @@ full_tally s qs k v t right is free whole past knows regions questions few =
     let here : IsFullTally (regions_of k) (questions_of k) t = record {
       breaks = right.breaks;
       cleared = λ q r lt below under.
-          (let there = times_map _ r v.entered_sheets (each_both _ _ v.entered_sheets right.cleared right.doubts)
+          (let there = job_place r v.entered_sheets
           (right.complete count r ∙ once_one r (count_of_regions k) below) in
-          ⊎_elim (λ (x : HasNoBreak (regions_of k) (questions_of k) there.0.job q).
-          inl (subst (λ j. HasNoBreak (regions_of k) (questions_of k) j q) there.2 x))
-          (λ (x : (has q there.0.doubts ≡ 1) × (bit_of t.doubts q ≡ 1)).
-          inr (x.1, subst (λ j. IsInDoubt k j q) there.2 (there.1.1 q x.0)))
-          (there.1.0 q lt (subst (IsBelow t q) (sym there.2) under)));
+          let e : EnteredSheet = get_or v.entered_sheets there.0 there.1 in
+          ⊎_elim (λ (x : HasNoBreak (regions_of k) (questions_of k) e.job q).
+          inl (subst (λ j. HasNoBreak (regions_of k) (questions_of k) j q) there.3 x))
+          (λ (x : (has q e.doubts ≡ 1) × (bit_of t.doubts q ≡ 1)).
+          inr (x.1, subst (λ j. IsInDoubt k j q) there.3 (right.doubts there.0 there.1 there.2 q x.0)))
+          (right.cleared there.0 there.1 there.2 q lt (subst (IsBelow t q) (sym there.3) under)));
       doubts = λ q lt one.
-          (let there =
-          doubt_find _ q v.entered_sheets (each_both _ _ v.entered_sheets
-          (each_there k v.entered_sheets right.each_once) right.doubts)
-          (sym (right.all_doubts whole q (omega arith)) ∙ one) in
-          (there.0.job, there.1.0, there.1.1 q there.2));
+          (let there = doubt_place q v.entered_sheets (sym (right.all_doubts whole q (omega arith)) ∙ one) in (
+            (get_or v.entered_sheets there.0 there.1).job,
+            jobs_below (count_of_regions k) v.entered_sheets right.each_once there.0 there.1 there.2,
+            right.doubts there.0 there.1 there.2 q there.3,
+          ));
       past = right.past whole;
       counted = right.all_counted whole ∙ count;
     } in subst (λ (y : BookData × List QuestionData). IsFullTally y.0 y.1 t) (λ i. (regions i, questions i)) here

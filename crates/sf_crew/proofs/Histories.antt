@@ -1,33 +1,39 @@
 -- Each step of a handle keeps the rule of the bench.
-use Rattle.std.proofs.Common.{◌≡◌, ◌≢◌, ℕ, zero, suc, ◌+◌, ◌-◌, ◌<◌, ◌≤◌, ◌⊎◌, min, List, [], ◌∷◌, ◌++◌, length, drop, set, slice_get, Option, Some, None, MatchOption, sym, refl, ap, ◌∙◌, subst, inl, inr, ⊎_elim, append_assoc, append-nil, length-append, length-drop, length-set, add-one, arith}
+use Rattle.std.proofs.Common.{◌≡◌, ◌≢◌, ℕ, zero, suc, ◌+◌, ◌-◌, ◌<◌, ◌≤◌, ◌⊎◌, min, List, [], ◌∷◌, ◌++◌, All, get_or, length, drop, set, slice_get, Option, Some, None, MatchOption, sym, refl, ap, ◌∙◌, subst, inl, inr, ⊎_elim, append_assoc, append-nil, length-append, length-drop, length-set, add-one, arith}
 use mathlib.Core.Option.{some, some-injective, some-ne-none}
 use lib.ListN.{get_elem?}
 use Rattle.std.proofs.lemmas.Option.{slice_get_past}
+use Rattle.std.proofs.lemmas.List.Elements.{All-nil, All-push}
 use Rattle.atomic_table.proofs.Lists.{at_set}
 use Rattle.crossbeam_deque.specs.Tasks.{Pushes, Takes, Finds, FindsFew, Forks}
 use Rattle.sf_book.specs.declared.book.Lease.{Lease}
 use Rattle.sf_crew.specs.declared.benches.history.Event.{Event}
 use Rattle.sf_crew.specs.declared.benches.history.Event.TheVariants.{Put, Got}
 use Rattle.sf_crew.specs.declared.benches.history.HandleView.{HandleView}
-use Rattle.sf_crew.specs.History.{handle_view, handle_of, NotBy, AllByHandlesBelow, OfOthers, HasNoThief, put_leases, got_count, first_left, IsLawfulFrom, IsLawfulHistory, HasHistory, Gets, AllGot}
+use Rattle.sf_crew.specs.History.{handle_view, handle_of, OfOthers, HasNoThief, put_leases, got_count, first_left, IsLawfulFrom, IsLawfulHistory, HasHistory, Gets, AllGot}
 use Rattle.sf_crew.specs.BenchRule.{Fits, BenchKept, PutsAll, GetsAll, owner_with_thief, new_thief_view}
 
-notby_snoc : (i : ℕ) (h : List Event) (e : Event) → NotBy i h → handle_of e ≢ i → NotBy i (h ++ e ∷ [])
-notby_snoc i [] e n ne = (ne, tt)
-notby_snoc i (x ∷ h) e n ne = (n.0, notby_snoc i h e n.1 ne)
+-- no step of these was made by the handle i
+abbrev NotBy : ℕ → List Event → Type 0
+NotBy i es = All (λ (e : Event). handle_of e ≢ i) es
 
-below_snoc : (i : ℕ) (h : List Event) (e : Event) → AllByHandlesBelow i h → handle_of e < i
-    → AllByHandlesBelow i (h ++ e ∷ [])
-below_snoc i [] e n lt = (lt, tt)
-below_snoc i (x ∷ h) e n lt = (n.0, below_snoc i h e n.1 lt)
+-- all steps are by handles below n
+abbrev AllByHandlesBelow : ℕ → List Event → Type 0
+AllByHandlesBelow n es = All (λ (e : Event). handle_of e < n) es
 
 below_more : (i j : ℕ) (h : List Event) → i ≤ j → AllByHandlesBelow i h → AllByHandlesBelow j h
-below_more i j [] le h = tt
-below_more i j (e ∷ es) le h = ((let lt = h.0 in omega arith), below_more i j es le h.1)
+below_more i j h le below = λ k d there. let lt : handle_of (get_or h k d) < i = below k d there in omega arith
 
 below_notby : (i : ℕ) (h : List Event) → AllByHandlesBelow i h → NotBy i h
-below_notby i [] b = tt
-below_notby i (e ∷ es) b = ((λ is. let lt = b.0 in omega arith), below_notby i es b.1)
+below_notby i h below = λ k d there is. let lt : handle_of (get_or h k d) < i = below k d there in omega arith
+
+-- what holds of all steps holds of the later ones
+all_right : (P : Event → Type 0) (a b : List Event) → All P (a ++ b) → All P b
+all_right P [] b h = h
+all_right P (e ∷ a) b h = all_right P a b (λ k d there. h (suc k) d (omega arith))
+
+all_part : (P : Event → Type 0) (a b h : List Event) → h ≡ a ++ b → All P h → All P b
+all_part P a b h e all = all_right P a b (subst (λ (l : List Event). All P l) e all)
 
 puts_put : (h : List Event) (x : Lease) → put_leases (h ++ Put x ∷ []) ≡ put_leases h ++ x ∷ []
 puts_put [] x = refl
@@ -104,16 +110,17 @@ grown items rest views port v e k at mine lawful left =
       lawful = lawful;
       left = left;
       ports = subst (λ n. AllByHandlesBelow n h) (sym long)
-          (below_snoc (length views) k.history e k.ports (let lt = at_below views port v at in omega arith));
+          (All-push (λ (y : Event). handle_of y < length views) k.history e k.ports
+          (let lt = at_below views port v at in omega arith));
       each = λ j u there. ⊎_elim
           (λ (x : (j ≡ port) × (w ≡ u)). subst (λ (y : ℕ × HandleView). Fits h y.0 y.1) (λ i. (sym x.0 i, x.1 i))
-          ((k.each port v at).0, ([], sym (append-nil h), tt)))
+          ((k.each port v at).0, ([], sym (append-nil h), All-nil (λ (y : Event). handle_of y ≢ port))))
           (λ (x : (j ≢ port) × (get_elem? views j ≡ some u)). let f = k.each j u x.1 in (
             f.0,
             (
               f.1.0 ++ e ∷ [],
               ap (λ (l : List Event). l ++ e ∷ []) f.1.1 ∙ append_assoc u.events f.1.0 (e ∷ []),
-              notby_snoc j f.1.0 e f.1.2 (λ is. x.0 (sym is ∙ mine)),
+              All-push (λ (y : Event). handle_of y ≢ j) f.1.0 e f.1.2 (λ is. x.0 (sym is ∙ mine)),
             ),
           ))
           (at_set views port j w u there);
@@ -124,13 +131,6 @@ grown items rest views port v e k at mine lawful left =
           (at_set views port 0 w u there);
     }
 
-below_right : (n : ℕ) (a b : List Event) → AllByHandlesBelow n (a ++ b) → AllByHandlesBelow n b
-below_right n [] b h = h
-below_right n (e ∷ a) b h = below_right n a b h.1
-
-below_part : (n : ℕ) (a b h : List Event) → h ≡ a ++ b → AllByHandlesBelow n h → AllByHandlesBelow n b
-below_part n a b h e all = below_right n a b (subst (AllByHandlesBelow n) e all)
-
 -- what the owner doesn't know of was done by the handles that it made
 others : (items : List Lease) (views : List HandleView) (port : ℕ) (v : HandleView) (k : BenchKept items views)
     (at : get_elem? views port ≡ some v) → OfOthers v ((k.each port v at).1.0)
@@ -139,7 +139,7 @@ others items views port v k at = let f = k.each port v at in (
   λ owner.
       let made : v.made ≡ length views = k.all_made v (subst (λ j. get_elem? views j ≡ some v) (sym f.0 ∙ owner) at) in
       subst (λ n. AllByHandlesBelow n f.1.0) (sym made)
-      (below_part (length views) v.events f.1.0 k.history f.1.1 k.ports),
+      (all_part (λ (y : Event). handle_of y < length views) v.events f.1.0 k.history f.1.1 k.ports),
 )
 
 pub moment : (items : List Lease) (views : List HandleView) (port : ℕ) (v : HandleView) (k : BenchKept items views)
@@ -202,13 +202,6 @@ finds port v views k at = all_got port v [] views refl k at
 pub finds_few : (flavor port : ℕ) (v : HandleView) → flavor ≡ 0 → FindsFew BenchKept (min flavor 1) port v (AllGot v)
 finds_few flavor port v fifo items views few k at = all_got port v items views (omega arith) k at
 
-notby_right : (i : ℕ) (a b : List Event) → NotBy i (a ++ b) → NotBy i b
-notby_right i [] b h = h
-notby_right i (e ∷ a) b h = notby_right i a b h.1
-
-notby_part : (a b h : List Event) (i : ℕ) → h ≡ a ++ b → NotBy i h → NotBy i b
-notby_part a b h i e n = notby_right i a b (subst (NotBy i) e n)
-
 pub forks : (port : ℕ) (v : HandleView) → port ≡ 0 → Forks BenchKept port v (owner_with_thief v) (new_thief_view v)
 forks port v zeroth items views k at =
     let l : HandleView = owner_with_thief v in let r : HandleView = new_thief_view v in
@@ -232,7 +225,7 @@ forks port v zeroth items views k at =
             (
               mine.1.0,
               mine.1.1,
-              notby_part v.events mine.1.0 h (length vs) mine.1.1
+              all_part (λ (y : Event). handle_of y ≢ length vs) v.events mine.1.0 h mine.1.1
                   (subst (λ n. NotBy n h) (sym long) (below_notby (length views) h k.ports)),
             ),
           ))
@@ -249,7 +242,8 @@ forks port v zeroth items views k at =
 
 no_others : (es : List Event) → NotBy 0 es → AllByHandlesBelow 1 es → es ≡ []
 no_others [] n b = refl
-no_others (e ∷ es) n b = absurd (n.0 (let lt = b.0 in omega arith))
+no_others (e ∷ es) n b = let other : handle_of e ≢ 0 = n 0 e (omega arith) in
+    let lt : handle_of e < 1 = b 0 e (omega arith) in absurd (other (omega arith))
 
 known_whole : (v : HandleView) (between h : List Event) → HasNoThief v → HasHistory v between h → h ≡ v.events
 known_whole v between h one at =

@@ -5,12 +5,12 @@ use lib.ListN.{get_elem?}
 use Rattle.sf_crew.specs.declared.board.view.BoardKey.{BoardKey}
 use Rattle.sf_crew.specs.declared.board.view.View.{View}
 use Rattle.sf_crew.specs.declared.board.view.EnteredSheet.{EnteredSheet}
-use Rattle.sf_crew.specs.Views.{count_of_regions, jobs, owed_jobs, times, once_below}
+use Rattle.sf_crew.specs.Views.{count_of_regions, jobs, owed_jobs, once_below}
 use Rattle.sf_ask.specs.Sheets.{SheetData}
 use Rattle.sf_crew.specs.BoardSteps.{with_notes}
 use Rattle.sf_crew.specs.EnteredSheets.{Enters}
 use Rattle.sf_crew.specs.BoardRule.{Sound, Kept}
-use Rattle.sf_crew.proofs.Totals.{total_at, total_only}
+use Rattle.sf_crew.proofs.Totals.{times, total_at, total_only}
 
 pub jobs_once : (k : BoardKey) (n e : ℕ) (d least : ℕ → ℕ) (views : List View) (port : ℕ) (v : View)
     → get_elem? views port ≡ some v → Kept k n e d least views → (x : ℕ)

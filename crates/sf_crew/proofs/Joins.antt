@@ -1,7 +1,9 @@
 -- What a seat knows of its jobs, and how seats are split and joined.
-use Rattle.std.proofs.Common.{◌≡◌, ◌≢◌, ℕ, zero, suc, ◌+◌, ◌<◌, ◌≤◌, ◌⊎◌, min, max, List, [], ◌∷◌, ◌++◌, map, length, set, slice_index, Some, None, IfSome, sym, refl, ap, ◌∙◌, subst, inl, inr, ⊎_elim, length-append, lt_of_not-le, arith}
+use Rattle.std.proofs.Common.{◌≡◌, ◌≢◌, ℕ, zero, suc, ◌+◌, ◌<◌, ◌≤◌, ◌⊎◌, min, max, List, [], ◌∷◌, ◌++◌, sum_by, map, length, set, slice_index, Some, None, IfSome, sym, refl, ap, ◌∙◌, subst, inl, inr, ⊎_elim, length-append, lt_of_not-le, arith}
 use Rattle.std.proofs.lemmas.Bool.Decides.{nat_tests}
 use Rattle.std.proofs.lemmas.List.{set-get_or, length-map, map-append}
+use Rattle.std.proofs.lemmas.List.Elements.{All-nil, All-append}
+use Rattle.std.proofs.lemmas.List.Sums.{sum_by_push}
 use mathlib.Core.Option.{some, some-ne-none}
 use mathlib.Core.Logic.{dite}
 use native.Mathlib.Decide.{dec_le}
@@ -12,11 +14,11 @@ use Rattle.sf_crew.specs.declared.board.view.BoardKey.{BoardKey}
 use Rattle.sf_crew.specs.declared.board.view.View.{View}
 use Rattle.sf_crew.specs.declared.board.view.EnteredSheet.{EnteredSheet}
 use Rattle.sf_crew.specs.declared.board.view.Note.{Note}
-use Rattle.sf_crew.specs.Views.{has, has_doubt, count_of_regions, jobs, owed_jobs, Noted, Covered, Each, times, once_below, total, top, doubt_at}
+use Rattle.sf_crew.specs.Views.{has, has_doubt, count_of_regions, jobs, owed_jobs, Noted, Covered, once_below, top, doubt_at}
 use Rattle.sf_crew.specs.BoardRule.{Sound, Kept, BoardKept}
 use Rattle.sf_crew.specs.BoardSteps.{idle_view, kept_view, shared_view, joined_view, HasAllJobs, Knows}
 use Rattle.sf_crew.proofs.Doubts.{has_doubt_append}
-use Rattle.sf_crew.proofs.Totals.{total_set, total_snoc, top_set, top_at, top_snoc, top_change, times_append, every_set, every_snoc}
+use Rattle.sf_crew.proofs.Totals.{times, total_set, top_set, top_at, top_snoc, top_change, times_append, every_set, every_snoc}
 use Rattle.sf_crew.proofs.Moves.{noted_more}
 use Rattle.sf_crew.proofs.Jobs.{jobs_once, jobs_all, count_all}
 
@@ -59,7 +61,7 @@ shared k least n v is = record {
   past = λ some_none. absurd (omega arith);
   marks = λ _. refl;
   noted = λ q r x. absurd x;
-  covered = tt;
+  covered = All-nil (Covered k []);
 }
 
 split_kept : (k : BoardKey) (n e : ℕ) (d least : ℕ → ℕ) (views : List View) (port : ℕ) (v : View) → 1 < v.joined_seats
@@ -69,17 +71,17 @@ split_kept k n e d least views port v joined_seats fresh is at h = let w : View 
     let u : View = shared_view v in
     let mine = h.each port v at in let vs : List View = set views port w in record {
       joined_seats = (let s = total_set (λ y. y.joined_seats) views port v w at in
-          let t = total_snoc (λ y. y.joined_seats) vs u in
+          let t = sum_by_push (λ y. y.joined_seats) vs u in
           let p = h.joined_seats in omega arith);
       drawn = λ x. (let s = total_set (λ y. times x (jobs y)) views port v w at in
-          let t = total_snoc (λ y. times x (jobs y)) vs u in let p = h.drawn x in omega arith);
+          let t = sum_by_push (λ y. times x (jobs y)) vs u in let p = h.drawn x in omega arith);
       drawn_count = (let s = total_set (λ y. length (jobs y)) views port v w at in
-          let t = total_snoc (λ y. length (jobs y)) vs u in let p = h.drawn_count in omega arith);
+          let t = sum_by_push (λ y. length (jobs y)) vs u in let p = h.drawn_count in omega arith);
       past_end = (let s = total_set (λ y. y.exhausted_seats) views port v w at in
-          let t = total_snoc (λ y. y.exhausted_seats) vs u in
+          let t = sum_by_push (λ y. y.exhausted_seats) vs u in
           let p = h.past_end in omega arith);
       entered_is = (let s = total_set (λ y. length y.entered_sheets) views port v w at in
-          let t = total_snoc (λ y. length y.entered_sheets) vs u in let p = h.entered_is in omega arith);
+          let t = sum_by_push (λ y. length y.entered_sheets) vs u in let p = h.entered_is in omega arith);
       marked = λ q few. (let s = top_set (doubt_at q) views port v w at (omega arith) in
           let t = top_at (doubt_at q) views port v at in let p = h.marked q few in
           let same : doubt_at q w ≡ doubt_at q v = refl in
@@ -116,10 +118,6 @@ noted_either (n ∷ ns) ms q r x = ⊎_elim (λ (y : (n.question ≡ q) × (n.pl
     (λ (y : Noted (ns ++ ms) q r). ⊎_elim (λ (z : Noted ns q r). inl (inr z)) (λ (z : Noted ms q r). inr z)
     (noted_either ns ms q r y)) x
 
-each_append : (P : EnteredSheet → Type 0) (xs ys : List EnteredSheet) → Each P xs → Each P ys → Each P (xs ++ ys)
-each_append P [] ys a b = b
-each_append P (x ∷ xs) ys a b = (a.0, each_append P xs ys a.1 b)
-
 joint_jobs : (x : ℕ) (v w : View) → v.owes ≡ None → w.owes ≡ None
     → times x (jobs (joined_view v w)) ≡ times x (jobs v) + times x (jobs w)
 joint_jobs x v w a b =
@@ -152,7 +150,7 @@ joint_count v w a b =
 
 -- two views at different places: the first becomes b, and the second z
 total_both : (f : View → ℕ) (views : List View) (i j : ℕ) (v w b z : View) → j ≢ i → get_elem? views i ≡ some v
-    → get_elem? (set views i b) j ≡ some w → total f (set (set views i b) j z) + f v + f w ≡ total f views + f b + f z
+    → get_elem? (set views i b) j ≡ some w → sum_by f (set (set views i b) j z) + f v + f w ≡ sum_by f views + f b + f z
 total_both f views i j v w b z apart at at' = let s = total_set f views i v b at in
     let t = total_set f (set views i b) j w z at' in omega arith
 
@@ -214,7 +212,7 @@ join_kept k n e d least views i j v w free free' is part apart at at' h =
             marks = λ _. refl;
             noted = λ q r x. ⊎_elim (λ (y : Noted v.notes q r). mine.noted q r y)
                 (λ (y : Noted w.notes q r). theirs.noted q r y) (noted_either v.notes w.notes q r x);
-            covered = each_append (Covered k (v.notes ++ w.notes)) v.entered_sheets w.entered_sheets
+            covered = All-append (Covered k (v.notes ++ w.notes)) v.entered_sheets w.entered_sheets
                 (noted_more k v.notes (v.notes ++ w.notes) v.entered_sheets (noted_left v.notes w.notes) mine.covered)
                 (noted_more k w.notes (v.notes ++ w.notes) w.entered_sheets
                 (noted_right v.notes w.notes) theirs.covered);
@@ -225,7 +223,7 @@ join_kept k n e d least views i j v w free free' is part apart at at' h =
             past = λ some_none. absurd (omega arith);
             marks = λ _. refl;
             noted = λ q r x. absurd x;
-            covered = tt;
+            covered = All-nil (Covered k []);
           };
     }
 

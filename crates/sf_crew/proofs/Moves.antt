@@ -1,8 +1,9 @@
 -- Each step keeps the rule.
-use Rattle.std.proofs.Common.{◌≡◌, ◌≢◌, ℕ, false, ◌+◌, ◌-◌, ◌*◌, ◌/◌, ◌%◌, ◌^◌, ◌<◌, ◌≤◌, nat_lt, min, max, bit_or, List, [], ◌∷◌, ◌++◌, map, length, set, slice_index, Some, IfSome, sym, refl, ap, ◌∙◌, subst, inl, inr, ⊎_elim, length-set, length-append, lt_of_not-le, arith}
+use Rattle.std.proofs.Common.{◌≡◌, ◌≢◌, ℕ, false, ◌+◌, ◌-◌, ◌*◌, ◌/◌, ◌%◌, ◌^◌, ◌<◌, ◌≤◌, nat_lt, min, max, bit_or, List, [], ◌∷◌, ◌++◌, All, sum_by, map, length, set, slice_index, Some, IfSome, sym, refl, ap, ◌∙◌, subst, inl, inr, ⊎_elim, length-set, length-append, lt_of_not-le, arith}
 use Rattle.std.specs.Int.{bit_at}
 use Rattle.std.proofs.lemmas.Bool.Decides.{nat_tests}
 use Rattle.std.proofs.lemmas.List.{get_or-set_same, get_or-set_other, set-get_or, length-map}
+use Rattle.std.proofs.lemmas.List.Elements.{All-cons, All-weaker}
 use mathlib.Core.Option.{some}
 use mathlib.Core.Logic.{dite}
 use native.Mathlib.Decide.{dec_le, ℕ_discrete}
@@ -13,28 +14,24 @@ use Rattle.sf_crew.specs.declared.board.view.View.{View}
 use Rattle.sf_crew.specs.declared.board.view.EnteredSheet.{EnteredSheet}
 use Rattle.sf_crew.specs.declared.board.view.Note.{Note}
 use Rattle.sf_ask.specs.Sheets.{HasBreak}
-use Rattle.sf_crew.specs.Views.{note, entered_sheet, has, has_doubt, regions_of, questions_of, count_of_regions, jobs, owed_jobs, Noted, Covered, Each, RightPlace, times, total, top, doubt_at}
+use Rattle.sf_crew.specs.Views.{note, entered_sheet, has, has_doubt, regions_of, questions_of, count_of_regions, jobs, owed_jobs, Noted, Covered, RightPlace, top, doubt_at}
 use Rattle.sf_crew.specs.BoardRule.{Kept, BoardKept, least_in, doubts_in}
 use Rattle.sf_crew.specs.BoardSteps.{with_notes, view_with_note, view_with_mark, view_with_sheet, Looks}
 use Rattle.sf_crew.proofs.Doubts.{has_same, has_other, has_most, has_doubt_most, question_is, bit_set, bit_kept, bit_most}
-use Rattle.sf_crew.proofs.Totals.{total_set, total_le, top_set, top_kept}
+use Rattle.sf_crew.proofs.Totals.{times, total_set, total_le, top_set, top_kept}
 use Rattle.sf_crew.proofs.OneView.{one_view, marks_and_notes, same_marks, later, in_words}
 
 pub not_above : (n : ℕ) → nat_lt 0 n ≡ false → n ≡ 0
 not_above n h = grind (arith, nat_tests)
 
 pub noted_more : (k : BoardKey) (ns ms : List Note) (es : List EnteredSheet) → ((q r : ℕ) → Noted ns q r → Noted ms q r)
-    → Each (Covered k ns) es → Each (Covered k ms) es
-noted_more k ns ms [] more h = tt
-noted_more k ns ms (e ∷ es) more h = (
-  record {
-    there = h.0.there;
-    cleared = λ q there. ⊎_elim (λ (x : (r : ℕ) × Noted ns q r × (r ≤ e.job)). inl (x.0, more q x.0 x.1, x.2))
-        (λ x. inr x) (h.0.cleared q there);
-    doubts = h.0.doubts;
-  },
-  noted_more k ns ms es more h.1,
-)
+    → All (Covered k ns) es → All (Covered k ms) es
+noted_more k ns ms es more h = All-weaker (Covered k ns) (Covered k ms) (λ e c. record {
+  there = c.there;
+  cleared = λ q there. ⊎_elim (λ (x : (r : ℕ) × Noted ns q r × (r ≤ e.job)). inl (x.0, more q x.0 x.1, x.2))
+      (λ x. inr x) (c.cleared q there);
+  doubts = c.doubts;
+}) es h
 
 -- the notes of one view, and the least places, change
 renoted : (k : BoardKey) (n e : ℕ) (d least less : ℕ → ℕ) (views : List View) (port : ℕ) (v : View) (ns : List Note)
@@ -220,7 +217,7 @@ enter_kept k n e j d least views port v owing part covered at h = let w : View =
       past = mine.past;
       marks = λ _. refl;
       noted = mine.noted;
-      covered = (covered, mine.covered);
+      covered = All-cons (Covered k v.notes) (entered_sheet j v.marked) v.entered_sheets covered mine.covered;
     }) h
 
 entries_few : (k : BoardKey) (n e j : ℕ) (d least : ℕ → ℕ) (views : List View) (port : ℕ) (v : View) → v.owes ≡ Some j
@@ -230,7 +227,8 @@ entries_few k n e j d least views port v owing at h = let w : View = view_with_s
     let b = total_set (λ u. length (jobs u)) views port v w at in
     let same : length (jobs v) ≡ length (jobs w) =
     ap (λ o. length (owed_jobs o ++ map (λ y. y.job) v.entered_sheets)) owing in
-    let le : total (λ u. length u.entered_sheets) (set views port w) ≤ total (λ u. length (jobs u)) (set views port w) =
+    let le : sum_by (λ u. length u.entered_sheets) (set views port w)
+    ≤ sum_by (λ u. length (jobs u)) (set views port w) =
     total_le (λ u. length u.entered_sheets) (λ u. length (jobs u)) (set views port w)
     (λ i u _. omega (
       arith,

@@ -6,10 +6,10 @@ use lib.ListN.{get_elem?}
 use Rattle.sf_crew.specs.declared.board.view.BoardKey.{BoardKey}
 use Rattle.sf_crew.specs.declared.board.view.View.{View}
 use Rattle.sf_crew.specs.declared.board.view.Note.{Note}
-use Rattle.sf_crew.specs.Views.{questions_of, count_of_regions, jobs, RightPlace, times, once_below, top, doubt_at}
+use Rattle.sf_crew.specs.Views.{questions_of, count_of_regions, jobs, RightPlace, once_below, top, doubt_at}
 use Rattle.sf_crew.specs.BoardRule.{Sound, Kept, least_in, doubts_in}
 use Rattle.sf_crew.specs.BoardSteps.{with_notes, with_marks}
-use Rattle.sf_crew.proofs.Totals.{total_set, top_kept, every_set}
+use Rattle.sf_crew.proofs.Totals.{times, total_set, top_kept, every_set}
 
 -- What a view counts for, beside the view that it becomes: the word of the next job goes from n to m, that of the
 -- sheets entered from e to f.

@@ -4,10 +4,11 @@ use Rattle.std.specs.Int.{bit_at}
 use Rattle.std.proofs.lemmas.Nat.Bits.{bit_at-zero}
 use Rattle.std.proofs.lemmas.Bool.Decides.{nat_tests}
 use Rattle.std.proofs.lemmas.List.{get_or-append-add, get_or-replicate}
+use Rattle.std.proofs.lemmas.List.Elements.{All-nil}
 use mathlib.Core.Option.{some, some-injective, some-ne-none}
 use lib.ListN.{get_elem?, replicate, length-replicate}
 use Rattle.sf_crew.specs.declared.board.view.BoardKey.{BoardKey}
-use Rattle.sf_crew.specs.Views.{questions_of, count_of_regions, once_below}
+use Rattle.sf_crew.specs.Views.{questions_of, count_of_regions, Covered, once_below}
 use Rattle.sf_crew.specs.BoardRule.{Sound, Kept, BoardKept, least_in, doubts_in}
 use Rattle.sf_crew.specs.BoardSteps.{first_view}
 
@@ -40,7 +41,7 @@ opened k = record {
   past = λ some_none. absurd (omega arith);
   marks = λ _. refl;
   noted = λ q r x. absurd x;
-  covered = tt;
+  covered = All-nil (Covered k []);
 }
 
 pub opens : (k : BoardKey) → Kept k 0 0 (doubts_in (first_words (length (questions_of k)) (count_of_regions k)))

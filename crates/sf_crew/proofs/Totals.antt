@@ -1,50 +1,63 @@
--- Totals over all views, and lists read by place.
-use Rattle.std.proofs.Common.{◌≡◌, ◌≢◌, ℕ, zero, suc, ◌+◌, ◌≤◌, max, List, [], ◌∷◌, ◌++◌, set, sym, refl, ap, subst, ⊎_elim, arith}
+-- Sums and greatest values over all views, and lists read by place.
+use Rattle.std.proofs.Common.{◌≡◌, ◌≢◌, ℕ, zero, suc, ◌+◌, ◌≤◌, ◌==◌, if◌then◌else◌, cond, max, List, [], ◌∷◌, ◌++◌, sum_by, count_by, set, sym, refl, ap, subst, ⊎_elim, arith}
+use Rattle.std.proofs.lemmas.List.Sums.{sum_by-cons, sum_by-append}
 use mathlib.Core.Option.{some, some-injective, some-ne-none}
 use lib.ListN.{get_elem?}
 use Rattle.atomic_table.proofs.Lists.{at_set, at_snoc}
 use Rattle.sf_crew.specs.declared.board.view.View.{View}
-use Rattle.sf_crew.specs.Views.{times, total, top}
+use Rattle.sf_crew.specs.Views.{top}
+
+-- how often x stands in the list
+abbrev pub times : ℕ → List ℕ → ℕ
+times x xs = count_by (λ y. x == y) xs
+
+pub times_cons : (x y : ℕ) (ys : List ℕ) → times x (y ∷ ys) ≡ (if x == y then 1 else 0) + times x ys
+times_cons x y ys = sum_by-cons (λ (z : ℕ). cond (x == z) 1 0) y ys
+
+pub times_append : (x : ℕ) (xs ys : List ℕ) → times x (xs ++ ys) ≡ times x xs + times x ys
+times_append x xs ys = sum_by-append (λ (z : ℕ). cond (x == z) 1 0) xs ys
 
 pub total_set : (f : View → ℕ) (views : List View) (port : ℕ) (v w : View) → get_elem? views port ≡ some v
-    → total f (set views port w) + f v ≡ total f views + f w
+    → sum_by f (set views port w) + f v ≡ sum_by f views + f w
 total_set f [] port v w e = absurd (some-ne-none v (sym e))
-total_set f (x ∷ xs) zero v w e = let same : f x ≡ f v = ap f (some-injective x v e) in omega arith
-total_set f (x ∷ xs) (suc port) v w e = let rest = total_set f xs port v w e in omega arith
+total_set f (x ∷ xs) zero v w e = let same : f x ≡ f v = ap f (some-injective x v e) in
+    let old = sum_by-cons f x xs in let new = sum_by-cons f w xs in omega arith
+total_set f (x ∷ xs) (suc port) v w e = let rest = total_set f xs port v w e in
+    let old = sum_by-cons f x xs in let new = sum_by-cons f x (set xs port w) in omega arith
 
 pub total_at : (f : View → ℕ) (views : List View) (port : ℕ) (v : View) → get_elem? views port ≡ some v
-    → f v ≤ total f views
+    → f v ≤ sum_by f views
 total_at f [] port v e = absurd (some-ne-none v (sym e))
-total_at f (x ∷ xs) zero v e = let same : f x ≡ f v = ap f (some-injective x v e) in omega arith
-total_at f (x ∷ xs) (suc port) v e = let rest = total_at f xs port v e in omega arith
-
-pub total_snoc : (f : View → ℕ) (views : List View) (w : View) → total f (views ++ w ∷ []) ≡ total f views + f w
-total_snoc f [] w = omega arith
-total_snoc f (x ∷ xs) w = let rest = total_snoc f xs w in omega arith
+total_at f (x ∷ xs) zero v e = let same : f x ≡ f v = ap f (some-injective x v e) in
+    let all = sum_by-cons f x xs in omega arith
+total_at f (x ∷ xs) (suc port) v e = let rest = total_at f xs port v e in
+    let all = sum_by-cons f x xs in omega arith
 
 -- where one view has all of f, and g is 0 wherever f is, it has all of g
 total_none : (f g : View → ℕ) (views : List View)
-    → ((port : ℕ) (v : View) → get_elem? views port ≡ some v → f v ≡ 0 → g v ≡ 0) → total f views ≡ 0
-    → total g views ≡ 0
+    → ((port : ℕ) (v : View) → get_elem? views port ≡ some v → f v ≡ 0 → g v ≡ 0) → sum_by f views ≡ 0
+    → sum_by g views ≡ 0
 total_none f g [] h e = refl
-total_none f g (x ∷ xs) h e = let here : g x ≡ 0 = h 0 x refl (omega arith) in
+total_none f g (x ∷ xs) h e = let fs = sum_by-cons f x xs in let gs = sum_by-cons g x xs in
+    let here : g x ≡ 0 = h 0 x refl (omega arith) in
     let rest = total_none f g xs (λ j v at. h (suc j) v at) (omega arith) in omega arith
 
 pub total_only : (f g : View → ℕ) (views : List View) (port : ℕ) (v : View)
     → ((j : ℕ) (u : View) → get_elem? views j ≡ some u → f u ≡ 0 → g u ≡ 0) → get_elem? views port ≡ some v
-    → total f views ≡ f v → total g views ≡ g v
+    → sum_by f views ≡ f v → sum_by g views ≡ g v
 total_only f g [] port v h at e = absurd (some-ne-none v (sym at))
-total_only f g (x ∷ xs) zero v h at e =
+total_only f g (x ∷ xs) zero v h at e = let fs = sum_by-cons f x xs in let gs = sum_by-cons g x xs in
     let f_same : f x ≡ f v = ap f (some-injective x v at) in let g_same : g x ≡ g v = ap g (some-injective x v at) in
     let rest = total_none f g xs (λ j u there. h (suc j) u there) (omega arith) in omega arith
-total_only f g (x ∷ xs) (suc port) v h at e =
+total_only f g (x ∷ xs) (suc port) v h at e = let fs = sum_by-cons f x xs in let gs = sum_by-cons g x xs in
     let most = total_at f xs port v at in let here : g x ≡ 0 = h 0 x refl (omega arith) in
     let rest = total_only f g xs port v (λ j u there. h (suc j) u there) at (omega arith) in omega arith
 
 pub total_le : (f g : View → ℕ) (views : List View)
-    → ((port : ℕ) (v : View) → get_elem? views port ≡ some v → f v ≤ g v) → total f views ≤ total g views
+    → ((port : ℕ) (v : View) → get_elem? views port ≡ some v → f v ≤ g v) → sum_by f views ≤ sum_by g views
 total_le f g [] h = omega arith
-total_le f g (x ∷ xs) h = let here : f x ≤ g x = h 0 x refl in
+total_le f g (x ∷ xs) h = let fs = sum_by-cons f x xs in let gs = sum_by-cons g x xs in
+    let here : f x ≤ g x = h 0 x refl in
     let rest = total_le f g xs (λ j v at. h (suc j) v at) in omega arith
 
 pub top_set : (f : View → ℕ) (views : List View) (port : ℕ) (v w : View) → get_elem? views port ≡ some v → f v ≤ f w
@@ -69,19 +82,15 @@ pub top_kept : (f : View → ℕ) (views : List View) (port : ℕ) (v w : View) 
 top_kept f views port v w at same = let s = top_set f views port v w at (omega arith) in
     let t = top_at f views port v at in omega arith
 
-top_below_total : (f : View → ℕ) (views : List View) → top f views ≤ total f views
+top_below_total : (f : View → ℕ) (views : List View) → top f views ≤ sum_by f views
 top_below_total f [] = omega arith
-top_below_total f (x ∷ xs) = let rest = top_below_total f xs in omega arith
+top_below_total f (x ∷ xs) = let rest = top_below_total f xs in let all = sum_by-cons f x xs in omega arith
 
 pub top_only : (f g : View → ℕ) (views : List View) (port : ℕ) (v : View)
     → ((j : ℕ) (u : View) → get_elem? views j ≡ some u → f u ≡ 0 → g u ≡ 0) → get_elem? views port ≡ some v
-    → total f views ≡ f v → top g views ≡ g v
+    → sum_by f views ≡ f v → top g views ≡ g v
 top_only f g views port v h at e = let all = total_only f g views port v h at e in
     let most = top_below_total g views in let mine = top_at g views port v at in omega arith
-
-pub times_append : (x : ℕ) (xs ys : List ℕ) → times x (xs ++ ys) ≡ times x xs + times x ys
-times_append x [] ys = omega arith
-times_append x (y ∷ xs) ys = let rest = times_append x xs ys in omega arith
 
 -- a fact of every view stays where one view changes
 pub every_set : (F G : View → Type 0) (views : List View) (port : ℕ) (w : View)

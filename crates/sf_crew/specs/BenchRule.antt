@@ -1,22 +1,22 @@
 -- The rule of a bench, which each step of a handle keeps.
-use Rattle.std.specs.Prelude.{◌≡◌, ℕ, ◌+◌, List, [], ◌∷◌, ◌++◌, length, drop}
+use Rattle.std.specs.Prelude.{◌≡◌, ◌≢◌, ℕ, ◌+◌, ◌<◌, List, [], ◌∷◌, ◌++◌, All, length, drop}
 use mathlib.Core.Option.{some}
 use lib.ListN.{get_elem?}
 use Rattle.sf_book.specs.declared.book.Lease.{Lease}
 use Rattle.sf_crew.specs.declared.benches.history.Event.{Event}
 use Rattle.sf_crew.specs.declared.benches.history.HandleView.{HandleView}
-use Rattle.sf_crew.specs.History.{handle_view, NotBy, AllByHandlesBelow, put_leases, got_count, IsLawfulHistory, Puts, Gets}
+use Rattle.sf_crew.specs.History.{handle_view, handle_of, put_leases, got_count, IsLawfulHistory, Puts, Gets}
 
 -- a handle has seen the history up to its last step
 abbrev pub Fits : List Event → ℕ → HandleView → Type 0
-Fits h port v = (v.me ≡ port) × ((rest : List Event) × (h ≡ v.events ++ rest) × NotBy port rest)
+Fits h port v = (v.me ≡ port) × ((rest : List Event) × (h ≡ v.events ++ rest) × All (λ e. handle_of e ≢ port) rest)
 
 -- there is one history, which each handle knows up to its own last step. The bench holds what was put and not got
 pub record BenchKept (items : List Lease) (views : List HandleView) : Type 0 where
   pub history : List Event
   pub lawful : IsLawfulHistory history
   pub left : items ≡ drop (got_count history) (put_leases history)
-  pub ports : AllByHandlesBelow (length views) history
+  pub ports : All (λ e. handle_of e < length views) history
   pub each : (port : ℕ) (v : HandleView) → get_elem? views port ≡ some v → Fits history port v
   pub all_made : (v : HandleView) → get_elem? views 0 ≡ some v → v.made ≡ length views
 

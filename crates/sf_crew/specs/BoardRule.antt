@@ -1,12 +1,12 @@
 -- The rule of the board.
-use Rattle.std.specs.Prelude.{◌≡◌, ℕ, ◌+◌, ◌<◌, ◌≤◌, min, ◌/◌, ◌%◌, List, [], length, Some, None, slice_index}
+use Rattle.std.specs.Prelude.{◌≡◌, ℕ, ◌+◌, ◌<◌, ◌≤◌, min, ◌/◌, ◌%◌, ◌==◌, List, [], All, count_by, sum_by, length, Some, None, slice_index}
 use Rattle.std.specs.Int.{bit_at}
 use mathlib.Core.Option.{some}
 use lib.ListN.{get_elem?}
 use Rattle.atomic_table.specs.Table.{State}
 use Rattle.sf_crew.specs.declared.board.view.BoardKey.{BoardKey}
 use Rattle.sf_crew.specs.declared.board.view.View.{View}
-use Rattle.sf_crew.specs.Views.{questions_of, count_of_regions, jobs, Noted, Covered, Each, RightPlace, times, once_below, total, top, doubt_at}
+use Rattle.sf_crew.specs.Views.{questions_of, count_of_regions, jobs, Noted, Covered, RightPlace, once_below, top, doubt_at}
 
 -- what holds of each view, whatever the others are
 pub record Sound (k : BoardKey) (next : ℕ) (least : ℕ → ℕ) (v : View) : Type 0 where
@@ -16,16 +16,17 @@ pub record Sound (k : BoardKey) (next : ℕ) (least : ℕ → ℕ) (v : View) : 
   pub past : 0 < v.exhausted_seats → count_of_regions k ≤ next
   pub marks : v.owes ≡ None → v.marked ≡ []
   pub noted : (q r : ℕ) → Noted v.notes q r → least q ≤ r
-  pub covered : Each (Covered k v.notes) v.entered_sheets
+  pub covered : All (Covered k v.notes) v.entered_sheets
 
 -- the words: the next job, the number of sheets entered, four of bits of the questions with a Doubt, and for each
 -- question its least place
 pub record Kept (k : BoardKey) (next entered : ℕ) (doubts least : ℕ → ℕ) (views : List View) : Type 0 where
-  pub joined_seats : total (λ v. v.joined_seats) views ≡ k.seats
-  pub drawn : (x : ℕ) → total (λ v. times x (jobs v)) views ≡ once_below x (min next (count_of_regions k))
-  pub drawn_count : total (λ v. length (jobs v)) views ≡ min next (count_of_regions k)
-  pub past_end : next ≤ count_of_regions k + total (λ v. v.exhausted_seats) views
-  pub entered_is : total (λ v. length v.entered_sheets) views ≡ entered
+  pub joined_seats : sum_by (λ v. v.joined_seats) views ≡ k.seats
+  pub drawn : (x : ℕ) → sum_by (λ v. count_by (λ j. x == j) (jobs v)) views
+      ≡ once_below x (min next (count_of_regions k))
+  pub drawn_count : sum_by (λ v. length (jobs v)) views ≡ min next (count_of_regions k)
+  pub past_end : next ≤ count_of_regions k + sum_by (λ v. v.exhausted_seats) views
+  pub entered_is : sum_by (λ v. length v.entered_sheets) views ≡ entered
   pub marked : (q : ℕ) → q < 256 → bit_at (doubts (q / 64)) (q % 64) ≡ top (doubt_at q) views
   pub right : (q : ℕ) → q < length (questions_of k) → RightPlace k q (least q)
   pub each : (port : ℕ) (v : View) → get_elem? views port ≡ some v → Sound k next least v

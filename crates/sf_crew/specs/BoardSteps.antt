@@ -1,10 +1,10 @@
 -- What each step does to a view, and what it tells.
-use Rattle.std.specs.Prelude.{◌≡◌, ℕ, ◌+◌, ◌-◌, ◌<◌, ◌≤◌, List, [], ◌∷◌, ◌++◌, length, Option, Some, None, IfSome}
+use Rattle.std.specs.Prelude.{◌≡◌, ℕ, ◌+◌, ◌-◌, ◌<◌, ◌≤◌, ◌==◌, List, [], ◌∷◌, ◌++◌, count_by, length, Option, Some, None, IfSome}
 use Rattle.sf_crew.specs.declared.board.view.BoardKey.{BoardKey}
 use Rattle.sf_crew.specs.declared.board.view.Note.{Note}
 use Rattle.sf_crew.specs.declared.board.view.EnteredSheet.{EnteredSheet}
 use Rattle.sf_crew.specs.declared.board.view.View.{View}
-use Rattle.sf_crew.specs.Views.{count_of_regions, jobs, entered_sheet, note, Noted, RightPlace, times, once_below}
+use Rattle.sf_crew.specs.Views.{count_of_regions, jobs, entered_sheet, note, Noted, RightPlace, once_below}
 
 -- a view by its parts, in the order in which a view has them
 abbrev pub view_of : Option BoardKey → ℕ → ℕ → Option ℕ → List ℕ → List EnteredSheet → List Note → View
@@ -64,13 +64,13 @@ joined_view v w = view_of v.about (v.joined_seats + w.joined_seats) (v.exhausted
 -- a view with every part has each job
 abbrev pub HasAllJobs : BoardKey → View → Type 0
 HasAllJobs k v = v.joined_seats ≡ k.seats → (length (jobs v) ≡ count_of_regions k)
-    × ((x : ℕ) → times x (jobs v) ≡ once_below x (count_of_regions k))
+    × ((x : ℕ) → count_by (λ j. x == j) (jobs v) ≡ once_below x (count_of_regions k))
 
 -- a draw found n
 abbrev pub Draws : View → ℕ → View → Type 0
 Draws v n w =
-    IfSome v.about (λ k. (n < count_of_regions k → (times n (jobs v) ≡ 0) × (length (jobs v) < count_of_regions k)
-    × (w ≡ view_with_job v n))
+    IfSome v.about (λ k. (n < count_of_regions k → (count_by (λ j. n == j) (jobs v) ≡ 0)
+    × (length (jobs v) < count_of_regions k) × (w ≡ view_with_job v n))
     × (count_of_regions k ≤ n → (w ≡ view_without_job v) × HasAllJobs k w))
 
 -- a look at question q found the place r: a right one, no greater than any that the seat has noted
@@ -80,7 +80,7 @@ Looks v q r w = (w ≡ view_with_note v q r) × ((s : ℕ) → Noted v.notes q s
 
 -- no job of the view stands in it twice, and where it found the end, it has each job if it has every part
 abbrev pub Knows : View → Type 0
-Knows v = ((x : ℕ) → times x (jobs v) ≤ 1) × IfSome v.about (λ k. 0 < v.exhausted_seats → HasAllJobs k v)
+Knows v = ((x : ℕ) → count_by (λ j. x == j) (jobs v) ≤ 1) × IfSome v.about (λ k. 0 < v.exhausted_seats → HasAllJobs k v)
 
 -- what a seat keeps of its parts when it gives one away
 abbrev pub kept_view : View → View

@@ -1,6 +1,6 @@
 -- The history of a bench: one list of the leases that were put, of which each handle has got some, each lease at most
 -- once and first in, first out.
-use Rattle.std.specs.Prelude.{◌≡◌, ◌≢◌, ℕ, ◌+◌, ◌<◌, List, [], ◌∷◌, ◌++◌, length, Option, Some, slice_get}
+use Rattle.std.specs.Prelude.{◌≡◌, ◌≢◌, ℕ, ◌+◌, ◌<◌, List, [], ◌∷◌, ◌++◌, All, length, Option, Some, slice_get}
 use Rattle.sf_book.specs.declared.book.Lease.{Lease}
 use Rattle.sf_crew.specs.declared.benches.history.Event.{Event}
 use Rattle.sf_crew.specs.declared.benches.history.Event.TheVariants.{Put, Got}
@@ -15,19 +15,9 @@ abbrev pub handle_of : Event → ℕ
 handle_of (Put x) = 0
 handle_of (Got i) = i
 
--- no step of these was made by the handle i
-abbrev pub NotBy : ℕ → List Event → Type 0
-NotBy i [] = Unit {0}
-NotBy i (e ∷ es) = (handle_of e ≢ i) × NotBy i es
-
--- all steps are by handles below n
-abbrev pub AllByHandlesBelow : ℕ → List Event → Type 0
-AllByHandlesBelow n [] = Unit {0}
-AllByHandlesBelow n (e ∷ es) = (handle_of e < n) × AllByHandlesBelow n es
-
 -- Steps of other ends. The owner has made all of them, so it knows which there are; a thief doesn't.
 abbrev pub OfOthers : HandleView → List Event → Type 0
-OfOthers v es = NotBy v.me es × (v.me ≡ 0 → AllByHandlesBelow v.made es)
+OfOthers v es = All (λ e. handle_of e ≢ v.me) es × (v.me ≡ 0 → All (λ e. handle_of e < v.made) es)
 
 -- the owner of a bench without thieves
 abbrev pub HasNoThief : HandleView → Type 0

@@ -1,12 +1,12 @@
 -- What the tally says that a seat closes a board with.
-use Rattle.std.specs.Prelude.{◌≡◌, ℕ, ◌<◌, ◌≤◌, ◌⊎◌, List, map, length, Some, slice_get}
+use Rattle.std.specs.Prelude.{◌≡◌, ℕ, ◌<◌, ◌≤◌, ◌⊎◌, ◌==◌, List, map, All, count_by, length, Some, slice_get}
 use Rattle.sf_ask.specs.Sheets.{HasBreak, HasNoBreak}
 use Rattle.sf_crew.specs.declared.board.view.BoardKey.{BoardKey}
 use Rattle.sf_crew.specs.declared.board.view.View.{View}
 use Rattle.sf_crew.specs.declared.board.view.EnteredSheet.{EnteredSheet}
 use Rattle.sf_crew.specs.declared.board.Tally.{Tally}
 use Rattle.sf_ask.specs.QuestionBits.{bit_of}
-use Rattle.sf_crew.specs.Views.{regions_of, questions_of, count_of_regions, has, has_doubt, IsInDoubt, Each, times, once_below}
+use Rattle.sf_crew.specs.Views.{regions_of, questions_of, count_of_regions, has, has_doubt, IsInDoubt, once_below}
 
 -- the jobs of the sheets that a seat, and those joined into it, have entered
 abbrev pub entered_jobs : View → List ℕ
@@ -25,20 +25,20 @@ IsCleared k t e q = HasNoBreak (regions_of k) (questions_of k) e.job q
 -- a tally is right about what was entered by the seat that closes the board, and by those joined into it
 pub record RightTally (k : BoardKey) (v : View) (t : Tally) : Type 0 where
   -- what was entered is the places of regions, each at most once
-  pub each_once : (x : ℕ) → times x (entered_jobs v) ≤ once_below x (count_of_regions k)
+  pub each_once : (x : ℕ) → count_by (λ j. x == j) (entered_jobs v) ≤ once_below x (count_of_regions k)
   -- a least place is a region with a member that breaks the question
   pub breaks : (q r : ℕ) → slice_get t.least q ≡ Some (Some r) → (r < count_of_regions k)
       × HasBreak (regions_of k) (questions_of k) r q
   -- the entered regions below it are cleared, all of them where there is none
-  pub cleared : Each (λ e. (q : ℕ) → q < length (questions_of k) → IsBelow t q e.job
+  pub cleared : All (λ e. (q : ℕ) → q < length (questions_of k) → IsBelow t q e.job
       → IsCleared k t e q) v.entered_sheets
   -- and their doubts are right
-  pub doubts : Each (λ e. (q : ℕ) → has q e.doubts ≡ 1 → IsInDoubt k e.job q) v.entered_sheets
+  pub doubts : All (λ e. (q : ℕ) → has q e.doubts ≡ 1 → IsInDoubt k e.job q) v.entered_sheets
   -- no fewer sheets are counted
   pub counted : length v.entered_sheets ≤ t.entered
   -- as many as there are regions are all of them
   pub complete : length v.entered_sheets ≡ count_of_regions k → (x : ℕ)
-      → times x (entered_jobs v) ≡ once_below x (count_of_regions k)
+      → count_by (λ j. x == j) (entered_jobs v) ≡ once_below x (count_of_regions k)
   -- where all seats were joined, each of the 256 bits is set just for a doubt on an entered sheet, so none past the
   -- last question, and no other sheet is counted
   pub all_doubts : v.joined_seats ≡ k.seats → (q : ℕ) → q < 256 → bit_of t.doubts q ≡ has_doubt q v.entered_sheets

@@ -1,5 +1,5 @@
 -- What a seat of a board knows, and words on it.
-use Rattle.std.specs.Prelude.{◌≡◌, ℕ, ◌+◌, ◌<◌, ◌≤◌, ◌⊎◌, ◌==◌, nat_lt, if◌then◌else◌, max, List, [], ◌∷◌, ◌++◌, map, length, Option, Some, None}
+use Rattle.std.specs.Prelude.{◌≡◌, ℕ, ◌<◌, ◌≤◌, ◌⊎◌, ◌==◌, nat_lt, if◌then◌else◌, max, List, [], ◌∷◌, ◌++◌, map, length, Option, Some, None}
 use Rattle.sf_book.specs.Books.{BookData}
 use Rattle.sf_ask.specs.QuestionData.{QuestionData}
 use Rattle.sf_ask.specs.Sheets.{HasBreak, HasNoBreak, IsRightWhereGiven}
@@ -69,24 +69,9 @@ pub record Covered (k : BoardKey) (notes : List Note) (e : EnteredSheet) : Type 
       ⊎ HasNoBreak (regions_of k) (questions_of k) e.job q ⊎ (has q e.doubts ≡ 1)
   pub doubts : (q : ℕ) → has q e.doubts ≡ 1 → IsInDoubt k e.job q
 
--- a fact of each element
-abbrev pub Each : {X : Type 0} → (X → Type 0) → List X → Type 0
-Each P [] = Unit {0}
-Each P (x ∷ xs) = P x × Each P xs
-
--- how often x stands in the list
-abbrev pub times : ℕ → List ℕ → ℕ
-times x [] = 0
-times x (y ∷ ys) = (if x == y then 1 else 0) + times x ys
-
 -- how often each number below n stands in a list of all of them
 abbrev pub once_below : ℕ → ℕ → ℕ
 once_below x n = if nat_lt x n then 1 else 0
-
--- f of all views, added up
-abbrev pub total : (View → ℕ) → List View → ℕ
-total f [] = 0
-total f (v ∷ vs) = f v + total f vs
 
 -- the greatest f of a view
 abbrev pub top : (View → ℕ) → List View → ℕ

@@ -1,7 +1,7 @@
 //! The calls of a seat on its board, but for entering a sheet.
-ghost use Rattle.std.specs.Prelude.{◌≡◌, ℕ, ◌+◌, ◌-◌, ◌<◌, ◌≤◌, ◌^◌, nat_lt, length, IfSome, IfNone, Some, None, []};
+ghost use Rattle.std.specs.Prelude.{◌≡◌, ℕ, ◌+◌, ◌-◌, ◌<◌, ◌≤◌, ◌^◌, ◌==◌, nat_lt, count_by, length, IfSome, IfNone, Some, None, []};
 ghost use Rattle.sf_ask.specs.Sheets.{HasBreak};
-ghost use Rattle.sf_crew.specs.Views.{questions_of, regions_of, count_of_regions, jobs, times, Noted};
+ghost use Rattle.sf_crew.specs.Views.{questions_of, regions_of, count_of_regions, jobs, Noted};
 ghost use Rattle.sf_crew.specs.BoardSteps.{view_with_job, view_without_job, view_with_note, joined_view, Knows, GotNone};
 ghost use Rattle.sf_crew.specs.Boards.{about, seat_view, IsSeatOf};
 
@@ -27,7 +27,7 @@ impl Board {
         ensures joined_seats { (seat_view seat.new).joined_seats
             ≡ (seat_view seat.old).joined_seats }
         ensures some { IfSome result (λ j. (j < count_of_regions (about self.now))
-            × (times j (jobs (seat_view seat.old)) ≡ 0)
+            × (count_by (λ i. j == i) (jobs (seat_view seat.old)) ≡ 0)
             × (length (jobs (seat_view seat.old)) < count_of_regions (about self.now))
             × (seat_view seat.new ≡ view_with_job (seat_view seat.old) j)) }
         ensures none { IfNone result (GotNone (about self.now) (seat_view seat.old)
