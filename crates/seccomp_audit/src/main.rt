@@ -1,7 +1,7 @@
 //! Audits a stack of seccomp filters: hands the system's files and streams to the command line.
 #![tactic(auto)]
 
-use sf_audit::Fault;
+use sf_audit::{Fault, Outcome};
 use sf_command::{Files, MOST_BYTES, command, tell_fault};
 use std::env::{Env, FillError};
 use std::fmt::InlineText;
@@ -9,7 +9,7 @@ use std::fs::File;
 use std::io::{ErrorKind, Read, Write};
 use std::process::ExitCode;
 use std::rt::Files as FileSystem;
-use std::{env, io};
+use std::{env, io, mem};
 
 /// The most bytes of the system's reason that are kept.
 const REASON: usize = 256;
@@ -52,6 +52,11 @@ impl<R: FileSystem + AllocGlobal> Files for Disk<'_, R> {
 
     fn reason(&self) -> &str {
         self.reason.as_str()
+    }
+
+    /// The process ends next, and gives all memory back at once: piece by piece it would take a sixteenth of an audit.
+    fn take_over(&self, outcome: Outcome) {
+        mem::forget(outcome);
     }
 }
 

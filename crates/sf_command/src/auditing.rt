@@ -86,5 +86,7 @@ pub fn audit<R: Threads + Wait + Sync, F: Files, O: Write>(
         &Open,
     )?;
     write_report(alloc, &outcome, options.regions, out)?;
-    Ok(status_of_replies(outcome.replies()))
+    let status = status_of_replies(outcome.replies());
+    files.take_over(outcome);
+    Ok(status)
 }

@@ -5,14 +5,14 @@ ghost use Rattle.sf_command.specs.Files.{AreKnownBytes, AreRead, HasUnknown};
 ghost use Rattle.sf_audit.specs.declared.fault.Fault.TheVariants.{Memory, Read};
 
 use crate::explaining::Notes;
-use sf_audit::Fault;
+use sf_audit::{Fault, Outcome};
 use std::alloc::Global;
 
 /// The most bytes of a file that is read: 1 MiB, which is 32 times the longest filter. So a file without an end is
 /// refused.
 pub const MOST_BYTES: usize = 0x100000;
 
-/// Files by their paths.
+/// Files by their paths, and what becomes of an audit that has been reported.
 pub trait Files {
     ghost use Rattle.std.specs.Prelude.{List, ℕ, Option, None};
 
@@ -31,6 +31,10 @@ pub trait Files {
     /// Why the last file was refused, in the system's words, or nothing where they aren't known. It is for a person, so
     /// nothing is promised of it.
     fn reason(&self) -> &str;
+
+    /// Takes over what an audit found, once its report is written. Here its memory is given back, piece by piece; a program
+    /// that ends next may leave that to the end of its process.
+    fn take_over(&self, _outcome: Outcome) {}
 }
 
 /// The bytes of the files at these paths, in their order. A refusal is that of the first file that can't be read. It is noted
