@@ -1,6 +1,6 @@
 -- The tables of tests by which programs ask A for one number after the other: how they are made, and what a look-up in
 -- them finds.
-use Rattle.std.proofs.Common.{◌≡◌, ◌≢◌, true, false, ltb, ℕ, zero, suc, ◌+◌, ◌-◌, ◌*◌, ◌<◌, ◌≤◌, ◌⊎◌, List, [], ◌∷◌, ◌++◌, length, set, replicate, refl, sym, ap, subst, ◌∙◌, inl, inr, arith, length-set}
+use Rattle.std.proofs.Common.{◌≡◌, ◌≢◌, ℕ, zero, suc, ◌+◌, ◌-◌, ◌*◌, ◌<◌, ◌≤◌, ◌⊎◌, List, [], ◌∷◌, ◌++◌, length, set, replicate, refl, sym, ap, subst, ◌∙◌, inl, inr, arith, length-set}
 use Rattle.std.specs.Prelude.{All, Contains, slice_index}
 use Rattle.std.specs.List.Sorted.{IsNonDecreasing, IsPermutation, IsPartitionPoint}
 use Rattle.std.proofs.lemmas.Bool.{cases_lt, cases_eq}
@@ -122,22 +122,10 @@ passed_to code chains steps lasts place number at are reached =
 
 -- ---- looking a number up
 
--- the keys before a place are those below this one
-pub record IsCut (keys : List ℕ) (found from : ℕ) : Type 0 where
-  pub below : (m : ℕ) → m < found → slice_index keys m < from
-  pub above : (m : ℕ) → found ≤ m → m < length keys → from ≤ slice_index keys m
-
--- as `partition_point` tells it
-pub cut_at : (keys : List ℕ) (found from key : ℕ) → from ≡ key
-    → IsPartitionPoint (λ y. ltb y from ≡ true) (λ y. ltb y from ≡ false) keys found → IsCut keys found key
-cut_at keys found from key is point = record {
-  below = λ m before. let t = point.0 m 0 (omega arith) before in grind (arith, nat_tests);
-  above = λ m after within. let t = point.1 m 0 after within in grind (arith, nat_tests);
-}
-
 -- a later test of the chain for the number has its key from there on, and the key there is at most that
 least_key : (code : List Insn) (chains keys : List ℕ) (found place number at next : ℕ) → AreTestKeys code chains keys
-    → IsCut keys found (test_key (slice_index chains place) number place) → place ≤ at
+    → IsPartitionPoint (λ k. k < test_key (slice_index chains place) number place)
+    (λ k. test_key (slice_index chains place) number place ≤ k) keys found → place ≤ at
     → slice_index chains at ≡ slice_index chains place → IsEqualTest code at number next
     → (found < length keys) × (slice_index keys found ≤ test_key (slice_index chains place) number at)
 least_key code chains keys found place number at next tables cut from same test =
@@ -146,48 +134,42 @@ least_key code chains keys found place number at next tables cut from same test 
     let key = test_key (slice_index chains place) number at in
     let is : slice_index keys m ≡ key = get_or_default keys m 0 key there.1 ∙ there.2 in
     elim (cases_lt m found) [
-      | inl before ↦ absurd (let less = cut.below m before in omega (arith, less, is))
+      | inl before ↦ absurd (let less = cut.0 m 0 (omega arith) before in omega (arith, less, is))
       | inr after ↦
           let order = tables.ascending found m 0 after there.1 in
           (omega (arith, there.1), omega (arith, order, is))
     ]
 
--- where a chain is looked through up to its last place
-pub record IsSearched (code : List Insn) (chains keys : List ℕ) (found place last number : ℕ) : Type 0 where
-  pub keys_are : AreTestKeys code chains keys
-  pub short : length code ≤ 4096
-  pub cut : IsCut keys found (test_key (slice_index chains place) number place)
-  pub from : place ≤ last
-  pub inside : last < length code
-  pub same : slice_index chains last ≡ slice_index chains place
-
 -- no key is in reach, so no test before the last is for the number
-pub none_by_key : (code : List Insn) (chains keys : List ℕ) (found place last number : ℕ)
-    → IsSearched code chains keys found place last number
+pub none_by_key : (code : List Insn) (chains keys : List ℕ) (found place last number : ℕ) → AreTestKeys code chains keys
+    → IsPartitionPoint (λ k. k < test_key (slice_index chains place) number place)
+    (λ k. test_key (slice_index chains place) number place ≤ k) keys found
+    → place ≤ last → last < length code → slice_index chains last ≡ slice_index chains place
     → (found < length keys → test_key (slice_index chains place) number last ≤ slice_index keys found)
     → IsReached code chains place number last
-none_by_key code chains keys found place last number by past = record {
-  from = by.from;
-  inside = by.inside;
-  same = sym by.same;
+none_by_key code chains keys found place last number keys_are cut from inside same past = record {
+  from = from;
+  inside = inside;
+  same = sym same;
   others = λ q next from before same test.
-      let least = least_key code chains keys found place number q next by.keys_are by.cut from same test in
+      let least = least_key code chains keys found place number q next keys_are cut from same test in
       let far = past least.0 in
       omega (arith, least.1, far);
 }
 
 -- the key at hand is of the first test of the chain that is for the number
 pub found_by_key : (code : List Insn) (chains keys : List ℕ) (found place last number : ℕ)
-    → IsSearched code chains keys found place last number → number < 4294967296 → found < length keys
+    → AreTestKeys code chains keys
+    → length code ≤ 4096 → IsPartitionPoint (λ k. k < test_key (slice_index chains place) number place)
+    (λ k. test_key (slice_index chains place) number place ≤ k) keys found
+    → last < length code → number < 4294967296 → found < length keys
     → slice_index keys found < test_key (slice_index chains place) number last
     → IsReached code chains place number
     (place + (slice_index keys found - test_key (slice_index chains place) number place))
-found_by_key code chains keys found place last number by small within before =
-    let key = by.keys_are.are found 0 within in
-    let from = by.cut.above found (omega arith) within in
+found_by_key code chains keys found place last number keys_are short cut end small within before =
+    let key = keys_are.are found 0 within in
+    let from = cut.1 found 0 (omega arith) within in
     let inside = slice_get_within code key.at key.test.insn key.test.here in
-    let short = by.short in
-    let end = by.inside in
     let mark : 4294967296 * slice_index chains key.at + key.number
     ≡ 4294967296 * slice_index chains place + number =
     omega (arith, key.is, from, before, inside, short, end) in
@@ -200,7 +182,7 @@ found_by_key code chains keys found place last number by small within before =
       inside = inside;
       same = sym chain_is;
       others = λ q next after less same test.
-          let least = least_key code chains keys found place number q next by.keys_are by.cut after same test in
+          let least = least_key code chains keys found place number q next keys_are cut after same test in
           omega (arith, least.1, key.is, mark);
     })
 

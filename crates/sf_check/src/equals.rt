@@ -1,7 +1,8 @@
 //! Chains of tests that ask A for one number after the other: which of them asks for a number is looked up, and not
 //! each of them run.
 
-ghost use Rattle.std.specs.Prelude.{◌≡◌, ◌≢◌, ◌+◌, ◌<◌, ◌≤◌, ℕ, length, slice_index, IfOk, IfErr, IfSome, IfNone};
+ghost use Rattle.std.specs.Prelude.{◌≡◌, ◌≢◌, ◌+◌, ◌-◌, ◌<◌, ◌≤◌, ℕ, length, slice_index, IfOk, IfErr, IfSome, IfNone};
+ghost use Rattle.std.specs.List.Sorted.{IsNonDecreasing, IsPartitionPoint};
 ghost use Rattle.sf_check.specs.EqualTests.{IsEqualTest, ArePassed, IsBehindOthers, AreChains, AreTestKeys, AreEqualTests, LeadInside, test_key};
 ghost use Rattle.sf_check.specs.Joining.{AreJoined, AreOwn, IsReached};
 
@@ -136,6 +137,14 @@ fn keys_of(alloc: Global, insns: &[Insn], chains: &[u16]) -> Result<Vec<u64>, Al
     Ok(keys)
 }
 
+/// How many keys are less than this one.
+fn count_below(keys: &[u64], key: u64) -> usize
+    requires { IsNonDecreasing keys.now }
+    ensures { IsPartitionPoint (λ k. k < key) (λ k. key ≤ k) keys.now result }
+{
+    keys.partition_point(|k| *k < key)
+}
+
 /// The first place of a chain, from this one on, whose test asks for the number, or else the chain's last.
 fn searched(
     insns: &[Insn],
@@ -157,7 +166,7 @@ fn searched(
     let _insns = insns;
     let chain = chains[place];
     let from = key_of(chain, number, place);
-    let found = keys.partition_point(|key| *key < from);
+    let found = count_below(keys, from);
     if found >= keys.len() {
         return last;
     }
@@ -191,6 +200,18 @@ impl EqualTests {
         })
     }
 
+    /// How many tests of a chain lead from one of its places to another.
+    fn steps_between(&self, from: usize, to: usize) -> usize
+        requires from { from < length self.now.steps.items }
+        requires to { to < length self.now.steps.items }
+        requires forward { slice_index self.now.steps.items from
+            ≤ slice_index self.now.steps.items to }
+        ensures { result ≡ slice_index self.now.steps.items to
+            - slice_index self.now.steps.items from }
+    {
+        (self.steps[to] - self.steps[from]) as usize
+    }
+
     /// Passes tests for other numbers of the chain of a place, as far as they are looked up.
     fn passed_in_chain(&self, insns: &[Insn], place: usize, number: u32) -> Passed
         requires tables { AreEqualTests insns.now self.now.keys.items self.now.chains.items
@@ -209,7 +230,7 @@ impl EqualTests {
         }
         let behind = searched(insns, &self.keys, &self.chains, place, last, number);
         Passed {
-            count: (self.steps[behind] - self.steps[place]) as usize,
+            count: self.steps_between(place, behind),
             behind,
         }
     }

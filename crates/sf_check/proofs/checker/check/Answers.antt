@@ -23,26 +23,26 @@ unfolding no_raw
 returns-in-Err-UnknownCode-clause-refused c =
     let raws = c.args.raws.now in
     let at = c.loop-place.place in
-    let before : AreFineBefore raws at = record {
-      some = omega arith;
-      short = omega arith;
-      each = c.loop-place.invariant.fine;
-    } in
     let read : insn_of (get_or raws at no_raw) ≡ Err UnknownCode = cc in
-    inr (before, get_or raws at no_raw, slice_get-get_or raws at no_raw c.loop-place-test.true, read)
+    inr (
+      record { some = omega arith; short = omega arith; each = c.loop-place.invariant.fine },
+      get_or raws at no_raw,
+      slice_get-get_or raws at no_raw c.loop-place-test.true,
+      read,
+    )
 
 pub returns-in-Err-BadField-clause-refused : goal.returns-in-Err-BadField-clause-refused
 unfolding no_raw
 returns-in-Err-BadField-clause-refused c =
     let raws = c.args.raws.now in
     let at = c.loop-place.place in
-    let before : AreFineBefore raws at = record {
-      some = omega arith;
-      short = omega arith;
-      each = c.loop-place.invariant.fine;
-    } in
     let read : insn_of (get_or raws at no_raw) ≡ Err BadField = cc in
-    inr (before, get_or raws at no_raw, slice_get-get_or raws at no_raw c.loop-place-test.true, read)
+    inr (
+      record { some = omega arith; short = omega arith; each = c.loop-place.invariant.fine },
+      get_or raws at no_raw,
+      slice_get-get_or raws at no_raw c.loop-place-test.true,
+      read,
+    )
 
 pub returns-then-not-leads_inside-clause-refused :
     goal.returns-then-not-leads_inside-clause-refused
@@ -50,14 +50,9 @@ unfolding no_raw
 returns-then-not-leads_inside-clause-refused c =
     let raws = c.args.raws.now in
     let at = c.loop-place.place in
-    let before : AreFineBefore raws at = record {
-      some = omega arith;
-      short = omega arith;
-      each = c.loop-place.invariant.fine;
-    } in
     let read : insn_of (get_or raws at no_raw) ≡ Ok c.in-Ok.insn = cc in
     inr (
-      before,
+      record { some = omega arith; short = omega arith; each = c.loop-place.invariant.fine },
       get_or raws at no_raw,
       c.in-Ok.insn,
       slice_get-get_or raws at no_raw c.loop-place-test.true,
