@@ -1,11 +1,12 @@
 //! The numbers that a word does not have.
 
-ghost use Rattle.std.specs.Prelude.{◌≡◌, ℕ, ◌<◌, ◌↔◌, ◌⊎◌, [], length, IfOk, IsTrue, Contains, OnErr, IfSome, MatchOption};
+ghost use Rattle.std.specs.Prelude.{◌≡◌, ℕ, ◌<◌, ◌≤◌, ◌↔◌, ◌⊎◌, [], length, set, IfOk, IsTrue, Contains, OnErr, IfSome, MatchOption};
+ghost use Rattle.std.specs.List.{insert};
 ghost use Rattle.std.specs.Arc.{arc_value};
 ghost use Rattle.sf_dom.specs.Known.{AreSameNumbers};
 ghost use Rattle.sf_dom.specs.Facts.{numbers_at};
 ghost use Rattle.sf_dom.specs.Propagation.{AddsNumber};
-ghost use Rattle.sf_dom.specs.Ascending.{AreAscending};
+ghost use Rattle.sf_dom.specs.Ascending.{AreAscending, shared_numbers};
 
 use crate::fault::Fault;
 use crate::nodes::WORDS;
@@ -13,30 +14,33 @@ use std::alloc::Global;
 use std::marker::Model;
 use std::sync::Arc;
 
-/// The numbers that a word does not have, in ascending order. Copies share them, until one gets another number.
+/// The numbers that a word does not have, in ascending order. Copies share them, until one gets another number, and where
+/// there are none nothing is shared.
 #[derive(Drop)]
 pub(crate) struct Exclusions {
-    numbers: Arc<Vec<u32>>,
+    numbers: Option<Arc<Vec<u32>>>,
 }
 
 impl Model for Exclusions {
     ghost use Rattle.std.specs.Prelude.{List, ℕ};
-    ghost use Rattle.std.specs.Arc.{arc_value};
 
     ghost Value = { List ℕ };
 
-    ghost use Rattle.sf_dom.specs.Ascending.{AreAscending};
+    ghost use Rattle.sf_dom.specs.Ascending.{AreAscending, shared_numbers};
 
-    ghost view = { λ e. (arc_value e.numbers).items };
+    ghost view = { λ e. shared_numbers e.numbers };
 
-    ghost invariant = { λ e. AreAscending (arc_value e.numbers).items };
+    ghost invariant = { λ e. AreAscending (shared_numbers e.numbers) };
 }
 
 /// The numbers, as a slice.
-fn slice_of(numbers: &Arc<Vec<u32>>) -> &[u32]
-    ensures { result.now ≡ (arc_value numbers.now).items }
+fn slice_of(numbers: &Option<Arc<Vec<u32>>>) -> &[u32]
+    ensures { result.now ≡ shared_numbers numbers.now }
 {
-    numbers.as_slice()
+    match numbers {
+        Some(list) => list.as_slice(),
+        None => &[],
+    }
 }
 
 /// Whether a number stands in an ascending list.
@@ -45,6 +49,18 @@ fn stands_in(list: &[u32], number: u32) -> bool
     ensures { IsTrue result ↔ Contains list.now number }
 {
     list.binary_search(&number).is_ok()
+}
+
+/// A list with one more number at a place.
+fn inserted(alloc: Global, list: &[u32], at: usize, number: u32) -> Result<Vec<u32>, Fault>
+    requires { at ≤ length list.now }
+    ensures { IfOk result (λ v. v.items ≡ insert list.now at number) }
+{
+    let mut more = Vec::with_capacity(alloc, list.len() + 1)?;
+    more.extend_from_slice(&list[..at])?;
+    more.push(number)?;
+    more.extend_from_slice(&list[at..])?;
+    Ok(more)
 }
 
 /// An ascending list with one more number, or none where the number is there.
@@ -57,11 +73,7 @@ fn with_number(alloc: Global, list: &[u32], number: u32) -> Result<Option<Vec<u3
 {
     match list.binary_search(&number) {
         Ok(_) => Ok(None),
-        Err(at) => {
-            let mut more = Vec::from_slice(alloc, list)?;
-            more.insert(at, number)?;
-            Ok(Some(more))
-        }
+        Err(at) => Ok(Some(inserted(alloc, list, at, number)?)),
     }
 }
 
@@ -79,13 +91,11 @@ fn all_stand_in(numbers: &[u32], list: &[u32]) -> bool
 }
 
 impl Exclusions {
-    /// No numbers. `Memory` where a growth is refused.
-    pub(crate) fn new(alloc: Global) -> Result<Exclusions, Fault>
-        ensures { IfOk result (λ e. e ≡ []) }
+    /// No numbers.
+    fn new() -> Exclusions
+        ensures { result ≡ [] }
     {
-        Ok(Exclusions {
-            numbers: Arc::new(alloc, Vec::new(alloc))?,
-        })
+        Exclusions { numbers: None }
     }
 
     /// Whether a number is there.
@@ -96,24 +106,29 @@ impl Exclusions {
     }
 
     /// The same numbers, shared. `Memory` where a growth is refused.
-    pub(crate) fn copy(&self) -> Result<Exclusions, Fault>
+    fn copy(&self) -> Result<Exclusions, Fault>
         ensures { IfOk result (λ e. e ≡ self.now) }
     {
-        Ok(Exclusions {
-            numbers: self.numbers.clone()?,
-        })
+        match &self.numbers {
+            Some(list) => Ok(Exclusions {
+                numbers: Some(list.clone()?),
+            }),
+            None => Ok(Exclusions::new()),
+        }
     }
 
-    /// Adds a number, if it is not there. `Memory` where a growth is refused: the numbers are as they were then.
-    pub(crate) fn add(&mut self, alloc: Global, number: u32) -> Result<(), Fault>
-        ensures ok { IfOk result (λ _. (n : ℕ) → Contains self.new n
-            ↔ (Contains self.old n ⊎ (n ≡ number))) }
-        ensures err { OnErr result (self.new ≡ self.old) }
+    /// The numbers with one more, or none where it is there. `Memory` where a growth is refused.
+    fn with(&self, alloc: Global, number: u32) -> Result<Option<Exclusions>, Fault>
+        ensures { IfOk result (λ o. MatchOption o
+            (Contains self.now number)
+            (λ e. (n : ℕ) → Contains e n ↔ (Contains self.now n ⊎ (n ≡ number)))) }
     {
-        if let Some(more) = with_number(alloc, slice_of(&self.numbers), number)? {
-            self.numbers = Arc::new(alloc, more)?;
-        }
-        Ok(())
+        let Some(more) = with_number(alloc, slice_of(&self.numbers), number)? else {
+            return Ok(None);
+        };
+        Ok(Some(Exclusions {
+            numbers: Some(Arc::new(alloc, more)?),
+        }))
     }
 
     /// Whether both have the same numbers.
@@ -137,27 +152,18 @@ fn copy_all(alloc: Global, lists: &[Exclusions]) -> Result<Vec<Exclusions>, Faul
     Ok(copies)
 }
 
-/// One more number in the list of a word.
-fn add_at(alloc: Global, lists: &mut [Exclusions], word: usize, number: u32) -> Result<(), Fault>
-    requires { word < length lists.old }
-    ensures { IfOk result (λ _. AddsNumber lists.old lists.new word number) }
-{
-    lists[word].add(alloc, number)?;
-    Ok(())
-}
-
-/// The same lists, with one more number in that of a word.
-fn with_added(
+/// The same lists, but another one for a word.
+fn with_list(
     alloc: Global,
     lists: &[Exclusions],
     word: usize,
-    number: u32,
+    list: Exclusions,
 ) -> Result<Vec<Exclusions>, Fault>
     requires { word < length lists.now }
-    ensures { IfOk result (λ v. AddsNumber lists.now v.items word number) }
+    ensures { IfOk result (λ v. v.items ≡ set lists.now word list) }
 {
     let mut more = copy_all(alloc, lists)?;
-    add_at(alloc, more.as_mut_slice(), word, number)?;
+    more[word] = list;
     Ok(more)
 }
 
@@ -166,10 +172,9 @@ fn no_exclusions(alloc: Global) -> Result<Vec<Exclusions>, Fault>
     ensures { IfOk result (λ v. (length v.items ≡ 16)
         × ((w : ℕ) → numbers_at v.items w ≡ [])) }
 {
-    let none = Exclusions::new(alloc)?;
     let mut lists = Vec::with_capacity(alloc, WORDS)?;
     for _i in 0..16u8 {
-        lists.push(none.copy()?)?;
+        lists.push(Exclusions::new())?;
     }
     Ok(lists)
 }
@@ -243,9 +248,10 @@ impl Excluded {
         ensures ok { IfOk result (λ _. AddsNumber self.old self.new word number) }
         ensures err { OnErr result (self.new ≡ self.old) }
     {
-        let more = with_added(alloc, self.as_slice(), word, number)?;
-        let next = Excluded::of(alloc, more)?;
-        *self = next;
+        if let Some(list) = self.of_word(word).with(alloc, number)? {
+            let lists = with_list(alloc, self.as_slice(), word, list)?;
+            *self = Excluded::of(alloc, lists)?;
+        }
         Ok(())
     }
 

@@ -1,4 +1,10 @@
+use Rattle.std.proofs.Common.{arith}
+use Rattle.sf_dom.proofs.AssumeLemmas.{added-at}
 use Rattle.sf_dom.proofs.exclusions.Excluded.add.Goals as goal
 
-pub returns-clause-ok : goal.returns-clause-ok
-returns-clause-ok c = rw c.in_ok-next.ensures (rw c.as_slice.ensures.value at c.in_ok-more.ensures)
+pub returns-in_ok-self-clause-ok : goal.returns-in_ok-self-clause-ok
+returns-in_ok-self-clause-ok c =
+    let words = rw c.as_slice.ensures.value at c.as_slice.ensures.words in
+    let more = rw (c.in-Some.is, c.of_word.ensures) at c.in_ok-list.ensures in
+    rw (c.in_ok-self.ensures, c.in_ok-lists.ensures, c.as_slice.ensures.value)
+    (added-at c.args.self.now c.args.word c.in-Some.list c.args.number (omega (arith, words)) more)
