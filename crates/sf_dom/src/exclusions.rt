@@ -33,6 +33,15 @@ impl Model for Exclusions {
     ghost invariant = { λ e. AreAscending (shared_numbers e.numbers) };
 }
 
+impl Default for Exclusions {
+    ghost is_default = { λ e. e ≡ [] };
+
+    /// No numbers.
+    fn default() -> Self {
+        Exclusions { numbers: None }
+    }
+}
+
 /// The numbers, as a slice.
 fn slice_of(numbers: &Option<Arc<Vec<u32>>>) -> &[u32]
     ensures { result.now ≡ shared_numbers numbers.now }
@@ -91,13 +100,6 @@ fn all_stand_in(numbers: &[u32], list: &[u32]) -> bool
 }
 
 impl Exclusions {
-    /// No numbers.
-    fn new() -> Exclusions
-        ensures { result ≡ [] }
-    {
-        Exclusions { numbers: None }
-    }
-
     /// Whether a number is there.
     pub(crate) fn has(&self, number: u32) -> bool
         ensures { IsTrue result ↔ Contains self.now number }
@@ -113,7 +115,7 @@ impl Exclusions {
             Some(list) => Ok(Exclusions {
                 numbers: Some(list.clone()?),
             }),
-            None => Ok(Exclusions::new()),
+            None => Ok(Exclusions::default()),
         }
     }
 
@@ -141,48 +143,42 @@ impl Exclusions {
     }
 }
 
-/// The same lists.
-fn copy_all(alloc: Global, lists: &[Exclusions]) -> Result<Vec<Exclusions>, Fault>
-    ensures { IfOk result (λ v. v.items ≡ lists.now) }
+/// A list for each word.
+type Lists = [Exclusions; WORDS];
+
+/// A list without numbers for each word.
+fn no_exclusions() -> Lists
+    ensures count { length result ≡ 16 }
+    ensures none { (w : ℕ) → numbers_at result w ≡ [] }
 {
-    let mut copies = Vec::with_capacity(alloc, lists.len())?;
-    for list in lists {
-        copies.push(list.copy()?)?;
+    Lists::default()
+}
+
+/// The same lists.
+fn copy_all(lists: &Lists) -> Result<Lists, Fault>
+    ensures { IfOk result (λ v. v ≡ lists.now) }
+{
+    let mut copies = no_exclusions();
+    for word in 0..WORDS {
+        copies[word] = lists[word].copy()?;
     }
     Ok(copies)
 }
 
 /// The same lists, but another one for a word.
-fn with_list(
-    alloc: Global,
-    lists: &[Exclusions],
-    word: usize,
-    list: Exclusions,
-) -> Result<Vec<Exclusions>, Fault>
-    requires { word < length lists.now }
-    ensures { IfOk result (λ v. v.items ≡ set lists.now word list) }
+fn with_list(lists: &Lists, word: usize, list: Exclusions) -> Result<Lists, Fault>
+    requires { word < 16 }
+    ensures { IfOk result (λ v. v ≡ set lists.now word list) }
 {
-    let mut more = copy_all(alloc, lists)?;
+    let mut more = copy_all(lists)?;
     more[word] = list;
     Ok(more)
-}
-
-/// A list without numbers for each word.
-fn no_exclusions(alloc: Global) -> Result<Vec<Exclusions>, Fault>
-    ensures { IfOk result (λ v. (length v.items ≡ 16)
-        × ((w : ℕ) → numbers_at v.items w ≡ [])) }
-{
-    let mut lists = Vec::with_capacity(alloc, WORDS)?;
-    for _i in 0..16u8 {
-        lists.push(Exclusions::new())?;
-    }
-    Ok(lists)
 }
 
 /// The numbers that each of the sixteen words does not have. Copies share all lists, until a word gets another number.
 #[derive(Drop)]
 pub(crate) struct Excluded {
-    lists: Arc<Vec<Exclusions>>,
+    lists: Arc<Lists>,
 }
 
 impl Model for Excluded {
@@ -191,16 +187,15 @@ impl Model for Excluded {
 
     ghost Value = { List (List ℕ) };
 
-    ghost view = { λ e. (arc_value e.lists).items };
+    ghost view = { λ e. arc_value e.lists };
 
-    ghost invariant = { λ e. length (arc_value e.lists).items ≡ 16 };
+    ghost invariant = { λ e. length (arc_value e.lists) ≡ 16 };
 }
 
 impl Excluded {
     /// These lists. `Memory` where a growth is refused.
-    fn of(alloc: Global, lists: Vec<Exclusions>) -> Result<Excluded, Fault>
-        requires { length lists.items ≡ 16 }
-        ensures { IfOk result (λ e. e ≡ lists.items) }
+    fn of(alloc: Global, lists: Lists) -> Result<Excluded, Fault>
+        ensures { IfOk result (λ e. e ≡ lists) }
     {
         Ok(Excluded {
             lists: Arc::new(alloc, lists)?,
@@ -211,16 +206,15 @@ impl Excluded {
     pub(crate) fn none(alloc: Global) -> Result<Excluded, Fault>
         ensures { IfOk result (λ e. (length e ≡ 16) × ((w : ℕ) → numbers_at e w ≡ [])) }
     {
-        let lists = no_exclusions(alloc)?;
-        Excluded::of(alloc, lists)
+        Excluded::of(alloc, no_exclusions())
     }
 
     /// The lists, that of the first word first.
-    fn as_slice(&self) -> &[Exclusions]
+    fn lists(&self) -> &Lists
         ensures value { result.now ≡ self.now }
         ensures words { length result.now ≡ 16 }
     {
-        self.lists.as_slice()
+        &self.lists
     }
 
     /// The numbers that a word, 0 to 15, does not have.
@@ -228,7 +222,7 @@ impl Excluded {
         requires { word < 16 }
         ensures { result.now ≡ numbers_at self.now word }
     {
-        let lists = self.as_slice();
+        let lists = self.lists();
         &lists[word]
     }
 
@@ -249,7 +243,7 @@ impl Excluded {
         ensures err { OnErr result (self.new ≡ self.old) }
     {
         if let Some(list) = self.of_word(word).with(alloc, number)? {
-            let lists = with_list(alloc, self.as_slice(), word, list)?;
+            let lists = with_list(self.lists(), word, list)?;
             *self = Excluded::of(alloc, lists)?;
         }
         Ok(())
