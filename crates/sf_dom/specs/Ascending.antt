@@ -2,13 +2,13 @@
 use Rattle.std.specs.Prelude.{ℕ, ◌<◌, ◌≤◌, List, [], length, slice_index, Option, Some, None}
 use Rattle.std.specs.Arc.{arc_value}
 use Rattle.std.specs.declared.sync.Arc.{Arc}
-use Rattle.std.specs.declared.vec.Vec.{Vec}
+use Rattle.smallvec.specs.SmallVec.{SmallVec}
 
 -- none is less than one before it
 abbrev pub AreAscending : List ℕ → Type 0
 AreAscending xs = (i j : ℕ) → i ≤ j → j < length xs → slice_index xs i ≤ slice_index xs j
 
 -- the numbers of a shared list, and none where there is no list
-abbrev pub shared_numbers : {X Z : Type 0} → Option (Arc (Vec ℕ X) Z) → List ℕ
+abbrev pub shared_numbers : {Z : Type 0} → Option (Arc (SmallVec ℕ) Z) → List ℕ
 shared_numbers None = []
 shared_numbers (Some list) = (arc_value list).items

@@ -10,15 +10,19 @@ ghost use Rattle.sf_dom.specs.Ascending.{AreAscending, shared_numbers};
 
 use crate::fault::Fault;
 use crate::nodes::WORDS;
+use smallvec::SmallVec;
 use std::alloc::Global;
 use std::marker::Model;
 use std::sync::Arc;
+
+/// Numbers in ascending order: so few lie in the node that is shared, and more in a growth of their own.
+type Numbers = SmallVec<u32, 8>;
 
 /// The numbers that a word does not have, in ascending order. Copies share them, until one gets another number, and where
 /// there are none nothing is shared.
 #[derive(Drop)]
 pub(crate) struct Exclusions {
-    numbers: Option<Arc<Vec<u32>>>,
+    numbers: Option<Arc<Numbers>>,
 }
 
 impl Model for Exclusions {
@@ -43,7 +47,7 @@ impl Default for Exclusions {
 }
 
 /// The numbers, as a slice.
-fn slice_of(numbers: &Option<Arc<Vec<u32>>>) -> &[u32]
+fn slice_of(numbers: &Option<Arc<Numbers>>) -> &[u32]
     ensures { result.now ≡ shared_numbers numbers.now }
 {
     match numbers {
@@ -61,11 +65,11 @@ fn stands_in(list: &[u32], number: u32) -> bool
 }
 
 /// A list with one more number at a place.
-fn inserted(alloc: Global, list: &[u32], at: usize, number: u32) -> Result<Vec<u32>, Fault>
+fn inserted(alloc: Global, list: &[u32], at: usize, number: u32) -> Result<Numbers, Fault>
     requires { at ≤ length list.now }
     ensures { IfOk result (λ v. v.items ≡ insert list.now at number) }
 {
-    let mut more = Vec::with_capacity(alloc, list.len() + 1)?;
+    let mut more = SmallVec::with_capacity(alloc, list.len() + 1)?;
     more.extend_from_slice(&list[..at])?;
     more.push(number)?;
     more.extend_from_slice(&list[at..])?;
@@ -73,7 +77,7 @@ fn inserted(alloc: Global, list: &[u32], at: usize, number: u32) -> Result<Vec<u
 }
 
 /// An ascending list with one more number, or none where the number is there.
-fn with_number(alloc: Global, list: &[u32], number: u32) -> Result<Option<Vec<u32>>, Fault>
+fn with_number(alloc: Global, list: &[u32], number: u32) -> Result<Option<Numbers>, Fault>
     requires { AreAscending list.now }
     ensures rising { IfOk result (λ o. IfSome o (λ v. AreAscending v.items)) }
     ensures numbers { IfOk result (λ o. MatchOption o
