@@ -46,7 +46,7 @@ fn strays(alloc: Global, stack: &Arc<Stack>) -> Result<u64, Fail> {
         if !carries_its_facts(alloc, &piece)? {
             strays = strays.wrapping_add(1);
         }
-        let (_piece, step, _name) = advance(alloc, &piece)?.into_parts();
+        let (_piece, step, _longer) = advance(alloc, &piece)?.into_parts();
         if let Step::Split(on_false, on_true) = step {
             open.push(on_true)?;
             open.push(on_false)?;
@@ -99,7 +99,7 @@ fn known_of_all(alloc: Global, stack: &Arc<Stack>) -> Result<String, Fail> {
             break;
         };
         write_known(&mut text, &piece)?;
-        let (_piece, step, _name) = advance(alloc, &piece)?.into_parts();
+        let (_piece, step, _longer) = advance(alloc, &piece)?.into_parts();
         if let Step::Split(on_false, on_true) = step {
             open.push(on_true)?;
             open.push(on_false)?;

@@ -22,7 +22,11 @@ pub(crate) fn explored(
         let Some(piece) = open.pop() else {
             break;
         };
-        let (_piece, step, name) = advance(alloc, &piece)?.into_parts();
+        let (piece, step, longer) = advance(alloc, &piece)?.into_parts();
+        let name = match longer {
+            Some(name) => name,
+            None => Vec::from_slice(alloc, piece.name())?,
+        };
         if !name.is_empty() && !matches!(step, Step::Settled(_)) {
             return Err("a name of what didn't settle".into());
         }

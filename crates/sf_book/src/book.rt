@@ -198,9 +198,10 @@ impl Book {
         ensures err { IfErr result (λ f. (f ≡ Memory) × (self.new ≡ self.old)) }
     {
         let next = self.next_id;
-        let (piece, step, name) = work.into_parts();
+        let (piece, step, longer) = work.into_parts();
         match step {
             Step::Split(f, t) => {
+                drop(longer);
                 self.outstanding.split(id, next, next + 1, f, t)?;
                 self.splits += 1;
                 self.commits += 1;
@@ -208,12 +209,13 @@ impl Book {
                 Ok(Some((next, next + 1)))
             }
             Step::Settled(answer) => {
-                add(&mut self.regions, Region::of(piece, name, answer))?;
+                add(&mut self.regions, Region::of(piece, longer, answer))?;
                 self.outstanding.take(id);
                 self.commits += 1;
                 Ok(None)
             }
             Step::Empty => {
+                drop(longer);
                 add(&mut self.emptied, Emptied { piece })?;
                 self.outstanding.take(id);
                 self.commits += 1;

@@ -1,6 +1,6 @@
 //! What a book keeps of pieces that are no longer outstanding, and how a work is told to be of one.
 
-ghost use Rattle.std.specs.Prelude.{◌≡◌, ◌↔◌, ◌∷◌, [], ◌++◌, IsTrue, IfErr, OnOk, IsPermutation};
+ghost use Rattle.std.specs.Prelude.{◌≡◌, ◌↔◌, ◌∷◌, [], ◌++◌, IsTrue, IfErr, OnOk, IsPermutation, option_map, unwrap_or};
 ghost use Rattle.std.specs.Ordering.{bool_cmp};
 ghost use Rattle.std.specs.Cmp.Lexicographic.{slice_cmp};
 ghost use Rattle.std.specs.Arc.{arc_value};
@@ -22,35 +22,45 @@ pub struct Region {
     // That of the name, which tells most names apart where regions are put in order.
     number: u64,
     piece: Arc<Piece>,
-    name: Vec<bool>,
+    // The whole name where it goes on beyond the piece's, and none where it is the piece's own.
+    longer: Option<Vec<bool>>,
     answer: Answer,
 }
 
 impl Model for Region {
-    ghost use Rattle.std.specs.Prelude.{◌≡◌};
+    ghost use Rattle.std.specs.Prelude.{◌≡◌, option_map, unwrap_or};
     ghost use Rattle.sf_book.specs.Books.{RegionData};
     ghost use Rattle.sf_book.specs.NameNumbers.{name_number};
 
     ghost Value = { RegionData };
 
-    ghost view = { λ r. record { piece = r.piece.value; name = r.name.items; answer = r.answer } };
+    ghost view = { λ r. record {
+      piece = r.piece.value;
+      name = unwrap_or (option_map (λ l. l.items) r.longer) r.piece.value.name;
+      answer = r.answer;
+    } };
 
-    ghost invariant = { λ r. r.number ≡ name_number r.name.items };
+    ghost invariant = { λ r. r.number
+        ≡ name_number (unwrap_or (option_map (λ l. l.items) r.longer) r.piece.value.name) };
 }
 
 impl Region {
-    /// The region of a piece that settled, with its whole name.
-    pub(crate) fn of(piece: Arc<Piece>, name: Vec<bool>, answer: Answer) -> Region
+    /// The region of a piece that settled, with its whole name where that goes on beyond the piece's.
+    pub(crate) fn of(piece: Arc<Piece>, longer: Option<Vec<bool>>, answer: Answer) -> Region
         ensures { result ≡ record {
           piece = arc_value piece;
-          name = name.items;
+          name = unwrap_or (option_map (λ l. l.items) longer) (arc_value piece).name;
           answer = answer;
         } }
     {
+        let number = match &longer {
+            Some(name) => number_of(name),
+            None => number_of(piece.name()),
+        };
         Region {
-            number: number_of(&name),
+            number,
             piece,
-            name,
+            longer,
             answer,
         }
     }
@@ -66,7 +76,10 @@ impl Region {
     pub fn name(&self) -> &[bool]
         ensures { result.now ≡ self.now.name }
     {
-        self.name.as_slice()
+        match &self.longer {
+            Some(name) => name.as_slice(),
+            None => self.piece.name(),
+        }
     }
 
     /// What the stack answers on each member.
@@ -123,13 +136,14 @@ pub(crate) fn is_of(work: &Work, stack: &Arc<Stack>) -> bool
     work.piece().stack().is_same(stack)
 }
 
-/// How the names of two regions compare.
+/// How the names of two regions compare. Pieces' own names, as most regions have, pass long runs of false in one step.
 fn by_name(a: &Region, b: &Region) -> Ordering
     ensures { result ≡ slice_cmp bool_cmp a.now.name b.now.name }
 {
     match order_of_numbers(a.number, b.number) {
         Some(order) => order,
-        None => a.name.as_slice().cmp(b.name.as_slice()),
+        None if a.longer.is_none() && b.longer.is_none() => a.piece.name_order(&b.piece),
+        None => a.name().cmp(b.name()),
     }
 }
 

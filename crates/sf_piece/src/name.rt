@@ -56,14 +56,6 @@ impl Name {
         self.entries.as_slice()
     }
 
-    /// A copy of the truth values alone. `AllocError` where a growth is refused.
-    pub(crate) fn copied(&self, alloc: Global) -> Result<Vec<bool>, AllocError>
-        ensures { IfOk result (λ v. v.items ≡ self.now) }
-    {
-        let entries = Vec::from_slice(alloc, self.entries.as_slice())?;
-        Ok(entries)
-    }
-
     /// The truth values alone.
     pub(crate) fn into_entries(self) -> Vec<bool>
         ensures { result.items ≡ self }

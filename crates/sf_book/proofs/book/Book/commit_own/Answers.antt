@@ -38,8 +38,8 @@ invariant_of-self-in-Settled c =
     (rw (← c.self.view_is) at c.requires.may) (rw (← c.self.view_is) at c.requires.room)
     (record { right = parts.right; plain = parts.plain; is = is }))
 
-pub invariant_of-self-in-Empty-1 : goal.invariant_of-self-in-Empty-1
-invariant_of-self-in-Empty-1 c =
+pub invariant_of-self-in-Empty : goal.invariant_of-self-in-Empty
+invariant_of-self-in-Empty c =
     let parts = c.into_parts-piece.ensures in
     let is : c.args.work.step ≡ Empty = sym parts.step ∙ ap step_data c.in-Empty.is in
     rw (c.take-in-Empty.ensures, c.in_ok-add-in-Empty.ensures.ok, parts.piece)
