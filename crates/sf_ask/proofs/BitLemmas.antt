@@ -1,8 +1,9 @@
 -- The bits of questions.
-use Rattle.std.proofs.Common.{◌≡◌, ◌≢◌, ℕ, ◌+◌, ◌*◌, ◌/◌, ◌%◌, ◌^◌, ◌<◌, ◌==◌, if◌then◌else◌, min, bit_and, bit_or, Bool, true, false, List, [], ◌∷◌, zero, suc, slice_index, set, length, w64, refl, sym, ap, ◌∙◌, subst, arith}
+use Rattle.std.proofs.Common.{◌≡◌, ◌≢◌, ℕ, ◌+◌, ◌*◌, ◌/◌, ◌%◌, ◌^◌, ◌<◌, ◌==◌, if◌then◌else◌, min, bit_and, bit_or, Bool, true, false, List, slice_index, set, length, w64, refl, sym, ap, ◌∙◌, subst, arith}
 use Rattle.std.specs.Int.{bit_at}
+use Rattle.std.proofs.lemmas.Bool.{true≢false}
 use Rattle.std.proofs.lemmas.Bool.Decides.{nat_tests}
-use Rattle.std.proofs.lemmas.Nat.Bits.{bit_at-zero, bit_at_ones, bit_at_and, bit_at_set_same, bit_at_set_other}
+use Rattle.std.proofs.lemmas.Nat.Bits.{bit_at-zero, bit_at_and, bit_at_set_same, bit_at_set_other}
 use Rattle.std.proofs.lemmas.List.{get_or-set_same, get_or-set_other}
 use mathlib.Core.Logic.{dite}
 use native.Mathlib.Decide.{ℕ_discrete}
@@ -39,6 +40,14 @@ pub set-else : (n : ℕ) (before after : List ℕ) → ((p : ℕ) → bit_of aft
 set-else n before after h q ne = let t : (if q == n then 1 else bit_of before q) ≡ bit_of before q =
     grind (arith, nat_tests) in ap (λ x. x == 1) (h q ∙ t)
 
+-- a question without its bit had none before one was set
+pub unset-before : (n : ℕ) (before after : List ℕ)
+    → ((p : ℕ) → bit_of after p ≡ (if p == n then 1 else bit_of before p))
+    → (q : ℕ) → has_bit after q ≡ false → has_bit before q ≡ false
+unset-before n before after h q none = dite (ℕ_discrete q n)
+    (λ e. absurd (true≢false (sym (set-here n before after h) ∙ ap (has_bit after) (sym e) ∙ none)))
+    (λ ne. sym (set-else n before after h q ne) ∙ none)
+
 -- two words without a common bit: where one has a bit, the other hasn't
 apart-at : (a b i : ℕ) → bit_and a b ≡ 0 → (bit_at b i == 1) ≡ true → (bit_at a i == 1) ≡ false
 apart-at a b i none set =
@@ -50,20 +59,6 @@ pub apart : (first second : List ℕ) (q : ℕ)
     → has_bit first q ≡ false
 apart first second q none set =
     apart-at (slice_index first (q / 64)) (slice_index second (q / 64)) (q % 64) none set
-
--- each word of four is the same
-four : (m w : ℕ) → w < 4 → slice_index (m ∷ m ∷ m ∷ m ∷ []) w ≡ m
-four m zero h = refl
-four m (suc zero) h = refl
-four m (suc (suc zero)) h = refl
-four m (suc (suc (suc zero))) h = refl
-four m (suc (suc (suc (suc w)))) h = absurd (omega arith)
-
--- where all bits are set, each of the 256 is
-pub all-set : (q : ℕ) → q < 256
-    → has_bit (18446744073709551615 ∷ 18446744073709551615 ∷ 18446744073709551615 ∷ 18446744073709551615 ∷ []) q ≡ true
-all-set q few = ap (λ x. x == 1) (ap (λ x. bit_at x (q % 64)) (four 18446744073709551615 (q / 64) (omega (arith, few)))
-    ∙ bit_at_ones 64 (q % 64) (omega arith))
 
 -- a bit that is set only where it isn't
 pub never-set : (b : Bool) → (b ≡ true → b ≡ false) → b ≡ false

@@ -7,7 +7,6 @@ use Rattle.std.proofs.lemmas.Grind.{get_or-set_at}
 use Rattle.sf_insn.specs.declared.input.Input.{Input}
 use Rattle.sf_sym.specs.Pool.{ArePlainNodes}
 use Rattle.sf_sym.specs.declared.pool.Node.{Node}
-use Rattle.sf_dom.specs.declared.known.Known.{Known}
 use Rattle.sf_dom.specs.Known.{Admits}
 use Rattle.sf_dom.specs.Facts.{FactsView, Agrees, Covers, known_at}
 use Rattle.sf_dom.specs.FactsLaws.{agreeing-word, low-left, words-agree}
@@ -27,16 +26,6 @@ pub lows-more : (f : FactsView) (words : List ℕ) (at n : ℕ) → at < length 
 lows-more f words at n l before e word w = elim (cases_eq word at) [
   | inl same ↦ subst (λ (i : ℕ). get_or (set words at n) i 0 ≡ low f i) (sym same) (get_or-set_same words at n 0 l ∙ e)
   | inr other ↦ get_or-set_other words at word n 0 other ∙ before word (omega arith)
-]
-
--- an array of what is known, one word more
-pub known-more : (f : FactsView) (words : List Known) (at : ℕ) (known : Known) → at < length words
-    → ((word : ℕ) → word < at → known_at words word ≡ known_at f.known word) → known ≡ known_at f.known at
-    → (word : ℕ) → word < at + 1 → known_at (set words at known) word ≡ known_at f.known word
-known-more f words at known l before e word w = elim (cases_eq word at) [
-  | inl same ↦ subst (λ (i : ℕ). known_at (set words at known) i ≡ known_at f.known i) (sym same)
-      (get_or-set_same words at known _ l ∙ e)
-  | inr other ↦ get_or-set_other words at word known _ other ∙ before word (omega arith)
 ]
 
 pub small-more : (words : List ℕ) (at n : ℕ) → n < 2 ^ 32 → ((i : ℕ) → get_or words i 0 < 2 ^ 32) → (i : ℕ)

@@ -1,17 +1,23 @@
 -- Probes of questions, and the questions that ask about an action.
-use Rattle.std.proofs.Common.{◌≡◌, ◌≢◌, ℕ, zero, suc, ◌+◌, ◌/◌, ◌%◌, ◌<◌, ◌≤◌, ◌==◌, Bool, not, true, false, List, [], ◌∷◌, ◌++◌, length, Some, refl, sym, ap, subst, ◌∙◌, arith}
-use Rattle.std.specs.Prelude.{slice_get, slice_index}
+use Rattle.std.proofs.Common.{◌≡◌, ◌≢◌, ℕ, zero, suc, ◌+◌, ◌-◌, ◌/◌, ◌%◌, ◌<◌, ◌≤◌, ◌==◌, ◌&&◌, ltb, leb, min, ◌⊎◌, inl, inr, Bool, not, true, false, List, [], ◌∷◌, ◌++◌, length, take, drop, get_or, Some, refl, sym, ap, subst, ◌∙◌, arith}
+use Rattle.std.specs.Prelude.{slice_get, slice_index, slice_range, All, Contains, IsPermutation}
+use Rattle.std.specs.List.Sorted.{IsPartitionPoint}
 use Rattle.std.specs.Int.{bit_at}
+use Rattle.std.proofs.lemmas.Bool.{ltb-true, leb-false, eqb-true, cases_lt}
+use Rattle.std.proofs.lemmas.List.{length-take, length-take-le, length-drop, get_or-take, get_or-drop}
+use Rattle.std.proofs.lemmas.List.Elements.{All-push, All-more, All-weaker, Contains-push, Contains-append_left}
+use Rattle.std.proofs.lemmas.List.Sorted.{All-permutation, Contains-permutation}
 use Rattle.std.proofs.lemmas.Nat.Bits.{bit_at-zero}
 use mathlib.Core.Logic.{dite}
 use native.Mathlib.Decide.{ℕ_discrete}
 use Rattle.sf_run.specs.declared.action.Action.{Action}
-use Rattle.sf_dom.specs.Facts.{FactsView}
+use Rattle.sf_dom.specs.Facts.{FactsView, known_at}
 use Rattle.sf_ask.specs.Actions.{has_action}
-use Rattle.sf_ask.specs.Probing.{IsRuledOut, IsRuledOutIfAsked, IsProbeOf}
+use Rattle.sf_ask.specs.Probing.{IsRuledOut, IsRuledOutIfAsked, IsProbeIn, has_one_call, HasProbe, AreProbes}
 use Rattle.sf_ask.specs.QuestionBits.{has_bit}
 use Rattle.sf_ask.specs.QuestionData.{QuestionData}
 use Rattle.sf_ask.specs.declared.probe.Probe.{Probe}
+use Rattle.sf_ask.proofs.Words.{below-range, above-range}
 
 -- ---- one place after the other
 
@@ -30,24 +36,100 @@ there-is [] i l = absurd (omega arith)
 there-is (x ∷ xs) zero l = (x, refl)
 there-is (x ∷ xs) (suc i) l = there-is xs i (omega arith)
 
--- one probe more
-pub probes-more : (questions : List QuestionData) (probes : List Probe) (x : QuestionData) (p : Probe)
-    → slice_get questions (length probes) ≡ Some x → IsProbeOf x p
-    → ((q : ℕ) (question : QuestionData) (r : Probe) → slice_get questions q ≡ Some question
-    → slice_get probes q ≡ Some r → IsProbeOf question r)
-    → (q : ℕ) (question : QuestionData) (r : Probe) → slice_get questions q ≡ Some question
-    → slice_get (probes ++ p ∷ []) q ≡ Some r → IsProbeOf question r
-probes-more [] probes x p there is before q question r asked kept = absurd (cc (there))
-probes-more (y ∷ questions) [] x p there is before zero question r asked kept =
-    let same : x ≡ question = cc (there, asked) in
-    let kept : p ≡ r = cc (kept) in
-    subst (λ (i : QuestionData). IsProbeOf i r) same (subst (IsProbeOf x) kept is)
-probes-more (y ∷ questions) [] x p there is before (suc q) question r asked kept = absurd (cc (kept))
-probes-more (y ∷ questions) (z ∷ probes) x p there is before zero question r asked kept =
-    before 0 question r asked kept
-probes-more (y ∷ questions) (z ∷ probes) x p there is before (suc q) question r asked kept =
-    probes-more questions probes x p there is (λ i asking s one two. before (suc i) asking s one two)
-    q question r asked kept
+-- ---- probes, one after the other, and put in order
+
+pub has-more : (probes : List Probe) (p : Probe) (q : ℕ) → HasProbe probes q → HasProbe (probes ++ p ∷ []) q
+has-more probes p q has = (has.0, Contains-append_left probes (p ∷ []) has.0 has.1, has.2)
+
+pub has-pushed : (probes : List Probe) (p : Probe) (q : ℕ) → p.question ≡ q → HasProbe (probes ++ p ∷ []) q
+has-pushed probes p q is = (p, Contains-push probes p, is)
+
+pub has-ordered : (before after : List Probe) (q : ℕ) → IsPermutation before after → HasProbe before q
+    → HasProbe after q
+has-ordered before after q same has = (has.0, Contains-permutation before after has.0 same has.1, has.2)
+
+-- one probe more, of a question about one call
+pub one-call-more : (questions : List QuestionData) (n : ℕ) (by_call others : List Probe) (p : Probe)
+    → p.question ≡ n → IsProbeIn questions p → has_one_call p ≡ true
+    → AreProbes questions n by_call others → AreProbes questions (n + 1) (by_call ++ p ∷ []) others
+one-call-more questions n by_call others p at is one h = record {
+  right_calls = All-push (IsProbeIn questions) by_call p h.right_calls is;
+  one_call = All-push (λ x. has_one_call x ≡ true) by_call p h.one_call one;
+  right_others = h.right_others;
+  each = λ q l. dite (ℕ_discrete q n)
+      (λ e. inl (has-pushed by_call p q (at ∙ sym e)))
+      (λ ne. elim (h.each q (omega arith)) [
+        | inl has ↦ inl (has-more by_call p q has)
+        | inr has ↦ inr has
+      ]);
+}
+
+-- or of another question
+pub other-more : (questions : List QuestionData) (n : ℕ) (by_call others : List Probe) (p : Probe)
+    → p.question ≡ n → IsProbeIn questions p
+    → AreProbes questions n by_call others → AreProbes questions (n + 1) by_call (others ++ p ∷ [])
+other-more questions n by_call others p at is h = record {
+  right_calls = h.right_calls;
+  one_call = h.one_call;
+  right_others = All-push (IsProbeIn questions) others p h.right_others is;
+  each = λ q l. dite (ℕ_discrete q n)
+      (λ e. inr (has-pushed others p q (at ∙ sym e)))
+      (λ ne. elim (h.each q (omega arith)) [
+        | inl has ↦ inl has
+        | inr has ↦ inr (has-more others p q has)
+      ]);
+}
+
+-- those of questions about one call in another order
+pub probes-ordered : (questions : List QuestionData) (n : ℕ) (before after others : List Probe)
+    → IsPermutation before after → AreProbes questions n before others → AreProbes questions n after others
+probes-ordered questions n before after others same h = record {
+  right_calls = All-permutation (IsProbeIn questions) before after same h.right_calls;
+  one_call = All-permutation (λ x. has_one_call x ≡ true) before after same h.one_call;
+  right_others = h.right_others;
+  each = λ q l. elim (h.each q l) [
+    | inl has ↦ inl (has-ordered before after q same has)
+    | inr has ↦ inr has
+  ];
+}
+
+-- between the places where two searches end stand all probes whose low end is in the range
+pub found-between : (probes : List Probe) (low high from to : ℕ)
+    → IsPartitionPoint (λ y. ltb y.low low ≡ true) (λ y. ltb y.low low ≡ false) probes from
+    → IsPartitionPoint (λ y. leb y.low high ≡ true) (λ y. leb y.low high ≡ false) probes to
+    → to ≤ length probes → (p : Probe) → Contains probes p → low ≤ p.low → p.low ≤ high
+    → Contains (slice_range probes (min from to) to) p
+found-between probes low high from to starts ends inside p there above below =
+    let k : ℕ = there.0 in
+    let a : from ≤ k = elim (cases_lt k from) [
+      | inl l ↦ absurd (let t = ltb-true p.low low (rw there.2 at (starts.0 k p (omega arith) l)) in omega arith)
+      | inr r ↦ r
+    ] in
+    let b : k < to = elim (cases_lt k to) [
+      | inl l ↦ l
+      | inr r ↦ absurd (let t = leb-false p.low high (rw there.2 at (ends.1 k p r there.1)) in omega arith)
+    ] in
+    let m : ℕ = min from to in
+    let i : ℕ = k - m in
+    let long : length (slice_range probes m to) ≡ to - m =
+    length-take-le (to - m) (drop m probes) (let d = length-drop m probes in omega arith) in
+    let back : m + i ≡ k = omega arith in (
+      i,
+      omega arith,
+      get_or-take (to - m) (drop m probes) i p (omega arith) ∙ get_or-drop m probes i p
+          ∙ ap (λ x. get_or probes x p) back ∙ there.2,
+    )
+
+-- and no others than stood there before
+pub stood-before : (probes : List Probe) (m to : ℕ) → to ≤ length probes → (p : Probe)
+    → Contains (slice_range probes m to) p → Contains probes p
+stood-before probes m to inside p there =
+    let long = length-take (to - m) (drop m probes) in let d = length-drop m probes in (
+      m + there.0,
+      omega (arith, there.1),
+      sym (get_or-take (to - m) (drop m probes) there.0 p (omega (arith, there.1))
+          ∙ get_or-drop m probes there.0 p) ∙ there.2,
+    )
 
 -- ---- who asks
 
@@ -85,6 +167,38 @@ pub rest-unset : (n : ℕ) (before after : List ℕ) → ((q : ℕ) → n ≤ q 
 rest-unset n before after none same q l = same q (λ e. omega arith) ∙ none q (omega arith)
 
 -- ---- what is ruled out
+
+both-of : (a b : Bool) → (a && b) ≡ true → (a ≡ true) × (b ≡ true)
+both-of true b e = (refl, e)
+both-of false b e = absurd (cc (e))
+
+-- what holds of each question whose bit isn't set, with one probe more
+pub marked-more : (P : ℕ → Type 0) (before after : List ℕ) (probes : List Probe) (i : ℕ) (d : Probe) → i < length probes
+    → ((q : ℕ) → has_bit after q ≡ false → has_bit before q ≡ false)
+    → All (λ (p : Probe). has_bit before p.question ≡ false → P p.question) (take i probes)
+    → (has_bit after (get_or probes i d).question ≡ false → P (get_or probes i d).question)
+    → All (λ (p : Probe). has_bit after p.question ≡ false → P p.question) (take (i + 1) probes)
+marked-more P before after probes i d l less all here =
+    All-more (λ (p : Probe). has_bit after p.question ≡ false → P p.question) probes i d l
+    (All-weaker (λ (p : Probe). has_bit before p.question ≡ false → P p.question)
+    (λ p. has_bit after p.question ≡ false → P p.question) (λ p h none. h (less p.question none)) (take i probes) all)
+    here
+
+-- a call's number that what is known of the first word leaves out
+pub call-misses : (f : FactsView) (questions : List QuestionData) (asked : List ℕ) (p : Probe) → IsProbeIn questions p
+    → has_one_call p ≡ true → (p.low < (known_at f.known 0).low) ⊎ ((known_at f.known 0).high < p.low)
+    → IsRuledOutIfAsked f questions asked p.question
+call-misses f questions asked p is one outside = λ question there asks pool covers.
+    let of = is.of question there in
+    let one = both-of _ _ one in
+    let word : p.word ≡ 0 = eqb-true _ _ one.0 in
+    let same : p.low ≡ p.high = eqb-true _ _ one.1 in
+    let low = rw word at of.low in
+    let high = rw word at of.high in
+    elim outside [
+      | inl l ↦ above-range question 0 f pool (omega arith) (omega (arith, high, same, l)) covers
+      | inr r ↦ below-range question 0 f pool (omega arith) (omega (arith, low, r)) covers
+    ]
 
 pub ruled-here : (f : FactsView) (questions : List QuestionData) (asked : List ℕ) (q : ℕ) (x : QuestionData)
     → slice_get questions q ≡ Some x → IsRuledOut f x → IsRuledOutIfAsked f questions asked q

@@ -1,6 +1,7 @@
 pub mod Numbers
 pub mod Actions
 pub mod QuestionBits
+pub mod QuestionBitsLaws
 pub mod QuestionData
 pub mod Questions
 pub mod Breaking

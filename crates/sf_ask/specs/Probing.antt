@@ -1,5 +1,6 @@
 -- What is looked at first of questions: who asks about an action, and the first bounded word of each.
-use Rattle.std.specs.Prelude.{◌≡◌, ◌==◌, ◌&&◌, ℕ, ◌<◌, Bool, true, false, List, length, Some, slice_get}
+use Rattle.std.specs.Prelude.{◌≡◌, ◌==◌, ◌&&◌, ℕ, ◌<◌, ◌⊎◌, Bool, true, false, List, length, Some, slice_get, All, Contains}
+use Rattle.std.specs.List.Sorted.{IsNonDecreasingBy}
 use Rattle.sf_run.specs.declared.action.Action.{Action}
 use Rattle.sf_run.specs.declared.action.Action.TheVariants.{KillProcess, KillThread, Trap, Errno, UserNotif, Trace, Log, Allow, Other}
 use Rattle.sf_sym.specs.declared.pool.Node.{Node}
@@ -25,11 +26,25 @@ pub record IsProbeOf (q : QuestionData) (p : Probe) : Type 0 where
   pub first : (word : ℕ) → word < p.word → is_whole (range_at q word) ≡ true
   pub bounded : p.word < 15 → is_whole (range_at q p.word) ≡ false
 
--- each is the probe of the question at its place
-pub record AreProbes (questions : List QuestionData) (probes : List Probe) : Type 0 where
-  pub count : length probes ≡ length questions
-  pub each : (q : ℕ) (question : QuestionData) (p : Probe) → slice_get questions q ≡ Some question
-      → slice_get probes q ≡ Some p → IsProbeOf question p
+-- a probe is of the question at its place
+pub record IsProbeIn (questions : List QuestionData) (p : Probe) : Type 0 where
+  pub inside : p.question < length questions
+  pub of : (question : QuestionData) → slice_get questions p.question ≡ Some question → IsProbeOf question p
+
+-- a probe has one number of the first word, that of the call
+abbrev pub has_one_call : Probe → Bool
+has_one_call p = (p.word == 0) && (p.low == p.high)
+
+-- one of the probes is of the question at this place
+abbrev pub HasProbe : List Probe → ℕ → Type 0
+HasProbe probes q = (p : Probe) × Contains probes p × (p.question ≡ q)
+
+-- each of the first n questions has a probe, those of questions about one call apart from the others
+pub record AreProbes (questions : List QuestionData) (n : ℕ) (by_call others : List Probe) : Type 0 where
+  pub right_calls : All (IsProbeIn questions) by_call
+  pub one_call : All (λ p. has_one_call p ≡ true) by_call
+  pub right_others : All (IsProbeIn questions) others
+  pub each : (q : ℕ) → q < n → HasProbe by_call q ⊎ HasProbe others q
 
 -- the bits of the questions that ask about an action
 abbrev pub AreAskers : List QuestionData → Action → List ℕ → Type 0
@@ -51,7 +66,8 @@ asked_about a (Other number) = a.other
 -- the probes of these questions
 pub record AreProbesOf (questions : List QuestionData) (probes : Probes) : Type 0 where
   pub askers : (action : Action) → AreAskers questions action (asked_about probes.askers action)
-  pub each : AreProbes questions probes.each.items
+  pub each : AreProbes questions (length questions) probes.by_call.items probes.others.items
+  pub ascending : IsNonDecreasingBy (λ (p : Probe). p.low) probes.by_call.items
 
 -- no input that agrees with facts is in the question
 abbrev pub IsRuledOut : FactsView → QuestionData → Type 0

@@ -3,8 +3,7 @@ use Rattle.std.specs.Prelude.{◌≡◌, ℕ, ◌<◌, ◌≤◌, true, false, L
 use Rattle.sf_insn.specs.declared.input.Input.{Input}
 use Rattle.sf_insn.specs.Inputs.{IsInput}
 use Rattle.sf_sym.specs.declared.pool.Node.{Node}
-use Rattle.sf_dom.specs.declared.known.Known.{Known}
-use Rattle.sf_dom.specs.Facts.{FactsView, Agrees, known_at, lies_in, has_masked}
+use Rattle.sf_dom.specs.Facts.{FactsView, Agrees, lies_in, has_masked}
 use Rattle.sf_piece.specs.Pieces.{PieceData, is_member}
 use Rattle.sf_ask.specs.declared.verdict.Verdict.{Verdict}
 use Rattle.sf_ask.specs.declared.verdict.Verdict.TheVariants.{Clear, Hit, Doubt}
@@ -44,10 +43,6 @@ IsMaskNumber q at word n = word ≡ at → bit_and n (mask_at q at).0 ≡ (mask_
 -- where the word is this one, the question lets it have the number
 abbrev pub IsWordNumber : QuestionData → ℕ → ℕ → ℕ → Type 0
 IsWordNumber q at word n = word ≡ at → IsNumberOf q at n
-
--- the array has what is known of each word
-abbrev pub AreKnownWords : FactsView → List Known → Type 0
-AreKnownWords f ks = (word : ℕ) → word < 16 → known_at ks word ≡ known_at f.known word
 
 -- what a search for a member in the question tells is right
 abbrev pub IsRightSearch : PieceData → QuestionData → Verdict → Type 0

@@ -8,51 +8,39 @@ ghost use Rattle.sf_dom.specs.Known.{Admits};
 ghost use Rattle.sf_dom.specs.Facts.{known_at, Agrees, Covers, lies_in, has_masked};
 ghost use Rattle.sf_ask.specs.QuestionData.{range_at, mask_at};
 ghost use Rattle.sf_ask.specs.Breaking.{IsNumberOf, IsInQuestion};
-ghost use Rattle.sf_ask.specs.Searches.{AreKnownWords, NonePasses, WordIsInRange, WordHasBits, WordHasNumber, IsRangeNumber, IsMaskNumber, IsWordNumber};
+ghost use Rattle.sf_ask.specs.Searches.{NonePasses, WordIsInRange, WordHasBits, WordHasNumber, IsRangeNumber, IsMaskNumber, IsWordNumber};
 ghost use Rattle.sf_ask.specs.Trying.{AreConfined, IsNumberBefore};
 ghost use Rattle.sf_ask.specs.declared.fault.Fault.TheVariants.{Memory};
 
 use crate::fault::Fault;
 use crate::question::Question;
-use sf_dom::{Facts, Known};
+use sf_dom::Facts;
 use sf_sym::{NodeId, Pool};
 use std::alloc::Global;
 
-/// What is known of the sixteen words, to be read once for many questions.
-pub(crate) fn known_words(facts: &Facts) -> [Known; 16]
-    requires { 16 ≤ length facts.now.known }
-    ensures { AreKnownWords facts.now result }
-{
-    let mut words = [facts.known(NodeId(0)); 16];
-    for word in 0..16 {
-        words[word] = facts.known(NodeId(word as u32));
-    }
-    words
-}
-
 /// Whether what is known of a word rules out its range.
-fn misses(_facts: &Facts, words: &[Known; 16], question: &Question, word: usize) -> bool
+fn misses(facts: &Facts, question: &Question, word: usize) -> bool
     requires word { word < 16 }
-    requires known { AreKnownWords _facts.now words.now }
-    ensures { result ≡ true → (pool : List ANode) → Covers _facts.now pool
-        → NonePasses _facts.now pool (IsInQuestion question.now) }
+    requires known { 16 ≤ length facts.now.known }
+    ensures { result ≡ true → (pool : List ANode) → Covers facts.now pool
+        → NonePasses facts.now pool (IsInQuestion question.now) }
 {
     let (low, high) = question.range(word);
     if low == 0 && high == u32::MAX {
         return false;
     }
-    let known = words[word];
+    let known = facts.known(NodeId(word as u32));
     known.high < low || high < known.low
 }
 
 /// Whether what is known of some word rules out its range: a look before anything is copied.
-pub(crate) fn rules_out(facts: &Facts, words: &[Known; 16], question: &Question) -> bool
-    requires { AreKnownWords facts.now words.now }
+pub(crate) fn rules_out(facts: &Facts, question: &Question) -> bool
+    requires { 16 ≤ length facts.now.known }
     ensures { result ≡ true → (pool : List ANode) → Covers facts.now pool
         → NonePasses facts.now pool (IsInQuestion question.now) }
 {
     for word in 0..16 {
-        if misses(facts, words, question, word) {
+        if misses(facts, question, word) {
             return true;
         }
     }

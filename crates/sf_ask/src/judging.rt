@@ -12,7 +12,7 @@ ghost use Rattle.sf_ask.specs.Verdicts.{IsRightVerdict, TellsTriedAt, IsDecisive
 ghost use Rattle.sf_ask.specs.Searches.{IsRightSearch, TellsTried};
 ghost use Rattle.sf_ask.specs.Trying.{IsLeastInput};
 
-use crate::confining::{confined, known_words, rules_out};
+use crate::confining::{confined, rules_out};
 use crate::fault::Fault;
 use crate::question::Question;
 use crate::verdict::Verdict;
@@ -94,8 +94,7 @@ fn search(alloc: Global, piece: &Piece, question: &Question) -> Result<Verdict, 
     ensures err { IfErr result (λ f. f ≡ Memory) }
 {
     let facts = piece.facts();
-    let words = known_words(facts);
-    if rules_out(facts, &words, question) {
+    if rules_out(facts, question) {
         return Ok(Verdict::Clear);
     }
     try_least(alloc, piece, question)

@@ -1,10 +1,12 @@
 //! Probes: what of a question is looked at first, made once for many regions.
 
-ghost use Rattle.std.specs.Prelude.{◌≡◌, ◌<◌, ◌≤◌, ℕ, true, false, length, slice_get, Some, IfOk, IfErr};
+ghost use Rattle.std.specs.Prelude.{◌≡◌, ◌<◌, ◌≤◌, ℕ, true, false, length, slice_get, Some, IfOk, IfErr, Contains, IsPermutation};
+ghost use Rattle.std.specs.List.Sorted.{IsNonDecreasingBy};
 ghost use Rattle.sf_run.specs.declared.action.Action.{Action as AnAction};
 ghost use Rattle.sf_ask.specs.Actions.{has_action};
 ghost use Rattle.sf_ask.specs.QuestionData.{range_at};
-ghost use Rattle.sf_ask.specs.Probing.{is_whole, asked_about, IsProbeOf, AreProbes, AreAskers, AreProbesOf};
+ghost use Rattle.sf_ask.specs.Probing.{is_whole, has_one_call, asked_about, IsProbeIn, AreProbes, AreAskers, AreProbesOf};
+ghost use Rattle.sf_ask.specs.declared.probe.Probe.{Probe as AProbe};
 ghost use Rattle.sf_ask.specs.declared.fault.Fault.TheVariants.{Memory};
 
 use crate::bits::set_bit;
@@ -13,9 +15,10 @@ use crate::question::Question;
 use sf_run::Action;
 use std::alloc::Global;
 
-/// The first bounded word of a question, and its range.
+/// The place of a question, its first bounded word, and that word's range.
 #[derive(Clone, Copy, Debug, PartialEq, Eq)]
 pub(crate) struct Probe {
+    pub(crate) question: usize,
     pub(crate) word: usize,
     pub(crate) low: u32,
     pub(crate) high: u32,
@@ -44,13 +47,28 @@ fn first_bounded(question: &Question) -> usize
 }
 
 impl Probe {
-    /// The probe of a question.
-    fn of(question: &Question) -> Probe
-        ensures { IsProbeOf question.now result }
+    /// The probe of the question at a place.
+    fn of(questions: &[Question], place: usize) -> Probe
+        requires { place < length questions.now }
+        ensures place { result.question ≡ place }
+        ensures probe { IsProbeIn questions.now result }
     {
+        let question = &questions[place];
         let word = first_bounded(question);
         let (low, high) = question.range(word);
-        Probe { word, low, high }
+        Probe {
+            question: place,
+            word,
+            low,
+            high,
+        }
+    }
+
+    /// Whether the question is about one call alone: the first word, the call's number, has one number.
+    fn has_one_call(&self) -> bool
+        ensures { result ≡ has_one_call self.now }
+    {
+        self.word == 0 && self.low == self.high
     }
 }
 
@@ -120,24 +138,41 @@ impl Askers {
     }
 }
 
-/// A probe of each question.
-fn probes_of(alloc: Global, questions: &[Question]) -> Result<Vec<Probe>, Fault>
-    ensures each { IfOk result (λ v. AreProbes questions.now v.items) }
+/// Probes of the questions about one call, and of the others, each in the order of the questions.
+fn probes_of(alloc: Global, questions: &[Question]) -> Result<(Vec<Probe>, Vec<Probe>), Fault>
+    ensures each { IfOk result (λ r. AreProbes questions.now (length questions.now)
+        r.0.items r.1.items) }
     ensures err { IfErr result (λ f. f ≡ Memory) }
 {
-    let mut probes = Vec::with_capacity(alloc, questions.len())?;
-    for q in 0..questions.len() {
-        probes.push(Probe::of(&questions[q]))?;
+    let mut by_call = Vec::new(alloc);
+    let mut others = Vec::new(alloc);
+    for place in 0..questions.len() {
+        let probe = Probe::of(questions, place);
+        if probe.has_one_call() {
+            by_call.push(probe)?;
+        } else {
+            others.push(probe)?;
+        }
     }
-    Ok(probes)
+    Ok((by_call, others))
+}
+
+/// Puts probes in ascending order of their low ends, in place.
+fn put_in_order(probes: &mut Vec<Probe>)
+    ensures permutation { IsPermutation probes.old.items probes.new.items }
+    ensures ascending { IsNonDecreasingBy (λ (p : AProbe). p.low) probes.new.items }
+{
+    probes.sort_unstable_by_key(|probe| probe.low);
 }
 
 /// What is looked at first of questions: who asks about an action, and the first bounded word of each. It is made once,
-/// and then serves for every region.
+/// and then serves for every region. Most questions are about one call alone: they are in the order of the calls' numbers,
+/// so that a region is held against those alone whose call it may be.
 #[derive(Drop)]
 pub struct Probes {
     pub(crate) askers: Askers,
-    pub(crate) each: Vec<Probe>,
+    pub(crate) by_call: Vec<Probe>,
+    pub(crate) others: Vec<Probe>,
 }
 
 impl Probes {
@@ -147,9 +182,26 @@ impl Probes {
         ensures ok { IfOk result (AreProbesOf questions.now) }
         ensures err { IfErr result (λ f. f ≡ Memory) }
     {
+        let (mut by_call, others) = probes_of(alloc, questions)?;
+        put_in_order(&mut by_call);
         Ok(Probes {
             askers: Askers::of(questions),
-            each: probes_of(alloc, questions)?,
+            by_call,
+            others,
         })
+    }
+
+    /// The probes of the questions about one call, where its number is in a range.
+    pub(crate) fn by_calls(&self, low: u32, high: u32) -> &[Probe]
+        requires { IsNonDecreasingBy (λ (p : AProbe). p.low) self.now.by_call.items }
+        ensures all { (p : AProbe) → Contains self.now.by_call.items p → low ≤ p.low
+            → p.low ≤ high → Contains result.now p }
+        ensures only { (p : AProbe) → Contains result.now p
+            → Contains self.now.by_call.items p }
+    {
+        let by_call = self.by_call.as_slice();
+        let from = by_call.partition_point(|probe| probe.low < low);
+        let to = by_call.partition_point(|probe| probe.low <= high);
+        &by_call[from.min(to)..to]
     }
 }

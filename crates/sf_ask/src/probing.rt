@@ -1,65 +1,83 @@
 //! Which questions a region is to be judged on.
 
-ghost use Rattle.std.specs.Prelude.{◌≡◌, ◌<◌, ◌≤◌, ℕ, true, false, List, length, slice_get, Some};
-ghost use Rattle.sf_ask.specs.Probing.{IsProbeOf, AreProbes, AreProbesOf, IsRuledOut, IsRuledOutIfAsked, AreRuledOutBut};
-ghost use Rattle.sf_ask.specs.Searches.{AreKnownWords};
+ghost use Rattle.std.specs.Prelude.{◌≡◌, ◌<◌, ◌≤◌, ℕ, true, false, List, length, All};
+ghost use Rattle.sf_ask.specs.Probing.{IsProbeOf, IsProbeIn, AreProbesOf, IsRuledOut, IsRuledOutIfAsked, AreRuledOutBut};
+ghost use Rattle.sf_ask.specs.QuestionBits.{has_bit};
+ghost use Rattle.sf_ask.specs.declared.probe.Probe.{Probe as AProbe};
 ghost use Rattle.sf_ask.specs.Sheets.{AreClearBut};
 
 use crate::bits::{has_bit, has_none, set_bit};
-use crate::confining::{known_words, rules_out};
+use crate::confining::rules_out;
 use crate::probe::{Probe, Probes};
 use crate::question::Question;
 use sf_book::Settled;
-use sf_dom::{Facts, Known};
+use sf_dom::Facts;
+use sf_sym::NodeId;
 
 /// Whether what is known of the probe's word rules out its range.
-fn probe_misses(_facts: &Facts, words: &[Known; 16], _question: &Question, probe: &Probe) -> bool
-    requires known { AreKnownWords _facts.now words.now }
+fn probe_misses(facts: &Facts, _question: &Question, probe: &Probe) -> bool
+    requires known { 16 ≤ length facts.now.known }
     requires probe { IsProbeOf _question.now probe.now }
-    ensures { result ≡ true → IsRuledOut _facts.now _question.now }
+    ensures { result ≡ true → IsRuledOut facts.now _question.now }
 {
-    let known = words[probe.word];
+    let known = facts.known(NodeId(probe.word as u32));
     known.high < probe.low || probe.high < known.low
 }
 
-/// Whether the question's bit is set, and the facts don't rule it out at once. Its probe is looked at first: most questions
-/// are ruled out by it, and the few that are left are held against all words.
-fn is_left(
-    facts: &Facts,
-    words: &[Known; 16],
-    questions: &[Question],
-    probes: &[Probe],
-    asked: &[u64; 4],
-    q: usize,
-) -> bool
-    requires known { AreKnownWords facts.now words.now }
-    requires question { (q < length questions.now) × (q < 256) }
-    requires probes { AreProbes questions.now probes.now }
-    ensures { result ≡ false → IsRuledOutIfAsked facts.now questions.now asked.now q }
+/// Whether the bit of the probe's question is set, and the facts don't rule the question out at once. The probe is looked at
+/// first: most questions are ruled out by it, and the few that are left are held against all words.
+fn is_left(facts: &Facts, questions: &[Question], asked: &[u64; 4], probe: &Probe) -> bool
+    requires known { 16 ≤ length facts.now.known }
+    requires questions { length questions.now ≤ 256 }
+    requires probe { IsProbeIn questions.now probe.now }
+    ensures { result ≡ false
+        → IsRuledOutIfAsked facts.now questions.now asked.now probe.now.question }
 {
-    if !has_bit(asked, q) {
+    if !has_bit(asked, probe.question) {
         return false;
     }
-    if probe_misses(facts, words, &questions[q], &probes[q]) {
+    let question = &questions[probe.question];
+    if probe_misses(facts, question, probe) {
         return false;
     }
-    !rules_out(facts, words, &questions[q])
+    !rules_out(facts, question)
+}
+
+/// Sets the bits of those questions that are left.
+fn mark_left(
+    facts: &Facts,
+    questions: &[Question],
+    asked: &[u64; 4],
+    probes: &[Probe],
+    left: &mut [u64; 4],
+)
+    requires known { 16 ≤ length facts.now.known }
+    requires questions { length questions.now ≤ 256 }
+    requires probes { All (IsProbeIn questions.now) probes.now }
+    ensures marked { All (λ (p : AProbe). has_bit left.new p.question ≡ false
+        → IsRuledOutIfAsked facts.now questions.now asked.now p.question) probes.now }
+    ensures kept { (q : ℕ) → has_bit left.new q ≡ false → has_bit left.old q ≡ false }
+{
+    for probe in probes {
+        if is_left(facts, questions, asked, probe) {
+            set_bit(left, probe.question);
+        }
+    }
 }
 
 /// Of the questions whose bit is set, those that the facts don't rule out at once.
-fn left_of(facts: &Facts, questions: &[Question], probes: &[Probe], asked: &[u64; 4]) -> [u64; 4]
+fn left_of(facts: &Facts, questions: &[Question], probes: &Probes, asked: &[u64; 4]) -> [u64; 4]
     requires known { 16 ≤ length facts.now.known }
     requires questions { length questions.now ≤ 256 }
-    requires probes { AreProbes questions.now probes.now }
+    requires probes { AreProbesOf questions.now probes.now }
     ensures { AreRuledOutBut facts.now questions.now asked.now result }
 {
-    let words = known_words(facts);
+    let call = facts.known(NodeId(0));
     let mut left = [0u64; 4];
-    for q in 0..questions.len() {
-        if is_left(facts, &words, questions, probes, asked, q) {
-            set_bit(&mut left, q);
-        }
-    }
+    let others = probes.others.as_slice();
+    mark_left(facts, questions, asked, others, &mut left);
+    let by_call = probes.by_calls(call.low, call.high);
+    mark_left(facts, questions, asked, by_call, &mut left);
     left
 }
 
@@ -83,5 +101,5 @@ pub fn questions_to_judge(
         return [0; 4];
     }
     let piece = region.piece();
-    left_of(piece.facts(), questions, probes.each.as_slice(), asked)
+    left_of(piece.facts(), questions, probes, asked)
 }

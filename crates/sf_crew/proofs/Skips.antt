@@ -1,7 +1,7 @@
 -- The questions that a sheet skips.
 use Rattle.std.proofs.Common.{◌≡◌, ◌≢◌, ◌/◌, ◌%◌, not, true, ap, slice_index, ℕ, zero, suc, ◌+◌, ◌<◌, ◌==◌, bit_and, ◌*◌, ◌^◌, set, w64, length, List, [], ◌∷◌, refl, sym, ◌∙◌, subst, arith}
 use Rattle.std.specs.Int.{bit_at, bit_not}
-use Rattle.std.proofs.lemmas.Nat.Bits.{bit_at_ones, bit_at_clear_other}
+use Rattle.std.proofs.lemmas.Nat.Bits.{bit_at_clear_other}
 use Rattle.std.proofs.lemmas.List.{get_or-set_same, get_or-set_other}
 use mathlib.Core.Logic.{dite}
 use native.Mathlib.Decide.{ℕ_discrete}
@@ -57,17 +57,3 @@ pub not_wanted : (words : List ℕ) (q : ℕ) → true ≡ not (has_bit words q)
 not_wanted words q h = let most = bit_most (slice_index words (q / 64)) (q % 64) in dite (ℕ_discrete (bit_of words q) 1)
     (λ one. absurd (let t : has_bit words q ≡ true = ap (λ x. x == 1) one in cc (h, t)))
     (λ ne. omega arith)
-
--- each word of four is the same
-four : (m w : ℕ) → w < 4 → slice_index (m ∷ m ∷ m ∷ m ∷ []) w ≡ m
-four m zero h = refl
-four m (suc zero) h = refl
-four m (suc (suc zero)) h = refl
-four m (suc (suc (suc zero))) h = refl
-four m (suc (suc (suc (suc w)))) h = absurd (omega arith)
-
--- where all bits are set, each of the 256 is
-pub all_set : (q : ℕ) → q < 256
-    → bit_of (18446744073709551615 ∷ 18446744073709551615 ∷ 18446744073709551615 ∷ 18446744073709551615 ∷ []) q ≡ 1
-all_set q few = ap (λ x. bit_at x (q % 64)) (four 18446744073709551615 (q / 64) (omega (arith, few)))
-    ∙ bit_at_ones 64 (q % 64) (omega arith)

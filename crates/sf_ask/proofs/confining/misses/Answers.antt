@@ -4,10 +4,10 @@ use Rattle.sf_ask.proofs.confining.misses.Goals as goal
 
 pub returns-then-known-low : goal.returns-then-known-low
 returns-then-known-low c = λ t pool.
-    below-range c.args.question.now c.args.word c.args._facts.now pool c.requires.word
-    (rw (c.requires.known c.args.word c.requires.word, c.range-low.ensures) at (ltb-true _ _ t))
+    below-range c.args.question.now c.args.word c.args.facts.now pool c.requires.word
+    (rw (c.known-known.ensures, c.range-low.ensures) at (ltb-true _ _ t))
 
 pub returns-else-known-low : goal.returns-else-known-low
 returns-else-known-low c = λ t pool.
-    above-range c.args.question.now c.args.word c.args._facts.now pool c.requires.word
-    (rw (c.requires.known c.args.word c.requires.word, c.range-low.ensures) at (ltb-true _ _ t))
+    above-range c.args.question.now c.args.word c.args.facts.now pool c.requires.word
+    (rw (c.known-known.ensures, c.range-low.ensures) at (ltb-true _ _ t))

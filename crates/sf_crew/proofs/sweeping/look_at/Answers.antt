@@ -1,9 +1,10 @@
 use Rattle.std.proofs.Common.{◌≡◌, ℕ, ap, ◌∙◌, refl, arith}
 use Rattle.std.proofs.lemmas.List.{length-set}
+use Rattle.sf_ask.specs.QuestionBitsLaws.{all-bits}
 use Rattle.sf_crew.specs.declared.board.view.View.{View}
 use Rattle.sf_crew.specs.BoardSteps.{with_notes}
 use Rattle.sf_crew.specs.Boards.{seat_view}
-use Rattle.sf_crew.proofs.Skips.{words_more, all_set}
+use Rattle.sf_crew.proofs.Skips.{words_more}
 use Rattle.sf_crew.proofs.sweeping.look_at.Goals.{then-to_judge-word-ne0, else-to_judge-word-ne0}
 use Rattle.sf_crew.proofs.sweeping.look_at.Goals as goal
 
@@ -12,7 +13,7 @@ loop-word-init c = record {
   seat = c.requires.seat;
   long = refl;
   same = refl;
-  skips = λ q few none. absurd (let set = all_set q few in omega (arith, set, none));
+  skips = λ q few none. absurd (let set = all-bits q few in omega (arith, set, none));
 }
 
 pub loop-word-preserved : goal.loop-word-preserved
