@@ -85,6 +85,20 @@ kept-set slots os r i x e k = record {
   numbers = k.numbers;
 }
 
+-- a node whose slot is that of a variable
+pub record IsVariable (slots : List Slot) (os : List Variable) (i r : ℕ) : Type 0 where
+  pub below : i < length slots
+  pub found : slot_at slots i ≡ VariableAt r
+  pub rank : r < length os
+  pub place : slice_index (places_of os) r ≡ i
+
+pub variable-here : (slots : List Slot) (os : List Variable) (i r : ℕ) (slot : Slot) → AreKept slots os
+    → i < length (known_by os slots) → slot ≡ slot_at slots i → slot ≡ VariableAt r → IsVariable slots os i r
+variable-here slots os i r slot kept within found is =
+    let below : i < length slots = omega (arith, within, known-length slots os) in
+    let at = kept.variables i r below (sym found ∙ is) in
+    record { below = below; found = sym found ∙ is; rank = at.0; place = at.1 }
+
 -- what is known of a variable is known at its place
 pub known-variable_at : (slots : List Slot) (os : List Variable) (r : ℕ) → AreKept slots os → r < length os
     → known_at (known_by os slots) (slice_index (places_of os) r)

@@ -3,59 +3,47 @@ use Rattle.std.specs.Arc.{arc_value}
 use Rattle.sf_dom.specs.Known.{IsDecided}
 use Rattle.sf_dom.specs.Facts.{known_at}
 use Rattle.sf_dom.specs.Nodes.{slot_at, slot_known, known_by}
-use Rattle.sf_dom.proofs.Slots.{place-read, laid-out, known-length, known-slot, known-set, kept-set, places-set, number-set}
+use Rattle.sf_dom.proofs.Slots.{place-read, laid-out, known-length, known-slot, known-set, kept-set, places-set, variable-here, number-set}
 use Rattle.sf_dom.proofs.nodes.Nodes.set.Goals as goal
 
 pub index_mut-requires : goal.index_mut-requires
 index_mut-requires c =
     let slots = arc_value c.self.inside.slots in
-    let found : c.slot_of.result ≡ slot_at slots c.args.i = rw c.deref.ensures at c.slot_of.ensures in
     let os = c.self.inside.variables.items in
-    let within = rw (← c.self.view_is) at c.requires.within in
-    let below : c.args.i < length slots = omega (arith, within, known-length slots os) in
-    let kept = c.self.invariant.variables c.args.i c.in-Variable.rank below
-    (sym found ∙ c.in-Variable.is) in
-    omega (arith, kept.0)
+    let v = variable-here slots os c.args.i c.in-Variable.rank c.slot_of.result c.self.invariant
+    (rw (← c.self.view_is) at c.requires.within) (rw c.deref.ensures at c.slot_of.ensures) c.in-Variable.is in
+    omega (arith, v.rank)
 
 pub invariant_of-self : goal.invariant_of-self
 invariant_of-self c =
     let slots = arc_value c.self.inside.slots in
-    let found : c.slot_of.result ≡ slot_at slots c.args.i = rw c.deref.ensures at c.slot_of.ensures in
     let os = c.self.inside.variables.items in
-    let within = rw (← c.self.view_is) at c.requires.within in
-    let below : c.args.i < length slots = omega (arith, within, known-length slots os) in
-    let kept = c.self.invariant.variables c.args.i c.in-Variable.rank below
-    (sym found ∙ c.in-Variable.is) in
-    let place = place-read os c.in-Variable.rank c.args.i c.index_mut.result.now kept.0
-    c.index_mut.ensures.value kept.1 in
-    rw place (kept-set slots os c.in-Variable.rank c.args.i c.args.known kept.1 c.self.invariant)
+    let v = variable-here slots os c.args.i c.in-Variable.rank c.slot_of.result c.self.invariant
+    (rw (← c.self.view_is) at c.requires.within) (rw c.deref.ensures at c.slot_of.ensures) c.in-Variable.is in
+    let place = place-read os c.in-Variable.rank c.args.i c.index_mut.result.now v.rank
+    c.index_mut.ensures.value v.place in
+    rw place (kept-set slots os c.in-Variable.rank c.args.i c.args.known v.place c.self.invariant)
 
 pub returns-in-Variable-clause-known : goal.returns-in-Variable-clause-known
 returns-in-Variable-clause-known c =
     let slots = arc_value c.self.inside.slots in
-    let found : c.slot_of.result ≡ slot_at slots c.args.i = rw c.deref.ensures at c.slot_of.ensures in
     let os = c.self.inside.variables.items in
-    let within = rw (← c.self.view_is) at c.requires.within in
-    let below : c.args.i < length slots = omega (arith, within, known-length slots os) in
-    let kept = c.self.invariant.variables c.args.i c.in-Variable.rank below
-    (sym found ∙ c.in-Variable.is) in
-    let place = place-read os c.in-Variable.rank c.args.i c.index_mut.result.now kept.0
-    c.index_mut.ensures.value kept.1 in
-    rw (← c.self.view_is, place) (known-set slots os c.in-Variable.rank c.args.i c.args.known c.self.invariant below
-    (sym found ∙ c.in-Variable.is))
+    let v = variable-here slots os c.args.i c.in-Variable.rank c.slot_of.result c.self.invariant
+    (rw (← c.self.view_is) at c.requires.within) (rw c.deref.ensures at c.slot_of.ensures) c.in-Variable.is in
+    let place = place-read os c.in-Variable.rank c.args.i c.index_mut.result.now v.rank
+    c.index_mut.ensures.value v.place in
+    rw (← c.self.view_is, place) (known-set slots os c.in-Variable.rank c.args.i c.args.known c.self.invariant
+    v.below v.found)
 
 pub returns-in-Variable-clause-variables : goal.returns-in-Variable-clause-variables
 returns-in-Variable-clause-variables c =
     let slots = arc_value c.self.inside.slots in
-    let found : c.slot_of.result ≡ slot_at slots c.args.i = rw c.deref.ensures at c.slot_of.ensures in
     let os = c.self.inside.variables.items in
-    let within = rw (← c.self.view_is) at c.requires.within in
-    let below : c.args.i < length slots = omega (arith, within, known-length slots os) in
-    let kept = c.self.invariant.variables c.args.i c.in-Variable.rank below
-    (sym found ∙ c.in-Variable.is) in
-    let place = place-read os c.in-Variable.rank c.args.i c.index_mut.result.now kept.0
-    c.index_mut.ensures.value kept.1 in
-    rw (← c.self.view_is, place) (places-set os c.in-Variable.rank c.args.i c.args.known kept.1)
+    let v = variable-here slots os c.args.i c.in-Variable.rank c.slot_of.result c.self.invariant
+    (rw (← c.self.view_is) at c.requires.within) (rw c.deref.ensures at c.slot_of.ensures) c.in-Variable.is in
+    let place = place-read os c.in-Variable.rank c.args.i c.index_mut.result.now v.rank
+    c.index_mut.ensures.value v.place in
+    rw (← c.self.view_is, place) (places-set os c.in-Variable.rank c.args.i c.args.known v.place)
 
 pub returns-in_default-clause-known : goal.returns-in_default-clause-known
 returns-in_default-clause-known c =
