@@ -100,6 +100,8 @@ fn readers_tell_a_piece_and_a_work(rt: HostRuntime) -> Result<(), Fail> {
     if let Some((on_false, on_true)) = work.children() {
         assert!(rt; on_false.name() == [false].as_slice());
         assert!(rt; on_true.name() == [true].as_slice());
+        assert_eq!(rt; on_false.name_number(), 1);
+        assert_eq!(rt; on_true.name_number(), 0x8000_0000_0000_0001);
         assert_eq!(rt; first_sense(on_false), Some(false));
         assert_eq!(rt; first_sense(on_true), Some(true));
         assert_eq!(rt; on_true.facts().least(1), Some(0xC000003E));

@@ -1,4 +1,4 @@
--- Names by the number that their first truth values spell: the bit of one, the bound of all, and their order.
+-- Names by the number that their first truth values spell: the bit of one, and their order.
 use Rattle.std.proofs.Common.{◌≡◌, ℕ, zero, suc, ◌+◌, ◌-◌, ◌*◌, ◌%◌, ◌<◌, ◌≤◌, ◌^◌, ◌⊎◌, inl, inr, Bool, true, false, List, [], ◌∷◌, length, min, drop, get_or, refl, ap, ◌∙◌, arith}
 use Rattle.std.specs.Int.{from_bool}
 use Rattle.std.specs.Ordering.{bool_cmp}
@@ -10,19 +10,8 @@ use Rattle.std.proofs.lemmas.Nat.{pow_pos}
 use Rattle.std.proofs.Math.ListN.{drop_of_length-le}
 use Rattle.std.proofs.Math.Nat.{mod-eq_of_lt}
 use native.Mathlib.Nat.{two-pow-succ, le-mul_of_pos_right}
-use Rattle.sf_book.specs.NameNumbers.{leading_number, name_number}
-
--- what so many values spell is below the next power of two
-pub leading_below : (n : ℕ) (values : List Bool) → leading_number n values < 2 ^ n
-leading_below zero values = omega arith
-leading_below (suc n) [] = pow_pos (suc n)
-leading_below (suc n) (false ∷ values) = omega (arith, leading_below n values)
-leading_below (suc n) (true ∷ values) = omega (arith, leading_below n values)
-
--- no values spell nothing
-nothing_leads : (n : ℕ) → leading_number n [] ≡ 0
-nothing_leads zero = refl
-nothing_leads (suc n) = refl
+use Rattle.sf_piece.specs.NameNumbers.{leading_number, name_number}
+use Rattle.sf_piece.specs.NameNumberLaws.{leading_below, nothing_leads}
 
 nothing_left_by : (n place : ℕ) (values : List Bool) → min (length values) n ≤ place → (place < n) ⊎ (n ≤ place)
     → leading_number (n - place) (drop place values) ≡ 0

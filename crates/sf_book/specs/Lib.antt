@@ -1,4 +1,3 @@
-pub mod NameNumbers
 pub mod Numbers
 pub mod Books
 pub mod Changes

@@ -11,7 +11,7 @@ ghost use Rattle.sf_book.specs.OutstandingMaps.{name_cmp, name_total, name_ties}
 ghost use Rattle.sf_book.specs.declared.fault.Fault.TheVariants.{Memory};
 
 use crate::fault::Fault;
-use crate::name_number::{number_of, order_of_numbers};
+use crate::name_number::order_of_numbers;
 use sf_piece::Piece;
 use std::cmp::Ordering;
 use std::marker::Model;
@@ -28,7 +28,7 @@ pub(crate) struct NameKey {
 impl Model for NameKey {
     ghost use Rattle.std.specs.Prelude.{◌≡◌};
     ghost use Rattle.sf_piece.specs.Pieces.{PieceData};
-    ghost use Rattle.sf_book.specs.NameNumbers.{name_number};
+    ghost use Rattle.sf_piece.specs.NameNumbers.{name_number};
 
     ghost Value = { PieceData };
 
@@ -43,7 +43,7 @@ impl NameKey {
         ensures { result ≡ arc_value piece }
     {
         NameKey {
-            number: number_of(piece.name()),
+            number: piece.name_number(),
             piece,
         }
     }

@@ -3,7 +3,7 @@
 ghost use Rattle.std.specs.Prelude.{◌≡◌, List, Bool, IfSome};
 ghost use Rattle.std.specs.Ordering.{bool_cmp};
 ghost use Rattle.std.specs.Cmp.Lexicographic.{slice_cmp};
-ghost use Rattle.sf_book.specs.NameNumbers.{name_number};
+ghost use Rattle.sf_piece.specs.NameNumbers.{name_number};
 
 use std::cmp::Ordering;
 

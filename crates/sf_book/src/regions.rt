@@ -30,7 +30,7 @@ pub struct Region {
 impl Model for Region {
     ghost use Rattle.std.specs.Prelude.{◌≡◌, option_map, unwrap_or};
     ghost use Rattle.sf_book.specs.Books.{RegionData};
-    ghost use Rattle.sf_book.specs.NameNumbers.{name_number};
+    ghost use Rattle.sf_piece.specs.NameNumbers.{name_number};
 
     ghost Value = { RegionData };
 
@@ -55,7 +55,7 @@ impl Region {
     {
         let number = match &longer {
             Some(name) => number_of(name),
-            None => number_of(piece.name()),
+            None => piece.name_number(),
         };
         Region {
             number,

@@ -1,8 +1,9 @@
 //! Names, kept so that they are soon compared.
 
-ghost use Rattle.std.specs.Prelude.{◌≡◌, ◌<◌, [], ◌∷◌, ◌++◌, length, replicate, true, false, IfOk, OnOk, OnErr};
+ghost use Rattle.std.specs.Prelude.{◌≡◌, ◌<◌, ◌+◌, [], ◌∷◌, ◌++◌, length, replicate, true, false, List, Bool, IfOk, OnOk, OnErr};
 ghost use Rattle.std.specs.Ordering.{bool_cmp};
 ghost use Rattle.std.specs.Cmp.Lexicographic.{slice_cmp};
+ghost use Rattle.sf_piece.specs.NameNumbers.{name_number};
 
 use smallvec::SmallVec;
 use std::alloc::{AllocError, Global};
@@ -11,6 +12,9 @@ use std::marker::Model;
 
 /// The most truth values that a name may have, so that a run of them is counted in a `u32`.
 const LONGEST: u32 = 0xFFFF_FFFF;
+
+/// Of how many truth values the number of a name tells.
+const LEADING: usize = 58;
 
 /// For how many more truth values a fork has room: each gets one at least, and would be copied again for it.
 const SPARE: usize = 16;
@@ -24,17 +28,21 @@ pub(crate) struct Name {
     runs: SmallVec<u32, 8>,
     // The falses at the end.
     rest: u32,
+    // The first 58 truth values as bits, the first one highest, and in the lowest six bits how many these are.
+    number: u64,
 }
 
 impl Model for Name {
-    ghost use Rattle.std.specs.Prelude.{List, Bool};
+    ghost use Rattle.std.specs.Prelude.{◌≡◌, List, Bool};
     ghost use Rattle.sf_piece.specs.Names.{AreRuns};
+    ghost use Rattle.sf_piece.specs.NameNumbers.{name_number};
 
     ghost Value = { List Bool };
 
     ghost view = { λ n. n.entries.items };
 
-    ghost invariant = { λ n. AreRuns n.entries.items n.runs.items n.rest };
+    ghost invariant = { λ n. AreRuns n.entries.items n.runs.items n.rest
+        × (n.number ≡ name_number n.entries.items) };
 }
 
 impl Name {
@@ -46,6 +54,7 @@ impl Name {
             entries: Vec::new(alloc),
             runs: SmallVec::new(alloc),
             rest: 0,
+            number: 0,
         }
     }
 
@@ -56,6 +65,13 @@ impl Name {
         self.entries.as_slice()
     }
 
+    /// The number by which most names are told apart: one that is less is that of a name before.
+    pub(crate) fn number(&self) -> u64
+        ensures { result ≡ name_number self.now }
+    {
+        self.number
+    }
+
     /// The truth values alone.
     pub(crate) fn into_entries(self) -> Vec<bool>
         ensures { result.items ≡ self }
@@ -64,6 +80,7 @@ impl Name {
             entries,
             runs: _,
             rest: _,
+            number: _,
         } = self;
         entries
     }
@@ -79,6 +96,7 @@ impl Name {
             entries,
             runs,
             rest: self.rest,
+            number: self.number,
         })
     }
 
@@ -126,8 +144,10 @@ impl Name {
         if room < count {
             return Err(AllocError);
         }
+        let more = LEADING.min(before + count) - LEADING.min(before);
         self.entries.resize(before + count, false)?;
         self.rest += count as u32;
+        self.number += more as u64;
         Ok(())
     }
 
@@ -137,8 +157,10 @@ impl Name {
         ensures ok { OnOk result (self.new ≡ self.old ++ false ∷ []) }
         ensures err { OnErr result (self.new ≡ self.old) }
     {
+        let gain = gain_by(self.entries.len(), false);
         self.entries.push(false)?;
         self.rest += 1;
+        self.number += gain;
         Ok(())
     }
 
@@ -148,10 +170,26 @@ impl Name {
         ensures ok { OnOk result (self.new ≡ self.old ++ true ∷ []) }
         ensures err { OnErr result (self.new ≡ self.old) }
     {
+        let gain = gain_by(self.entries.len(), true);
         self.entries.reserve(1)?;
         self.runs.push(LONGEST - self.rest)?;
         self.rest = 0;
+        self.number += gain;
         self.entries.push_reserved(true);
         Ok(())
+    }
+}
+
+/// What the number of a name of so many truth values gains by one more.
+fn gain_by(before: usize, entry: bool) -> u64
+    ensures { (name : List Bool) → length name ≡ before → name_number (name ++ entry ∷ [])
+        ≡ name_number name + result }
+{
+    if before >= LEADING {
+        0
+    } else if entry {
+        (64 << (LEADING - 1 - before)) + 1
+    } else {
+        1
     }
 }

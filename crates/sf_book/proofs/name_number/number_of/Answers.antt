@@ -1,6 +1,7 @@
 use Rattle.std.proofs.Common.{◌≡◌, ◌≤◌, ◌+◌, ◌*◌, ◌-◌, ◌%◌, ◌^◌, ℕ, min, length, drop, sym, ap, subst, ◌∙◌, arith}
-use Rattle.sf_book.specs.NameNumbers.{leading_number}
-use Rattle.sf_book.proofs.NumberedNames.{leading_below, spelled_more, spelled_below, spelled_whole}
+use Rattle.sf_piece.specs.NameNumbers.{leading_number}
+use Rattle.sf_piece.specs.NameNumberLaws.{leading_below}
+use Rattle.sf_book.proofs.NumberedNames.{spelled_more, spelled_below, spelled_whole}
 use Rattle.sf_book.proofs.name_number.number_of.Goals as goal
 
 pub loop-place-preserved : goal.loop-place-preserved

@@ -1,5 +1,5 @@
 use Rattle.std.proofs.Common.{◌≡◌, ◌+◌, ◌-◌, ◌*◌, ◌^◌, drop}
-use Rattle.sf_book.specs.NameNumbers.{leading_number}
+use Rattle.sf_piece.specs.NameNumbers.{leading_number}
 use Rattle.sf_book.proofs.name_number.number_of.Given as goal
 
 abbrev pub invariant-loop-place : goal.invariant-loop-place

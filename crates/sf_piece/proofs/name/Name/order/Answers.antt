@@ -11,4 +11,4 @@ returns c =
       c.as_slice.ensures,
       c.as_slice-2.ensures,
       c.cmp.ensures,
-    ) (ordered_by_runs _ _ _ _ _ _ c.self.invariant c.other.invariant)
+    ) (ordered_by_runs _ _ _ _ _ _ c.self.invariant.0 c.other.invariant.0)
