@@ -198,6 +198,7 @@ impl Book {
         ensures err { IfErr result (λ f. (f ≡ Memory) × (self.new ≡ self.old)) }
     {
         let next = self.next_id;
+        // A region alone has a name of its own: of another work it is given back first, for the prover.
         let (piece, step, longer) = work.into_parts();
         match step {
             Step::Split(f, t) => {
