@@ -3,7 +3,7 @@ use Rattle.std.specs.Arc.{arc_value}
 use Rattle.sf_dom.specs.Known.{IsDecided}
 use Rattle.sf_dom.specs.Facts.{known_at}
 use Rattle.sf_dom.specs.Nodes.{slot_at, slot_known, known_by}
-use Rattle.sf_dom.proofs.Slots.{place-read, laid-out, known-length, known-slot, known-set, kept-set, places-set, variable-here, number-set}
+use Rattle.sf_dom.proofs.Slots.{IsVariable, place-read, laid-out, known-length, known-slot, known-set, kept-set, places-set, variable-here, number-set}
 use Rattle.sf_dom.proofs.nodes.Nodes.set.Goals as goal
 
 pub index_mut-requires : goal.index_mut-requires
@@ -14,36 +14,30 @@ index_mut-requires c =
     (rw (← c.self.view_is) at c.requires.within) (rw c.deref.ensures at c.slot_of.ensures) c.in-Variable.is in
     omega (arith, v.rank)
 
+-- the slot is a variable's
+variable : (c : goal.After-self-1)
+    → IsVariable (arc_value c.self.inside.slots) c.self.inside.variables.items c.args.i c.in-Variable.rank
+variable c = variable-here (arc_value c.self.inside.slots) c.self.inside.variables.items c.args.i c.in-Variable.rank
+    c.slot_of.result c.self.invariant (rw (← c.self.view_is) at c.requires.within)
+    (rw c.deref.ensures at c.slot_of.ensures) c.in-Variable.is
+
+-- and what is written keeps its place
+place : (c : goal.After-self-1) → c.index_mut.result.now.place ≡ c.args.i
+place c = place-read c.self.inside.variables.items c.in-Variable.rank c.args.i c.index_mut.result.now
+    (variable c).rank c.index_mut.ensures.value (variable c).place
+
 pub invariant_of-self : goal.invariant_of-self
-invariant_of-self c =
-    let slots = arc_value c.self.inside.slots in
-    let os = c.self.inside.variables.items in
-    let v = variable-here slots os c.args.i c.in-Variable.rank c.slot_of.result c.self.invariant
-    (rw (← c.self.view_is) at c.requires.within) (rw c.deref.ensures at c.slot_of.ensures) c.in-Variable.is in
-    let place = place-read os c.in-Variable.rank c.args.i c.index_mut.result.now v.rank
-    c.index_mut.ensures.value v.place in
-    rw place (kept-set slots os c.in-Variable.rank c.args.i c.args.known v.place c.self.invariant)
+invariant_of-self c = rw (place c) (kept-set (arc_value c.self.inside.slots) c.self.inside.variables.items
+    c.in-Variable.rank c.args.i c.args.known (variable c).place c.self.invariant)
 
 pub returns-in-Variable-clause-known : goal.returns-in-Variable-clause-known
-returns-in-Variable-clause-known c =
-    let slots = arc_value c.self.inside.slots in
-    let os = c.self.inside.variables.items in
-    let v = variable-here slots os c.args.i c.in-Variable.rank c.slot_of.result c.self.invariant
-    (rw (← c.self.view_is) at c.requires.within) (rw c.deref.ensures at c.slot_of.ensures) c.in-Variable.is in
-    let place = place-read os c.in-Variable.rank c.args.i c.index_mut.result.now v.rank
-    c.index_mut.ensures.value v.place in
-    rw (← c.self.view_is, place) (known-set slots os c.in-Variable.rank c.args.i c.args.known c.self.invariant
-    v.below v.found)
+returns-in-Variable-clause-known c = rw (← c.self.view_is, place c) (known-set (arc_value c.self.inside.slots)
+    c.self.inside.variables.items c.in-Variable.rank c.args.i c.args.known c.self.invariant
+    (variable c).below (variable c).found)
 
 pub returns-in-Variable-clause-variables : goal.returns-in-Variable-clause-variables
-returns-in-Variable-clause-variables c =
-    let slots = arc_value c.self.inside.slots in
-    let os = c.self.inside.variables.items in
-    let v = variable-here slots os c.args.i c.in-Variable.rank c.slot_of.result c.self.invariant
-    (rw (← c.self.view_is) at c.requires.within) (rw c.deref.ensures at c.slot_of.ensures) c.in-Variable.is in
-    let place = place-read os c.in-Variable.rank c.args.i c.index_mut.result.now v.rank
-    c.index_mut.ensures.value v.place in
-    rw (← c.self.view_is, place) (places-set os c.in-Variable.rank c.args.i c.args.known v.place)
+returns-in-Variable-clause-variables c = rw (← c.self.view_is, place c) (places-set c.self.inside.variables.items
+    c.in-Variable.rank c.args.i c.args.known (variable c).place)
 
 pub returns-in_default-clause-known : goal.returns-in_default-clause-known
 returns-in_default-clause-known c =
