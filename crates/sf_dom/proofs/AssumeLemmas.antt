@@ -297,43 +297,47 @@ tight-all o a b ex ns cond h k m one two w l = elim (is-word (node_at ns cond.ot
   ])
 ]
 
--- a condition is taken in, step by step
-pub assume-steps : (o a b c e : List Known) (ex : List (List ℕ)) (ns : List Node) (cond : Cond) (v' w' : Known)
-    → length o ≡ length ns → length a ≡ length ns → length b ≡ length ns → length c ≡ length ns → length e ≡ length ns
-    → cond.node.0 < length ns → cond.other.0 < length ns
-    → ((d : Input) → IsInput d → AgreesWith o ex ns d → Holds ns cond d → Admits v' (value_of ns d cond.node.0)
-    × Admits w' (value_of ns d cond.other.0))
-    → KeepsAgreeingOn o a ex ns (λ d. Admits v' (value_of ns d cond.node.0)) × AllNarrower o a
-    × IsNarrower v' (known_at a cond.node.0)
-    → KeepsAgreeingOn a b ex ns (λ d. Admits w' (value_of ns d cond.other.0)) × AllNarrower a b
-    × IsNarrower w' (known_at b cond.other.0)
-    → KeepsAgreeing b c ex ns × AllNarrower b c
-    → KeepsAgreeing c e ex ns × AllNarrower c e
-    → ((n : List Known) → IsPropagated e n ex ns → (KeepsAgreeingOn o n ex ns (Holds ns cond)) × AllNarrower o n
-    × IsNarrower v' (known_at n cond.node.0) × IsNarrower w' (known_at n cond.other.0))
-assume-steps o a b c e ex ns cond v' w' lo la lb lc le lv lw pair s1 s2 w1 w2 n propagate =
-    let bn = AllNarrower-trans b c n (omega arith) w1.1
-    (AllNarrower-trans c e n (omega arith) w2.1 propagate.narrower) in
-    let an = AllNarrower-trans a b n (omega arith) s2.1 bn in (
-      (λ d p agrees h. let q = pair d p agrees h in
-          propagate.keeps d p (w2.0 d p (w1.0 d p (s2.0 d p (s1.0 d p agrees q.0) q.1)))),
-      AllNarrower-trans o a n (omega arith) s1.1 an,
-      IsNarrower-trans v' (known_at a cond.node.0) (known_at n cond.node.0) s1.2 (an cond.node.0 (omega arith)),
-      IsNarrower-trans w' (known_at b cond.other.0) (known_at n cond.other.0) s2.2 (bn cond.other.0 (omega arith)),
+-- how a condition is taken in: what is known at first, once each of its nodes is met, and once each is gone back from
+pub record AreSteps (o a b c e : List Known) (ex : List (List ℕ)) (ns : List Node) (cond : Cond) (v' w' : Known)
+    : Type 0 where
+  pub first : length o ≡ length ns
+  pub node_set : length a ≡ length ns
+  pub other_met : length b ≡ length ns
+  pub node_back : length c ≡ length ns
+  pub other_back : length e ≡ length ns
+  pub node : cond.node.0 < length ns
+  pub other : cond.other.0 < length ns
+  pub admits : (d : Input) → IsInput d → AgreesWith o ex ns d → Holds ns cond d
+      → Admits v' (value_of ns d cond.node.0) × Admits w' (value_of ns d cond.other.0)
+  pub sets_node : KeepsAgreeingOn o a ex ns (λ d. Admits v' (value_of ns d cond.node.0)) × AllNarrower o a
+      × IsNarrower v' (known_at a cond.node.0)
+  pub meets_other : KeepsAgreeingOn a b ex ns (λ d. Admits w' (value_of ns d cond.other.0)) × AllNarrower a b
+      × IsNarrower w' (known_at b cond.other.0)
+  pub from_node : KeepsAgreeing b c ex ns × AllNarrower b c
+  pub from_other : KeepsAgreeing c e ex ns × AllNarrower c e
+
+-- no input is lost on the way
+steps-keep : (o a b c e : List Known) (ex : List (List ℕ)) (ns : List Node) (cond : Cond) (v' w' : Known)
+    → AreSteps o a b c e ex ns cond v' w' → KeepsAgreeingOn o e ex ns (Holds ns cond)
+steps-keep o a b c e ex ns cond v' w' s d p agrees h =
+    let q = s.admits d p agrees h in
+    s.from_other.0 d p (s.from_node.0 d p (s.meets_other.0 d p (s.sets_node.0 d p agrees q.0) q.1))
+
+-- what is narrower than what is known once both nodes are met
+assume-steps : (o a b c e : List Known) (ex : List (List ℕ)) (ns : List Node) (cond : Cond) (v' w' : Known)
+    → AreSteps o a b c e ex ns cond v' w' → (n : List Known) → AllNarrower b n
+    → AllNarrower o n × IsNarrower v' (known_at n cond.node.0) × IsNarrower w' (known_at n cond.other.0)
+assume-steps o a b c e ex ns cond v' w' s n bn =
+    let an = AllNarrower-trans a b n (omega (arith, s.node_set, s.other_met)) s.meets_other.1 bn in (
+      AllNarrower-trans o a n (omega (arith, s.first, s.node_set)) s.sets_node.1 an,
+      IsNarrower-trans v' (known_at a cond.node.0) (known_at n cond.node.0) s.sets_node.2
+          (an cond.node.0 (omega (arith, s.node, s.node_set))),
+      IsNarrower-trans w' (known_at b cond.other.0) (known_at n cond.other.0) s.meets_other.2
+          (bn cond.other.0 (omega (arith, s.other, s.other_met))),
     )
 
 pub assumed-all : (r : Bool) (o a b c e n : List Known) (ex : List (List ℕ)) (ns : List Node)
-    (cond : Cond) (v' w' : Known)
-    → length o ≡ length ns → length a ≡ length ns → length b ≡ length ns → length c ≡ length ns → length e ≡ length ns
-    → cond.node.0 < length ns → cond.other.0 < length ns
-    → ((d : Input) → IsInput d → AgreesWith o ex ns d → Holds ns cond d → Admits v' (value_of ns d cond.node.0)
-    × Admits w' (value_of ns d cond.other.0))
-    → KeepsAgreeingOn o a ex ns (λ d. Admits v' (value_of ns d cond.node.0)) × AllNarrower o a
-    × IsNarrower v' (known_at a cond.node.0)
-    → KeepsAgreeingOn a b ex ns (λ d. Admits w' (value_of ns d cond.other.0)) × AllNarrower a b
-    × IsNarrower w' (known_at b cond.other.0)
-    → KeepsAgreeing b c ex ns × AllNarrower b c
-    → KeepsAgreeing c e ex ns × AllNarrower c e
+    (cond : Cond) (v' w' : Known) → AreSteps o a b c e ex ns cond v' w'
     → Tells cond.test cond.sense (known_at o cond.node.0) (known_at o cond.other.0) v' w'
     → ((m : ℕ) → IsPropagatedBack m c ns cond.node.0) → ((m : ℕ) → IsPropagatedBack m e ns cond.other.0)
     → (IsDecided (known_at o cond.other.0) → IsSharp cond.test cond.sense (known_at o cond.other.0).low → (x : ℕ)
@@ -342,40 +346,39 @@ pub assumed-all : (r : Bool) (o a b c e n : List Known) (ex : List (List ℕ)) (
     → (x : ℕ) → Admits v' x → TestGives cond.test x (known_at o cond.other.0).low cond.sense)
     → MatchBool r (IsPropagated e n ex ns) (NoneAgreesWith e ex ns)
     → MatchBool r (IsAssumed o n ex ns cond) (NoneAgreesOn o ex ns (Holds ns cond))
-assumed-all true o a b c e n ex ns cond v' w' lo la lb lc le lv lw pair s1 s2 w1 w2 tells b1 b2 sharp
-    decided propagate =
-    let k = assume-steps o a b c e ex ns cond v' w' lo la lb lc le lv lw pair s1 s2 w1 w2 n propagate in
+assumed-all true o a b c e n ex ns cond v' w' s tells b1 b2 sharp decided propagate =
+    let ce = s.from_other.1 in
+    let cn = AllNarrower-trans c e n (omega (arith, s.node_back, s.other_back)) ce propagate.narrower in
+    let bc = s.from_node.1 in
+    let counts : length b ≡ length c = omega (arith, s.other_met, s.node_back) in
+    let k = assume-steps o a b c e ex ns cond v' w' s n (AllNarrower-trans b c n counts bc cn) in
     let back : (at : ℕ) (m : List Known) → length m ≡ length ns → AllNarrower b m → AllNarrower m n
     → ((j : ℕ) → IsPropagatedBack j m ns at) → HasGoneBack o n ns cond at
     = λ at m lm bm mn walks.
-    let am = AllNarrower-trans a b m (omega arith) s2.1 bm in
+    let step = assume-steps o a b c e ex ns cond v' w' s m bm in
     record {
       between = m;
       count = lm;
-      before = AllNarrower-trans o a m (omega arith) s1.1 am;
+      before = step.0;
       tells = tells-narrower cond.test cond.sense (known_at o cond.node.0) (known_at o cond.other.0) v' w'
-          (known_at m cond.node.0) (known_at m cond.other.0)
-          (IsNarrower-trans v' (known_at a cond.node.0) (known_at m cond.node.0) s1.2 (am cond.node.0 (omega arith)))
-          (IsNarrower-trans w' (known_at b cond.other.0) (known_at m cond.other.0) s2.2
-          (bm cond.other.0 (omega arith))) tells;
+          (known_at m cond.node.0) (known_at m cond.other.0) step.1 step.2 tells;
       walked = walks;
       after = mn;
     } in
     record {
       count = propagate.count;
-      keeps = k.0;
-      narrower = k.1;
+      keeps = λ d p agrees h. propagate.keeps d p (steps-keep o a b c e ex ns cond v' w' s d p agrees h);
+      narrower = k.0;
       passed = propagate.passed;
       tells = tells-narrower cond.test cond.sense (known_at o cond.node.0) (known_at o cond.other.0) v' w'
-          (known_at n cond.node.0) (known_at n cond.other.0) k.2 k.3 tells;
-      back_node = back cond.node.0 c lc w1.1 (AllNarrower-trans c e n (omega arith) w2.1 propagate.narrower) b1;
-      back_other = back cond.other.0 e le (AllNarrower-trans b c e (omega arith) w1.1 w2.1) propagate.narrower b2;
-      sharp = λ d s x h. sharp d s x (k.2.numbers x h);
-      decided = λ s d1 d2 x h. decided s d1 d2 x (k.2.numbers x h);
+          (known_at n cond.node.0) (known_at n cond.other.0) k.1 k.2 tells;
+      back_node = back cond.node.0 c s.node_back bc cn b1;
+      back_other = back cond.other.0 e s.other_back (AllNarrower-trans b c e counts bc ce) propagate.narrower b2;
+      sharp = λ d s x h. sharp d s x (k.1.numbers x h);
+      decided = λ s d1 d2 x h. decided s d1 d2 x (k.1.numbers x h);
     }
-assumed-all false o a b c e n ex ns cond v' w' lo la lb lc le lv lw pair s1 s2 w1 w2 tells b1 b2 sharp decided none =
-    λ d p agrees h.
-    let q = pair d p agrees h in none d p (w2.0 d p (w1.0 d p (s2.0 d p (s1.0 d p agrees q.0) q.1)))
+assumed-all false o a b c e n ex ns cond v' w' s tells b1 b2 sharp decided none =
+    λ d p agrees h. none d p (steps-keep o a b c e ex ns cond v' w' s d p agrees h)
 
 -- a word's facts are restricted, and forward propagation follows
 pub restricted-all : (r : Bool) (o a n : List Known) (ex : List (List ℕ)) (ns : List Node) (w : ℕ) (more : Known)

@@ -62,12 +62,20 @@ returns c =
     c.requires.ready left.narrower left.consistent) in
     assumed-all c.propagate_on.result o c.set.new.self.known c.meet_node.new.nodes.known
     c.propagate_back.new.nodes.known c.propagate_back-2.new.nodes.known c.propagate_on.new.nodes.known ex ns cond
-    c.args.alone.node c.args.alone.other
-    count ready.count c.meet_node.ensures.ready.count c.propagate_back.ensures.ready.count
-    c.propagate_back-2.ensures.ready.count c.requires.node c.requires.other
-    left.admits
-    step c.if-not-meet_node.ensures.kept c.if-not-propagate_back.ensures.kept
-    c.if-not-propagate_back-2.ensures.kept
+    c.args.alone.node c.args.alone.other (record {
+      first = count;
+      node_set = ready.count;
+      other_met = c.meet_node.ensures.ready.count;
+      node_back = c.propagate_back.ensures.ready.count;
+      other_back = c.propagate_back-2.ensures.ready.count;
+      node = c.requires.node;
+      other = c.requires.other;
+      admits = left.admits;
+      sets_node = step;
+      meets_other = c.if-not-meet_node.ensures.kept;
+      from_node = c.if-not-propagate_back.ensures.kept;
+      from_other = c.if-not-propagate_back-2.ensures.kept;
+    })
     left.tells (c.if-not-propagate_back.ensures.backward refl)
     (c.if-not-propagate_back-2.ensures.backward refl) left.sharp
     left.decided c.propagate_on.ensures
