@@ -1,5 +1,5 @@
 -- The questions that a sheet skips.
-use Rattle.std.proofs.Common.{◌≡◌, ◌≢◌, ◌/◌, ◌%◌, not, true, ap, slice_index, ℕ, zero, suc, ◌+◌, ◌<◌, ◌==◌, bit_and, ◌*◌, ◌^◌, set, w64, length, List, [], ◌∷◌, refl, sym, ◌∙◌, subst, arith}
+use Rattle.std.proofs.Common.{◌≡◌, ◌/◌, ◌%◌, not, true, ap, slice_index, ℕ, ◌+◌, ◌<◌, ◌==◌, bit_and, ◌*◌, ◌^◌, set, w64, length, List, sym, ◌∙◌, subst, arith}
 use Rattle.std.specs.Int.{bit_at, bit_not}
 use Rattle.std.proofs.lemmas.Nat.Bits.{bit_at_ones, bit_at_clear_other}
 use Rattle.std.proofs.lemmas.List.{get_or-set_same, get_or-set_other}

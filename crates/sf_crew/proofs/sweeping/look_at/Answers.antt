@@ -1,4 +1,4 @@
-use Rattle.std.proofs.Common.{◌≡◌, ℕ, ap, ◌∙◌, refl, arith}
+use Rattle.std.proofs.Common.{ℕ, ap, ◌∙◌, refl, arith}
 use Rattle.std.proofs.lemmas.List.{length-set}
 use Rattle.sf_ask.specs.QuestionBitsLaws.{all-bits}
 use Rattle.sf_crew.specs.declared.board.view.View.{View}
