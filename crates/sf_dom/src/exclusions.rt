@@ -1,6 +1,6 @@
 //! The numbers that a word does not have.
 
-ghost use Rattle.std.specs.Prelude.{◌≡◌, ℕ, ◌<◌, ◌≤◌, ◌↔◌, ◌⊎◌, [], length, set, IfOk, IsTrue, Contains, OnErr, IfSome, MatchOption};
+ghost use Rattle.std.specs.Prelude.{◌≡◌, ℕ, ◌<◌, ◌≤◌, ◌↔◌, ◌⊎◌, [], length, IfOk, IsTrue, Contains, OnErr, IfSome, MatchOption};
 ghost use Rattle.std.specs.List.{insert};
 ghost use Rattle.std.specs.Arc.{arc_value};
 ghost use Rattle.sf_dom.specs.Known.{AreSameNumbers};
@@ -158,25 +158,15 @@ fn no_exclusions() -> Lists
     Lists::default()
 }
 
-/// The same lists.
-fn copy_all(lists: &Lists) -> Result<Lists, Fault>
-    ensures { IfOk result (λ v. v ≡ lists.now) }
+/// Makes copies the same as the lists. They are written where they lie, since the array is long to move.
+fn copy_all(lists: &Lists, copies: &mut Lists) -> Result<(), Fault>
+    requires { length copies.old ≡ 16 }
+    ensures { IfOk result (λ _. copies.new ≡ lists.now) }
 {
-    let mut copies = no_exclusions();
     for word in 0..WORDS {
         copies[word] = lists[word].copy()?;
     }
-    Ok(copies)
-}
-
-/// The same lists, but another one for a word.
-fn with_list(lists: &Lists, word: usize, list: Exclusions) -> Result<Lists, Fault>
-    requires { word < 16 }
-    ensures { IfOk result (λ v. v ≡ set lists.now word list) }
-{
-    let mut more = copy_all(lists)?;
-    more[word] = list;
-    Ok(more)
+    Ok(())
 }
 
 /// The numbers that each of the sixteen words does not have. Copies share all lists, until a word gets another number.
@@ -247,7 +237,9 @@ impl Excluded {
         ensures err { OnErr result (self.new ≡ self.old) }
     {
         if let Some(list) = self.of_word(word).with(alloc, number)? {
-            let lists = with_list(self.lists(), word, list)?;
+            let mut lists = no_exclusions();
+            copy_all(self.lists(), &mut lists)?;
+            lists[word] = list;
             *self = Excluded::of(alloc, lists)?;
         }
         Ok(())

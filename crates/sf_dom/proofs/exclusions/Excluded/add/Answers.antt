@@ -6,5 +6,5 @@ pub returns-in_ok-self-clause-ok : goal.returns-in_ok-self-clause-ok
 returns-in_ok-self-clause-ok c =
     let words = rw c.lists.ensures.value at c.lists.ensures.words in
     let more = rw (c.in-Some.is, c.of_word.ensures) at c.in_ok-list.ensures in
-    rw (c.in_ok-self.ensures, c.in_ok-lists.ensures, c.lists.ensures.value)
+    rw (c.in_ok-self.ensures, c.in_ok-copy_all.ensures, c.lists.ensures.value)
     (added-at c.args.self.now c.args.word c.in-Some.list c.args.number (omega (arith, words)) more)
