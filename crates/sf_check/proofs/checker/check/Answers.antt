@@ -8,7 +8,6 @@ use Rattle.sf_check.specs.Codes.{insn_of}
 use Rattle.sf_check.specs.Insns.{successors}
 use Rattle.sf_check.specs.Programs.{AllBelow, IsAt, EndsInReturn, IsSetAt, IsUnsetAt}
 use Rattle.sf_check.specs.Packing.{ArePacked}
-use Rattle.sf_check.specs.Refusals.{AreFineBefore}
 use Rattle.sf_check.specs.ProgramLaws.{successors_inside}
 use Rattle.sf_check.proofs.Reading.{read_more, all_spelled, all_fine, lawful, size_is}
 use Rattle.sf_check.specs.EqualTests.{LeadInside}
