@@ -11,7 +11,7 @@ ghost use Rattle.sf_book.specs.OutstandingMaps.{name_cmp, name_total, name_ties}
 ghost use Rattle.sf_book.specs.declared.fault.Fault.TheVariants.{Memory};
 
 use crate::fault::Fault;
-use crate::name_number::order_of_numbers;
+use crate::name_number::{order_of_numbers, order_of_runs};
 use sf_piece::Piece;
 use std::cmp::Ordering;
 use std::marker::Model;
@@ -20,21 +20,26 @@ use std::sync::Arc;
 /// A piece under its name: two of one name are one key.
 #[derive(Drop)]
 pub(crate) struct NameKey {
-    // That of the name. It tells most keys apart in a map's own memory, while a piece lies elsewhere.
+    // Those of the name. They tell most keys apart in a map's own memory, while a piece lies elsewhere: the first one names
+    // that differ early, the second one those that differ behind long runs of false.
     number: u64,
+    runs: u64,
     piece: Arc<Piece>,
 }
 
 impl Model for NameKey {
-    ghost use Rattle.std.specs.Prelude.{◌≡◌};
+    ghost use Rattle.std.specs.Prelude.{◌≡◌, ◌≤◌, length};
     ghost use Rattle.sf_piece.specs.Pieces.{PieceData};
+    ghost use Rattle.sf_piece.specs.Names.{runs_number};
     ghost use Rattle.sf_piece.specs.NameNumbers.{name_number};
 
     ghost Value = { PieceData };
 
     ghost view = { λ n. n.piece.value };
 
-    ghost invariant = { λ n. n.number ≡ name_number n.piece.value.name };
+    ghost invariant = { λ n. (n.number ≡ name_number n.piece.value.name)
+        × (n.runs ≡ runs_number n.piece.value.name)
+        × (length n.piece.value.name ≤ 4294967295) };
 }
 
 impl NameKey {
@@ -44,6 +49,7 @@ impl NameKey {
     {
         NameKey {
             number: piece.name_number(),
+            runs: piece.name_runs(),
             piece,
         }
     }
@@ -55,6 +61,7 @@ impl NameKey {
     {
         Ok(NameKey {
             number: self.number,
+            runs: self.runs,
             piece: Arc::try_clone(&self.piece)?,
         })
     }
@@ -102,7 +109,10 @@ impl Ord for NameKey {
     ghost matches_eq = { λ x y. name_ties x y };
 
     fn cmp(&self, other: &NameKey) -> Ordering {
-        match order_of_numbers(self.number, other.number) {
+        if let Some(order) = order_of_numbers(self.number, other.number) {
+            return order;
+        }
+        match order_of_runs(self.runs, other.runs) {
             Some(order) => order,
             None => self.piece.name_order(&other.piece),
         }

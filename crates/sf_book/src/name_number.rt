@@ -1,8 +1,9 @@
 //! The beginning of a name as one number, by which most names are told apart.
 
-ghost use Rattle.std.specs.Prelude.{◌≡◌, List, Bool, IfSome};
+ghost use Rattle.std.specs.Prelude.{◌≡◌, ◌≤◌, List, Bool, length, IfSome};
 ghost use Rattle.std.specs.Ordering.{bool_cmp};
 ghost use Rattle.std.specs.Cmp.Lexicographic.{slice_cmp};
+ghost use Rattle.sf_piece.specs.Names.{runs_number};
 ghost use Rattle.sf_piece.specs.NameNumbers.{name_number};
 
 use std::cmp::Ordering;
@@ -26,6 +27,21 @@ pub(crate) fn number_of(name: &[bool]) -> u64
 /// How two names compare, where their numbers tell it: a name with a less number is before one with a greater.
 pub(crate) fn order_of_numbers(left: u64, right: u64) -> Option<Ordering>
     ensures { (m n : List Bool) → left ≡ name_number m → right ≡ name_number n
+        → IfSome result (λ order. slice_cmp bool_cmp m n ≡ order) }
+{
+    if left < right {
+        Some(Ordering::Less)
+    } else if right < left {
+        Some(Ordering::Greater)
+    } else {
+        None
+    }
+}
+
+/// How two names compare, where the numbers of their first two runs tell it.
+pub(crate) fn order_of_runs(left: u64, right: u64) -> Option<Ordering>
+    ensures { (m n : List Bool) → length m ≤ 4294967295 → length n ≤ 4294967295
+        → left ≡ runs_number m → right ≡ runs_number n
         → IfSome result (λ order. slice_cmp bool_cmp m n ≡ order) }
 {
     if left < right {

@@ -1,5 +1,5 @@
 -- Names by the runs of false in them.
-use Rattle.std.specs.Prelude.{◌≡◌, ℕ, ◌+◌, ◌-◌, ◌≤◌, Bool, true, false, List, [], ◌∷◌, length}
+use Rattle.std.specs.Prelude.{◌≡◌, ℕ, ◌+◌, ◌-◌, ◌*◌, ◌≤◌, Bool, true, false, List, [], ◌∷◌, length, slice_index}
 
 -- of a name behind so many falses: for each true the falses right before it, counted down from the most
 abbrev pub runs_of : List Bool → ℕ → List ℕ
@@ -18,3 +18,7 @@ pub record AreRuns (name : List Bool) (runs : List ℕ) (rest : ℕ) : Type 0 wh
   pub short : length name ≤ 4294967295
   pub ended : runs ≡ runs_of name 0
   pub last : rest ≡ rest_of name 0
+
+-- the first two runs of a name as one number, those that it lacks counting as 0
+abbrev pub runs_number : List Bool → ℕ
+runs_number name = 4294967296 * slice_index (runs_of name 0) 0 + slice_index (runs_of name 0) 1

@@ -1,8 +1,9 @@
 //! Names, kept so that they are soon compared.
 
-ghost use Rattle.std.specs.Prelude.{◌≡◌, ◌<◌, ◌+◌, [], ◌∷◌, ◌++◌, length, replicate, true, false, List, Bool, IfOk, OnOk, OnErr};
+ghost use Rattle.std.specs.Prelude.{◌≡◌, ◌<◌, ◌≤◌, ◌+◌, [], ◌∷◌, ◌++◌, length, slice_index, replicate, true, false, List, Bool, IfOk, OnOk, OnErr};
 ghost use Rattle.std.specs.Ordering.{bool_cmp};
 ghost use Rattle.std.specs.Cmp.Lexicographic.{slice_cmp};
+ghost use Rattle.sf_piece.specs.Names.{runs_number};
 ghost use Rattle.sf_piece.specs.NameNumbers.{name_number};
 
 use smallvec::SmallVec;
@@ -70,6 +71,16 @@ impl Name {
         ensures { result ≡ name_number self.now }
     {
         self.number
+    }
+
+    /// The first two runs as one number, those that it lacks counting as 0. Where the numbers of two names that begin alike
+    /// differ, the one with the less is before the other.
+    pub(crate) fn runs_number(&self) -> u64
+        ensures value { result ≡ runs_number self.now }
+        ensures short { length self.now ≤ 4294967295 }
+    {
+        let runs = self.runs.as_slice();
+        0x1_0000_0000 * run_at(runs, 0) as u64 + run_at(runs, 1) as u64
     }
 
     /// The truth values alone.
@@ -178,6 +189,13 @@ impl Name {
         self.entries.push_reserved(true);
         Ok(())
     }
+}
+
+/// The run at a place, and 0 behind the last one.
+fn run_at(runs: &[u32], place: usize) -> u32
+    ensures { result ≡ slice_index runs.now place }
+{
+    if place < runs.len() { runs[place] } else { 0 }
 }
 
 /// What the number of a name of so many truth values gains by one more.

@@ -1,4 +1,4 @@
-use Rattle.std.proofs.Common.{◌≡◌, ◌≤◌, ◌+◌, ◌*◌, ◌-◌, ◌%◌, ◌^◌, ℕ, min, length, drop, sym, ap, subst, ◌∙◌, arith}
+use Rattle.std.proofs.Common.{◌≡◌, ◌+◌, ◌*◌, ◌-◌, ◌^◌, ℕ, drop, sym, subst, ◌∙◌, arith}
 use Rattle.sf_piece.specs.NameNumbers.{leading_number}
 use Rattle.sf_piece.specs.NameNumberLaws.{leading_below}
 use Rattle.sf_book.proofs.NumberedNames.{spelled_more, spelled_below, spelled_whole}

@@ -1,4 +1,4 @@
-use Rattle.sf_piece.proofs.Runs.{ordered_by_runs}
+use Rattle.sf_piece.specs.NameRunLaws.{ordered_by_runs}
 use Rattle.sf_piece.proofs.name.Name.order.Goals as goal
 
 pub returns : goal.returns
