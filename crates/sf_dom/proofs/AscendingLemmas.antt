@@ -9,7 +9,7 @@ use Rattle.std.specs.List.Sorted.{IsBinarySearchResult}
 use Rattle.std.specs.Ordering.{nat_cmp}
 use Rattle.std.specs.Prelude.{Contains, Result, Ok, Err}
 use Rattle.std.specs.Result.{is_ok}
-use Rattle.sf_dom.specs.Ascending.{AreAscending}
+use Rattle.sf_dom.specs.Ascending.{AreAscending, IsBetweenEnds}
 
 -- what is not at a place where a number would stand is nowhere
 absent : (xs : List ℕ) (n at : ℕ) → ((k : ℕ) → k < at → get_or xs k 0 < n)
@@ -29,6 +29,15 @@ stands xs n (Ok i) rising found =
 stands xs n (Err i) rising found =
     let at = searched xs n (Err i) found rising in
     ((λ t. absurd (false≢true t)), (λ w. absurd (absent xs n i at.1 at.2 w)))
+
+-- what stands in an ascending list is between its ends
+pub between-ends : (xs : List ℕ) (n : ℕ) → AreAscending xs → Contains xs n → IsBetweenEnds xs n
+between-ends xs n rising w =
+    let here : get_or xs w.0 0 ≡ n = get_or_default xs w.0 0 n w.1 ∙ w.2 in
+    let within = w.1 in
+    let above = rising 0 w.0 (omega arith) w.1 in
+    let below = rising w.0 (length xs - 1) (omega (arith, within)) (omega (arith, within)) in
+    (omega (arith, within), omega (arith, above, here), omega (arith, below, here))
 
 pub inserted-rising : (xs : List ℕ) (n at : ℕ) → AreAscending xs → IsBinarySearchResult (λ y. nat_cmp y n) xs (Err at)
     → AreAscending (insert xs at n)

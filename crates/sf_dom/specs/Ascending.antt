@@ -1,5 +1,5 @@
 -- Numbers in ascending order, and the shared list that keeps them.
-use Rattle.std.specs.Prelude.{ℕ, ◌<◌, ◌≤◌, List, [], length, slice_index, Option, Some, None}
+use Rattle.std.specs.Prelude.{ℕ, ◌-◌, ◌<◌, ◌≤◌, List, [], length, slice_index, Option, Some, None}
 use Rattle.std.specs.Arc.{arc_value}
 use Rattle.std.specs.declared.sync.Arc.{Arc}
 use Rattle.smallvec.specs.SmallVec.{SmallVec}
@@ -7,6 +7,10 @@ use Rattle.smallvec.specs.SmallVec.{SmallVec}
 -- none is less than one before it
 abbrev pub AreAscending : List ℕ → Type 0
 AreAscending xs = (i j : ℕ) → i ≤ j → j < length xs → slice_index xs i ≤ slice_index xs j
+
+-- n is neither before the first number nor behind the last one
+abbrev pub IsBetweenEnds : List ℕ → ℕ → Type 0
+IsBetweenEnds xs n = (0 < length xs) × (slice_index xs 0 ≤ n) × (n ≤ slice_index xs (length xs - 1))
 
 -- the numbers of a shared list, and none where there is no list
 abbrev pub shared_numbers : {Z : Type 0} → Option (Arc (SmallVec ℕ) Z) → List ℕ

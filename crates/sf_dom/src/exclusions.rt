@@ -6,7 +6,7 @@ ghost use Rattle.std.specs.Arc.{arc_value};
 ghost use Rattle.sf_dom.specs.Known.{AreSameNumbers};
 ghost use Rattle.sf_dom.specs.Facts.{numbers_at};
 ghost use Rattle.sf_dom.specs.Propagation.{AddsNumber};
-ghost use Rattle.sf_dom.specs.Ascending.{AreAscending, shared_numbers};
+ghost use Rattle.sf_dom.specs.Ascending.{AreAscending, IsBetweenEnds, shared_numbers};
 
 use crate::fault::Fault;
 use crate::nodes::WORDS;
@@ -30,7 +30,7 @@ impl Model for Exclusions {
 
     ghost Value = { List ℕ };
 
-    ghost use Rattle.sf_dom.specs.Ascending.{AreAscending, shared_numbers};
+    ghost use Rattle.sf_dom.specs.Ascending.{AreAscending, IsBetweenEnds, shared_numbers};
 
     ghost view = { λ e. shared_numbers e.numbers };
 
@@ -61,7 +61,15 @@ fn stands_in(list: &[u32], number: u32) -> bool
     requires { AreAscending list.now }
     ensures { IsTrue result ↔ Contains list.now number }
 {
-    list.binary_search(&number).is_ok()
+    is_between_ends(list, number) && list.binary_search(&number).is_ok()
+}
+
+/// Whether a number is neither before the first of a list nor behind the last, as most are that are looked for.
+fn is_between_ends(list: &[u32], number: u32) -> bool
+    ensures { IsTrue result ↔ IsBetweenEnds list.now number }
+{
+    let count = list.len();
+    count > 0 && list[0] <= number && number <= list[count - 1]
 }
 
 /// A list with one more number at a place.

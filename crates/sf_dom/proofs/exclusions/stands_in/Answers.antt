@@ -1,6 +1,14 @@
-use Rattle.sf_dom.proofs.AscendingLemmas.{stands}
+use Rattle.std.proofs.Common.{sym, ◌∙◌}
+use Rattle.std.proofs.lemmas.Bool.{false≢true}
+use Rattle.sf_dom.proofs.AscendingLemmas.{stands, between-ends}
 use Rattle.sf_dom.proofs.exclusions.stands_in.Goals as goal
 
-pub returns : goal.returns
-returns c = rw c.is_ok.ensures.value (stands c.args.list.now c.args.number c.binary_search.result c.requires
-    c.binary_search.ensures.position)
+pub returns-then-is_between_ends : goal.returns-then-is_between_ends
+returns-then-is_between_ends c = rw c.is_ok.ensures.value (stands c.args.list.now c.args.number
+    c.binary_search.result c.requires c.binary_search.ensures.position)
+
+pub returns-else-is_between_ends : goal.returns-else-is_between_ends
+returns-else-is_between_ends c = (
+  (λ t. absurd (false≢true (sym c.if-is_between_ends.false ∙ t))),
+  (λ w. c.is_between_ends.ensures.1 (between-ends c.args.list.now c.args.number c.requires w)),
+)
