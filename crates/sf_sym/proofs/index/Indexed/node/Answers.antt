@@ -1,4 +1,4 @@
-use Rattle.std.proofs.Common.{◌≡◌, ◌<◌, arith, ap, length, ◌∙◌, sym}
+use Rattle.std.proofs.Common.{◌<◌, arith, ap, length, ◌∙◌, sym}
 use Rattle.sf_sym.proofs.IndexLemmas.{length-nodes, node-read, blank}
 use Rattle.sf_sym.specs.Pool.{node_at}
 use Rattle.sf_sym.proofs.index.Indexed.node.Goals as goal

@@ -1,4 +1,4 @@
-use Rattle.std.proofs.Common.{◌≡◌, ◌<◌, length, arith, ap, refl, ◌∙◌}
+use Rattle.std.proofs.Common.{◌≡◌, length, arith, ap, refl, ◌∙◌}
 use Rattle.std.specs.Arc.{arc_value}
 use Rattle.sf_sym.specs.ValueLaws.{IsPool-push, ArePlainNodes-push, value-node, value-pushed}
 use Rattle.sf_sym.proofs.Folds.{folded_node-value, folded_node-operands}
