@@ -27,7 +27,7 @@ fn forks_at(alloc: Global, n: u32) -> Result<bool, AllocError> {
 
 #[test]
 fn forks(rt: HostRuntime) -> Result<(), Fail> {
-    for n in [0u32, 1, 63, 64, 65, 128, 129, 5000] {
+    for n in [0u32, 1, 15, 16, 17, 32, 33, 64, 5000] {
         let good = forks_at(rt.alloc(), n)?;
         assert!(rt; good, "{n}");
     }
