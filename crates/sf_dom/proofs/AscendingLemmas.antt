@@ -1,7 +1,8 @@
 -- A number looked for in an ascending list, and put into it.
-use Rattle.std.proofs.Common.{◌≡◌, ℕ, ◌+◌, ◌-◌, ◌<◌, ◌≤◌, ◌↔◌, ◌⊎◌, List, length, get_or, IsTrue, arith, refl, sym, ap, ◌∙◌, inl, inr}
+use Rattle.std.proofs.Common.{◌≡◌, ℕ, zero, suc, ◌+◌, ◌-◌, ◌<◌, ◌≤◌, ◌↔◌, ◌⊎◌, List, [], ◌∷◌, ◌++◌, length, length-append, get_or, IsTrue, arith, refl, sym, ap, ◌∙◌, inl, inr}
 use Rattle.std.proofs.lemmas.Bool.{cases_lt, cases_order, false≢true}
-use Rattle.std.proofs.lemmas.List.{get_or_default}
+use Rattle.std.proofs.lemmas.List.{get_or_default, get_or_append_left, get_or-append-add}
+use Rattle.std.proofs.lemmas.List.Elements.{Contains-append_left, Contains-append_right, Contains-append_cases, Contains-push}
 use Rattle.std.proofs.lemmas.List.Edits.{length-insert, get_or-insert_below, get_or-insert_at, get_or-insert_above}
 use Rattle.std.proofs.lemmas.List.Sorted.{searched, IsNonDecreasingBy-insert, IsNonDecreasingBy-from_default}
 use Rattle.std.specs.List.{insert}
@@ -38,6 +39,89 @@ between-ends xs n rising w =
     let above = rising 0 w.0 (omega arith) w.1 in
     let below = rising w.0 (length xs - 1) (omega (arith, within)) (omega (arith, within)) in
     (omega (arith, within), omega (arith, above, here), omega (arith, below, here))
+
+-- a number above all of an ascending list may come last
+pub rising-pushed : (xs : List ℕ) (n : ℕ) → AreAscending xs → ((k : ℕ) → k < length xs → get_or xs k 0 < n)
+    → AreAscending (xs ++ n ∷ [])
+rising-pushed xs n rising above i j le l = elim (cases_lt j (length xs)) [
+  | inl b ↦ rw (get_or_append_left xs (n ∷ []) 0 i (omega (arith, le, b)), get_or_append_left xs (n ∷ []) 0 j b)
+      (rising i j le b)
+  | inr g ↦ elim (cases_lt i (length xs)) [
+    | inl b ↦
+        let low = above i b in
+        let same = get_or_append_left xs (n ∷ []) 0 i b in
+        omega (arith, last g, low, same)
+    | inr h ↦
+        let long = length-append xs (n ∷ []) in
+        let same : i ≡ j = omega (arith, le, l, long, h) in
+        rw same (omega arith)
+  ]
+]
+  where
+    last : length xs ≤ j → get_or (xs ++ n ∷ []) j 0 ≡ n
+    last g =
+        let long = length-append xs (n ∷ []) in
+        let here : j ≡ length xs + 0 = omega (arith, l, long, g) in
+        ap (λ k. get_or (xs ++ n ∷ []) k 0) here ∙ get_or-append-add xs (n ∷ []) 0 0
+
+-- what one number more makes of a list's
+pub pushed-numbers : (xs : List ℕ) (n m : ℕ) → Contains (xs ++ n ∷ []) m ↔ (Contains xs m ⊎ (m ≡ n))
+pushed-numbers xs n m = (there, back)
+  where
+    there : Contains (xs ++ n ∷ []) m → Contains xs m ⊎ (m ≡ n)
+    there w = elim (Contains-append_cases xs (n ∷ []) m w) [
+      | inl h ↦ inl h
+      | inr h ↦ inr (only h)
+    ]
+      where
+        only : Contains (n ∷ []) m → m ≡ n
+        only (zero, l, is) = sym is
+        only (suc k, l, is) = absurd (omega (arith, l))
+
+    back : Contains xs m ⊎ (m ≡ n) → Contains (xs ++ n ∷ []) m
+    back (inl h) = Contains-append_left xs (n ∷ []) m h
+    back (inr e) = rw e (Contains-push xs n)
+
+-- and of two lists, one behind the other, where the first or the second gets it
+pub more-before : (xs xs' ys : List ℕ) (n : ℕ) → ((m : ℕ) → Contains xs' m ↔ (Contains xs m ⊎ (m ≡ n)))
+    → (m : ℕ) → Contains (xs' ++ ys) m ↔ (Contains (xs ++ ys) m ⊎ (m ≡ n))
+more-before xs xs' ys n more m = (there, back)
+  where
+    there : Contains (xs' ++ ys) m → Contains (xs ++ ys) m ⊎ (m ≡ n)
+    there w = elim (Contains-append_cases xs' ys m w) [
+      | inl h ↦ elim ((more m).0 h) [
+        | inl old ↦ inl (Contains-append_left xs ys m old)
+        | inr e ↦ inr e
+      ]
+      | inr h ↦ inl (Contains-append_right xs ys m h)
+    ]
+
+    back : Contains (xs ++ ys) m ⊎ (m ≡ n) → Contains (xs' ++ ys) m
+    back (inl w) = elim (Contains-append_cases xs ys m w) [
+      | inl h ↦ Contains-append_left xs' ys m ((more m).1 (inl h))
+      | inr h ↦ Contains-append_right xs' ys m h
+    ]
+    back (inr e) = Contains-append_left xs' ys m ((more m).1 (inr e))
+
+pub more-behind : (xs ys ys' : List ℕ) (n : ℕ) → ((m : ℕ) → Contains ys' m ↔ (Contains ys m ⊎ (m ≡ n)))
+    → (m : ℕ) → Contains (xs ++ ys') m ↔ (Contains (xs ++ ys) m ⊎ (m ≡ n))
+more-behind xs ys ys' n more m = (there, back)
+  where
+    there : Contains (xs ++ ys') m → Contains (xs ++ ys) m ⊎ (m ≡ n)
+    there w = elim (Contains-append_cases xs ys' m w) [
+      | inl h ↦ inl (Contains-append_left xs ys m h)
+      | inr h ↦ elim ((more m).0 h) [
+        | inl old ↦ inl (Contains-append_right xs ys m old)
+        | inr e ↦ inr e
+      ]
+    ]
+
+    back : Contains (xs ++ ys) m ⊎ (m ≡ n) → Contains (xs ++ ys') m
+    back (inl w) = elim (Contains-append_cases xs ys m w) [
+      | inl h ↦ Contains-append_left xs ys' m h
+      | inr h ↦ Contains-append_right xs ys' m ((more m).1 (inl h))
+    ]
+    back (inr e) = Contains-append_right xs ys' m ((more m).1 (inr e))
 
 pub inserted-rising : (xs : List ℕ) (n at : ℕ) → AreAscending xs → IsBinarySearchResult (λ y. nat_cmp y n) xs (Err at)
     → AreAscending (insert xs at n)

@@ -1,8 +1,7 @@
--- Numbers in ascending order, and the shared list that keeps them.
+-- Numbers in ascending order, and numbers that are shared.
 use Rattle.std.specs.Prelude.{ℕ, ◌-◌, ◌<◌, ◌≤◌, List, [], length, slice_index, Option, Some, None}
 use Rattle.std.specs.Arc.{arc_value}
 use Rattle.std.specs.declared.sync.Arc.{Arc}
-use Rattle.smallvec.specs.SmallVec.{SmallVec}
 
 -- none is less than one before it
 abbrev pub AreAscending : List ℕ → Type 0
@@ -12,7 +11,13 @@ AreAscending xs = (i j : ℕ) → i ≤ j → j < length xs → slice_index xs i
 abbrev pub IsBetweenEnds : List ℕ → ℕ → Type 0
 IsBetweenEnds xs n = (0 < length xs) × (slice_index xs 0 ≤ n) × (n ≤ slice_index xs (length xs - 1))
 
--- the numbers of a shared list, and none where there is no list
-abbrev pub shared_numbers : {Z : Type 0} → Option (Arc (SmallVec ℕ) Z) → List ℕ
+-- so many numbers of xs are less than n, and they are the first ones
+pub record IsCountBelow (xs : List ℕ) (n count : ℕ) : Type 0 where
+  pub within : count ≤ length xs
+  pub below : (k : ℕ) → k < count → slice_index xs k < n
+  pub rest : (k : ℕ) → count ≤ k → k < length xs → n ≤ slice_index xs k
+
+-- the numbers that are shared, and none where nothing is
+abbrev pub shared_numbers : {Z : Type 0} → Option (Arc (List ℕ) Z) → List ℕ
 shared_numbers None = []
-shared_numbers (Some list) = (arc_value list).items
+shared_numbers (Some numbers) = arc_value numbers

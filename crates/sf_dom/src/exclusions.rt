@@ -1,25 +1,21 @@
 //! The numbers that a word does not have.
 
 ghost use Rattle.std.specs.Prelude.{◌≡◌, ℕ, ◌<◌, ◌≤◌, ◌↔◌, ◌⊎◌, [], length, IfOk, IsTrue, Contains, OnErr, IfSome, MatchOption};
-ghost use Rattle.std.specs.List.{insert};
 ghost use Rattle.std.specs.Arc.{arc_value};
 ghost use Rattle.sf_dom.specs.Known.{AreSameNumbers};
 ghost use Rattle.sf_dom.specs.Facts.{numbers_at};
 ghost use Rattle.sf_dom.specs.Propagation.{AddsNumber};
-ghost use Rattle.sf_dom.specs.Ascending.{AreAscending, IsBetweenEnds, shared_numbers};
+ghost use Rattle.sf_dom.specs.Ascending.{shared_numbers};
 
 use crate::fault::Fault;
 use crate::nodes::WORDS;
-use smallvec::SmallVec;
+use crate::numbers::Numbers;
 use std::alloc::Global;
 use std::marker::Model;
 use std::sync::Arc;
 
-/// Numbers in ascending order: so few lie in the node that is shared, and more in a growth of their own.
-type Numbers = SmallVec<u32, 8>;
-
-/// The numbers that a word does not have, in ascending order. Copies share them, until one gets another number, and where
-/// there are none nothing is shared.
+/// The numbers that a word does not have. Copies share them, until one gets another number, and where there are none
+/// nothing is shared.
 #[derive(Drop)]
 pub(crate) struct Exclusions {
     numbers: Option<Arc<Numbers>>,
@@ -30,11 +26,9 @@ impl Model for Exclusions {
 
     ghost Value = { List ℕ };
 
-    ghost use Rattle.sf_dom.specs.Ascending.{AreAscending, IsBetweenEnds, shared_numbers};
+    ghost use Rattle.sf_dom.specs.Ascending.{shared_numbers};
 
     ghost view = { λ e. shared_numbers e.numbers };
-
-    ghost invariant = { λ e. AreAscending (shared_numbers e.numbers) };
 }
 
 impl Default for Exclusions {
@@ -46,69 +40,27 @@ impl Default for Exclusions {
     }
 }
 
-/// The numbers, as a slice.
-fn slice_of(numbers: &Option<Arc<Numbers>>) -> &[u32]
-    ensures { result.now ≡ shared_numbers numbers.now }
+/// Whether each of the numbers is among the others.
+fn are_among(numbers: &Numbers, others: &Exclusions) -> bool
+    ensures { IsTrue result ↔ ((n : ℕ) → Contains numbers.now n → Contains others.now n) }
 {
-    match numbers {
-        Some(list) => list.as_slice(),
-        None => &[],
-    }
-}
-
-/// Whether a number stands in an ascending list.
-fn stands_in(list: &[u32], number: u32) -> bool
-    requires { AreAscending list.now }
-    ensures { IsTrue result ↔ Contains list.now number }
-{
-    is_between_ends(list, number) && list.binary_search(&number).is_ok()
-}
-
-/// Whether a number is neither before the first of a list nor behind the last, as most are that are looked for.
-fn is_between_ends(list: &[u32], number: u32) -> bool
-    ensures { IsTrue result ↔ IsBetweenEnds list.now number }
-{
-    let count = list.len();
-    count > 0 && list[0] <= number && number <= list[count - 1]
-}
-
-/// A list with one more number at a place.
-fn inserted(alloc: Global, list: &[u32], at: usize, number: u32) -> Result<Numbers, Fault>
-    requires { at ≤ length list.now }
-    ensures { IfOk result (λ v. v.items ≡ insert list.now at number) }
-{
-    let mut more = SmallVec::with_capacity(alloc, list.len() + 1)?;
-    more.extend_from_slice(&list[..at])?;
-    more.push(number)?;
-    more.extend_from_slice(&list[at..])?;
-    Ok(more)
-}
-
-/// An ascending list with one more number, or none where the number is there.
-fn with_number(alloc: Global, list: &[u32], number: u32) -> Result<Option<Numbers>, Fault>
-    requires { AreAscending list.now }
-    ensures rising { IfOk result (λ o. IfSome o (λ v. AreAscending v.items)) }
-    ensures numbers { IfOk result (λ o. MatchOption o
-        (Contains list.now number)
-        (λ v. (n : ℕ) → Contains v.items n ↔ (Contains list.now n ⊎ (n ≡ number)))) }
-{
-    match list.binary_search(&number) {
-        Ok(_) => Ok(None),
-        Err(at) => Ok(Some(inserted(alloc, list, at, number)?)),
-    }
-}
-
-/// Whether each of the numbers stands in the list.
-fn all_stand_in(numbers: &[u32], list: &[u32]) -> bool
-    requires { AreAscending list.now }
-    ensures { IsTrue result ↔ ((n : ℕ) → Contains numbers.now n → Contains list.now n) }
-{
-    for n in numbers {
-        if !stands_in(list, *n) {
+    for place in 0..numbers.len() {
+        if !others.has(numbers.at(place)) {
             return false;
         }
     }
     true
+}
+
+/// The numbers that are shared, if there are any, and one more. `Memory` where a growth is refused.
+fn with_number(alloc: Global, numbers: &Option<Arc<Numbers>>, number: u32) -> Result<Numbers, Fault>
+    ensures { IfOk result (λ v. (n : ℕ) → Contains v n
+        ↔ (Contains (shared_numbers numbers.now) n ⊎ (n ≡ number))) }
+{
+    match numbers {
+        Some(list) => list.with(alloc, number),
+        None => Numbers::of(alloc, number),
+    }
 }
 
 impl Exclusions {
@@ -116,7 +68,10 @@ impl Exclusions {
     pub(crate) fn has(&self, number: u32) -> bool
         ensures { IsTrue result ↔ Contains self.now number }
     {
-        stands_in(slice_of(&self.numbers), number)
+        match &self.numbers {
+            Some(numbers) => numbers.has(number),
+            None => false,
+        }
     }
 
     /// The same numbers, shared. `Memory` where a growth is refused.
@@ -137,21 +92,30 @@ impl Exclusions {
             (Contains self.now number)
             (λ e. (n : ℕ) → Contains e n ↔ (Contains self.now n ⊎ (n ≡ number)))) }
     {
-        let Some(more) = with_number(alloc, slice_of(&self.numbers), number)? else {
+        if self.has(number) {
             return Ok(None);
-        };
+        }
+        let more = with_number(alloc, &self.numbers, number)?;
         Ok(Some(Exclusions {
             numbers: Some(Arc::new(alloc, more)?),
         }))
+    }
+
+    /// Whether each number is among the others.
+    fn is_among(&self, others: &Exclusions) -> bool
+        ensures { IsTrue result ↔ ((n : ℕ) → Contains self.now n → Contains others.now n) }
+    {
+        match &self.numbers {
+            Some(numbers) => are_among(numbers, others),
+            None => true,
+        }
     }
 
     /// Whether both have the same numbers.
     pub(crate) fn has_same(&self, other: &Exclusions) -> bool
         ensures { IsTrue result ↔ AreSameNumbers self.now other.now }
     {
-        let left = slice_of(&self.numbers);
-        let right = slice_of(&other.numbers);
-        all_stand_in(left, right) && all_stand_in(right, left)
+        self.is_among(other) && other.is_among(self)
     }
 }
 

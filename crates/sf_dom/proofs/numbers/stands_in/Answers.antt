@@ -1,7 +1,7 @@
 use Rattle.std.proofs.Common.{sym, ◌∙◌}
 use Rattle.std.proofs.lemmas.Bool.{false≢true}
 use Rattle.sf_dom.proofs.AscendingLemmas.{stands, between-ends}
-use Rattle.sf_dom.proofs.exclusions.stands_in.Goals as goal
+use Rattle.sf_dom.proofs.numbers.stands_in.Goals as goal
 
 pub returns-then-is_between_ends : goal.returns-then-is_between_ends
 returns-then-is_between_ends c = rw c.is_ok.ensures.value (stands c.args.list.now c.args.number

@@ -1,0 +1,173 @@
+//! Numbers that a word does not have, of which copies share most.
+
+ghost use Rattle.std.specs.Prelude.{◌≡◌, ℕ, ◌<◌, ◌≤◌, ◌↔◌, ◌⊎◌, ◌∷◌, [], length, slice_index, IfOk, IsTrue, MatchBool, Contains};
+ghost use Rattle.std.specs.List.{insert};
+ghost use Rattle.sf_dom.specs.Ascending.{AreAscending, IsBetweenEnds, IsCountBelow};
+
+use crate::fault::Fault;
+use sf_blocks::shared::SharedList;
+use smallvec::SmallVec;
+use std::alloc::Global;
+use std::marker::Model;
+
+/// Numbers that came each above those before it, as most filters test them: copies share all but the last block.
+type Rising = SharedList<u32, 16>;
+
+/// The other numbers, in ascending order: so few lie in the node that is shared, and more in a growth of their own.
+type Others = SmallVec<u32, 2>;
+
+/// Some numbers, each once.
+#[derive(Drop)]
+pub(crate) struct Numbers {
+    rising: Rising,
+    others: Others,
+}
+
+impl Model for Numbers {
+    ghost use Rattle.std.specs.Prelude.{List, ℕ, ◌++◌};
+    ghost use Rattle.sf_dom.specs.Ascending.{AreAscending};
+
+    ghost Value = { List ℕ };
+
+    ghost view = { λ n. n.rising ++ n.others.items };
+
+    ghost invariant = { λ n. AreAscending n.rising × AreAscending n.others.items };
+}
+
+/// How many numbers of an ascending list are less than this one.
+fn count_below(list: &Rising, number: u32) -> usize
+    requires { AreAscending list.now }
+    ensures { IsCountBelow list.now number result }
+{
+    let mut low = 0;
+    let mut high = list.len();
+    while low < high {
+        let middle = low + (high - low) / 2;
+        if list.get(middle) < number {
+            low = middle + 1;
+        } else {
+            high = middle;
+        }
+    }
+    low
+}
+
+/// Whether a number is above each of an ascending list.
+fn is_behind(list: &Rising, number: u32) -> bool
+    requires { AreAscending list.now }
+    ensures { MatchBool result ((k : ℕ) → k < length list.now
+        → slice_index list.now k < number)
+        (0 < length list.now) }
+{
+    let count = list.len();
+    count == 0 || list.get(count - 1) < number
+}
+
+/// Whether a number stands in an ascending list. Most that are looked for are before the first or behind the last.
+fn is_in_blocks(list: &Rising, number: u32) -> bool
+    requires { AreAscending list.now }
+    ensures { IsTrue result ↔ Contains list.now number }
+{
+    if is_behind(list, number) || number < list.get(0) {
+        return false;
+    }
+    let at = count_below(list, number);
+    at < list.len() && list.get(at) == number
+}
+
+/// Whether a number stands in an ascending list.
+fn stands_in(list: &[u32], number: u32) -> bool
+    requires { AreAscending list.now }
+    ensures { IsTrue result ↔ Contains list.now number }
+{
+    is_between_ends(list, number) && list.binary_search(&number).is_ok()
+}
+
+/// Whether a number is neither before the first of a list nor behind the last, as most are that are looked for.
+fn is_between_ends(list: &[u32], number: u32) -> bool
+    ensures { IsTrue result ↔ IsBetweenEnds list.now number }
+{
+    let count = list.len();
+    count > 0 && list[0] <= number && number <= list[count - 1]
+}
+
+/// A list with one more number at a place.
+fn inserted(alloc: Global, list: &[u32], at: usize, number: u32) -> Result<Others, Fault>
+    requires { at ≤ length list.now }
+    ensures { IfOk result (λ v. v.items ≡ insert list.now at number) }
+{
+    let mut more = SmallVec::with_capacity(alloc, list.len() + 1)?;
+    more.extend_from_slice(&list[..at])?;
+    more.push(number)?;
+    more.extend_from_slice(&list[at..])?;
+    Ok(more)
+}
+
+/// An ascending list with a number that may be there.
+fn with_number(alloc: Global, list: &[u32], number: u32) -> Result<Others, Fault>
+    requires { AreAscending list.now }
+    ensures rising { IfOk result (λ v. AreAscending v.items) }
+    ensures numbers { IfOk result (λ v. (n : ℕ) → Contains v.items n
+        ↔ (Contains list.now n ⊎ (n ≡ number))) }
+{
+    match list.binary_search(&number) {
+        Ok(_) => Ok(SmallVec::from_slice(alloc, list)?),
+        Err(at) => Ok(inserted(alloc, list, at, number)?),
+    }
+}
+
+impl Numbers {
+    /// One number. `Memory` where a growth is refused.
+    pub(crate) fn of(alloc: Global, number: u32) -> Result<Numbers, Fault>
+        ensures { IfOk result (λ v. v ≡ number ∷ []) }
+    {
+        let mut rising = SharedList::new(alloc)?;
+        rising.push(number)?;
+        Ok(Numbers {
+            rising,
+            others: SmallVec::new(alloc),
+        })
+    }
+
+    /// Whether a number is one of them.
+    pub(crate) fn has(&self, number: u32) -> bool
+        ensures { IsTrue result ↔ Contains self.now number }
+    {
+        is_in_blocks(&self.rising, number) || stands_in(self.others.as_slice(), number)
+    }
+
+    /// The same numbers, and one more that may be among them. `Memory` where a growth is refused.
+    pub(crate) fn with(&self, alloc: Global, number: u32) -> Result<Numbers, Fault>
+        ensures { IfOk result (λ v. (n : ℕ) → Contains v n
+            ↔ (Contains self.now n ⊎ (n ≡ number))) }
+    {
+        let mut rising = self.rising.fork()?;
+        if is_behind(&self.rising, number) {
+            rising.push(number)?;
+            let others = SmallVec::from_slice(alloc, self.others.as_slice())?;
+            return Ok(Numbers { rising, others });
+        }
+        let others = with_number(alloc, self.others.as_slice(), number)?;
+        Ok(Numbers { rising, others })
+    }
+
+    /// How many they are.
+    pub(crate) fn len(&self) -> usize
+        ensures { result ≡ length self.now }
+    {
+        self.rising.len() + self.others.as_slice().len()
+    }
+
+    /// The number at a place.
+    pub(crate) fn at(&self, place: usize) -> u32
+        requires { place < length self.now }
+        ensures { result ≡ slice_index self.now place }
+    {
+        let rising = self.rising.len();
+        if place < rising {
+            self.rising.get(place)
+        } else {
+            self.others.as_slice()[place - rising]
+        }
+    }
+}
