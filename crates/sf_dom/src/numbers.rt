@@ -1,6 +1,6 @@
 //! Numbers that a word does not have, of which copies share most.
 
-ghost use Rattle.std.specs.Prelude.{◌≡◌, ℕ, ◌<◌, ◌≤◌, ◌↔◌, ◌⊎◌, ◌∷◌, [], length, slice_index, IfOk, IsTrue, MatchBool, Contains};
+ghost use Rattle.std.specs.Prelude.{◌≡◌, ℕ, ◌<◌, ◌≤◌, ◌↔◌, ◌⊎◌, ◌*◌, ◌^◌, ◌∷◌, ◌++◌, [], length, slice_index, unwrap_or, IfOk, IsTrue, MatchBool, Contains};
 ghost use Rattle.std.specs.List.{insert};
 ghost use Rattle.sf_dom.specs.Ascending.{AreAscending, IsBetweenEnds, IsCountBelow};
 
@@ -11,27 +11,27 @@ use std::alloc::Global;
 use std::marker::Model;
 
 /// Numbers that came each above those before it, as most filters test them: copies share all but the last block.
-type Rising = SharedList<u32, 16>;
+type Rising = SharedList<u32, 1>;
 
 /// The other numbers, in ascending order: so few lie in the node that is shared, and more in a growth of their own.
 type Others = SmallVec<u32, 2>;
 
-/// Some numbers, each once.
+/// Some numbers. The first one is among the others, since many lists have no more, and none is rising then.
 #[derive(Drop)]
 pub(crate) struct Numbers {
-    rising: Rising,
+    rising: Option<Rising>,
     others: Others,
 }
 
 impl Model for Numbers {
-    ghost use Rattle.std.specs.Prelude.{List, ℕ, ◌++◌};
+    ghost use Rattle.std.specs.Prelude.{List, ℕ, [], ◌++◌, unwrap_or};
     ghost use Rattle.sf_dom.specs.Ascending.{AreAscending};
 
     ghost Value = { List ℕ };
 
-    ghost view = { λ n. n.rising ++ n.others.items };
+    ghost view = { λ n. unwrap_or n.rising [] ++ n.others.items };
 
-    ghost invariant = { λ n. AreAscending n.rising × AreAscending n.others.items };
+    ghost invariant = { λ n. AreAscending (unwrap_or n.rising []) × AreAscending n.others.items };
 }
 
 /// How many numbers of an ascending list are less than this one.
@@ -73,6 +73,73 @@ fn is_in_blocks(list: &Rising, number: u32) -> bool
     }
     let at = count_below(list, number);
     at < list.len() && list.get(at) == number
+}
+
+/// Whether a number is one of the rising.
+fn is_rising(rising: &Option<Rising>, number: u32) -> bool
+    requires { AreAscending (unwrap_or rising.now []) }
+    ensures { IsTrue result ↔ Contains (unwrap_or rising.now []) number }
+{
+    match rising {
+        Some(list) => is_in_blocks(list, number),
+        None => false,
+    }
+}
+
+/// Whether a number is above each of the rising.
+fn comes_last(rising: &Option<Rising>, number: u32) -> bool
+    requires { AreAscending (unwrap_or rising.now []) }
+    ensures { IsTrue result → (k : ℕ) → k < length (unwrap_or rising.now [])
+        → slice_index (unwrap_or rising.now []) k < number }
+{
+    match rising {
+        Some(list) => is_behind(list, number),
+        None => true,
+    }
+}
+
+/// The rising numbers, and one more behind them. `Memory` where a growth is refused.
+fn with_last(alloc: Global, rising: &Option<Rising>, number: u32) -> Result<Rising, Fault>
+    ensures { IfOk result (λ r. r ≡ unwrap_or rising.now [] ++ number ∷ []) }
+{
+    let mut more = match rising {
+        Some(list) => list.fork()?,
+        None => SharedList::new(alloc)?,
+    };
+    more.push(number)?;
+    Ok(more)
+}
+
+/// The same rising numbers. `Memory` where a growth is refused.
+fn fork_of(rising: &Option<Rising>) -> Result<Option<Rising>, Fault>
+    ensures { IfOk result (λ r. r ≡ rising.now) }
+{
+    match rising {
+        Some(list) => Ok(Some(list.fork()?)),
+        None => Ok(None),
+    }
+}
+
+/// How many the rising numbers are.
+fn count_of(rising: &Option<Rising>) -> usize
+    ensures value { result ≡ length (unwrap_or rising.now []) }
+    ensures small { result < 3 * 2 ^ 30 }
+{
+    match rising {
+        Some(list) => list.len(),
+        None => 0,
+    }
+}
+
+/// The rising number at a place.
+fn rising_at(rising: &Option<Rising>, place: usize) -> u32
+    requires { place < length (unwrap_or rising.now []) }
+    ensures { result ≡ slice_index (unwrap_or rising.now []) place }
+{
+    match rising {
+        Some(list) => list.get(place),
+        None => unreachable!(),
+    }
 }
 
 /// Whether a number stands in an ascending list.
@@ -121,11 +188,11 @@ impl Numbers {
     pub(crate) fn of(alloc: Global, number: u32) -> Result<Numbers, Fault>
         ensures { IfOk result (λ v. v ≡ number ∷ []) }
     {
-        let mut rising = SharedList::new(alloc)?;
-        rising.push(number)?;
+        let mut others = SmallVec::new(alloc);
+        others.push(number)?;
         Ok(Numbers {
-            rising,
-            others: SmallVec::new(alloc),
+            rising: None,
+            others,
         })
     }
 
@@ -133,7 +200,7 @@ impl Numbers {
     pub(crate) fn has(&self, number: u32) -> bool
         ensures { IsTrue result ↔ Contains self.now number }
     {
-        is_in_blocks(&self.rising, number) || stands_in(self.others.as_slice(), number)
+        is_rising(&self.rising, number) || stands_in(self.others.as_slice(), number)
     }
 
     /// The same numbers, and one more that may be among them. `Memory` where a growth is refused.
@@ -141,12 +208,15 @@ impl Numbers {
         ensures { IfOk result (λ v. (n : ℕ) → Contains v n
             ↔ (Contains self.now n ⊎ (n ≡ number))) }
     {
-        let mut rising = self.rising.fork()?;
-        if is_behind(&self.rising, number) {
-            rising.push(number)?;
+        if comes_last(&self.rising, number) {
+            let more = with_last(alloc, &self.rising, number)?;
             let others = SmallVec::from_slice(alloc, self.others.as_slice())?;
-            return Ok(Numbers { rising, others });
+            return Ok(Numbers {
+                rising: Some(more),
+                others,
+            });
         }
+        let rising = fork_of(&self.rising)?;
         let others = with_number(alloc, self.others.as_slice(), number)?;
         Ok(Numbers { rising, others })
     }
@@ -155,7 +225,7 @@ impl Numbers {
     pub(crate) fn len(&self) -> usize
         ensures { result ≡ length self.now }
     {
-        self.rising.len() + self.others.as_slice().len()
+        count_of(&self.rising) + self.others.as_slice().len()
     }
 
     /// The number at a place.
@@ -163,11 +233,11 @@ impl Numbers {
         requires { place < length self.now }
         ensures { result ≡ slice_index self.now place }
     {
-        let rising = self.rising.len();
-        if place < rising {
-            self.rising.get(place)
+        let count = count_of(&self.rising);
+        if place < count {
+            rising_at(&self.rising, place)
         } else {
-            self.others.as_slice()[place - rising]
+            self.others.as_slice()[place - count]
         }
     }
 }
