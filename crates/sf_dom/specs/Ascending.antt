@@ -11,12 +11,6 @@ AreAscending xs = (i j : ℕ) → i ≤ j → j < length xs → slice_index xs i
 abbrev pub IsBetweenEnds : List ℕ → ℕ → Type 0
 IsBetweenEnds xs n = (0 < length xs) × (slice_index xs 0 ≤ n) × (n ≤ slice_index xs (length xs - 1))
 
--- so many numbers of xs are less than n, and they are the first ones
-pub record IsCountBelow (xs : List ℕ) (n count : ℕ) : Type 0 where
-  pub within : count ≤ length xs
-  pub below : (k : ℕ) → k < count → slice_index xs k < n
-  pub rest : (k : ℕ) → count ≤ k → k < length xs → n ≤ slice_index xs k
-
 -- the numbers that are shared, and none where nothing is
 abbrev pub shared_numbers : {Z : Type 0} → Option (Arc (List ℕ) Z) → List ℕ
 shared_numbers None = []

@@ -1,8 +1,9 @@
 //! Numbers that a word does not have, of which copies share most.
 
-ghost use Rattle.std.specs.Prelude.{◌≡◌, ℕ, ◌<◌, ◌≤◌, ◌↔◌, ◌⊎◌, ◌*◌, ◌^◌, ◌∷◌, ◌++◌, [], length, slice_index, unwrap_or, IfOk, IsTrue, MatchBool, Contains};
+ghost use Rattle.std.specs.Prelude.{◌≡◌, ℕ, ◌<◌, ◌≤◌, ◌↔◌, ◌⊎◌, ◌*◌, ◌^◌, ◌-◌, ◌∷◌, ◌++◌, [], length, slice_index, unwrap_or, IfOk, IsTrue, MatchBool, Contains};
 ghost use Rattle.std.specs.List.{insert};
-ghost use Rattle.sf_dom.specs.Ascending.{AreAscending, IsBetweenEnds, IsCountBelow};
+ghost use Rattle.std.specs.List.Sorted.{IsPartitionPoint};
+ghost use Rattle.sf_dom.specs.Ascending.{AreAscending, IsBetweenEnds};
 
 use crate::fault::Fault;
 use sf_blocks::shared::SharedList;
@@ -37,7 +38,7 @@ impl Model for Numbers {
 /// How many numbers of an ascending list are less than this one.
 fn count_below(list: &Rising, number: u32) -> usize
     requires { AreAscending list.now }
-    ensures { IsCountBelow list.now number result }
+    ensures { IsPartitionPoint (λ m. m < number) (λ m. number ≤ m) list.now result }
 {
     let mut low = 0;
     let mut high = list.len();
@@ -57,7 +58,7 @@ fn is_behind(list: &Rising, number: u32) -> bool
     requires { AreAscending list.now }
     ensures { MatchBool result ((k : ℕ) → k < length list.now
         → slice_index list.now k < number)
-        (0 < length list.now) }
+        ((0 < length list.now) × (number ≤ slice_index list.now (length list.now - 1))) }
 {
     let count = list.len();
     count == 0 || list.get(count - 1) < number
@@ -89,8 +90,10 @@ fn is_rising(rising: &Option<Rising>, number: u32) -> bool
 /// Whether a number is above each of the rising.
 fn comes_last(rising: &Option<Rising>, number: u32) -> bool
     requires { AreAscending (unwrap_or rising.now []) }
-    ensures { IsTrue result → (k : ℕ) → k < length (unwrap_or rising.now [])
-        → slice_index (unwrap_or rising.now []) k < number }
+    ensures { MatchBool result ((k : ℕ) → k < length (unwrap_or rising.now [])
+        → slice_index (unwrap_or rising.now []) k < number)
+        ((0 < length (unwrap_or rising.now [])) × (number ≤ slice_index
+        (unwrap_or rising.now []) (length (unwrap_or rising.now []) - 1))) }
 {
     match rising {
         Some(list) => is_behind(list, number),

@@ -1,4 +1,4 @@
-use Rattle.std.proofs.Common.{[], ◌∷◌, ◌++◌, refl}
+use Rattle.std.proofs.Common.{[], ◌∷◌, ◌++◌}
 use Rattle.std.specs.Prelude.{unwrap_or}
 use Rattle.sf_dom.proofs.AscendingLemmas.{rising-pushed, pushed-numbers, more-before, more-behind}
 use Rattle.sf_dom.proofs.numbers.Numbers.with.Goals as goal
@@ -7,7 +7,7 @@ pub invariant_of-result : goal.invariant_of-result
 invariant_of-result c = (
   rw c.in_ok-more.ensures
       (rising-pushed (unwrap_or c.self.inside.rising []) c.args.number c.self.invariant.0
-      (c.if-comes_last.ensures refl)),
+      c.if-comes_last.ensures),
   rw (c.in_ok-others.ensures.ok, c.as_slice.ensures) c.self.invariant.1,
 )
 
