@@ -30,7 +30,6 @@ use Rattle.sf_crew.specs.Sweeps.{IsReplyTo, IsRightReplyAt, AreRightReplies}
 use Rattle.sf_audit.specs.Audits.{IsAudit}
 use Rattle.sf_audit.specs.Outcomes.{Found}
 use Rattle.sf_audit.specs.Reports.{line, size_line, name_text, action_text, region_line, region_lines, title_line, counts_line, question_lines, totals_line, report_text}
-use Rattle.sf_audit.proofs.RefusalLemmas.{OneStack}
 
 -- the names of regions, in order
 abbrev names : List RegionData → List (List Bool)
@@ -254,13 +253,11 @@ abbrev head : List (List Insn) → ℕ → Counts → List ℕ
 head stack questions counts = title_line ++ (size_line (length stack) (path_length stack) questions
     ++ counts_line counts)
 
--- what two audits of the files ended with is alike
-alike : OneStack → (files : List (List ℕ)) (questions : List QuestionData) (m n : ℕ) (o p : Found)
-    → IsAudit files questions m o → IsAudit files questions n p → IsPlain o.settled.stack
-    → o.settled.outstanding ≡ [] → p.settled.outstanding ≡ [] → AreAlike o.settled p.settled
-alike one_stack files questions m n o p f g plain none none' =
-    let stack : o.settled.stack ≡ p.settled.stack =
-    one_stack files o.settled.stack p.settled.stack f.stack.spelled g.stack.spelled in
+-- what two audits of one stack ended with is alike
+alike : (files others : List (List ℕ)) (questions : List QuestionData) (m n : ℕ) (o p : Found)
+    → IsAudit files questions m o → IsAudit others questions n p → o.settled.stack ≡ p.settled.stack
+    → IsPlain o.settled.stack → o.settled.outstanding ≡ [] → p.settled.outstanding ≡ [] → AreAlike o.settled p.settled
+alike files others questions m n o p f g stack plain none none' =
     record {
       lawful = f.found.end.settled.lawful;
       lawful' = g.found.end.settled.lawful;
@@ -271,12 +268,12 @@ alike one_stack files questions m n o p f g plain none none' =
       worked' = (g.found.plain (subst IsPlain stack plain)).worked none';
     }
 
-pub same_report : OneStack → (files : List (List ℕ)) (questions : List QuestionData) (m n : ℕ) (o p : Found)
-    → IsAudit files questions m o → IsAudit files questions n p → IsPlain o.settled.stack
-    → o.settled.outstanding ≡ [] → p.settled.outstanding ≡ [] → (shown : Bool)
+pub same_report : (files others : List (List ℕ)) (questions : List QuestionData) (m n : ℕ) (o p : Found)
+    → IsAudit files questions m o → IsAudit others questions n p → o.settled.stack ≡ p.settled.stack
+    → IsPlain o.settled.stack → o.settled.outstanding ≡ [] → p.settled.outstanding ≡ [] → (shown : Bool)
     → report_text o shown ≡ report_text p shown
-same_report one_stack files questions m n o p f g plain none none' shown =
-    let h = alike one_stack files questions m n o p f g plain none none' in
+same_report files others questions m n o p f g stack plain none none' shown =
+    let h = alike files others questions m n o p f g stack plain none none' in
     let asked : o.questions ≡ p.questions = f.found.questions ∙ sym g.found.questions in
     let theirs : AreRightReplies p.settled o.questions p.replies =
     subst (λ (qs : List QuestionData). AreRightReplies p.settled qs p.replies) (sym asked) g.found.replies in

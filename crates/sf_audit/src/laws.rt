@@ -41,8 +41,8 @@ pub fn one_refusal()
     a_fault_spells_no_lawful_program();
 }
 
-/// What is audited is not refused: its files have no refusal, and there are 1 to 256 questions. So `audit` refuses exactly
-/// what its definition says, but for want of memory.
+/// What is audited is not refused: its files have no refusal, and there are 1 to 256 questions. So what `audit` refuses, but
+/// where memory is wanting or several workers left another book, is what its definition says, and nothing else is.
 pub fn an_audit_is_not_refused()
     ensures { (files : List (List ℕ)) (questions : List QuestionData) (budget : ℕ)
         (o : Found) (e : Fault) →
@@ -51,14 +51,13 @@ pub fn an_audit_is_not_refused()
     a_refusal_spells_no_stack();
 }
 
-/// Two audits of one plain stack with the same questions that leave nothing outstanding have the same report, whatever
-/// their budgets, and whoever worked.
+/// Two audits with the same questions, of files that spell one plain stack, have the same report where they leave nothing
+/// outstanding: whatever their budgets, whoever worked, and whatever stands in fields that no instruction uses.
 pub fn one_report()
-    ensures { (files : List (List ℕ)) (questions : List QuestionData)
+    ensures { (files others : List (List ℕ)) (questions : List QuestionData)
         (b c : ℕ) (o p : Found) →
-        IsAudit files questions b o → IsAudit files questions c p → IsPlain o.settled.stack →
+        IsAudit files questions b o → IsAudit others questions c p →
+        o.settled.stack ≡ p.settled.stack → IsPlain o.settled.stack →
         o.settled.outstanding ≡ [] → p.settled.outstanding ≡ [] →
         (shown : Bool) → report_text o shown ≡ report_text p shown }
-{
-    one_stack();
-}
+{}
