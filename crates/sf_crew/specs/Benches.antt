@@ -1,6 +1,6 @@
 -- The handles of a bench.
 use Rattle.std.specs.Prelude.{◌≡◌, ℕ, ◌+◌, List, [], ◌∷◌}
-use Rattle.crossbeam_deque.specs.Handles.{view, worker_view}
+use Rattle.crossbeam_deque.specs.Handles.{view, worker_view, worker_deque, stealer_deque}
 use Rattle.sf_crew.specs.declared.benches.handles.Owner.{Owner}
 use Rattle.sf_crew.specs.declared.benches.handles.Thief.{Thief}
 use Rattle.sf_crew.specs.declared.benches.history.HandleView.{HandleView}
@@ -13,6 +13,18 @@ owner_view o = worker_view o.worker
 -- what a thief knows of it
 abbrev pub thief_view : Thief → HandleView
 thief_view t = view t.pass
+
+-- the thief is on the owner's bench
+abbrev pub IsOnBench : Owner → Thief → Type 0
+IsOnBench o t = stealer_deque t.stealer ≡ worker_deque o.worker
+
+-- the owner of the same bench
+abbrev pub IsSameBench : Owner → Owner → Type 0
+IsSameBench o p = worker_deque p.worker ≡ worker_deque o.worker
+
+-- a thief on the same bench
+abbrev pub IsSameThief : Thief → Thief → Type 0
+IsSameThief t u = stealer_deque u.stealer ≡ stealer_deque t.stealer
 
 -- new thieves, whose numbers are n, n + 1 and so on
 abbrev pub AreThieves : ℕ → List Thief → Type 0

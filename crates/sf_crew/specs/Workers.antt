@@ -1,6 +1,6 @@
 -- What a worker's calls do to the book, and to the handles of benches that it has: its own, and a thief on each other
 -- one.
-use Rattle.std.specs.Prelude.{◌≡◌, ℕ, ◌⊎◌, false, List, map, set, Option, Some, None, slice_get}
+use Rattle.std.specs.Prelude.{◌≡◌, ℕ, ◌⊎◌, ◌<◌, false, List, map, set, Option, Some, None, slice_get}
 use Rattle.std.specs.Option.{option_map}
 use Rattle.std.specs.Arc.{arc_value}
 use Rattle.sf_piece.specs.Pieces.{PieceData, StepData, WorkData, Split, Settled, Empty, IsRightWork, children_of}
@@ -9,8 +9,8 @@ use Rattle.sf_book.specs.Books.{BookData}
 use Rattle.sf_book.specs.Changes.{MayCommit, CommitsAs, with_lease_at}
 use Rattle.sf_crew.specs.declared.benches.history.HandleView.{HandleView}
 use Rattle.sf_crew.specs.declared.benches.handles.Thief.{Thief}
-use Rattle.sf_crew.specs.declared.workers.Held.{Held}
-use Rattle.sf_crew.specs.declared.workers.Made.{Made}
+use Rattle.sf_crew.specs.declared.workers.hands.Held.{Held}
+use Rattle.sf_crew.specs.declared.workers.hands.Made.{Made}
 use Rattle.sf_crew.specs.declared.workers.Worker.{Worker}
 use Rattle.sf_crew.specs.History.{Puts, Gets, AllGot}
 use Rattle.sf_crew.specs.Benches.{owner_view, thief_view}
@@ -19,16 +19,24 @@ use Rattle.sf_crew.specs.Benches.{owner_view, thief_view}
 abbrev pub given_back : ℕ → BookData → BookData
 given_back id b = record b { outstanding = map (with_lease_at id false) b.outstanding }
 
--- the work was committed under the id, and these are the ids of its children
-pub record HandsIn (b : BookData) (id : ℕ) (w : WorkData) (ids : Option (ℕ × ℕ)) (c : BookData) : Type 0 where
+-- the work was committed under the id, and the leases are of its children: each has the id under which the book has its
+-- piece, and that piece
+pub record HandsIn (b : BookData) (id : ℕ) (w : WorkData) (children : Option (Held × Held))
+    (c : BookData) : Type 0 where
   pub may : MayCommit b id w
-  pub done : CommitsAs b id w.piece w.name w.step ids c
+  pub room : b.commits < b.budget
+  pub done : CommitsAs b id w.piece w.name w.step (option_map (λ h. (h.0.lease.id, h.1.lease.id)) children) c
+  pub pieces : option_map (λ h. (arc_value h.0.lease.piece, arc_value h.1.lease.piece)) children ≡ children_of w.step
+
+-- the children are those of the work
+abbrev pub HasItsChildren : Made → Type 0
+HasItsChildren m = option_map (λ c. (arc_value c.0, arc_value c.1)) m.children ≡ children_of m.work.step
 
 -- a right work of the piece, and its children
 pub record IsMadeOf (p : PieceData) (m : Made) : Type 0 where
   pub piece : m.work.piece ≡ p
   pub right : IsRightWork m.work
-  pub children : option_map (λ c. (arc_value c.0, arc_value c.1)) m.children ≡ children_of m.work.step
+  pub children : HasItsChildren m
 
 -- what thieves know
 abbrev pub thief_views : List Thief → List HandleView
@@ -36,13 +44,13 @@ thief_views ts = map thief_view ts
 
 -- what a worker knows of its own bench
 abbrev pub own_view : Worker → HandleView
-own_view w = owner_view w.own
+own_view w = owner_view w.own.owner
 
 -- what it knows of the other benches
 abbrev pub other_views : Worker → List HandleView
-other_views w = thief_views w.others.items
+other_views w = thief_views w.others.thieves.items
 
--- one of the ends got the lease, and the others did nothing
+-- one of the thieves got the lease, and the others did nothing
 pub record GetsOne (vs : List HandleView) (x : Lease) (ws : List HandleView) : Type 0 where
   pub place : ℕ
   pub before : HandleView
@@ -51,12 +59,12 @@ pub record GetsOne (vs : List HandleView) (x : Lease) (ws : List HandleView) : T
   pub gets : Gets before x after
   pub rest : ws ≡ set vs place after
 
--- one of the ends got the lease, or none did anything
-abbrev pub Steals : List HandleView → Option Lease → List HandleView → Type 0
+-- one of the thieves got the lease, or none did anything
+abbrev pub Steals : List HandleView → Option Held → List HandleView → Type 0
 Steals vs None ws = ws ≡ vs
-Steals vs (Some x) ws = GetsOne vs x ws
+Steals vs (Some h) ws = GetsOne vs h.lease ws
 
--- the worker's ends did nothing
+-- the worker's handles did nothing
 abbrev pub IsIdle : Worker → Worker → Type 0
 IsIdle v w = (own_view w ≡ own_view v) × (other_views w ≡ other_views v)
 
@@ -73,7 +81,7 @@ abbrev pub HoldsNext : Worker → Option Held → Worker → Type 0
 HoldsNext v None w = AllGot (own_view v) × IsIdle v w
 HoldsNext v (Some h) w = Finds v h.lease w
 
--- the lease was put; or it was refused, and the end did nothing
+-- the lease was put; or it was refused, and the handle did nothing
 abbrev pub PutsOrNot : HandleView → Lease → HandleView → Type 0
 PutsOrNot v x w = Puts v x w ⊎ (w ≡ v)
 

@@ -3,10 +3,10 @@
 mod handles;
 mod history;
 
-ghost use Rattle.std.specs.Prelude.{◌≡◌, ℕ, ◌+◌, ◌<◌, [], IfOk, IfErr, MatchResult, MatchOption, vec_len};
+ghost use Rattle.std.specs.Prelude.{◌≡◌, ℕ, ◌+◌, ◌<◌, [], All, IfOk, IfErr, MatchResult, MatchOption, vec_len};
 ghost use Rattle.crossbeam_deque.specs.Steals.{MatchSteal};
 ghost use Rattle.sf_crew.specs.History.{Puts, Gets, AllGot, HasNoThief, first_left, handle_view};
-ghost use Rattle.sf_crew.specs.Benches.{owner_view, thief_view, AreThieves};
+ghost use Rattle.sf_crew.specs.Benches.{owner_view, thief_view, AreThieves, IsOnBench, IsSameBench, IsSameThief};
 ghost use Rattle.sf_crew.specs.declared.fault.Fault.TheVariants.{Memory};
 
 use crate::fault::Fault;
@@ -25,17 +25,38 @@ pub fn bench(alloc: Global, thieves: usize) -> Result<(Owner, Vec<Thief>), Fault
     requires { thieves < 64 }
     ensures owner { IfOk result (λ b. owner_view b.0 ≡ handle_view 0 (thieves + 1) []) }
     ensures thieves { IfOk result (λ b. (vec_len b.1 ≡ thieves) × AreThieves 1 b.1.items) }
+    ensures one { IfOk result (λ b. All (λ t. IsOnBench b.0 t) b.1.items) }
     ensures err { IfErr result (λ f. f ≡ Memory) }
 {
-    let mut owner = Owner {
+    let mut owner = open_bench(alloc)?;
+    let new_thieves = make_thieves(alloc, &mut owner, thieves)?;
+    Ok((owner, new_thieves))
+}
+
+/// The owner of a new bench without thieves.
+fn open_bench(alloc: Global) -> Result<Owner, Fault>
+    ensures ok { IfOk result (λ owner. owner_view owner ≡ handle_view 0 1 []) }
+    ensures err { IfErr result (λ f. f ≡ Memory) }
+{
+    Ok(Owner {
         worker: Worker::fifo_as(alloc, ROOM)?,
-    };
+    })
+}
+
+/// The first thieves of a bench on which nothing was put.
+fn make_thieves(alloc: Global, owner: &mut Owner, thieves: usize) -> Result<Vec<Thief>, Fault>
+    requires { (owner_view owner.old ≡ handle_view 0 1 []) × (thieves < 64) }
+    ensures owner { IfOk result (λ _. owner_view owner.new ≡ handle_view 0 (thieves + 1) []) }
+    ensures thieves { IfOk result (λ ts. (vec_len ts ≡ thieves) × AreThieves 1 ts.items) }
+    ensures one { IfOk result (λ ts. All (λ t. IsOnBench owner.new t) ts.items) }
+    ensures err { IfErr result (λ f. f ≡ Memory) }
+{
     let mut new_thieves = Vec::new(alloc);
     for given in 0..thieves {
         let thief = owner.add_thief()?;
         new_thieves.push(thief)?;
     }
-    Ok((owner, new_thieves))
+    Ok(new_thieves)
 }
 
 impl Owner {
@@ -47,6 +68,7 @@ impl Owner {
             ((owner_view self.old).made + 1) []) }
         ensures thief { IfOk result (λ t. thief_view t ≡ handle_view
             (owner_view self.old).made 0 []) }
+        ensures one { IfOk result (λ t. IsOnBench self.new t × IsSameBench self.old self.new) }
     {
         let stealer = self.worker.stealer()?;
         let pass = self.worker.another::<AddingThief>();
@@ -55,8 +77,10 @@ impl Owner {
 
     /// Adds the lease at the end of the list, or hands it back and changes nothing, where the bench cannot grow.
     pub fn put(&mut self, lease: Lease) -> Result<(), Lease>
-        ensures { MatchResult result (λ _. Puts (owner_view self.old) lease (owner_view self.new))
+        ensures put { MatchResult result
+            (λ _. Puts (owner_view self.old) lease (owner_view self.new))
             (λ l. (l ≡ lease) × (owner_view self.new ≡ owner_view self.old)) }
+        ensures same { IsSameBench self.old self.new }
     {
         self.worker.push_as::<Putting>(lease)
     }
@@ -69,6 +93,7 @@ impl Owner {
             (λ l. Gets (owner_view self.old) l (owner_view self.new)) }
         ensures alone { HasNoThief (owner_view self.old) → result
             ≡ first_left (owner_view self.old).events }
+        ensures same { IsSameBench self.old self.new }
     {
         self.worker.pop_as::<Getting>()
     }
@@ -78,9 +103,10 @@ impl Thief {
     /// The first lease that no handle has got, at one moment of the call. `Empty` where each that was put had been got;
     /// `Retry` where another handle came first, and this one got nothing.
     pub fn steal(&mut self) -> Steal<Lease>
-        ensures { MatchSteal result ((thief_view self.new ≡ thief_view self.old)
+        ensures got { MatchSteal result ((thief_view self.new ≡ thief_view self.old)
             × AllGot (thief_view self.old)) (thief_view self.new ≡ thief_view self.old)
             (λ l. Gets (thief_view self.old) l (thief_view self.new)) }
+        ensures same { IsSameThief self.old self.new }
     {
         self.stealer.steal_as::<Getting>(&mut self.pass)
     }

@@ -1,113 +1,49 @@
 //! Workers that share one book under its lock. Each has a bench of leases, and steals from the benches of the others.
 
 mod exploring;
+mod hands;
 mod setup;
 
-ghost use Rattle.std.specs.Prelude.{◌≡◌, ◌⊎◌, ◌<◌, ◌≤◌, IfOk, IfErr, OnOk, OnErr, MatchBool, length, option_map};
+ghost use Rattle.std.specs.Prelude.{◌≡◌, ◌⊎◌, ◌<◌, ◌≤◌, IfOk, IfErr, OnOk, OnErr};
 ghost use Rattle.std.specs.Arc.{arc_value};
 ghost use denote.Ref.{Bor};
-ghost use Rattle.sf_piece.specs.Pieces.{children_of};
 ghost use Rattle.sf_book.specs.Books.{BookData, IsLawfulBook};
 ghost use Rattle.sf_crew.specs.History.{AllGot};
 ghost use Rattle.sf_crew.specs.Benches.{owner_view};
-ghost use Rattle.sf_crew.specs.Workers.{given_back, HandsIn, IsMadeOf, thief_views, own_view, Steals, IsIdle, HoldsNext};
-ghost use Rattle.sf_crew.specs.Workers.{PutsOrNot, WorksOn};
-ghost use Rattle.sf_crew.specs.Explorations.{IsExhausted, IsExplorationOf, IsExactExploration};
+ghost use Rattle.sf_crew.specs.Workers.{IsMadeOf, own_view, IsIdle, HoldsNext, PutsOrNot, WorksOn};
+ghost use Rattle.sf_crew.specs.Explorations.{IsExplorationOf, IsExactExploration};
 ghost use Rattle.sf_crew.specs.declared.fault.Fault.TheVariants.{Memory, Foreign};
 ghost use Rattle.sf_check.specs.Stacks.{IsPlain};
 
-use crate::benches::{Owner, Thief};
+use crate::benches::Owner;
 use crate::fault::Fault;
 use crate::gate::Gate;
-use crossbeam_deque::Steal;
 use exploring::{explore_alone, finished, work_off};
+use hands::{Bench, Held, Made, NewBench, SharedBook, Thieves};
 use setup::workers_of;
-use sf_book::{Book, Lease, Settled};
+use sf_book::{Book, Settled};
 use sf_check::Stack;
-use sf_piece::{Piece, Work, advance};
+use sf_piece::{Piece, advance};
 use std::alloc::Global;
 use std::hint::spin_loop;
 use std::sync::{Arc, Mutex, MutexGuard, Wait};
 use std::thread;
 use std::thread::{Threads, yield_now};
 
-/// What a worker works with: its number, its bench, and a thief on the bench of each other worker, the next one first.
+/// A worker that hasn't begun. Nothing was put on its bench, so it may be dropped.
 #[derive(Drop)]
-pub(crate) struct Worker {
+pub(crate) struct NewWorker {
     pub(crate) number: usize,
-    pub(crate) own: Owner,
-    pub(crate) others: Vec<Thief>,
+    pub(crate) own: NewBench,
+    pub(crate) others: Thieves,
 }
 
-/// A lease that a worker has. It can't be dropped: its work is handed in, or it is given back.
-pub(crate) struct Held {
-    lease: Lease,
-}
-
-/// A work that is ready to be handed in, and its children, the false one first.
-pub(crate) struct Made {
-    work: Work,
-    children: Option<(Arc<Piece>, Arc<Piece>)>,
-}
-
-/// Gives a lease back.
-fn give_back(book: &mut Book, held: Held)
-    ensures { book.new ≡ given_back held.lease.id book.old }
-{
-    let Held { lease } = held;
-    book.give_back(lease.id);
-}
-
-/// Commits the work of a lease, and tells the ids of its children. Where it is refused the lease is given back.
-fn hand_in(book: &mut Book, held: Held, work: Work) -> Result<Option<(u64, u64)>, Fault>
-    ensures ok { IfOk result (λ ids. HandsIn book.old held.lease.id work ids book.new) }
-    ensures err { OnErr result (book.new ≡ given_back held.lease.id book.old) }
-{
-    match book.commit(held.lease.id, work) {
-        Ok(ids) => {
-            let Held { lease: _lease } = held;
-            Ok(ids)
-        }
-        Err(fault) => {
-            give_back(book, held);
-            Err(fault.into())
-        }
-    }
-}
-
-/// The children of a work that split its piece, the false one first.
-fn children_of(work: &Work) -> Result<Option<(Arc<Piece>, Arc<Piece>)>, Fault>
-    ensures ok { IfOk result (λ r. option_map (λ c. (arc_value c.0, arc_value c.1)) r
-        ≡ children_of work.now.step) }
-    ensures err { IfErr result (λ f. f ≡ Memory) }
-{
-    let Some((f, t)) = work.children() else {
-        return Ok(None);
-    };
-    Ok(Some((Arc::try_clone(f)?, Arc::try_clone(t)?)))
-}
-
-/// Tries one bench.
-fn steal_at(others: &mut [Thief], place: usize) -> Option<Lease>
-    requires { place < length others.old }
-    ensures { Steals (thief_views others.old) result (thief_views others.new) }
-{
-    match others[place].steal() {
-        Steal::Success(lease) => Some(lease),
-        Steal::Empty | Steal::Retry => None,
-    }
-}
-
-/// Tries each bench once: the first lease that is got.
-fn steal_from(others: &mut [Thief]) -> Option<Lease>
-    ensures { Steals (thief_views others.old) result (thief_views others.new) }
-{
-    for place in 0..others.len() {
-        if let Some(lease) = steal_at(others, place) {
-            return Some(lease);
-        }
-    }
-    None
+/// What a worker works with: its number, its bench, and a thief on the bench of each other worker, the next one first.
+/// It can't be dropped, since its bench can't.
+pub(crate) struct Worker {
+    number: usize,
+    own: Bench,
+    others: Thieves,
 }
 
 /// How often a worker looks whether the lock is free before it sleeps.
@@ -115,7 +51,7 @@ const LOOKS: usize = 400;
 
 /// The book, once its lock is got. Another worker soon has done with it, while a thread that sleeps is woken late: so it
 /// looks a while before it waits.
-fn locked<'a, R: Wait>(rt: &R, book: &'a Mutex<Book>) -> MutexGuard<'a, Book> {
+fn locked<'a, R: Wait>(rt: &R, book: &'a Mutex<SharedBook>) -> MutexGuard<'a, SharedBook> {
     for _ in 0..LOOKS {
         if let Some(guard) = book.try_lock() {
             return guard;
@@ -125,23 +61,35 @@ fn locked<'a, R: Wait>(rt: &R, book: &'a Mutex<Book>) -> MutexGuard<'a, Book> {
     book.lock(rt)
 }
 
+impl NewWorker {
+    /// The worker at its first turn.
+    fn begin(self) -> Worker {
+        Worker {
+            number: self.number,
+            own: self.own.open(),
+            others: self.others,
+        }
+    }
+}
+
 impl Worker {
     /// A lease from its own bench, or else a stolen one, the next worker's first, or else one from the book.
-    fn next_lease<R: Wait>(&mut self, rt: &R, book: &Mutex<Book>) -> Result<Option<Held>, Fault>
+    fn next_lease<R: Wait>(
+        &mut self,
+        rt: &R,
+        book: &Mutex<SharedBook>,
+    ) -> Result<Option<Held>, Fault>
         ensures number { self.new.number ≡ self.old.number }
         ensures ok { IfOk result (λ found. HoldsNext self.old found self.new) }
         ensures err { OnErr result (IsIdle self.old self.new) }
     {
-        if let Some(lease) = self.own.take() {
-            return Ok(Some(Held { lease }));
+        if let Some(held) = self.own.take() {
+            return Ok(Some(held));
         }
-        if let Some(lease) = steal_from(self.others.as_mut_slice()) {
-            return Ok(Some(Held { lease }));
+        if let Some(held) = self.others.steal() {
+            return Ok(Some(held));
         }
-        match locked(rt, book).lease()? {
-            Some(lease) => Ok(Some(Held { lease })),
-            None => Ok(None),
-        }
+        locked(rt, book).lease()
     }
 
     /// The work of a piece and its children, once the gate has let it pass.
@@ -158,9 +106,9 @@ impl Worker {
         let work = advance(alloc, piece)?;
         // For the prover: the work is right for its piece.
         let _piece = work.piece();
-        let children = children_of(&work)?;
+        let made = Made::of(work)?;
         gate.pass(self.number, call);
-        Ok(Made { work, children })
+        Ok(made)
     }
 
     /// Works the piece, passes the gate and hands the work in. The children come on its own bench, the false one first.
@@ -169,7 +117,7 @@ impl Worker {
         &mut self,
         rt: &R,
         alloc: Global,
-        book: &Mutex<Book>,
+        book: &Mutex<SharedBook>,
         gate: &G,
         held: Held,
         call: usize,
@@ -179,55 +127,44 @@ impl Worker {
         ensures err { OnErr result (own_view self.new ≡ own_view self.old) }
     {
         // Gone after the commit, so that the piece's memory is given back when the lock has been left.
-        let _piece = Arc::try_clone(&held.lease.piece);
-        let Made { work, children } = match self.make(alloc, gate, &held.lease.piece, call) {
+        let _piece = Arc::try_clone(held.piece());
+        let made = match self.make(alloc, gate, held.piece(), call) {
             Ok(made) => made,
             Err(fault) => {
-                give_back(&mut locked(rt, book), held);
+                locked(rt, book).give_back(held);
                 return Err(fault);
             }
         };
-        let Some((f_id, t_id)) = hand_in(&mut locked(rt, book), held, work)? else {
+        let Some((f, t)) = locked(rt, book).hand_in(held, made)? else {
             return Ok(());
         };
-        let Some((f, t)) = children else {
-            return Ok(());
-        };
-        self.put(rt, book, Lease { id: f_id, piece: f });
-        self.put(rt, book, Lease { id: t_id, piece: t });
+        self.put(rt, book, f);
+        self.put(rt, book, t);
         Ok(())
     }
 
     /// Puts a lease on its bench. One that is handed back is given back to the book.
-    fn put<R: Wait>(&mut self, rt: &R, book: &Mutex<Book>, lease: Lease)
+    fn put<R: Wait>(&mut self, rt: &R, book: &Mutex<SharedBook>, held: Held)
         ensures number { self.new.number ≡ self.old.number }
-        ensures put { PutsOrNot (own_view self.old) lease (own_view self.new) }
+        ensures put { PutsOrNot (own_view self.old) held.lease (own_view self.new) }
     {
-        if let Err(lease) = self.own.put(lease) {
-            give_back(&mut locked(rt, book), Held { lease });
+        if let Err(held) = self.own.put(held) {
+            locked(rt, book).give_back(held);
         }
     }
 
     /// Takes its bench empty, and gives each lease back to the book.
-    fn empty<R: Wait>(&mut self, rt: &R, book: &Mutex<Book>)
+    fn empty<R: Wait>(&mut self, rt: &R, book: &Mutex<SharedBook>)
         ensures { AllGot (own_view self.new) }
     {
         for _ in rt.forever() {
-            let Some(lease) = self.own.take() else {
+            let Some(held) = self.own.take() else {
                 return;
             };
-            give_back(&mut locked(rt, book), Held { lease });
+            locked(rt, book).give_back(held);
         }
         unreachable!()
     }
-}
-
-/// Whether nothing is left to do: nothing is outstanding, or the budget is spent.
-fn is_exhausted(book: &Book) -> bool
-    ensures { MatchBool result (IsExhausted book.now) (¬ IsExhausted book.now) }
-{
-    let counts = book.counts();
-    counts.left == 0 || counts.commits == book.budget()
 }
 
 /// The turns of one worker, until nothing is left to do. Where it meets want of memory or a spent budget, it gives its
@@ -235,19 +172,20 @@ fn is_exhausted(book: &Book) -> bool
 fn run<R: Wait, G: Gate>(
     rt: &R,
     alloc: Global,
-    book: &Mutex<Book>,
+    book: &Mutex<SharedBook>,
     gate: &G,
-    mut worker: Worker,
+    new_worker: NewWorker,
 ) -> Owner
     ensures { AllGot (owner_view result) }
 {
+    let mut worker = new_worker.begin();
     let mut call: usize = 0;
     for _ in rt.forever() {
         let Ok(leased) = worker.next_lease(rt, book) else {
             break;
         };
         let Some(held) = leased else {
-            if is_exhausted(&book.lock(rt)) {
+            if book.lock(rt).is_exhausted() {
                 break;
             }
             yield_now();
@@ -264,7 +202,7 @@ fn run<R: Wait, G: Gate>(
         number: _,
         others: _others,
     } = worker;
-    own
+    own.close()
 }
 
 /// Lets the workers work on a book, each on a thread, and answers the book when they have ended. A thread that can't be
@@ -273,14 +211,14 @@ fn run_all<R: Threads + Wait + Sync, G: Gate>(
     rt: &R,
     alloc: Global,
     opened: Book,
-    workers: Vec<Worker>,
+    workers: Vec<NewWorker>,
     gate: &G,
 ) -> Book {
-    let book = Mutex::new(opened);
+    let book = Mutex::new(SharedBook::of(opened));
     let shared = &book;
     thread::scope(thread::scope_env(), rt, |scope| {
         for worker in workers {
-            if is_exhausted(&shared.lock(rt)) {
+            if shared.lock(rt).is_exhausted() {
                 break;
             }
             let _ = scope.spawn(move || {
@@ -288,7 +226,7 @@ fn run_all<R: Threads + Wait + Sync, G: Gate>(
             });
         }
     });
-    book.into_inner()
+    book.into_inner().into_book()
 }
 
 /// Explores a stack: works at most `budget` pieces, and gives what is settled and what is left. The gate sees each

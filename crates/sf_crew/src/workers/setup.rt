@@ -5,11 +5,12 @@ ghost use Rattle.sf_crew.specs.declared.fault.Fault.TheVariants.{Memory};
 
 use crate::benches::{Thief, bench};
 use crate::fault::Fault;
-use crate::workers::Worker;
+use crate::workers::NewWorker;
+use crate::workers::hands::{NewBench, Thieves};
 use std::alloc::Global;
 
 /// Workers with the numbers from 0, and a bench each.
-pub(crate) fn workers_of(alloc: Global, count: usize) -> Result<Vec<Worker>, Fault>
+pub(crate) fn workers_of(alloc: Global, count: usize) -> Result<Vec<NewWorker>, Fault>
     requires { (0 < count) × (count ≤ 64) }
     ensures count { IfOk result (λ v. vec_len v ≡ count) }
     ensures err { IfErr result (λ f. f ≡ Memory) }
@@ -18,10 +19,10 @@ pub(crate) fn workers_of(alloc: Global, count: usize) -> Result<Vec<Worker>, Fau
     let mut thieves = Vec::new(alloc);
     for number in 0..count {
         let (own, new_thieves) = bench(alloc, count - 1)?;
-        workers.push(Worker {
+        workers.push(NewWorker {
             number,
-            own,
-            others: Vec::new(alloc),
+            own: NewBench::of(own),
+            others: Thieves::new(alloc),
         })?;
         thieves.push(new_thieves)?;
     }
@@ -30,7 +31,7 @@ pub(crate) fn workers_of(alloc: Global, count: usize) -> Result<Vec<Worker>, Fau
 }
 
 /// Gives each worker a thief on the bench of each other one, the next one's first.
-fn hand_out_all(workers: &mut [Worker], thieves: &mut [Vec<Thief>]) -> Result<(), Fault>
+fn hand_out_all(workers: &mut [NewWorker], thieves: &mut [Vec<Thief>]) -> Result<(), Fault>
     requires { (length workers.old ≡ length thieves.old) × (length workers.old ≤ 64) }
     ensures err { IfErr result (λ f. f ≡ Memory) }
 {
@@ -41,7 +42,7 @@ fn hand_out_all(workers: &mut [Worker], thieves: &mut [Vec<Thief>]) -> Result<()
 }
 
 /// Gives each worker a thief on the bench that is so many steps after its own.
-fn hand_out(workers: &mut [Worker], thieves: &mut [Vec<Thief>], step: usize) -> Result<(), Fault>
+fn hand_out(workers: &mut [NewWorker], thieves: &mut [Vec<Thief>], step: usize) -> Result<(), Fault>
     requires { (length workers.old ≡ length thieves.old)
         × (length workers.old ≤ 64) × (step < 64) }
     ensures err { IfErr result (λ f. f ≡ Memory) }
@@ -49,7 +50,7 @@ fn hand_out(workers: &mut [Worker], thieves: &mut [Vec<Thief>], step: usize) -> 
     for number in 0..workers.len() {
         let place = (number + step) % thieves.len();
         if let Some(thief) = thieves[place].pop() {
-            workers[number].others.push(thief)?;
+            workers[number].others.add(thief)?;
         }
     }
     Ok(())

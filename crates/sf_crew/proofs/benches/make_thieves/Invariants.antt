@@ -1,7 +1,7 @@
-use Rattle.std.proofs.Common.{◌≡◌, ◌+◌, [], length, vec_len}
+use Rattle.std.proofs.Common.{◌≡◌, ◌+◌, [], All, length, vec_len}
 use Rattle.sf_crew.specs.History.{handle_view}
-use Rattle.sf_crew.specs.Benches.{owner_view, AreThieves}
-use Rattle.sf_crew.proofs.benches.bench.Given as goal
+use Rattle.sf_crew.specs.Benches.{owner_view, AreThieves, IsOnBench}
+use Rattle.sf_crew.proofs.benches.make_thieves.Given as goal
 
 abbrev pub invariant-loop-given : goal.invariant-loop-given
 invariant-loop-given l = record {
@@ -9,4 +9,5 @@ invariant-loop-given l = record {
   count : vec_len l.new_thieves ≡ l.given;
   long : length l.new_thieves.items ≡ l.given;
   thieves : AreThieves 1 l.new_thieves.items;
+  one : All (λ t. IsOnBench l.owner t) l.new_thieves.items;
 }

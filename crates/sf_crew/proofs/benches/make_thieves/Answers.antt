@@ -1,10 +1,10 @@
-use Rattle.std.proofs.Common.{◌≡◌, ◌+◌, List, [], ◌∷◌, length, length-append, sym, ap, ◌∙◌, subst, arith}
+use Rattle.std.proofs.Common.{◌≡◌, ◌+◌, List, [], ◌∷◌, All, length, length-append, sym, ap, ◌∙◌, subst, arith}
 use Rattle.sf_crew.specs.declared.benches.history.HandleView.{HandleView}
 use Rattle.sf_crew.specs.declared.benches.handles.Thief.{Thief}
 use Rattle.sf_crew.specs.History.{handle_view}
-use Rattle.sf_crew.specs.Benches.{AreThieves, thief_view}
-use Rattle.sf_crew.proofs.NewThieves.{one_thief_more}
-use Rattle.sf_crew.proofs.benches.bench.Goals as goal
+use Rattle.sf_crew.specs.Benches.{AreThieves, IsOnBench, thief_view}
+use Rattle.sf_crew.proofs.NewThieves.{one_thief_more, one_more_on}
+use Rattle.sf_crew.proofs.benches.make_thieves.Goals as goal
 
 pub loop-given-preserved : goal.loop-given-preserved
 loop-given-preserved c =
@@ -20,4 +20,8 @@ loop-given-preserved c =
       thieves = subst (AreThieves 1) (sym c.in_ok-push.ensures.items)
           (one_thief_more 1 (c.loop-given.given + 1) c.loop-given.new_thieves.items c.in_ok-thief.thief i.thieves
           (omega (arith, long)) seen);
+      one = subst (λ (ts : List Thief). All (λ (t : Thief). IsOnBench c.add_thief.new.self t) ts)
+          (sym c.in_ok-push.ensures.items)
+          (one_more_on c.loop-given.owner c.add_thief.new.self c.loop-given.new_thieves.items c.in_ok-thief.thief
+          c.in_ok-thief.ensures.one.1 c.in_ok-thief.ensures.one.0 i.one);
     }

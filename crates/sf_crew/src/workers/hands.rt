@@ -1,0 +1,132 @@
+//! Leases in a worker's hand. Only this module and those below it take a lease out of a hand, so none can be lost.
+
+mod handles;
+mod stealing;
+
+ghost use Rattle.std.specs.Prelude.{◌≡◌, IfOk, IfErr, OnErr, MatchOption, MatchBool, All, true};
+ghost use Rattle.std.specs.Arc.{arc_value};
+ghost use Rattle.sf_piece.specs.Pieces.{IsRightWork};
+ghost use Rattle.sf_book.specs.Changes.{Leases};
+ghost use Rattle.sf_crew.specs.Explorations.{IsExhausted};
+ghost use Rattle.sf_crew.specs.Workers.{given_back, HandsIn, HasItsChildren};
+ghost use Rattle.sf_crew.specs.declared.fault.Fault.TheVariants.{Memory};
+
+use crate::fault::Fault;
+pub(crate) use handles::{Bench, NewBench, Thieves};
+use sf_book::{Book, Lease};
+use sf_piece::{Piece, Work};
+use std::sync::Arc;
+
+/// A lease in a worker's hand. It can't be dropped: its work is handed in, it is given back, or it is put on a bench.
+pub(crate) struct Held {
+    lease: Lease,
+}
+
+impl Held {
+    /// The piece that is on lease.
+    pub(crate) fn piece(&self) -> &Arc<Piece>
+        ensures { result.now ≡ self.now.lease.piece }
+    {
+        &self.lease.piece
+    }
+}
+
+/// A work that is ready to be handed in, and its children, the false one first.
+#[derive(Drop)]
+pub(crate) struct Made {
+    work: Work,
+    children: Option<(Arc<Piece>, Arc<Piece>)>,
+}
+
+impl Made {
+    /// Adds the children of a work to it.
+    pub(crate) fn of(work: Work) -> Result<Made, Fault>
+        ensures ok { IfOk result (λ made. (made.work ≡ work) × HasItsChildren made) }
+        ensures err { IfErr result (λ f. f ≡ Memory) }
+    {
+        let children = match work.children() {
+            Some((f, t)) => Some((Arc::try_clone(f)?, Arc::try_clone(t)?)),
+            None => None,
+        };
+        Ok(Made { work, children })
+    }
+}
+
+/// The book that workers share. What it gives on lease comes into a worker's hand.
+#[derive(Drop)]
+pub(crate) struct SharedBook {
+    book: Book,
+}
+
+impl SharedBook {
+    /// A book that workers are to share.
+    pub(crate) fn of(book: Book) -> SharedBook
+        ensures { result.book ≡ book }
+    {
+        SharedBook { book }
+    }
+
+    /// The book, when the workers have ended.
+    pub(crate) fn into_book(self) -> Book
+        ensures { result ≡ self.book }
+    {
+        self.book
+    }
+
+    /// Whether nothing is left to do: nothing is outstanding, or the budget is spent.
+    pub(crate) fn is_exhausted(&self) -> bool
+        ensures { MatchBool result (IsExhausted self.now.book) (¬ IsExhausted self.now.book) }
+    {
+        let counts = self.book.counts();
+        counts.left == 0 || counts.commits == self.book.budget()
+    }
+
+    /// A lease of the first piece that is on none.
+    pub(crate) fn lease(&mut self) -> Result<Option<Held>, Fault>
+        ensures ok { IfOk result (λ found. MatchOption found ((self.new.book ≡ self.old.book)
+            × All (λ e. e.leased ≡ true) self.old.book.outstanding)
+            (λ h. Leases self.old.book h.lease.id (arc_value h.lease.piece) self.new.book)) }
+        ensures err { IfErr result (λ f. (f ≡ Memory) × (self.new.book ≡ self.old.book)) }
+    {
+        match self.book.lease()? {
+            Some(lease) => Ok(Some(Held { lease })),
+            None => Ok(None),
+        }
+    }
+
+    /// Gives a lease back.
+    pub(crate) fn give_back(&mut self, held: Held)
+        ensures { self.new.book ≡ given_back held.lease.id self.old.book }
+    {
+        let Held { lease } = held;
+        self.book.give_back(lease.id);
+    }
+
+    /// Commits the work of a lease, and answers the leases of its children, the false one's first. Where it is refused
+    /// the lease is given back.
+    pub(crate) fn hand_in(&mut self, held: Held, made: Made) -> Result<Option<(Held, Held)>, Fault>
+        requires { HasItsChildren made }
+        ensures ok { IfOk result (λ children. HandsIn self.old.book held.lease.id made.work
+            children self.new.book) }
+        ensures err { OnErr result (self.new.book ≡ given_back held.lease.id self.old.book) }
+    {
+        let Made { work, children } = made;
+        let ids = match self.book.commit(held.lease.id, work) {
+            Ok(ids) => ids,
+            Err(fault) => {
+                self.give_back(held);
+                return Err(fault.into());
+            }
+        };
+        let Held { lease: _lease } = held;
+        let Some((f_id, t_id)) = ids else {
+            return Ok(None);
+        };
+        let Some((f, t)) = children else {
+            unreachable!()
+        };
+        let on_false = Lease { id: f_id, piece: f };
+        let on_true = Lease { id: t_id, piece: t };
+        Ok(Some((Held { lease: on_false }, Held { lease: on_true })))
+    }
+}

@@ -1,0 +1,30 @@
+//! How leases are stolen: each other bench is tried once.
+ghost use Rattle.std.specs.Prelude.{◌<◌, length};
+ghost use Rattle.sf_crew.specs.Workers.{thief_views, Steals};
+
+use crate::benches::Thief;
+use crate::workers::hands::Held;
+use crossbeam_deque::Steal;
+
+/// Tries one bench.
+fn steal_at(others: &mut [Thief], place: usize) -> Option<Held>
+    requires { place < length others.old }
+    ensures { Steals (thief_views others.old) result (thief_views others.new) }
+{
+    match others[place].steal() {
+        Steal::Success(lease) => Some(Held { lease }),
+        Steal::Empty | Steal::Retry => None,
+    }
+}
+
+/// Tries each bench once: the first lease that is got.
+pub(crate) fn steal_from(others: &mut [Thief]) -> Option<Held>
+    ensures { Steals (thief_views others.old) result (thief_views others.new) }
+{
+    for place in 0..others.len() {
+        if let Some(held) = steal_at(others, place) {
+            return Some(held);
+        }
+    }
+    None
+}
