@@ -1,3 +1,4 @@
 pub mod MeetingLemmas
 pub mod Steps
 pub mod WalkLemmas
+pub mod ReplayLemmas

@@ -14,3 +14,5 @@ pub mod TraceLaws
 pub mod CompletionLaws
 pub mod Examples
 pub mod AnswerLaws
+pub mod Replays
+pub mod ReplayLaws

@@ -1,0 +1,48 @@
+use Rattle.std.proofs.Common.{◌≡◌, ◌∙◌, ◌++◌, Bool, List, Option, Some, refl, sym, subst}
+use Rattle.std.specs.Prelude.{IfSome, IsSome}
+use Rattle.sf_insn.specs.declared.input.Input.{Input}
+use Rattle.sf_check.specs.declared.insn.Insn.{Insn}
+use Rattle.sf_check.specs.Stacks.{IsLawfulStack}
+use Rattle.sf_run.specs.declared.replaying.PartAnswers.{PartAnswers}
+use Rattle.sf_run.specs.Machine.{trace_of}
+use Rattle.sf_run.specs.Replays.{answers_along, ArePartAnswers}
+use Rattle.sf_run.specs.ReplayLaws.{answers_are_right, routes_have_answers}
+use Rattle.sf_run.proofs.replaying.replay.Goals as goal
+
+-- the answers along the trace of an input are those to it
+right_of : (older newer : List (List Insn)) (route : List Bool) (result : Option PartAnswers)
+    → result ≡ answers_along older newer route → (d : Input) → IsLawfulStack (older ++ newer)
+    → trace_of (older ++ newer) d ≡ route → IfSome result (ArePartAnswers older newer d)
+right_of older newer route result same d lawful trace =
+    let a = answers_are_right older newer d lawful in
+    let is : result ≡ Some a.0 = same
+    ∙ subst (λ (l : List Bool). answers_along older newer l ≡ Some a.0) trace a.1 in
+    subst (λ (o : Option PartAnswers). IfSome o (ArePartAnswers older newer d)) (sym is) a.2
+
+pub returns-in_err-newer-clause-same : goal.returns-in_err-newer-clause-same
+unfolding answers_along
+returns-in_err-newer-clause-same c = rw (c.from_residual.ensures, ← c.in_err-newer.ensures) refl
+
+pub returns-in_err-newer-clause-whole : goal.returns-in_err-newer-clause-whole
+returns-in_err-newer-clause-whole c = λ whole.
+    subst IsSome (sym (returns-in_err-newer-clause-same c)) (routes_have_answers _ _ _ whole)
+
+pub returns-in_err-older-clause-same : goal.returns-in_err-older-clause-same
+unfolding answers_along
+returns-in_err-older-clause-same c =
+    rw (c.from_residual-in_err-older.ensures, ← c.in_ok-newer.ensures, ← c.in_err-older.ensures) refl
+
+pub returns-in_err-older-clause-whole : goal.returns-in_err-older-clause-whole
+returns-in_err-older-clause-whole c = λ whole.
+    subst IsSome (sym (returns-in_err-older-clause-same c)) (routes_have_answers _ _ _ whole)
+
+pub returns-clause-same : goal.returns-clause-same
+unfolding answers_along
+returns-clause-same c =
+    rw (c.then_some.ensures, c.is_empty.ensures, ← c.in_ok-newer.ensures, ← c.in_ok-older.ensures) refl
+
+pub returns-clause-whole : goal.returns-clause-whole
+returns-clause-whole c = λ whole. subst IsSome (sym (returns-clause-same c)) (routes_have_answers _ _ _ whole)
+
+pub returns-clause-right : goal.returns-clause-right
+returns-clause-right c = right_of _ _ _ _ (returns-clause-same c)

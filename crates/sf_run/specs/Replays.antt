@@ -1,0 +1,80 @@
+-- What programs return, replayed along truth values: only control is followed, with neither A nor X nor scratch words.
+use Rattle.std.specs.Prelude.{ℕ, zero, suc, ◌+◌, ◌*◌, ◌==◌, Bool, List, [], ◌∷◌, length, Option, Some, None, slice_get, reverse, option_map, if◌then◌else◌}
+use Rattle.std.specs.Bool.{then_some}
+use Rattle.std.specs.List.{fold}
+use Rattle.std.specs.Option.{option_and_then}
+use Rattle.sf_insn.specs.declared.input.Input.{Input}
+use Rattle.sf_insn.specs.declared.ops.BinOp.TheVariants.{Div}
+use Rattle.sf_check.specs.declared.insn.Insn.{Insn}
+use Rattle.sf_check.specs.declared.insn.Insn.TheVariants.{Alu, Jump, Branch, ReturnConstant, ReturnA}
+use Rattle.sf_check.specs.declared.insn.Operand.TheVariants.{X}
+use Rattle.sf_run.specs.declared.action.Action.TheVariants.{Allow}
+use Rattle.sf_run.specs.declared.action.Answer.{Answer}
+use Rattle.sf_run.specs.declared.machine.Next.{Next}
+use Rattle.sf_run.specs.declared.machine.Next.TheVariants.{Goes, Returns}
+use Rattle.sf_run.specs.declared.replaying.PartAnswers.{PartAnswers}
+use Rattle.sf_run.specs.Answers.{Answers, folded_answer}
+
+-- The number whose lowest n bits are the next truth values, the highest of them first, and the truth values that are
+-- left. Its higher bits are those of the number that is given.
+abbrev pub number_from : ℕ → ℕ → List Bool → Option (ℕ × List Bool)
+number_from zero high met = Some (high, met)
+number_from (suc n) high [] = None
+number_from (suc n) high (bit ∷ met) = number_from n (2 * high + (if bit then 1 else 0)) met
+
+-- Where control leads from the instruction at a place, and the truth values that are left: a return of A takes its 32
+-- bits, a test its result, and a division by X whether X is 0.
+abbrev pub lead_of : ℕ → Insn → List Bool → Option (Next × List Bool)
+lead_of at (ReturnConstant k) met = Some (Returns k, met)
+lead_of at ReturnA met = option_map (λ a. (Returns a.0, a.1)) (number_from 32 0 met)
+lead_of at (Jump k) met = Some (Goes (at + 1 + k), met)
+lead_of at (Branch test other on_true on_false) [] = None
+lead_of at (Branch test other on_true on_false) (passed ∷ met) =
+    Some (Goes (at + 1 + (if passed then on_true else on_false)), met)
+lead_of at (Alu Div X) [] = None
+lead_of at (Alu Div X) (is_zero ∷ met) = Some ((if is_zero then Returns 0 else Goes (at + 1)), met)
+lead_of at _ met = Some (Goes (at + 1), met)
+
+-- what is returned where control leads there, if `rest` says what is returned from a place on
+abbrev pub return_after : (ℕ → List Bool → Option (ℕ × List Bool)) → Next × List Bool → Option (ℕ × List Bool)
+return_after rest lead = by lead.0
+  where
+    by : Next → Option (ℕ × List Bool)
+    by (Goes place) = rest place lead.1
+    by (Returns value) = Some (value, lead.1)
+
+-- what a program returns from a place on, within n instructions, and the truth values that are left
+unfoldable pub replay_for : ℕ → List Insn → ℕ → List Bool → Option (ℕ × List Bool)
+replay_for zero code at met = None
+replay_for (suc n) code at met = option_and_then
+    (λ i. option_and_then (return_after (replay_for n code)) (lead_of at i met)) (slice_get code at)
+
+-- what a program returns: jumps only go forward, so a replay takes no more instructions than the program has
+unfoldable pub replay_of : List Insn → List Bool → Option (ℕ × List Bool)
+replay_of code met = replay_for (length code) code 0 met
+
+-- what programs return that run one after the other
+abbrev pub returns_along : List (List Insn) → List Bool → Option (List ℕ × List Bool)
+returns_along [] met = Some ([], met)
+returns_along (code ∷ codes) met = option_and_then
+    (λ first. option_map (λ others. (first.0 ∷ others.0, others.1)) (returns_along codes first.1)) (replay_of code met)
+
+-- the answer that returned values make, the newest program's first
+abbrev pub answer_of : List ℕ → Answer
+answer_of values = fold folded_answer (record { action = Allow; info = 0 }) values
+
+-- what programs in order of installation answer
+abbrev pub answer_along : List (List Insn) → List Bool → Option (Answer × List Bool)
+answer_along programs met = option_map (λ o. (answer_of o.0, o.1)) (returns_along (reverse programs) met)
+
+-- What the older programs of a stack answer, and what its newer ones do, each part taken as a stack of its own: the
+-- newer ones run first. No truth value may be left at the end.
+unfoldable pub answers_along : List (List Insn) → List (List Insn) → List Bool → Option PartAnswers
+answers_along older newer met = option_and_then (λ after. option_and_then (λ before.
+    then_some (length before.1 == 0) (record { older = before.0; newer = after.0 }))
+    (answer_along older after.1)) (answer_along newer met)
+
+-- the answers of both parts to an input
+pub record ArePartAnswers (older newer : List (List Insn)) (d : Input) (answers : PartAnswers) : Type 0 where
+  pub of_older : Answers older d answers.older
+  pub of_newer : Answers newer d answers.newer

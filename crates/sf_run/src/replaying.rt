@@ -1,0 +1,134 @@
+//! The answers of the two parts of a stack, replayed along a route of the whole.
+//!
+//! Only control is followed, with neither A nor X nor scratch words: a constant is returned by its value, A by its 32 bits
+//! among the truth values, and 0 by a division by an X of 0.
+
+ghost use Rattle.std.specs.Prelude.{◌≡◌, ◌<◌, ◌++◌, option_map, IfSome, IsSome};
+ghost use Rattle.sf_insn.specs.declared.input.Input.{Input};
+ghost use Rattle.sf_check.specs.Stacks.{IsLawfulStack};
+ghost use Rattle.sf_run.specs.Machine.{trace_of};
+ghost use Rattle.sf_run.specs.Routes.{IsWholeRoute};
+ghost use Rattle.sf_run.specs.Replays.{answer_along, answers_along, ArePartAnswers, lead_of, number_from, replay_of};
+
+use crate::action::{Action, Answer};
+use crate::answering::fold;
+use crate::machine::Next;
+use sf_check::{Insn, Operand, Program};
+use sf_insn::BinOp;
+
+/// The answers of the two parts of a stack, each part taken as a stack of its own.
+#[derive(Clone, Copy, Debug, PartialEq, Eq)]
+pub struct PartAnswers {
+    /// The answer of the older programs.
+    pub older: Answer,
+    /// The answer of the newer programs.
+    pub newer: Answer,
+}
+
+/// The number whose 32 bits are the next truth values, the highest first, and the truth values that are left.
+fn next_number(met: &[bool]) -> Option<(u32, &[bool])>
+    ensures { option_map (λ r. (r.0, r.1.now)) result ≡ number_from 32 0 met.now }
+{
+    let mut number = 0u32;
+    let mut left = met;
+    for _i in 0..32u32 {
+        let (bit, rest) = left.split_first()?;
+        number = 2 * number + u32::from(*bit);
+        left = rest;
+    }
+    Some((number, left))
+}
+
+/// Where control leads from the instruction at the place, and the truth values that are left.
+fn follow<'a>(place: usize, insn: &Insn, met: &'a [bool]) -> Option<(Next, &'a [bool])>
+    requires small { place < 4096 }
+    ensures { option_map (λ r. (r.0, r.1.now)) result ≡ lead_of place insn.now met.now }
+{
+    match insn {
+        Insn::ReturnConstant(k) => Some((Next::Returns(*k), met)),
+        Insn::ReturnA => {
+            let (a, left) = next_number(met)?;
+            Some((Next::Returns(a), left))
+        }
+        Insn::Jump(k) => Some((Next::Goes(place + 1 + *k as usize), met)),
+        Insn::Branch(_, _, on_true, on_false) => {
+            let (passed, left) = met.split_first()?;
+            let skipped = if *passed { *on_true } else { *on_false };
+            Some((Next::Goes(place + 1 + skipped as usize), left))
+        }
+        Insn::Alu(BinOp::Div, Operand::X) => {
+            let (is_zero, left) = met.split_first()?;
+            if *is_zero {
+                Some((Next::Returns(0), left))
+            } else {
+                Some((Next::Goes(place + 1), left))
+            }
+        }
+        Insn::LoadWord(_)
+        | Insn::LoadConstant(_)
+        | Insn::LoadScratch(_)
+        | Insn::LoadLength
+        | Insn::LoadXConstant(_)
+        | Insn::LoadXScratch(_)
+        | Insn::LoadXLength
+        | Insn::StoreA(_)
+        | Insn::StoreX(_)
+        | Insn::Alu(_, _)
+        | Insn::Negate
+        | Insn::Tax
+        | Insn::Txa => Some((Next::Goes(place + 1), met)),
+    }
+}
+
+/// What the program returns, and the truth values that are left.
+fn replay_program<'a>(program: &Program, met: &'a [bool]) -> Option<(u32, &'a [bool])>
+    ensures { option_map (λ r. (r.0, r.1.now)) result ≡ replay_of program.now met.now }
+{
+    let code = program.insns();
+    let mut place = 0;
+    let mut left = met;
+    'steps: loop {
+        let insn = code.get(place)?;
+        let (next, rest) = follow(place, insn, left)?;
+        left = rest;
+        match next {
+            Next::Goes(to) => place = to,
+            Next::Returns(value) => return Some((value, left)),
+        }
+    }
+}
+
+/// What programs in order of installation answer, and the truth values that are left.
+fn replay_part<'a>(programs: &[Program], met: &'a [bool]) -> Option<(Answer, &'a [bool])>
+    ensures { option_map (λ r. (r.0, r.1.now)) result ≡ answer_along programs.now met.now }
+{
+    let mut so_far = Answer {
+        action: Action::Allow,
+        info: 0,
+    };
+    let mut left = met;
+    for program in programs.iter().rev() {
+        let (value, rest) = replay_program(program, left)?;
+        so_far = fold(so_far, value);
+        left = rest;
+    }
+    Some((so_far, left))
+}
+
+/// The answers of the older programs of a stack and of its newer ones, each part taken as a stack of its own, along a
+/// route of the whole stack. Both parts stand in order of installation. `None` where the truth values are not a whole
+/// route. Takes no memory.
+pub fn replay(older: &[Program], newer: &[Program], route: &[bool]) -> Option<PartAnswers>
+    // These are the answers of the definition.
+    ensures same { result ≡ answers_along older.now newer.now route.now }
+
+    // Each whole route has answers, and those along the trace of an input are the answers to it.
+    ensures whole { IsWholeRoute (older.now ++ newer.now) route.now → IsSome result }
+    ensures right { (d : Input) → IsLawfulStack (older.now ++ newer.now)
+        → trace_of (older.now ++ newer.now) d ≡ route.now
+        → IfSome result (ArePartAnswers older.now newer.now d) }
+{
+    let (newer, left) = replay_part(newer, route)?;
+    let (older, left) = replay_part(older, left)?;
+    left.is_empty().then_some(PartAnswers { older, newer })
+}
