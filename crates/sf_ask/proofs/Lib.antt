@@ -4,3 +4,4 @@ pub mod Leasts
 pub mod Searching
 pub mod SheetLemmas
 pub mod ProbeLemmas
+pub mod MemberLemmas

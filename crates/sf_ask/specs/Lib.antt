@@ -7,6 +7,8 @@ pub mod Questions
 pub mod Breaking
 pub mod Trying
 pub mod Verdicts
+pub mod Members
+pub mod MemberLaws
 pub mod Searches
 pub mod Probing
 pub mod Sheets

@@ -1,11 +1,12 @@
 //! Verdicts on regions.
 
-ghost use Rattle.std.specs.Prelude.{◌≡◌, ◌<◌, ℕ, true, List, length, slice_get, slice_index, Some, IfOk, IfErr, IfSome, IsTrue, MatchOption};
+ghost use Rattle.std.specs.Prelude.{◌≡◌, ◌<◌, ℕ, true, List, length, slice_get, slice_index, Some, false, IfOk, IfErr, IfSome, IsTrue, MatchOption};
 ghost use Rattle.std.specs.Arc.{arc_value};
 ghost use Rattle.sf_insn.specs.Inputs.{IsInput};
 ghost use Rattle.sf_insn.specs.declared.input.Input.{Input as AnInput};
 ghost use Rattle.sf_check.specs.Stacks.{IsPlain};
 ghost use Rattle.sf_ask.specs.declared.fault.Fault.TheVariants.{Memory};
+ghost use Rattle.sf_sym.specs.Pool.{IsCondBelow};
 ghost use Rattle.sf_piece.specs.Pieces.{is_member};
 ghost use Rattle.sf_book.specs.Books.{IsRightRegion};
 ghost use Rattle.sf_ask.specs.Verdicts.{IsRightVerdict, TellsTriedAt, IsDecisive};
@@ -20,10 +21,11 @@ use sf_book::Settled;
 use sf_dom::Facts;
 use sf_insn::Input;
 use sf_piece::Piece;
+use sf_sym::Cond;
 use std::alloc::Global;
 
 /// The input that has in each word the least number that the facts leave for it, or none where they tell no least number.
-fn least_input(facts: &Facts) -> Option<Input>
+pub(crate) fn least_input(facts: &Facts) -> Option<Input>
     ensures { MatchOption result ⊥ (λ d. IsLeastInput facts.now d) }
 {
     let mut words = [0; 16];
@@ -47,21 +49,37 @@ fn meets_leaves(piece: &Piece, input: &Input) -> Option<bool>
     Some(true)
 }
 
+/// The first condition of the piece that the input doesn't meet, or none where it is a member.
+pub(crate) fn first_unmet(
+    alloc: Global,
+    piece: &Piece,
+    input: &Input,
+) -> Result<Option<Cond>, Fault>
+    ensures unmet { IfOk result (λ o. MatchOption o (is_member piece.now input.now ≡ true)
+        (λ c. (is_member piece.now input.now ≡ false)
+        × IsCondBelow (length piece.now.pool) c)) }
+    ensures err { IfErr result (λ f. f ≡ Memory) }
+{
+    let values = piece.pool().values(alloc, input)?;
+    for i in 0..piece.cond_count() {
+        let cond = piece.cond(i);
+        if !cond.is_met(values.as_slice()) {
+            return Ok(Some(cond));
+        }
+    }
+    Ok(None)
+}
+
 /// Whether the input is a member of the piece: it meets every condition.
-fn is_member_of(alloc: Global, piece: &Piece, input: &Input) -> Result<bool, Fault>
+pub(crate) fn is_member_of(alloc: Global, piece: &Piece, input: &Input) -> Result<bool, Fault>
     ensures tells { IfOk result (λ b. b ≡ is_member piece.now input.now) }
     ensures err { IfErr result (λ f. f ≡ Memory) }
 {
     if let Some(is_member) = meets_leaves(piece, input) {
         return Ok(is_member);
     }
-    let values = piece.pool().values(alloc, input)?;
-    for i in 0..piece.cond_count() {
-        if !piece.cond(i).is_met(values.as_slice()) {
-            return Ok(false);
-        }
-    }
-    Ok(true)
+    let unmet = first_unmet(alloc, piece, input)?;
+    Ok(unmet.is_none())
 }
 
 /// Tries one input: it has in each word the least number that the piece's facts, confined to the question, leave for it,

@@ -132,7 +132,7 @@ prefix_is (false ∷ n) (true ∷ t) h = absurd cc
 prefix_is (false ∷ n) (false ∷ t) h = let r = prefix_is n t h in (r.0, ap (λ k. false ∷ k) r.1)
 
 -- the name of a region is the trace of each member
-member_trace : (stack : List (List Insn)) (r : RegionData) (d : Input) → IsLawfulStack stack → IsRightRegion stack r
+pub member_trace : (stack : List (List Insn)) (r : RegionData) (d : Input) → IsLawfulStack stack → IsRightRegion stack r
     → IsInput d → is_member r.piece d ≡ true → r.name ≡ trace_of stack d
 member_trace stack r d lawful right is m =
     let on = prefix_is r.name (trace_of stack d) (sym (right.members d is) ∙ m) in

@@ -1,59 +1,28 @@
 -- Why replies are right.
-use Rattle.std.proofs.Common.{◌≡◌, ℕ, zero, suc, ◌+◌, ◌<◌, Bool, true, false, true≢false, List, [], ◌∷◌, ◌++◌, map, length, Option, Some, None, Result, Ok, Err, IfOk, slice_get, get_or, ◌==◌, ◌⊎◌, sym, refl, ap, ◌∙◌, subst, inl, inr, ⊎_elim, arith}
+use Rattle.std.proofs.Common.{◌≡◌, ℕ, zero, suc, ◌+◌, ◌<◌, Bool, true, false, true≢false, List, [], ◌∷◌, ◌++◌, length, Option, Some, None, Result, Ok, Err, IfOk, slice_get, get_or, ◌==◌, ◌⊎◌, sym, refl, ap, ◌∙◌, subst, inl, inr, ⊎_elim, arith}
 use Rattle.std.proofs.lemmas.Bool.Decides.{nat_tests}
-use Rattle.std.proofs.lemmas.Option.{slice_get_within, slice_get-get_or, same_Some, get_or_from_slice_get}
+use Rattle.std.proofs.lemmas.Option.{slice_get-get_or, same_Some, get_or_from_slice_get}
 use mathlib.Core.Logic.{dite}
 use native.Mathlib.Decide.{ℕ_discrete}
 use Rattle.sf_ask.specs.declared.verdict.Reply.{Reply}
 use Rattle.sf_insn.specs.declared.input.Input.{Input}
 use Rattle.sf_insn.specs.Inputs.{IsInput}
-use Rattle.sf_piece.specs.Pieces.{PieceData, is_member}
-use Rattle.sf_book.specs.Books.{OutstandingData, RegionData, BookData, IsSettled}
-use Rattle.sf_book.specs.Partition.{parts_of, LiesInOne}
-use Rattle.sf_book.specs.PartitionLaws.{lies_in_one}
+use Rattle.sf_book.specs.Books.{BookData, IsSettled}
 use Rattle.sf_ask.specs.declared.verdict.Verdict.TheVariants.{Clear, Hit, Doubt}
 use Rattle.sf_ask.specs.declared.verdict.Reply.TheVariants.{Never, Allowed, Unsettled}
 use Rattle.sf_ask.specs.QuestionData.{QuestionData}
-use Rattle.sf_ask.specs.Verdicts.{IsMemberAt, IsBreakAt, IsRightVerdict, IsRightReply, TellsTriedAt, IsDoubtful}
+use Rattle.sf_ask.specs.Verdicts.{IsBreakAt, IsRightVerdict, IsRightReply, TellsTriedAt, IsDoubtful}
 use Rattle.sf_check.specs.Stacks.{IsPlain}
+use Rattle.sf_ask.specs.MemberLaws.{in_some_region}
 use Rattle.sf_ask.specs.Sheets.{HasNoBreak, IsRightWhereGiven}
 use Rattle.sf_crew.specs.declared.board.Tally.{Tally}
 use Rattle.sf_ask.specs.QuestionBits.{bit_of}
 use Rattle.sf_crew.specs.Sweeps.{IsWithoutHit, HasDoubt, IsUnbroken, IsReplyTo, IsRightReplyAt, IsFullTally}
 use Rattle.sf_crew.specs.declared.fault.Fault.{Fault}
 
--- what stands at a place of the pieces of all regions is a region's piece
-region_there : (rs : List RegionData) (place : ℕ) (p : PieceData)
-    → slice_get (map (λ (r : RegionData). r.piece) rs) place ≡ Some p → (region : RegionData)
-    × (slice_get rs place ≡ Some region) × (region.piece ≡ p)
-region_there [] zero p e = absurd (cc)
-region_there [] (suc n) p e = absurd (cc)
-region_there (r ∷ rs) zero p e = (r, refl, cc)
-region_there (r ∷ rs) (suc n) p e = region_there rs n p e
-
 none_left : {X : Type 0} (xs : List X) → length xs ≡ 0 → xs ≡ []
 none_left [] e = refl
 none_left (x ∷ xs) e = absurd (omega arith)
-
--- where nothing is outstanding, each input is a member of some region
-pub in_some_region : (s : BookData) → IsSettled s → s.outstanding ≡ [] → (d : Input) → IsInput d → (r : ℕ)
-    × (r < length s.regions) × IsMemberAt s r d
-in_some_region s h none d input =
-    let one : LiesInOne (parts_of s) d = lies_in_one s h.lawful d input in
-    let rs : List PieceData = map (λ (r : RegionData). r.piece) s.regions in
-    let same : parts_of s ≡ rs = ap (λ (es : List OutstandingData).
-    map (λ (e : OutstandingData). e.piece) es ++ rs) none in
-    let there = region_there s.regions one.place one.piece
-    (ap (λ (ps : List PieceData). slice_get ps one.place) (sym same) ∙ one.there) in (
-      one.place,
-      slice_get_within s.regions one.place there.0 there.1,
-      record {
-        region = there.0;
-        there = there.1;
-        input = input;
-        member = ap (λ (p : PieceData). is_member p d) there.2 ∙ one.member;
-      },
-    )
 
 never_right : (s : BookData) (q : QuestionData) → IsSettled s → s.outstanding ≡ []
     → ((r : ℕ) → r < length s.regions → IsUnbroken s q false r) → IsRightReply s q Never

@@ -1,0 +1,57 @@
+-- What conditions that are learnt once more tell of a piece's members.
+use Rattle.std.proofs.Common.{◌≡◌, ℕ, ◌<◌, ◌≤◌, Bool, true, false, true≢false, Some, refl, sym, ◌∙◌}
+use Rattle.std.specs.Prelude.{slice_get, slice_index}
+use Rattle.sf_insn.specs.declared.input.Input.{Input}
+use Rattle.sf_insn.specs.Inputs.{IsInput}
+use Rattle.sf_sym.specs.declared.pool.Cond.{Cond}
+use Rattle.sf_sym.specs.Pool.{is_met}
+use Rattle.sf_dom.specs.Facts.{FactsView, Agrees, Covers, KeepsInputs, NoInput}
+use Rattle.sf_piece.specs.Pieces.{PieceData, is_member, HasNoMember}
+use Rattle.sf_piece.specs.PlainPieces.{IsPlainPiece}
+use Rattle.sf_ask.specs.Trying.{IsLeastInput}
+use Rattle.sf_ask.specs.Members.{IsLeastMember, CoverMembers}
+use Rattle.sf_ask.proofs.Leasts.{least-below, least-agrees}
+use Rattle.sf_ask.proofs.Searching.{not-met}
+
+-- a condition of the piece that no agreeing input meets leaves it without a member
+pub no-member : (p : PieceData) (f : FactsView) (i : ℕ) (c : Cond) → CoverMembers p f
+    → slice_get p.conditions i ≡ Some c → NoInput f p.pool (λ d. is_met p.pool d c) → HasNoMember p
+unfolding is_member
+no-member p f i c cover there none = record { none = λ d is. by d is (is_member p d) refl }
+  where
+    by : (d : Input) → IsInput d → (b : Bool) → is_member p d ≡ b → is_member p d ≡ false
+    by d is false e = e
+    by d is true e = not-met (is_met p.pool d) p.conditions i c there (none d is (cover.agree d is e))
+
+-- a member meets each condition
+meets : (p : PieceData) (i : ℕ) (c : Cond) (d : Input) → slice_get p.conditions i ≡ Some c → is_member p d ≡ true
+    → is_met p.pool d c ≡ true
+unfolding is_member
+meets p i c d there member = by (is_met p.pool d c) refl
+  where
+    by : (b : Bool) → is_met p.pool d c ≡ b → is_met p.pool d c ≡ true
+    by true e = e
+    by false e = absurd (true≢false (sym member ∙ not-met (is_met p.pool d) p.conditions i c there e))
+
+-- where one of its conditions is learnt, the members agree still
+pub still-covered : (p : PieceData) (f g : FactsView) (i : ℕ) (c : Cond) → CoverMembers p f
+    → slice_get p.conditions i ≡ Some c → Covers g p.pool → KeepsInputs f g p.pool (λ d. is_met p.pool d c)
+    → CoverMembers p g
+still-covered p f g i c cover there covers keeps = record {
+  covers = covers;
+  agree = λ d is m. keeps d is (cover.agree d is m) (meets p i c d there m);
+}
+
+-- the least input that the facts of a piece leave is its least member, if it is one
+pub least-member : (p : PieceData) (d : Input) → CoverMembers p p.facts → IsLeastInput p.facts d
+    → is_member p d ≡ true → IsLeastMember p d
+least-member p d cover h m = record {
+  input = h.input;
+  member = m;
+  least = λ other is inside. least-below p.facts p.pool d other cover.covers h (cover.agree other is inside);
+}
+
+-- on a plain stack it is one
+pub plain-least : (p : PieceData) (d : Input) → IsPlainPiece p → Covers p.facts p.pool → IsLeastInput p.facts d
+    → is_member p d ≡ true
+plain-least p d exact covers h = exact.exact d h.input (least-agrees p.facts p.pool d covers exact.nodes h)

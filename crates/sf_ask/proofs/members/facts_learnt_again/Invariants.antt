@@ -1,0 +1,5 @@
+use Rattle.sf_ask.specs.Members.{CoverMembers}
+use Rattle.sf_ask.proofs.members.facts_learnt_again.Given as goal
+
+abbrev pub invariant-loop-i : goal.invariant-loop-i
+invariant-loop-i l = CoverMembers l.piece l.facts

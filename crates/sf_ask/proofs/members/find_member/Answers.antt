@@ -1,0 +1,24 @@
+use Rattle.std.proofs.Common.{true≢false, sym, ◌∙◌}
+use Rattle.sf_ask.proofs.MemberLemmas.{least-member, plain-least}
+use Rattle.sf_ask.proofs.members.find_member.Goals as goal
+
+pub returns-then-branch-clause-plain : goal.returns-then-branch-clause-plain
+returns-then-branch-clause-plain c = λ plain.
+    least-member c.args.piece.now c.in-Some.least
+    (record { covers = c.facts.ensures.covers; agree = c.facts.ensures.known })
+    (rw c.facts.ensures.value at c.in-Some.ensures) (sym c.in_ok-is_member_of.ensures.tells ∙ c.if-branch.true)
+
+pub returns-in-Some-3-clause-right : goal.returns-in-Some-3-clause-right
+returns-in-Some-3-clause-right c = rw c.in-Some-3.is at c.in_ok-member.ensures.member
+
+pub returns-in-Some-3-clause-plain : goal.returns-in-Some-3-clause-plain
+returns-in-Some-3-clause-plain c = λ plain.
+    absurd (true≢false (sym (plain-least c.args.piece.now c.in-Some.least (c.facts.ensures.plain plain)
+    c.facts.ensures.covers (rw c.facts.ensures.value at c.in-Some.ensures))
+    ∙ (sym c.in_ok-is_member_of.ensures.tells ∙ c.if-branch.false)))
+
+pub returns-clause-plain : goal.returns-clause-plain
+returns-clause-plain c = λ plain.
+    absurd (true≢false (sym (plain-least c.args.piece.now c.in-Some.least (c.facts.ensures.plain plain)
+    c.facts.ensures.covers (rw c.facts.ensures.value at c.in-Some.ensures))
+    ∙ (sym c.in_ok-is_member_of.ensures.tells ∙ c.if-branch.false)))

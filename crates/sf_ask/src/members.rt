@@ -1,0 +1,178 @@
+//! Members of pieces, looked for where no question is asked.
+
+ghost use Rattle.std.specs.Prelude.{◌≡◌, ◌<◌, true, false, length, IfOk, IfErr, IfSome, MatchOption};
+ghost use Rattle.sf_insn.specs.Inputs.{IsInput};
+ghost use Rattle.sf_check.specs.Stacks.{IsPlain};
+ghost use Rattle.sf_dom.specs.Facts.{Covers};
+ghost use Rattle.sf_piece.specs.Pieces.{is_member, HasNoMember};
+ghost use Rattle.sf_ask.specs.Members.{IsRightMembership, IsLeastFound, CoverMembers};
+ghost use Rattle.sf_ask.specs.declared.fault.Fault.TheVariants.{Memory};
+
+use crate::fault::Fault;
+use crate::judging::{first_unmet, is_member_of, least_input};
+use sf_dom::{Facts, Known};
+use sf_insn::{BinOp, Input, Test};
+use sf_piece::Piece;
+use sf_sym::{Cond, Node, NodeId, Pool, constant_of};
+use std::alloc::Global;
+
+/// What a search for a member of a piece ends with.
+#[derive(Clone, Copy, Debug, PartialEq, Eq)]
+pub enum Membership {
+    /// The piece has no member.
+    Empty,
+    /// This input is a member.
+    Member(Input),
+    /// An input was tried that is no member. Whether the piece has one isn't known.
+    Doubt,
+}
+
+/// How often an input is mended at most.
+const MOST_MENDINGS: usize = 64;
+
+/// A word of the input under a mask.
+#[derive(Clone, Copy)]
+struct MaskedWord {
+    word: usize,
+    mask: u32,
+}
+
+/// The piece's facts, with each of its conditions learnt once more, or none where one contradicts.
+fn facts_learnt_again(alloc: Global, piece: &Piece) -> Result<Option<Facts>, Fault>
+    ensures facts { IfOk result (λ o. MatchOption o (HasNoMember piece.now)
+        (CoverMembers piece.now)) }
+    ensures err { IfErr result (λ f. f ≡ Memory) }
+{
+    let mut facts = piece.facts().fork(alloc)?;
+    for i in 0..piece.cond_count() {
+        if !facts.learn(alloc, piece.pool(), &piece.cond(i))? {
+            return Ok(None);
+        }
+    }
+    Ok(Some(facts))
+}
+
+/// The word and the mask that a node is made of: it is a word, or ANDs of a word with constants.
+fn masked_word(pool: &Pool, id: NodeId) -> Option<MaskedWord>
+    requires { id.0 < length pool.now }
+    ensures { IfSome result (λ m. m.word < 16) }
+{
+    let mut at = id;
+    let mut mask = u32::MAX;
+    for _ in 0..pool.len() {
+        match pool.node(at) {
+            Node::Word(word) => {
+                return Some(MaskedWord {
+                    word: word as usize,
+                    mask,
+                });
+            }
+            Node::Bin(BinOp::And, a, b) => match (
+                constant_of(pool.node(a)),
+                constant_of(pool.node(b)),
+            ) {
+                (None, Some(bits)) => {
+                    at = a;
+                    mask &= bits;
+                }
+                (Some(bits), None) => {
+                    at = b;
+                    mask &= bits;
+                }
+                _ => return None,
+            },
+            _ => return None,
+        }
+    }
+    None
+}
+
+/// The lowest bit that is set, by itself.
+fn lowest_bit(bits: u32) -> Option<u32> {
+    if bits == 0 {
+        return None;
+    }
+    Some(bits & bits.wrapping_neg())
+}
+
+/// A number that may pass a test which this one fails, under a mask and against a number, or none where no way is tried.
+/// It is only a guess: the input is looked at again.
+fn mended_number(number: u32, mask: u32, known: Known, cond: &Cond, wanted: u32) -> Option<u32> {
+    match (cond.test, cond.sense) {
+        (Test::Equal, true) => Some((number & !mask) | (wanted & mask)),
+        (Test::Equal, false) => {
+            let bit = lowest_bit(mask & !(known.zeros | known.ones))?;
+            Some(number ^ bit)
+        }
+        (Test::AnyBit, true) => {
+            let bit = lowest_bit(mask & wanted & !known.zeros)?;
+            Some(number | bit)
+        }
+        (Test::AnyBit, false) => Some(number & !(mask & wanted)),
+        _ => None,
+    }
+}
+
+/// An input with one word mended, so that it may meet the condition, or none where the condition isn't on a word under a
+/// mask, against a constant.
+fn mended_input(pool: &Pool, facts: &Facts, cond: &Cond, input: &Input) -> Option<Input>
+    requires covers { Covers facts.now pool.now }
+    requires node { cond.now.node.0 < length pool.now }
+    requires other { cond.now.other.0 < length pool.now }
+    requires input { IsInput input.now }
+    ensures { IfSome result IsInput }
+{
+    let wanted = constant_of(pool.node(cond.other))?;
+    let MaskedWord { word, mask } = masked_word(pool, cond.node)?;
+    let known = facts.known(NodeId(word as u32));
+    let mut words = input.words;
+    words[word] = mended_number(words[word], mask, known, cond, wanted)?;
+    Some(Input { words })
+}
+
+/// A member near the least input that the facts leave: as long as a condition isn't met, a word is mended. None where that
+/// doesn't come to a member.
+fn member_near(alloc: Global, piece: &Piece, facts: &Facts) -> Result<Option<Input>, Fault>
+    requires { CoverMembers piece.now facts.now }
+    ensures member { IfOk result (λ o. IfSome o (λ d. IsInput d
+        × (is_member piece.now d ≡ true))) }
+    ensures err { IfErr result (λ f. f ≡ Memory) }
+{
+    let Some(mut input) = least_input(facts) else {
+        return Ok(None);
+    };
+    for _ in 0..MOST_MENDINGS {
+        let Some(cond) = first_unmet(alloc, piece, &input)? else {
+            return Ok(Some(input));
+        };
+        let Some(next) = mended_input(piece.pool(), facts, &cond, &input) else {
+            return Ok(None);
+        };
+        input = next;
+    }
+    Ok(None)
+}
+
+/// Looks for a member of the piece. First the input of the least numbers that the piece's facts leave is tried: where it
+/// is a member, no member has a lesser number in any word, and on a plain stack it always is one. Then the piece's
+/// conditions are learnt once more, which may show that it has no member. Else an input is mended bit by bit where words
+/// under masks are compared, and tried again. `Memory` where a growth is refused.
+pub fn find_member(alloc: Global, piece: &Piece) -> Result<Membership, Fault>
+    ensures right { IfOk result (IsRightMembership piece.now) }
+    ensures plain { IsPlain piece.now.stack → IfOk result (IsLeastFound piece.now) }
+    ensures err { IfErr result (λ f. f ≡ Memory) }
+{
+    let Some(least) = least_input(piece.facts()) else {
+        return Ok(Membership::Doubt);
+    };
+    if is_member_of(alloc, piece, &least)? {
+        return Ok(Membership::Member(least));
+    }
+    let Some(facts) = facts_learnt_again(alloc, piece)? else {
+        return Ok(Membership::Empty);
+    };
+    match member_near(alloc, piece, &facts)? {
+        Some(member) => Ok(Membership::Member(member)),
+        None => Ok(Membership::Doubt),
+    }
+}
