@@ -1,0 +1,133 @@
+-- Why what is told of two stacks is right.
+use Rattle.std.proofs.Common.{◌≡◌, ℕ, ◌+◌, ◌-◌, ◌<◌, ◌++◌, true, true≢false, List, [], ◌∷◌, length, take, drop, Some, slice_get, refl, sym, ap, subst, ◌∙◌, inl, inr, arith, length-drop}
+use Rattle.std.proofs.lemmas.Bool.{cases_eq}
+use Rattle.std.proofs.lemmas.List.{take-append-drop, take_all}
+use Rattle.sf_insn.specs.declared.input.Input.{Input}
+use Rattle.sf_insn.specs.Inputs.{IsInput}
+use Rattle.sf_check.specs.declared.insn.Insn.{Insn}
+use Rattle.sf_check.specs.Stacks.{IsLawfulStack, IsPlain}
+use Rattle.sf_run.specs.declared.action.Answer.{Answer}
+use Rattle.sf_run.specs.declared.replaying.PartAnswers.{PartAnswers}
+use Rattle.sf_run.specs.Machine.{trace_of, returns_of}
+use Rattle.sf_run.specs.Answers.{Answers}
+use Rattle.sf_run.specs.AnswerLaws.{one}
+use Rattle.sf_run.specs.Routes.{IsWholeRoute}
+use Rattle.sf_piece.specs.Pieces.{is_member, HasNoMember}
+use Rattle.sf_book.specs.Books.{RegionData, BookData, IsRightRegion, IsSettled}
+use Rattle.sf_book.specs.ExactLaws.{member_trace}
+use Rattle.sf_ask.specs.Verdicts.{IsMemberAt}
+use Rattle.sf_ask.specs.MemberLaws.{in_some_region}
+use Rattle.sf_compare.specs.declared.relation.Relation.{Relation}
+use Rattle.sf_compare.specs.declared.comparing.Change.TheVariants.{Never, Allowed}
+use Rattle.sf_compare.specs.declared.comparing.Example.{Example}
+use Rattle.sf_compare.specs.Relations.{AreRelated}
+use Rattle.sf_compare.specs.Changes.{IsChange, old_of, new_of, AreAnswersOf, AreAnswersAt, IsUnchangedAt, IsLeastAt, IsChangeOf}
+
+-- the two parts make the stack
+pub both_parts : (s : BookData) (older : ℕ) → old_of s older ++ new_of s older ≡ s.stack
+both_parts s older = take-append-drop older s.stack
+
+-- a region's name is a whole route of the two parts
+pub parts_route : (s : BookData) (older : ℕ) (r : RegionData) → IsRightRegion s.stack r
+    → IsWholeRoute (old_of s older ++ new_of s older) r.name
+parts_route s older r right = subst (λ (k : List (List Insn)). IsWholeRoute k r.name) (sym (both_parts s older)) right.route
+
+-- the programs after the first ones, as a slice has them
+pub last_part : (older : ℕ) (programs : List (List Insn))
+    → take (length programs - older) (drop older programs) ≡ drop older programs
+last_part older programs = take_all (length programs - older) (drop older programs)
+    (omega (arith, length-drop older programs))
+
+-- what a replay along an input's trace answers
+abbrev AnswersAlong : BookData → ℕ → RegionData → PartAnswers → Type 0
+AnswersAlong s older r both =
+    (d : Input) → IsLawfulStack (old_of s older ++ new_of s older)
+    → trace_of (old_of s older ++ new_of s older) d ≡ r.name
+    → Answers (old_of s older) d both.older × Answers (new_of s older) d both.newer
+
+-- the answers along a region's name are those to its members
+pub region_answers : (s : BookData) (older : ℕ) (r : RegionData) (both : PartAnswers) → IsLawfulStack s.stack
+    → IsRightRegion s.stack r → AnswersAlong s older r both → AreAnswersOf s older r both
+region_answers s older r both lawful right along = record {
+  before = λ d is m. (at d is m).0;
+  after = λ d is m. (at d is m).1;
+}
+  where
+    at : (d : Input) → IsInput d → is_member r.piece d ≡ true
+        → Answers (old_of s older) d both.older × Answers (new_of s older) d both.newer
+    at d is m = along d (subst IsLawfulStack (sym (both_parts s older)) lawful)
+        (ap (λ (k : List (List Insn)). trace_of k d) (both_parts s older)
+        ∙ sym (member_trace s.stack r d lawful right is m))
+
+-- a member of the region at a place is one of its piece
+in_piece : (s : BookData) (place : ℕ) (r : RegionData) (d : Input) → slice_get s.regions place ≡ Some r
+    → (m : IsMemberAt s place d) → is_member r.piece d ≡ true
+in_piece s place r d there m =
+    let same : m.region ≡ r = cc (m.there, there) in
+    subst (λ (x : RegionData). is_member x.piece d ≡ true) same m.member
+
+-- where the two answers aren't so related, no member is changed so
+pub unrelated : (s : BookData) (older : ℕ) (relation : Relation) (place : ℕ) (both : PartAnswers)
+    → AreAnswersAt s older place both → (AreRelated relation both.older both.newer → ⊥)
+    → IsUnchangedAt s older relation place
+unrelated s older relation place both told none = λ d before after m change.
+    let answers = told m.region m.there in
+    let b : before ≡ both.older = one (returns_of (old_of s older) d) before both.older change.answered_before
+    (answers.before d m.input m.member) in
+    let a : after ≡ both.newer = one (returns_of (new_of s older) d) after both.newer change.answered_after
+    (answers.after d m.input m.member) in
+    none (subst (λ (x : Answer). AreRelated relation both.older x) a
+    (subst (λ (x : Answer). AreRelated relation x after) b change.related))
+
+-- nor where there is no member
+pub memberless : (s : BookData) (older : ℕ) (relation : Relation) (place : ℕ) (r : RegionData)
+    → slice_get s.regions place ≡ Some r → HasNoMember r.piece → IsUnchangedAt s older relation place
+memberless s older relation place r there none = λ d before after m change.
+    absurd (true≢false (sym (in_piece s place r d there m) ∙ none.none d m.input))
+
+-- a member is changed so where the two answers are so related
+pub changed : (s : BookData) (older : ℕ) (relation : Relation) (r : RegionData) (both : PartAnswers) (d : Input)
+    → AreAnswersOf s older r both → AreRelated relation both.older both.newer → IsInput d
+    → is_member r.piece d ≡ true → IsChange (old_of s older) (new_of s older) relation d both.older both.newer
+changed s older relation r both d answers related is m = record {
+  input = is;
+  answered_before = answers.before d is m;
+  answered_after = answers.after d is m;
+  related = related;
+}
+
+none_left : {X : Type 0} (xs : List X) → length xs ≡ 0 → xs ≡ []
+none_left [] e = refl
+none_left (x ∷ xs) e = absurd (omega arith)
+
+-- where no region has a member that is changed so, and nothing is outstanding, no input is
+pub never : (s : BookData) (older : ℕ) (relation : Relation) → IsSettled s → length s.outstanding ≡ 0
+    → ((r : ℕ) → r < length s.regions → IsUnchangedAt s older relation r) → IsChangeOf s older relation Never
+never s older relation settled none all = record {
+  right = (
+    none_left s.outstanding none,
+    λ d before after change. let m = in_some_region s settled (none_left s.outstanding none) d change.input in
+        all m.0 m.1 d before after m.2 change,
+  );
+  plain = λ _. tt;
+}
+
+-- one more region
+pub one_more : (s : BookData) (older : ℕ) (relation : Relation) (n : ℕ)
+    → ((r : ℕ) → r < n → IsUnchangedAt s older relation r) → IsUnchangedAt s older relation n
+    → (r : ℕ) → r < n + 1 → IsUnchangedAt s older relation r
+one_more s older relation n before here r lt = elim (cases_eq r n) [
+  | inl same ↦ subst (λ (i : ℕ). IsUnchangedAt s older relation i) (sym same) here
+  | inr other ↦ before r (omega arith)
+]
+
+-- a member of the first region with one that is changed so
+pub allowed : (s : BookData) (older : ℕ) (relation : Relation) (place : ℕ) (e : Example)
+    → IsChange (old_of s older) (new_of s older) relation e.input e.before e.after
+    → (IsPlain s.stack → IsLeastAt s place e.input)
+    → (IsPlain s.stack → (r : ℕ) → r < place → IsUnchangedAt s older relation r)
+    → IsChangeOf s older relation (Allowed e)
+allowed s older relation place e change least earlier = record {
+  right = change;
+  plain = λ h. record { place = place; least = least h; none_earlier = earlier h };
+}

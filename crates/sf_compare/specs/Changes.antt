@@ -1,0 +1,101 @@
+-- What is told of two stacks that were explored as one, the old stack's programs first.
+use Rattle.std.specs.Prelude.{◌≡◌, ℕ, ◌<◌, ◌⊎◌, true, false, List, [], length, take, drop, Some, slice_get}
+use Rattle.sf_insn.specs.declared.input.Input.{Input}
+use Rattle.sf_insn.specs.Inputs.{IsInput}
+use Rattle.sf_check.specs.declared.insn.Insn.{Insn}
+use Rattle.sf_check.specs.Stacks.{IsPlain}
+use Rattle.sf_run.specs.declared.action.Answer.{Answer}
+use Rattle.sf_run.specs.declared.replaying.PartAnswers.{PartAnswers}
+use Rattle.sf_run.specs.Answers.{Answers}
+use Rattle.sf_piece.specs.Pieces.{is_member}
+use Rattle.sf_book.specs.Books.{RegionData, BookData}
+use Rattle.sf_ask.specs.Verdicts.{IsMemberAt}
+use Rattle.sf_ask.specs.Members.{IsLeastMember}
+use Rattle.sf_compare.specs.declared.relation.Relation.{Relation}
+use Rattle.sf_compare.specs.declared.comparing.Change.{Change}
+use Rattle.sf_compare.specs.declared.comparing.Change.TheVariants.{Never, Allowed, Unsettled}
+use Rattle.sf_compare.specs.Relations.{AreRelated}
+
+-- An input is changed: the old stack answers it with the answer before, the new one with the answer after, and these are
+-- so related.
+pub record IsChange (old new : List (List Insn)) (relation : Relation) (d : Input) (before after : Answer) : Type 0 where
+  pub input : IsInput d
+  pub answered_before : Answers old d before
+  pub answered_after : Answers new d after
+  pub related : AreRelated relation before after
+
+-- the old stack of an exploration of both: so many of its programs, the first ones
+abbrev pub old_of : BookData → ℕ → List (List Insn)
+old_of s older = take older s.stack
+
+-- the new stack: the others
+abbrev pub new_of : BookData → ℕ → List (List Insn)
+new_of s older = drop older s.stack
+
+-- the answers of both stacks to each member of a region
+pub record AreAnswersOf (s : BookData) (older : ℕ) (region : RegionData) (both : PartAnswers) : Type 0 where
+  pub before : (d : Input) → IsInput d → is_member region.piece d ≡ true → Answers (old_of s older) d both.older
+  pub after : (d : Input) → IsInput d → is_member region.piece d ≡ true → Answers (new_of s older) d both.newer
+
+-- the answers of both stacks to each member of the region at a place
+abbrev pub AreAnswersAt : BookData → ℕ → ℕ → PartAnswers → Type 0
+AreAnswersAt s older place both =
+    (region : RegionData) → slice_get s.regions place ≡ Some region → AreAnswersOf s older region both
+
+-- the region at a place is in doubt: its two answers are so related, and an input was tried that isn't a member of it
+pub record IsDoubtfulAt (s : BookData) (older : ℕ) (relation : Relation) (place : ℕ) : Type 0 where
+  pub region : RegionData
+  pub there : slice_get s.regions place ≡ Some region
+  pub both : PartAnswers
+  pub answers : AreAnswersOf s older region both
+  pub related : AreRelated relation both.older both.newer
+  pub tried : Input
+  pub outside : is_member region.piece tried ≡ false
+
+-- no member of the region at a place is changed so
+abbrev pub IsUnchangedAt : BookData → ℕ → Relation → ℕ → Type 0
+IsUnchangedAt s older relation place =
+    (d : Input) (before after : Answer) → IsMemberAt s place d
+    → IsChange (old_of s older) (new_of s older) relation d before after → ⊥
+
+-- the least member of the region at a place
+pub record IsLeastAt (s : BookData) (place : ℕ) (d : Input) : Type 0 where
+  pub region : RegionData
+  pub there : slice_get s.regions place ≡ Some region
+  pub least : IsLeastMember region.piece d
+
+-- What the region at a place tells of a relation: no member is changed so; this member is, and on a plain stack it is the
+-- least one; or the region is in doubt, which none is on a plain stack.
+abbrev pub TellsOfRegion : BookData → ℕ → Relation → ℕ → Change → Type 0
+TellsOfRegion s older relation place Never = IsUnchangedAt s older relation place
+TellsOfRegion s older relation place (Allowed e) =
+    IsChange (old_of s older) (new_of s older) relation e.input e.before e.after
+    × (IsPlain s.stack → IsLeastAt s place e.input)
+TellsOfRegion s older relation place Unsettled = IsDoubtfulAt s older relation place × ¬ IsPlain s.stack
+
+-- What is told of a relation is right: never, where nothing is outstanding and no input is changed so; allowed, with an
+-- input that is; and unsettled only where a piece is outstanding or a region is in doubt.
+abbrev pub IsRightChange : BookData → ℕ → Relation → Change → Type 0
+IsRightChange s older relation Never = (s.outstanding ≡ [])
+    × ((d : Input) (before after : Answer) → IsChange (old_of s older) (new_of s older) relation d before after → ⊥)
+IsRightChange s older relation (Allowed e) =
+    IsChange (old_of s older) (new_of s older) relation e.input e.before e.after
+IsRightChange s older relation Unsettled =
+    (0 < length s.outstanding) ⊎ ((place : ℕ) × IsDoubtfulAt s older relation place)
+
+-- the least member of the first region with a member that is changed so
+pub record IsFirstExample (s : BookData) (older : ℕ) (relation : Relation) (d : Input) : Type 0 where
+  pub place : ℕ
+  pub least : IsLeastAt s place d
+  pub none_earlier : (earlier : ℕ) → earlier < place → IsUnchangedAt s older relation earlier
+
+-- on a plain stack an example is the first one, and a relation is unsettled only where a piece is outstanding
+abbrev pub IsPlainChange : BookData → ℕ → Relation → Change → Type 0
+IsPlainChange s older relation Never = Unit {0}
+IsPlainChange s older relation (Allowed e) = IsFirstExample s older relation e.input
+IsPlainChange s older relation Unsettled = 0 < length s.outstanding
+
+-- what is told is right, and on a plain stack it is exact
+pub record IsChangeOf (s : BookData) (older : ℕ) (relation : Relation) (change : Change) : Type 0 where
+  pub right : IsRightChange s older relation change
+  pub plain : IsPlain s.stack → IsPlainChange s older relation change
