@@ -11,7 +11,6 @@ use Rattle.sf_run.specs.declared.replaying.PartAnswers.{PartAnswers}
 use Rattle.sf_run.specs.Machine.{trace_of, returns_of}
 use Rattle.sf_run.specs.Answers.{Answers}
 use Rattle.sf_run.specs.AnswerLaws.{one}
-use Rattle.sf_run.specs.Routes.{IsWholeRoute}
 use Rattle.sf_piece.specs.Pieces.{is_member, HasNoMember}
 use Rattle.sf_book.specs.Books.{RegionData, BookData, IsRightRegion, IsSettled}
 use Rattle.sf_book.specs.ExactLaws.{member_trace}
@@ -26,11 +25,6 @@ use Rattle.sf_compare.specs.Changes.{IsChange, old_of, new_of, AreAnswersOf, Are
 -- the two parts make the stack
 pub both_parts : (s : BookData) (older : ℕ) → old_of s older ++ new_of s older ≡ s.stack
 both_parts s older = take-append-drop older s.stack
-
--- a region's name is a whole route of the two parts
-pub parts_route : (s : BookData) (older : ℕ) (r : RegionData) → IsRightRegion s.stack r
-    → IsWholeRoute (old_of s older ++ new_of s older) r.name
-parts_route s older r right = subst (λ (k : List (List Insn)). IsWholeRoute k r.name) (sym (both_parts s older)) right.route
 
 -- the programs after the first ones, as a slice has them
 pub last_part : (older : ℕ) (programs : List (List Insn))

@@ -16,9 +16,10 @@ use Rattle.sf_compare.specs.declared.comparing.Change.{Change}
 use Rattle.sf_compare.specs.declared.comparing.Change.TheVariants.{Never, Allowed, Unsettled}
 use Rattle.sf_compare.specs.Relations.{AreRelated}
 
--- An input is changed: the old stack answers it with the answer before, the new one with the answer after, and these are
--- so related.
-pub record IsChange (old new : List (List Insn)) (relation : Relation) (d : Input) (before after : Answer) : Type 0 where
+-- An input is changed: the old stack answers it with the answer before, the new one with the answer after, and these
+-- are so related.
+pub record IsChange (old new : List (List Insn)) (relation : Relation) (d : Input)
+    (before after : Answer) : Type 0 where
   pub input : IsInput d
   pub answered_before : Answers old d before
   pub answered_after : Answers new d after
@@ -64,8 +65,8 @@ pub record IsLeastAt (s : BookData) (place : ℕ) (d : Input) : Type 0 where
   pub there : slice_get s.regions place ≡ Some region
   pub least : IsLeastMember region.piece d
 
--- What the region at a place tells of a relation: no member is changed so; this member is, and on a plain stack it is the
--- least one; or the region is in doubt, which none is on a plain stack.
+-- What the region at a place tells of a relation: no member is changed so; this member is, and on a plain stack it is
+-- the least one; or the region is in doubt, which none is on a plain stack.
 abbrev pub TellsOfRegion : BookData → ℕ → Relation → ℕ → Change → Type 0
 TellsOfRegion s older relation place Never = IsUnchangedAt s older relation place
 TellsOfRegion s older relation place (Allowed e) =
