@@ -1,5 +1,5 @@
 //! How far a run comes over tests that ask A for other numbers than the one that it has.
-use samples::{op, raw};
+use samples::{op, raw, wrong_case};
 use sf_check::{Passed, Program, check};
 use sf_insn::RawInsn;
 use std::alloc::Global;
@@ -16,10 +16,24 @@ fn program_of(alloc: Global, mut code: Vec<RawInsn>) -> Result<Program, Fail> {
     Ok(check(alloc, &code)?)
 }
 
-/// Whether from a place on so many tests are passed, up to this place.
-fn leads(program: &Program, place: usize, number: u32, count: usize, behind: usize) -> bool {
-    place < program.insns().len()
-        && program.behind_others(place, number) == Passed { count, behind }
+/// How many tests are passed from a place on, and up to which place.
+fn passed(program: &Program, place: usize, number: u32) -> Option<Passed> {
+    if place < program.insns().len() {
+        Some(program.behind_others(place, number))
+    } else {
+        None
+    }
+}
+
+/// The place and the number of the first case in which other tests are passed than so many, or up to another place.
+fn wrong_chain(program: &Program, cases: &[(usize, u32, usize, usize)]) -> Option<(usize, u32)> {
+    for (place, number, count, behind) in cases {
+        let (count, behind) = (*count, *behind);
+        if passed(program, *place, *number) != Some(Passed { count, behind }) {
+            return Some((*place, *number));
+        }
+    }
+    None
 }
 
 /// Twenty tests for 10 to 29, from place 1 on, each with a return of its own behind it, and a return at 41.
@@ -66,8 +80,7 @@ fn far(alloc: Global) -> Result<Program, Fail> {
 
 #[test]
 fn tests_fail_over_returns(rt: HostRuntime) -> Result<(), Fail> {
-    let program = over_returns(rt.alloc())?;
-    for (place, number, count, behind) in [
+    let cases = [
         (1, 10, 0, 1),
         (1, 11, 1, 3),
         (1, 20, 10, 21),
@@ -81,19 +94,14 @@ fn tests_fail_over_returns(rt: HostRuntime) -> Result<(), Fail> {
         (0, 10, 0, 0),
         (2, 9, 0, 2),
         (41, 9, 0, 41),
-    ] {
-        assert!(rt;
-            leads(&program, place, number, count, behind),
-            "{place} {number}"
-        );
-    }
+    ];
+    assert_eq!(rt; wrong_chain(&over_returns(rt.alloc())?, &cases), None);
     Ok(())
 }
 
 #[test]
 fn a_chain_ends_in_the_midst_of_another(rt: HostRuntime) -> Result<(), Fail> {
-    let program = meeting(rt.alloc())?;
-    for (place, number, count, behind) in [
+    let cases = [
         (0, 100, 0, 0),
         (0, 5, 14, 26),
         (0, 13, 1, 13),
@@ -106,61 +114,52 @@ fn a_chain_ends_in_the_midst_of_another(rt: HostRuntime) -> Result<(), Fail> {
         (12, 12, 0, 12),
         (12, 5, 14, 26),
         (20, 19, 6, 26),
-    ] {
-        assert!(rt;
-            leads(&program, place, number, count, behind),
-            "{place} {number}"
-        );
-    }
+    ];
+    assert_eq!(rt; wrong_chain(&meeting(rt.alloc())?, &cases), None);
     Ok(())
 }
 
 #[test]
 fn a_chain_asks_for_a_number_twice(rt: HostRuntime) -> Result<(), Fail> {
-    let program = twice(rt.alloc())?;
-    for (place, number, count, behind) in [
+    let cases = [
         (1, 15, 5, 6),
         (6, 15, 0, 6),
         (7, 15, 4, 11),
         (12, 15, 10, 22),
         (1, 25, 16, 17),
-    ] {
-        assert!(rt;
-            leads(&program, place, number, count, behind),
-            "{place} {number}"
-        );
-    }
+    ];
+    assert_eq!(rt; wrong_chain(&twice(rt.alloc())?, &cases), None);
     Ok(())
 }
 
 #[test]
 fn tests_fail_far(rt: HostRuntime) -> Result<(), Fail> {
-    let program = far(rt.alloc())?;
-    for (place, number, count, behind) in [
+    let cases = [
         (0, 1, 0, 0),
         (0, 2, 1, 201),
         (0, 3, 2, 457),
         (0, 4, 3, 458),
         (201, 1, 2, 458),
         (457, 3, 0, 457),
-    ] {
-        assert!(rt;
-            leads(&program, place, number, count, behind),
-            "{place} {number}"
-        );
-    }
+    ];
+    assert_eq!(rt; wrong_chain(&far(rt.alloc())?, &cases), None);
     Ok(())
 }
 
+/// Whether the first of an instruction and a return is a test of equality.
+fn is_equal_test(alloc: Global, insn: RawInsn) -> Option<bool> {
+    let program = check(alloc, &[insn, op(0x06, 0)]).ok()?;
+    Some(program.insns().first()?.equal_test().is_some())
+}
+
 #[test]
-fn tells_tests_of_equality(rt: HostRuntime) -> Result<(), Fail> {
-    let tests = [op(0x15, 5), op(0x1d, 0), op(0x25, 5), op(0x06, 5)];
-    for (test, want) in tests.iter().zip([true, false, false, false]) {
-        let program = check(rt.alloc(), &[*test, op(0x06, 0)])?;
-        assert!(rt;
-            program.insns()[0].equal_test().is_some() == want,
-            "{test:?}"
-        );
-    }
-    Ok(())
+fn tells_tests_of_equality(rt: HostRuntime) {
+    let alloc = rt.alloc();
+    let cases = [
+        ("jeq #5", is_equal_test(alloc, op(0x15, 5)), Some(true)),
+        ("jeq x", is_equal_test(alloc, op(0x1d, 0)), Some(false)),
+        ("jgt #5", is_equal_test(alloc, op(0x25, 5)), Some(false)),
+        ("ret #5", is_equal_test(alloc, op(0x06, 5)), Some(false)),
+    ];
+    assert_eq!(rt; wrong_case(&cases), None);
 }

@@ -1,84 +1,145 @@
 //! Facts. What steps leave of a node stands among the cases of `facts_run`.
-use sf_dom::{Facts, Fault};
+
+ghost use Rattle.std.specs.Prelude.{All, IfSome, length};
+ghost use Rattle.sf_sym.specs.Pool.{IsCondBelow};
+ghost use Rattle.sf_dom.specs.Facts.{Covers};
+
+use crate::words::{new_pool, push};
+use sf_dom::Facts;
 use sf_insn::{BinOp, Test};
 use sf_sym::{Cond, Node, NodeId, Pool};
+use std::alloc::Global;
 use std::test::Fail;
 
 const FIRST: NodeId = NodeId(0);
 
-#[test]
-fn facts_of_conditions_are_those_learnt(rt: HostRuntime) -> Result<(), Fail> {
-    let alloc = rt.alloc();
-    let mut pool = Pool::new(alloc)?;
-    let nine = pool.push(Node::Const(9))?;
-    let above = Cond {
+/// A pool with the number 9, and the condition that the test of the first word against it has this sense.
+fn against_nine(alloc: Global, test: Test, sense: bool) -> Option<(Pool, Cond)>
+    ensures { IfSome result (λ p. IsCondBelow (length p.0) p.1) }
+{
+    let mut pool = Pool::new(alloc).ok()?;
+    let other = pool.push(Node::Const(9)).ok()?;
+    let cond = Cond {
         node: FIRST,
-        test: Test::Greater,
-        other: nine,
-        sense: true,
+        test,
+        other,
+        sense,
     };
-    let facts = Facts::of(alloc, &pool, &[above])?.ok_or("no input")?;
-    assert_eq!(rt; facts.least(0), Some(10));
-    let learnt = Facts::new(alloc, &pool)?.learnt(alloc, &pool, &above)?;
-    assert!(rt; facts.equals(&learnt.ok_or("no input")?));
-    Ok(())
+    Some((pool, cond))
+}
+
+fn new_facts(alloc: Global, pool: &Pool) -> Option<Facts>
+    ensures { IfSome result (λ facts. Covers facts pool.now) }
+{
+    Facts::new(alloc, pool).ok()
+}
+
+/// What conditions leave: none where no input meets them.
+fn facts_of(alloc: Global, pool: &Pool, conds: &[Cond]) -> Result<Option<Facts>, sf_dom::Fault>
+    requires { All (IsCondBelow (length pool.now)) conds.now }
+{
+    Facts::of(alloc, pool, conds)
+}
+
+fn learnt(alloc: Global, facts: &Facts, pool: &Pool, cond: &Cond) -> Option<Facts>
+    requires covers { Covers facts.now pool.now }
+    requires below { IsCondBelow (length pool.now) cond.now }
+{
+    facts.learnt(alloc, pool, cond).ok()?
+}
+
+fn learn(alloc: Global, facts: &mut Facts, pool: &Pool, cond: &Cond) -> Option<bool>
+    requires covers { Covers facts.old pool.now }
+    requires below { IsCondBelow (length pool.now) cond.now }
+{
+    facts.learn(alloc, pool, cond).ok()
+}
+
+fn fork(alloc: Global, facts: &Facts) -> Option<Facts> {
+    facts.fork(alloc).ok()
+}
+
+fn least_first(facts: &Facts) -> Option<u32> {
+    facts.least(0)
+}
+
+/// What is known where the first word is above 9: from the condition, and learnt.
+fn above_nine(alloc: Global) -> Option<(Facts, Facts)> {
+    let (pool, above) = against_nine(alloc, Test::Greater, true)?;
+    let of_one = facts_of(alloc, &pool, &[above]).ok()??;
+    let learnt = learnt(alloc, &new_facts(alloc, &pool)?, &pool, &above)?;
+    Some((of_one, learnt))
 }
 
 #[test]
-fn conditions_that_no_input_meets_have_no_facts(rt: HostRuntime) -> Result<(), Fail> {
-    let alloc = rt.alloc();
-    let mut pool = Pool::new(alloc)?;
-    let nine = pool.push(Node::Const(9))?;
-    let above = Cond {
-        node: FIRST,
-        test: Test::Greater,
-        other: nine,
-        sense: true,
-    };
+fn facts_of_conditions_are_those_learnt(rt: HostRuntime) -> Result<(), Fail> {
+    let (facts, learnt) = above_nine(rt.alloc()).ok_or("no facts")?;
+    assert_eq!(rt; least_first(&facts), Some(10));
+    assert!(rt; facts.equals(&learnt));
+    Ok(())
+}
+
+/// Whether the first word may be above 9 and equal to it.
+fn has_both(alloc: Global) -> Option<bool> {
+    let (pool, above) = against_nine(alloc, Test::Greater, true)?;
     let equal = Cond {
         test: Test::Equal,
         ..above
     };
-    assert!(rt; Facts::of(alloc, &pool, &[above, equal])?.is_none());
-    Ok(())
+    let facts = facts_of(alloc, &pool, &[above, equal]).ok()?;
+    Some(facts.is_some())
 }
 
 #[test]
-fn forks_are_equal_until_one_learns(rt: HostRuntime) -> Result<(), Fail> {
-    let alloc = rt.alloc();
-    let mut pool = Pool::new(alloc)?;
-    let nine = pool.push(Node::Const(9))?;
-    let other_than_nine = Cond {
-        node: FIRST,
-        test: Test::Equal,
-        other: nine,
-        sense: false,
-    };
-    let mut facts = Facts::new(alloc, &pool)?;
-    let before = facts.fork(alloc)?;
-    assert!(rt; facts.equals(&before));
-    assert!(rt; facts.learn(alloc, &pool, &other_than_nine)?);
-    assert!(rt; !facts.equals(&before));
-    Ok(())
+fn conditions_that_no_input_meets_have_no_facts(rt: HostRuntime) {
+    assert_eq!(rt; has_both(rt.alloc()), Some(false));
+}
+
+/// Whether facts are equal to a fork, whether they take in that the first word isn't 9, and whether they are equal then.
+fn told_of_fork(alloc: Global) -> Option<[bool; 3]> {
+    let (pool, other_than_nine) = against_nine(alloc, Test::Equal, false)?;
+    let mut facts = new_facts(alloc, &pool)?;
+    let before = fork(alloc, &facts)?;
+    let is_equal = facts.equals(&before);
+    let is_taken = learn(alloc, &mut facts, &pool, &other_than_nine)?;
+    Some([is_equal, is_taken, facts.equals(&before)])
 }
 
 #[test]
-fn grown_facts_grow_no_more_with_the_same_pool(rt: HostRuntime) -> Result<(), Fail> {
-    let alloc = rt.alloc();
-    let mut pool = Pool::new(alloc)?;
-    let mut facts = Facts::new(alloc, &pool)?;
-    let zero = pool.push(Node::Const(0))?;
-    let nothing = pool.push(Node::Bin(BinOp::And, FIRST, zero))?;
-    assert!(rt; facts.grow(alloc, &pool)?);
-    let afresh = Facts::new(alloc, &pool)?;
-    assert_eq!(rt; afresh.decided(&pool, nothing), Some(0));
-    assert!(rt; facts.equals(&afresh));
-    assert!(rt; facts.grow(alloc, &pool)?);
-    assert!(rt; facts.equals(&afresh));
-    Ok(())
+fn forks_are_equal_until_one_learns(rt: HostRuntime) {
+    assert_eq!(rt; told_of_fork(rt.alloc()), Some([true, true, false]));
+}
+
+fn grow(alloc: Global, facts: &mut Facts, pool: &Pool) -> Option<bool> {
+    facts.grow(alloc, pool).ok()
+}
+
+fn decided(facts: &Facts, pool: &Pool, node: NodeId) -> Option<u32>
+    requires { Covers facts.now pool.now }
+{
+    if (node.0 as usize) < pool.len() {
+        facts.decided(pool, node)
+    } else {
+        None
+    }
+}
+
+/// Facts of the words alone that grow with a word AND 0, once and once more: whether they may each time, and whether they are
+/// the facts of the pool each time. And what that node is.
+fn grown_twice(alloc: Global) -> Option<([bool; 4], Option<u32>)> {
+    let mut pool = new_pool(alloc)?;
+    let mut facts = new_facts(alloc, &pool)?;
+    let zero = push(&mut pool, Node::Const(0))?;
+    let nothing = push(&mut pool, Node::Bin(BinOp::And, FIRST, zero))?;
+    let grows = grow(alloc, &mut facts, &pool)?;
+    let afresh = new_facts(alloc, &pool)?;
+    let is_equal = facts.equals(&afresh);
+    let grows_again = grow(alloc, &mut facts, &pool)?;
+    let seen = [grows, is_equal, grows_again, facts.equals(&afresh)];
+    Some((seen, decided(&afresh, &pool, nothing)))
 }
 
 #[test]
-fn memory_has_a_number(rt: HostRuntime) {
-    assert_eq!(rt; Fault::Memory.number(), 60);
+fn grown_facts_grow_no_more_with_the_same_pool(rt: HostRuntime) {
+    assert_eq!(rt; grown_twice(rt.alloc()), Some(([true; 4], Some(0))));
 }

@@ -1,5 +1,7 @@
 //! Bytes, fields and words.
+use samples::{execve_refused, wrong_case};
 use sf_insn::{BinOp, Fault, RawInsn, Test, bytes_of_input, decode, encode, input_of_bytes};
+use std::alloc::Global;
 use std::test::Fail;
 
 /// `ld [4]; jeq 0xC000003E 1 0; ret 0x80000000; ld [0]; jeq 59 0 1; ret 0x00050001; ret 0x7fff0000`, as a file holds it.
@@ -9,39 +11,41 @@ const NO_EXECVE: [u8; 56] = [
     0x7f,
 ];
 
+/// The instructions of a file.
+fn decoded(alloc: Global, bytes: &[u8]) -> Result<Vec<RawInsn>, Fault> {
+    decode(alloc, bytes)
+}
+
+/// How many instructions are read of so many bytes 0.
+fn read_of_zeros(alloc: Global, length: usize) -> Result<usize, Fault> {
+    let zeros = vec![in alloc; 0u8; length]?;
+    Ok(decoded(alloc, &zeros)?.len())
+}
+
 #[test]
 fn reads_a_file_and_writes_it_again(rt: HostRuntime) -> Result<(), Fail> {
-    let insns = decode(rt.alloc(), &NO_EXECVE)?;
-    assert_eq!(rt; insns.len(), 7);
-    let test = RawInsn {
-        code: 0x15,
-        jt: 1,
-        jf: 0,
-        k: 0xC000003E,
-    };
-    assert!(rt; insns[1] == test);
-    assert_eq!(rt; insns[4].jf, 1);
+    let insns = decoded(rt.alloc(), &NO_EXECVE)?;
+    assert!(rt; insns.as_slice() == execve_refused().as_slice());
     let again = encode(rt.alloc(), &insns)?;
     assert!(rt; again.as_slice() == NO_EXECVE.as_slice());
     Ok(())
 }
 
 #[test]
-fn refuses_lengths(rt: HostRuntime) -> Result<(), Fail> {
+fn reads_1_to_4096_instructions(rt: HostRuntime) {
     let alloc = rt.alloc();
-    let zeros = vec![in alloc; 0u8; 8 * 4097]?;
-    assert!(rt; decode(alloc, &zeros[..12]).err() == Some(Fault::Ragged));
-    assert!(rt; decode(alloc, &zeros[..0]).err() == Some(Fault::Empty));
-    assert!(rt; decode(alloc, &zeros).err() == Some(Fault::TooLong));
-    assert_eq!(rt; decode(alloc, &zeros[..8 * 4096])?.len(), 4096);
-    Ok(())
-}
-
-#[test]
-fn reads_one_instruction_less_than_the_most(rt: HostRuntime) -> Result<(), Fail> {
-    let zeros = vec![in rt.alloc(); 0u8; 8 * 4095]?;
-    assert_eq!(rt; decode(rt.alloc(), &zeros)?.len(), 4095);
-    Ok(())
+    let cases = [
+        ("ragged", read_of_zeros(alloc, 12), Err(Fault::Ragged)),
+        ("empty", read_of_zeros(alloc, 0), Err(Fault::Empty)),
+        (
+            "too long",
+            read_of_zeros(alloc, 8 * 4097),
+            Err(Fault::TooLong),
+        ),
+        ("the most", read_of_zeros(alloc, 8 * 4096), Ok(4096)),
+        ("one less", read_of_zeros(alloc, 8 * 4095), Ok(4095)),
+    ];
+    assert_eq!(rt; wrong_case(&cases), None);
 }
 
 #[test]
@@ -52,55 +56,45 @@ fn inputs_go_both_ways(rt: HostRuntime) {
     bytes[7] = 0xc0;
     bytes[63] = 1;
     let input = input_of_bytes(&bytes);
-    assert_eq!(rt; input.words[0], 0x40000000);
-    assert_eq!(rt; input.words[1], 0xC000003E);
-    assert_eq!(rt; input.words[15], 0x01000000);
+    let cases = [
+        ("the first word", input.words[0], 0x40000000),
+        ("the second word", input.words[1], 0xC000003E),
+        ("the last word", input.words[15], 0x01000000),
+    ];
+    assert_eq!(rt; wrong_case(&cases), None);
     assert!(rt; bytes_of_input(&input) == bytes);
 }
 
 #[test]
 fn operations_wrap_and_shift_modulo_32(rt: HostRuntime) {
     let cases = [
-        (BinOp::Add, 0xffffffff, 2, 1),
-        (BinOp::Sub, 7, 9, 0xfffffffe),
-        (BinOp::Mul, 0x80000000, 2, 0),
-        (BinOp::Div, 0xffffffff, 2, 0x7fffffff),
-        (BinOp::Div, 5, 0, 0),
-        (BinOp::Or, 0x0c, 0x0a, 0x0e),
-        (BinOp::And, 0x0c, 0x0a, 0x08),
-        (BinOp::Xor, 0x0c, 0x0a, 0x06),
-        (BinOp::Lsh, 1, 40, 256),
-        (BinOp::Rsh, 0x80000000, 63, 1),
+        ("add", BinOp::Add.apply(0xffffffff, 2), 1),
+        ("sub", BinOp::Sub.apply(7, 9), 0xfffffffe),
+        ("mul", BinOp::Mul.apply(0x80000000, 2), 0),
+        ("div", BinOp::Div.apply(0xffffffff, 2), 0x7fffffff),
+        ("div by 0", BinOp::Div.apply(5, 0), 0),
+        ("or", BinOp::Or.apply(0x0c, 0x0a), 0x0e),
+        ("and", BinOp::And.apply(0x0c, 0x0a), 0x08),
+        ("xor", BinOp::Xor.apply(0x0c, 0x0a), 0x06),
+        ("lsh", BinOp::Lsh.apply(1, 40), 256),
+        ("rsh", BinOp::Rsh.apply(0x80000000, 63), 1),
     ];
-    for (op, a, b, want) in cases {
-        assert_eq!(rt; op.apply(a, b), want, "{op:?}");
-    }
+    assert_eq!(rt; wrong_case(&cases), None);
 }
 
 #[test]
 fn tests_are_unsigned(rt: HostRuntime) {
     let cases = [
-        (Test::Equal, 5, 5, true),
-        (Test::Greater, 0x80000000, 0x7fffffff, true),
-        (Test::Greater, 5, 5, false),
-        (Test::GreaterOrEqual, 5, 5, true),
-        (Test::AnyBit, 5, 2, false),
-        (Test::AnyBit, 5, 6, true),
+        ("equal", Test::Equal.passes(5, 5), true),
+        (
+            "greater",
+            Test::Greater.passes(0x80000000, 0x7fffffff),
+            true,
+        ),
+        ("not greater than itself", Test::Greater.passes(5, 5), false),
+        ("at least itself", Test::GreaterOrEqual.passes(5, 5), true),
+        ("no bit", Test::AnyBit.passes(5, 2), false),
+        ("any bit", Test::AnyBit.passes(5, 6), true),
     ];
-    for (test, a, b, want) in cases {
-        assert!(rt; test.passes(a, b) == want, "{test:?}");
-    }
-}
-
-#[test]
-fn faults_have_their_numbers(rt: HostRuntime) {
-    let cases = [
-        (Fault::Ragged, 10),
-        (Fault::Empty, 11),
-        (Fault::TooLong, 12),
-        (Fault::Memory, 60),
-    ];
-    for (fault, number) in cases {
-        assert_eq!(rt; fault.number(), number);
-    }
+    assert_eq!(rt; wrong_case(&cases), None);
 }

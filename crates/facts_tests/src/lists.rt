@@ -11,18 +11,23 @@ fn counted(alloc: Global, n: u32) -> Result<SharedList<u32, 4>, AllocError> {
     Ok(list)
 }
 
+/// Whether the list has the number of each place there, up to so many.
+fn counts_up(list: &SharedList<u32, 4>, n: u32) -> bool {
+    for i in 0..n {
+        if i as usize >= list.len() || list.get(i as usize) != i {
+            return false;
+        }
+    }
+    true
+}
+
 /// A fork that grows leaves the list alone, and both have what they had.
 fn forks_at(alloc: Global, n: u32) -> Result<bool, AllocError> {
     let list = counted(alloc, n)?;
     let mut copy = list.fork()?;
     copy.push(7)?;
-    let mut good = list.len() == n as usize && copy.len() == n as usize + 1;
-    for i in 0..n {
-        if (i as usize) < list.len() && (i as usize) < copy.len() {
-            good = good && list.get(i as usize) == i && copy.get(i as usize) == i;
-        }
-    }
-    Ok(good)
+    let lengths = (list.len() as u64, copy.len() as u64);
+    Ok(lengths == (n as u64, n as u64 + 1) && counts_up(&list, n) && counts_up(&copy, n))
 }
 
 #[test]

@@ -1,22 +1,17 @@
 //! Which programs and stacks are lawful.
-use samples::{ALLOW, negating, op, raw, stack_of, unset_scratch};
+use samples::{ALLOW, negating, op, raw, unset_scratch, wrong_case};
 use sf_check::{Fault, Insn, Program, Stack, check};
+use sf_insn::RawInsn;
 use std::alloc::Global;
 use std::test::Fail;
 
-/// So many programs of so many negations, and one more with a number of its own.
-fn programs_of(
-    alloc: Global,
-    count: usize,
-    negations: usize,
-    newest: usize,
-) -> Result<Vec<Program>, Fail> {
-    let mut programs = Vec::new(alloc);
-    for _i in 0..count {
-        programs.push(check(alloc, &negating(alloc, negations)?)?)?;
-    }
-    programs.push(check(alloc, &negating(alloc, newest)?)?)?;
-    Ok(programs)
+fn checked(alloc: Global, raws: &[RawInsn]) -> Result<Program, Fault> {
+    check(alloc, raws)
+}
+
+/// The fault of a program.
+fn fault(alloc: Global, raws: &[RawInsn]) -> Option<Fault> {
+    checked(alloc, raws).err()
 }
 
 #[test]
@@ -38,83 +33,162 @@ fn refuses_single_instructions(rt: HostRuntime) {
         (op(0x15, 0), Fault::Jump(0)),
         (op(0x20, 0), Fault::Last),
     ];
-    for (insn, fault) in cases {
-        assert!(rt; check(rt.alloc(), &[insn]).err() == Some(fault), "{insn:?}");
+    for (insn, wanted) in cases {
+        assert!(rt; fault(rt.alloc(), &[insn]) == Some(wanted), "{insn:?}");
     }
 }
 
 #[test]
-fn refuses_loads_that_a_path_has_not_set(rt: HostRuntime) {
-    assert!(rt; check(rt.alloc(), &unset_scratch()).err() == Some(Fault::Scratch(3)));
-}
-
-#[test]
-fn computes_targets_without_wrapping(rt: HostRuntime) {
-    let far = [op(0x05, 0xffffffff), op(0x06, 0)];
-    assert!(rt; check(rt.alloc(), &far).err() == Some(Fault::Jump(0)));
-}
-
-#[test]
-fn refuses_lengths(rt: HostRuntime) -> Result<(), Fail> {
+fn refuses_loads_that_a_path_has_not_set_and_targets_outside(rt: HostRuntime) {
     let alloc = rt.alloc();
-    let returns = vec![in alloc; op(0x06, 0); 4097]?;
-    assert!(rt; check(alloc, &returns[..0]).err() == Some(Fault::Empty));
-    assert!(rt; check(alloc, &returns).err() == Some(Fault::TooLong));
-    assert_eq!(rt; check(alloc, &returns[..4096])?.insns().len(), 4096);
-    Ok(())
+    let far = [op(0x05, 0xffffffff), op(0x06, 0)];
+    let cases = [
+        (
+            "unset",
+            fault(alloc, &unset_scratch()),
+            Some(Fault::Scratch(3)),
+        ),
+        (
+            "a target doesn't wrap",
+            fault(alloc, &far),
+            Some(Fault::Jump(0)),
+        ),
+    ];
+    assert_eq!(rt; wrong_case(&cases), None);
+}
+
+/// How many instructions a program of so many returns has.
+fn returns(alloc: Global, count: usize) -> Result<usize, Fault> {
+    let raws = vec![in alloc; op(0x06, 0); count]?;
+    Ok(checked(alloc, &raws)?.insns().len())
+}
+
+#[test]
+fn programs_have_1_to_4096_instructions(rt: HostRuntime) {
+    let alloc = rt.alloc();
+    let cases = [
+        ("none", returns(alloc, 0), Err(Fault::Empty)),
+        ("the most", returns(alloc, 4096), Ok(4096)),
+        ("too many", returns(alloc, 4097), Err(Fault::TooLong)),
+    ];
+    assert_eq!(rt; wrong_case(&cases), None);
 }
 
 #[test]
 fn accepts_code_that_no_path_reaches(rt: HostRuntime) -> Result<(), Fail> {
     // ja 1; ld M[0]; ret 0x7fff0000, with a field that a return doesn't use
     let skipped = [op(0x05, 1), op(0x60, 0), raw(0x06, 9, 0, 0x7fff0000)];
-    let program = check(rt.alloc(), &skipped)?;
-    assert!(rt; program.insns()[2] == Insn::ReturnConstant(0x7fff0000));
+    let program = checked(rt.alloc(), &skipped)?;
+    let last = program.insns().last();
+    assert_eq!(rt; last, Some(&Insn::ReturnConstant(0x7fff0000)));
     Ok(())
 }
 
-#[test]
-fn programs_are_the_same_whatever_stands_in_unused_fields(rt: HostRuntime) -> Result<(), Fail> {
-    // ld [0]; ret 0x7fff0000
-    let alloc = rt.alloc();
-    let program = check(alloc, &[op(0x20, 0), ALLOW])?;
-    let spelled_so = check(alloc, &[op(0x20, 0), ALLOW])?;
-    let spelled_otherwise = check(alloc, &[raw(0x20, 3, 4, 0), raw(0x06, 9, 0, 0x7fff0000)])?;
-    let other_word = check(alloc, &[op(0x20, 4), ALLOW])?;
-    let longer = check(alloc, &[op(0x20, 0), op(0x87, 0), ALLOW])?;
-    assert!(rt; program.is_same(&spelled_so));
-    assert!(rt; program.is_same(&spelled_otherwise));
-    assert!(rt; !program.is_same(&other_word));
-    assert!(rt; !program.is_same(&longer));
-    Ok(())
+/// Whether `ld [0]; ret 0x7fff0000` and these instructions are the same program.
+fn is_allowing(alloc: Global, raws: &[RawInsn]) -> Result<bool, Fault> {
+    let allowing = checked(alloc, &[op(0x20, 0), ALLOW])?;
+    Ok(allowing.is_same(&checked(alloc, raws)?))
 }
 
 #[test]
-fn stacks_have_1_to_64_programs(rt: HostRuntime) -> Result<(), Fail> {
+fn programs_are_the_same_whatever_stands_in_unused_fields(rt: HostRuntime) {
     let alloc = rt.alloc();
-    let stack = Stack::of(programs_of(alloc, 63, 0, 0)?)?;
-    assert_eq!(rt; stack.path_length(), 316);
-    assert_eq!(rt; stack.programs().len(), 64);
-    assert!(rt; stack.is_same(&Stack::of(programs_of(alloc, 63, 0, 0)?)?));
-    assert!(rt; !stack.is_same(&Stack::of(programs_of(alloc, 62, 0, 0)?)?));
-    assert!(rt; !stack.is_same(&Stack::of(programs_of(alloc, 63, 0, 1)?)?));
-    assert!(rt; Stack::of(programs_of(alloc, 64, 0, 0)?).err() == Some(Fault::TooMany));
+    let otherwise = [raw(0x20, 3, 4, 0), raw(0x06, 9, 0, 0x7fff0000)];
+    let longer = [op(0x20, 0), op(0x87, 0), ALLOW];
+    let cases = [
+        (
+            "spelled so",
+            is_allowing(alloc, &[op(0x20, 0), ALLOW]),
+            Ok(true),
+        ),
+        (
+            "spelled otherwise",
+            is_allowing(alloc, &otherwise),
+            Ok(true),
+        ),
+        (
+            "of another word",
+            is_allowing(alloc, &[op(0x20, 4), ALLOW]),
+            Ok(false),
+        ),
+        ("longer", is_allowing(alloc, &longer), Ok(false)),
+    ];
+    assert_eq!(rt; wrong_case(&cases), None);
+}
+
+/// A stack of so many programs of so many negations, and one more with a number of its own.
+fn stack_with(
+    alloc: Global,
+    count: usize,
+    negations: usize,
+    newest: usize,
+) -> Result<Stack, Fault> {
+    let mut programs = Vec::new(alloc);
+    for _i in 0..count {
+        programs.push(checked(alloc, &negating(alloc, negations)?)?)?;
+    }
+    programs.push(checked(alloc, &negating(alloc, newest)?)?)?;
+    Stack::of(programs)
+}
+
+/// The path length and how many programs there are.
+fn sizes(
+    alloc: Global,
+    count: usize,
+    negations: usize,
+    newest: usize,
+) -> Result<(usize, usize), Fault> {
+    let stack = stack_with(alloc, count, negations, newest)?;
+    Ok((stack.path_length(), stack.programs().len()))
+}
+
+#[test]
+fn stacks_have_1_to_64_programs_and_paths_of_at_most_32768(rt: HostRuntime) {
+    let alloc = rt.alloc();
+    let cases = [
+        ("64 programs", sizes(alloc, 63, 0, 0), Ok((316, 64))),
+        ("65 programs", sizes(alloc, 64, 0, 0), Err(Fault::TooMany)),
+        (
+            "the longest path",
+            sizes(alloc, 7, 4095, 4067),
+            Ok((32768, 8)),
+        ),
+        (
+            "a longer path",
+            sizes(alloc, 7, 4095, 4068),
+            Err(Fault::PathLength),
+        ),
+    ];
+    assert_eq!(rt; wrong_case(&cases), None);
     assert!(rt; Stack::of(Vec::new(alloc)).err() == Some(Fault::NoFilter));
-    Ok(())
+}
+
+/// Whether 64 programs `ret 0x7fff0000`, and so many, the last with so many negations, are the same stack.
+fn is_64_returns(alloc: Global, count: usize, newest: usize) -> Result<bool, Fault> {
+    let returns = stack_with(alloc, 63, 0, 0)?;
+    Ok(returns.is_same(&stack_with(alloc, count, 0, newest)?))
 }
 
 #[test]
-fn paths_have_at_most_32768_instructions(rt: HostRuntime) -> Result<(), Fail> {
+fn stacks_are_the_same_where_all_their_programs_are(rt: HostRuntime) {
     let alloc = rt.alloc();
-    let longest = Stack::of(programs_of(alloc, 7, 4095, 4067)?)?;
-    assert_eq!(rt; longest.path_length(), 32768);
-    assert!(rt; Stack::of(programs_of(alloc, 7, 4095, 4068)?).err() == Some(Fault::PathLength));
-    Ok(())
+    let cases = [
+        ("the same", is_64_returns(alloc, 63, 0), Ok(true)),
+        ("one less", is_64_returns(alloc, 62, 0), Ok(false)),
+        ("another last one", is_64_returns(alloc, 63, 1), Ok(false)),
+    ];
+    assert_eq!(rt; wrong_case(&cases), None);
+}
+
+/// Whether the stack of this instruction and a return is plain.
+fn is_plain(alloc: Global, insn: RawInsn) -> Result<bool, Fault> {
+    let mut programs = Vec::new(alloc);
+    programs.push(checked(alloc, &[insn, op(0x06, 0)])?)?;
+    Ok(Stack::of(programs)?.is_plain())
 }
 
 #[test]
-fn plain_programs_compare_words_or_ask_for_one_bit(rt: HostRuntime) -> Result<(), Fail> {
-    let ret = op(0x06, 0);
+fn plain_programs_compare_words_or_ask_for_one_bit(rt: HostRuntime) {
     let cases = [
         (op(0x20, 0), true),
         (op(0x05, 0), true),
@@ -129,31 +203,7 @@ fn plain_programs_compare_words_or_ask_for_one_bit(rt: HostRuntime) -> Result<()
         (op(0x54, 1), false),
         (op(0x07, 0), false),
     ];
-    for (insn, want) in cases {
-        assert!(rt;
-            stack_of(rt.alloc(), &[&[insn, ret]])?.is_plain() == want,
-            "{insn:?}"
-        );
-    }
-    Ok(())
-}
-
-#[test]
-fn faults_have_their_numbers(rt: HostRuntime) {
-    let cases = [
-        (Fault::Empty, 11),
-        (Fault::TooLong, 12),
-        (Fault::Code(3), 20),
-        (Fault::Field(3), 21),
-        (Fault::Jump(3), 22),
-        (Fault::Last, 23),
-        (Fault::Scratch(3), 24),
-        (Fault::NoFilter, 25),
-        (Fault::TooMany, 26),
-        (Fault::PathLength, 27),
-        (Fault::Memory, 60),
-    ];
-    for (fault, number) in cases {
-        assert_eq!(rt; fault.number(), number);
+    for (insn, wanted) in cases {
+        assert!(rt; is_plain(rt.alloc(), insn) == Ok(wanted), "{insn:?}");
     }
 }

@@ -1,101 +1,135 @@
 //! What a program returns, and what a stack meets and answers.
-use samples::{eight_divided, execve_refused, op, shifted, stack_of, telling_apart};
-use sf_check::check;
+use samples::{eight_divided, execve_refused, op, shifted, stack_of, telling_apart, wrong_case};
+use sf_check::{Program, Stack, check};
 use sf_insn::{Input, RawInsn};
-use sf_run::{Action, Answer, Fault, answer, fold, run, trace, walk};
+use sf_run::{Action, Answer, answer, fold, run, trace, walk};
 use std::alloc::Global;
 use std::test::Fail;
 
-/// The value that the program returns where word 4 of the input is this and the others are 0.
-fn value(alloc: Global, raws: &[RawInsn], word: u32) -> Result<u32, Fail> {
-    let mut words = [0; 16];
-    words[4] = word;
-    Ok(run(&check(alloc, raws)?, &Input { words }))
-}
-
-/// The answer of a stack of programs `ret older`, `ret newer` to the input of zeros.
-fn pair(alloc: Global, older: u32, newer: u32) -> Result<Answer, Fail> {
-    let stack = stack_of(alloc, &[&[op(0x06, older)], &[op(0x06, newer)]])?;
-    Ok(answer(&stack, &Input { words: [0; 16] }))
-}
-
-#[test]
-fn arithmetic_is_modulo_2_to_the_32(rt: HostRuntime) -> Result<(), Fail> {
-    // ld #a; op #b; ret a
-    let cases = [
-        (7, 0x14, 9, 0xfffffffe),
-        (0x80000000, 0x24, 2, 0),
-        (17, 0x34, 5, 3),
-        (1, 0x84, 0, 0xffffffff),
-        (0xffffffff, 0x04, 1, 0),
-        (0x0c, 0xa4, 0x0a, 0x06),
-        (0x80000000, 0x74, 31, 1),
-    ];
-    for (a, code, b, want) in cases {
-        let program = [op(0x00, a), op(code, b), op(0x16, 0)];
-        assert_eq!(rt; value(rt.alloc(), &program, 0)?, want, "{code:x}");
+/// The input with these words at the places 0, 1 and 4, and else zeros.
+fn input_of(nr: u32, arch: u32, argument: u32) -> Input {
+    Input {
+        words: [nr, arch, 0, 0, argument, 0, 0, 0, 0, 0, 0, 0, 0, 0, 0, 0],
     }
-    Ok(())
+}
+
+const ZEROS: Input = Input { words: [0; 16] };
+
+fn program_of(alloc: Global, raws: &[RawInsn]) -> Option<Program> {
+    check(alloc, raws).ok()
+}
+
+/// The value that the program returns where word 4 of the input is this and the others are 0.
+fn value(alloc: Global, raws: &[RawInsn], argument: u32) -> Option<u32> {
+    Some(run(&program_of(alloc, raws)?, &input_of(0, 0, argument)))
+}
+
+/// The value that `ld #a; op #b; ret a` returns.
+fn computed(alloc: Global, a: u32, code: u16, b: u32) -> Option<u32> {
+    value(alloc, &[op(0x00, a), op(code, b), op(0x16, 0)], 0)
 }
 
 #[test]
-fn words_move_between_a_x_and_scratch(rt: HostRuntime) -> Result<(), Fail> {
+fn arithmetic_is_modulo_2_to_the_32(rt: HostRuntime) {
+    let alloc = rt.alloc();
+    let cases = [
+        ("sub", computed(alloc, 7, 0x14, 9), Some(0xfffffffe)),
+        ("mul", computed(alloc, 0x80000000, 0x24, 2), Some(0)),
+        ("div", computed(alloc, 17, 0x34, 5), Some(3)),
+        ("neg", computed(alloc, 1, 0x84, 0), Some(0xffffffff)),
+        ("add", computed(alloc, 0xffffffff, 0x04, 1), Some(0)),
+        ("xor", computed(alloc, 0x0c, 0xa4, 0x0a), Some(0x06)),
+        ("rsh", computed(alloc, 0x80000000, 0x74, 31), Some(1)),
+    ];
+    assert_eq!(rt; wrong_case(&cases), None);
+}
+
+#[test]
+fn words_move_between_a_x_and_scratch(rt: HostRuntime) {
     // ld len; tax; txa; ret a
     let length = [op(0x80, 0), op(0x07, 0), op(0x87, 0), op(0x16, 0)];
-    assert_eq!(rt; value(rt.alloc(), &length, 0)?, 64);
     // ldx #5; stx M[15]; ld M[15]; ret a
     let kept = [op(0x01, 5), op(0x03, 15), op(0x60, 15), op(0x16, 0)];
-    assert_eq!(rt; value(rt.alloc(), &kept, 0)?, 5);
-    Ok(())
+    let cases = [
+        ("the length", value(rt.alloc(), &length, 0), Some(64)),
+        ("a scratch word", value(rt.alloc(), &kept, 0), Some(5)),
+    ];
+    assert_eq!(rt; wrong_case(&cases), None);
 }
 
-#[test]
-fn a_division_by_an_x_of_0_returns_0(rt: HostRuntime) -> Result<(), Fail> {
-    let divided = eight_divided();
-    assert_eq!(rt; value(rt.alloc(), &divided, 0)?, 0);
-    assert_eq!(rt; value(rt.alloc(), &divided, 2)?, 4);
-    let stack = stack_of(rt.alloc(), &[&divided])?;
-    let met = trace(rt.alloc(), &stack, &Input { words: [0; 16] })?;
-    assert!(rt; met.as_slice() == [true].as_slice());
-    Ok(())
+/// What a stack meets on an input.
+fn met(alloc: Global, stack: &Stack, input: &Input) -> Option<Vec<bool>> {
+    trace(alloc, stack, input).ok()
 }
 
-#[test]
-fn a_shift_by_x_is_modulo_32(rt: HostRuntime) -> Result<(), Fail> {
-    assert_eq!(rt; value(rt.alloc(), &shifted(), 0)?, 256);
-    let stack = stack_of(rt.alloc(), &[&shifted()])?;
-    let met = trace(rt.alloc(), &stack, &Input { words: [0; 16] })?;
-    assert_eq!(rt; met.len(), 32);
-    for (i, bit) in met.iter().enumerate() {
-        assert!(rt; *bit == (i == 23), "{i}");
+/// How many truth values there are, and the last 64 of them as a number, whose lowest bit is the last one.
+fn as_number(met: &[bool]) -> (usize, u64) {
+    let mut number = 0u64;
+    for entry in met {
+        number = number.wrapping_mul(2) | u64::from(*entry);
     }
-    Ok(())
+    (met.len(), number)
+}
+
+/// What the stack of one program meets on an input, as a number.
+fn met_of(alloc: Global, raws: &[RawInsn], input: &Input) -> Option<(usize, u64)> {
+    let stack = stack_of(alloc, &[raws]).ok()?;
+    Some(as_number(&met(alloc, &stack, input)?))
+}
+
+#[test]
+fn a_division_by_an_x_of_0_returns_0(rt: HostRuntime) {
+    let (alloc, divided) = (rt.alloc(), eight_divided());
+    let cases = [
+        ("by 0", value(alloc, &divided, 0), Some(0)),
+        ("by 2", value(alloc, &divided, 2), Some(4)),
+    ];
+    assert_eq!(rt; wrong_case(&cases), None);
+    assert_eq!(rt; met_of(alloc, &divided, &ZEROS), Some((1, 1)));
+}
+
+/// The bits of a returned A are met from the highest one on.
+#[test]
+fn a_shift_by_x_is_modulo_32(rt: HostRuntime) {
+    assert_eq!(rt; value(rt.alloc(), &shifted(), 0), Some(256));
+    assert_eq!(rt; met_of(rt.alloc(), &shifted(), &ZEROS), Some((32, 1 << 8)));
+}
+
+/// The answer of a stack.
+fn answered(stack: &Stack, input: &Input) -> Answer {
+    answer(stack, input)
 }
 
 #[test]
 fn a_trace_has_each_test_in_order(rt: HostRuntime) -> Result<(), Fail> {
-    let stack = stack_of(rt.alloc(), &[&execve_refused()])?;
-    let cases = [
-        (59, 0x40000003, [false].as_slice(), Action::KillProcess, 0),
-        (0, 0xC000003E, [true, false].as_slice(), Action::Allow, 0),
-        (59, 0xC000003E, [true, true].as_slice(), Action::Errno, 1),
+    let (alloc, refused) = (rt.alloc(), execve_refused());
+    let stack = stack_of(alloc, &[&refused])?;
+    let inputs = [
+        input_of(59, 0x40000003, 0),
+        input_of(0, 0xC000003E, 0),
+        input_of(59, 0xC000003E, 0),
     ];
-    for (nr, arch, want, action, info) in cases {
-        let mut words = [0; 16];
-        words[0] = nr;
-        words[1] = arch;
-        let input = Input { words };
-        assert!(rt;
-            trace(rt.alloc(), &stack, &input)?.as_slice() == want,
-            "{nr}"
-        );
-        assert!(rt; answer(&stack, &input) == Answer { action, info }, "{nr}");
+    let wanted = [
+        ((1, 0), Action::KillProcess, 0),
+        ((2, 2), Action::Allow, 0),
+        ((2, 3), Action::Errno, 1),
+    ];
+    for (input, (number, action, info)) in inputs.iter().zip(wanted.iter()) {
+        assert!(rt; met_of(alloc, &refused, input) == Some(*number));
+        let (action, info) = (*action, *info);
+        assert!(rt; answered(&stack, input) == Answer { action, info });
     }
     Ok(())
 }
 
+/// The answer of a stack of programs `ret older`, `ret newer` to the input of zeros.
+fn pair(alloc: Global, older: u32, newer: u32) -> Option<Answer> {
+    let stack = stack_of(alloc, &[&[op(0x06, older)], &[op(0x06, newer)]]).ok()?;
+    Some(answered(&stack, &ZEROS))
+}
+
 #[test]
-fn the_lowest_action_wins(rt: HostRuntime) -> Result<(), Fail> {
+fn the_lowest_action_wins(rt: HostRuntime) {
     let cases = [
         (0x00050001, 0x00050002, Action::Errno, 2),
         (0, 0x80000000, Action::KillProcess, 0),
@@ -106,10 +140,11 @@ fn the_lowest_action_wins(rt: HostRuntime) -> Result<(), Fail> {
         (0x7ffc0001, 0x7ff00002, Action::Trace, 2),
     ];
     for (older, newer, action, info) in cases {
-        let answer = pair(rt.alloc(), older, newer)?;
-        assert!(rt; answer == Answer { action, info }, "{older:x} {newer:x}");
+        assert!(rt;
+            pair(rt.alloc(), older, newer) == Some(Answer { action, info }),
+            "{older:x} {newer:x}"
+        );
     }
-    Ok(())
 }
 
 #[test]
@@ -118,13 +153,16 @@ fn a_fold_keeps_the_answer_at_a_tie(rt: HostRuntime) {
         action: Action::Trap,
         info: 3,
     };
-    assert!(rt; fold(so_far, 0x00030007) == so_far);
-    assert!(rt; fold(so_far, 0x00050007) == so_far);
     let killed = Answer {
         action: Action::KillThread,
         info: 7,
     };
-    assert!(rt; fold(so_far, 7) == killed);
+    let cases = [
+        ("a tie", fold(so_far, 0x00030007), so_far),
+        ("a higher action", fold(so_far, 0x00050007), so_far),
+        ("a lower action", fold(so_far, 7), killed),
+    ];
+    assert_eq!(rt; wrong_case(&cases), None);
 }
 
 #[test]
@@ -141,35 +179,46 @@ fn actions_and_numbers_agree(rt: HostRuntime) {
         (Action::Other(0x00010000), 0x00010000),
     ];
     for (action, number) in cases {
-        assert_eq!(rt; action.number(), number);
-        assert!(rt; Action::named(number) == action);
+        assert!(rt;
+            action.number() == number && Action::named(number) == action,
+            "{number:x}"
+        );
     }
-    assert_eq!(rt; Fault::Memory.number(), 60);
+}
+
+/// How many tests the program meets on the number 4000, and where it returns.
+fn course_of(alloc: Global, raws: &[RawInsn]) -> Option<(usize, usize)> {
+    let course = walk(alloc, &program_of(alloc, raws)?, &input_of(4000, 0, 0)).ok()?;
+    Some((course.met.len(), course.place))
 }
 
 #[test]
 fn the_longest_program_meets_each_of_its_tests(rt: HostRuntime) -> Result<(), Fail> {
-    let alloc = rt.alloc();
-    let raws = telling_apart(alloc, 4094)?;
-    let mut words = [0; 16];
-    words[0] = 4000;
-    let course = walk(alloc, &check(alloc, &raws)?, &Input { words })?;
-    assert_eq!(rt; course.met.len(), 4094);
-    assert_eq!(rt; course.place, 4095);
+    let raws = telling_apart(rt.alloc(), 4094)?;
+    assert_eq!(rt; course_of(rt.alloc(), &raws), Some((4094, 4095)));
     Ok(())
+}
+
+/// What so many programs like this one meet, one after the other, on the number 4000.
+fn met_by_several(alloc: Global, raws: &[RawInsn]) -> Option<Vec<bool>> {
+    let stack = stack_of(alloc, &[raws; 7]).ok()?;
+    met(alloc, &stack, &input_of(4000, 0, 0))
 }
 
 /// As many of the longest programs as a path has room for.
 #[test]
 fn a_trace_has_the_tests_of_seven_of_the_longest_programs(rt: HostRuntime) -> Result<(), Fail> {
-    let alloc = rt.alloc();
-    let raws = telling_apart(alloc, 4094)?;
-    let stack = stack_of(alloc, &[raws.as_slice(); 7])?;
-    let mut words = [0; 16];
-    words[0] = 4000;
-    let met = trace(alloc, &stack, &Input { words })?;
+    let raws = telling_apart(rt.alloc(), 4094)?;
+    let met = met_by_several(rt.alloc(), &raws).ok_or("no trace")?;
     assert_eq!(rt; met.len(), 28658);
-    assert!(rt; met[4000] && !met[3999] && !met[4093]);
-    assert!(rt; met[28564] && !met[28563] && !met[28657]);
+    let cases = [
+        ("the number's test", met.get(4000), Some(&true)),
+        ("the one before it", met.get(3999), Some(&false)),
+        ("the first program's last", met.get(4093), Some(&false)),
+        ("the number's last test", met.get(28564), Some(&true)),
+        ("the one before that", met.get(28563), Some(&false)),
+        ("the last test of all", met.get(28657), Some(&false)),
+    ];
+    assert_eq!(rt; wrong_case(&cases), None);
     Ok(())
 }

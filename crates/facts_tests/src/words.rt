@@ -1,156 +1,214 @@
 //! Pools of symbolic words.
+
+ghost use Rattle.std.specs.Prelude.{IsTrue};
+ghost use Rattle.sf_sym.specs.Pool.{OperandsBelow};
+
+use samples::wrong_case;
 use sf_insn::{BinOp, Input, Test};
-use sf_sym::{Cond, Fault, Node, NodeId, Pool, constant_of};
+use sf_sym::{Cond, Node, NodeId, Pool, constant_of};
 use std::alloc::Global;
-use std::test::Fail;
 
 const FIRST: NodeId = NodeId(0);
 
 const SECOND: NodeId = NodeId(1);
 
-/// The constant that an operation on two numbers becomes.
-fn folds_to(alloc: Global, op: BinOp, a: u32, b: u32) -> Result<Option<u32>, Fail> {
-    let mut pool = Pool::new(alloc)?;
-    let left = pool.push(Node::Const(a))?;
-    let right = pool.push(Node::Const(b))?;
-    let id = pool.push(Node::Bin(op, left, right))?;
-    Ok(constant_of(pool.node(id)))
-}
+const SUM: Node = Node::Bin(BinOp::Add, FIRST, SECOND);
 
-#[test]
-fn an_operation_on_constants_is_the_constant_of_its_value(rt: HostRuntime) -> Result<(), Fail> {
-    for (op, a, b, want) in [
-        (BinOp::Add, 1, 2, 3),
-        (BinOp::Sub, 1, 2, u32::MAX),
-        (BinOp::Div, 7, 0, 0),
-        (BinOp::Div, 7, 2, 3),
-        (BinOp::Lsh, 1, 40, 0x100),
-        (BinOp::Rsh, 0x100, 40, 1),
-    ] {
-        assert_eq!(rt; folds_to(rt.alloc(), op, a, b)?, Some(want));
+/// Whether the operands of a node are among so many nodes.
+fn is_lawful(count: usize, node: Node) -> bool
+    ensures { IsTrue result → OperandsBelow count node }
+{
+    match node {
+        Node::Const(_) => true,
+        Node::Word(i) => i < 16,
+        Node::Bin(_, a, b) => (a.0 as usize) < count && (b.0 as usize) < count,
+        Node::Neg(a) => (a.0 as usize) < count,
     }
-    Ok(())
+}
+
+/// Where the node stands, if its operands are there.
+pub fn push(pool: &mut Pool, node: Node) -> Option<NodeId> {
+    if is_lawful(pool.len(), node) {
+        pool.push(node).ok()
+    } else {
+        None
+    }
+}
+
+pub fn new_pool(alloc: Global) -> Option<Pool> {
+    Pool::new(alloc).ok()
+}
+
+/// The number of a node that is a constant.
+fn constant_at(pool: &Pool, id: NodeId) -> Option<u32> {
+    if (id.0 as usize) < pool.len() {
+        constant_of(pool.node(id))
+    } else {
+        None
+    }
+}
+
+/// The constant that an operation on two numbers becomes.
+fn folded(alloc: Global, op: BinOp, a: u32, b: u32) -> Option<u32> {
+    let mut pool = new_pool(alloc)?;
+    let left = push(&mut pool, Node::Const(a))?;
+    let right = push(&mut pool, Node::Const(b))?;
+    let id = push(&mut pool, Node::Bin(op, left, right))?;
+    constant_at(&pool, id)
+}
+
+/// The constant that minus a number becomes.
+fn negated(alloc: Global, number: u32) -> Option<u32> {
+    let mut pool = new_pool(alloc)?;
+    let id = push(&mut pool, Node::Const(number))?;
+    let minus = push(&mut pool, Node::Neg(id))?;
+    constant_at(&pool, minus)
 }
 
 #[test]
-fn minus_a_constant_is_a_constant(rt: HostRuntime) -> Result<(), Fail> {
-    let mut pool = Pool::new(rt.alloc())?;
-    let one = pool.push(Node::Const(1))?;
-    let minus = pool.push(Node::Neg(one))?;
-    assert_eq!(rt; constant_of(pool.node(minus)), Some(u32::MAX));
-    Ok(())
+fn an_operation_on_constants_is_the_constant_of_its_value(rt: HostRuntime) {
+    let alloc = rt.alloc();
+    let cases = [
+        ("add", folded(alloc, BinOp::Add, 1, 2), Some(3)),
+        ("sub", folded(alloc, BinOp::Sub, 1, 2), Some(u32::MAX)),
+        ("div by 0", folded(alloc, BinOp::Div, 7, 0), Some(0)),
+        ("div", folded(alloc, BinOp::Div, 7, 2), Some(3)),
+        ("lsh", folded(alloc, BinOp::Lsh, 1, 40), Some(0x100)),
+        ("rsh", folded(alloc, BinOp::Rsh, 0x100, 40), Some(1)),
+        ("neg", negated(alloc, 1), Some(u32::MAX)),
+    ];
+    assert_eq!(rt; wrong_case(&cases), None);
+}
+
+/// The nodes that two sums and then the sum the other way round become, and how many nodes there are then.
+fn three_sums(alloc: Global) -> Option<([NodeId; 3], usize)> {
+    let mut pool = new_pool(alloc)?;
+    let sum = push(&mut pool, SUM)?;
+    let again = push(&mut pool, SUM)?;
+    let other = push(&mut pool, Node::Bin(BinOp::Add, SECOND, FIRST))?;
+    Some(([sum, again, other], pool.len()))
 }
 
 #[test]
-fn an_equal_node_is_answered_again(rt: HostRuntime) -> Result<(), Fail> {
-    let mut pool = Pool::new(rt.alloc())?;
-    let sum = pool.push(Node::Bin(BinOp::Add, FIRST, SECOND))?;
-    let again = pool.push(Node::Bin(BinOp::Add, FIRST, SECOND))?;
-    let other = pool.push(Node::Bin(BinOp::Add, SECOND, FIRST))?;
-    assert_eq!(rt; sum, again);
-    assert!(rt; sum != other);
-    assert_eq!(rt; pool.len(), 18);
-    Ok(())
+fn an_equal_node_is_answered_again(rt: HostRuntime) {
+    let wanted = [NodeId(16), NodeId(16), NodeId(17)];
+    assert_eq!(rt; three_sums(rt.alloc()), Some((wanted, 18)));
 }
 
 /// Pushes the constants below a number.
-fn push_constants(pool: &mut Pool, count: u32) -> Result<(), Fault> {
+fn push_constants(pool: &mut Pool, count: u32) -> Option<()> {
     for i in 0..count {
-        pool.push(Node::Const(i))?;
+        push(pool, Node::Const(i))?;
     }
-    Ok(())
+    Some(())
+}
+
+/// How many nodes there are once the constants below a number are pushed twice.
+fn pushed_twice(alloc: Global, count: u32) -> Option<usize> {
+    let mut pool = new_pool(alloc)?;
+    push_constants(&mut pool, count)?;
+    push_constants(&mut pool, count)?;
+    Some(pool.len())
 }
 
 #[test]
-fn constants_are_found_among_many(rt: HostRuntime) -> Result<(), Fail> {
-    let mut pool = Pool::new(rt.alloc())?;
-    push_constants(&mut pool, 600)?;
-    push_constants(&mut pool, 600)?;
-    assert_eq!(rt; pool.len(), 616);
-    Ok(())
+fn constants_are_found_among_many(rt: HostRuntime) {
+    assert_eq!(rt; pushed_twice(rt.alloc(), 600), Some(616));
+}
+
+fn fork(pool: &Pool) -> Option<Pool> {
+    pool.fork().ok()
+}
+
+/// Of a pool with the constants below a number: where a further one stands in a fork, and how many nodes the pool has then.
+fn grown_fork(alloc: Global, count: u32, further: u32) -> Option<(NodeId, usize)> {
+    let mut pool = new_pool(alloc)?;
+    push_constants(&mut pool, count)?;
+    let mut copy = fork(&pool)?;
+    let id = push(&mut copy, Node::Const(further))?;
+    Some((id, pool.len()))
 }
 
 #[test]
-fn a_fork_grows_alone(rt: HostRuntime) -> Result<(), Fail> {
-    let mut pool = Pool::new(rt.alloc())?;
-    push_constants(&mut pool, 100)?;
-    let mut copy = pool.fork()?;
-    let id = copy.push(Node::Const(1000))?;
-    assert_eq!(rt; id, NodeId(116));
-    assert_eq!(rt; pool.len(), 116);
-    Ok(())
-}
-
-#[test]
-fn a_long_pool_grows_and_is_forked(rt: HostRuntime) -> Result<(), Fail> {
-    let mut pool = Pool::new(rt.alloc())?;
-    push_constants(&mut pool, 5000)?;
-    let mut copy = pool.fork()?;
-    let id = copy.push(Node::Const(9000))?;
-    assert_eq!(rt; id, NodeId(5016));
-    assert_eq!(rt; pool.len(), 5016);
-    Ok(())
+fn a_fork_grows_alone(rt: HostRuntime) {
+    let alloc = rt.alloc();
+    let cases = [
+        (
+            "short",
+            grown_fork(alloc, 100, 1000),
+            Some((NodeId(116), 116)),
+        ),
+        (
+            "long",
+            grown_fork(alloc, 5000, 9000),
+            Some((NodeId(5016), 5016)),
+        ),
+    ];
+    assert_eq!(rt; wrong_case(&cases), None);
 }
 
 /// Words 100, 7 and then zeros.
-fn input() -> Input {
-    let mut words = [0; 16];
-    words[0] = 100;
-    words[1] = 7;
-    Input { words }
-}
-
-#[test]
-fn nodes_have_values_on_an_input(rt: HostRuntime) -> Result<(), Fail> {
-    for (node, want) in [
-        (Node::Word(1), 7),
-        (Node::Const(5), 5),
-        (Node::Bin(BinOp::Div, FIRST, SECOND), 14),
-        (Node::Bin(BinOp::Div, FIRST, NodeId(2)), 0),
-        (Node::Neg(SECOND), u32::MAX - 6),
-    ] {
-        assert_eq!(rt; value_on_input(rt.alloc(), node)?, Some(want));
-    }
-    Ok(())
-}
+const INPUT: Input = Input {
+    words: [100, 7, 0, 0, 0, 0, 0, 0, 0, 0, 0, 0, 0, 0, 0, 0],
+};
 
 /// The value of a node on the words 100, 7 and then zeros, if its operands are words.
-fn value_on_input(alloc: Global, node: Node) -> Result<Option<u32>, Fail> {
-    let mut pool = Pool::new(alloc)?;
-    let lawful = match node {
-        Node::Const(_) => true,
-        Node::Word(i) => i < 16,
-        Node::Bin(_, a, b) => a.0 < 16 && b.0 < 16,
-        Node::Neg(a) => a.0 < 16,
+fn value_on_input(alloc: Global, node: Node) -> Option<u32> {
+    let mut pool = new_pool(alloc)?;
+    let id = push(&mut pool, node)?;
+    value_at(alloc, &pool, id)
+}
+
+fn value_at(alloc: Global, pool: &Pool, id: NodeId) -> Option<u32> {
+    if (id.0 as usize) < pool.len() {
+        pool.value(alloc, id, &INPUT).ok()
+    } else {
+        None
+    }
+}
+
+#[test]
+fn nodes_have_values_on_an_input(rt: HostRuntime) {
+    let alloc = rt.alloc();
+    let by_third = Node::Bin(BinOp::Div, FIRST, NodeId(2));
+    let quotient = Node::Bin(BinOp::Div, FIRST, SECOND);
+    let cases = [
+        ("a word", value_on_input(alloc, Node::Word(1)), Some(7)),
+        ("a constant", value_on_input(alloc, Node::Const(5)), Some(5)),
+        ("a quotient", value_on_input(alloc, quotient), Some(14)),
+        ("a quotient by 0", value_on_input(alloc, by_third), Some(0)),
+        (
+            "minus 7",
+            value_on_input(alloc, Node::Neg(SECOND)),
+            Some(u32::MAX - 6),
+        ),
+    ];
+    assert_eq!(rt; wrong_case(&cases), None);
+}
+
+/// Whether the test of 100 against 7 has this sense.
+fn holds(alloc: Global, test: Test, sense: bool) -> Option<bool> {
+    let pool = new_pool(alloc)?;
+    if pool.len() < 2 {
+        return None;
+    }
+    let cond = Cond {
+        node: FIRST,
+        test,
+        other: SECOND,
+        sense,
     };
-    if !lawful {
-        return Ok(None);
-    }
-    let id = pool.push(node)?;
-    Ok(Some(pool.value(alloc, id, &input())?))
+    pool.holds(alloc, &cond, &INPUT).ok()
 }
 
 #[test]
-fn a_condition_is_met_where_its_test_has_its_sense(rt: HostRuntime) -> Result<(), Fail> {
-    let pool = Pool::new(rt.alloc())?;
-    for (test, sense, want) in [
-        (Test::Greater, true, true),
-        (Test::Greater, false, false),
-        (Test::Equal, false, true),
-        (Test::AnyBit, true, true),
-    ] {
-        let cond = Cond {
-            node: FIRST,
-            test,
-            other: SECOND,
-            sense,
-        };
-        assert_eq!(rt; pool.holds(rt.alloc(), &cond, &input())?, want);
-    }
-    Ok(())
-}
-
-#[test]
-fn memory_has_a_number(rt: HostRuntime) {
-    assert_eq!(rt; Fault::Memory.number(), 60);
+fn a_condition_is_met_where_its_test_has_its_sense(rt: HostRuntime) {
+    let alloc = rt.alloc();
+    let cases = [
+        ("above", holds(alloc, Test::Greater, true), Some(true)),
+        ("not above", holds(alloc, Test::Greater, false), Some(false)),
+        ("another", holds(alloc, Test::Equal, false), Some(true)),
+        ("a common bit", holds(alloc, Test::AnyBit, true), Some(true)),
+    ];
+    assert_eq!(rt; wrong_case(&cases), None);
 }

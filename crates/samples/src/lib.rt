@@ -1,12 +1,14 @@
-//! Filters, stacks and looks at texts that the tests of several crates share.
+//! Filters, stacks, and looks at texts and cases, that the tests of several crates share.
 #![tactic(auto)]
 
+mod cases;
 mod filters;
 mod insns;
 mod lengths;
 mod stacks;
 mod texts;
 
+pub use cases::wrong_case;
 pub use filters::{
     any_bit, echo, eight_divided, emptied_late, execve_refused, four_tests, low_bits, nested,
     shifted, unset_scratch, x32_refused,
