@@ -6,8 +6,6 @@ mod alone;
 #[cfg(test)]
 mod board;
 #[cfg(test)]
-mod changes;
-#[cfg(test)]
 mod kit;
 #[cfg(test)]
 mod shared;

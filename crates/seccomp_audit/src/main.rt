@@ -1,7 +1,7 @@
 //! Audits a stack of seccomp filters: hands the system's files and streams to the command line.
 #![tactic(auto)]
 
-use sf_audit::{Fault, Outcome};
+use sf_audit::Fault;
 use sf_command::{Files, MOST_BYTES, command, tell_fault};
 use std::env::{Env, FillError};
 use std::fmt::InlineText;
@@ -55,8 +55,8 @@ impl<R: FileSystem + AllocGlobal> Files for Disk<'_, R> {
     }
 
     /// The process ends next, and gives all memory back at once: piece by piece it would take a sixteenth of an audit.
-    fn take_over(&self, outcome: Outcome) {
-        mem::forget(outcome);
+    fn take_over<T: Drop>(&self, found: T) {
+        mem::forget(found);
     }
 }
 

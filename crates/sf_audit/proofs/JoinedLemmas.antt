@@ -9,16 +9,27 @@ pub added_two : (before middle after a b : List ℕ) → middle ≡ before ++ a 
     → after ≡ before ++ (a ++ b)
 added_two before middle after a b p q = q ∙ ap (λ l. l ++ b) p ∙ append_assoc before a b
 
+-- the same where nothing stood before
+pub made_of_two : (before middle after a b : List ℕ) → before ≡ [] → middle ≡ before ++ a → after ≡ middle ++ b
+    → after ≡ a ++ b
+made_of_two before middle after a b none p q =
+    added_two before middle after a b p q ∙ ap (λ l. l ++ (a ++ b)) none
+
 pub added_three : (before first second after a b c : List ℕ) → first ≡ before ++ a → second ≡ first ++ b
     → after ≡ second ++ c → after ≡ before ++ (a ++ (b ++ c))
 added_three before first second after a b c p q r =
     added_two before first after a (b ++ c) p (added_two first second after b c q r)
 
-pub added_four : (before first second third after a b c d : List ℕ) → before ≡ [] → first ≡ before ++ a
-    → second ≡ first ++ b → third ≡ second ++ c → after ≡ third ++ d → after ≡ a ++ (b ++ (c ++ d))
-added_four before first second third after a b c d none p q r s =
+pub added_four : (before first second third after a b c d : List ℕ) → first ≡ before ++ a → second ≡ first ++ b
+    → third ≡ second ++ c → after ≡ third ++ d → after ≡ before ++ (a ++ (b ++ (c ++ d)))
+added_four before first second third after a b c d p q r s =
     added_two before first after a (b ++ (c ++ d)) p (added_three first second third after b c d q r s)
-    ∙ ap (λ l. l ++ (a ++ (b ++ (c ++ d)))) none
+
+-- the same where nothing stood before
+pub made_of_four : (before first second third after a b c d : List ℕ) → before ≡ [] → first ≡ before ++ a
+    → second ≡ first ++ b → third ≡ second ++ c → after ≡ third ++ d → after ≡ a ++ (b ++ (c ++ d))
+made_of_four before first second third after a b c d none p q r s =
+    added_four before first second third after a b c d p q r s ∙ ap (λ l. l ++ (a ++ (b ++ (c ++ d)))) none
 
 -- One more region was added.
 pub one_more_region : (whole before after : List ℕ) (rs : List RegionData) (i : ℕ) (r : RegionData)

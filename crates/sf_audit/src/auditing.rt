@@ -1,7 +1,7 @@
 //! The audit of a stack of filters.
 
 ghost use Rattle.std.specs.Prelude.{◌≡◌, ◌⊎◌, ◌<◌, ◌≤◌, length, map, IfOk, IfErr};
-ghost use Rattle.sf_audit.specs.Audits.{IsFoundOn, IsAudit, IsAuditRefusal, crew_fault};
+ghost use Rattle.sf_audit.specs.Audits.{IsFoundOn, IsAudit, IsAuditRefusal};
 
 use crate::MOST_QUESTIONS;
 use crate::fault::Fault;
@@ -13,16 +13,6 @@ use sf_crew::{Gate, explore, sweep};
 use std::alloc::Global;
 use std::sync::{Arc, Wait};
 use std::thread::Threads;
-
-/// The fault of an audit for a fault of its workers.
-fn crew_fault(fault: sf_crew::Fault) -> Fault
-    ensures { result ≡ crew_fault fault }
-{
-    match fault {
-        sf_crew::Fault::Memory => Fault::Memory,
-        sf_crew::Fault::Foreign | sf_crew::Fault::Stale | sf_crew::Fault::Spent => Fault::Foreign,
-    }
-}
 
 /// The outcome for a stack and up to 256 questions.
 fn outcome_of<R: Threads + Wait + Sync, G: Gate>(
@@ -41,8 +31,8 @@ fn outcome_of<R: Threads + Wait + Sync, G: Gate>(
     ensures alone { workers ≡ 1 → IfErr result (λ e. e ≡ Fault.Memory) }
 {
     let stack = Arc::new(alloc, stack)?;
-    let settled = explore(rt, alloc, stack, budget, workers, gate).map_err(crew_fault)?;
-    let replies = sweep(rt, alloc, &settled, &questions, workers, gate).map_err(crew_fault)?;
+    let settled = explore(rt, alloc, stack, budget, workers, gate)?;
+    let replies = sweep(rt, alloc, &settled, &questions, workers, gate)?;
     Ok(Outcome {
         settled,
         questions,

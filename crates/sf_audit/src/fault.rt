@@ -2,6 +2,7 @@
 
 ghost use Rattle.std.specs.Prelude.{◌≡◌};
 ghost use Rattle.sf_audit.specs.declared.fault.Fault.TheVariants.{Memory};
+ghost use Rattle.sf_audit.specs.Audits.{crew_fault};
 ghost use Rattle.sf_audit.specs.Faults.{fault_number};
 
 use std::alloc::{AllocError, AllocFailed};
@@ -145,5 +146,16 @@ impl From<sf_run::Fault> for Fault {
 
     fn from(_e: sf_run::Fault) -> Fault {
         Fault::Memory
+    }
+}
+
+impl From<sf_crew::Fault> for Fault {
+    ghost from_gives = { λ fault e. e ≡ crew_fault fault };
+
+    fn from(fault: sf_crew::Fault) -> Fault {
+        match fault {
+            sf_crew::Fault::Memory => Fault::Memory,
+            sf_crew::Fault::Foreign | sf_crew::Fault::Stale | sf_crew::Fault::Spent => Fault::Foreign,
+        }
     }
 }

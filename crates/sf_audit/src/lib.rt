@@ -19,7 +19,7 @@ pub use fault::Fault;
 pub use filters::stack_of;
 pub use outcome::Outcome;
 pub use policy::read_policy;
-pub use report::{write_bytes, write_report};
+pub use report::{hex_of, push_counts, write_bytes, write_report};
 
 /// The most questions of a policy and of an audit.
 const MOST_QUESTIONS: usize = 256;

@@ -2,6 +2,8 @@
 
 mod text;
 
+pub use text::{hex_of, push_counts};
+
 ghost use Rattle.std.specs.Prelude.{◌≡◌, ◌⊎◌, OnOk, OnErr, IfErr};
 ghost use Rattle.std.specs.Io.KnownBytes.{Appends};
 ghost use Rattle.sf_audit.specs.Reports.{AppendsFront, report_text};

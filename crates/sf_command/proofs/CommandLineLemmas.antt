@@ -73,13 +73,12 @@ usual_number greatest usual n (Some t) is (inr none) =
     λ numeral some few. absurd (omega (arith, is numeral some few, none, some))
 
 -- the paths that a parse found
-pub paths_found : (f : Found) (r : Option (Bor (List (Bor Text)))) (none : Bor (List (Bor Text)))
-    → option_map (λ s. map (λ v. v.now) s.now) r ≡ option_map raw_values
-    (matched_of f (codes "filters")) → none.now ≡ []
-    → ArePaths (rows_of f) (unwrap_or r none).now
-paths_found f r none is empty =
-    read_or (λ s. map (λ v. v.now) s.now) r _ none (is ∙ raw_values-rows f (codes "filters"))
-    ∙ ap (λ (vs : List (Bor Text)). unwrap_or (all_of (codes "filters") (rows_of f)) (map (λ v. v.now) vs)) empty
+pub paths_found : (f : Found) (id : Text) (r : Option (Bor (List (Bor Text)))) (none : Bor (List (Bor Text)))
+    → option_map (λ s. map (λ v. v.now) s.now) r ≡ option_map raw_values (matched_of f id) → none.now ≡ []
+    → ArePaths id (rows_of f) (unwrap_or r none).now
+paths_found f id r none is empty =
+    read_or (λ s. map (λ v. v.now) s.now) r _ none (is ∙ raw_values-rows f id)
+    ∙ ap (λ (vs : List (Bor Text)). unwrap_or (all_of id (rows_of f)) (map (λ v. v.now) vs)) empty
 
 -- two readings of one thing that may be absent, joined
 pub joined : {X A B : Type 0} (f : X → A) (g : X → B) (o : Option X) (a : A) (b : B) → Some a ≡ option_map f o

@@ -1,4 +1,4 @@
--- Why an audit of files is refused.
+-- Why an audit of files is refused, or a comparison.
 use Rattle.std.proofs.Common.{◌≡◌, ◌⊎◌, ◌∙◌, inl, inr, ℕ, List, None, Option, Bor, Result, Ok, Err, sym, subst}
 use Rattle.std.specs.Prelude.{slice_get, Some}
 use Rattle.std.specs.Result.{IfErr, IsErrAnd}
@@ -6,7 +6,9 @@ use Rattle.sf_ask.specs.QuestionData.{QuestionData}
 use Rattle.sf_audit.specs.declared.fault.Fault.{Fault}
 use Rattle.sf_audit.specs.declared.fault.Fault.TheVariants.{Foreign, Memory, Read}
 use Rattle.sf_audit.specs.Audits.{IsAuditRefusal}
+use Rattle.sf_audit.specs.Filters.{IsFirstRefusal}
 use Rattle.sf_command.specs.Audits.{IsPolicyFile, RefusesAudit, RefusesPolicyFile}
+use Rattle.sf_command.specs.Comparisons.{AreBothRead, RefusesComparison}
 use Rattle.sf_command.specs.Files.{AreRead, HasUnknown}
 
 -- what holds of an error holds of the one that is handed on
@@ -31,21 +33,47 @@ read_why before after paths n path e same at (inl (read, none)) =
     inl (read, record { place = n; path = path; at = at; unknown = sym (same path.now) ∙ none })
 read_why before after paths n path e same at (inr memory) = inr memory
 
+-- a file that isn't known after others were read wasn't known before
+pub still_unknown : (before after : List ℕ → Option (List ℕ)) (paths : List (Bor (List ℕ)))
+    → ((p : List ℕ) → after p ≡ before p) → HasUnknown after paths → HasUnknown before paths
+still_unknown before after paths same left = record {
+  place = left.place;
+  path = left.path;
+  at = left.at;
+  unknown = sym (same left.path.now) ∙ left.unknown;
+}
+
 -- a file of a filter can't be read
 pub filters_why : (before after : List ℕ → Option (List ℕ)) (policy : List ℕ) (paths : List (Bor (List ℕ))) (e : Fault)
     → ((p : List ℕ) → after p ≡ before p) → ((e ≡ Read) × HasUnknown after paths) ⊎ (e ≡ Memory)
     → RefusesAudit before policy paths e
 filters_why before after policy paths e same (inl (read, left)) =
-    inl (
-      read,
-      inr (record {
-        place = left.place;
-        path = left.path;
-        at = left.at;
-        unknown = sym (same left.path.now) ∙ left.unknown;
-      }),
-    )
+    inl (read, inr (still_unknown before after paths same left))
 filters_why before after policy paths e same (inr memory) = inr (inr (inl memory))
+
+-- a file of the second stack of two can't be read
+pub either_unknown : (before after : List ℕ → Option (List ℕ)) (old new : List (Bor (List ℕ))) (e : Fault)
+    → ((p : List ℕ) → after p ≡ before p) → ((e ≡ Read) × HasUnknown after new) ⊎ (e ≡ Memory)
+    → ((e ≡ Read) × (HasUnknown before old ⊎ HasUnknown before new)) ⊎ (e ≡ Memory)
+either_unknown before after old new e same (inl (read, left)) =
+    inl (read, inr (still_unknown before after new same left))
+either_unknown before after old new e same (inr memory) = inr memory
+
+-- a file of either stack can't be read
+pub unread_why : (holds : List ℕ → Option (List ℕ)) (old new : List (Bor (List ℕ))) (e : Fault)
+    → ((e ≡ Read) × (HasUnknown holds old ⊎ HasUnknown holds new)) ⊎ (e ≡ Memory)
+    → RefusesComparison holds old new e
+unread_why holds old new e (inl read) = inl read
+unread_why holds old new e (inr memory) = inr (inr (inl memory))
+
+-- the comparison of what the files hold is refused
+pub comparison_why : (holds : List ℕ → Option (List ℕ)) (old new : List (Bor (List ℕ))) (files : List (List ℕ))
+    (older : ℕ) (e : Fault)
+    → AreBothRead holds old new files older → (e ≡ Memory) ⊎ (e ≡ Foreign) ⊎ IsFirstRefusal files e
+    → RefusesComparison holds old new e
+comparison_why holds old new files older e read (inl memory) = inr (inr (inl memory))
+comparison_why holds old new files older e read (inr (inl foreign)) = inr (inr (inr (inl foreign)))
+comparison_why holds old new files older e read (inr (inr why)) = inr (inr (inr (inr (files, older, read, why))))
 
 -- the audit of what the files hold is refused
 pub audit_why : (holds : List ℕ → Option (List ℕ)) (policy : List ℕ) (paths : List (Bor (List ℕ)))

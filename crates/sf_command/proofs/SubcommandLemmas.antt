@@ -54,48 +54,62 @@ first_of_three p x y z s found = go (p x) refl
     go true is = let h : Some x ≡ Some s = rw is at found in inl cc
     go false is = inr (second (p y) refl (rw is at found))
 
--- a subcommand that was entered has the name of one of the three
-pub entered_name : (a : App) (x y z : Shape) → a.subs ≡ x ∷ y ∷ z ∷ [] → (stop : Option (Text × List Text))
+-- the first of four
+first_of_four : (p : Shape → Bool) (w x y z s : Shape) → find p (w ∷ x ∷ y ∷ z ∷ []) ≡ Some s
+    → (s ≡ w) ⊎ (s ≡ x) ⊎ (s ≡ y) ⊎ (s ≡ z)
+first_of_four p w x y z s found = go (p w) refl
+  where
+    go : (b : Bool) → p w ≡ b → (s ≡ w) ⊎ (s ≡ x) ⊎ (s ≡ y) ⊎ (s ≡ z)
+    go true is = let h : Some w ≡ Some s = rw is at found in inl cc
+    go false is = inr (first_of_three p x y z s (rw is at found))
+
+-- a subcommand that was entered has the name of one of the four
+pub entered_name : (a : App) (w x y z : Shape) → a.subs ≡ w ∷ x ∷ y ∷ z ∷ [] → (stop : Option (Text × List Text))
     → is_some (entered a stop) ≡ true
     → (found : Text × List Row) × (entered a stop ≡ Some found)
-    × ((found.0 ≡ x.name) ⊎ (found.0 ≡ y.name) ⊎ (found.0 ≡ z.name))
-entered_name a x y z subs None some = cc
-entered_name a x y z subs (Some p) some = go (find (λ s. answers_to p.0 (label_of s)) a.subs) refl some
+    × ((found.0 ≡ w.name) ⊎ (found.0 ≡ x.name) ⊎ (found.0 ≡ y.name) ⊎ (found.0 ≡ z.name))
+entered_name a w x y z subs None some = cc
+entered_name a w x y z subs (Some p) some = go (find (λ s. answers_to p.0 (label_of s)) a.subs) refl some
   where
-    named : (s : Shape) → (s ≡ x) ⊎ (s ≡ y) ⊎ (s ≡ z) → (s.name ≡ x.name) ⊎ (s.name ≡ y.name) ⊎ (s.name ≡ z.name)
+    named : (s : Shape) → (s ≡ w) ⊎ (s ≡ x) ⊎ (s ≡ y) ⊎ (s ≡ z)
+        → (s.name ≡ w.name) ⊎ (s.name ≡ x.name) ⊎ (s.name ≡ y.name) ⊎ (s.name ≡ z.name)
     named s (inl is) = inl (ap (λ (t : Shape). t.name) is)
     named s (inr (inl is)) = inr (inl (ap (λ (t : Shape). t.name) is))
-    named s (inr (inr is)) = inr (inr (ap (λ (t : Shape). t.name) is))
+    named s (inr (inr (inl is))) = inr (inr (inl (ap (λ (t : Shape). t.name) is)))
+    named s (inr (inr (inr is))) = inr (inr (inr (ap (λ (t : Shape). t.name) is)))
 
     go : (o : Option Shape) → find (λ s. answers_to p.0 (label_of s)) a.subs ≡ o
         → is_some (option_map (λ s. rows_at s p.1) o) ≡ true
         → (found : Text × List Row) × (option_map (λ s. rows_at s p.1)
         (find (λ s. answers_to p.0 (label_of s)) a.subs) ≡ Some found)
-        × ((found.0 ≡ x.name) ⊎ (found.0 ≡ y.name) ⊎ (found.0 ≡ z.name))
+        × ((found.0 ≡ w.name) ⊎ (found.0 ≡ x.name) ⊎ (found.0 ≡ y.name) ⊎ (found.0 ≡ z.name))
     go None is h = cc
     go (Some s) is h = (
       rows_at s p.1,
       ap (option_map (λ t. rows_at t p.1)) is,
-      named s (first_of_three (λ t. answers_to p.0 (label_of t)) x y z s (rw subs at is)),
+      named s (first_of_four (λ t. answers_to p.0 (label_of t)) w x y z s (rw subs at is)),
     )
 
--- words that fit the form of the program name one of its three subcommands
+-- words that fit the form of the program name one of its four subcommands
 pub known_subcommand : (words : List Text) → errors_at words ≡ [] → IsKnown (subcommand_at words)
 unfolding command_line errors_at subcommand_at
 known_subcommand words fits =
     let a = built command_line in
-    entered_name a _ _ _ refl (stop_after a.top.rules (names_of a) (argument_words command_line words))
+    entered_name a _ _ _ _ refl (stop_after a.top.rules (names_of a) (argument_words command_line words))
     (needs_subcommand a (argument_words command_line words) refl fits)
 
--- a name that is none of the three
+-- a name that is none of the four
 pub unknown_name : (o : Option (Text × List Row)) (name : Text) (rows : List Row) → o ≡ Some (name, rows)
-    → ¬ (name ≡ codes "audit") → ¬ (name ≡ codes "check") → ¬ (name ≡ codes "eval") → ¬ IsKnown o
-unknown_name o name rows is no_audit no_check no_eval (found, met, inl audit) =
+    → ¬ (name ≡ codes "audit") → ¬ (name ≡ codes "check") → ¬ (name ≡ codes "eval")
+    → ¬ (name ≡ codes "compare") → ¬ IsKnown o
+unknown_name o name rows is no_audit no_check no_eval no_compare (found, met, inl audit) =
     no_audit (ap (λ (p : Option (Text × List Row)). (unwrap_or p found).0) (sym is ∙ met) ∙ audit)
-unknown_name o name rows is no_audit no_check no_eval (found, met, inr (inl check)) =
+unknown_name o name rows is no_audit no_check no_eval no_compare (found, met, inr (inl check)) =
     no_check (ap (λ (p : Option (Text × List Row)). (unwrap_or p found).0) (sym is ∙ met) ∙ check)
-unknown_name o name rows is no_audit no_check no_eval (found, met, inr (inr eval)) =
+unknown_name o name rows is no_audit no_check no_eval no_compare (found, met, inr (inr (inl eval))) =
     no_eval (ap (λ (p : Option (Text × List Row)). (unwrap_or p found).0) (sym is ∙ met) ∙ eval)
+unknown_name o name rows is no_audit no_check no_eval no_compare (found, met, inr (inr (inr compare))) =
+    no_compare (ap (λ (p : Option (Text × List Row)). (unwrap_or p found).0) (sym is ∙ met) ∙ compare)
 
 -- no name
 pub no_name : {X : Type 0} (f : X → Text) (g : X → List Row) (o : Option X) → None ≡ option_map f o

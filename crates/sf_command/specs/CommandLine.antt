@@ -33,6 +33,13 @@ filters_rule = record (new_rule (codes "filters")) {
   action = Some Append;
 }
 
+-- an option `--name FILE..` with one file or more, which must be given
+abbrev pub files_rule : Text → Rule
+files_rule name = record (needed_rule name) {
+  range = Some (record { start_inclusive = 1; end_inclusive = usize_max });
+  action = Some Append;
+}
+
 -- `audit --policy FILE [--budget N] [--workers N] [--regions] [--explain-errors] FILTER..`
 abbrev pub audit_line : App
 audit_line = with_rule (with_rule (with_rule (with_rule (with_rule (with_rule (new_app (codes "audit"))
@@ -56,6 +63,16 @@ eval_line = with_rule (with_rule (with_rule (with_rule (with_rule (new_app (code
     (switch_rule (codes "explain-errors")))
     filters_rule
 
+-- `compare --old FILE.. --new FILE.. [--budget N] [--workers N] [--same] [--explain-errors]`
+abbrev pub compare_line : App
+compare_line = with_rule (with_rule (with_rule (with_rule (with_rule (with_rule (new_app (codes "compare"))
+    (files_rule (codes "old")))
+    (files_rule (codes "new")))
+    (number_rule (codes "budget") 1000000 (codes "100000")))
+    (number_rule (codes "workers") 64 (codes "4")))
+    (switch_rule (codes "same")))
+    (switch_rule (codes "explain-errors"))
+
 -- the program without its name: a subcommand that must be given, and none for help; it knows its version
 abbrev pub program_line : App
 program_line = let new = new_app (codes "seccomp_audit") in record new {
@@ -67,7 +84,8 @@ program_line = let new = new_app (codes "seccomp_audit") in record new {
   };
 }
 
--- one of the three subcommands
+-- one of the four subcommands
 unfoldable pub command_line : App
 command_line =
-    with_subcommand (with_subcommand (with_subcommand program_line audit_line.top) check_line.top) eval_line.top
+    with_subcommand (with_subcommand (with_subcommand (with_subcommand program_line audit_line.top) check_line.top)
+    eval_line.top) compare_line.top

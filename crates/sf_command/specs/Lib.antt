@@ -5,5 +5,6 @@ pub mod Traces
 pub mod Outputs
 pub mod Status
 pub mod Audits
+pub mod Comparisons
 pub mod CommandLine
 pub mod Runs

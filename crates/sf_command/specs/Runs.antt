@@ -8,8 +8,11 @@ use Rattle.clap.specs.declared.error.kind.ErrorKind.{ErrorKind}
 use Rattle.clap.specs.declared.error.kind.ErrorKind.TheVariants.{DisplayHelp, DisplayVersion}
 use Rattle.sf_audit.specs.declared.fault.Fault.{Fault}
 use Rattle.sf_audit.specs.declared.fault.Fault.TheVariants.{Memory, Write}
+use Rattle.sf_compare.specs.declared.relation.Relation.{Relation}
+use Rattle.sf_compare.specs.declared.relation.Relation.TheVariants.{Looser, Different}
 use Rattle.sf_command.specs.Audits.{AuditsFiles, RefusesAudit}
 use Rattle.sf_command.specs.CommandLine.{command_line}
+use Rattle.sf_command.specs.Comparisons.{ComparesFiles, RefusesComparison}
 use Rattle.sf_command.specs.Outputs.{ChecksFiles, EvaluatesFiles, RefusesCheck, RefusesEval}
 
 -- the errors that `clap` may give at the words; there are none where they fit the form
@@ -24,9 +27,9 @@ subcommand_at words = subcommand_of command_line words
 abbrev pub text_of : Text → List Row → Text
 text_of name rows = unwrap_or (first_of name rows) []
 
--- the paths of the filter files
-abbrev pub paths_of : List Row → List Text
-paths_of rows = unwrap_or (all_of (codes "filters") rows) []
+-- the paths that an argument names
+abbrev pub paths_of : Text → List Row → List Text
+paths_of name rows = unwrap_or (all_of name rows) []
 
 -- The number that the text of an option spells, or this one where there is no text. The form lets through no text but
 -- of a number from 1 to the greatest.
@@ -40,20 +43,25 @@ IsOptionNumber (Some text) greatest usual n =
 abbrev pub IsSwitch : Option Text → Bool → Type 0
 IsSwitch text on = (text ≡ Some (codes "true") → on ≡ true) × (text ≡ Some (codes "false") → on ≡ false)
 
+-- the relation that a status tells of: different where the switch is given, and else looser
+abbrev pub IsAskedRelation : Option Text → Relation → Type 0
+IsAskedRelation text asked =
+    (text ≡ Some (codes "true") → asked ≡ Different) × (text ≡ Some (codes "false") → asked ≡ Looser)
+
 -- what explains an error isn't asked for: where a subcommand is named, its switch is off
 abbrev pub IsUnasked : Option (Text × List Row) → Type 0
 IsUnasked named =
     (found : Text × List Row) → named ≡ Some found → one_of (codes "explain-errors") found.1 ≡ Some (codes "false")
 
--- these are the paths
-abbrev pub ArePaths : List Row → List (Bor Text) → Type 0
-ArePaths rows paths = map (λ p. p.now) paths ≡ paths_of rows
+-- these are the paths that an argument names
+abbrev pub ArePaths : Text → List Row → List (Bor Text) → Type 0
+ArePaths name rows paths = map (λ p. p.now) paths ≡ paths_of name rows
 
 module _ (holds : Text → Option Text) (rows : List Row) (status : ℕ) (old new : Option Text) where
   -- the files that are named were audited by the policy file that is named
   pub record Audits : Type 0 where
     pub paths : List (Bor Text)
-    pub named : ArePaths rows paths
+    pub named : ArePaths (codes "filters") rows paths
     pub budget : ℕ
     pub counted : IsOptionNumber (one_of (codes "budget") rows) 1000000 100000 budget
     pub regions : Bool
@@ -63,14 +71,14 @@ module _ (holds : Text → Option Text) (rows : List Row) (status : ℕ) (old ne
   -- the files that are named were checked
   pub record Checks : Type 0 where
     pub paths : List (Bor Text)
-    pub named : ArePaths rows paths
+    pub named : ArePaths (codes "filters") rows paths
     pub checked : ChecksFiles holds paths old new
     pub told : status ≡ 0
 
   -- the input that is given was evaluated by the files that are named
   pub record Evaluates : Type 0 where
     pub paths : List (Bor Text)
-    pub named : ArePaths rows paths
+    pub named : ArePaths (codes "filters") rows paths
     pub traced : Bool
     pub in_full : IsSwitch (one_of (codes "trace") rows) traced
     pub brief : Bool
@@ -78,18 +86,31 @@ module _ (holds : Text → Option Text) (rows : List Row) (status : ℕ) (old ne
     pub evaluated : EvaluatesFiles (text_of (codes "input") rows) traced brief holds paths old new
     pub told : status ≡ 0
 
--- one of the three subcommands is named
+  -- the old and the new files that are named were compared
+  pub record Compares : Type 0 where
+    pub old_paths : List (Bor Text)
+    pub named_old : ArePaths (codes "old") rows old_paths
+    pub new_paths : List (Bor Text)
+    pub named_new : ArePaths (codes "new") rows new_paths
+    pub budget : ℕ
+    pub counted : IsOptionNumber (one_of (codes "budget") rows) 1000000 100000 budget
+    pub asked : Relation
+    pub switched : IsAskedRelation (one_of (codes "same") rows) asked
+    pub compared : ComparesFiles holds old_paths new_paths budget asked status old new
+
+-- one of the four subcommands is named
 abbrev pub IsKnown : Option (Text × List Row) → Type 0
 IsKnown named =
     (found : Text × List Row) × (named ≡ Some found)
-    × ((found.0 ≡ codes "audit") ⊎ (found.0 ≡ codes "check") ⊎ (found.0 ≡ codes "eval"))
+    × ((found.0 ≡ codes "audit") ⊎ (found.0 ≡ codes "check") ⊎ (found.0 ≡ codes "eval")
+    ⊎ (found.0 ≡ codes "compare"))
 
--- one of the three subcommands is named, and this holds of the values of its arguments, by its name
-abbrev pub ByName : (audit check eval : List Row → Type 0) → Option (Text × List Row) → Type 0
-ByName audit check eval named =
+-- one of the four subcommands is named, and this holds of the values of its arguments, by its name
+abbrev pub ByName : (audit check eval compare : List Row → Type 0) → Option (Text × List Row) → Type 0
+ByName audit check eval compare named =
     (found : Text × List Row) × (named ≡ Some found)
     × (((found.0 ≡ codes "audit") × audit found.1) ⊎ ((found.0 ≡ codes "check") × check found.1)
-    ⊎ ((found.0 ≡ codes "eval") × eval found.1))
+    ⊎ ((found.0 ≡ codes "eval") × eval found.1) ⊎ ((found.0 ≡ codes "compare") × compare found.1))
 
 -- what the subcommand that is named asks for was done
 abbrev pub RunsAs : (Text → Option Text) → Option (Text × List Row) → ℕ → Option Text → Option Text → Type 0
@@ -97,6 +118,7 @@ RunsAs holds named status old new = ByName
     (λ rows. Audits holds rows status old new)
     (λ rows. Checks holds rows status old new)
     (λ rows. Evaluates holds rows status old new)
+    (λ rows. Compares holds rows status old new)
     named
 
 -- some text was written
@@ -121,16 +143,17 @@ abbrev pub DoesAsTold : (Text → Option Text) → List Text → ℕ → Option 
 DoesAsTold holds words status old new =
     ((errors_at words ≡ []) × RunsAs holds (subcommand_at words) status old new) ⊎ Helps words status old new
 
--- with the paths that are named
-abbrev pub OnPaths : List Row → (List (Bor Text) → Type 0) → Type 0
-OnPaths rows P = (paths : List (Bor Text)) × ArePaths rows paths × P paths
+-- with the paths that an argument names
+abbrev pub OnPaths : Text → List Row → (List (Bor Text) → Type 0) → Type 0
+OnPaths name rows P = (paths : List (Bor Text)) × ArePaths name rows paths × P paths
 
 -- why what the subcommand that is named asks for is refused
 abbrev pub RefusesAs : (Text → Option Text) → Option (Text × List Row) → Fault → Type 0
 RefusesAs holds named fault = ByName
-    (λ rows. OnPaths rows (λ paths. RefusesAudit holds (text_of (codes "policy") rows) paths fault))
-    (λ rows. OnPaths rows (λ paths. RefusesCheck holds paths fault))
-    (λ rows. OnPaths rows (λ paths. RefusesEval (text_of (codes "input") rows) holds paths fault))
+    (λ rows. OnPaths (codes "filters") rows (λ paths. RefusesAudit holds (text_of (codes "policy") rows) paths fault))
+    (λ rows. OnPaths (codes "filters") rows (λ paths. RefusesCheck holds paths fault))
+    (λ rows. OnPaths (codes "filters") rows (λ paths. RefusesEval (text_of (codes "input") rows) holds paths fault))
+    (λ rows. OnPaths (codes "old") rows (λ old. OnPaths (codes "new") rows (λ new. RefusesComparison holds old new fault)))
     named
 
 -- Why what words that fit the form ask for is refused. Want of memory can come at any time, and help may not be

@@ -2,6 +2,8 @@
 use Rattle.std.specs.Prelude.{ℕ, List, nat_lt, count_by, if◌then◌else◌}
 use Rattle.sf_ask.specs.declared.verdict.Reply.{Reply}
 use Rattle.sf_audit.specs.Reports.{is_allowed, is_unsettled}
+use Rattle.sf_compare.specs.declared.changes.Change.{Change}
+use Rattle.sf_compare.specs.declared.changes.Change.TheVariants.{Never, Allowed, Unsettled}
 
 -- the status of a fault by its number: 3 where what was given is refused, 5 where reading, writing or memory fails
 abbrev pub fault_status : ℕ → ℕ
@@ -13,3 +15,9 @@ replies_status replies =
     if nat_lt 0 (count_by is_allowed replies) then 1 else
     if nat_lt 0 (count_by is_unsettled replies) then 2 else
     0
+
+-- the status of what is told of a relation, by the same numbers
+abbrev pub change_status : Change → ℕ
+change_status Never = 0
+change_status (Allowed example) = 1
+change_status Unsettled = 2

@@ -4,15 +4,17 @@ ghost use Rattle.clap.specs.Words.{found_of, kind_of, rows_of, subcommand_rows_o
 ghost use Rattle.sf_audit.specs.Faults.{fault_number};
 ghost use Rattle.sf_audit.specs.declared.fault.Fault.TheVariants.{Memory as MemoryFault, Write as WriteFault};
 ghost use Rattle.sf_command.specs.Audits.{RefusesAudit};
+ghost use Rattle.sf_command.specs.Comparisons.{RefusesComparison};
 ghost use Rattle.sf_command.specs.Outputs.{RefusesCheck, RefusesEval};
-ghost use Rattle.sf_command.specs.Runs.{Audits, Checks, Evaluates, RunsAs, IsKnown, IsHelp, DoesAsTold, OnPaths, RefusesAs, RefusesAsTold, WritesText, errors_at, text_of};
+ghost use Rattle.sf_command.specs.Runs.{Audits, Checks, Compares, Evaluates, RunsAs, IsKnown, IsHelp, DoesAsTold, OnPaths, RefusesAs, RefusesAsTold, WritesText, errors_at, text_of};
 ghost use Rattle.sf_command.specs.Status.{fault_status};
 
 use crate::auditing::{Options, audit};
 use crate::checking::{check, evaluate, print};
+use crate::comparing::{Terms, compare};
 use crate::explaining::{Notes, explanation};
 use crate::files::Files;
-use crate::options::{brief_of, budget_of, regions_of, text_of, traced_of, workers_of};
+use crate::options::{asked_of, brief_of, budget_of, regions_of, text_of, traced_of, workers_of};
 use crate::telling::tell;
 use crate::words;
 use clap::ArgMatches;
@@ -37,7 +39,7 @@ fn run_audit<R: Threads + Wait + Sync, F: Files, O: Write>(
     ensures status { IfOk result (λ s. s ≤ 2) }
     ensures quiet { IfErr result (λ e. (fault_status (fault_number e) ≡ 5)
         ⊎ (out.new ≡ out.old)) }
-    ensures refused { IfErr result (λ e. OnPaths (rows_of (found_of found.now))
+    ensures refused { IfErr result (λ e. OnPaths (codes "filters") (rows_of (found_of found.now))
         (λ paths. RefusesAudit (F.holds files.old)
         (text_of (codes "policy") (rows_of (found_of found.now))) paths e)) }
 {
@@ -63,7 +65,7 @@ fn run_check<F: Files, O: Write>(
         (O.contents out.old) (O.contents out.new)) }
     ensures quiet { IfErr result (λ e. (fault_status (fault_number e) ≡ 5)
         ⊎ (out.new ≡ out.old)) }
-    ensures refused { IfErr result (λ e. OnPaths (rows_of (found_of found.now))
+    ensures refused { IfErr result (λ e. OnPaths (codes "filters") (rows_of (found_of found.now))
         (λ paths. RefusesCheck (F.holds files.old) paths e)) }
 {
     let paths = found.get_strs("filters").unwrap_or(&[]);
@@ -83,7 +85,7 @@ fn run_eval<F: Files, O: Write>(
         (rows_of (found_of found.now)) s (O.contents out.old) (O.contents out.new)) }
     ensures quiet { IfErr result (λ e. (fault_status (fault_number e) ≡ 5)
         ⊎ (out.new ≡ out.old)) }
-    ensures refused { IfErr result (λ e. OnPaths (rows_of (found_of found.now))
+    ensures refused { IfErr result (λ e. OnPaths (codes "filters") (rows_of (found_of found.now))
         (λ paths. RefusesEval (text_of (codes "input") (rows_of (found_of found.now)))
         (F.holds files.old) paths e)) }
 {
@@ -93,6 +95,34 @@ fn run_eval<F: Files, O: Write>(
     let brief = brief_of(found);
     evaluate(alloc, digits, traced, brief, paths, files, notes, out)?;
     Ok(0)
+}
+
+/// Compares as the matches of the subcommand say.
+fn run_compare<R: Threads + Wait + Sync, F: Files, O: Write>(
+    rt: &R,
+    alloc: Global,
+    found: &ArgMatches<'_>,
+    files: &mut F,
+    notes: &mut Notes,
+    out: &mut O,
+) -> Result<u8, Fault>
+    ensures done { IfOk result (λ s. Compares (F.holds files.old) (rows_of (found_of found.now)) s
+        (O.contents out.old) (O.contents out.new)) }
+    ensures status { IfOk result (λ s. s ≤ 2) }
+    ensures quiet { IfErr result (λ e. (fault_status (fault_number e) ≡ 5)
+        ⊎ (out.new ≡ out.old)) }
+    ensures refused { IfErr result (λ e. OnPaths (codes "old") (rows_of (found_of found.now))
+        (λ old. OnPaths (codes "new") (rows_of (found_of found.now))
+        (λ new. RefusesComparison (F.holds files.old) old new e))) }
+{
+    let old = found.get_strs("old").unwrap_or(&[]);
+    let new = found.get_strs("new").unwrap_or(&[]);
+    let terms = Terms {
+        budget: budget_of(found),
+        workers: workers_of(found),
+        asked: asked_of(found),
+    };
+    compare(rt, alloc, old, new, terms, files, notes, out)
 }
 
 /// Runs the subcommand that the command line names.
@@ -121,6 +151,7 @@ fn run<R: Threads + Wait + Sync, F: Files, O: Write>(
         "audit" => run_audit(rt, alloc, found, files, notes, out),
         "check" => run_check(alloc, found, files, notes, out),
         "eval" => run_eval(alloc, found, files, notes, out),
+        "compare" => run_compare(rt, alloc, found, files, notes, out),
         _ => Ok(4),
     }
 }
@@ -187,8 +218,8 @@ fn reply<R: Threads + Wait + Sync, F: Files, O: Write, E: Write>(
 
 /// Does what the words after the program's name say, and gives the exit status.
 ///
-/// 0: done, and of an audit each question is never. 1: some question is allowed. 2: none is allowed and some is unsettled.
-/// 3: the filters, the policy or the input are refused; standard output is left as it was. 4: the command line is refused; no
+/// 0: done; of an audit each question is never, and of a comparison what is asked. 1: some question, or what is asked of a
+/// comparison, is allowed. 2: none is allowed and some is unsettled. 3: the filters, the policy or the input are refused; standard output is left as it was. 4: the command line is refused; no
 /// file was read, standard output is left as it was, and standard error has the text of `clap`. 5: reading, writing or
 /// memory failed. At 3 and 5 one line on standard error says what: `error`, the number, the name and the place of the
 /// fault. With `--explain-errors` lines for a person follow.

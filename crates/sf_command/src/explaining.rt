@@ -32,12 +32,17 @@ impl Notes {
     }
 }
 
-/// The path of a filter file, by its place from 0.
+/// The path of a filter file, by its place from 0: of a comparison, those of the old stack stand before those of the new one.
 fn filter_path<'a>(found: &ArgMatches<'a>, place: usize) -> &'a str {
-    match found.get_strs("filters").unwrap_or(&[]).get(place) {
-        Some(path) => *path,
-        None => "",
+    let mut place = place;
+    for name in ["filters", "old", "new"] {
+        let paths = found.get_strs(name).unwrap_or(&[]);
+        if let Some(path) = paths.get(place) {
+            return *path;
+        }
+        place = place.saturating_sub(paths.len());
     }
+    ""
 }
 
 /// The path of the first file that wasn't read, where so many were. The policy file is read before the filters.

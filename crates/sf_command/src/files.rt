@@ -5,14 +5,14 @@ ghost use Rattle.sf_command.specs.Files.{AreKnownBytes, AreRead, HasUnknown};
 ghost use Rattle.sf_audit.specs.declared.fault.Fault.TheVariants.{Memory, Read};
 
 use crate::explaining::Notes;
-use sf_audit::{Fault, Outcome};
+use sf_audit::Fault;
 use std::alloc::Global;
 
 /// The most bytes of a file that is read: 1 MiB, which is 32 times the longest filter. So a file without an end is
 /// refused.
 pub const MOST_BYTES: usize = 0x100000;
 
-/// Files by their paths, and what becomes of an audit that has been reported.
+/// Files by their paths, and what becomes of what was found in them.
 pub trait Files {
     ghost use Rattle.std.specs.Prelude.{List, ℕ, Option, None};
 
@@ -32,9 +32,9 @@ pub trait Files {
     /// nothing is promised of it.
     fn reason(&self) -> &str;
 
-    /// Takes over what an audit found, once its report is written. Here its memory is given back, piece by piece; a program
-    /// that ends next may leave that to the end of its process.
-    fn take_over(&self, _outcome: Outcome) {}
+    /// Takes over what was found, once it is written. Here its memory is given back, piece by piece; a program that ends next
+    /// may leave that to the end of its process.
+    fn take_over<T: Drop>(&self, _found: T) {}
 }
 
 /// The bytes of the files at these paths, in their order. A refusal is that of the first file that can't be read. It is noted
@@ -49,6 +49,7 @@ pub fn read_all<F: Files>(
         (map (λ f. f.items) v.items)) }
     ensures refused { IfErr result (λ e. ((e ≡ Read)
         × HasUnknown (F.holds files.old) paths.now) ⊎ (e ≡ Memory)) }
+    ensures same { (p : List ℕ) → F.holds files.new p ≡ F.holds files.old p }
 {
     let mut read = Vec::new(alloc);
     for path in paths {

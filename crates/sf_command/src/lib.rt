@@ -3,6 +3,7 @@
 
 mod auditing;
 mod checking;
+mod comparing;
 mod dispatch;
 mod explaining;
 mod files;

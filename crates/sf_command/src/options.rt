@@ -1,9 +1,10 @@
 //! What the matches of a subcommand ask for.
 ghost use Rattle.std.specs.Prelude.{◌≡◌, ◌<◌, ◌≤◌, codes};
 ghost use Rattle.clap.specs.Words.{found_of, one_of, rows_of};
-ghost use Rattle.sf_command.specs.Runs.{IsOptionNumber, IsSwitch, text_of};
+ghost use Rattle.sf_command.specs.Runs.{IsAskedRelation, IsOptionNumber, IsSwitch, text_of};
 
 use clap::ArgMatches;
+use sf_compare::Relation;
 
 /// The text of an option.
 pub fn text_of<'a>(found: &ArgMatches<'a>, name: &str) -> &'a str
@@ -12,7 +13,7 @@ pub fn text_of<'a>(found: &ArgMatches<'a>, name: &str) -> &'a str
     found.get_str(name).unwrap_or("")
 }
 
-/// The budget of an audit.
+/// The budget of an exploration.
 pub fn budget_of(found: &ArgMatches<'_>) -> u32
     ensures { IsOptionNumber (one_of (codes "budget") (rows_of (found_of found.now)))
         1000000 100000 result }
@@ -27,7 +28,7 @@ fn asked_workers(found: &ArgMatches<'_>) -> u8
     found.get_one::<u8>("workers").unwrap_or(4)
 }
 
-/// The number of workers of an audit, from 1 to 64; the form lets no other through.
+/// The number of workers, from 1 to 64; the form lets no other through.
 pub fn workers_of(found: &ArgMatches<'_>) -> u8
     ensures number { IsOptionNumber (one_of (codes "workers")
         (rows_of (found_of found.now))) 64 4 result }
@@ -63,6 +64,17 @@ pub fn brief_of(found: &ArgMatches<'_>) -> bool
     ensures { IsSwitch (one_of (codes "trace-true") (rows_of (found_of found.now))) result }
 {
     is_on(found, "trace-true")
+}
+
+/// The relation that the status of a comparison tells of.
+pub fn asked_of(found: &ArgMatches<'_>) -> Relation
+    ensures { IsAskedRelation (one_of (codes "same") (rows_of (found_of found.now))) result }
+{
+    if is_on(found, "same") {
+        Relation::Different
+    } else {
+        Relation::Looser
+    }
 }
 
 /// Whether it is told where an error lies.

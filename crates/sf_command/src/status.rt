@@ -2,10 +2,11 @@
 
 ghost use Rattle.std.specs.Prelude.{◌≡◌};
 ghost use Rattle.sf_audit.specs.Faults.{fault_number};
-ghost use Rattle.sf_command.specs.Status.{fault_status, replies_status};
+ghost use Rattle.sf_command.specs.Status.{change_status, fault_status, replies_status};
 
 use sf_ask::Reply;
 use sf_audit::{Fault, count_allowed, count_unsettled};
+use sf_compare::Change;
 
 /// The status of a fault: 3 where the filters, the policy or the input are refused, 5 where reading, writing or memory
 /// fails.
@@ -26,5 +27,17 @@ pub fn status_of_replies(replies: &[Reply]) -> u8
         2
     } else {
         0
+    }
+}
+
+/// The status of what is told of a relation between two stacks: 0 where no input is changed so, 1 where one is, 2 where it is
+/// unsettled.
+pub fn status_of_change(change: Change) -> u8
+    ensures { result ≡ change_status change }
+{
+    match change {
+        Change::Never => 0,
+        Change::Allowed(_) => 1,
+        Change::Unsettled => 2,
     }
 }

@@ -1,7 +1,7 @@
 //! The words of the command line.
 ghost use Rattle.std.specs.Prelude.{◌≡◌, ℕ, IfOk, codes, false};
 ghost use Rattle.clap.specs.Words.{app_of, rule_of};
-ghost use Rattle.sf_command.specs.CommandLine.{command_line, filters_rule, needed_rule, number_rule, option_rule, switch_rule};
+ghost use Rattle.sf_command.specs.CommandLine.{audit_line, check_line, command_line, compare_line, eval_line, files_rule, filters_rule, needed_rule, number_rule, option_rule, program_line, switch_rule};
 
 use clap::{Arg, ArgAction, Command, value_parser};
 use std::alloc::{AllocError, Global};
@@ -11,15 +11,17 @@ const VERSION: &str = "1.0.0";
 
 /// What stands at the end of `--help`.
 const AFTER_HELP: &str = "Exit status:
-  0  every question is never; or check, eval or help did what it should
-  1  some question is allowed
-  2  some question is unsettled, and none allowed
+  0  every question is never; compare: looser is never; check, eval and help: done
+  1  some question is allowed; compare: looser is allowed
+  2  some question is unsettled, and none allowed; compare: looser is unsettled
   3  a filter, the stack, the policy or the input is refused
   4  the command line is refused
   5  a file can't be read, standard output can't be written, or memory ran out
+  With --same, compare has the status of different.
 
 Limits:
-  1 to 64 filters of 1 to 4096 instructions each, with a path length of at most 32768
+  1 to 64 filters of 1 to 4096 instructions each, with a path length of at most 32768;
+    of compare, both stacks together
   1 to 256 questions of a policy
   1 to 1000000 pieces that are worked on (--budget), 100000 if not given
   1 to 64 workers (--workers), 4 if not given
@@ -132,39 +134,103 @@ fn filters<'a>(alloc: Global) -> Arg<'a>
         .help("Filter files, in order of installation")
 }
 
-/// The form of the command line: its subcommands and what each takes.
-pub(crate) fn form<'a>(alloc: Global) -> Result<Command<'a>, AllocError>
-    ensures { IfOk result (λ c. app_of c ≡ command_line) }
+/// `--old` and `--new`: the filter files of a stack.
+fn files<'a>(alloc: Global, name: &'a str, help: &'a str) -> Arg<'a>
+    ensures rule { rule_of result ≡ files_rule name.entry.now }
+    ensures own { result.global ≡ false }
 {
-    let audit = Command::new(alloc, "audit")
+    option(alloc, name, "FILE")
+        .required(true)
+        .num_args(1..)
+        .action(ArgAction::Append)
+        .help(help)
+}
+
+/// `--same`: whether the status of a comparison tells whether the stacks are different.
+fn same<'a>(alloc: Global) -> Arg<'a>
+    ensures rule { rule_of result ≡ switch_rule (codes "same") }
+    ensures own { result.global ≡ false }
+{
+    switch(alloc, "same").help("Let the exit status tell of different, not of looser")
+}
+
+/// What `audit` takes.
+fn audit<'a>(alloc: Global) -> Result<Command<'a>, AllocError>
+    ensures { IfOk result (λ c. app_of c ≡ audit_line) }
+{
+    Command::new(alloc, "audit")
         .about("Answer the questions of a policy about a stack of filters")
         .arg(policy(alloc))?
         .arg(budget(alloc))?
         .arg(workers(alloc))?
         .arg(regions(alloc))?
         .arg(explain(alloc))?
-        .arg(filters(alloc))?;
-    let check = Command::new(alloc, "check")
+        .arg(filters(alloc))
+}
+
+/// What `check` takes.
+fn check<'a>(alloc: Global) -> Result<Command<'a>, AllocError>
+    ensures { IfOk result (λ c. app_of c ≡ check_line) }
+{
+    Command::new(alloc, "check")
         .about("Check whether files are lawful filters that make a lawful stack")
         .arg(explain(alloc))?
-        .arg(filters(alloc))?;
-    let eval = Command::new(alloc, "eval")
+        .arg(filters(alloc))
+}
+
+/// What `eval` takes.
+fn eval<'a>(alloc: Global) -> Result<Command<'a>, AllocError>
+    ensures { IfOk result (λ c. app_of c ≡ eval_line) }
+{
+    Command::new(alloc, "eval")
         .about("Show what a stack of filters answers to one input")
         .arg(input(alloc))?
         .arg(trace(alloc))?
         .arg(trace_true(alloc))?
         .arg(explain(alloc))?
-        .arg(filters(alloc))?;
-    let program = Command::new(alloc, "seccomp_audit")
+        .arg(filters(alloc))
+}
+
+/// What `compare` takes.
+fn compare<'a>(alloc: Global) -> Result<Command<'a>, AllocError>
+    ensures { IfOk result (λ c. app_of c ≡ compare_line) }
+{
+    Command::new(alloc, "compare")
+        .about("Tell for all inputs what a change of a stack of filters lets through")
+        .arg(files(
+            alloc,
+            "old",
+            "The filter files before the change, in order of installation",
+        ))?
+        .arg(files(alloc, "new", "The filter files after the change"))?
+        .arg(budget(alloc))?
+        .arg(workers(alloc))?
+        .arg(same(alloc))?
+        .arg(explain(alloc))
+}
+
+/// What the program takes before a subcommand.
+fn program<'a>(alloc: Global) -> Result<Command<'a>, AllocError>
+    ensures { IfOk result (λ c. app_of c ≡ program_line) }
+{
+    let named = Command::new(alloc, "seccomp_audit")
         .about("Audit a stack of seccomp filters")
         .after_help(AFTER_HELP)
-        .bin_name("seccomp_audit")?
+        .bin_name("seccomp_audit")?;
+    Ok(named
         .no_binary_name(true)
         .subcommand_required(true)
         .version(VERSION)
-        .disable_help_subcommand(true);
-    program
-        .subcommand(audit)?
-        .subcommand(check)?
-        .subcommand(eval)
+        .disable_help_subcommand(true))
+}
+
+/// The form of the command line: its subcommands and what each takes.
+pub(crate) fn form<'a>(alloc: Global) -> Result<Command<'a>, AllocError>
+    ensures { IfOk result (λ c. app_of c ≡ command_line) }
+{
+    program(alloc)?
+        .subcommand(audit(alloc)?)?
+        .subcommand(check(alloc)?)?
+        .subcommand(eval(alloc)?)?
+        .subcommand(compare(alloc)?)
 }

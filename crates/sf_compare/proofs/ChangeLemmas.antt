@@ -17,8 +17,8 @@ use Rattle.sf_book.specs.ExactLaws.{member_trace}
 use Rattle.sf_ask.specs.Verdicts.{IsMemberAt}
 use Rattle.sf_ask.specs.MemberLaws.{in_some_region}
 use Rattle.sf_compare.specs.declared.relation.Relation.{Relation}
-use Rattle.sf_compare.specs.declared.comparing.Change.TheVariants.{Never, Allowed}
-use Rattle.sf_compare.specs.declared.comparing.Example.{Example}
+use Rattle.sf_compare.specs.declared.changes.Change.TheVariants.{Never, Allowed}
+use Rattle.sf_compare.specs.declared.changes.Example.{Example}
 use Rattle.sf_compare.specs.Relations.{AreRelated}
 use Rattle.sf_compare.specs.Changes.{IsChange, old_of, new_of, AreAnswersOf, AreAnswersAt, IsUnchangedAt, IsLeastAt, IsChangeOf}
 

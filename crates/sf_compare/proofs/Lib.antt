@@ -1,1 +1,2 @@
 pub mod ChangeLemmas
+pub mod UserLemmas

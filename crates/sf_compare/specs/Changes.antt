@@ -12,8 +12,8 @@ use Rattle.sf_book.specs.Books.{RegionData, BookData}
 use Rattle.sf_ask.specs.Verdicts.{IsMemberAt}
 use Rattle.sf_ask.specs.Members.{IsLeastMember}
 use Rattle.sf_compare.specs.declared.relation.Relation.{Relation}
-use Rattle.sf_compare.specs.declared.comparing.Change.{Change}
-use Rattle.sf_compare.specs.declared.comparing.Change.TheVariants.{Never, Allowed, Unsettled}
+use Rattle.sf_compare.specs.declared.changes.Change.{Change}
+use Rattle.sf_compare.specs.declared.changes.Change.TheVariants.{Never, Allowed, Unsettled}
 use Rattle.sf_compare.specs.Relations.{AreRelated}
 
 -- An input is changed: the old stack answers it with the answer before, the new one with the answer after, and these

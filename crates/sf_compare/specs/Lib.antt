@@ -1,2 +1,3 @@
 pub mod Relations
 pub mod Changes
+pub mod Comparisons

@@ -1,8 +1,10 @@
 -- How two answers to one input are related.
-use Rattle.std.specs.Prelude.{◌≢◌, ℕ, ◌<◌}
+use Rattle.std.specs.Prelude.{◌≡◌, ◌≢◌, ℕ, ◌<◌, ◌≤◌, true}
 use Rattle.sf_run.specs.declared.action.Action.{Action}
 use Rattle.sf_run.specs.declared.action.Action.TheVariants.{Allow, Log, Trace, UserNotif}
 use Rattle.sf_run.specs.declared.action.Answer.{Answer}
+use Rattle.sf_ask.specs.declared.actions.ActionSet.{ActionSet}
+use Rattle.sf_ask.specs.Actions.{has_action}
 use Rattle.sf_compare.specs.declared.relation.Relation.{Relation}
 use Rattle.sf_compare.specs.declared.relation.Relation.TheVariants.{Looser, Tighter, Different}
 
@@ -19,3 +21,9 @@ abbrev pub AreRelated : Relation → Answer → Answer → Type 0
 AreRelated Looser before after = reach_of before.action < reach_of after.action
 AreRelated Tighter before after = reach_of after.action < reach_of before.action
 AreRelated Different before after = before ≢ after
+
+-- with each of its actions, the set has all that let a call get as far
+abbrev pub IsUpward : ActionSet → Type 0
+IsUpward set =
+    (action other : Action) → has_action set action ≡ true → reach_of action ≤ reach_of other
+    → has_action set other ≡ true

@@ -2,8 +2,13 @@
 //! programs below the new one's, so that each region tells both answers.
 #![tactic(auto)]
 
-mod comparing;
+mod changes;
+mod comparison;
+pub mod laws;
 mod relation;
+mod text;
 
-pub use comparing::{Change, Example, compare};
+pub use changes::{Change, Example, find_change};
+pub use comparison::{Comparison, compare};
 pub use relation::Relation;
+pub use text::write_comparison;

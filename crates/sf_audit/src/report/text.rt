@@ -61,8 +61,8 @@ fn push_shown_regions(text: &mut String, shown: bool, settled: &Settled) -> Resu
     Ok(())
 }
 
-/// The hexadecimal digits of an input's bytes.
-fn hex_of(alloc: Global, input: &Input) -> Result<String, AllocError>
+/// The hexadecimal digits of an input's bytes. `AllocError` where a growth is refused.
+pub fn hex_of(alloc: Global, input: &Input) -> Result<String, AllocError>
     ensures { IfOk result (λ digits. string_bytes digits ≡ hex_text input.now) }
 {
     let bytes = bytes_of_input(input);
@@ -123,8 +123,8 @@ fn push_size(
     )
 }
 
-/// The line of an exploration's counts.
-fn push_counts(text: &mut String, counts: Counts) -> Result<(), AllocError>
+/// The line of an exploration's counts. `AllocError` where a growth is refused.
+pub fn push_counts(text: &mut String, counts: Counts) -> Result<(), AllocError>
     ensures { OnOk result (string_bytes text.new ≡ string_bytes text.old ++ counts_line counts) }
 {
     let regions = counts.settled;

@@ -25,8 +25,16 @@ returns-in-eval-clause-done g c = IfOk-weaker c.run_eval.result _ _
     (λ s done small. (
       (_, _),
       joined _ _ _ _ _ c.in-Some.ensures.name c.in-Some.ensures.rows,
-      inr (inr (c.in-eval.is, done)),
+      inr (inr (inl (c.in-eval.is, done))),
     )) c.run_eval.ensures.done
+
+pub returns-in-compare-clause-done : goal.returns-in-compare-clause-done
+returns-in-compare-clause-done g c = IfOk-weaker c.run_compare.result _ _
+    (λ s done small. (
+      (_, _),
+      joined _ _ _ _ _ c.in-Some.ensures.name c.in-Some.ensures.rows,
+      inr (inr (inr (c.in-compare.is, done))),
+    )) c.run_compare.ensures.done
 
 pub returns-in_default-clause-usage : goal.returns-in_default-clause-usage
 returns-in_default-clause-usage g c four = (no_name _ _ _ c.in_default.ensures.name, refl, refl)
@@ -34,7 +42,8 @@ returns-in_default-clause-usage g c four = (no_name _ _ _ c.in_default.ensures.n
 pub returns-in_default-name-clause-usage : goal.returns-in_default-name-clause-usage
 returns-in_default-name-clause-usage g c four = (
   unknown_name _ _ _ (joined _ _ _ _ _ c.in-Some.ensures.name c.in-Some.ensures.rows)
-      c.in_default-name.not-audit c.in_default-name.not-check c.in_default-name.not-eval,
+      c.in_default-name.not-audit c.in_default-name.not-check c.in_default-name.not-eval
+      c.in_default-name.not-compare,
   refl,
   refl,
 )
@@ -51,5 +60,13 @@ returns-in-check-clause-refused g c = IfErr-weaker c.run_check.result _ _
 
 pub returns-in-eval-clause-refused : goal.returns-in-eval-clause-refused
 returns-in-eval-clause-refused g c = IfErr-weaker c.run_eval.result _ _
-    (λ e why. ((_, _), joined _ _ _ _ _ c.in-Some.ensures.name c.in-Some.ensures.rows, inr (inr (c.in-eval.is, why))))
+    (λ e why. ((_, _), joined _ _ _ _ _ c.in-Some.ensures.name c.in-Some.ensures.rows, inr (inr (inl (c.in-eval.is, why)))))
     c.run_eval.ensures.refused
+
+pub returns-in-compare-clause-refused : goal.returns-in-compare-clause-refused
+returns-in-compare-clause-refused g c = IfErr-weaker c.run_compare.result _ _
+    (λ e why. (
+      (_, _),
+      joined _ _ _ _ _ c.in-Some.ensures.name c.in-Some.ensures.rows,
+      inr (inr (inr (c.in-compare.is, why))),
+    )) c.run_compare.ensures.refused

@@ -28,6 +28,9 @@ returns-in_err-bytes-clause-refused g c =
     handed_on _ c.from_residual.result c.in_err-bytes.field-0.0 c.from_residual.ensures.1
     (read_why _ _ _ _ _ _ so_far.same here c.in_err-bytes.ensures.refused)
 
+pub returns-clause-same : goal.returns-clause-same
+returns-clause-same g c = c.loop-path.invariant.same
+
 pub returns-clause-read : goal.returns-clause-read
 returns-clause-read g c =
     let all = paired_all _ _ _ _ _ (λ path file h. h) c.loop-path.invariant.paired c.loop-path-test.false

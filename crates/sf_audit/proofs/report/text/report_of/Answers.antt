@@ -1,9 +1,9 @@
-use Rattle.sf_audit.proofs.JoinedLemmas.{added_four}
+use Rattle.sf_audit.proofs.JoinedLemmas.{made_of_four}
 use Rattle.sf_audit.proofs.report.text.report_of.Goals as goal
 
 pub returns : goal.returns
 returns c =
-    added_four _ _ _ _ _ _ _ _ _ c.new-text.ensures.bytes
+    made_of_four _ _ _ _ _ _ _ _ _ c.new-text.ensures.bytes
     (rw (c.settled.ensures, c.questions.ensures.same) at c.in_ok-push_head.ensures)
     (rw (c.questions-2.ensures.same, c.replies.ensures.same) at c.in_ok-push_questions.ensures)
     (rw c.settled-2.ensures at c.in_ok-push_shown_regions.ensures)

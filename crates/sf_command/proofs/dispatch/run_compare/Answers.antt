@@ -1,0 +1,31 @@
+use Rattle.std.proofs.Common.{codes, refl}
+use Rattle.std.proofs.lemmas.Result.{IfErr-weaker, IfOk-weaker}
+use Rattle.clap.specs.Words.{found_of}
+use Rattle.sf_command.proofs.CommandLineLemmas.{paths_found}
+use Rattle.sf_command.proofs.dispatch.run_compare.Goals as goal
+
+pub returns-clause-done : goal.returns-clause-done
+returns-clause-done g c = IfOk-weaker c.compare.result _ _ (λ s written. record {
+  old_paths = c.unwrap_or-old.result.now;
+  named_old = rw c.unwrap_or-old.ensures (paths_found (found_of c.args.found.now) (codes "old") c.get_strs.result _
+      c.get_strs.ensures refl);
+  new_paths = c.unwrap_or-new.result.now;
+  named_new = rw c.unwrap_or-new.ensures (paths_found (found_of c.args.found.now) (codes "new") c.get_strs-2.result _
+      c.get_strs-2.ensures refl);
+  budget = c.budget_of.result;
+  counted = c.budget_of.ensures;
+  asked = c.asked_of.result;
+  switched = c.asked_of.ensures;
+  compared = written;
+}) c.compare.ensures.written
+
+pub returns-clause-refused : goal.returns-clause-refused
+returns-clause-refused g c = IfErr-weaker c.compare.result _ _ (λ e why. (
+  c.unwrap_or-old.result.now,
+  rw c.unwrap_or-old.ensures (paths_found (found_of c.args.found.now) (codes "old") c.get_strs.result _
+      c.get_strs.ensures refl),
+  c.unwrap_or-new.result.now,
+  rw c.unwrap_or-new.ensures (paths_found (found_of c.args.found.now) (codes "new") c.get_strs-2.result _
+      c.get_strs-2.ensures refl),
+  why,
+)) c.compare.ensures.refused

@@ -1,0 +1,40 @@
+-- What `compare` reads and writes.
+use Rattle.std.specs.Prelude.{◌≡◌, ◌⊎◌, ◌++◌, ℕ, List, Option, length}
+use Rattle.std.specs.Borrow.{Bor}
+use Rattle.std.specs.Io.KnownBytes.{Appends}
+use Rattle.sf_audit.specs.declared.fault.Fault.{Fault}
+use Rattle.sf_audit.specs.declared.fault.Fault.TheVariants.{Foreign, Memory, Read, Write}
+use Rattle.sf_audit.specs.Filters.{IsFirstRefusal}
+use Rattle.sf_compare.specs.declared.relation.Relation.{Relation}
+use Rattle.sf_compare.specs.Comparisons.{Compared, IsComparison, change_of, comparison_text}
+use Rattle.sf_command.specs.Files.{AreRead, HasUnknown}
+use Rattle.sf_command.specs.Status.{change_status}
+
+module _ (holds : List ℕ → Option (List ℕ)) (old_paths new_paths : List (Bor (List ℕ))) where
+  -- these are the files at the old paths, so many, and then those at the new paths
+  pub record AreBothRead (files : List (List ℕ)) (older : ℕ) : Type 0 where
+    pub olds : List (List ℕ)
+    pub news : List (List ℕ)
+    pub read_old : AreRead holds old_paths olds
+    pub read_new : AreRead holds new_paths news
+    pub whole : files ≡ olds ++ news
+    pub parted : older ≡ length olds
+
+  -- `compare`: the files at the paths are read, their two stacks compared and what was found written; the status tells
+  -- of the relation that is asked for
+  pub record ComparesFiles (budget : ℕ) (asked : Relation) (status : ℕ) (old new : Option (List ℕ)) : Type 0 where
+    pub files : List (List ℕ)
+    pub older : ℕ
+    pub read : AreBothRead files older
+    pub found : Compared
+    pub comparison : IsComparison files older budget found
+    pub written : Appends old new (comparison_text found)
+    pub told : status ≡ change_status (change_of found asked)
+
+  -- Why a comparison is refused: a file, which isn't known, can't be read; writing or memory failed, or the workers left
+  -- another exploration's book; or the files of both stacks together make no lawful stack.
+  abbrev pub RefusesComparison : Fault → Type 0
+  RefusesComparison fault =
+      ((fault ≡ Read) × (HasUnknown holds old_paths ⊎ HasUnknown holds new_paths))
+      ⊎ (fault ≡ Write) ⊎ (fault ≡ Memory) ⊎ (fault ≡ Foreign)
+      ⊎ ((files : List (List ℕ)) × (older : ℕ) × AreBothRead files older × IsFirstRefusal files fault)

@@ -1,0 +1,71 @@
+-- What a comparison tells of questions.
+use Rattle.std.proofs.Common.{◌≡◌, ℕ, ◌<◌, ◌≤◌, true, codes, ◌∷◌, [], refl, sym, subst, inl, inr, arith}
+use Rattle.std.proofs.lemmas.Bool.{cases_lt}
+use Rattle.sf_insn.specs.declared.input.Input.{Input}
+use Rattle.sf_insn.specs.Inputs.{IsInput}
+use Rattle.sf_check.specs.Stacks.{IsLawfulStack}
+use Rattle.sf_run.specs.declared.action.Action.{Action}
+use Rattle.sf_run.specs.declared.action.Action.TheVariants.{KillProcess, KillThread, Trap, Errno, UserNotif, Trace, Log, Allow, Other}
+use Rattle.sf_run.specs.ReplayLaws.{answers_are_right}
+use Rattle.sf_book.specs.Books.{BookData, IsSettled}
+use Rattle.sf_ask.specs.declared.actions.ActionSet.{ActionSet}
+use Rattle.sf_ask.specs.Actions.{has_action}
+use Rattle.sf_ask.specs.QuestionData.{QuestionData}
+use Rattle.sf_ask.specs.Breaking.{Breaks}
+use Rattle.sf_audit.specs.Actions.{set_of}
+use Rattle.sf_compare.specs.declared.relation.Relation.TheVariants.{Looser}
+use Rattle.sf_compare.specs.declared.changes.Change.TheVariants.{Never}
+use Rattle.sf_compare.specs.Relations.{IsUpward, reach_of}
+use Rattle.sf_compare.specs.Changes.{IsRightChange, new_of, old_of}
+use Rattle.sf_compare.proofs.ChangeLemmas.{both_parts}
+
+-- where nothing gets further, what breaks the question under the new stack breaks it under the old one
+pub breaks_no_more : (s : BookData) (older : ℕ) (q : QuestionData) (d : Input) → IsSettled s
+    → IsRightChange s older Looser Never → IsUpward q.actions → IsInput d
+    → Breaks (new_of s older) q d → Breaks (old_of s older) q d
+breaks_no_more s older q d settled never upward is broken =
+    let both = answers_are_right (old_of s older) (new_of s older) d
+    (subst IsLawfulStack (sym (both_parts s older)) settled.lawful.stack) in
+    let before = both.0.older in
+    let answered = both.2.of_older in
+    record {
+      inside = broken.inside;
+      answer = before;
+      answers = answered;
+      asked = upward broken.answer.action before.action broken.asked
+          (elim (cases_lt (reach_of before.action) (reach_of broken.answer.action)) [
+            | inl further ↦ absurd (never.1 d before broken.answer (record {
+              input = is;
+              answered_before = answered;
+              answered_after = broken.answers;
+              related = further;
+            }))
+            | inr no_further ↦ no_further
+          ]);
+    }
+
+abbrev usual : ActionSet
+usual = set_of (codes "ALLOW" ∷ codes "LOG" ∷ [])
+
+-- an action that carries a call out is among the usual ones
+carried_out : (other : Action) → 2 ≤ reach_of other → has_action usual other ≡ true
+carried_out Allow far = refl
+carried_out Log far = refl
+carried_out KillProcess far = absurd (omega arith)
+carried_out KillThread far = absurd (omega arith)
+carried_out Trap far = absurd (omega arith)
+carried_out Errno far = absurd (omega arith)
+carried_out UserNotif far = absurd (omega arith)
+carried_out Trace far = absurd (omega arith)
+carried_out (Other n) far = absurd (omega arith)
+
+pub usual_upward : IsUpward usual
+usual_upward Allow other asked far = carried_out other far
+usual_upward Log other asked far = carried_out other far
+usual_upward KillProcess other asked far = absurd (cc)
+usual_upward KillThread other asked far = absurd (cc)
+usual_upward Trap other asked far = absurd (cc)
+usual_upward Errno other asked far = absurd (cc)
+usual_upward UserNotif other asked far = absurd (cc)
+usual_upward Trace other asked far = absurd (cc)
+usual_upward (Other n) other asked far = absurd (cc)

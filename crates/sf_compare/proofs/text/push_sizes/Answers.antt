@@ -1,0 +1,15 @@
+use Rattle.std.proofs.Common.{◌≡◌, length-take, length-drop, arith}
+use Rattle.std.proofs.lemmas.Result.{on_ok_weaker}
+use Rattle.sf_audit.proofs.JoinedLemmas.{added_four}
+use Rattle.sf_compare.proofs.ChangeLemmas.{last_part}
+use Rattle.sf_compare.proofs.text.push_sizes.Goals as goal
+
+pub returns : goal.returns
+returns c =
+    let s = c.args.settled.now in
+    let programs = c.programs-programs.result.now in
+    let all : programs ≡ s.stack = cc (c.programs-programs.ensures.same, c.deref.ensures, c.stack.ensures.value) in
+    on_ok_weaker c.push_counts.result (λ e. added_four _ _ _ _ _ _ _ _ _ c.in_ok-push_str.ensures.bytes
+    (rw all at c.in_ok-push_part.ensures)
+    (rw (last_part c.args.older programs, all) at c.in_ok-push_part-2.ensures)
+    (rw c.counts.ensures.counts at e)) c.push_counts.ensures

@@ -1,0 +1,81 @@
+-- What a comparison of two stacks of filter files finds, and its text.
+use Rattle.std.specs.Prelude.{◌≡◌, ℕ, ◌≤◌, List, [], ◌∷◌, ◌++◌, codes, length}
+use Rattle.std.specs.Fmt.{decimal}
+use Rattle.sf_check.specs.declared.insn.Insn.{Insn}
+use Rattle.sf_check.specs.Stacks.{IsPlain, path_length}
+use Rattle.sf_run.specs.declared.action.Answer.{Answer}
+use Rattle.sf_book.specs.Books.{BookData, counts_of}
+use Rattle.sf_crew.specs.Explorations.{IsExplorationOf, IsExactExploration}
+use Rattle.sf_audit.specs.Filters.{SpellStack}
+use Rattle.sf_audit.specs.Reports.{action_text, counts_line, hex_text, line}
+use Rattle.sf_compare.specs.declared.relation.Relation.{Relation}
+use Rattle.sf_compare.specs.declared.relation.Relation.TheVariants.{Looser, Tighter, Different}
+use Rattle.sf_compare.specs.declared.changes.Change.{Change}
+use Rattle.sf_compare.specs.declared.changes.Change.TheVariants.{Never, Allowed, Unsettled}
+use Rattle.sf_compare.specs.Changes.{IsChangeOf, new_of, old_of}
+
+-- how the exploration of both stacks as one ended, how many of its programs the old stack has, and what is told of each
+-- relation
+pub record Compared : Type 0 where
+  pub settled : BookData
+  pub older : ℕ
+  pub looser : Change
+  pub tighter : Change
+  pub different : Change
+
+-- the old stack is the first part of the whole
+pub record HasOldPart (c : Compared) : Type 0 where
+  pub part : c.older ≤ length c.settled.stack
+
+-- what is told of a relation
+abbrev pub change_of : Compared → Relation → Change
+change_of c Looser = c.looser
+change_of c Tighter = c.tighter
+change_of c Different = c.different
+
+-- An exploration of the stack came to its end, with nothing outstanding or all of the budget spent, on a plain stack to the
+-- exact end, whoever worked; and of its first programs, as the old stack, and the others what is told is right.
+pub record IsComparedOn (stack : List (List Insn)) (older budget : ℕ) (c : Compared) : Type 0 where
+  pub end : IsExplorationOf stack budget c.settled
+  pub plain : IsPlain stack → IsExactExploration stack budget c.settled
+  pub parted : c.older ≡ older
+  pub told : (relation : Relation) → IsChangeOf c.settled older relation (change_of c relation)
+
+-- so were the stacks of files, those of the old stack before those of the new one
+pub record IsComparison (files : List (List ℕ)) (older budget : ℕ) (c : Compared) : Type 0 where
+  pub stack : SpellStack files c.settled.stack
+  pub compared : IsComparedOn c.settled.stack older budget c
+
+-- how many filters one of the two stacks has, and the length of the path through them
+abbrev pub part_line : List ℕ → List (List Insn) → List ℕ
+part_line which programs = line (which ∷ codes "filters" ∷ decimal (length programs) ∷ codes "path"
+    ∷ decimal (path_length programs) ∷ [])
+
+-- an action and its data
+abbrev pub answer_words : Answer → List ℕ
+answer_words answer = action_text answer.action ++ 32 ∷ decimal answer.info
+
+-- what is told of a relation, and the example with the answers of the old stack and of the new one
+abbrev pub change_line : List ℕ → Change → List ℕ
+change_line relation Never = line (relation ∷ codes "never" ∷ [])
+change_line relation (Allowed e) = line (relation ∷ codes "allowed" ∷ hex_text e.input ∷ answer_words e.before
+    ∷ codes "->" ∷ answer_words e.after ∷ [])
+change_line relation Unsettled = line (relation ∷ codes "unsettled" ∷ [])
+
+-- what each comparison begins with, and the number of its form
+abbrev pub comparison_title : List ℕ
+comparison_title = line (codes "seccomp_audit" ∷ codes "compare" ∷ codes "1" ∷ [])
+
+-- the lines of both stacks and of the exploration
+abbrev pub sizes_text : BookData → ℕ → List ℕ
+sizes_text s older = comparison_title ++ (part_line (codes "old") (old_of s older)
+    ++ (part_line (codes "new") (new_of s older) ++ counts_line (counts_of s)))
+
+-- the lines of the relations
+abbrev pub changes_text : Compared → List ℕ
+changes_text c = change_line (codes "looser") c.looser ++ (change_line (codes "tighter") c.tighter
+    ++ change_line (codes "different") c.different)
+
+-- the whole text
+abbrev pub comparison_text : Compared → List ℕ
+comparison_text c = sizes_text c.settled c.older ++ changes_text c

@@ -1,0 +1,121 @@
+//! What is told of a relation between the answers of two stacks, for all inputs.
+
+ghost use Rattle.std.specs.Prelude.{◌≡◌, ◌<◌, ◌≤◌, ◌⊎◌, ℕ, true, false, length, slice_get, Some, IfOk, IfErr};
+ghost use Rattle.sf_check.specs.Stacks.{IsPlain};
+ghost use Rattle.sf_ask.specs.declared.fault.Fault.TheVariants.{Memory};
+ghost use Rattle.sf_compare.specs.Changes.{AreAnswersAt, IsChangeOf, IsUnchangedAt, IsDoubtfulAt, TellsOfRegion};
+
+use crate::relation::Relation;
+use sf_ask::{Fault, Membership, find_member};
+use sf_book::Settled;
+use sf_insn::Input;
+use sf_run::{Answer, PartAnswers, replay};
+use std::alloc::Global;
+
+/// An input, with the answer of the old stack and that of the new one.
+#[derive(Clone, Copy, Debug, PartialEq, Eq)]
+pub struct Example {
+    pub input: Input,
+    pub before: Answer,
+    pub after: Answer,
+}
+
+/// What is told of a relation between the answers of two stacks.
+#[derive(Clone, Copy, Debug, PartialEq, Eq)]
+pub enum Change {
+    /// No input is changed so.
+    Never,
+    /// This input is changed so.
+    Allowed(Example),
+    /// Nothing was found, but a piece is outstanding or a region is in doubt.
+    Unsettled,
+}
+
+/// The answers of both stacks to the members of the region at a place.
+fn answers_at(settled: &Settled, older: usize, place: usize) -> PartAnswers
+    requires older { older ≤ length settled.now.stack }
+    requires place { place < length settled.now.regions }
+    ensures { AreAnswersAt settled.now older place result }
+{
+    let programs = settled.stack().programs();
+    let route = settled.region(place).name();
+    match replay(&programs[..older], &programs[older..], route) {
+        Some(both) => both,
+        None => unreachable!(),
+    }
+}
+
+/// What the region at a place tells of a relation: `Never` where no member is changed so, `Allowed` with a member that is,
+/// and else `Unsettled`. `Memory` where a growth is refused.
+fn looked_at(
+    alloc: Global,
+    settled: &Settled,
+    older: usize,
+    relation: Relation,
+    place: usize,
+) -> Result<Change, Fault>
+    requires older { older ≤ length settled.now.stack }
+    requires place { place < length settled.now.regions }
+    ensures ok { IfOk result (TellsOfRegion settled.now older relation place) }
+    ensures err { IfErr result (λ f. f ≡ Memory) }
+{
+    let both = answers_at(settled, older, place);
+    if !relation.holds(both.older, both.newer) {
+        return Ok(Change::Never);
+    }
+    match find_member(alloc, settled.region(place).piece())? {
+        Membership::Empty => Ok(Change::Never),
+        Membership::Doubt => Ok(Change::Unsettled),
+        Membership::Member(input) => Ok(Change::Allowed(Example {
+            input,
+            before: both.older,
+            after: both.newer,
+        })),
+    }
+}
+
+/// The reply where no region is known to have a member that is changed so.
+fn without_example(settled: &Settled, older: usize, relation: Relation, doubt: bool) -> Change
+    requires passed { doubt ≡ false → (r : ℕ) → r < length settled.now.regions
+        → IsUnchangedAt settled.now older relation r }
+    requires doubtful { doubt ≡ true → (r : ℕ) × IsDoubtfulAt settled.now older relation r }
+    requires plain { IsPlain settled.now.stack → doubt ≡ false }
+    ensures { IsChangeOf settled.now older relation result }
+{
+    let left = settled.outstanding_count();
+    // For the prover: only clauses speak of these.
+    let _of = (older, relation);
+    if doubt || left > 0 {
+        Change::Unsettled
+    } else {
+        Change::Never
+    }
+}
+
+/// What is told of a relation between the answers of an old stack and of a new one, for all inputs. Both were explored as
+/// one stack: its first `older` programs are the old stack, and the others the new one. The caller's condition: there are
+/// as many programs.
+///
+/// `Never` where nothing is outstanding and no input is changed so; `Allowed` with an input that is, which is a member of
+/// the first region where one was found; else `Unsettled`. On a plain stack the example is the least one of the first
+/// region that has any, and `Unsettled` comes only where a piece is outstanding. `Memory` where a growth is refused.
+pub fn find_change(
+    alloc: Global,
+    settled: &Settled,
+    older: usize,
+    relation: Relation,
+) -> Result<Change, Fault>
+    requires { older ≤ length settled.now.stack }
+    ensures ok { IfOk result (IsChangeOf settled.now older relation) }
+    ensures err { IfErr result (λ f. f ≡ Memory) }
+{
+    let mut doubt = false;
+    for place in 0..settled.region_count() {
+        match looked_at(alloc, settled, older, relation, place)? {
+            Change::Allowed(example) => return Ok(Change::Allowed(example)),
+            Change::Unsettled => doubt = true,
+            Change::Never => {}
+        }
+    }
+    Ok(without_example(settled, older, relation, doubt))
+}

@@ -1,0 +1,157 @@
+//! The comparison of two stacks of filter files.
+
+ghost use Rattle.std.specs.Prelude.{◌≡◌, ◌⊎◌, ◌<◌, ◌≤◌, length, map, IfOk, IfErr};
+ghost use Rattle.sf_audit.specs.Filters.{IsFirstRefusal};
+ghost use Rattle.sf_compare.specs.Changes.{IsChangeOf};
+ghost use Rattle.sf_compare.specs.Comparisons.{change_of, IsComparedOn, IsComparison};
+
+use crate::changes::{Change, find_change};
+use crate::relation::Relation;
+use sf_audit::{Fault, stack_of};
+use sf_book::Settled;
+use sf_check::Stack;
+use sf_crew::{Gate, explore};
+use std::alloc::Global;
+use std::marker::Model;
+use std::sync::{Arc, Wait};
+use std::thread::Threads;
+
+/// What a comparison found: how the exploration of both stacks as one ended, and what is told of each relation.
+#[derive(Drop)]
+pub struct Comparison {
+    settled: Settled,
+    older: usize,
+    looser: Change,
+    tighter: Change,
+    different: Change,
+}
+
+impl Model for Comparison {
+    ghost use Rattle.sf_compare.specs.Comparisons.{Compared, HasOldPart};
+
+    ghost Value = { Compared };
+
+    ghost view = { λ c. record {
+      settled = c.settled;
+      older = c.older;
+      looser = c.looser;
+      tighter = c.tighter;
+      different = c.different;
+    } };
+
+    ghost invariant = { λ c. HasOldPart (record {
+      settled = c.settled;
+      older = c.older;
+      looser = c.looser;
+      tighter = c.tighter;
+      different = c.different;
+    }) };
+}
+
+impl Comparison {
+    /// How the exploration of both stacks ended, the old one's programs before those of the new one.
+    pub fn settled(&self) -> &Settled
+        ensures { result.now ≡ self.now.settled }
+    {
+        &self.settled
+    }
+
+    /// How many of the programs are those of the old stack.
+    pub fn older(&self) -> usize
+        ensures same { result ≡ self.now.older }
+        ensures part { self.now.older ≤ length self.now.settled.stack }
+    {
+        self.older
+    }
+
+    /// What is told of a relation.
+    pub fn change(&self, relation: Relation) -> Change
+        ensures { result ≡ change_of self.now relation }
+    {
+        match relation {
+            Relation::Looser => self.looser,
+            Relation::Tighter => self.tighter,
+            Relation::Different => self.different,
+        }
+    }
+}
+
+/// What is told of a relation. `Memory` where a growth is refused.
+fn told_of(
+    alloc: Global,
+    settled: &Settled,
+    older: usize,
+    relation: Relation,
+) -> Result<Change, Fault>
+    requires { older ≤ length settled.now.stack }
+    ensures ok { IfOk result (IsChangeOf settled.now older relation) }
+    ensures err { IfErr result (λ e. e ≡ Fault.Memory) }
+{
+    match find_change(alloc, settled, older, relation) {
+        Ok(change) => Ok(change),
+        Err(_) => Err(Fault::Memory),
+    }
+}
+
+/// The comparison of a stack's first programs with the others.
+fn compare_parts<R: Threads + Wait + Sync, G: Gate>(
+    rt: &R,
+    alloc: Global,
+    stack: Stack,
+    older: usize,
+    budget: u32,
+    workers: usize,
+    gate: &G,
+) -> Result<Comparison, Fault>
+    requires workers { (0 < workers) × (workers ≤ 64) }
+    requires older { older ≤ length stack }
+    ensures found { IfOk result (IsComparedOn stack older budget) }
+    ensures refused { IfErr result (λ e. (e ≡ Fault.Memory) ⊎ (e ≡ Fault.Foreign)) }
+    ensures alone { workers ≡ 1 → IfErr result (λ e. e ≡ Fault.Memory) }
+{
+    let stack = Arc::new(alloc, stack)?;
+    let settled = explore(rt, alloc, stack, budget, workers, gate)?;
+    let looser = told_of(alloc, &settled, older, Relation::Looser)?;
+    let tighter = told_of(alloc, &settled, older, Relation::Tighter)?;
+    let different = told_of(alloc, &settled, older, Relation::Different)?;
+    Ok(Comparison {
+        settled,
+        older,
+        looser,
+        tighter,
+        different,
+    })
+}
+
+/// Compares two stacks, for all inputs. The filter files of the old stack stand before those of the new one, each in order
+/// of installation, the newest last, and `older` of them are the old stack's. Both are explored as one stack, by at most
+/// `budget` works; the gate sees each work before it is committed.
+///
+/// The caller's conditions: as many files, a budget from 1 to 1,000,000 and 1 to 64 workers, each a thread of its own where
+/// there are more than one. Refusals: those of `stack_of` for all files together. `Memory` can come anywhere. `Foreign`, with
+/// 2 or more workers alone, where they left the book of another stack or budget; no test sees that. Waits for the workers.
+pub fn compare<R: Threads + Wait + Sync, G: Gate>(
+    rt: &R,
+    alloc: Global,
+    filters: &[Vec<u8>],
+    older: usize,
+    budget: u32,
+    workers: usize,
+    gate: &G,
+) -> Result<Comparison, Fault>
+    requires workers { (0 < workers) × (workers ≤ 64) }
+    requires older { older ≤ length filters.now }
+
+    // What is told of the two stacks that the files spell is right.
+    ensures found { IfOk result (IsComparison (map (λ f. f.items) filters.now) older budget) }
+
+    // Anything else is the files' first refusal, but for want of memory, and a book of another exploration from several
+    // workers.
+    ensures refused { IfErr result (λ e. (e ≡ Fault.Memory)
+        ⊎ ((e ≡ Fault.Foreign) ⊎ IsFirstRefusal (map (λ f. f.items) filters.now) e)) }
+    ensures alone { workers ≡ 1 → IfErr result (λ e. (e ≡ Fault.Memory)
+        ⊎ IsFirstRefusal (map (λ f. f.items) filters.now) e) }
+{
+    let stack = stack_of(alloc, filters)?;
+    compare_parts(rt, alloc, stack, older, budget, workers, gate)
+}

@@ -1,0 +1,123 @@
+//! The text of a comparison.
+
+ghost use Rattle.std.specs.Prelude.{◌≡◌, ◌≤◌, ◌⊎◌, ◌++◌, IfOk, IfErr, OnOk, OnErr, length, string_bytes};
+ghost use Rattle.std.specs.Io.KnownBytes.{Appends};
+ghost use Rattle.sf_audit.specs.Reports.{AppendsFront};
+ghost use Rattle.sf_audit.specs.declared.fault.Fault.TheVariants.{Memory as MemoryFault, Write as WriteFault};
+ghost use Rattle.sf_compare.specs.Comparisons.{answer_words, change_line, changes_text, comparison_text, part_line, sizes_text};
+
+use crate::changes::Change;
+use crate::comparison::Comparison;
+use crate::relation::Relation;
+use sf_audit::{Fault, hex_of, push_action, push_counts, write_bytes};
+use sf_book::Settled;
+use sf_check::{Program, path_length};
+use sf_run::Answer;
+use std::alloc::{AllocError, Global};
+use std::io::Write;
+
+/// An action and its data.
+fn push_answer(text: &mut String, answer: Answer) -> Result<(), AllocError>
+    ensures { OnOk result (string_bytes text.new ≡ string_bytes text.old ++ answer_words answer) }
+{
+    push_action(text, answer.action)?;
+    let info = answer.info;
+    write!(text, " {info}")
+}
+
+/// The line of a relation: what is told of it, and the example with both answers.
+fn push_change(
+    alloc: Global,
+    text: &mut String,
+    relation: &str,
+    change: Change,
+) -> Result<(), AllocError>
+    ensures { OnOk result (string_bytes text.new ≡ string_bytes text.old
+        ++ change_line relation.now change) }
+{
+    match change {
+        Change::Never => write!(text, "{relation} never\n"),
+        Change::Unsettled => write!(text, "{relation} unsettled\n"),
+        Change::Allowed(example) => {
+            let digits = hex_of(alloc, &example.input)?;
+            write!(text, "{relation} allowed {digits} ")?;
+            push_answer(text, example.before)?;
+            text.push_str(" -> ")?;
+            push_answer(text, example.after)?;
+            text.push_str("\n")
+        }
+    }
+}
+
+/// The lines of the relations.
+fn push_changes(
+    alloc: Global,
+    text: &mut String,
+    comparison: &Comparison,
+) -> Result<(), AllocError>
+    ensures { OnOk result (string_bytes text.new ≡ string_bytes text.old
+        ++ changes_text comparison.now) }
+{
+    push_change(alloc, text, "looser", comparison.change(Relation::Looser))?;
+    push_change(alloc, text, "tighter", comparison.change(Relation::Tighter))?;
+    push_change(alloc, text, "different", comparison.change(Relation::Different))
+}
+
+/// The line that tells the size of one of the two stacks.
+fn push_part(text: &mut String, which: &str, programs: &[Program]) -> Result<(), AllocError>
+    requires { length programs.now ≤ 64 }
+    ensures { OnOk result (string_bytes text.new ≡ string_bytes text.old
+        ++ part_line which.now programs.now) }
+{
+    let filters = programs.len();
+    let path = path_length(programs);
+    write!(text, "{which} filters {filters} path {path}\n")
+}
+
+/// What stands above the relations: the version of the text, the sizes of both stacks, and the counts.
+fn push_sizes(text: &mut String, settled: &Settled, older: usize) -> Result<(), AllocError>
+    requires { older ≤ length settled.now.stack }
+    ensures { OnOk result (string_bytes text.new ≡ string_bytes text.old
+        ++ sizes_text settled.now older) }
+{
+    text.push_str("seccomp_audit compare 1\n")?;
+    let programs = settled.stack().programs();
+    push_part(text, "old", &programs[..older])?;
+    push_part(text, "new", &programs[older..])?;
+    push_counts(text, settled.counts())
+}
+
+/// The whole text.
+fn text_of(alloc: Global, comparison: &Comparison) -> Result<String, AllocError>
+    ensures { IfOk result (λ text. string_bytes text ≡ comparison_text comparison.now) }
+{
+    let mut text = String::new(alloc);
+    push_sizes(&mut text, comparison.settled(), comparison.older())?;
+    push_changes(alloc, &mut text, comparison)?;
+    Ok(text)
+}
+
+/// Writes the text of a comparison.
+///
+/// `Write` where a write fails or takes no byte, `Memory` where the text can't be built. After either a beginning of the text
+/// was written, after `Memory` nothing.
+pub fn write_comparison<W: Write>(
+    alloc: Global,
+    comparison: &Comparison,
+    out: &mut W,
+) -> Result<(), Fault>
+    // The text is written, to a writer that tells its bytes.
+    ensures written { OnOk result (Appends (W.contents out.old) (W.contents out.new)
+        (comparison_text comparison.now)) }
+
+    // Otherwise a beginning of it is.
+    ensures begun { OnErr result (AppendsFront (W.contents out.old) (W.contents out.new)
+        (comparison_text comparison.now)) }
+
+    // Nothing else is told than that writing failed or memory ran out, and then nothing was written.
+    ensures refused { IfErr result (λ e. (e ≡ WriteFault)
+        ⊎ ((e ≡ MemoryFault) × (out.new ≡ out.old))) }
+{
+    let text = text_of(alloc, comparison)?;
+    write_bytes(text.as_bytes(), out)
+}
