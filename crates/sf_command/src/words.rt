@@ -17,11 +17,10 @@ const AFTER_HELP: &str = "Exit status:
   3  a filter, the stack, the policy or the input is refused
   4  the command line is refused
   5  a file can't be read, standard output can't be written, or memory ran out
-  With --same, compare has the status of different.
 
 Limits:
-  1 to 64 filters of 1 to 4096 instructions each, with a path length of at most 32768;
-    of compare, both stacks together
+  1 to 64 filters of 1 to 4096 instructions each (compare: of both stacks together)
+  a path length of at most 32768 (compare: of both stacks together)
   1 to 256 questions of a policy
   1 to 1000000 pieces that are worked on (--budget), 100000 if not given
   1 to 64 workers (--workers), 4 if not given
