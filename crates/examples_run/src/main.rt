@@ -1,11 +1,14 @@
-//! Checks, evaluates and audits real filters: lines such as `check A.bpf B.bpf`, `eval HEX A.bpf B.bpf` and
-//! `audit POLICY A.bpf B.bpf` come on standard input, and the files lie where the program runs.
+//! Checks, evaluates, audits and compares real filters: lines such as `check A.bpf B.bpf`, `eval HEX A.bpf B.bpf`,
+//! `audit POLICY A.bpf B.bpf` and `compare OLD.bpf -- NEW.bpf` come on standard input, and the files lie where the program
+//! runs.
 #![tactic(auto)]
 
 mod auditing;
+mod comparing;
 mod meeting;
 
 use crate::auditing::show_audit;
+use crate::comparing::show_comparison;
 use hex::FromHex;
 use sf_check::{Program, Stack, check};
 use sf_insn::{decode, input_of_bytes};
@@ -64,6 +67,25 @@ fn show_audit_of<R: Files + Print + Threads + Wait + Sync + AllocGlobal>(
     show_audit(rt, rt.alloc(), policy.as_str(), &filters)
 }
 
+/// Shows what a comparison of the filter files before two dashes with those behind them finds.
+fn show_comparison_of<R: Files + Print + Threads + Wait + Sync + AllocGlobal>(
+    rt: &R,
+    paths: &[&str],
+) -> Result<(), Fail> {
+    let mut filters = Vec::new(rt.alloc());
+    let mut older = 0;
+    for path in paths {
+        if *path == "--" {
+            older = filters.len();
+        } else {
+            let bytes = fs::read(rt, path)?;
+            filters.push(bytes)?;
+        }
+    }
+    let older = older.min(filters.len());
+    show_comparison(rt, rt.alloc(), &filters, older)
+}
+
 /// Does what one line says.
 fn show<R: Files + Print + Threads + Wait + Sync + AllocGlobal>(
     rt: &R,
@@ -74,6 +96,7 @@ fn show<R: Files + Print + Threads + Wait + Sync + AllocGlobal>(
         ["check", paths @ ..] => show_check(rt, &stack_in(rt, paths)?)?,
         ["eval", digits, paths @ ..] => show_answer(rt, &stack_in(rt, paths)?, digits)?,
         ["audit", policy, paths @ ..] => show_audit_of(rt, policy, paths)?,
+        ["compare", paths @ ..] => show_comparison_of(rt, paths)?,
         _ => println!(rt; "unknown line")?,
     }
     Ok(())

@@ -1,0 +1,53 @@
+//! Compares real filters, and shows that the number of workers changes no byte of what is told.
+
+ghost use Rattle.std.specs.Prelude.{◌<◌, ◌≤◌, length};
+
+use sf_compare::{compare, write_comparison};
+use sf_crew::Open;
+use std::alloc::Global;
+use std::sync::Wait;
+use std::test::Fail;
+use std::thread::Threads;
+
+/// More than any two of these stacks need.
+const BUDGET: u32 = 100_000;
+
+/// What a comparison by so many workers tells.
+fn text_of<R: Threads + Wait + Sync>(
+    rt: &R,
+    alloc: Global,
+    filters: &[Vec<u8>],
+    older: usize,
+    workers: usize,
+) -> Result<Vec<u8>, Fail>
+    requires workers { (0 < workers) × (workers ≤ 64) }
+    requires older { older ≤ length filters.now }
+{
+    let comparison = compare(rt, alloc, filters, older, BUDGET, workers, &Open)?;
+    let mut text = Vec::new(alloc);
+    write_comparison(alloc, &comparison, &mut text)?;
+    Ok(text)
+}
+
+/// Shows what is told of the change from the first filters, so many, to the others, and whether comparisons by 1, 2, 8 and 64
+/// workers tell the same.
+pub fn show_comparison<R: Threads + Wait + Sync + Print>(
+    rt: &R,
+    alloc: Global,
+    filters: &[Vec<u8>],
+    older: usize,
+) -> Result<(), Fail>
+    requires { older ≤ length filters.now }
+{
+    let alone = text_of(rt, alloc, filters, older, 1)?;
+    print!(rt; "{}", std::str::from_utf8(&alone)?)?;
+    let two = text_of(rt, alloc, filters, older, 2)?;
+    let eight = text_of(rt, alloc, filters, older, 8)?;
+    let many = text_of(rt, alloc, filters, older, 64)?;
+    if alone == two && alone == eight && alone == many {
+        println!(rt; "the same with 1, 2, 8 and 64 workers")?;
+    } else {
+        println!(rt; "not the same with 1, 2, 8 and 64 workers")?;
+    }
+    Ok(())
+}
