@@ -6,6 +6,7 @@ use crate::refused::{MEMORY, Refused, Tally};
 use crate::stacks::POLICY;
 use sf_audit::{Fault, audit, read_policy, stack_of, write_report};
 use sf_crew::Open;
+use std::alloc::Global;
 use std::io;
 use std::io::Write;
 use std::sync::Wait;
@@ -26,7 +27,7 @@ impl Page {
         }
     }
 
-    fn bytes(&self) -> &[u8] {
+    pub fn bytes(&self) -> &[u8] {
         self.held.get(..self.len).unwrap_or(&[])
     }
 
@@ -70,6 +71,16 @@ fn report<R: Threads + Wait + Sync + AllocGlobal>(
     Ok(())
 }
 
+/// Adds the bytes of these files.
+pub fn push_filters(alloc: Global, filters: &mut Vec<Vec<u8>>, files: &[&[u8]]) -> Result<(), Refused> {
+    for file in files {
+        let mut filter = Vec::new(alloc);
+        filter.extend_from_slice(file)?;
+        filters.push(filter)?;
+    }
+    Ok(())
+}
+
 /// The report of an audit by one worker, which has to be that of two and of eight.
 pub fn audited<R: Threads + Wait + Sync + AllocGlobal>(
     rt: &R,
@@ -77,13 +88,8 @@ pub fn audited<R: Threads + Wait + Sync + AllocGlobal>(
     files: &[&[u8]],
     page: &mut Page,
 ) -> Result<(), Refused> {
-    let alloc = rt.alloc();
-    let mut filters = Vec::new(alloc);
-    for file in files {
-        let mut filter = Vec::new(alloc);
-        filter.extend_from_slice(file)?;
-        filters.push(filter)?;
-    }
+    let mut filters = Vec::new(rt.alloc());
+    push_filters(rt.alloc(), &mut filters, files)?;
     report(rt, &filters, 1, page)?;
     let mut by_two = Page::new();
     report(rt, &filters, 2, &mut by_two)?;

@@ -10,6 +10,7 @@
 
 mod auditing;
 mod books;
+mod comparing;
 mod exploring;
 mod failing;
 mod filling;
@@ -18,6 +19,7 @@ mod stacks;
 mod trying;
 
 use crate::auditing::{Page, audited, refusals};
+use crate::comparing::compared;
 use crate::exploring::{bench_of, explored, judged};
 use crate::failing::starve_all;
 use crate::filling::fill_bench;
@@ -55,6 +57,7 @@ fn calls_on<R: Threads + Wait + Sync + AllocGlobal>(
     let settled = explored(alloc, tally, &stack, &mut text)?;
     judged(alloc, &settled, &mut text)?;
     audited(rt, tally, files, page)?;
+    compared(rt, tally, files, page)?;
     Ok(text)
 }
 

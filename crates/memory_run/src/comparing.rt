@@ -1,0 +1,49 @@
+//! Comparisons and what they tell.
+
+ghost use Rattle.std.specs.Prelude.{◌≤◌, ◌<◌, length};
+
+use crate::auditing::{Page, push_filters};
+use crate::refused::{Refused, Tally};
+use sf_compare::{compare, write_comparison};
+use sf_crew::Open;
+use std::sync::Wait;
+use std::thread::Threads;
+
+/// Compares the first filters, so many, with the others, and writes what is told.
+fn tell<R: Threads + Wait + Sync + AllocGlobal>(
+    rt: &R,
+    filters: &[Vec<u8>],
+    older: usize,
+    workers: usize,
+    page: &mut Page,
+) -> Result<(), Refused>
+    requires workers { (0 < workers) × (workers ≤ 64) }
+    requires older { older ≤ length filters.now }
+{
+    let alloc = rt.alloc();
+    let comparison = compare(rt, alloc, filters, older, 1000, workers, &Open)?;
+    write_comparison(alloc, &comparison, page)?;
+    Ok(())
+}
+
+/// What one worker tells of the stack of these files and the same stack, which two and eight have to tell too.
+pub fn compared<R: Threads + Wait + Sync + AllocGlobal>(
+    rt: &R,
+    tally: &mut Tally,
+    files: &[&[u8]],
+    page: &mut Page,
+) -> Result<(), Refused> {
+    let mut filters = Vec::new(rt.alloc());
+    push_filters(rt.alloc(), &mut filters, files)?;
+    push_filters(rt.alloc(), &mut filters, files)?;
+    let older = files.len().min(filters.len());
+    let mut alone = Page::new();
+    tell(rt, &filters, older, 1, &mut alone)?;
+    let mut by_two = Page::new();
+    tell(rt, &filters, older, 2, &mut by_two)?;
+    tally.expect(by_two.bytes() == alone.bytes());
+    let mut by_eight = Page::new();
+    tell(rt, &filters, older, 8, &mut by_eight)?;
+    tally.expect(by_eight.bytes() == alone.bytes());
+    tell(rt, &filters, older, 1, page)
+}
