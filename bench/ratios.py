@@ -5,6 +5,8 @@ Usage: bench/ratios.py PROGRAM families [WORKERS]   filters that grow: time a co
                                                     and peak memory to those of the smallest filter of all
        bench/ratios.py PROGRAM workers              65,536 regions by 1, 2 and 4 workers: whole run to that of one worker
        bench/ratios.py PROGRAM stacks FOLDER..      the filters NN.bpf of each folder: whole run to the shortest
+       bench/ratios.py PROGRAM changes FOLDER..     the same filters compared with themselves: whole run and peak memory to those of two
+                                                    audits
 
 PROGRAM is the built seccomp_audit. Each time is the least of a few runs; a time a commit, and the runs of workers, are told less what a
 run of the smallest filter takes. With --instructions before PROGRAM the instructions of one run stand for its time, as valgrind counts
@@ -16,7 +18,7 @@ import sys
 import tempfile
 
 from filters import ALLOW, chain, doublings, filters_in, low_half, negations, repeated_tests, tree
-from runs import audit_of, commits_of, instructions, run
+from runs import audit_of, commits_of, comparison_of, instructions, run
 
 REPEATS = 3
 
@@ -34,12 +36,17 @@ FAMILIES = [
 POLICY = 'version = 1\n[[question]]\nname = "any-call"\nnr = 0xffffffff\n'
 
 
-def measured(program, workers, folder, filters):
-    """The cost of a run, its peak memory in kilobytes, and the commits."""
-    command = [program, *audit_of(folder, POLICY, filters, workers=workers)]
+def cost_of(command):
+    """The cost of a run, its peak memory in kilobytes, and what it writes."""
     runs = [run(command) for _ in range(1 if COUNTS else REPEATS)]
     cost = instructions(command) if COUNTS else min(one.seconds for one in runs)
-    return cost, max(one.peak for one in runs), commits_of(runs[0].output)
+    return cost, max(one.peak for one in runs), runs[0].output
+
+
+def measured(program, workers, folder, filters):
+    """The cost of an audit, its peak memory in kilobytes, and the commits."""
+    cost, peak, report = cost_of([program, *audit_of(folder, POLICY, filters, workers=workers)])
+    return cost, peak, commits_of(report)
 
 
 def show_families(program, workers, folder):
@@ -72,6 +79,15 @@ def show_stacks(program, folders, folder):
         print(f"{name:28} commits {commits:6} run {cost / least:6.2f}")
 
 
+def show_changes(program, folders, folder):
+    for stack in folders:
+        filters = filters_in(stack)
+        audit, audit_peak, _ = measured(program, 1, folder, filters)
+        cost, peak, text = cost_of([program, *comparison_of(folder, filters)])
+        told = b" ".join(line.split()[1] for line in text.splitlines()[4:]).decode()
+        print(f"{os.path.basename(os.path.normpath(stack)):28} run {cost / (2 * audit):6.2f} memory {peak / (2 * audit_peak):6.2f} {told}")
+
+
 def main():
     words = [word for word in sys.argv[1:] if word != "--instructions"]
     if len(words) < 2:
@@ -84,6 +100,8 @@ def main():
             show_workers(program, folder)
         elif what == "stacks":
             show_stacks(program, rest, folder)
+        elif what == "changes":
+            show_changes(program, rest, folder)
         else:
             sys.exit(__doc__)
 

@@ -45,16 +45,27 @@ def instructions(command):
     return int(re.search(r"Collected : (\d+)", said).group(1))
 
 
+def written(folder, filters):
+    """The paths of these filters, which are written into the folder."""
+    paths = [os.path.join(folder, f"{number:02}.bpf") for number in range(1, len(filters) + 1)]
+    for path, data in zip(paths, filters):
+        with open(path, "wb") as file:
+            file.write(data)
+    return paths
+
+
 def audit_of(folder, policy, filters, budget=MOST_BUDGET, workers=1):
     """The words after a program's path that make it audit these filters; the files for it are written into the folder."""
     words = ["audit", "--budget", str(budget), "--workers", str(workers), "--policy", os.path.join(folder, "policy.toml")]
     with open(words[-1], "w", encoding="utf-8") as file:
         file.write(policy)
-    for number, data in enumerate(filters, 1):
-        words.append(os.path.join(folder, f"{number:02}.bpf"))
-        with open(words[-1], "wb") as file:
-            file.write(data)
-    return words
+    return words + written(folder, filters)
+
+
+def comparison_of(folder, filters, budget=MOST_BUDGET, workers=1):
+    """The words that make it compare these filters with themselves."""
+    paths = written(folder, filters)
+    return ["compare", "--budget", str(budget), "--workers", str(workers), "--old", *paths, "--new", *paths]
 
 
 def commits_of(report):
