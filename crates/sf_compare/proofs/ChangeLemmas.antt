@@ -19,6 +19,8 @@ use Rattle.sf_ask.specs.MemberLaws.{in_some_region}
 use Rattle.sf_compare.specs.declared.relation.Relation.{Relation}
 use Rattle.sf_compare.specs.declared.changes.Change.TheVariants.{Never, Allowed}
 use Rattle.sf_compare.specs.declared.changes.Example.{Example}
+use Rattle.sf_compare.specs.declared.relation.Relation.TheVariants.{Looser, Tighter, Different}
+use Rattle.sf_compare.specs.Comparisons.{Compared, change_of}
 use Rattle.sf_compare.specs.Relations.{AreRelated}
 use Rattle.sf_compare.specs.Changes.{IsChange, old_of, new_of, AreAnswersOf, AreAnswersAt, IsUnchangedAt, IsLeastAt, IsChangeOf}
 
@@ -125,3 +127,11 @@ allowed s older relation place e change least earlier = record {
   right = change;
   plain = λ h. record { place = place; least = least h; none_earlier = earlier h };
 }
+
+-- what is told of each relation
+pub all_told : (c : Compared) (older : ℕ) → IsChangeOf c.settled older Looser c.looser
+    → IsChangeOf c.settled older Tighter c.tighter → IsChangeOf c.settled older Different c.different
+    → (relation : Relation) → IsChangeOf c.settled older relation (change_of c relation)
+all_told c older looser tighter different Looser = looser
+all_told c older looser tighter different Tighter = tighter
+all_told c older looser tighter different Different = different

@@ -17,12 +17,14 @@ use std::alloc::{AllocError, Global};
 use std::io::Write;
 
 /// An action and its data.
-fn push_answer(text: &mut String, answer: Answer) -> Result<(), AllocError>
-    ensures { OnOk result (string_bytes text.new ≡ string_bytes text.old ++ answer_words answer) }
+fn words_of(alloc: Global, answer: Answer) -> Result<String, AllocError>
+    ensures { IfOk result (λ text. string_bytes text ≡ answer_words answer) }
 {
-    push_action(text, answer.action)?;
+    let mut text = String::new(alloc);
+    push_action(&mut text, answer.action)?;
     let info = answer.info;
-    write!(text, " {info}")
+    write!(&mut text, " {info}")?;
+    Ok(text)
 }
 
 /// The line of a relation: what is told of it, and the example with both answers.
@@ -40,11 +42,12 @@ fn push_change(
         Change::Unsettled => write!(text, "{relation} unsettled\n"),
         Change::Allowed(example) => {
             let digits = hex_of(alloc, &example.input)?;
-            write!(text, "{relation} allowed {digits} ")?;
-            push_answer(text, example.before)?;
-            text.push_str(" -> ")?;
-            push_answer(text, example.after)?;
-            text.push_str("\n")
+            let before = words_of(alloc, example.before)?;
+            let after = words_of(alloc, example.after)?;
+            write!(
+                text,
+                "{relation} allowed {digits} {before} -> {after}\n"
+            )
         }
     }
 }

@@ -1,4 +1,5 @@
-use Rattle.std.proofs.Common.{◌≤◌, List, length, length-map, subst, sym, arith}
+use Rattle.std.proofs.Common.{List, map, subst, sym, arith}
+use Rattle.std.proofs.lemmas.List.{length-map}
 use Rattle.std.proofs.lemmas.Result.{IfOk-weaker}
 use Rattle.sf_check.specs.declared.insn.Insn.{Insn}
 use Rattle.sf_audit.specs.Filters.{SpellStack}
@@ -12,6 +13,6 @@ compare_parts-requires-clause-older g c =
 
 pub returns-clause-found : goal.returns-clause-found
 returns-clause-found g c = IfOk-weaker c.compare_parts.result _ _ (λ r h. record {
-  stack = subst (λ (p : List (List Insn)). SpellStack _ p) (sym h.end.of) c.in_ok-stack.ensures.accepted;
+  stack = subst (λ (p : List (List Insn)). SpellStack (map (λ f. f.items) c.args.filters.now) p) (sym h.end.of) c.in_ok-stack.ensures.accepted;
   compared = subst (λ (p : List (List Insn)). IsComparedOn p c.args.older c.args.budget r) (sym h.end.of) h;
 }) c.compare_parts.ensures.found
