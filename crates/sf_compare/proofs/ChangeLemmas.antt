@@ -17,10 +17,11 @@ use Rattle.sf_book.specs.ExactLaws.{member_trace}
 use Rattle.sf_ask.specs.Verdicts.{IsMemberAt}
 use Rattle.sf_ask.specs.MemberLaws.{in_some_region}
 use Rattle.sf_compare.specs.declared.relation.Relation.{Relation}
+use Rattle.sf_compare.specs.declared.changes.Change.{Change}
 use Rattle.sf_compare.specs.declared.changes.Change.TheVariants.{Never, Allowed}
 use Rattle.sf_compare.specs.declared.changes.Example.{Example}
 use Rattle.sf_compare.specs.declared.relation.Relation.TheVariants.{Looser, Tighter, Different}
-use Rattle.sf_compare.specs.Comparisons.{Compared, change_of}
+use Rattle.sf_compare.specs.Comparisons.{change_of}
 use Rattle.sf_compare.specs.Relations.{AreRelated}
 use Rattle.sf_compare.specs.Changes.{IsChange, old_of, new_of, AreAnswersOf, AreAnswersAt, IsUnchangedAt, IsLeastAt, IsChangeOf}
 
@@ -129,9 +130,15 @@ allowed s older relation place e change least earlier = record {
 }
 
 -- what is told of each relation
-pub all_told : (c : Compared) (older : ℕ) → IsChangeOf c.settled older Looser c.looser
-    → IsChangeOf c.settled older Tighter c.tighter → IsChangeOf c.settled older Different c.different
-    → (relation : Relation) → IsChangeOf c.settled older relation (change_of c relation)
-all_told c older looser tighter different Looser = looser
-all_told c older looser tighter different Tighter = tighter
-all_told c older looser tighter different Different = different
+pub all_told : (s : BookData) (older : ℕ) (looser tighter different : Change) → IsChangeOf s older Looser looser
+    → IsChangeOf s older Tighter tighter → IsChangeOf s older Different different → (relation : Relation)
+    → IsChangeOf s older relation (change_of (record {
+      settled = s;
+      older = older;
+      looser = looser;
+      tighter = tighter;
+      different = different;
+    }) relation)
+all_told s older l t d looser tighter different Looser = looser
+all_told s older l t d looser tighter different Tighter = tighter
+all_told s older l t d looser tighter different Different = different

@@ -1,4 +1,4 @@
-use Rattle.std.proofs.Common.{◌≡◌, length-take, length-drop, arith}
+use Rattle.std.proofs.Common.{◌≡◌}
 use Rattle.std.proofs.lemmas.Result.{on_ok_weaker}
 use Rattle.sf_audit.proofs.JoinedLemmas.{added_four}
 use Rattle.sf_compare.proofs.ChangeLemmas.{last_part}
