@@ -16,3 +16,4 @@ pub mod Examples
 pub mod AnswerLaws
 pub mod Replays
 pub mod ReplayLaws
+pub mod ReplayedRouteLaws

@@ -3,7 +3,7 @@
 //! Only control is followed, with neither A nor X nor scratch words: a constant is returned by its value, A by its 32 bits
 //! among the truth values, and 0 by a division by an X of 0.
 
-ghost use Rattle.std.specs.Prelude.{◌≡◌, ◌<◌, ◌++◌, option_map, IfSome, IsSome};
+ghost use Rattle.std.specs.Prelude.{◌≡◌, ◌↔◌, ◌<◌, ◌++◌, option_map, IfSome, IsSome};
 ghost use Rattle.sf_insn.specs.declared.input.Input.{Input};
 ghost use Rattle.sf_check.specs.Stacks.{IsLawfulStack};
 ghost use Rattle.sf_run.specs.Machine.{trace_of};
@@ -88,6 +88,7 @@ fn replay_program<'a>(program: &Program, met: &'a [bool]) -> Option<(u32, &'a [b
     let mut place = 0;
     let mut left = met;
     'steps: loop {
+        // A lawful program isn't left.
         let insn = code.get(place)?;
         let (next, rest) = follow(place, insn, left)?;
         left = rest;
@@ -116,14 +117,14 @@ fn replay_part<'a>(programs: &[Program], met: &'a [bool]) -> Option<(Answer, &'a
 }
 
 /// The answers of the older programs of a stack and of its newer ones, each part taken as a stack of its own, along a
-/// route of the whole stack. Both parts stand in order of installation. `None` where the truth values are not a whole
-/// route. Takes no memory.
+/// whole route of the stack: an input that has this trace is answered so. Both parts stand in order of installation. `None`
+/// where the truth values are not a whole route. Takes no memory.
 pub fn replay(older: &[Program], newer: &[Program], route: &[bool]) -> Option<PartAnswers>
     // These are the answers of the definition.
     ensures same { result ≡ answers_along older.now newer.now route.now }
 
-    // Each whole route has answers, and those along the trace of an input are the answers to it.
-    ensures whole { IsWholeRoute (older.now ++ newer.now) route.now → IsSome result }
+    // Exactly the whole routes have them, and those along the trace of an input are the answers to it.
+    ensures whole { IsWholeRoute (older.now ++ newer.now) route.now ↔ IsSome result }
     ensures right { (d : Input) → IsLawfulStack (older.now ++ newer.now)
         → trace_of (older.now ++ newer.now) d ≡ route.now
         → IfSome result (ArePartAnswers older.now newer.now d) }
