@@ -31,8 +31,8 @@ module _ (holds : List ℕ → Option (List ℕ)) (old_paths new_paths : List (B
     pub written : Appends old new (comparison_text found)
     pub told : status ≡ change_status (change_of found asked)
 
-  -- Why a comparison is refused: a file, which isn't known, can't be read; writing or memory failed, or the workers left
-  -- another exploration's book; or the files of both stacks together make no lawful stack.
+  -- Why a comparison is refused: a file, which isn't known, can't be read; writing or memory failed, or the workers
+  -- left another exploration's book; or the files of both stacks together make no lawful stack.
   abbrev pub RefusesComparison : Fault → Type 0
   RefusesComparison fault =
       ((fault ≡ Read) × (HasUnknown holds old_paths ⊎ HasUnknown holds new_paths))

@@ -153,7 +153,8 @@ RefusesAs holds named fault = ByName
     (λ rows. OnPaths (codes "filters") rows (λ paths. RefusesAudit holds (text_of (codes "policy") rows) paths fault))
     (λ rows. OnPaths (codes "filters") rows (λ paths. RefusesCheck holds paths fault))
     (λ rows. OnPaths (codes "filters") rows (λ paths. RefusesEval (text_of (codes "input") rows) holds paths fault))
-    (λ rows. OnPaths (codes "old") rows (λ old. OnPaths (codes "new") rows (λ new. RefusesComparison holds old new fault)))
+    (λ rows. OnPaths (codes "old") rows (λ old. OnPaths (codes "new") rows
+    (λ new. RefusesComparison holds old new fault)))
     named
 
 -- Why what words that fit the form ask for is refused. Want of memory can come at any time, and help may not be

@@ -33,8 +33,8 @@ change_of c Looser = c.looser
 change_of c Tighter = c.tighter
 change_of c Different = c.different
 
--- An exploration of the stack came to its end, with nothing outstanding or all of the budget spent, on a plain stack to the
--- exact end, whoever worked; and of its first programs, as the old stack, and the others what is told is right.
+-- An exploration of the stack came to its end, with nothing outstanding or all of the budget spent, on a plain stack to
+-- the exact end, whoever worked; and of its first programs, as the old stack, and the others what is told is right.
 pub record IsComparedOn (stack : List (List Insn)) (older budget : ℕ) (c : Compared) : Type 0 where
   pub end : IsExplorationOf stack budget c.settled
   pub plain : IsPlain stack → IsExactExploration stack budget c.settled

@@ -60,7 +60,11 @@ returns-in-check-clause-refused g c = IfErr-weaker c.run_check.result _ _
 
 pub returns-in-eval-clause-refused : goal.returns-in-eval-clause-refused
 returns-in-eval-clause-refused g c = IfErr-weaker c.run_eval.result _ _
-    (λ e why. ((_, _), joined _ _ _ _ _ c.in-Some.ensures.name c.in-Some.ensures.rows, inr (inr (inl (c.in-eval.is, why)))))
+    (λ e why. (
+      (_, _),
+      joined _ _ _ _ _ c.in-Some.ensures.name c.in-Some.ensures.rows,
+      inr (inr (inl (c.in-eval.is, why))),
+    ))
     c.run_eval.ensures.refused
 
 pub returns-in-compare-clause-refused : goal.returns-in-compare-clause-refused

@@ -19,6 +19,7 @@ returns-clause-done g c = IfOk-weaker c.audit.result _ _ (λ s written. record {
 pub returns-clause-refused : goal.returns-clause-refused
 returns-clause-refused g c = IfErr-weaker c.audit.result _ _ (λ e why. (
   c.unwrap_or-paths.result.now,
-  rw c.unwrap_or-paths.ensures (paths_found (found_of c.args.found.now) (codes "filters") c.get_strs.result _ c.get_strs.ensures refl),
+  rw c.unwrap_or-paths.ensures (paths_found (found_of c.args.found.now)
+      (codes "filters") c.get_strs.result _ c.get_strs.ensures refl),
   rw c.text_of-policy.ensures at why,
 )) c.audit.ensures.refused

@@ -8,9 +8,14 @@ pub returns : goal.returns
 returns c =
     let bare : app_of c.about.result ≡ new_app (codes "audit") = ap app_of_fields c.about.ensures ∙ c.new.ensures.app in
     let with_policy = c.in_ok-arg.ensures.shape c.policy.ensures.own ∙ ap₂ with_rule bare c.policy.ensures.rule in
-    let with_budget = c.in_ok-arg-2.ensures.shape c.budget.ensures.own ∙ ap₂ with_rule with_policy c.budget.ensures.rule in
-    let with_workers = c.in_ok-arg-3.ensures.shape c.workers.ensures.own ∙ ap₂ with_rule with_budget c.workers.ensures.rule in
-    let with_regions = c.in_ok-arg-4.ensures.shape c.regions.ensures.own ∙ ap₂ with_rule with_workers c.regions.ensures.rule in
-    let with_explain = c.in_ok-arg-5.ensures.shape c.explain.ensures.own ∙ ap₂ with_rule with_regions c.explain.ensures.rule in
-    IfOk-weaker c.arg-6.result _ _ (λ r h. h.shape c.filters.ensures.own ∙ ap₂ with_rule with_explain c.filters.ensures.rule)
+    let with_budget = c.in_ok-arg-2.ensures.shape c.budget.ensures.own
+    ∙ ap₂ with_rule with_policy c.budget.ensures.rule in
+    let with_workers = c.in_ok-arg-3.ensures.shape c.workers.ensures.own
+    ∙ ap₂ with_rule with_budget c.workers.ensures.rule in
+    let with_regions = c.in_ok-arg-4.ensures.shape c.regions.ensures.own
+    ∙ ap₂ with_rule with_workers c.regions.ensures.rule in
+    let with_explain = c.in_ok-arg-5.ensures.shape c.explain.ensures.own
+    ∙ ap₂ with_rule with_regions c.explain.ensures.rule in
+    IfOk-weaker c.arg-6.result _ _ (λ r h. h.shape c.filters.ensures.own
+    ∙ ap₂ with_rule with_explain c.filters.ensures.rule)
     c.arg-6.ensures

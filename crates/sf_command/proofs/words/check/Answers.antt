@@ -8,5 +8,6 @@ pub returns : goal.returns
 returns c =
     let bare : app_of c.about.result ≡ new_app (codes "check") = ap app_of_fields c.about.ensures ∙ c.new.ensures.app in
     let with_explain = c.in_ok-arg.ensures.shape c.explain.ensures.own ∙ ap₂ with_rule bare c.explain.ensures.rule in
-    IfOk-weaker c.arg-2.result _ _ (λ r h. h.shape c.filters.ensures.own ∙ ap₂ with_rule with_explain c.filters.ensures.rule)
+    IfOk-weaker c.arg-2.result _ _ (λ r h. h.shape c.filters.ensures.own
+    ∙ ap₂ with_rule with_explain c.filters.ensures.rule)
     c.arg-2.ensures

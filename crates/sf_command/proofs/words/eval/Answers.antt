@@ -9,7 +9,10 @@ returns c =
     let bare : app_of c.about.result ≡ new_app (codes "eval") = ap app_of_fields c.about.ensures ∙ c.new.ensures.app in
     let with_input = c.in_ok-arg.ensures.shape c.input.ensures.own ∙ ap₂ with_rule bare c.input.ensures.rule in
     let with_trace = c.in_ok-arg-2.ensures.shape c.trace.ensures.own ∙ ap₂ with_rule with_input c.trace.ensures.rule in
-    let with_trace_true = c.in_ok-arg-3.ensures.shape c.trace_true.ensures.own ∙ ap₂ with_rule with_trace c.trace_true.ensures.rule in
-    let with_explain = c.in_ok-arg-4.ensures.shape c.explain.ensures.own ∙ ap₂ with_rule with_trace_true c.explain.ensures.rule in
-    IfOk-weaker c.arg-5.result _ _ (λ r h. h.shape c.filters.ensures.own ∙ ap₂ with_rule with_explain c.filters.ensures.rule)
+    let with_trace_true = c.in_ok-arg-3.ensures.shape c.trace_true.ensures.own
+    ∙ ap₂ with_rule with_trace c.trace_true.ensures.rule in
+    let with_explain = c.in_ok-arg-4.ensures.shape c.explain.ensures.own
+    ∙ ap₂ with_rule with_trace_true c.explain.ensures.rule in
+    IfOk-weaker c.arg-5.result _ _ (λ r h. h.shape c.filters.ensures.own
+    ∙ ap₂ with_rule with_explain c.filters.ensures.rule)
     c.arg-5.ensures

@@ -13,6 +13,7 @@ compare_parts-requires-clause-older g c =
 
 pub returns-clause-found : goal.returns-clause-found
 returns-clause-found g c = IfOk-weaker c.compare_parts.result _ _ (λ r h. record {
-  stack = subst (λ (p : List (List Insn)). SpellStack (map (λ f. f.items) c.args.filters.now) p) (sym h.end.of) c.in_ok-stack.ensures.accepted;
+  stack = subst (λ (p : List (List Insn)). SpellStack (map (λ f. f.items) c.args.filters.now) p)
+      (sym h.end.of) c.in_ok-stack.ensures.accepted;
   compared = subst (λ (p : List (List Insn)). IsComparedOn p c.args.older c.args.budget r) (sym h.end.of) h;
 }) c.compare_parts.ensures.found

@@ -7,5 +7,6 @@ returns-clause-found g c = record {
   end = rw c.in_ok-stack.ensures.ok at c.in_ok-settled.ensures.ok;
   plain = rw c.in_ok-stack.ensures.ok at c.in_ok-settled.ensures.plain;
   parted = refl;
-  told = all_told _ c.args.older _ _ _ c.in_ok-looser.ensures.ok c.in_ok-tighter.ensures.ok c.in_ok-different.ensures.ok;
+  told = all_told _ c.args.older _ _ _ c.in_ok-looser.ensures.ok c.in_ok-tighter.ensures.ok
+      c.in_ok-different.ensures.ok;
 }
