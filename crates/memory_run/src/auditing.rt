@@ -72,7 +72,11 @@ fn report<R: Threads + Wait + Sync + AllocGlobal>(
 }
 
 /// Adds the bytes of these files.
-pub fn push_filters(alloc: Global, filters: &mut Vec<Vec<u8>>, files: &[&[u8]]) -> Result<(), Refused> {
+pub fn push_filters(
+    alloc: Global,
+    filters: &mut Vec<Vec<u8>>,
+    files: &[&[u8]],
+) -> Result<(), Refused> {
     for file in files {
         let mut filter = Vec::new(alloc);
         filter.extend_from_slice(file)?;

@@ -155,7 +155,8 @@ impl From<sf_crew::Fault> for Fault {
     fn from(fault: sf_crew::Fault) -> Fault {
         match fault {
             sf_crew::Fault::Memory => Fault::Memory,
-            sf_crew::Fault::Foreign | sf_crew::Fault::Stale | sf_crew::Fault::Spent => Fault::Foreign,
+            sf_crew::Fault::Foreign | sf_crew::Fault::Stale | sf_crew::Fault::Spent =>
+                Fault::Foreign,
         }
     }
 }

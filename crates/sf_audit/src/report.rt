@@ -2,8 +2,6 @@
 
 mod text;
 
-pub use text::{hex_of, push_counts};
-
 ghost use Rattle.std.specs.Prelude.{◌≡◌, ◌⊎◌, OnOk, OnErr, IfErr};
 ghost use Rattle.std.specs.Io.KnownBytes.{Appends};
 ghost use Rattle.sf_audit.specs.Reports.{AppendsFront, report_text};
@@ -14,6 +12,7 @@ use crate::outcome::Outcome;
 use std::alloc::Global;
 use std::io::Write;
 use text::report_of;
+pub use text::{hex_of, push_counts};
 
 /// Writes all the bytes, by as many writes as it takes. `Write` where one fails, also by a signal, or takes no byte; a
 /// beginning of them was written then.

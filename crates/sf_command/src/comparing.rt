@@ -75,15 +75,7 @@ pub fn compare<R: Threads + Wait + Sync, F: Files, O: Write>(
 {
     let (filters, older) = read_both(alloc, old, new, files, notes)?;
     let workers = usize::from(terms.workers);
-    let comparison = sf_compare::compare(
-        rt,
-        alloc,
-        &filters,
-        older,
-        terms.budget,
-        workers,
-        &Open,
-    )?;
+    let comparison = sf_compare::compare(rt, alloc, &filters, older, terms.budget, workers, &Open)?;
     write_comparison(alloc, &comparison, out)?;
     let status = status_of_change(comparison.change(terms.asked));
     files.take_over(comparison);

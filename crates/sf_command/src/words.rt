@@ -216,11 +216,13 @@ fn program<'a>(alloc: Global) -> Result<Command<'a>, AllocError>
         .about("Audit a stack of seccomp filters")
         .after_help(AFTER_HELP)
         .bin_name("seccomp_audit")?;
-    Ok(named
-        .no_binary_name(true)
-        .subcommand_required(true)
-        .version(VERSION)
-        .disable_help_subcommand(true))
+    Ok(
+        named
+            .no_binary_name(true)
+            .subcommand_required(true)
+            .version(VERSION)
+            .disable_help_subcommand(true),
+    )
 }
 
 /// The form of the command line: its subcommands and what each takes.

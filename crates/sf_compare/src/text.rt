@@ -44,26 +44,24 @@ fn push_change(
             let digits = hex_of(alloc, &example.input)?;
             let before = words_of(alloc, example.before)?;
             let after = words_of(alloc, example.after)?;
-            write!(
-                text,
-                "{relation} allowed {digits} {before} -> {after}\n"
-            )
+            write!(text, "{relation} allowed {digits} {before} -> {after}\n")
         }
     }
 }
 
 /// The lines of the relations.
-fn push_changes(
-    alloc: Global,
-    text: &mut String,
-    comparison: &Comparison,
-) -> Result<(), AllocError>
+fn push_changes(alloc: Global, text: &mut String, comparison: &Comparison) -> Result<(), AllocError>
     ensures { OnOk result (string_bytes text.new ≡ string_bytes text.old
         ++ changes_text comparison.now) }
 {
     push_change(alloc, text, "looser", comparison.change(Relation::Looser))?;
     push_change(alloc, text, "tighter", comparison.change(Relation::Tighter))?;
-    push_change(alloc, text, "different", comparison.change(Relation::Different))
+    push_change(
+        alloc,
+        text,
+        "different",
+        comparison.change(Relation::Different),
+    )
 }
 
 /// The line that tells the size of one of the two stacks.
