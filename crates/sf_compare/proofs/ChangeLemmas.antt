@@ -1,6 +1,7 @@
 -- Why what is told of two stacks is right.
-use Rattle.std.proofs.Common.{◌≡◌, ℕ, ◌+◌, ◌-◌, ◌<◌, ◌++◌, true, true≢false, List, [], ◌∷◌, length, take, drop, Some, slice_get, refl, sym, ap, subst, ◌∙◌, inl, inr, arith, length-drop}
+use Rattle.std.proofs.Common.{◌≡◌, ℕ, zero, suc, ◌+◌, ◌-◌, ◌<◌, ◌++◌, true, true≢false, List, [], ◌∷◌, length, take, drop, Some, slice_get, refl, sym, ap, subst, ◌∙◌, inl, inr, arith, length-drop}
 use Rattle.std.proofs.lemmas.Bool.{cases_eq}
+use Rattle.std.proofs.lemmas.Option.{same_Some}
 use Rattle.std.proofs.lemmas.List.{take-append-drop, take_all}
 use Rattle.sf_insn.specs.declared.input.Input.{Input}
 use Rattle.sf_insn.specs.Inputs.{IsInput}
@@ -142,3 +143,13 @@ pub all_told : (s : BookData) (older : ℕ) (looser tighter different : Change) 
 all_told s older l t d looser tighter different Looser = looser
 all_told s older l t d looser tighter different Tighter = tighter
 all_told s older l t d looser tighter different Different = different
+
+-- what holds of each element of a list at its place, and of one more at the end, holds of the longer list
+pub one_pushed : {X : Type 0} (P : ℕ → X → Type 0) (xs : List X) (x : X)
+    → ((place : ℕ) (y : X) → slice_get xs place ≡ Some y → P place y) → P (length xs) x
+    → (place : ℕ) (y : X) → slice_get (xs ++ x ∷ []) place ≡ Some y → P place y
+one_pushed P [] x before here zero y there = subst (P 0) (same_Some x y there) here
+one_pushed P [] x before here (suc n) y there = absurd cc
+one_pushed P (w ∷ ws) x before here zero y there = before 0 y there
+one_pushed P (w ∷ ws) x before here (suc n) y there =
+    one_pushed (λ k. P (suc k)) ws x (λ k z at. before (suc k) z at) here n y there

@@ -43,6 +43,11 @@ abbrev pub AreAnswersAt : BookData → ℕ → ℕ → PartAnswers → Type 0
 AreAnswersAt s older place both =
     (region : RegionData) → slice_get s.regions place ≡ Some region → AreAnswersOf s older region both
 
+-- the answers of both stacks to the members of each region, in the order of the regions
+pub record AreAnswersOfRegions (s : BookData) (older : ℕ) (all : List PartAnswers) : Type 0 where
+  pub count : length all ≡ length s.regions
+  pub each : (place : ℕ) (both : PartAnswers) → slice_get all place ≡ Some both → AreAnswersAt s older place both
+
 -- the region at a place is in doubt: its two answers are so related, and an input was tried that isn't a member of it
 pub record IsDoubtfulAt (s : BookData) (older : ℕ) (relation : Relation) (place : ℕ) : Type 0 where
   pub region : RegionData

@@ -3,7 +3,7 @@
 ghost use Rattle.std.specs.Prelude.{◌≡◌, ◌<◌, ◌≤◌, ◌⊎◌, ℕ, true, false, length, slice_get, Some, IfOk, IfErr};
 ghost use Rattle.sf_check.specs.Stacks.{IsPlain};
 ghost use Rattle.sf_ask.specs.declared.fault.Fault.TheVariants.{Memory};
-ghost use Rattle.sf_compare.specs.Changes.{AreAnswersAt, IsChangeOf, IsUnchangedAt, IsDoubtfulAt, TellsOfRegion};
+ghost use Rattle.sf_compare.specs.Changes.{AreAnswersAt, AreAnswersOfRegions, IsChangeOf, IsUnchangedAt, IsDoubtfulAt, TellsOfRegion};
 
 use crate::relation::Relation;
 use sf_ask::{Fault, Membership, find_member};
@@ -45,6 +45,25 @@ fn answers_at(settled: &Settled, older: usize, place: usize) -> PartAnswers
     }
 }
 
+/// The answers of both stacks to the members of each region, in the order of the regions. Both were explored as one stack:
+/// its first `older` programs are the old stack, and the others the new one. The caller's condition: there are as many
+/// programs. `Memory` where an allocation is refused.
+pub fn answers_of_regions(
+    alloc: Global,
+    settled: &Settled,
+    older: usize,
+) -> Result<Vec<PartAnswers>, Fault>
+    requires { older ≤ length settled.now.stack }
+    ensures ok { IfOk result (λ all. AreAnswersOfRegions settled.now older all.items) }
+    ensures err { IfErr result (λ f. f ≡ Memory) }
+{
+    let mut answers = Vec::with_capacity(alloc, settled.region_count())?;
+    for place in 0..settled.region_count() {
+        answers.push(answers_at(settled, older, place))?;
+    }
+    Ok(answers)
+}
+
 /// What the region at a place tells of a relation: `Never` where no member is changed so, `Allowed` with a member that is,
 /// and else `Unsettled`. `Memory` where a growth is refused.
 fn looked_at(
@@ -53,13 +72,15 @@ fn looked_at(
     older: usize,
     relation: Relation,
     place: usize,
+    both: PartAnswers,
 ) -> Result<Change, Fault>
-    requires older { older ≤ length settled.now.stack }
     requires place { place < length settled.now.regions }
+    requires answers { AreAnswersAt settled.now older place both }
     ensures ok { IfOk result (TellsOfRegion settled.now older relation place) }
     ensures err { IfErr result (λ f. f ≡ Memory) }
 {
-    let both = answers_at(settled, older, place);
+    // For the prover: only clauses speak of it.
+    let _of = older;
     if !relation.holds(both.older, both.newer) {
         return Ok(Change::Never);
     }
@@ -94,7 +115,7 @@ fn without_example(settled: &Settled, older: usize, relation: Relation, doubt: b
 
 /// What is told of a relation between the answers of an old stack and of a new one, for all inputs. Both were explored as
 /// one stack: its first `older` programs are the old stack, and the others the new one. The caller's condition: there are
-/// as many programs.
+/// as many programs, and `answers` are those of `answers_of_regions`.
 ///
 /// `Never` where nothing is outstanding and no input is changed so; `Allowed` with an input that is, which is a member of
 /// the first region where one was found; else `Unsettled`. On a plain stack the example is the least one of the first
@@ -103,15 +124,16 @@ pub fn find_change(
     alloc: Global,
     settled: &Settled,
     older: usize,
+    answers: &[PartAnswers],
     relation: Relation,
 ) -> Result<Change, Fault>
-    requires { older ≤ length settled.now.stack }
+    requires { AreAnswersOfRegions settled.now older answers.now }
     ensures ok { IfOk result (IsChangeOf settled.now older relation) }
     ensures err { IfErr result (λ f. f ≡ Memory) }
 {
     let mut doubt = false;
-    for place in 0..settled.region_count() {
-        match looked_at(alloc, settled, older, relation, place)? {
+    for place in 0..answers.len() {
+        match looked_at(alloc, settled, older, relation, place, answers[place])? {
             Change::Allowed(example) => return Ok(Change::Allowed(example)),
             Change::Unsettled => doubt = true,
             Change::Never => {}

@@ -2,15 +2,16 @@
 
 ghost use Rattle.std.specs.Prelude.{◌≡◌, ◌⊎◌, ◌<◌, ◌≤◌, length, map, IfOk, IfErr};
 ghost use Rattle.sf_audit.specs.Filters.{IsFirstRefusal};
-ghost use Rattle.sf_compare.specs.Changes.{IsChangeOf};
+ghost use Rattle.sf_compare.specs.Changes.{AreAnswersOfRegions, IsChangeOf};
 ghost use Rattle.sf_compare.specs.Comparisons.{change_of, IsComparedOn, IsComparison};
 
-use crate::changes::{Change, find_change};
+use crate::changes::{Change, answers_of_regions, find_change};
 use crate::relation::Relation;
 use sf_audit::{Fault, stack_of};
 use sf_book::Settled;
 use sf_check::Stack;
 use sf_crew::{Gate, explore};
+use sf_run::PartAnswers;
 use std::alloc::Global;
 use std::marker::Model;
 use std::sync::{Arc, Wait};
@@ -81,14 +82,27 @@ fn told_of(
     alloc: Global,
     settled: &Settled,
     older: usize,
+    answers: &[PartAnswers],
     relation: Relation,
 ) -> Result<Change, Fault>
-    requires { older ≤ length settled.now.stack }
+    requires { AreAnswersOfRegions settled.now older answers.now }
     ensures ok { IfOk result (IsChangeOf settled.now older relation) }
     ensures err { IfErr result (λ e. e ≡ Fault.Memory) }
 {
-    match find_change(alloc, settled, older, relation) {
+    match find_change(alloc, settled, older, answers, relation) {
         Ok(change) => Ok(change),
+        Err(_) => Err(Fault::Memory),
+    }
+}
+
+/// The answers of both stacks to the members of each region. `Memory` where an allocation is refused.
+fn answers_of(alloc: Global, settled: &Settled, older: usize) -> Result<Vec<PartAnswers>, Fault>
+    requires { older ≤ length settled.now.stack }
+    ensures ok { IfOk result (λ all. AreAnswersOfRegions settled.now older all.items) }
+    ensures err { IfErr result (λ e. e ≡ Fault.Memory) }
+{
+    match answers_of_regions(alloc, settled, older) {
+        Ok(answers) => Ok(answers),
         Err(_) => Err(Fault::Memory),
     }
 }
@@ -111,9 +125,22 @@ fn compare_parts<R: Threads + Wait + Sync, G: Gate>(
 {
     let stack = Arc::new(alloc, stack)?;
     let settled = explore(rt, alloc, stack, budget, workers, gate)?;
-    let looser = told_of(alloc, &settled, older, Relation::Looser)?;
-    let tighter = told_of(alloc, &settled, older, Relation::Tighter)?;
-    let different = told_of(alloc, &settled, older, Relation::Different)?;
+    let answers = answers_of(alloc, &settled, older)?;
+    let looser = told_of(alloc, &settled, older, answers.as_slice(), Relation::Looser)?;
+    let tighter = told_of(
+        alloc,
+        &settled,
+        older,
+        answers.as_slice(),
+        Relation::Tighter,
+    )?;
+    let different = told_of(
+        alloc,
+        &settled,
+        older,
+        answers.as_slice(),
+        Relation::Different,
+    )?;
     Ok(Comparison {
         settled,
         older,

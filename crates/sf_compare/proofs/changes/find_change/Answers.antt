@@ -29,4 +29,4 @@ loop-place-preserved c =
 
 pub without_example-requires-clause-passed : goal.without_example-requires-clause-passed
 without_example-requires-clause-passed c = λ certain r lt.
-    c.loop-place.invariant.passed certain r (omega (arith, c.region_count-place-end.ensures.value))
+    c.loop-place.invariant.passed certain r (omega (arith, c.requires.count))
