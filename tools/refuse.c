@@ -2,6 +2,7 @@
  *
  * REFUSE_GROWTH=N        the Nth growth is refused, a call of malloc, calloc, realloc, memalign, aligned_alloc or posix_memalign
  * REFUSE_GROWTHS_FROM=N  each growth from the Nth on is refused
+ * REFUSE_LARGE=N         the Nth growth by 4096 bytes or more is refused
  * REFUSE_MARK=SIZE       a thread that asks for SIZE bytes is refused them, and each growth after that
  * REFUSE_THREAD=N        the Nth thread can't be started
  * REFUSE_THREADS_FROM=N  each thread from the Nth on can't be started
@@ -26,7 +27,11 @@ struct Counts {
 
 static struct Counts own;
 static struct Counts *counts = &own;
-static long growth, growths_from, mark, thread, threads_from;
+static long growth, growths_from, large, mark, thread, threads_from;
+
+/* How many growths by as many bytes as a large one has were asked for. */
+static atomic_long large_growths;
+enum { LARGE = 4096 };
 
 /* Whether the thread has asked for the size of the mark. (Another model would ask malloc for the variable's room.) */
 static _Thread_local int is_marked __attribute__((tls_model("initial-exec")));
@@ -50,6 +55,7 @@ __attribute__((constructor)) static void start(void) {
     }
     growth = number("REFUSE_GROWTH");
     growths_from = number("REFUSE_GROWTHS_FROM");
+    large = number("REFUSE_LARGE");
     mark = number("REFUSE_MARK");
     thread = number("REFUSE_THREAD");
     threads_from = number("REFUSE_THREADS_FROM");
@@ -65,11 +71,15 @@ static int is_refused(atomic_long *asked, atomic_long *refused, long alone, long
     return 1;
 }
 
+/* Whether the growth is large, and the one among these that is refused. */
+static int is_barred_as_large(size_t size) { return size >= LARGE && atomic_fetch_add(&large_growths, 1) + 1 == large; }
+
 static int is_growth_refused(size_t size) {
     if (mark != 0 && size == (size_t)mark) {
         is_marked = 1;
     }
-    if (!is_refused(&counts->growths, &counts->refused_growths, growth, growths_from, is_marked)) {
+    int is_barred = is_barred_as_large(size) || is_marked;
+    if (!is_refused(&counts->growths, &counts->refused_growths, growth, growths_from, is_barred)) {
         return 0;
     }
     errno = ENOMEM;

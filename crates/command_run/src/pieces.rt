@@ -1,4 +1,5 @@
-//! What a script writes short: `00*64` stands for `00` sixty-four times.
+//! What a script writes short: `00*64` stands for `00` sixty-four times, and `15000000+5+2*3` for `15000000` with the numbers
+//! 5, 7 and 9 behind it, each as four bytes with the lowest first.
 
 use std::alloc::{AllocError, Global};
 
@@ -11,12 +12,40 @@ fn parts_of(piece: &str) -> (&str, usize) {
 }
 
 /// Adds what a piece stands for.
-pub fn push_piece(text: &mut String, piece: &str) -> Result<(), AllocError> {
+fn push_piece(text: &mut String, piece: &str) -> Result<(), AllocError> {
     let (part, count) = parts_of(piece);
     for _ in 0..count {
         text.push_str(part)?;
     }
     Ok(())
+}
+
+/// Adds a text with one number after the other behind it, in eight digits each.
+fn push_numbered(
+    text: &mut String,
+    head: &str,
+    first: u32,
+    step: u32,
+    count: usize,
+) -> Result<(), AllocError> {
+    let mut number = first;
+    for _ in 0..count {
+        let digits = number.swap_bytes();
+        write!(text, "{head}{digits:08x}")?;
+        number = number.wrapping_add(step);
+    }
+    Ok(())
+}
+
+/// Adds the digits that a piece of a file stands for.
+pub fn push_digits(text: &mut String, piece: &str) -> Result<(), AllocError> {
+    let Some((head, numbers)) = piece.split_once('+') else {
+        return push_piece(text, piece);
+    };
+    let (numbers, count) = parts_of(numbers);
+    let (first, step) = numbers.split_once('+').unwrap_or((numbers, "1"));
+    let (first, step) = (first.parse::<u32>(), step.parse::<u32>());
+    push_numbered(text, head, first.unwrap_or(0), step.unwrap_or(1), count)
 }
 
 /// What pieces stand for that commas part.

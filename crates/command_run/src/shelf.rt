@@ -1,6 +1,6 @@
 //! Files in memory.
 
-use crate::pieces::push_piece;
+use crate::pieces::push_digits;
 use sf_audit::Fault;
 use sf_command::{Files, MOST_BYTES};
 use std::alloc::{AllocError, Global};
@@ -32,7 +32,7 @@ impl Shelf {
         let (name, pieces) = line.split_once(' ').unwrap_or((line, ""));
         let mut digits = String::new(self.alloc);
         for piece in pieces.split_whitespace() {
-            push_piece(&mut digits, piece)?;
+            push_digits(&mut digits, piece)?;
         }
         let bytes = hex::decode(self.alloc, digits.as_str())?;
         self.put(name, bytes)?;

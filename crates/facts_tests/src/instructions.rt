@@ -22,6 +22,18 @@ fn read_of_zeros(alloc: Global, length: usize) -> Result<usize, Fault> {
     Ok(decoded(alloc, &zeros)?.len())
 }
 
+/// How many bytes are written of so many instructions.
+fn written_of(alloc: Global, count: usize) -> Result<usize, Fault> {
+    let test = RawInsn {
+        code: 0x15,
+        jt: 1,
+        jf: 2,
+        k: 0x01020304,
+    };
+    let insns = vec![in alloc; test; count]?;
+    Ok(encode(alloc, &insns)?.len())
+}
+
 #[test]
 fn reads_a_file_and_writes_it_again(rt: HostRuntime) -> Result<(), Fail> {
     let insns = decoded(rt.alloc(), &NO_EXECVE)?;
@@ -32,7 +44,7 @@ fn reads_a_file_and_writes_it_again(rt: HostRuntime) -> Result<(), Fail> {
 }
 
 #[test]
-fn reads_1_to_4096_instructions(rt: HostRuntime) {
+fn reads_1_to_4096_instructions_and_writes_more(rt: HostRuntime) {
     let alloc = rt.alloc();
     let cases = [
         ("ragged", read_of_zeros(alloc, 12), Err(Fault::Ragged)),
@@ -44,6 +56,8 @@ fn reads_1_to_4096_instructions(rt: HostRuntime) {
         ),
         ("the most", read_of_zeros(alloc, 8 * 4096), Ok(4096)),
         ("one less", read_of_zeros(alloc, 8 * 4095), Ok(4095)),
+        ("as many written", written_of(alloc, 4096), Ok(32768)),
+        ("one more written", written_of(alloc, 4097), Ok(32776)),
     ];
     assert_eq!(rt; wrong_case(&cases), None);
 }
