@@ -1,6 +1,7 @@
 pub mod Pairing
 pub mod PolicyLemmas
 pub mod ReadLemmas
+pub mod KeptLemmas
 pub mod CommandLineLemmas
 pub mod SubcommandLemmas
 pub mod RefusalLemmas

@@ -26,6 +26,11 @@ Limits:
   1 to 64 workers (--workers), 4 if not given
   1048576 bytes of a file
 
+Errors:
+  an error is one line on standard error: its number, its name, and where it lies
+  --explain-errors, which each command takes, adds what it means, and the file, the key and the line
+
+Where the budget is too small for an answer, ask again with --workers 1, which is as fast and answers more.
 docs/GUIDE.md says how to get filters, how to ask questions and how to read the answers.";
 
 /// An option with a value.
@@ -75,7 +80,7 @@ fn workers<'a>(alloc: Global) -> Arg<'a>
     option(alloc, "workers", "N")
         .value_parser(numbers)
         .default_value("4")
-        .help("The number of workers, 1 to 64")
+        .help("The number of workers, 1 to 64: 1 is as fast, and answers more under a budget")
 }
 
 /// `--regions`: whether a report lists the regions.
@@ -117,7 +122,8 @@ fn explain<'a>(alloc: Global) -> Arg<'a>
     ensures rule { rule_of result ≡ switch_rule (codes "explain-errors") }
     ensures own { result.global ≡ false }
 {
-    switch(alloc, "explain-errors").help("Explain an error under its line")
+    switch(alloc, "explain-errors")
+        .help("Explain an error under its line: what it means, and where it lies")
 }
 
 /// The filter files.
