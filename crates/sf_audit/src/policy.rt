@@ -134,9 +134,11 @@ pub fn read_policy_at(alloc: Global, text: &str) -> Result<Vec<Question>, Refusa
         → Gives (λ v. v.items) (without_place result) (policy_of tree) }
 
     // `Syntax` comes exactly where it is none, unless memory ran out.
-    ensures syntax { without_place result ≡ Err Fault.Syntax → parse_document text.now ≡ None }
+    ensures syntax { without_place result ≡ Err Fault.Syntax
+        → parse_document text.now ≡ None }
     ensures no_syntax { parse_document text.now ≡ None
-        → (without_place result ≡ Err Fault.Syntax) ⊎ (without_place result ≡ Err Fault.Memory) }
+        → (without_place result ≡ Err Fault.Syntax)
+        ⊎ (without_place result ≡ Err Fault.Memory) }
 {
     match toml::table_from_str(alloc, text) {
         Ok(table) => questions_or_refusal(alloc, table),

@@ -1,6 +1,6 @@
 -- Files of which only the first ones are kept: what is told of these holds of all.
 use Rattle.std.proofs.Common.{◌≡◌, ◌⊎◌, inl, inr, ℕ, ◌<◌, ◌≤◌, suc, List, [], ◌∷◌, ◌++◌, length, length-append, take, Option, Bor, Ok, refl, sym, ap, ap₂, subst, arith, ◌∙◌, ◌+◌, min}
-use Rattle.std.proofs.lemmas.List.{length-take, take_all}
+use Rattle.std.proofs.lemmas.List.{length-take, take-append-le, take_all}
 use Rattle.std.specs.Prelude.{Bool}
 use Rattle.hex.specs.Hex.{decode_sized}
 use Rattle.sf_insn.specs.declared.input.Input.{Input}
@@ -13,7 +13,7 @@ use Rattle.sf_audit.specs.Audits.{IsAuditRefusal}
 use Rattle.sf_audit.specs.Filters.{SpellPrograms, SpellStack, IsFirstRefusal}
 use Rattle.sf_command.specs.Comparisons.{AreBothKept, AreBothRead}
 use Rattle.sf_command.specs.Files.{AreKept, AreRead}
-use Rattle.sf_command.specs.Outputs.{ChecksFiles, EvaluatesFiles, RefusesFiles, WritesAnswer, WritesCheck}
+use Rattle.sf_command.specs.Outputs.{ChecksFiles, EvaluatesFiles, RefusesEval, RefusesFiles, WritesAnswer, WritesCheck}
 
 -- a program for each file
 spelled_same : (files : List (List ℕ)) (programs : List (List Insn)) → SpellPrograms files programs
@@ -39,6 +39,21 @@ many_of_many : (kept files : List (List ℕ)) → kept ≡ take 65 files → 64 
 many_of_many kept files first many =
     let counted : length kept ≡ min 65 (length files) = rw first (length-take 65 files) in
     omega (arith, counted, many)
+
+-- one more that is read, and kept
+pub kept_more : (kept files : List (List ℕ)) (file : List ℕ) → kept ≡ take 65 files → length kept ≤ 64
+    → kept ++ file ∷ [] ≡ take 65 (files ++ file ∷ [])
+kept_more kept files file first few =
+    let same = few_are_all kept files first few in
+    let counted : length (files ++ file ∷ []) ≡ length files + 1 = length-append files (file ∷ []) in
+    let short : length files ≡ length kept = rw same refl in
+    rw same (sym (take_all 65 (files ++ file ∷ []) (omega (arith, counted, short, few))))
+
+-- or not kept
+pub kept_no_more : (kept files : List (List ℕ)) (file : List ℕ) → kept ≡ take 65 files → 64 < length kept
+    → kept ≡ take 65 (files ++ file ∷ [])
+kept_no_more kept files file first many =
+    first ∙ sym (take-append-le 65 files (file ∷ []) (many_of_many kept files first many))
 
 -- files that are all there are if they are few, and else too many, are refused as all are
 pub refusal_of_all : (kept files : List (List ℕ)) (e : Fault) → (length kept ≤ 64 → kept ≡ files)
@@ -75,6 +90,19 @@ module _ (holds : List ℕ → Option (List ℕ)) (paths : List (Bor (List ℕ))
   pub kept_why : (e : Fault) → (e ≡ faults.Memory) ⊎ IsFirstRefusal kept e → RefusesFiles holds paths e
   kept_why e (inl memory) = inr (inl memory)
   kept_why e (inr refused) = inr (inr (all.files, all.read, kept_refusal e refused))
+
+  pub kept_refuses : {Same : Type 0} (e : Fault) → (e ≡ faults.Write)
+      ⊎ (((e ≡ faults.Memory) ⊎ IsFirstRefusal kept e) × Same)
+      → (e ≡ faults.Write) ⊎ (RefusesFiles holds paths e × Same)
+  kept_refuses e (inl write) = inl write
+  kept_refuses e (inr (why, same)) = inr (kept_why e why, same)
+
+  pub kept_refuses_eval : {Same : Type 0} (digits : List ℕ) (input : Input) (e : Fault)
+      → decode_sized digits 64 ≡ Ok (input_bytes input) → (e ≡ faults.Write)
+      ⊎ (((e ≡ faults.Memory) ⊎ IsFirstRefusal kept e) × Same)
+      → RefusesEval digits holds paths e
+  kept_refuses_eval digits input e spelled (inl write) = inr (rw spelled tt, inl write)
+  kept_refuses_eval digits input e spelled (inr (why, same)) = inr (rw spelled tt, inr (kept_why e why))
 
   -- so too where an audit is refused
   pub kept_audit_refusal : (questions : List QuestionData) (e : Fault) → IsAuditRefusal kept questions e

@@ -46,14 +46,10 @@ fn questions_in<F: Files>(
     notes.files = notes.files.saturating_add(1);
     notes.policy = bytes;
     match std::str::from_utf8(&notes.policy) {
-        Ok(text) => match read_policy_at(alloc, text) {
-            Ok(questions) => Ok(questions),
-            Err(refusal) => {
-                let fault = refusal.fault;
-                notes.refusal = Some(refusal);
-                Err(fault)
-            }
-        },
+        Ok(text) => {
+            let read = read_policy_at(alloc, text);
+            notes.take_refusal(read)
+        }
         Err(_) => Err(Fault::Syntax),
     }
 }

@@ -2,6 +2,7 @@
 
 ghost use Rattle.std.specs.Prelude.{◌≡◌, None};
 ghost use Rattle.clap.specs.Words.{subcommand_rows_of};
+ghost use Rattle.sf_audit.specs.Faults.{without_place};
 ghost use Rattle.sf_command.specs.Runs.{IsUnasked};
 
 use crate::meanings::meaning_of;
@@ -9,6 +10,7 @@ use crate::options::explains_of;
 use crate::places::position_of;
 use crate::policies::Page;
 use clap::ArgMatches;
+use sf_ask::Question;
 use sf_audit::{Fault, Refusal};
 use std::alloc::{AllocError, Global};
 
@@ -33,6 +35,23 @@ impl Notes {
             refusal: None,
             files: 0,
             explanation: None,
+        }
+    }
+
+    /// What was read of a policy, with the fault of a refusal, which is noted.
+    pub fn take_refusal(
+        &mut self,
+        read: Result<Vec<Question>, Refusal>,
+    ) -> Result<Vec<Question>, Fault>
+        ensures { result ≡ without_place read }
+    {
+        match read {
+            Ok(questions) => Ok(questions),
+            Err(refusal) => {
+                let fault = refusal.fault;
+                self.refusal = Some(refusal);
+                Err(fault)
+            }
         }
     }
 

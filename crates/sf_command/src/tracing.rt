@@ -224,7 +224,8 @@ fn push_filter(
 ) -> Result<bool, Fault>
     ensures { IfOk result (λ b. (w : CourseData) × (walk_of program.now input.now ≡ Some w)
         × (b ≡ (not stood && (action_bits w.value == action)))
-        × (string_bytes text.new ≡ string_bytes text.old ++ walk_text brief number b program.now w)) }
+        × (string_bytes text.new ≡ string_bytes text.old
+        ++ walk_text brief number b program.now w)) }
 {
     let run = walk(alloc, program, input)?;
     let stands = !stood && run.value & 0xffff0000 == action;
