@@ -28,17 +28,17 @@ pub stack_is_few : (files : List (List ℕ)) (programs : List (List Insn)) → S
     → length files ≤ 64
 stack_is_few files programs spell = omega (arith, spelled_same files programs spell.spelled, spell.lawful.few)
 
+-- how many are kept
+counted_of : (kept files : List (List ℕ)) → kept ≡ take 65 files → length kept ≡ min 65 (length files)
+counted_of kept files first = ap (λ (xs : List (List ℕ)). length xs) first ∙ length-take 65 files
+
 -- no more than 64 that are kept are all
 few_are_all : (kept files : List (List ℕ)) → kept ≡ take 65 files → length kept ≤ 64 → kept ≡ files
-few_are_all kept files first few =
-    let counted : length kept ≡ min 65 (length files) = rw first (length-take 65 files) in
-    first ∙ take_all 65 files (omega (arith, counted, few))
+few_are_all kept files first few = first ∙ take_all 65 files (omega (arith, counted_of kept files first, few))
 
 -- and of more than 64 there are more
 many_of_many : (kept files : List (List ℕ)) → kept ≡ take 65 files → 64 < length kept → 64 < length files
-many_of_many kept files first many =
-    let counted : length kept ≡ min 65 (length files) = rw first (length-take 65 files) in
-    omega (arith, counted, many)
+many_of_many kept files first many = omega (arith, counted_of kept files first, many)
 
 -- one more that is read, and kept
 pub kept_more : (kept files : List (List ℕ)) (file : List ℕ) → kept ≡ take 65 files → length kept ≤ 64
@@ -127,7 +127,7 @@ module _ (holds : List ℕ → Option (List ℕ)) (old new : List (Bor (List ℕ
   few_of_both : length kept ≤ 64 → (both.olds ≡ both.read_old.files) × (both.news ≡ both.read_new.files)
   few_of_both few =
       let counted : length kept ≡ length both.olds + length both.news =
-      rw both.whole (length-append both.olds both.news) in
+      ap (λ (xs : List (List ℕ)). length xs) both.whole ∙ length-append both.olds both.news in
       (
         few_are_all both.olds both.read_old.files both.read_old.first (omega (arith, counted, few)),
         few_are_all both.news both.read_new.files both.read_new.first (omega (arith, counted, few)),
@@ -172,11 +172,9 @@ module _ (holds : List ℕ → Option (List ℕ)) (old new : List (Bor (List ℕ
       more : 64 < length kept → 64 < length both_files
       more many =
           let counted : length kept ≡ length both.olds + length both.news =
-          rw both.whole (length-append both.olds both.news) in
-          let olds : length both.olds ≡ min 65 (length both.read_old.files) =
-          rw both.read_old.first (length-take 65 both.read_old.files) in
-          let news : length both.news ≡ min 65 (length both.read_new.files) =
-          rw both.read_new.first (length-take 65 both.read_new.files) in
+          ap (λ (xs : List (List ℕ)). length xs) both.whole ∙ length-append both.olds both.news in
+          let olds = counted_of both.olds both.read_old.files both.read_old.first in
+          let news = counted_of both.news both.read_new.files both.read_new.first in
           let total : length both_files ≡ length both.read_old.files + length both.read_new.files =
           length-append both.read_old.files both.read_new.files in
           omega (arith, counted, olds, news, total, many)
