@@ -47,11 +47,7 @@ pub(crate) fn subject_of(fault: &Fault) -> Subject {
         | Fault::Mask { question } => Subject::Question(*question),
         Fault::Input => Subject::Input,
         Fault::Read => Subject::File,
-        Fault::NoFilter
-        | Fault::TooMany
-        | Fault::PathLength
-        | Fault::Foreign
-        | Fault::Write
-        | Fault::Memory => Subject::Other,
+        Fault::NoFilter | Fault::TooMany | Fault::PathLength | Fault::Write | Fault::Memory =>
+            Subject::Other,
     }
 }

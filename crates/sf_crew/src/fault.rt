@@ -10,7 +10,7 @@ use thiserror::Error;
 /// Why an exploration was given up.
 #[derive(Clone, Copy, Debug, PartialEq, Eq, Error)]
 pub enum Fault {
-    /// The book that the workers left is of another stack or budget.
+    /// A work is of another stack than the book, or a book of another one than was asked for. No exploration ends with it.
     #[error("another exploration than the one asked for")]
     Foreign,
     /// A piece that was leased is no longer outstanding.

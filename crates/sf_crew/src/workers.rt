@@ -2,9 +2,10 @@
 
 mod exploring;
 mod hands;
+mod naming;
 mod setup;
 
-ghost use Rattle.std.specs.Prelude.{◌≡◌, ◌⊎◌, ◌<◌, ◌≤◌, IfOk, IfErr, OnOk, OnErr};
+ghost use Rattle.std.specs.Prelude.{◌≡◌, ◌<◌, ◌≤◌, IfOk, IfErr, OnOk, OnErr};
 ghost use Rattle.std.specs.Arc.{arc_value};
 ghost use denote.Ref.{Bor};
 ghost use Rattle.sf_book.specs.Books.{BookData, IsLawfulBook};
@@ -12,7 +13,7 @@ ghost use Rattle.sf_crew.specs.History.{AllGot};
 ghost use Rattle.sf_crew.specs.Benches.{owner_view};
 ghost use Rattle.sf_crew.specs.Workers.{IsMadeOf, own_view, IsIdle, HoldsNext, PutsOrNot, WorksOn};
 ghost use Rattle.sf_crew.specs.Explorations.{IsExplorationOf, IsExactExploration};
-ghost use Rattle.sf_crew.specs.declared.fault.Fault.TheVariants.{Memory, Foreign};
+ghost use Rattle.sf_crew.specs.declared.fault.Fault.TheVariants.{Memory};
 ghost use Rattle.sf_check.specs.Stacks.{IsPlain};
 
 use crate::benches::Owner;
@@ -20,12 +21,14 @@ use crate::fault::Fault;
 use crate::gate::Gate;
 use exploring::{explore_alone, finished, work_off};
 use hands::{Bench, Held, Made, NewBench, SharedBook, Thieves};
+use naming::Naming;
 use setup::workers_of;
 use sf_book::{Book, Settled};
 use sf_check::Stack;
 use sf_piece::{Piece, advance};
 use std::alloc::Global;
 use std::hint::spin_loop;
+use std::marker::Brand;
 use std::sync::{Arc, Mutex, MutexGuard, Wait};
 use std::thread;
 use std::thread::{Threads, yield_now};
@@ -51,7 +54,10 @@ const LOOKS: usize = 400;
 
 /// The book, once its lock is got. Another worker soon has done with it, while a thread that sleeps is woken late: so it
 /// looks a while before it waits.
-fn locked<'a, R: Wait>(rt: &R, book: &'a Mutex<SharedBook>) -> MutexGuard<'a, SharedBook> {
+fn locked<'a, N: Naming, R: Wait>(
+    rt: &R,
+    book: &'a Mutex<SharedBook<N>>,
+) -> MutexGuard<'a, SharedBook<N>> {
     for _ in 0..LOOKS {
         if let Some(guard) = book.try_lock() {
             return guard;
@@ -74,10 +80,10 @@ impl NewWorker {
 
 impl Worker {
     /// A lease from its own bench, or else a stolen one, the next worker's first, or else one from the book.
-    fn next_lease<R: Wait>(
+    fn next_lease<N: Naming, R: Wait>(
         &mut self,
         rt: &R,
-        book: &Mutex<SharedBook>,
+        book: &Mutex<SharedBook<N>>,
     ) -> Result<Option<Held>, Fault>
         ensures number { self.new.number ≡ self.old.number }
         ensures ok { IfOk result (λ found. HoldsNext self.old found self.new) }
@@ -113,11 +119,11 @@ impl Worker {
 
     /// Works the piece, passes the gate and hands the work in. The children come on its own bench, the false one first.
     /// With a fault the lease is given back.
-    fn work<R: Wait, G: Gate>(
+    fn work<N: Naming, R: Wait, G: Gate>(
         &mut self,
         rt: &R,
         alloc: Global,
-        book: &Mutex<SharedBook>,
+        book: &Mutex<SharedBook<N>>,
         gate: &G,
         held: Held,
         call: usize,
@@ -144,7 +150,7 @@ impl Worker {
     }
 
     /// Puts a lease on its bench. One that is handed back is given back to the book.
-    fn put<R: Wait>(&mut self, rt: &R, book: &Mutex<SharedBook>, held: Held)
+    fn put<N: Naming, R: Wait>(&mut self, rt: &R, book: &Mutex<SharedBook<N>>, held: Held)
         ensures number { self.new.number ≡ self.old.number }
         ensures put { PutsOrNot (own_view self.old) held.lease (own_view self.new) }
     {
@@ -154,7 +160,7 @@ impl Worker {
     }
 
     /// Takes its bench empty, and gives each lease back to the book.
-    fn empty<R: Wait>(&mut self, rt: &R, book: &Mutex<SharedBook>)
+    fn empty<N: Naming, R: Wait>(&mut self, rt: &R, book: &Mutex<SharedBook<N>>)
         ensures { AllGot (own_view self.new) }
     {
         for _ in rt.forever() {
@@ -169,10 +175,10 @@ impl Worker {
 
 /// The turns of one worker, until nothing is left to do. Where it meets want of memory or a spent budget, it gives its
 /// pieces back and ends. It answers the handle of its bench, which it has emptied.
-fn run<R: Wait, G: Gate>(
+fn run<N: Naming, R: Wait, G: Gate>(
     rt: &R,
     alloc: Global,
-    book: &Mutex<SharedBook>,
+    book: &Mutex<SharedBook<N>>,
     gate: &G,
     new_worker: NewWorker,
 ) -> Owner
@@ -205,27 +211,40 @@ fn run<R: Wait, G: Gate>(
     own.close()
 }
 
-/// Lets the workers work on a book, each on a thread, and answers the book when they have ended. A thread that can't be
-/// started is done without, and none is started once nothing is left to do.
-fn run_all<R: Threads + Wait + Sync, G: Gate>(
+/// Lets the workers work on a book, each on a thread, and ends when they have ended. A thread that can't be started is
+/// done without, and none is started once nothing is left to do.
+fn run_each<'a, N: Naming, R: Threads + Wait + Sync, G: Gate>(
+    rt: &'a R,
+    alloc: Global,
+    book: &'a Mutex<SharedBook<N>>,
+    workers: Vec<NewWorker>,
+    gate: &'a G,
+) {
+    thread::scope(thread::scope_env(), rt, |scope| {
+        for worker in workers {
+            if book.lock(rt).is_exhausted() {
+                break;
+            }
+            let _ = scope.spawn(move || {
+                let _emptied = run(rt, alloc, book, gate, worker);
+            });
+        }
+    });
+}
+
+/// Lets the workers work on a book, and answers it when they have ended.
+fn run_all<N: Naming, R: Threads + Wait + Sync, G: Gate>(
     rt: &R,
     alloc: Global,
     opened: Book,
     workers: Vec<NewWorker>,
     gate: &G,
-) -> Book {
-    let book = Mutex::new(SharedBook::of(opened));
-    let shared = &book;
-    thread::scope(thread::scope_env(), rt, |scope| {
-        for worker in workers {
-            if shared.lock(rt).is_exhausted() {
-                break;
-            }
-            let _ = scope.spawn(move || {
-                let _emptied = run(rt, alloc, shared, gate, worker);
-            });
-        }
-    });
+) -> Book
+    requires { (opened.stack ≡ N.stack) × (opened.budget ≡ N.budget) }
+    ensures { (result.stack ≡ opened.stack) × (result.budget ≡ opened.budget) }
+{
+    let book: Mutex<SharedBook<N>> = Mutex::new(SharedBook::of(opened));
+    run_each(rt, alloc, &book, workers, gate);
     book.into_inner().into_book()
 }
 
@@ -233,9 +252,7 @@ fn run_all<R: Threads + Wait + Sync, G: Gate>(
 /// work between its making and its commit. With 1 worker no thread is started. With more, each has a thread, with the
 /// numbers from 0; when they have ended, the calling thread takes what is left on lease back and works it off, under
 /// the next number. The caller's conditions: 1 to 64 workers, and a budget from 1 to 1,000,000, though the contract
-/// holds for any. `Memory` where a growth is refused to the calling thread. `Foreign`, with 2 or more workers alone,
-/// where they left the book of another stack or budget behind the lock: its type tells no more than that it is lawful,
-/// so it is compared. No test sees that.
+/// holds for any. `Memory` where a growth is refused to the calling thread.
 pub fn explore<R: Threads + Wait + Sync, G: Gate>(
     rt: &R,
     alloc: Global,
@@ -248,17 +265,14 @@ pub fn explore<R: Threads + Wait + Sync, G: Gate>(
     ensures ok { IfOk result (λ s. IsExplorationOf (arc_value stack) budget s) }
     ensures plain { IfOk result (λ s. IsPlain (arc_value stack)
         → IsExactExploration (arc_value stack) budget s) }
-    ensures err { IfErr result (λ f. (f ≡ Memory) ⊎ (f ≡ Foreign)) }
-    ensures alone { workers ≡ 1 → IfErr result (λ f. f ≡ Memory) }
+    ensures err { IfErr result (λ f. f ≡ Memory) }
 {
     if workers == 1 {
         return explore_alone(alloc, stack, budget, gate);
     }
     let opened = Book::open(alloc, Arc::try_clone(&stack)?, budget)?;
-    let mut book = run_all(rt, alloc, opened, workers_of(alloc, workers)?, gate);
-    if book.budget() != budget {
-        return Err(Fault::Foreign);
-    }
+    let new_workers = workers_of(alloc, workers)?;
+    let mut book = run_all::<Brand, R, G>(rt, alloc, opened, new_workers, gate);
     book.recall();
     work_off(alloc, &mut book, gate, workers)?;
     finished(book, &stack, budget)

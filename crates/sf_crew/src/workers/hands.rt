@@ -12,9 +12,11 @@ ghost use Rattle.sf_crew.specs.Workers.{given_back, HandsIn, HasItsChildren};
 ghost use Rattle.sf_crew.specs.declared.fault.Fault.TheVariants.{Memory};
 
 use crate::fault::Fault;
+use crate::workers::naming::Naming;
 pub(crate) use handles::{Bench, NewBench, Thieves};
 use sf_book::{Book, Lease};
 use sf_piece::{Piece, Work};
+use std::marker::{Model, PhantomData};
 use std::sync::Arc;
 
 /// A lease in a worker's hand. It can't be dropped: its work is handed in, it is given back, or it is put on a bench.
@@ -52,30 +54,48 @@ impl Made {
     }
 }
 
-/// The book that workers share. What it gives on lease comes into a worker's hand.
+/// The book that workers share, of the exploration that its type names: whenever its lock is got, it is of that stack and
+/// budget. What it gives on lease comes into a worker's hand.
 #[derive(Drop)]
-pub(crate) struct SharedBook {
+pub(crate) struct SharedBook<N: Naming> {
     book: Book,
+    of: PhantomData<N>,
 }
 
-impl SharedBook {
+impl<N: Naming> Model for SharedBook<N> {
+    ghost use Rattle.std.specs.Prelude.{◌≡◌};
+    ghost use Rattle.sf_book.specs.Books.{BookData};
+
+    ghost Value = { BookData };
+
+    ghost view = { λ s. s.book };
+
+    ghost invariant = { λ s. (s.book.stack ≡ N.stack) × (s.book.budget ≡ N.budget) };
+}
+
+impl<N: Naming> SharedBook<N> {
     /// A book that workers are to share.
-    pub(crate) fn of(book: Book) -> SharedBook
-        ensures { result.book ≡ book }
+    pub(crate) fn of(book: Book) -> SharedBook<N>
+        requires { (book.stack ≡ N.stack) × (book.budget ≡ N.budget) }
+        ensures { result ≡ book }
     {
-        SharedBook { book }
+        SharedBook {
+            book,
+            of: PhantomData,
+        }
     }
 
     /// The book, when the workers have ended.
     pub(crate) fn into_book(self) -> Book
-        ensures { result ≡ self.book }
+        ensures same { result ≡ self }
+        ensures named { (result.stack ≡ N.stack) × (result.budget ≡ N.budget) }
     {
         self.book
     }
 
     /// Whether nothing is left to do: nothing is outstanding, or the budget is spent.
     pub(crate) fn is_exhausted(&self) -> bool
-        ensures { MatchBool result (IsExhausted self.now.book) (¬ IsExhausted self.now.book) }
+        ensures { MatchBool result (IsExhausted self.now) (¬ IsExhausted self.now) }
     {
         let counts = self.book.counts();
         counts.left == 0 || counts.commits == self.book.budget()
@@ -83,10 +103,10 @@ impl SharedBook {
 
     /// A lease of the first piece that is on none.
     pub(crate) fn lease(&mut self) -> Result<Option<Held>, Fault>
-        ensures ok { IfOk result (λ found. MatchOption found ((self.new.book ≡ self.old.book)
-            × All (λ e. e.leased ≡ true) self.old.book.outstanding)
-            (λ h. Leases self.old.book h.lease.id (arc_value h.lease.piece) self.new.book)) }
-        ensures err { IfErr result (λ f. (f ≡ Memory) × (self.new.book ≡ self.old.book)) }
+        ensures ok { IfOk result (λ found. MatchOption found ((self.new ≡ self.old)
+            × All (λ e. e.leased ≡ true) self.old.outstanding)
+            (λ h. Leases self.old h.lease.id (arc_value h.lease.piece) self.new)) }
+        ensures err { IfErr result (λ f. (f ≡ Memory) × (self.new ≡ self.old)) }
     {
         match self.book.lease()? {
             Some(lease) => Ok(Some(Held { lease })),
@@ -96,7 +116,7 @@ impl SharedBook {
 
     /// Gives a lease back.
     pub(crate) fn give_back(&mut self, held: Held)
-        ensures { self.new.book ≡ given_back held.lease.id self.old.book }
+        ensures { self.new ≡ given_back held.lease.id self.old }
     {
         let Held { lease } = held;
         self.book.give_back(lease.id);
@@ -106,9 +126,9 @@ impl SharedBook {
     /// the lease is given back.
     pub(crate) fn hand_in(&mut self, held: Held, made: Made) -> Result<Option<(Held, Held)>, Fault>
         requires { HasItsChildren made }
-        ensures ok { IfOk result (λ children. HandsIn self.old.book held.lease.id made.work
-            children self.new.book) }
-        ensures err { OnErr result (self.new.book ≡ given_back held.lease.id self.old.book) }
+        ensures ok { IfOk result (λ children. HandsIn self.old held.lease.id made.work
+            children self.new) }
+        ensures err { OnErr result (self.new ≡ given_back held.lease.id self.old) }
     {
         let Made { work, children } = made;
         let ids = match self.book.commit(held.lease.id, work) {
