@@ -14,6 +14,7 @@ ghost use Rattle.sf_crew.specs.Benches.{owner_view};
 ghost use Rattle.sf_crew.specs.Workers.{IsMadeOf, own_view, IsIdle, HoldsNext, PutsOrNot, WorksOn};
 ghost use Rattle.sf_crew.specs.Explorations.{IsExplorationOf, IsExactExploration};
 ghost use Rattle.sf_crew.specs.declared.fault.Fault.TheVariants.{Memory};
+ghost use Rattle.sf_book.specs.declared.fault.Fault.TheVariants.{Memory as BookMemory};
 ghost use Rattle.sf_check.specs.Stacks.{IsPlain};
 
 use crate::benches::Owner;
@@ -21,7 +22,7 @@ use crate::fault::Fault;
 use crate::gate::Gate;
 use exploring::{explore_alone, finished, work_off};
 use hands::{Bench, Held, Made, NewBench, SharedBook, Thieves};
-use naming::Naming;
+use naming::{NamedLease, Naming};
 use setup::workers_of;
 use sf_book::{Book, Settled};
 use sf_check::Stack;
@@ -35,18 +36,18 @@ use std::thread::{Threads, yield_now};
 
 /// A worker that hasn't begun. Nothing was put on its bench, so it may be dropped.
 #[derive(Drop)]
-pub(crate) struct NewWorker {
+pub(crate) struct NewWorker<N: Naming> {
     pub(crate) number: usize,
-    pub(crate) own: NewBench,
-    pub(crate) others: Thieves,
+    pub(crate) own: NewBench<N>,
+    pub(crate) others: Thieves<N>,
 }
 
 /// What a worker works with: its number, its bench, and a thief on the bench of each other worker, the next one first.
 /// It can't be dropped, since its bench can't.
-pub(crate) struct Worker {
+pub(crate) struct Worker<N: Naming> {
     number: usize,
-    own: Bench,
-    others: Thieves,
+    own: Bench<N>,
+    others: Thieves<N>,
 }
 
 /// How often a worker looks whether the lock is free before it sleeps.
@@ -67,9 +68,9 @@ fn locked<'a, N: Naming, R: Wait>(
     book.lock(rt)
 }
 
-impl NewWorker {
+impl<N: Naming> NewWorker<N> {
     /// The worker at its first turn.
-    fn begin(self) -> Worker {
+    fn begin(self) -> Worker<N> {
         Worker {
             number: self.number,
             own: self.own.open(),
@@ -78,13 +79,13 @@ impl NewWorker {
     }
 }
 
-impl Worker {
+impl<N: Naming> Worker<N> {
     /// A lease from its own bench, or else a stolen one, the next worker's first, or else one from the book.
-    fn next_lease<N: Naming, R: Wait>(
+    fn next_lease<R: Wait>(
         &mut self,
         rt: &R,
         book: &Mutex<SharedBook<N>>,
-    ) -> Result<Option<Held>, Fault>
+    ) -> Result<Option<Held<N>>, sf_book::Fault>
         ensures number { self.new.number ≡ self.old.number }
         ensures ok { IfOk result (λ found. HoldsNext self.old found self.new) }
         ensures err { OnErr result (IsIdle self.old self.new) }
@@ -105,9 +106,9 @@ impl Worker {
         gate: &G,
         piece: &Arc<Piece>,
         call: usize,
-    ) -> Result<Made, Fault>
+    ) -> Result<Made, sf_book::Fault>
         ensures ok { IfOk result (λ made. IsMadeOf (arc_value piece.now) made) }
-        ensures err { IfErr result (λ f. f ≡ Memory) }
+        ensures err { IfErr result (λ f. f ≡ BookMemory) }
     {
         let work = advance(alloc, piece)?;
         // For the prover: the work is right for its piece.
@@ -119,17 +120,17 @@ impl Worker {
 
     /// Works the piece, passes the gate and hands the work in. The children come on its own bench, the false one first.
     /// With a fault the lease is given back.
-    fn work<N: Naming, R: Wait, G: Gate>(
+    fn work<R: Wait, G: Gate>(
         &mut self,
         rt: &R,
         alloc: Global,
         book: &Mutex<SharedBook<N>>,
         gate: &G,
-        held: Held,
+        held: Held<N>,
         call: usize,
-    ) -> Result<(), Fault>
+    ) -> Result<(), sf_book::Fault>
         ensures number { self.new.number ≡ self.old.number }
-        ensures ok { OnOk result (WorksOn held.lease self.old self.new) }
+        ensures ok { OnOk result (WorksOn held self.old self.new) }
         ensures err { OnErr result (own_view self.new ≡ own_view self.old) }
     {
         // Gone after the commit, so that the piece's memory is given back when the lock has been left.
@@ -150,9 +151,9 @@ impl Worker {
     }
 
     /// Puts a lease on its bench. One that is handed back is given back to the book.
-    fn put<N: Naming, R: Wait>(&mut self, rt: &R, book: &Mutex<SharedBook<N>>, held: Held)
+    fn put<R: Wait>(&mut self, rt: &R, book: &Mutex<SharedBook<N>>, held: Held<N>)
         ensures number { self.new.number ≡ self.old.number }
-        ensures put { PutsOrNot (own_view self.old) held.lease (own_view self.new) }
+        ensures put { PutsOrNot (own_view self.old) held (own_view self.new) }
     {
         if let Err(held) = self.own.put(held) {
             locked(rt, book).give_back(held);
@@ -160,7 +161,7 @@ impl Worker {
     }
 
     /// Takes its bench empty, and gives each lease back to the book.
-    fn empty<N: Naming, R: Wait>(&mut self, rt: &R, book: &Mutex<SharedBook<N>>)
+    fn empty<R: Wait>(&mut self, rt: &R, book: &Mutex<SharedBook<N>>)
         ensures { AllGot (own_view self.new) }
     {
         for _ in rt.forever() {
@@ -180,8 +181,8 @@ fn run<N: Naming, R: Wait, G: Gate>(
     alloc: Global,
     book: &Mutex<SharedBook<N>>,
     gate: &G,
-    new_worker: NewWorker,
-) -> Owner
+    new_worker: NewWorker<N>,
+) -> Owner<NamedLease<N>>
     ensures { AllGot (owner_view result) }
 {
     let mut worker = new_worker.begin();
@@ -217,7 +218,7 @@ fn run_each<'a, N: Naming, R: Threads + Wait + Sync, G: Gate>(
     rt: &'a R,
     alloc: Global,
     book: &'a Mutex<SharedBook<N>>,
-    workers: Vec<NewWorker>,
+    workers: Vec<NewWorker<N>>,
     gate: &'a G,
 ) {
     thread::scope(thread::scope_env(), rt, |scope| {
@@ -232,20 +233,23 @@ fn run_each<'a, N: Naming, R: Threads + Wait + Sync, G: Gate>(
     });
 }
 
-/// Lets the workers work on a book, and answers it when they have ended.
+/// Lets so many workers work on a book, and answers it when they have ended.
 fn run_all<N: Naming, R: Threads + Wait + Sync, G: Gate>(
     rt: &R,
     alloc: Global,
     opened: Book,
-    workers: Vec<NewWorker>,
+    workers: usize,
     gate: &G,
-) -> Book
-    requires { (opened.stack ≡ N.stack) × (opened.budget ≡ N.budget) }
-    ensures { (result.stack ≡ opened.stack) × (result.budget ≡ opened.budget) }
+) -> Result<Book, Fault>
+    requires named { (opened.stack ≡ N.stack) × (opened.budget ≡ N.budget) }
+    requires workers { (0 < workers) × (workers ≤ 64) }
+    ensures ok { IfOk result (λ b. (b.stack ≡ opened.stack) × (b.budget ≡ opened.budget)) }
+    ensures err { IfErr result (λ f. f ≡ Memory) }
 {
+    let new_workers: Vec<NewWorker<N>> = workers_of(alloc, workers)?;
     let book: Mutex<SharedBook<N>> = Mutex::new(SharedBook::of(opened));
-    run_each(rt, alloc, &book, workers, gate);
-    book.into_inner().into_book()
+    run_each(rt, alloc, &book, new_workers, gate);
+    Ok(book.into_inner().into_book())
 }
 
 /// Explores a stack: works at most `budget` pieces, and gives what is settled and what is left. The gate sees each
@@ -271,11 +275,10 @@ pub fn explore<R: Threads + Wait + Sync, G: Gate>(
         return explore_alone(alloc, stack, budget, gate);
     }
     let opened = Book::open(alloc, Arc::try_clone(&stack)?, budget)?;
-    let new_workers = workers_of(alloc, workers)?;
-    let mut book = run_all::<Brand, R, G>(rt, alloc, opened, new_workers, gate);
+    let mut book = run_all::<Brand, R, G>(rt, alloc, opened, workers, gate)?;
     book.recall();
     work_off(alloc, &mut book, gate, workers)?;
-    finished(book, &stack, budget)
+    Ok(finished(book, &stack, budget))
 }
 
 /// Runs a closure on a book that others share, while the lock is held. The closure may rely on no more than that the

@@ -5,31 +5,37 @@ mod stealing;
 
 ghost use Rattle.std.specs.Prelude.{◌≡◌, IfOk, IfErr, OnErr, MatchOption, MatchBool, All, true};
 ghost use Rattle.std.specs.Arc.{arc_value};
-ghost use Rattle.sf_piece.specs.Pieces.{IsRightWork};
 ghost use Rattle.sf_book.specs.Changes.{Leases};
 ghost use Rattle.sf_crew.specs.Explorations.{IsExhausted};
 ghost use Rattle.sf_crew.specs.Workers.{given_back, HandsIn, HasItsChildren};
-ghost use Rattle.sf_crew.specs.declared.fault.Fault.TheVariants.{Memory};
+ghost use Rattle.sf_book.specs.declared.fault.Fault.TheVariants.{Memory};
 
-use crate::fault::Fault;
-use crate::workers::naming::Naming;
+use crate::workers::naming::{NamedLease, Naming};
 pub(crate) use handles::{Bench, NewBench, Thieves};
-use sf_book::{Book, Lease};
+use sf_book::{Book, Fault, Lease};
 use sf_piece::{Piece, Work};
 use std::marker::{Model, PhantomData};
 use std::sync::Arc;
 
 /// A lease in a worker's hand. It can't be dropped: its work is handed in, it is given back, or it is put on a bench.
-pub(crate) struct Held {
-    lease: Lease,
+pub(crate) struct Held<N: Naming> {
+    lease: NamedLease<N>,
 }
 
-impl Held {
+impl<N: Naming> Model for Held<N> {
+    ghost use Rattle.sf_book.specs.declared.book.Lease.{Lease};
+
+    ghost Value = { Lease };
+
+    ghost view = { λ h. h.lease };
+}
+
+impl<N: Naming> Held<N> {
     /// The piece that is on lease.
     pub(crate) fn piece(&self) -> &Arc<Piece>
-        ensures { result.now ≡ self.now.lease.piece }
+        ensures { result.now ≡ self.now.piece }
     {
-        &self.lease.piece
+        &self.lease.lease().piece
     }
 }
 
@@ -102,40 +108,52 @@ impl<N: Naming> SharedBook<N> {
     }
 
     /// A lease of the first piece that is on none.
-    pub(crate) fn lease(&mut self) -> Result<Option<Held>, Fault>
+    pub(crate) fn lease(&mut self) -> Result<Option<Held<N>>, Fault>
         ensures ok { IfOk result (λ found. MatchOption found ((self.new ≡ self.old)
             × All (λ e. e.leased ≡ true) self.old.outstanding)
-            (λ h. Leases self.old h.lease.id (arc_value h.lease.piece) self.new)) }
+            (λ h. Leases self.old h.id (arc_value h.piece) self.new)) }
         ensures err { IfErr result (λ f. (f ≡ Memory) × (self.new ≡ self.old)) }
     {
-        match self.book.lease()? {
-            Some(lease) => Ok(Some(Held { lease })),
-            None => Ok(None),
-        }
+        // For the prover: the book is lawful.
+        let _counts = self.book.counts();
+        let Some(lease) = self.book.lease()? else {
+            return Ok(None);
+        };
+        Ok(Some(Held {
+            lease: NamedLease::of(lease),
+        }))
     }
 
     /// Gives a lease back.
-    pub(crate) fn give_back(&mut self, held: Held)
-        ensures { self.new ≡ given_back held.lease.id self.old }
+    pub(crate) fn give_back(&mut self, held: Held<N>)
+        ensures { self.new ≡ given_back held.id self.old }
     {
         let Held { lease } = held;
-        self.book.give_back(lease.id);
+        self.book.give_back(lease.lease().id);
     }
 
     /// Commits the work of a lease, and answers the leases of its children, the false one's first. Where it is refused
-    /// the lease is given back.
-    pub(crate) fn hand_in(&mut self, held: Held, made: Made) -> Result<Option<(Held, Held)>, Fault>
-        requires { HasItsChildren made }
-        ensures ok { IfOk result (λ children. HandsIn self.old held.lease.id made.work
+    /// the lease is given back. The work is of the book's stack, as the lease's type says, so the two aren't compared.
+    pub(crate) fn hand_in(
+        &mut self,
+        held: Held<N>,
+        made: Made,
+    ) -> Result<Option<(Held<N>, Held<N>)>, Fault>
+        requires piece { made.work.piece ≡ arc_value held.piece }
+        requires children { HasItsChildren made }
+        ensures ok { IfOk result (λ children. HandsIn self.old held.id made.work
             children self.new) }
-        ensures err { OnErr result (self.new ≡ given_back held.lease.id self.old) }
+        ensures err { OnErr result (self.new ≡ given_back held.id self.old) }
     {
         let Made { work, children } = made;
-        let ids = match self.book.commit(held.lease.id, work) {
+        // For the prover: the work is right.
+        let _piece = work.piece();
+        let id = held.lease.lease().id;
+        let ids = match self.book.commit_of_stack(id, work) {
             Ok(ids) => ids,
             Err(fault) => {
                 self.give_back(held);
-                return Err(fault.into());
+                return Err(fault);
             }
         };
         let Held { lease: _lease } = held;
@@ -145,8 +163,8 @@ impl<N: Naming> SharedBook<N> {
         let Some((f, t)) = children else {
             unreachable!()
         };
-        let on_false = Lease { id: f_id, piece: f };
-        let on_true = Lease { id: t_id, piece: t };
+        let on_false = NamedLease::of(Lease { id: f_id, piece: f });
+        let on_true = NamedLease::of(Lease { id: t_id, piece: t });
         Ok(Some((Held { lease: on_false }, Held { lease: on_true })))
     }
 }
