@@ -107,21 +107,13 @@ fn a_path_computes_thousands_of_words(rt: HostRuntime) -> Result<(), Fail> {
 
 #[test]
 fn faults_say_what_is_wrong(rt: HostRuntime) -> Result<(), Fail> {
-    let cases = [
-        (Fault::Foreign, "another exploration than the one asked for"),
-        (Fault::Stale, "no such piece is outstanding"),
-        (Fault::Spent, "the budget is spent"),
-        (Fault::Memory, "out of memory"),
-    ];
+    let cases = [(Fault::Memory, "out of memory")];
     assert_eq!(rt; other_text(rt.alloc(), &cases)?, None);
     Ok(())
 }
 
 #[test]
 fn faults_have_their_numbers(rt: HostRuntime) -> Result<(), Fail> {
-    assert_eq!(rt; Fault::Foreign.number(), 30);
-    assert_eq!(rt; Fault::Stale.number(), 31);
-    assert_eq!(rt; Fault::Spent.number(), 32);
     assert_eq!(rt; Fault::Memory.number(), 60);
     Ok(())
 }

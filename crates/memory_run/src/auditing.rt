@@ -125,7 +125,7 @@ pub fn refusals<R: Threads + Wait + Sync + AllocGlobal>(rt: &R) -> Result<String
     filters.push(filter)?;
     let refused = audit(rt, alloc, &filters, Vec::new(alloc), 1000, 1, &Open).err();
     push_fault(&mut text, refused)?;
-    let (foreign, memory) = (Fault::Foreign, Fault::Memory);
-    write!(&mut text, "{foreign}\n{memory}\n")?;
+    let memory = Fault::Memory;
+    write!(&mut text, "{memory}\n")?;
     Ok(text)
 }

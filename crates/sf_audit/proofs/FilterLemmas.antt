@@ -17,16 +17,6 @@ use Rattle.sf_audit.specs.declared.fault.Fault.TheVariants as faults
 use Rattle.sf_audit.specs.FaultPlaces.{check_fault}
 use Rattle.sf_audit.specs.Filters.{SpellPrograms, IsRefusalOf, AreFew, IsFileRefusal, IsFirstRefusal}
 
--- a value that `map_err` leaves as it is
-pub mapped_ok : {X E D : Type 0} (Post : E → D → Type 0) (r : Result X E) (s : Result X D) (x : X)
-    → MatchResult r (λ y. s ≡ Ok y) (λ e. IsErrAnd s (Post e)) → s ≡ Ok x → r ≡ Ok x
-mapped_ok Post (Ok y) s x same is =
-    let value : y ≡ x = cc in
-    ap Ok value
-mapped_ok Post (Err e) s x other is =
-    let (d, at, post) = err_from_is_err_and s other in
-    absurd cc
-
 -- an error that is another one by `map_err`
 pub mapped_err : {X E D : Type 0} {Post : E → D → Type 0} {P : E → Type 0} {Q : D → Type 0} (r : Result X E)
     (s : Result X D)

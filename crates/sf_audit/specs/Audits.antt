@@ -5,8 +5,6 @@ use Rattle.sf_ask.specs.QuestionData.{QuestionData}
 use Rattle.sf_check.specs.Stacks.{IsPlain}
 use Rattle.sf_crew.specs.Explorations.{IsExplorationOf, IsExactExploration}
 use Rattle.sf_crew.specs.Sweeps.{AreRightReplies}
-use Rattle.sf_crew.specs.declared.fault.Fault.{Fault as CrewFault}
-use Rattle.sf_crew.specs.declared.fault.Fault.TheVariants as crew
 use Rattle.sf_audit.specs.declared.fault.Fault.{Fault}
 use Rattle.sf_audit.specs.declared.fault.Fault.TheVariants as faults
 use Rattle.sf_audit.specs.Filters.{SpellStack, IsFirstRefusal}
@@ -36,8 +34,3 @@ pub record IsMiscounted (files : List (List ℕ)) (questions : List QuestionData
 abbrev pub IsAuditRefusal : List (List ℕ) → List QuestionData → Fault → Type 0
 IsAuditRefusal files questions faults.Count = IsMiscounted files questions
 IsAuditRefusal files questions fault = IsFirstRefusal files fault
-
--- a fault of the workers
-abbrev pub crew_fault : CrewFault → Fault
-crew_fault crew.Memory = faults.Memory
-crew_fault _ = faults.Foreign

@@ -17,7 +17,6 @@ fault_number (faults.Scratch filter at) = 24
 fault_number faults.NoFilter = 25
 fault_number faults.TooMany = 26
 fault_number faults.PathLength = 27
-fault_number faults.Foreign = 30
 fault_number faults.Version = 40
 fault_number faults.TopKey = 41
 fault_number (faults.Key question) = 41

@@ -27,8 +27,7 @@ fn outcome_of<R: Threads + Wait + Sync, G: Gate>(
     requires workers { (0 < workers) × (workers ≤ 64) }
     requires few { length questions.items ≤ 256 }
     ensures found { IfOk result (IsFoundOn stack budget questions.items) }
-    ensures refused { IfErr result (λ e. (e ≡ Fault.Memory) ⊎ (e ≡ Fault.Foreign)) }
-    ensures alone { workers ≡ 1 → IfErr result (λ e. e ≡ Fault.Memory) }
+    ensures refused { IfErr result (λ e. e ≡ Fault.Memory) }
 {
     let stack = Arc::new(alloc, stack)?;
     let settled = explore(rt, alloc, stack, budget, workers, gate)?;
@@ -46,8 +45,7 @@ fn outcome_of<R: Threads + Wait + Sync, G: Gate>(
 ///
 /// The caller's conditions: a budget from 1 to 1,000,000 and 1 to 64 workers, each a thread of its own where there
 /// are more than one. Refusals, tried in this order: those of `stack_of`; `Count` where there are no questions or more
-/// than 256. `Memory` can come anywhere. `Foreign`, with 2 or more workers alone, where they left the book of another
-/// stack or budget; no test sees that. Waits for the workers.
+/// than 256. `Memory` can come anywhere. Waits for the workers.
 pub fn audit<R: Threads + Wait + Sync, G: Gate>(
     rt: &R,
     alloc: Global,
@@ -62,11 +60,8 @@ pub fn audit<R: Threads + Wait + Sync, G: Gate>(
     // Right replies to the questions, on the stack that the files spell.
     ensures found { IfOk result (IsAudit (map (λ f. f.items) filters.now) questions.items budget) }
 
-    // Anything else is the first refusal, but for want of memory, and a book of another exploration from several workers.
+    // Anything else is the first refusal, but for want of memory.
     ensures refused { IfErr result (λ e. (e ≡ Fault.Memory)
-        ⊎ ((e ≡ Fault.Foreign) ⊎ IsAuditRefusal (map (λ f. f.items) filters.now)
-        questions.items e)) }
-    ensures alone { workers ≡ 1 → IfErr result (λ e. (e ≡ Fault.Memory)
         ⊎ IsAuditRefusal (map (λ f. f.items) filters.now) questions.items e) }
 {
     let stack = stack_of(alloc, filters)?;

@@ -2,7 +2,6 @@
 
 ghost use Rattle.std.specs.Prelude.{◌≡◌};
 ghost use Rattle.sf_audit.specs.declared.fault.Fault.TheVariants.{Memory};
-ghost use Rattle.sf_audit.specs.Audits.{crew_fault};
 ghost use Rattle.sf_audit.specs.Faults.{fault_number};
 
 use std::alloc::{AllocError, AllocFailed};
@@ -45,11 +44,6 @@ pub enum Fault {
     /// The path through all filters is longer than 32768.
     #[error("27 PathLength")]
     PathLength,
-    /// The workers left the exploration of another stack or budget. With 1 worker it can't come; with more, the
-    /// contract of an exploration leaves it open, since what stands behind a lock is known by its type alone. No test
-    /// sees it.
-    #[error("30 Foreign")]
-    Foreign,
     /// The policy's version is missing, or isn't one of the known ones.
     #[error("40 Version")]
     Version,
@@ -108,7 +102,6 @@ impl Fault {
             Fault::NoFilter => 25,
             Fault::TooMany => 26,
             Fault::PathLength => 27,
-            Fault::Foreign => 30,
             Fault::Version => 40,
             Fault::TopKey | Fault::Key { .. } => 41,
             Fault::Range { .. } => 42,
@@ -141,22 +134,18 @@ impl<T: Drop> From<AllocFailed<T>> for Fault {
     }
 }
 
+impl From<sf_crew::Fault> for Fault {
+    ghost from_gives = { λ _ e. e ≡ Memory };
+
+    fn from(_e: sf_crew::Fault) -> Fault {
+        Fault::Memory
+    }
+}
+
 impl From<sf_run::Fault> for Fault {
     ghost from_gives = { λ _ e. e ≡ Memory };
 
     fn from(_e: sf_run::Fault) -> Fault {
         Fault::Memory
-    }
-}
-
-impl From<sf_crew::Fault> for Fault {
-    ghost from_gives = { λ fault e. e ≡ crew_fault fault };
-
-    fn from(fault: sf_crew::Fault) -> Fault {
-        match fault {
-            sf_crew::Fault::Memory => Fault::Memory,
-            sf_crew::Fault::Foreign | sf_crew::Fault::Stale | sf_crew::Fault::Spent =>
-                Fault::Foreign,
-        }
     }
 }

@@ -42,7 +42,7 @@ pub fn one_refusal()
 }
 
 /// What is audited is not refused: its files have no refusal, and there are 1 to 256 questions. So what `audit` refuses, but
-/// where memory is wanting or several workers left another book, is what its definition says, and nothing else is.
+/// for want of memory, is what its definition says, and nothing else is.
 pub fn an_audit_is_not_refused()
     ensures { (files : List (List ℕ)) (questions : List QuestionData) (budget : ℕ)
         (o : Found) (e : Fault) →

@@ -183,6 +183,21 @@ impl Book {
             × CommitsAs self.old id work.piece work.name work.step ids self.new) }
         ensures err { IfErr result (λ f. Refuses self.old id work f × (self.new ≡ self.old)) }
     {
+        if !is_of(&work, &self.stack) {
+            return Err(Fault::Foreign);
+        }
+        self.commit_of_stack(id, work)
+    }
+
+    /// The same for a caller who can show that the work is of the book's stack: the stacks aren't compared, and `Foreign`
+    /// can't come. The caller's condition: it is.
+    pub fn commit_of_stack(&mut self, id: u64, work: Work) -> Result<Option<(u64, u64)>, Fault>
+        requires { work.piece.stack ≡ self.old.stack }
+        ensures ok { IfOk result (λ ids. MayCommit self.old id work
+            × (self.old.commits < self.old.budget)
+            × CommitsAs self.old id work.piece work.name work.step ids self.new) }
+        ensures err { IfErr result (λ f. Refuses self.old id work f × (self.new ≡ self.old)) }
+    {
         self.admit(id, &work)?;
         self.commit_own(id, work)
     }
@@ -225,15 +240,13 @@ impl Book {
         }
     }
 
-    /// Refuses a work that isn't of the piece under the id, or comes when the budget is spent.
+    /// Refuses a work of the book's stack that isn't of the piece under the id, or comes when the budget is spent.
     fn admit(&self, id: u64, work: &Work) -> Result<(), Fault>
+        requires { work.now.piece.stack ≡ self.now.stack }
         ensures ok { OnOk result (MayCommit self.now id work.now
             × (self.now.commits < self.now.budget)) }
         ensures err { IfErr result (λ f. Refuses self.now id work.now f) }
     {
-        if !is_of(work, &self.stack) {
-            return Err(Fault::Foreign);
-        }
         let Some(piece) = self.outstanding.piece(id) else {
             return Err(Fault::Stale);
         };

@@ -29,7 +29,6 @@ fails_due (faults.Scratch f at) due h = inr h
 fails_due faults.NoFilter due h = inr h
 fails_due faults.TooMany due h = inr h
 fails_due faults.PathLength due h = inr h
-fails_due faults.Foreign due h = inr h
 fails_due faults.Version due h = inr h
 fails_due faults.TopKey due h = inr h
 fails_due (faults.Key q) due h = inr h

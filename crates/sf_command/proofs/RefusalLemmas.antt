@@ -4,7 +4,7 @@ use Rattle.std.specs.Prelude.{slice_get, Some}
 use Rattle.std.specs.Result.{IfErr, IsErrAnd}
 use Rattle.sf_ask.specs.QuestionData.{QuestionData}
 use Rattle.sf_audit.specs.declared.fault.Fault.{Fault}
-use Rattle.sf_audit.specs.declared.fault.Fault.TheVariants.{Foreign, Memory, Read}
+use Rattle.sf_audit.specs.declared.fault.Fault.TheVariants.{Memory, Read}
 use Rattle.sf_audit.specs.Audits.{IsAuditRefusal}
 use Rattle.sf_audit.specs.Filters.{IsFirstRefusal}
 use Rattle.sf_command.specs.Audits.{IsPolicyFile, RefusesAudit, RefusesPolicyFile}
@@ -22,7 +22,7 @@ pub policy_why : (holds : List ℕ → Option (List ℕ)) (policy : List ℕ) (p
     → RefusesAudit holds policy paths e
 policy_why holds policy paths e (inl read) = inl (read.0, inl read.1)
 policy_why holds policy paths e (inr (inl memory)) = inr (inr (inl memory))
-policy_why holds policy paths e (inr (inr why)) = inr (inr (inr (inr (inl why))))
+policy_why holds policy paths e (inr (inr why)) = inr (inr (inr (inl why)))
 
 -- the file at a path can't be read
 pub read_why : (before after : List ℕ → Option (List ℕ)) (paths : List (Bor (List ℕ))) (n : ℕ) (path : Bor (List ℕ))
@@ -69,19 +69,17 @@ unread_why holds old new e (inr memory) = inr (inr (inl memory))
 -- the comparison of what the files hold is refused
 pub comparison_why : (holds : List ℕ → Option (List ℕ)) (old new : List (Bor (List ℕ))) (files : List (List ℕ))
     (older : ℕ) (e : Fault)
-    → AreBothRead holds old new files older → (e ≡ Memory) ⊎ (e ≡ Foreign) ⊎ IsFirstRefusal files e
+    → AreBothRead holds old new files older → (e ≡ Memory) ⊎ IsFirstRefusal files e
     → RefusesComparison holds old new e
 comparison_why holds old new files older e read (inl memory) = inr (inr (inl memory))
-comparison_why holds old new files older e read (inr (inl foreign)) = inr (inr (inr (inl foreign)))
-comparison_why holds old new files older e read (inr (inr why)) = inr (inr (inr (inr (files, older, read, why))))
+comparison_why holds old new files older e read (inr why) = inr (inr (inr (files, older, read, why)))
 
 -- the audit of what the files hold is refused
 pub audit_why : (holds : List ℕ → Option (List ℕ)) (policy : List ℕ) (paths : List (Bor (List ℕ)))
     (questions : List QuestionData) (files : List (List ℕ)) (e : Fault)
-    → IsPolicyFile (holds policy) questions → AreRead holds paths files → (e ≡ Memory) ⊎ (e ≡ Foreign)
+    → IsPolicyFile (holds policy) questions → AreRead holds paths files → (e ≡ Memory)
     ⊎ IsAuditRefusal files questions e
     → RefusesAudit holds policy paths e
 audit_why holds policy paths questions files e asked read (inl memory) = inr (inr (inl memory))
-audit_why holds policy paths questions files e asked read (inr (inl foreign)) = inr (inr (inr (inl foreign)))
-audit_why holds policy paths questions files e asked read (inr (inr why)) =
-    inr (inr (inr (inr (inr (questions, files, asked, read, why)))))
+audit_why holds policy paths questions files e asked read (inr why) =
+    inr (inr (inr (inr (questions, files, asked, read, why))))

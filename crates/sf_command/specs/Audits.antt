@@ -7,7 +7,7 @@ use Rattle.toml.specs.Data.{Members}
 use Rattle.toml.specs.Parse.{parse_document}
 use Rattle.sf_ask.specs.QuestionData.{QuestionData}
 use Rattle.sf_audit.specs.declared.fault.Fault.{Fault}
-use Rattle.sf_audit.specs.declared.fault.Fault.TheVariants.{Foreign, Memory, Read, Syntax, Write}
+use Rattle.sf_audit.specs.declared.fault.Fault.TheVariants.{Memory, Read, Syntax, Write}
 use Rattle.sf_audit.specs.Policies.{policy_of}
 use Rattle.sf_audit.specs.Outcomes.{Found}
 use Rattle.sf_audit.specs.Audits.{IsAudit, IsAuditRefusal}
@@ -47,12 +47,12 @@ pub record AuditsFiles (holds : List ℕ → Option (List ℕ)) (policy : List �
   pub told : status ≡ replies_status found.replies
 
 -- Why an audit is refused, after the file of the policy and then those of the filters were read: one of these, which
--- isn't known, can't be read; writing or memory failed, or the workers left another exploration's book; the policy file
--- is no policy; or the audit of what the files hold is refused.
+-- isn't known, can't be read; writing or memory failed; the policy file is no policy; or the audit of what the files
+-- hold is refused.
 abbrev pub RefusesAudit : (List ℕ → Option (List ℕ)) → List ℕ → List (Bor (List ℕ)) → Fault → Type 0
 RefusesAudit holds policy paths fault =
     ((fault ≡ Read) × ((holds policy ≡ None) ⊎ HasUnknown holds paths))
-    ⊎ (fault ≡ Write) ⊎ (fault ≡ Memory) ⊎ (fault ≡ Foreign) ⊎ RefusesPolicyFile (holds policy) fault
+    ⊎ (fault ≡ Write) ⊎ (fault ≡ Memory) ⊎ RefusesPolicyFile (holds policy) fault
     ⊎ ((questions : List QuestionData) × (files : List (List ℕ)) × IsPolicyFile (holds policy) questions
     × AreRead holds paths files
     × IsAuditRefusal files questions fault)

@@ -3,7 +3,7 @@ use Rattle.std.specs.Prelude.{◌≡◌, ◌⊎◌, ◌++◌, ℕ, List, Option,
 use Rattle.std.specs.Borrow.{Bor}
 use Rattle.std.specs.Io.KnownBytes.{Appends}
 use Rattle.sf_audit.specs.declared.fault.Fault.{Fault}
-use Rattle.sf_audit.specs.declared.fault.Fault.TheVariants.{Foreign, Memory, Read, Write}
+use Rattle.sf_audit.specs.declared.fault.Fault.TheVariants.{Memory, Read, Write}
 use Rattle.sf_audit.specs.Filters.{IsFirstRefusal}
 use Rattle.sf_compare.specs.declared.relation.Relation.{Relation}
 use Rattle.sf_compare.specs.Comparisons.{Compared, IsComparison, change_of, comparison_text}
@@ -40,10 +40,10 @@ module _ (holds : List ℕ → Option (List ℕ)) (old_paths new_paths : List (B
     pub written : Appends old new (comparison_text found)
     pub told : status ≡ change_status (change_of found asked)
 
-  -- Why a comparison is refused: a file, which isn't known, can't be read; writing or memory failed, or the workers
-  -- left another exploration's book; or the files of both stacks together make no lawful stack.
+  -- Why a comparison is refused: a file, which isn't known, can't be read; writing or memory failed; or the files of
+  -- both stacks together make no lawful stack.
   abbrev pub RefusesComparison : Fault → Type 0
   RefusesComparison fault =
       ((fault ≡ Read) × (HasUnknown holds old_paths ⊎ HasUnknown holds new_paths))
-      ⊎ (fault ≡ Write) ⊎ (fault ≡ Memory) ⊎ (fault ≡ Foreign)
+      ⊎ (fault ≡ Write) ⊎ (fault ≡ Memory)
       ⊎ ((files : List (List ℕ)) × (older : ℕ) × AreBothRead files older × IsFirstRefusal files fault)

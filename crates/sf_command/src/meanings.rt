@@ -32,6 +32,5 @@ pub(crate) fn meaning_of(fault: &Fault) -> &'static str {
         Fault::Read => "a file can't be read, or has more than 1 MiB",
         Fault::Write => "standard output can't be written, or a signal interrupted that",
         Fault::Memory => "memory ran out",
-        Fault::Foreign => "workers left another exploration's book",
     }
 }

@@ -120,8 +120,7 @@ fn compare_parts<R: Threads + Wait + Sync, G: Gate>(
     requires workers { (0 < workers) × (workers ≤ 64) }
     requires older { older ≤ length stack }
     ensures found { IfOk result (IsComparedOn stack older budget) }
-    ensures refused { IfErr result (λ e. (e ≡ Fault.Memory) ⊎ (e ≡ Fault.Foreign)) }
-    ensures alone { workers ≡ 1 → IfErr result (λ e. e ≡ Fault.Memory) }
+    ensures refused { IfErr result (λ e. e ≡ Fault.Memory) }
 {
     let stack = Arc::new(alloc, stack)?;
     let settled = explore(rt, alloc, stack, budget, workers, gate)?;
@@ -155,8 +154,8 @@ fn compare_parts<R: Threads + Wait + Sync, G: Gate>(
 /// `budget` works; the gate sees each work before it is committed.
 ///
 /// The caller's conditions: as many files, a budget from 1 to 1,000,000 and 1 to 64 workers, each a thread of its own where
-/// there are more than one. Refusals: those of `stack_of` for all files together. `Memory` can come anywhere. `Foreign`, with
-/// 2 or more workers alone, where they left the book of another stack or budget; no test sees that. Waits for the workers.
+/// there are more than one. Refusals: those of `stack_of` for all files together. `Memory` can come anywhere. Waits for the
+/// workers.
 pub fn compare<R: Threads + Wait + Sync, G: Gate>(
     rt: &R,
     alloc: Global,
@@ -172,11 +171,8 @@ pub fn compare<R: Threads + Wait + Sync, G: Gate>(
     // What is told of the two stacks that the files spell is right.
     ensures found { IfOk result (IsComparison (map (λ f. f.items) filters.now) older budget) }
 
-    // Anything else is the files' first refusal, but for want of memory, and a book of another exploration from several
-    // workers.
+    // Anything else is the files' first refusal, but for want of memory.
     ensures refused { IfErr result (λ e. (e ≡ Fault.Memory)
-        ⊎ ((e ≡ Fault.Foreign) ⊎ IsFirstRefusal (map (λ f. f.items) filters.now) e)) }
-    ensures alone { workers ≡ 1 → IfErr result (λ e. (e ≡ Fault.Memory)
         ⊎ IsFirstRefusal (map (λ f. f.items) filters.now) e) }
 {
     let stack = stack_of(alloc, filters)?;

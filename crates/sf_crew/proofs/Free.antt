@@ -55,6 +55,14 @@ only_leased b c x h l = rw l.after (record {
   others = left_free x.id b.outstanding h;
 })
 
+-- the piece that is leased is of the book's stack
+pub leased_of : (b c : BookData) (x : Lease) → IsLawfulBook b → Leases b x.id (arc_value x.piece) c
+    → (arc_value x.piece).stack ≡ b.stack
+leased_of b c x h l =
+    let e : OutstandingData = record { id = x.id; piece = arc_value x.piece; leased = false } in
+    let o : IsOutstanding b.stack e = all_at (IsOutstanding b.stack) b.outstanding x.id e h.outstanding l.there in
+    o.of
+
 -- a lease, if there is a piece, changes nothing else
 pub lease_keeps : (b c : BookData) (l : Option Lease)
     → MatchOption l ((c ≡ b) × All (λ e. e.leased ≡ true) b.outstanding) (λ x. Leases b x.id (arc_value x.piece) c)

@@ -16,7 +16,7 @@ use Rattle.sf_crew.specs.Benches.{thief_view}
 use Rattle.sf_crew.specs.Workers.{thief_views, GetsOne, PutsOrNot, PutsChildren}
 
 -- both pieces of a split were put
-pub both_put : (s : StepData) (x y : Lease) (v u w : HandleView)
+pub both_put : (s : StepData) (x y : Lease) (v u w : HandleView Lease)
     → Some (arc_value x.piece, arc_value y.piece) ≡ children_of s
     → PutsOrNot v x u → PutsOrNot u y w → PutsChildren v s w
 both_put (Split f t) x y v u w e a b =
@@ -27,25 +27,25 @@ both_put (Settled z) x y v u w e a b = absurd cc
 both_put Empty x y v u w e a b = absurd cc
 
 -- a thief that got nothing knows what it knew
-pub got_nothing : (v w : HandleView) (r : Steal Lease) → (r ≡ steal.Empty) ⊎ (r ≡ steal.Retry)
+pub got_nothing : (v w : HandleView Lease) (r : Steal Lease) → (r ≡ steal.Empty) ⊎ (r ≡ steal.Retry)
     → MatchSteal r ((w ≡ v) × AllGot v) (w ≡ v) (λ x. Gets v x w) → w ≡ v
 got_nothing v w steal.Empty e h = h.0
 got_nothing v w steal.Retry e h = h
 got_nothing v w (steal.Success x) e h = ⊎_elim (λ (k : steal.Success x ≡ steal.Empty). absurd cc)
     (λ (k : steal.Success x ≡ steal.Retry). absurd cc) e
 
-pub none_stolen : (ts : List Thief) (i : ℕ) (t d : Thief) → thief_view t ≡ thief_view (get_or ts i d)
+pub none_stolen : (ts : List (Thief Lease)) (i : ℕ) (t d : Thief Lease) → thief_view t ≡ thief_view (get_or ts i d)
     → thief_views (set ts i t) ≡ thief_views ts
 none_stolen ts i t d same = map-set_same thief_view ts i t d same
 
-slice_get_map : (ts : List Thief) (i : ℕ) (d : Thief) → i < length ts
+slice_get_map : (ts : List (Thief Lease)) (i : ℕ) (d : Thief Lease) → i < length ts
     → slice_get (thief_views ts) i ≡ Some (thief_view (get_or ts i d))
 slice_get_map [] i d lt = absurd (omega arith)
 slice_get_map (t ∷ ts) zero d lt = refl
 slice_get_map (t ∷ ts) (suc i) d lt = slice_get_map ts i d (omega arith)
 
 -- one thief got a lease, and the others did nothing
-pub one_stolen : (ts : List Thief) (i : ℕ) (t d : Thief) (x : Lease) → i < length ts
+pub one_stolen : (ts : List (Thief Lease)) (i : ℕ) (t d : Thief Lease) (x : Lease) → i < length ts
     → Gets (thief_view (get_or ts i d)) x (thief_view t) → GetsOne (thief_views ts) x (thief_views (set ts i t))
 one_stolen ts i t d x lt got = record {
   place = i;

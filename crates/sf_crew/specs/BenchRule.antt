@@ -2,36 +2,37 @@
 use Rattle.std.specs.Prelude.{◌≡◌, ◌≢◌, ℕ, ◌+◌, ◌<◌, List, [], ◌∷◌, ◌++◌, All, length, drop}
 use mathlib.Core.Option.{some}
 use lib.ListN.{get_elem?}
-use Rattle.sf_book.specs.declared.book.Lease.{Lease}
 use Rattle.sf_crew.specs.declared.benches.history.Event.{Event}
 use Rattle.sf_crew.specs.declared.benches.history.HandleView.{HandleView}
-use Rattle.sf_crew.specs.History.{handle_view, handle_of, put_leases, got_count, IsLawfulHistory, Puts, Gets}
+use Rattle.sf_crew.specs.History.{handle_view, handle_of, put_items, got_count, IsLawfulHistory, Puts, Gets}
 
--- a handle has seen the history up to its last step
-abbrev pub Fits : List Event → ℕ → HandleView → Type 0
-Fits h port v = (v.me ≡ port) × ((rest : List Event) × (h ≡ v.events ++ rest) × All (λ e. handle_of e ≢ port) rest)
+module _ {T : Type 0} where
+  -- a handle has seen the history up to its last step
+  abbrev pub Fits : List (Event T) → ℕ → HandleView T → Type 0
+  Fits h port v = (v.me ≡ port)
+      × ((rest : List (Event T)) × (h ≡ v.events ++ rest) × All (λ e. handle_of e ≢ port) rest)
 
--- there is one history, which each handle knows up to its own last step. The bench holds what was put and not got
-pub record BenchKept (items : List Lease) (views : List HandleView) : Type 0 where
-  pub history : List Event
-  pub lawful : IsLawfulHistory history
-  pub left : items ≡ drop (got_count history) (put_leases history)
-  pub ports : All (λ e. handle_of e < length views) history
-  pub each : (port : ℕ) (v : HandleView) → get_elem? views port ≡ some v → Fits history port v
-  pub all_made : (v : HandleView) → get_elem? views 0 ≡ some v → v.made ≡ length views
+  -- there is one history, which each handle knows up to its own last step. The bench holds what was put and not got
+  pub record BenchKept (items : List T) (views : List (HandleView T)) : Type 0 where
+    pub history : List (Event T)
+    pub lawful : IsLawfulHistory history
+    pub left : items ≡ drop (got_count history) (put_items history)
+    pub ports : All (λ e. handle_of e < length views) history
+    pub each : (port : ℕ) (v : HandleView T) → get_elem? views port ≡ some v → Fits history port v
+    pub all_made : (v : HandleView T) → get_elem? views 0 ≡ some v → v.made ≡ length views
 
--- the handle put the one lease that came
-abbrev pub PutsAll : HandleView → List Lease → HandleView → Type 0
-PutsAll v xs w = (x : Lease) → xs ≡ x ∷ [] → Puts v x w
+  -- the handle put the one item that came
+  abbrev pub PutsAll : HandleView T → List T → HandleView T → Type 0
+  PutsAll v xs w = (x : T) → xs ≡ x ∷ [] → Puts v x w
 
--- the handle got the one lease that left
-abbrev pub GetsAll : HandleView → List Lease → HandleView → Type 0
-GetsAll v xs w = (x : Lease) → xs ≡ x ∷ [] → Gets v x w
+  -- the handle got the one item that left
+  abbrev pub GetsAll : HandleView T → List T → HandleView T → Type 0
+  GetsAll v xs w = (x : T) → xs ≡ x ∷ [] → Gets v x w
 
--- the owner after it made one more end
-abbrev pub owner_with_thief : HandleView → HandleView
-owner_with_thief v = handle_view v.me (v.made + 1) v.events
+  -- the owner after it made one more end
+  abbrev pub owner_with_thief : HandleView T → HandleView T
+  owner_with_thief v = handle_view v.me (v.made + 1) v.events
 
--- the end that the owner makes then, which knows all that the owner does of the history
-abbrev pub new_thief_view : HandleView → HandleView
-new_thief_view v = handle_view v.made 0 v.events
+  -- the end that the owner makes then, which knows all that the owner does of the history
+  abbrev pub new_thief_view : HandleView T → HandleView T
+  new_thief_view v = handle_view v.made 0 v.events

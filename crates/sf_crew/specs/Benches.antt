@@ -6,27 +6,28 @@ use Rattle.sf_crew.specs.declared.benches.handles.Thief.{Thief}
 use Rattle.sf_crew.specs.declared.benches.history.HandleView.{HandleView}
 use Rattle.sf_crew.specs.History.{handle_view}
 
--- what the owner knows of the bench
-abbrev pub owner_view : Owner → HandleView
-owner_view o = worker_view o.worker
+module _ {T : Type 0} where
+  -- what the owner knows of the bench
+  abbrev pub owner_view : Owner T → HandleView T
+  owner_view o = worker_view o.worker
 
--- what a thief knows of it
-abbrev pub thief_view : Thief → HandleView
-thief_view t = view t.pass
+  -- what a thief knows of it
+  abbrev pub thief_view : Thief T → HandleView T
+  thief_view t = view t.pass
 
--- the thief is on the owner's bench
-abbrev pub IsOnBench : Owner → Thief → Type 0
-IsOnBench o t = stealer_deque t.stealer ≡ worker_deque o.worker
+  -- the thief is on the owner's bench
+  abbrev pub IsOnBench : Owner T → Thief T → Type 0
+  IsOnBench o t = stealer_deque t.stealer ≡ worker_deque o.worker
 
--- the owner of the same bench
-abbrev pub IsSameBench : Owner → Owner → Type 0
-IsSameBench o p = worker_deque p.worker ≡ worker_deque o.worker
+  -- the owner of the same bench
+  abbrev pub IsSameBench : Owner T → Owner T → Type 0
+  IsSameBench o p = worker_deque p.worker ≡ worker_deque o.worker
 
--- a thief on the same bench
-abbrev pub IsSameThief : Thief → Thief → Type 0
-IsSameThief t u = stealer_deque u.stealer ≡ stealer_deque t.stealer
+  -- a thief on the same bench
+  abbrev pub IsSameThief : Thief T → Thief T → Type 0
+  IsSameThief t u = stealer_deque u.stealer ≡ stealer_deque t.stealer
 
--- new thieves, whose numbers are n, n + 1 and so on
-abbrev pub AreThieves : ℕ → List Thief → Type 0
-AreThieves n [] = Unit {0}
-AreThieves n (t ∷ ts) = (thief_view t ≡ handle_view n 0 []) × AreThieves (n + 1) ts
+  -- new thieves, whose numbers are n, n + 1 and so on
+  abbrev pub AreThieves : ℕ → List (Thief T) → Type 0
+  AreThieves n [] = Unit {0}
+  AreThieves n (t ∷ ts) = (thief_view t ≡ handle_view n 0 []) × AreThieves (n + 1) ts

@@ -1,4 +1,3 @@
-pub mod Numbers
 pub mod Explorations
 pub mod History
 pub mod Benches

@@ -9,7 +9,6 @@ use Rattle.sf_book.specs.Books.{BookData}
 use Rattle.sf_book.specs.Changes.{MayCommit, CommitsAs, with_lease_at}
 use Rattle.sf_crew.specs.declared.benches.history.HandleView.{HandleView}
 use Rattle.sf_crew.specs.declared.benches.handles.Thief.{Thief}
-use Rattle.sf_crew.specs.declared.workers.hands.Held.{Held}
 use Rattle.sf_crew.specs.declared.workers.hands.Made.{Made}
 use Rattle.sf_crew.specs.declared.workers.Worker.{Worker}
 use Rattle.sf_crew.specs.History.{Puts, Gets, AllGot}
@@ -21,12 +20,12 @@ given_back id b = record b { outstanding = map (with_lease_at id false) b.outsta
 
 -- the work was committed under the id, and the leases are of its children: each has the id under which the book has its
 -- piece, and that piece
-pub record HandsIn (b : BookData) (id : ℕ) (w : WorkData) (children : Option (Held × Held))
+pub record HandsIn (b : BookData) (id : ℕ) (w : WorkData) (children : Option (Lease × Lease))
     (c : BookData) : Type 0 where
   pub may : MayCommit b id w
   pub room : b.commits < b.budget
-  pub done : CommitsAs b id w.piece w.name w.step (option_map (λ h. (h.0.lease.id, h.1.lease.id)) children) c
-  pub pieces : option_map (λ h. (arc_value h.0.lease.piece, arc_value h.1.lease.piece)) children ≡ children_of w.step
+  pub done : CommitsAs b id w.piece w.name w.step (option_map (λ h. (h.0.id, h.1.id)) children) c
+  pub pieces : option_map (λ h. (arc_value h.0.piece, arc_value h.1.piece)) children ≡ children_of w.step
 
 -- the children are those of the work
 abbrev pub HasItsChildren : Made → Type 0
@@ -39,64 +38,64 @@ pub record IsMadeOf (p : PieceData) (m : Made) : Type 0 where
   pub children : HasItsChildren m
 
 -- what thieves know
-abbrev pub thief_views : List Thief → List HandleView
+abbrev pub thief_views : List (Thief Lease) → List (HandleView Lease)
 thief_views ts = map thief_view ts
 
 -- what a worker knows of its own bench
-abbrev pub own_view : Worker → HandleView
+abbrev pub own_view : {N : Type 0} → Worker N → HandleView Lease
 own_view w = owner_view w.own.owner
 
 -- what it knows of the other benches
-abbrev pub other_views : Worker → List HandleView
+abbrev pub other_views : {N : Type 0} → Worker N → List (HandleView Lease)
 other_views w = thief_views w.others.thieves.items
 
 -- one of the thieves got the lease, and the others did nothing
-pub record GetsOne (vs : List HandleView) (x : Lease) (ws : List HandleView) : Type 0 where
+pub record GetsOne (vs : List (HandleView Lease)) (x : Lease) (ws : List (HandleView Lease)) : Type 0 where
   pub place : ℕ
-  pub before : HandleView
-  pub after : HandleView
+  pub before : HandleView Lease
+  pub after : HandleView Lease
   pub there : slice_get vs place ≡ Some before
   pub gets : Gets before x after
   pub rest : ws ≡ set vs place after
 
 -- one of the thieves got the lease, or none did anything
-abbrev pub Steals : List HandleView → Option Held → List HandleView → Type 0
+abbrev pub Steals : List (HandleView Lease) → Option Lease → List (HandleView Lease) → Type 0
 Steals vs None ws = ws ≡ vs
-Steals vs (Some h) ws = GetsOne vs h.lease ws
+Steals vs (Some x) ws = GetsOne vs x ws
 
 -- the worker's handles did nothing
-abbrev pub IsIdle : Worker → Worker → Type 0
+abbrev pub IsIdle : {N : Type 0} → Worker N → Worker N → Type 0
 IsIdle v w = (own_view w ≡ own_view v) × (other_views w ≡ other_views v)
 
 -- The lease is from the worker's own bench. Only where all that was put there had been got is it stolen, and only where
 -- none was is it from the book.
-abbrev pub Finds : Worker → Lease → Worker → Type 0
+abbrev pub Finds : {N : Type 0} → Worker N → Lease → Worker N → Type 0
 Finds v x w =
     (Gets (own_view v) x (own_view w) × (other_views w ≡ other_views v))
     ⊎ (AllGot (own_view v) × (own_view w ≡ own_view v) × GetsOne (other_views v) x (other_views w))
     ⊎ (AllGot (own_view v) × IsIdle v w)
 
 -- the worker holds its next lease; or all that was put on its own bench had been got, and none was stolen
-abbrev pub HoldsNext : Worker → Option Held → Worker → Type 0
+abbrev pub HoldsNext : {N : Type 0} → Worker N → Option Lease → Worker N → Type 0
 HoldsNext v None w = AllGot (own_view v) × IsIdle v w
-HoldsNext v (Some h) w = Finds v h.lease w
+HoldsNext v (Some x) w = Finds v x w
 
 -- the lease was put; or it was refused, and the handle did nothing
-abbrev pub PutsOrNot : HandleView → Lease → HandleView → Type 0
+abbrev pub PutsOrNot : HandleView Lease → Lease → HandleView Lease → Type 0
 PutsOrNot v x w = Puts v x w ⊎ (w ≡ v)
 
 -- the same of some lease of the piece
-abbrev pub PutsPiece : HandleView → PieceData → HandleView → Type 0
+abbrev pub PutsPiece : HandleView Lease → PieceData → HandleView Lease → Type 0
 PutsPiece v p w = (x : Lease) × (arc_value x.piece ≡ p) × PutsOrNot v x w
 
 -- the pieces of a split were put, the false one first; or the put was refused
-abbrev pub PutsChildren : HandleView → StepData → HandleView → Type 0
-PutsChildren v (Split f t) w = (u : HandleView) × PutsPiece v f u × PutsPiece u t w
+abbrev pub PutsChildren : HandleView Lease → StepData → HandleView Lease → Type 0
+PutsChildren v (Split f t) w = (u : HandleView Lease) × PutsPiece v f u × PutsPiece u t w
 PutsChildren v (Settled a) w = w ≡ v
 PutsChildren v Empty w = w ≡ v
 
 -- a right work of the lease's piece was made, and its children were put on the worker's own bench, or refused there
-pub record WorksOn (x : Lease) (v w : Worker) : Type 0 where
+pub record WorksOn {N : Type 0} (x : Lease) (v w : Worker N) : Type 0 where
   pub work : WorkData
   pub piece : work.piece ≡ arc_value x.piece
   pub right : IsRightWork work

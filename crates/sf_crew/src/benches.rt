@@ -1,4 +1,5 @@
-//! Benches: the owner puts leases and takes them, thieves steal them, first in, first out.
+//! Benches: the owner puts items and takes them, thieves steal them, first in, first out. Items are leases, or what says
+//! more of them.
 
 mod handles;
 mod history;
@@ -14,14 +15,13 @@ use crossbeam_deque::{Steal, Worker};
 pub use handles::{Owner, Thief};
 pub use history::{Event, HandleView};
 use history::{AddingThief, Getting, Putting};
-use sf_book::Lease;
 use std::alloc::{AllocError, Global};
 
-/// How many leases a new bench has room for. It grows as it needs.
+/// How many items a new bench has room for. It grows as it needs.
 const ROOM: usize = 64;
 
 /// An owner and so many thieves, 0 to 63, over an empty list. `Memory` where a growth is refused.
-pub fn bench(alloc: Global, thieves: usize) -> Result<(Owner, Vec<Thief>), Fault>
+pub fn bench<T: Drop>(alloc: Global, thieves: usize) -> Result<(Owner<T>, Vec<Thief<T>>), Fault>
     requires { thieves < 64 }
     ensures owner { IfOk result (λ b. owner_view b.0 ≡ handle_view 0 (thieves + 1) []) }
     ensures thieves { IfOk result (λ b. (vec_len b.1 ≡ thieves) × AreThieves 1 b.1.items) }
@@ -34,7 +34,7 @@ pub fn bench(alloc: Global, thieves: usize) -> Result<(Owner, Vec<Thief>), Fault
 }
 
 /// The owner of a new bench without thieves.
-fn open_bench(alloc: Global) -> Result<Owner, Fault>
+fn open_bench<T: Drop>(alloc: Global) -> Result<Owner<T>, Fault>
     ensures ok { IfOk result (λ owner. owner_view owner ≡ handle_view 0 1 []) }
     ensures err { IfErr result (λ f. f ≡ Memory) }
 {
@@ -44,7 +44,11 @@ fn open_bench(alloc: Global) -> Result<Owner, Fault>
 }
 
 /// The first thieves of a bench on which nothing was put.
-fn make_thieves(alloc: Global, owner: &mut Owner, thieves: usize) -> Result<Vec<Thief>, Fault>
+fn make_thieves<T: Drop>(
+    alloc: Global,
+    owner: &mut Owner<T>,
+    thieves: usize,
+) -> Result<Vec<Thief<T>>, Fault>
     requires { (owner_view owner.old ≡ handle_view 0 1 []) × (thieves < 64) }
     ensures owner { IfOk result (λ _. owner_view owner.new ≡ handle_view 0 (thieves + 1) []) }
     ensures thieves { IfOk result (λ ts. (vec_len ts ≡ thieves) × AreThieves 1 ts.items) }
@@ -59,9 +63,9 @@ fn make_thieves(alloc: Global, owner: &mut Owner, thieves: usize) -> Result<Vec<
     Ok(new_thieves)
 }
 
-impl Owner {
+impl<T> Owner<T> {
     /// One thief more, as long as nothing was put.
-    fn add_thief(&mut self) -> Result<Thief, AllocError>
+    fn add_thief(&mut self) -> Result<Thief<T>, AllocError>
         requires { (owner_view self.old).events ≡ [] }
         ensures owner { IfOk result (λ _. owner_view self.new ≡ handle_view
             (owner_view self.old).me
@@ -75,19 +79,19 @@ impl Owner {
         Ok(Thief { stealer, pass })
     }
 
-    /// Adds the lease at the end of the list, or hands it back and changes nothing, where the bench cannot grow.
-    pub fn put(&mut self, lease: Lease) -> Result<(), Lease>
+    /// Adds the item at the end of the list, or hands it back and changes nothing, where the bench cannot grow.
+    pub fn put(&mut self, item: T) -> Result<(), T>
         ensures put { MatchResult result
-            (λ _. Puts (owner_view self.old) lease (owner_view self.new))
-            (λ l. (l ≡ lease) × (owner_view self.new ≡ owner_view self.old)) }
+            (λ _. Puts (owner_view self.old) item (owner_view self.new))
+            (λ l. (l ≡ item) × (owner_view self.new ≡ owner_view self.old)) }
         ensures same { IsSameBench self.old self.new }
     {
-        self.worker.push_as::<Putting>(lease)
+        self.worker.push_as::<Putting>(item)
     }
 
-    /// The first lease that no handle has got, at one moment of the call. `None` where each that was put had been got, by
+    /// The first item that no handle has got, at one moment of the call. `None` where each that was put had been got, by
     /// this handle or by the thieves that were made with it.
-    pub fn take(&mut self) -> Option<Lease>
+    pub fn take(&mut self) -> Option<T>
         ensures got { MatchOption result ((owner_view self.new ≡ owner_view self.old)
             × AllGot (owner_view self.old))
             (λ l. Gets (owner_view self.old) l (owner_view self.new)) }
@@ -99,10 +103,10 @@ impl Owner {
     }
 }
 
-impl Thief {
-    /// The first lease that no handle has got, at one moment of the call. `Empty` where each that was put had been got;
+impl<T> Thief<T> {
+    /// The first item that no handle has got, at one moment of the call. `Empty` where each that was put had been got;
     /// `Retry` where another handle came first, and this one got nothing.
-    pub fn steal(&mut self) -> Steal<Lease>
+    pub fn steal(&mut self) -> Steal<T>
         ensures got { MatchSteal result ((thief_view self.new ≡ thief_view self.old)
             × AllGot (thief_view self.old)) (thief_view self.new ≡ thief_view self.old)
             (λ l. Gets (thief_view self.old) l (thief_view self.new)) }

@@ -1,24 +1,14 @@
-//! Why an exploration was given up.
+//! Why a call was refused.
 
 ghost use Rattle.std.specs.Prelude.{◌≡◌};
-ghost use Rattle.sf_crew.specs.Numbers.{fault_number, fault_of};
 ghost use Rattle.sf_crew.specs.declared.fault.Fault.TheVariants.{Memory};
 
 use std::alloc::{AllocError, AllocFailed};
 use thiserror::Error;
 
-/// Why an exploration was given up.
+/// Why a call of this crate was refused.
 #[derive(Clone, Copy, Debug, PartialEq, Eq, Error)]
 pub enum Fault {
-    /// The book that the workers left is of another stack or budget.
-    #[error("another exploration than the one asked for")]
-    Foreign,
-    /// A piece that was leased is no longer outstanding.
-    #[error("no such piece is outstanding")]
-    Stale,
-    /// As many works were committed as the budget allows.
-    #[error("the budget is spent")]
-    Spent,
     /// A growth was refused.
     #[error("out of memory")]
     Memory,
@@ -27,12 +17,9 @@ pub enum Fault {
 impl Fault {
     /// The number under which the program reports the fault.
     pub fn number(&self) -> u16
-        ensures { result ≡ fault_number self.now }
+        ensures { result ≡ 60 }
     {
         match self {
-            Fault::Foreign => 30,
-            Fault::Stale => 31,
-            Fault::Spent => 32,
             Fault::Memory => 60,
         }
     }
@@ -62,16 +49,12 @@ impl From<sf_piece::Fault> for Fault {
     }
 }
 
+/// Who has a book alone and works off its own pieces meets only want of memory.
 impl From<sf_book::Fault> for Fault {
-    ghost from_gives = { λ f e. e ≡ fault_of f };
+    ghost from_gives = { λ _ e. e ≡ Memory };
 
-    fn from(fault: sf_book::Fault) -> Fault {
-        match fault {
-            sf_book::Fault::Foreign => Fault::Foreign,
-            sf_book::Fault::Stale => Fault::Stale,
-            sf_book::Fault::Spent => Fault::Spent,
-            sf_book::Fault::Memory => Fault::Memory,
-        }
+    fn from(_e: sf_book::Fault) -> Fault {
+        Fault::Memory
     }
 }
 

@@ -2,9 +2,10 @@
 
 mod exploring;
 mod hands;
+mod naming;
 mod setup;
 
-ghost use Rattle.std.specs.Prelude.{◌≡◌, ◌⊎◌, ◌<◌, ◌≤◌, IfOk, IfErr, OnOk, OnErr};
+ghost use Rattle.std.specs.Prelude.{◌≡◌, ◌<◌, ◌≤◌, IfOk, IfErr, OnOk, OnErr};
 ghost use Rattle.std.specs.Arc.{arc_value};
 ghost use denote.Ref.{Bor};
 ghost use Rattle.sf_book.specs.Books.{BookData, IsLawfulBook};
@@ -12,7 +13,8 @@ ghost use Rattle.sf_crew.specs.History.{AllGot};
 ghost use Rattle.sf_crew.specs.Benches.{owner_view};
 ghost use Rattle.sf_crew.specs.Workers.{IsMadeOf, own_view, IsIdle, HoldsNext, PutsOrNot, WorksOn};
 ghost use Rattle.sf_crew.specs.Explorations.{IsExplorationOf, IsExactExploration};
-ghost use Rattle.sf_crew.specs.declared.fault.Fault.TheVariants.{Memory, Foreign};
+ghost use Rattle.sf_crew.specs.declared.fault.Fault.TheVariants.{Memory};
+ghost use Rattle.sf_book.specs.declared.fault.Fault.TheVariants.{Memory as BookMemory};
 ghost use Rattle.sf_check.specs.Stacks.{IsPlain};
 
 use crate::benches::Owner;
@@ -20,30 +22,32 @@ use crate::fault::Fault;
 use crate::gate::Gate;
 use exploring::{explore_alone, finished, work_off};
 use hands::{Bench, Held, Made, NewBench, SharedBook, Thieves};
+use naming::{NamedLease, Naming};
 use setup::workers_of;
 use sf_book::{Book, Settled};
 use sf_check::Stack;
 use sf_piece::{Piece, advance};
 use std::alloc::Global;
 use std::hint::spin_loop;
+use std::marker::Brand;
 use std::sync::{Arc, Mutex, MutexGuard, Wait};
 use std::thread;
 use std::thread::{Threads, yield_now};
 
 /// A worker that hasn't begun. Nothing was put on its bench, so it may be dropped.
 #[derive(Drop)]
-pub(crate) struct NewWorker {
+pub(crate) struct NewWorker<N: Naming> {
     pub(crate) number: usize,
-    pub(crate) own: NewBench,
-    pub(crate) others: Thieves,
+    pub(crate) own: NewBench<N>,
+    pub(crate) others: Thieves<N>,
 }
 
 /// What a worker works with: its number, its bench, and a thief on the bench of each other worker, the next one first.
 /// It can't be dropped, since its bench can't.
-pub(crate) struct Worker {
+pub(crate) struct Worker<N: Naming> {
     number: usize,
-    own: Bench,
-    others: Thieves,
+    own: Bench<N>,
+    others: Thieves<N>,
 }
 
 /// How often a worker looks whether the lock is free before it sleeps.
@@ -51,7 +55,10 @@ const LOOKS: usize = 400;
 
 /// The book, once its lock is got. Another worker soon has done with it, while a thread that sleeps is woken late: so it
 /// looks a while before it waits.
-fn locked<'a, R: Wait>(rt: &R, book: &'a Mutex<SharedBook>) -> MutexGuard<'a, SharedBook> {
+fn locked<'a, N: Naming, R: Wait>(
+    rt: &R,
+    book: &'a Mutex<SharedBook<N>>,
+) -> MutexGuard<'a, SharedBook<N>> {
     for _ in 0..LOOKS {
         if let Some(guard) = book.try_lock() {
             return guard;
@@ -61,9 +68,9 @@ fn locked<'a, R: Wait>(rt: &R, book: &'a Mutex<SharedBook>) -> MutexGuard<'a, Sh
     book.lock(rt)
 }
 
-impl NewWorker {
+impl<N: Naming> NewWorker<N> {
     /// The worker at its first turn.
-    fn begin(self) -> Worker {
+    fn begin(self) -> Worker<N> {
         Worker {
             number: self.number,
             own: self.own.open(),
@@ -72,13 +79,13 @@ impl NewWorker {
     }
 }
 
-impl Worker {
+impl<N: Naming> Worker<N> {
     /// A lease from its own bench, or else a stolen one, the next worker's first, or else one from the book.
     fn next_lease<R: Wait>(
         &mut self,
         rt: &R,
-        book: &Mutex<SharedBook>,
-    ) -> Result<Option<Held>, Fault>
+        book: &Mutex<SharedBook<N>>,
+    ) -> Result<Option<Held<N>>, sf_book::Fault>
         ensures number { self.new.number ≡ self.old.number }
         ensures ok { IfOk result (λ found. HoldsNext self.old found self.new) }
         ensures err { OnErr result (IsIdle self.old self.new) }
@@ -99,9 +106,9 @@ impl Worker {
         gate: &G,
         piece: &Arc<Piece>,
         call: usize,
-    ) -> Result<Made, Fault>
+    ) -> Result<Made, sf_book::Fault>
         ensures ok { IfOk result (λ made. IsMadeOf (arc_value piece.now) made) }
-        ensures err { IfErr result (λ f. f ≡ Memory) }
+        ensures err { IfErr result (λ f. f ≡ BookMemory) }
     {
         let work = advance(alloc, piece)?;
         // For the prover: the work is right for its piece.
@@ -117,13 +124,13 @@ impl Worker {
         &mut self,
         rt: &R,
         alloc: Global,
-        book: &Mutex<SharedBook>,
+        book: &Mutex<SharedBook<N>>,
         gate: &G,
-        held: Held,
+        held: Held<N>,
         call: usize,
-    ) -> Result<(), Fault>
+    ) -> Result<(), sf_book::Fault>
         ensures number { self.new.number ≡ self.old.number }
-        ensures ok { OnOk result (WorksOn held.lease self.old self.new) }
+        ensures ok { OnOk result (WorksOn held self.old self.new) }
         ensures err { OnErr result (own_view self.new ≡ own_view self.old) }
     {
         // Gone after the commit, so that the piece's memory is given back when the lock has been left.
@@ -144,9 +151,9 @@ impl Worker {
     }
 
     /// Puts a lease on its bench. One that is handed back is given back to the book.
-    fn put<R: Wait>(&mut self, rt: &R, book: &Mutex<SharedBook>, held: Held)
+    fn put<R: Wait>(&mut self, rt: &R, book: &Mutex<SharedBook<N>>, held: Held<N>)
         ensures number { self.new.number ≡ self.old.number }
-        ensures put { PutsOrNot (own_view self.old) held.lease (own_view self.new) }
+        ensures put { PutsOrNot (own_view self.old) held (own_view self.new) }
     {
         if let Err(held) = self.own.put(held) {
             locked(rt, book).give_back(held);
@@ -154,7 +161,7 @@ impl Worker {
     }
 
     /// Takes its bench empty, and gives each lease back to the book.
-    fn empty<R: Wait>(&mut self, rt: &R, book: &Mutex<SharedBook>)
+    fn empty<R: Wait>(&mut self, rt: &R, book: &Mutex<SharedBook<N>>)
         ensures { AllGot (own_view self.new) }
     {
         for _ in rt.forever() {
@@ -169,13 +176,13 @@ impl Worker {
 
 /// The turns of one worker, until nothing is left to do. Where it meets want of memory or a spent budget, it gives its
 /// pieces back and ends. It answers the handle of its bench, which it has emptied.
-fn run<R: Wait, G: Gate>(
+fn run<N: Naming, R: Wait, G: Gate>(
     rt: &R,
     alloc: Global,
-    book: &Mutex<SharedBook>,
+    book: &Mutex<SharedBook<N>>,
     gate: &G,
-    new_worker: NewWorker,
-) -> Owner
+    new_worker: NewWorker<N>,
+) -> Owner<NamedLease<N>>
     ensures { AllGot (owner_view result) }
 {
     let mut worker = new_worker.begin();
@@ -205,37 +212,51 @@ fn run<R: Wait, G: Gate>(
     own.close()
 }
 
-/// Lets the workers work on a book, each on a thread, and answers the book when they have ended. A thread that can't be
-/// started is done without, and none is started once nothing is left to do.
-fn run_all<R: Threads + Wait + Sync, G: Gate>(
-    rt: &R,
+/// Lets the workers work on a book, each on a thread, and ends when they have ended. A thread that can't be started is
+/// done without, and none is started once nothing is left to do.
+fn run_each<'a, N: Naming, R: Threads + Wait + Sync, G: Gate>(
+    rt: &'a R,
     alloc: Global,
-    opened: Book,
-    workers: Vec<NewWorker>,
-    gate: &G,
-) -> Book {
-    let book = Mutex::new(SharedBook::of(opened));
-    let shared = &book;
+    book: &'a Mutex<SharedBook<N>>,
+    workers: Vec<NewWorker<N>>,
+    gate: &'a G,
+) {
     thread::scope(thread::scope_env(), rt, |scope| {
         for worker in workers {
-            if shared.lock(rt).is_exhausted() {
+            if book.lock(rt).is_exhausted() {
                 break;
             }
             let _ = scope.spawn(move || {
-                let _emptied = run(rt, alloc, shared, gate, worker);
+                let _emptied = run(rt, alloc, book, gate, worker);
             });
         }
     });
-    book.into_inner().into_book()
+}
+
+/// Lets so many workers work on a book, and answers it when they have ended.
+fn run_all<N: Naming, R: Threads + Wait + Sync, G: Gate>(
+    rt: &R,
+    alloc: Global,
+    opened: Book,
+    workers: usize,
+    gate: &G,
+) -> Result<Book, Fault>
+    requires named { (opened.stack ≡ N.stack) × (opened.budget ≡ N.budget) }
+    requires workers { (0 < workers) × (workers ≤ 64) }
+    ensures ok { IfOk result (λ b. (b.stack ≡ opened.stack) × (b.budget ≡ opened.budget)) }
+    ensures err { IfErr result (λ f. f ≡ Memory) }
+{
+    let new_workers: Vec<NewWorker<N>> = workers_of(alloc, workers)?;
+    let book: Mutex<SharedBook<N>> = Mutex::new(SharedBook::of(opened));
+    run_each(rt, alloc, &book, new_workers, gate);
+    Ok(book.into_inner().into_book())
 }
 
 /// Explores a stack: works at most `budget` pieces, and gives what is settled and what is left. The gate sees each
 /// work between its making and its commit. With 1 worker no thread is started. With more, each has a thread, with the
 /// numbers from 0; when they have ended, the calling thread takes what is left on lease back and works it off, under
 /// the next number. The caller's conditions: 1 to 64 workers, and a budget from 1 to 1,000,000, though the contract
-/// holds for any. `Memory` where a growth is refused to the calling thread. `Foreign`, with 2 or more workers alone,
-/// where they left the book of another stack or budget behind the lock: its type tells no more than that it is lawful,
-/// so it is compared. No test sees that.
+/// holds for any. `Memory` where a growth is refused to the calling thread.
 pub fn explore<R: Threads + Wait + Sync, G: Gate>(
     rt: &R,
     alloc: Global,
@@ -248,20 +269,16 @@ pub fn explore<R: Threads + Wait + Sync, G: Gate>(
     ensures ok { IfOk result (λ s. IsExplorationOf (arc_value stack) budget s) }
     ensures plain { IfOk result (λ s. IsPlain (arc_value stack)
         → IsExactExploration (arc_value stack) budget s) }
-    ensures err { IfErr result (λ f. (f ≡ Memory) ⊎ (f ≡ Foreign)) }
-    ensures alone { workers ≡ 1 → IfErr result (λ f. f ≡ Memory) }
+    ensures err { IfErr result (λ f. f ≡ Memory) }
 {
     if workers == 1 {
         return explore_alone(alloc, stack, budget, gate);
     }
     let opened = Book::open(alloc, Arc::try_clone(&stack)?, budget)?;
-    let mut book = run_all(rt, alloc, opened, workers_of(alloc, workers)?, gate);
-    if book.budget() != budget {
-        return Err(Fault::Foreign);
-    }
+    let mut book = run_all::<Brand, R, G>(rt, alloc, opened, workers, gate)?;
     book.recall();
     work_off(alloc, &mut book, gate, workers)?;
-    finished(book, &stack, budget)
+    Ok(finished(book, &stack, budget))
 }
 
 /// Runs a closure on a book that others share, while the lock is held. The closure may rely on no more than that the

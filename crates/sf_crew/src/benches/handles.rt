@@ -1,5 +1,6 @@
 //! The two kinds of handle of a bench.
 ghost use Rattle.std.specs.Prelude.{◌≡◌};
+ghost use Rattle.std.specs.Coded.{Coded-set};
 ghost use Rattle.std.proofs.Props.{props};
 ghost use Rattle.crossbeam_deque.specs.Handles.{IsPassOf, stealer_deque, stealer_flavor, worker_flavor, worker_port};
 
@@ -8,19 +9,20 @@ use crossbeam_deque::{Pass, Stealer, Worker};
 use sf_book::Lease;
 use std::alloc::Global;
 
-/// The handle of a bench by which leases are put. It takes them too.
+/// The handle of a bench by which items are put. It takes them too. Items are leases, or what says more of them.
 #[derive(Drop)]
-pub struct Owner {
-    pub(crate) worker: Worker<Lease, Global, HandleView, InOrder>,
+pub struct Owner<T = Lease> {
+    pub(crate) worker: Worker<T, Global, HandleView<T>, InOrder>,
     ghost fifo: { worker_flavor worker ≡ 0 },
     ghost port: { worker_port worker ≡ 0 },
 }
 
-/// A handle of a bench for another thread, which gets leases alone.
+/// A handle of a bench for another thread, which gets items alone.
 #[derive(Drop)]
-pub struct Thief {
-    pub(crate) stealer: Stealer<Lease, Global, HandleView, InOrder>,
-    pub(crate) pass: Pass<Lease, HandleView, Global>,
+pub struct Thief<T = Lease> {
+    pub(crate) stealer: Stealer<T, Global, HandleView<T>, InOrder>,
+    pub(crate) pass: Pass<T, HandleView<T>, Global>,
     ghost fifo: { stealer_flavor stealer ≡ 0 },
-    ghost seated: { IsPassOf (stealer_deque stealer) pass } by { Prim.hlevel props },
+    ghost seated: { IsPassOf (stealer_deque stealer) pass }
+        by { Prim.hlevel (props, Coded-set T.code) },
 }

@@ -3,29 +3,29 @@ use crossbeam_deque::protocol::{Outcome, Protocol, Split};
 use sf_book::Lease;
 use std::collections::LinkedList;
 
-/// What happened on a bench: a lease was put, or the handle of this number got one.
-pub enum Event {
-    /// The owner put this lease.
-    Put(Lease),
-    /// The handle of this number got the first lease that was left.
+/// What happened on a bench: an item was put, or the handle of this number got one.
+pub enum Event<T = Lease> {
+    /// The owner put this item.
+    Put(T),
+    /// The handle of this number got the first item that was left.
     Got(usize),
 }
 
 /// What a handle knows: its number, how many handles there are (the owner alone), and the history up to its last step. No
 /// value of it is made.
-pub struct HandleView {
+pub struct HandleView<T = Lease> {
     /// The handle's number; the owner has 0.
     pub me: usize,
     /// How many handles the owner has made, itself with them; 0 for a thief.
     pub made: usize,
     /// The history up to the handle's last step, oldest first.
-    pub events: LinkedList<Event>,
+    pub events: LinkedList<Event<T>>,
 }
 
 /// The rule of a bench: it holds what was put and not yet got, in the order of putting.
 pub(crate) struct InOrder;
 
-impl Protocol<Lease, HandleView> for InOrder {
+impl<T> Protocol<T, HandleView<T>> for InOrder {
     ghost use Rattle.std.specs.Prelude.{[]};
     ghost use Rattle.sf_crew.specs.BenchRule.{BenchKept};
     ghost use Rattle.sf_crew.specs.History.{handle_view};
@@ -39,7 +39,7 @@ impl Protocol<Lease, HandleView> for InOrder {
 
 pub(crate) struct Putting;
 
-impl Outcome<Lease, HandleView> for Putting {
+impl<T> Outcome<T, HandleView<T>> for Putting {
     ghost use Rattle.sf_crew.specs.BenchRule.{PutsAll};
 
     ghost then = { PutsAll };
@@ -47,7 +47,7 @@ impl Outcome<Lease, HandleView> for Putting {
 
 pub(crate) struct Getting;
 
-impl Outcome<Lease, HandleView> for Getting {
+impl<T> Outcome<T, HandleView<T>> for Getting {
     ghost use Rattle.sf_crew.specs.History.{AllGot};
     ghost use Rattle.sf_crew.specs.BenchRule.{GetsAll};
 
@@ -58,7 +58,7 @@ impl Outcome<Lease, HandleView> for Getting {
 
 pub(crate) struct AddingThief;
 
-impl Split<HandleView> for AddingThief {
+impl<T> Split<HandleView<T>> for AddingThief {
     ghost use Rattle.sf_crew.specs.BenchRule.{owner_with_thief, new_thief_view};
 
     ghost left = { owner_with_thief };

@@ -1,11 +1,11 @@
 //! Turns of one worker that has the book to itself: pieces are leased, worked and committed until none is left or the
 //! budget is spent.
 
-ghost use Rattle.std.specs.Prelude.{◌≡◌, ◌≢◌, IfOk, IfErr, OnOk, MatchOption, option_map};
+ghost use Rattle.std.specs.Prelude.{◌≡◌, IfOk, IfErr, OnOk, MatchOption, option_map};
 ghost use Rattle.std.specs.Arc.{arc_value};
 ghost use Rattle.sf_piece.specs.Pieces.{children_of};
 ghost use Rattle.sf_crew.specs.Explorations.{IsExhausted, IsFree, HasOnly, MayWork, IsSameExploration, GoesOn, IsExplorationOf, IsExactExploration};
-ghost use Rattle.sf_crew.specs.declared.fault.Fault.TheVariants.{Memory, Foreign};
+ghost use Rattle.sf_crew.specs.declared.fault.Fault.TheVariants.{Memory};
 ghost use Rattle.sf_check.specs.Stacks.{IsPlain};
 
 use crate::fault::Fault;
@@ -102,19 +102,21 @@ pub(crate) fn work_off<G: Gate>(
     Ok(())
 }
 
-/// Closes a book of this budget that was worked off. `Foreign` where it is of another stack.
-pub(crate) fn finished(book: Book, stack: &Arc<Stack>, _budget: u32) -> Result<Settled, Fault>
+/// The end of an exploration: closes a book of this stack and budget that was worked off.
+pub(crate) fn finished(book: Book, stack: &Arc<Stack>, _budget: u32) -> Settled
     requires end { IsExhausted book }
+    requires stack { book.stack ≡ arc_value stack.now }
     requires budget { book.budget ≡ _budget }
-    ensures ok { IfOk result (λ s. IsExplorationOf (arc_value stack.now) _budget s) }
-    ensures plain { IfOk result (λ s. IsPlain (arc_value stack.now)
-        → IsExactExploration (arc_value stack.now) _budget s) }
-    ensures err { IfErr result (λ f. (f ≡ Foreign) × (book.stack ≢ arc_value stack.now)) }
+    ensures end { IsExplorationOf (arc_value stack.now) _budget result }
+    ensures plain { IsPlain (arc_value stack.now)
+        → IsExactExploration (arc_value stack.now) _budget result }
 {
-    let settled = book.finish(stack)?;
+    let Ok(settled) = book.finish(stack) else {
+        unreachable!()
+    };
     // For the prover: what has settled is lawful.
     let _counts = settled.counts();
-    Ok(settled)
+    settled
 }
 
 /// Explores a stack by the calling thread alone, as worker 0.
@@ -131,5 +133,5 @@ pub(crate) fn explore_alone<G: Gate>(
 {
     let mut book = Book::open(alloc, Arc::try_clone(&stack)?, budget)?;
     work_off(alloc, &mut book, gate, 0)?;
-    finished(book, &stack, budget)
+    Ok(finished(book, &stack, budget))
 }

@@ -5,29 +5,37 @@ mod stealing;
 
 ghost use Rattle.std.specs.Prelude.{◌≡◌, IfOk, IfErr, OnErr, MatchOption, MatchBool, All, true};
 ghost use Rattle.std.specs.Arc.{arc_value};
-ghost use Rattle.sf_piece.specs.Pieces.{IsRightWork};
 ghost use Rattle.sf_book.specs.Changes.{Leases};
 ghost use Rattle.sf_crew.specs.Explorations.{IsExhausted};
 ghost use Rattle.sf_crew.specs.Workers.{given_back, HandsIn, HasItsChildren};
-ghost use Rattle.sf_crew.specs.declared.fault.Fault.TheVariants.{Memory};
+ghost use Rattle.sf_book.specs.declared.fault.Fault.TheVariants.{Memory};
 
-use crate::fault::Fault;
+use crate::workers::naming::{NamedLease, Naming};
 pub(crate) use handles::{Bench, NewBench, Thieves};
-use sf_book::{Book, Lease};
+use sf_book::{Book, Fault, Lease};
 use sf_piece::{Piece, Work};
+use std::marker::{Model, PhantomData};
 use std::sync::Arc;
 
 /// A lease in a worker's hand. It can't be dropped: its work is handed in, it is given back, or it is put on a bench.
-pub(crate) struct Held {
-    lease: Lease,
+pub(crate) struct Held<N: Naming> {
+    lease: NamedLease<N>,
 }
 
-impl Held {
+impl<N: Naming> Model for Held<N> {
+    ghost use Rattle.sf_book.specs.declared.book.Lease.{Lease};
+
+    ghost Value = { Lease };
+
+    ghost view = { λ h. h.lease };
+}
+
+impl<N: Naming> Held<N> {
     /// The piece that is on lease.
     pub(crate) fn piece(&self) -> &Arc<Piece>
-        ensures { result.now ≡ self.now.lease.piece }
+        ensures { result.now ≡ self.now.piece }
     {
-        &self.lease.piece
+        &self.lease.lease().piece
     }
 }
 
@@ -52,70 +60,100 @@ impl Made {
     }
 }
 
-/// The book that workers share. What it gives on lease comes into a worker's hand.
+/// The book that workers share, of the exploration that its type names: whenever its lock is got, it is of that stack and
+/// budget. What it gives on lease comes into a worker's hand.
 #[derive(Drop)]
-pub(crate) struct SharedBook {
+pub(crate) struct SharedBook<N: Naming> {
     book: Book,
+    of: PhantomData<N>,
 }
 
-impl SharedBook {
+impl<N: Naming> Model for SharedBook<N> {
+    ghost use Rattle.std.specs.Prelude.{◌≡◌};
+    ghost use Rattle.sf_book.specs.Books.{BookData};
+
+    ghost Value = { BookData };
+
+    ghost view = { λ s. s.book };
+
+    ghost invariant = { λ s. (s.book.stack ≡ N.stack) × (s.book.budget ≡ N.budget) };
+}
+
+impl<N: Naming> SharedBook<N> {
     /// A book that workers are to share.
-    pub(crate) fn of(book: Book) -> SharedBook
-        ensures { result.book ≡ book }
+    pub(crate) fn of(book: Book) -> SharedBook<N>
+        requires { (book.stack ≡ N.stack) × (book.budget ≡ N.budget) }
+        ensures { result ≡ book }
     {
-        SharedBook { book }
+        SharedBook {
+            book,
+            of: PhantomData,
+        }
     }
 
     /// The book, when the workers have ended.
     pub(crate) fn into_book(self) -> Book
-        ensures { result ≡ self.book }
+        ensures same { result ≡ self }
+        ensures named { (result.stack ≡ N.stack) × (result.budget ≡ N.budget) }
     {
         self.book
     }
 
     /// Whether nothing is left to do: nothing is outstanding, or the budget is spent.
     pub(crate) fn is_exhausted(&self) -> bool
-        ensures { MatchBool result (IsExhausted self.now.book) (¬ IsExhausted self.now.book) }
+        ensures { MatchBool result (IsExhausted self.now) (¬ IsExhausted self.now) }
     {
         let counts = self.book.counts();
         counts.left == 0 || counts.commits == self.book.budget()
     }
 
     /// A lease of the first piece that is on none.
-    pub(crate) fn lease(&mut self) -> Result<Option<Held>, Fault>
-        ensures ok { IfOk result (λ found. MatchOption found ((self.new.book ≡ self.old.book)
-            × All (λ e. e.leased ≡ true) self.old.book.outstanding)
-            (λ h. Leases self.old.book h.lease.id (arc_value h.lease.piece) self.new.book)) }
-        ensures err { IfErr result (λ f. (f ≡ Memory) × (self.new.book ≡ self.old.book)) }
+    pub(crate) fn lease(&mut self) -> Result<Option<Held<N>>, Fault>
+        ensures ok { IfOk result (λ found. MatchOption found ((self.new ≡ self.old)
+            × All (λ e. e.leased ≡ true) self.old.outstanding)
+            (λ h. Leases self.old h.id (arc_value h.piece) self.new)) }
+        ensures err { IfErr result (λ f. (f ≡ Memory) × (self.new ≡ self.old)) }
     {
-        match self.book.lease()? {
-            Some(lease) => Ok(Some(Held { lease })),
-            None => Ok(None),
-        }
+        // For the prover: the book is lawful.
+        let _counts = self.book.counts();
+        let Some(lease) = self.book.lease()? else {
+            return Ok(None);
+        };
+        Ok(Some(Held {
+            lease: NamedLease::of(lease),
+        }))
     }
 
     /// Gives a lease back.
-    pub(crate) fn give_back(&mut self, held: Held)
-        ensures { self.new.book ≡ given_back held.lease.id self.old.book }
+    pub(crate) fn give_back(&mut self, held: Held<N>)
+        ensures { self.new ≡ given_back held.id self.old }
     {
         let Held { lease } = held;
-        self.book.give_back(lease.id);
+        self.book.give_back(lease.lease().id);
     }
 
     /// Commits the work of a lease, and answers the leases of its children, the false one's first. Where it is refused
-    /// the lease is given back.
-    pub(crate) fn hand_in(&mut self, held: Held, made: Made) -> Result<Option<(Held, Held)>, Fault>
-        requires { HasItsChildren made }
-        ensures ok { IfOk result (λ children. HandsIn self.old.book held.lease.id made.work
-            children self.new.book) }
-        ensures err { OnErr result (self.new.book ≡ given_back held.lease.id self.old.book) }
+    /// the lease is given back. The work is of the book's stack, as the lease's type says, so the two aren't compared.
+    pub(crate) fn hand_in(
+        &mut self,
+        held: Held<N>,
+        made: Made,
+    ) -> Result<Option<(Held<N>, Held<N>)>, Fault>
+        requires piece { made.work.piece ≡ arc_value held.piece }
+        requires children { HasItsChildren made }
+        ensures ok { IfOk result (λ children. HandsIn self.old held.id made.work
+            children self.new) }
+        ensures err { OnErr result (self.new ≡ given_back held.id self.old) }
     {
         let Made { work, children } = made;
-        let ids = match self.book.commit(held.lease.id, work) {
+        // For the prover: the work is right.
+        let _piece = work.piece();
+        let id = held.lease.lease().id;
+        let ids = match self.book.commit_of_stack(id, work) {
             Ok(ids) => ids,
             Err(fault) => {
                 self.give_back(held);
-                return Err(fault.into());
+                return Err(fault);
             }
         };
         let Held { lease: _lease } = held;
@@ -125,8 +163,8 @@ impl SharedBook {
         let Some((f, t)) = children else {
             unreachable!()
         };
-        let on_false = Lease { id: f_id, piece: f };
-        let on_true = Lease { id: t_id, piece: t };
+        let on_false = NamedLease::of(Lease { id: f_id, piece: f });
+        let on_true = NamedLease::of(Lease { id: t_id, piece: t });
         Ok(Some((Held { lease: on_false }, Held { lease: on_true })))
     }
 }

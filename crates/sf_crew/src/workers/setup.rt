@@ -7,10 +7,14 @@ use crate::benches::{Thief, bench};
 use crate::fault::Fault;
 use crate::workers::NewWorker;
 use crate::workers::hands::{NewBench, Thieves};
+use crate::workers::naming::{NamedLease, Naming};
 use std::alloc::Global;
 
 /// Workers with the numbers from 0, and a bench each.
-pub(crate) fn workers_of(alloc: Global, count: usize) -> Result<Vec<NewWorker>, Fault>
+pub(crate) fn workers_of<N: Naming>(
+    alloc: Global,
+    count: usize,
+) -> Result<Vec<NewWorker<N>>, Fault>
     requires { (0 < count) × (count ≤ 64) }
     ensures count { IfOk result (λ v. vec_len v ≡ count) }
     ensures err { IfErr result (λ f. f ≡ Memory) }
@@ -31,7 +35,10 @@ pub(crate) fn workers_of(alloc: Global, count: usize) -> Result<Vec<NewWorker>, 
 }
 
 /// Gives each worker a thief on the bench of each other one, the next one's first.
-fn hand_out_all(workers: &mut [NewWorker], thieves: &mut [Vec<Thief>]) -> Result<(), Fault>
+fn hand_out_all<N: Naming>(
+    workers: &mut [NewWorker<N>],
+    thieves: &mut [Vec<Thief<NamedLease<N>>>],
+) -> Result<(), Fault>
     requires { (length workers.old ≡ length thieves.old) × (length workers.old ≤ 64) }
     ensures err { IfErr result (λ f. f ≡ Memory) }
 {
@@ -42,7 +49,11 @@ fn hand_out_all(workers: &mut [NewWorker], thieves: &mut [Vec<Thief>]) -> Result
 }
 
 /// Gives each worker a thief on the bench that is so many steps after its own.
-fn hand_out(workers: &mut [NewWorker], thieves: &mut [Vec<Thief>], step: usize) -> Result<(), Fault>
+fn hand_out<N: Naming>(
+    workers: &mut [NewWorker<N>],
+    thieves: &mut [Vec<Thief<NamedLease<N>>>],
+    step: usize,
+) -> Result<(), Fault>
     requires { (length workers.old ≡ length thieves.old)
         × (length workers.old ≤ 64) × (step < 64) }
     ensures err { IfErr result (λ f. f ≡ Memory) }

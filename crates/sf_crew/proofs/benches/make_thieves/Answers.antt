@@ -7,20 +7,22 @@ use Rattle.sf_crew.proofs.NewThieves.{one_thief_more, one_more_on}
 use Rattle.sf_crew.proofs.benches.make_thieves.Goals as goal
 
 pub loop-given-preserved : goal.loop-given-preserved
-loop-given-preserved c =
+loop-given-preserved g c =
     let i = c.loop-given.invariant in
     let seen : thief_view c.in_ok-thief.thief ≡ handle_view (c.loop-given.given + 1) 0 [] =
-    c.in_ok-thief.ensures.thief ∙ ap (λ (e : HandleView). handle_view e.made 0 []) i.owner in
+    c.in_ok-thief.ensures.thief ∙ ap (λ (e : HandleView g.row.T.Denot). handle_view e.made 0 []) i.owner in
     let long : length c.loop-given.new_thieves.items ≡ c.loop-given.given = i.long in
     record {
-      owner = c.in_ok-thief.ensures.owner ∙ ap (λ (e : HandleView). handle_view e.me (e.made + 1) []) i.owner;
+      owner = c.in_ok-thief.ensures.owner ∙ ap (λ (e : HandleView g.row.T.Denot).
+          handle_view e.me (e.made + 1) []) i.owner;
       count = omega (arith, c.in_ok-push.ensures.len, i.count);
-      long = ap (λ (l : List Thief). length l) c.in_ok-push.ensures.items
+      long = ap (λ (l : List (Thief g.row.T.Denot)). length l) c.in_ok-push.ensures.items
           ∙ omega (arith, length-append c.loop-given.new_thieves.items (c.in_ok-thief.thief ∷ []), long);
       thieves = subst (AreThieves 1) (sym c.in_ok-push.ensures.items)
           (one_thief_more 1 (c.loop-given.given + 1) c.loop-given.new_thieves.items c.in_ok-thief.thief i.thieves
           (omega (arith, long)) seen);
-      one = subst (λ (ts : List Thief). All (λ (t : Thief). IsOnBench c.add_thief.new.self t) ts)
+      one = subst (λ (ts : List (Thief g.row.T.Denot)).
+          All (λ (t : Thief g.row.T.Denot). IsOnBench c.add_thief.new.self t) ts)
           (sym c.in_ok-push.ensures.items)
           (one_more_on c.loop-given.owner c.add_thief.new.self c.loop-given.new_thieves.items c.in_ok-thief.thief
           c.in_ok-thief.ensures.one.1 c.in_ok-thief.ensures.one.0 i.one);

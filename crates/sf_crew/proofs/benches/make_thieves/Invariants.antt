@@ -4,7 +4,7 @@ use Rattle.sf_crew.specs.Benches.{owner_view, AreThieves, IsOnBench}
 use Rattle.sf_crew.proofs.benches.make_thieves.Given as goal
 
 abbrev pub invariant-loop-given : goal.invariant-loop-given
-invariant-loop-given l = record {
+invariant-loop-given g l = record {
   owner : owner_view l.owner ≡ handle_view 0 (l.given + 1) [];
   count : vec_len l.new_thieves ≡ l.given;
   long : length l.new_thieves.items ≡ l.given;

@@ -3,55 +3,54 @@ ghost use Rattle.std.specs.Prelude.{◌≡◌, length};
 ghost use Rattle.sf_crew.specs.Benches.{owner_view};
 
 use crate::benches::{Owner, Thief};
-use crate::fault::Fault;
 use crate::workers::hands::Held;
 use crate::workers::hands::stealing::steal_from;
-use std::alloc::Global;
+use crate::workers::naming::{NamedLease, Naming};
+use std::alloc::{AllocError, Global};
 
 /// A worker's own bench before anything was put on it: it may be dropped.
 #[derive(Drop)]
-pub(crate) struct NewBench {
-    owner: Owner,
+pub(crate) struct NewBench<N: Naming> {
+    owner: Owner<NamedLease<N>>,
     ghost unused: { length (owner_view owner).events ≡ 0 },
 }
 
 /// A worker's own bench. It can't be dropped: it is closed, when all that was put on it was got.
-pub(crate) struct Bench {
-    owner: Owner,
+pub(crate) struct Bench<N: Naming> {
+    owner: Owner<NamedLease<N>>,
 }
 
 /// Thieves on the benches of other workers.
 #[derive(Drop)]
-pub(crate) struct Thieves {
-    thieves: Vec<Thief>,
+pub(crate) struct Thieves<N: Naming> {
+    thieves: Vec<Thief<NamedLease<N>>>,
 }
 
-impl NewBench {
+impl<N: Naming> NewBench<N> {
     /// The bench of an owner that put nothing.
-    pub(crate) fn of(owner: Owner) -> NewBench
+    pub(crate) fn of(owner: Owner<NamedLease<N>>) -> NewBench<N>
         requires { length (owner_view owner).events ≡ 0 }
     {
         NewBench { owner }
     }
 
     /// The bench for leases.
-    pub(crate) fn open(self) -> Bench
+    pub(crate) fn open(self) -> Bench<N>
         ensures { result.owner ≡ self.owner }
     {
         Bench { owner: self.owner }
     }
 }
 
-impl Bench {
+impl<N: Naming> Bench<N> {
     ghost use Rattle.std.specs.Prelude.{MatchOption, MatchResult};
     ghost use Rattle.sf_crew.specs.History.{Puts, Gets, AllGot};
 
     /// Puts a lease on the bench, or hands it back and changes nothing, where the bench can't grow.
-    pub(crate) fn put(&mut self, held: Held) -> Result<(), Held>
+    pub(crate) fn put(&mut self, held: Held<N>) -> Result<(), Held<N>>
         ensures { MatchResult result
-            (λ _. Puts (owner_view self.old.owner) held.lease (owner_view self.new.owner))
-            (λ h. (h.lease ≡ held.lease)
-            × (owner_view self.new.owner ≡ owner_view self.old.owner)) }
+            (λ _. Puts (owner_view self.old.owner) held (owner_view self.new.owner))
+            (λ h. (h ≡ held) × (owner_view self.new.owner ≡ owner_view self.old.owner)) }
     {
         let Held { lease } = held;
         match self.owner.put(lease) {
@@ -61,17 +60,17 @@ impl Bench {
     }
 
     /// The first lease that no handle has got. `None` where each that was put had been got.
-    pub(crate) fn take(&mut self) -> Option<Held>
+    pub(crate) fn take(&mut self) -> Option<Held<N>>
         ensures { MatchOption result ((owner_view self.new.owner ≡ owner_view self.old.owner)
             × AllGot (owner_view self.old.owner))
-            (λ h. Gets (owner_view self.old.owner) h.lease (owner_view self.new.owner)) }
+            (λ h. Gets (owner_view self.old.owner) h (owner_view self.new.owner)) }
     {
         let lease = self.owner.take()?;
         Some(Held { lease })
     }
 
     /// The handle of a bench on which nothing is left.
-    pub(crate) fn close(self) -> Owner
+    pub(crate) fn close(self) -> Owner<NamedLease<N>>
         requires { AllGot (owner_view self.owner) }
         ensures { result ≡ self.owner }
     {
@@ -80,28 +79,24 @@ impl Bench {
     }
 }
 
-impl Thieves {
-    ghost use Rattle.std.specs.Prelude.{IfErr};
+impl<N: Naming> Thieves<N> {
     ghost use Rattle.sf_crew.specs.Workers.{thief_views, Steals};
-    ghost use Rattle.sf_crew.specs.declared.fault.Fault.TheVariants.{Memory};
 
     /// No thief so far.
-    pub(crate) fn new(alloc: Global) -> Thieves {
+    pub(crate) fn new(alloc: Global) -> Thieves<N> {
         Thieves {
             thieves: Vec::new(alloc),
         }
     }
 
     /// One thief more, which is tried last.
-    pub(crate) fn add(&mut self, thief: Thief) -> Result<(), Fault>
-        ensures { IfErr result (λ f. f ≡ Memory) }
-    {
+    pub(crate) fn add(&mut self, thief: Thief<NamedLease<N>>) -> Result<(), AllocError> {
         self.thieves.push(thief)?;
         Ok(())
     }
 
     /// Tries each bench once: the first lease that is got.
-    pub(crate) fn steal(&mut self) -> Option<Held>
+    pub(crate) fn steal(&mut self) -> Option<Held<N>>
         ensures { Steals (thief_views self.old.thieves.items) result
             (thief_views self.new.thieves.items) }
     {

@@ -4,10 +4,11 @@ ghost use Rattle.sf_crew.specs.Workers.{thief_views, Steals};
 
 use crate::benches::Thief;
 use crate::workers::hands::Held;
+use crate::workers::naming::{NamedLease, Naming};
 use crossbeam_deque::Steal;
 
 /// Tries one bench.
-fn steal_at(others: &mut [Thief], place: usize) -> Option<Held>
+fn steal_at<N: Naming>(others: &mut [Thief<NamedLease<N>>], place: usize) -> Option<Held<N>>
     requires { place < length others.old }
     ensures { Steals (thief_views others.old) result (thief_views others.new) }
 {
@@ -18,7 +19,7 @@ fn steal_at(others: &mut [Thief], place: usize) -> Option<Held>
 }
 
 /// Tries each bench once: the first lease that is got.
-pub(crate) fn steal_from(others: &mut [Thief]) -> Option<Held>
+pub(crate) fn steal_from<N: Naming>(others: &mut [Thief<NamedLease<N>>]) -> Option<Held<N>>
     ensures { Steals (thief_views others.old) result (thief_views others.new) }
 {
     for place in 0..others.len() {

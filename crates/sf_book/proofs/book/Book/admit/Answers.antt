@@ -1,12 +1,15 @@
-use Rattle.std.proofs.Common.{◌≤◌, arith, refl, sym}
+use Rattle.std.proofs.Common.{◌≡◌, ◌≤◌, arith, refl, sym, ap, ◌∙◌}
+use Rattle.sf_book.specs.Books.{BookData}
 use Rattle.sf_book.proofs.book.Book.admit.Goals as goal
 
 pub returns-then-self-clause-err : goal.returns-then-self-clause-err
 returns-then-self-clause-err c =
     let e = c.in-Some.ensures in
+    let same : c.args.work.now.piece.stack ≡ c.self.inside.stack.value =
+    c.requires ∙ ap (λ (b : BookData). b.stack) (sym c.self.view_is) in
     rw (← c.self.view_is) (
       record {
-        same_stack = c.if-not-is_of.ensures.0 refl;
+        same_stack = same;
         under_id = _;
         there = e.1;
         same_name = sym (c.if-not-has_name.ensures.0 refl);
@@ -17,10 +20,12 @@ returns-then-self-clause-err c =
 pub returns-clause-ok : goal.returns-clause-ok
 returns-clause-ok c =
     let e = c.in-Some.ensures in
+    let same : c.args.work.now.piece.stack ≡ c.self.inside.stack.value =
+    c.requires ∙ ap (λ (b : BookData). b.stack) (sym c.self.view_is) in
     let le : c.self.inside.commits ≤ c.self.inside.budget = c.self.invariant.kept.lawful.within in
     rw (← c.self.view_is) (
       record {
-        same_stack = c.if-not-is_of.ensures.0 refl;
+        same_stack = same;
         under_id = _;
         there = e.1;
         same_name = sym (c.if-not-has_name.ensures.0 refl);

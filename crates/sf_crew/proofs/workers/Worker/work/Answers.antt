@@ -13,6 +13,6 @@ returns-clause-ok g c =
       work = made.work;
       piece = h.piece ∙ ap (λ p. arc_value p) c.piece-2.ensures;
       right = h.right;
-      children = both_put made.work.step c.in-Some.f.lease c.in-Some.t.lease (own_view c.args.self.now)
+      children = both_put made.work.step c.in-Some.f c.in-Some.t (own_view c.args.self.now)
           (own_view c.put.new.self) (own_view c.put-2.new.self) handed.pieces c.put.ensures.put c.put-2.ensures.put;
     }

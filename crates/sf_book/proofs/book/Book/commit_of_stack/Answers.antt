@@ -1,6 +1,6 @@
 use Rattle.sf_book.specs.Changes.{CommitsAs}
 use Rattle.sf_book.proofs.Kept.{memory_refuses, commits_where_may}
-use Rattle.sf_book.proofs.book.Book.commit.Goals as goal
+use Rattle.sf_book.proofs.book.Book.commit_of_stack.Goals as goal
 
 pub returns-clause-ok : goal.returns-clause-ok
 returns-clause-ok c =

@@ -1,0 +1,63 @@
+//! Names of explorations, by which a type says of which stack and budget a book is, and of which stack a lease.
+use sf_book::Lease;
+use std::marker::{Brand, Model, PhantomData};
+
+/// Which exploration it is, for proofs alone. `explore` picks it for its workers.
+pub(crate) trait Naming: Send + Sync {
+    ghost use Rattle.std.specs.Prelude.{ℕ, List};
+    ghost use Rattle.sf_check.specs.declared.insn.Insn.{Insn};
+
+    ghost stack: { List (List Insn) };
+
+    ghost budget: { ℕ };
+}
+
+impl Naming for Brand {
+    ghost use Rattle.std.specs.Prelude.{[]};
+
+    ghost stack = { [] };
+
+    ghost budget = { 0 };
+}
+
+/// A lease of a piece of the stack that is named.
+#[derive(Drop)]
+pub(crate) struct NamedLease<N: Naming> {
+    lease: Lease,
+    of: PhantomData<N>,
+}
+
+impl<N: Naming> Model for NamedLease<N> {
+    ghost use Rattle.std.specs.Prelude.{◌≡◌};
+    ghost use Rattle.sf_book.specs.declared.book.Lease.{Lease};
+
+    ghost Value = { Lease };
+
+    ghost view = { λ l. l.lease };
+
+    ghost invariant = { λ l. l.lease.piece.value.stack ≡ N.stack };
+}
+
+impl<N: Naming> NamedLease<N> {
+    ghost use Rattle.std.specs.Prelude.{◌≡◌};
+    ghost use Rattle.std.specs.Arc.{arc_value};
+
+    /// A lease of which it is known.
+    pub(crate) fn of(lease: Lease) -> NamedLease<N>
+        requires { (arc_value lease.piece).stack ≡ N.stack }
+        ensures { result ≡ lease }
+    {
+        NamedLease {
+            lease,
+            of: PhantomData,
+        }
+    }
+
+    /// What is on lease.
+    pub(crate) fn lease(&self) -> &Lease
+        ensures same { result.now ≡ self.now }
+        ensures named { (arc_value self.now.piece).stack ≡ N.stack }
+    {
+        &self.lease
+    }
+}
