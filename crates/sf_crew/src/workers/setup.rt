@@ -11,10 +11,7 @@ use crate::workers::naming::{NamedLease, Naming};
 use std::alloc::Global;
 
 /// Workers with the numbers from 0, and a bench each.
-pub(crate) fn workers_of<N: Naming>(
-    alloc: Global,
-    count: usize,
-) -> Result<Vec<NewWorker<N>>, Fault>
+pub(crate) fn workers_of<N: Naming>(alloc: Global, count: usize) -> Result<Vec<NewWorker<N>>, Fault>
     requires { (0 < count) × (count ≤ 64) }
     ensures count { IfOk result (λ v. vec_len v ≡ count) }
     ensures err { IfErr result (λ f. f ≡ Memory) }
