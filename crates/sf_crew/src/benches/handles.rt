@@ -23,5 +23,6 @@ pub struct Thief<T = Lease> {
     pub(crate) stealer: Stealer<T, Global, HandleView<T>, InOrder>,
     pub(crate) pass: Pass<T, HandleView<T>, Global>,
     ghost fifo: { stealer_flavor stealer ≡ 0 },
-    ghost seated: { IsPassOf (stealer_deque stealer) pass } by { Prim.hlevel (props, Coded-set T.code) },
+    ghost seated: { IsPassOf (stealer_deque stealer)
+        pass } by { Prim.hlevel (props, Coded-set T.code) },
 }
