@@ -3,7 +3,6 @@ pub mod ActionLemmas
 pub mod EntryLemmas
 pub mod NeverSyntax
 pub mod FilterLemmas
-pub mod PlaceLemmas
 pub mod JoinedLemmas
 pub mod RefusalLemmas
 pub mod OneRefusal

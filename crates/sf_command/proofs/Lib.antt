@@ -1,8 +1,6 @@
 pub mod Pairing
 pub mod PolicyLemmas
 pub mod ReadLemmas
-pub mod KeptLemmas
-pub mod LoadedLemmas
 pub mod CommandLineLemmas
 pub mod SubcommandLemmas
 pub mod RefusalLemmas
