@@ -76,6 +76,40 @@ fn enter(
     Some(())
 }
 
+/// The seat looks at the second of two questions, and where it sees a place below its job, enters a sheet with a verdict on
+/// the first question alone.
+fn enter_without_second(
+    alloc: Global,
+    board: &Board,
+    seat: &mut Seat,
+    settled: &Settled,
+    questions: &[Question; 2],
+    job: usize,
+) -> Option<()>
+    requires seat { IsSeatOf board.now seat.old }
+    requires owes { (seat_view seat.old).owes ≡ Some job }
+    requires matter { (regions_of (about board.now) ≡ settled.now)
+        × (questions_of (about board.now) ≡ questions.now) }
+    ensures same { IsSeatOf board.now seat.new }
+    ensures free { IfSome result (λ _. (seat_view seat.new).owes ≡ None) }
+{
+    if settled.region_count() <= job {
+        return None;
+    }
+    let place = board.look(seat, 1)?;
+    if job <= place {
+        return None;
+    }
+    let Ok(sheet) = Sheet::of(alloc, settled, job, questions, [1, 0, 0, 0]) else {
+        return None;
+    };
+    if sheet.is_skipped(0) || !sheet.is_skipped(1) {
+        return None;
+    }
+    board.enter(seat, sheet);
+    Some(())
+}
+
 /// Two seats that have drawn and entered three regions in turn.
 struct Joined {
     all: Seat,
@@ -83,18 +117,19 @@ struct Joined {
     seen: [Option<usize>; 2],
 }
 
-/// The second seat enters first, and then the first seat looks.
+/// The second seat enters first, and then the first seat looks. It enters its last sheet without the question for which it
+/// has seen a place.
 fn worked(
     alloc: Global,
     board: &Board,
     mut first: Seat,
     mut second: Seat,
     settled: &Settled,
-    questions: &[Question],
+    questions: &[Question; 2],
 ) -> Option<Joined>
     requires seats { IsNewSeat board.now first × IsNewSeat board.now second }
     requires matter { (regions_of (about board.now) ≡ settled.now)
-        × (questions_of (about board.now) ≡ questions.now) × (length questions.now ≡ 2) }
+        × (questions_of (about board.now) ≡ questions.now) }
     ensures { IfSome result (λ w. IsSeatOf board.now w.all) }
 {
     let a = board.draw(&mut first)?;
@@ -103,7 +138,7 @@ fn worked(
     let seen = [board.look(&mut first, 1), board.look(&mut first, 0)];
     enter(alloc, board, &mut first, settled, questions, a)?;
     let c = board.draw(&mut first)?;
-    enter(alloc, board, &mut first, settled, questions, c)?;
+    enter_without_second(alloc, board, &mut first, settled, questions, c)?;
     if board.draw(&mut first).is_some() || board.draw(&mut second).is_some() {
         return None;
     }

@@ -1,5 +1,5 @@
 //! Several workers on one book.
-use samples::{execve_stack, four_tests, low_bits, nested, stack_of};
+use samples::{ALLOW, execve_stack, four_tests, low_bits, nested, stack_of};
 use sf_check::Stack;
 use sf_crew::{Gate, explore};
 use std::alloc::Global;
@@ -59,6 +59,57 @@ fn the_gate_sees_each_commit_of_all_workers(rt: HostRuntime) -> Result<(), Fail>
             let seen = calls_and_commits(&rt, alloc, &stack, workers)?;
             assert_eq!(rt; seen, (commits as usize, commits));
         }
+    }
+    Ok(())
+}
+
+/// How many handles of a stack there are at the first call of all.
+#[derive(Drop)]
+struct Handles {
+    stack: Arc<Stack>,
+    seen: AtomicUsize,
+}
+
+impl Gate for Handles {
+    fn pass(&self, _worker: usize, _call: usize) {
+        if self.seen.load(Ordering::SeqCst) == 0 {
+            self.seen
+                .store(Arc::strong_count(&self.stack), Ordering::SeqCst);
+        }
+    }
+}
+
+/// How many there are where a stack is explored by so many workers.
+fn handles_of<R: Threads + Wait + Sync>(
+    rt: &R,
+    alloc: Global,
+    stack: &Arc<Stack>,
+    workers: usize,
+) -> Result<usize, Fail> {
+    let gate = Handles {
+        stack: Arc::try_clone(stack)?,
+        seen: AtomicUsize::new(0),
+    };
+    explore(
+        rt,
+        alloc,
+        Arc::try_clone(stack)?,
+        1,
+        workers.clamp(1, 64),
+        &gate,
+    )?;
+    Ok(gate.seen.load(Ordering::SeqCst))
+}
+
+/// Each piece has a handle of its stack, so the two pieces that a work was split in are there when the gate sees it.
+#[test]
+fn the_gate_sees_a_work_that_is_made(rt: HostRuntime) -> Result<(), Fail> {
+    let alloc = rt.alloc();
+    let split = execve_stack(alloc)?;
+    let settled = stack_of(alloc, &[&[ALLOW]])?;
+    for workers in [1, 2] {
+        let more = handles_of(&rt, alloc, &settled, workers)?.wrapping_add(2);
+        assert_eq!(rt; handles_of(&rt, alloc, &split, workers)?, more);
     }
     Ok(())
 }
