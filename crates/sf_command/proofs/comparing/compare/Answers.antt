@@ -1,26 +1,26 @@
-use Rattle.std.proofs.Common.{map, length-map, arith}
+use Rattle.std.proofs.Common.{map}
 use Rattle.sf_command.proofs.RefusalLemmas.{comparison_why, handed_on, unread_why}
 use Rattle.sf_command.proofs.comparing.compare.Goals as goal
 
 pub returns-clause-written : goal.returns-clause-written
 returns-clause-written g c = record {
-  files = map (λ f. f.items) c.in_ok-read_both.filters.items;
-  older = c.in_ok-read_both.older;
-  read = c.in_ok-read_both.ensures.read;
+  files = map (λ f. f.items) c.in_ok-filters.filters.items;
+  older = c.in_ok-filters.older;
+  read = c.in_ok-filters.ensures.read;
   found = c.in_ok-comparison.comparison;
   comparison = rw c.deref.ensures.value at c.in_ok-comparison.ensures.found;
   written = c.in_ok-write_comparison.ensures.written;
   told = rw c.change.ensures at c.status_of_change-status.ensures;
 }
 
-pub returns-in_err-read_both-clause-refused : goal.returns-in_err-read_both-clause-refused
-returns-in_err-read_both-clause-refused g c =
-    handed_on _ c.from_residual.result c.in_err-read_both.field-0.0 c.from_residual.ensures.1
-    (unread_why _ _ _ _ c.in_err-read_both.ensures.refused)
+pub returns-in_err-filters-clause-refused : goal.returns-in_err-filters-clause-refused
+returns-in_err-filters-clause-refused g c =
+    handed_on _ c.from_residual.result c.in_err-filters.field-0.0 c.from_residual.ensures.1
+    (unread_why _ _ _ _ c.in_err-filters.ensures.refused)
 
 pub returns-in_err-comparison-clause-refused : goal.returns-in_err-comparison-clause-refused
 returns-in_err-comparison-clause-refused g c =
     handed_on _ c.from_residual-in_err-comparison.result c.in_err-comparison.field-0.0
     c.from_residual-in_err-comparison.ensures.1
-    (comparison_why _ _ _ _ _ _ c.in_ok-read_both.ensures.read
+    (comparison_why _ _ _ _ _ _ c.in_ok-filters.ensures.read
     (rw c.deref.ensures.value at c.in_err-comparison.ensures.refused))

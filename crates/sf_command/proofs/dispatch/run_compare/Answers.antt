@@ -24,8 +24,10 @@ returns-clause-refused g c = IfErr-weaker c.compare.result _ _ (λ e why. (
   c.unwrap_or-old.result.now,
   rw c.unwrap_or-old.ensures (paths_found (found_of c.args.found.now) (codes "old") c.get_strs.result _
       c.get_strs.ensures refl),
-  c.unwrap_or-new.result.now,
-  rw c.unwrap_or-new.ensures (paths_found (found_of c.args.found.now) (codes "new") c.get_strs-2.result _
-      c.get_strs-2.ensures refl),
-  why,
+  (
+    c.unwrap_or-new.result.now,
+    rw c.unwrap_or-new.ensures (paths_found (found_of c.args.found.now) (codes "new") c.get_strs-2.result _
+        c.get_strs-2.ensures refl),
+    why,
+  ),
 )) c.compare.ensures.refused
