@@ -130,8 +130,8 @@ fn mended_input(pool: &Pool, facts: &Facts, cond: &Cond, input: &Input) -> Optio
     Some(Input { words })
 }
 
-/// A member near the least input that the facts leave: as long as a condition isn't met, a word is mended. None where that
-/// doesn't come to a member.
+/// A member near the least input that the facts leave: as long as a condition isn't met, a word is mended, and the input is
+/// looked at again. None where that doesn't come to a member.
 fn member_near(alloc: Global, piece: &Piece, facts: &Facts) -> Result<Option<Input>, Fault>
     requires { CoverMembers piece.now facts.now }
     ensures member { IfOk result (λ o. IfSome o (λ d. IsInput d
@@ -141,7 +141,7 @@ fn member_near(alloc: Global, piece: &Piece, facts: &Facts) -> Result<Option<Inp
     let Some(mut input) = least_input(facts) else {
         return Ok(None);
     };
-    for _ in 0..MOST_MENDINGS {
+    for _ in 0..=MOST_MENDINGS {
         let Some(cond) = first_unmet(alloc, piece, &input)? else {
             return Ok(Some(input));
         };

@@ -20,8 +20,8 @@ handed_on P (Err y) e same why = subst P (sym same) why
 pub policy_why : (holds : List ℕ → Option (List ℕ)) (policy : List ℕ) (paths : List (Bor (List ℕ))) (e : Fault)
     → ((e ≡ Read) × (holds policy ≡ None)) ⊎ (e ≡ Memory) ⊎ RefusesPolicyFile (holds policy) e
     → RefusesAudit holds policy paths e
-policy_why holds policy paths e (inl read) = inl (read.0, inl read.1)
-policy_why holds policy paths e (inr (inl memory)) = inr (inr (inl memory))
+policy_why holds policy paths e (inl read) = inr (inr (inl read))
+policy_why holds policy paths e (inr (inl memory)) = inr (inl memory)
 policy_why holds policy paths e (inr (inr why)) = inr (inr (inr (inl why)))
 
 -- the file at a path can't be read
@@ -43,13 +43,15 @@ still_unknown before after paths same left = record {
   unknown = sym (same left.path.now) ∙ left.unknown;
 }
 
--- a file of a filter can't be read
-pub filters_why : (before after : List ℕ → Option (List ℕ)) (policy : List ℕ) (paths : List (Bor (List ℕ))) (e : Fault)
-    → ((p : List ℕ) → after p ≡ before p) → ((e ≡ Read) × HasUnknown after paths) ⊎ (e ≡ Memory)
+-- a file of a filter can't be read, after a policy with these questions
+pub filters_why : (before after : List ℕ → Option (List ℕ)) (policy : List ℕ) (paths : List (Bor (List ℕ)))
+    (questions : List QuestionData) (e : Fault)
+    → IsPolicyFile (before policy) questions → ((p : List ℕ) → after p ≡ before p)
+    → ((e ≡ Read) × HasUnknown after paths) ⊎ (e ≡ Memory)
     → RefusesAudit before policy paths e
-filters_why before after policy paths e same (inl (read, left)) =
-    inl (read, inr (still_unknown before after paths same left))
-filters_why before after policy paths e same (inr memory) = inr (inr (inl memory))
+filters_why before after policy paths questions e asked same (inl (read, left)) =
+    inr (inr (inr (inr (questions, asked, inl (read, still_unknown before after paths same left)))))
+filters_why before after policy paths questions e asked same (inr memory) = inr (inl memory)
 
 -- a file of the second stack of two can't be read
 pub either_unknown : (before after : List ℕ → Option (List ℕ)) (old new : List (Bor (List ℕ))) (e : Fault)
@@ -80,6 +82,6 @@ pub audit_why : (holds : List ℕ → Option (List ℕ)) (policy : List ℕ) (pa
     → IsPolicyFile (holds policy) questions → AreRead holds paths files → (e ≡ Memory)
     ⊎ IsAuditRefusal files questions e
     → RefusesAudit holds policy paths e
-audit_why holds policy paths questions files e asked read (inl memory) = inr (inr (inl memory))
+audit_why holds policy paths questions files e asked read (inl memory) = inr (inl memory)
 audit_why holds policy paths questions files e asked read (inr why) =
-    inr (inr (inr (inr (questions, files, asked, read, why))))
+    inr (inr (inr (inr (questions, asked, inr (files, read, why)))))

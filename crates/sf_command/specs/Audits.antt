@@ -46,13 +46,18 @@ pub record AuditsFiles (holds : List ℕ → Option (List ℕ)) (policy : List �
   pub written : Appends old new (report_text found regions)
   pub told : status ≡ replies_status found.replies
 
--- Why an audit is refused, after the file of the policy and then those of the filters were read: one of these, which
--- isn't known, can't be read; writing or memory failed; the policy file is no policy; or the audit of what the files
--- hold is refused.
+-- Why an audit by these questions is refused: a filter file, which isn't known, can't be read, or all were read and the
+-- audit of what they hold is refused.
+abbrev pub RefusesAsked : (List ℕ → Option (List ℕ)) → List (Bor (List ℕ)) → List QuestionData → Fault → Type 0
+RefusesAsked holds paths questions fault =
+    ((fault ≡ Read) × HasUnknown holds paths)
+    ⊎ ((files : List (List ℕ)) × AreRead holds paths files × IsAuditRefusal files questions fault)
+
+-- Why an audit is refused: writing or memory failed; the policy file, which isn't known, can't be read, or it is no
+-- policy; or it is one, and the audit by its questions is refused.
 abbrev pub RefusesAudit : (List ℕ → Option (List ℕ)) → List ℕ → List (Bor (List ℕ)) → Fault → Type 0
 RefusesAudit holds policy paths fault =
-    ((fault ≡ Read) × ((holds policy ≡ None) ⊎ HasUnknown holds paths))
-    ⊎ (fault ≡ Write) ⊎ (fault ≡ Memory) ⊎ RefusesPolicyFile (holds policy) fault
-    ⊎ ((questions : List QuestionData) × (files : List (List ℕ)) × IsPolicyFile (holds policy) questions
-    × AreRead holds paths files
-    × IsAuditRefusal files questions fault)
+    (fault ≡ Write) ⊎ (fault ≡ Memory)
+    ⊎ ((fault ≡ Read) × (holds policy ≡ None)) ⊎ RefusesPolicyFile (holds policy) fault
+    ⊎ ((questions : List QuestionData) × IsPolicyFile (holds policy) questions
+    × RefusesAsked holds paths questions fault)

@@ -1,10 +1,8 @@
 //! What `audit` does.
 
 ghost use Rattle.std.specs.Prelude.{◌≡◌, ◌<◌, ◌≤◌, ◌⊎◌, ℕ, List, None, IfOk, IfErr};
-ghost use Rattle.sf_audit.specs.Faults.{fault_number};
-ghost use Rattle.sf_audit.specs.declared.fault.Fault.TheVariants.{Memory as MemoryFault, Read as ReadFault};
+ghost use Rattle.sf_audit.specs.declared.fault.Fault.TheVariants.{Memory as MemoryFault, Read as ReadFault, Write as WriteFault};
 ghost use Rattle.sf_command.specs.Audits.{AuditsFiles, IsPolicyFile, RefusesAudit, RefusesPolicyFile};
-ghost use Rattle.sf_command.specs.Status.{fault_status};
 
 use crate::explaining::Notes;
 use crate::files::{Files, read_all};
@@ -53,8 +51,8 @@ fn questions_in<F: Files>(
 
 /// Reads the policy file and then the filter files, in order of installation, audits the stack of the filters, writes
 /// the report, and gives the status of the replies. `Read`, `Syntax` or what `read_policy` refuses for the policy file;
-/// `Read` where a filter file can't be read; then what `audit` of the library refuses; `Write` where standard output
-/// can't be written; `Memory` at any time. Before `Write` and `Memory` nothing is written.
+/// then `Read` where a filter file can't be read; then what `audit` of the library refuses; `Write` where standard output
+/// can't be written, after a beginning of the report; `Memory` at any time. But for `Write` nothing is written.
 pub fn audit<R: Threads + Wait + Sync, F: Files, O: Write>(
     rt: &R,
     alloc: Global,
@@ -70,8 +68,7 @@ pub fn audit<R: Threads + Wait + Sync, F: Files, O: Write>(
         options.budget options.regions s (O.contents out.old) (O.contents out.new)) }
     ensures status { IfOk result (λ s. s ≤ 2) }
     ensures refused { IfErr result (RefusesAudit (F.holds files.old) policy.now paths.now) }
-    ensures quiet { IfErr result (λ e. (fault_status (fault_number e) ≡ 5)
-        ⊎ (out.new ≡ out.old)) }
+    ensures quiet { IfErr result (λ e. (e ≡ WriteFault) ⊎ (out.new ≡ out.old)) }
 {
     let questions = questions_in(alloc, policy, files, notes)?;
     let filters = read_all(alloc, paths, files, notes)?;

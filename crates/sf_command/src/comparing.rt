@@ -1,11 +1,9 @@
 //! What `compare` does.
 
 ghost use Rattle.std.specs.Prelude.{◌≡◌, ◌<◌, ◌≤◌, ◌⊎◌, length, map, IfOk, IfErr};
-ghost use Rattle.sf_audit.specs.Faults.{fault_number};
-ghost use Rattle.sf_audit.specs.declared.fault.Fault.TheVariants.{Memory as MemoryFault, Read as ReadFault};
+ghost use Rattle.sf_audit.specs.declared.fault.Fault.TheVariants.{Memory as MemoryFault, Read as ReadFault, Write as WriteFault};
 ghost use Rattle.sf_command.specs.Comparisons.{AreBothRead, ComparesFiles, RefusesComparison};
 ghost use Rattle.sf_command.specs.Files.{HasUnknown};
-ghost use Rattle.sf_command.specs.Status.{fault_status};
 
 use crate::explaining::Notes;
 use crate::files::{Files, read_all};
@@ -53,8 +51,8 @@ fn read_both<F: Files>(
 
 /// Reads the old filter files and then the new ones, each in order of installation, compares their stacks, writes what was
 /// found, and gives the status of the relation that is asked for. `Read` where a file can't be read; then what `compare` of
-/// the library refuses; `Write` where standard output can't be written; `Memory` at any time. Before `Write` and `Memory`
-/// nothing is written.
+/// the library refuses; `Write` where standard output can't be written, after a beginning of the text; `Memory` at any time.
+/// But for `Write` nothing is written.
 pub fn compare<R: Threads + Wait + Sync, F: Files, O: Write>(
     rt: &R,
     alloc: Global,
@@ -70,8 +68,7 @@ pub fn compare<R: Threads + Wait + Sync, F: Files, O: Write>(
         terms.budget terms.asked s (O.contents out.old) (O.contents out.new)) }
     ensures status { IfOk result (λ s. s ≤ 2) }
     ensures refused { IfErr result (RefusesComparison (F.holds files.old) old.now new.now) }
-    ensures quiet { IfErr result (λ e. (fault_status (fault_number e) ≡ 5)
-        ⊎ (out.new ≡ out.old)) }
+    ensures quiet { IfErr result (λ e. (e ≡ WriteFault) ⊎ (out.new ≡ out.old)) }
 {
     let (filters, older) = read_both(alloc, old, new, files, notes)?;
     let workers = usize::from(terms.workers);

@@ -37,8 +37,7 @@ fn run_audit<R: Threads + Wait + Sync, F: Files, O: Write>(
     ensures done { IfOk result (λ s. Audits (F.holds files.old) (rows_of (found_of found.now)) s
         (O.contents out.old) (O.contents out.new)) }
     ensures status { IfOk result (λ s. s ≤ 2) }
-    ensures quiet { IfErr result (λ e. (fault_status (fault_number e) ≡ 5)
-        ⊎ (out.new ≡ out.old)) }
+    ensures quiet { IfErr result (λ e. (e ≡ WriteFault) ⊎ (out.new ≡ out.old)) }
     ensures refused { IfErr result (λ e. OnPaths (codes "filters") (rows_of (found_of found.now))
         (λ paths. RefusesAudit (F.holds files.old)
         (text_of (codes "policy") (rows_of (found_of found.now))) paths e)) }
@@ -63,8 +62,7 @@ fn run_check<F: Files, O: Write>(
 ) -> Result<u8, Fault>
     ensures done { IfOk result (λ s. Checks (F.holds files.old) (rows_of (found_of found.now)) s
         (O.contents out.old) (O.contents out.new)) }
-    ensures quiet { IfErr result (λ e. (fault_status (fault_number e) ≡ 5)
-        ⊎ (out.new ≡ out.old)) }
+    ensures quiet { IfErr result (λ e. (e ≡ WriteFault) ⊎ (out.new ≡ out.old)) }
     ensures refused { IfErr result (λ e. OnPaths (codes "filters") (rows_of (found_of found.now))
         (λ paths. RefusesCheck (F.holds files.old) paths e)) }
 {
@@ -83,8 +81,7 @@ fn run_eval<F: Files, O: Write>(
 ) -> Result<u8, Fault>
     ensures done { IfOk result (λ s. Evaluates (F.holds files.old)
         (rows_of (found_of found.now)) s (O.contents out.old) (O.contents out.new)) }
-    ensures quiet { IfErr result (λ e. (fault_status (fault_number e) ≡ 5)
-        ⊎ (out.new ≡ out.old)) }
+    ensures quiet { IfErr result (λ e. (e ≡ WriteFault) ⊎ (out.new ≡ out.old)) }
     ensures refused { IfErr result (λ e. OnPaths (codes "filters") (rows_of (found_of found.now))
         (λ paths. RefusesEval (text_of (codes "input") (rows_of (found_of found.now)))
         (F.holds files.old) paths e)) }
@@ -109,8 +106,7 @@ fn run_compare<R: Threads + Wait + Sync, F: Files, O: Write>(
     ensures done { IfOk result (λ s. Compares (F.holds files.old) (rows_of (found_of found.now)) s
         (O.contents out.old) (O.contents out.new)) }
     ensures status { IfOk result (λ s. s ≤ 2) }
-    ensures quiet { IfErr result (λ e. (fault_status (fault_number e) ≡ 5)
-        ⊎ (out.new ≡ out.old)) }
+    ensures quiet { IfErr result (λ e. (e ≡ WriteFault) ⊎ (out.new ≡ out.old)) }
     ensures refused { IfErr result (λ e. OnPaths (codes "old") (rows_of (found_of found.now))
         (λ old. OnPaths (codes "new") (rows_of (found_of found.now))
         (λ new. RefusesComparison (F.holds files.old) old new e))) }
@@ -139,8 +135,7 @@ fn run<R: Threads + Wait + Sync, F: Files, O: Write>(
         (subcommand_rows_of matches.now) s (O.contents out.old) (O.contents out.new)) }
     ensures usage { IfOk result (λ s. s ≡ 4 → ¬ IsKnown (subcommand_rows_of matches.now)
         × (files.new ≡ files.old) × (out.new ≡ out.old)) }
-    ensures quiet { IfErr result (λ e. (fault_status (fault_number e) ≡ 5)
-        ⊎ (out.new ≡ out.old)) }
+    ensures quiet { IfErr result (λ e. (e ≡ WriteFault) ⊎ (out.new ≡ out.old)) }
     ensures refused { IfErr result (RefusesAs (F.holds files.old)
         (subcommand_rows_of matches.now)) }
 {
@@ -170,8 +165,8 @@ fn explain<O: Write, E: Write>(
     ensures refused { ¬ IsHelp (kind_of error.now) → IfOk result (λ s. s ≡ 4) }
     ensures usage { IfOk result (λ s. s ≡ 4 → (kind_of error.now ≢ ErrorKind.OutOfMemory)
         × (out.new ≡ out.old)) }
-    ensures failed { IfErr result (λ e. fault_status (fault_number e) ≡ 5) }
     ensures explained { IfErr result (λ e. (e ≡ MemoryFault) ⊎ (e ≡ WriteFault)) }
+    ensures quiet { IfErr result (λ e. (e ≡ WriteFault) ⊎ (out.new ≡ out.old)) }
 {
     if error.kind() == ErrorKind::OutOfMemory {
         return Err(Fault::Memory);
@@ -205,8 +200,7 @@ fn reply<R: Threads + Wait + Sync, F: Files, O: Write, E: Write>(
     ensures usage { IfOk result (λ s. s ≡ 4
         → ¬ (errors_at (map string_bytes words.now) ≡ [])
         × (files.new ≡ files.old) × (out.new ≡ out.old)) }
-    ensures quiet { IfErr result (λ e. (fault_status (fault_number e) ≡ 5)
-        ⊎ (out.new ≡ out.old)) }
+    ensures quiet { IfErr result (λ e. (e ≡ WriteFault) ⊎ (out.new ≡ out.old)) }
     ensures refused { IfErr result (RefusesAsTold (F.holds files.old)
         (map string_bytes words.now)) }
 {
@@ -219,10 +213,11 @@ fn reply<R: Threads + Wait + Sync, F: Files, O: Write, E: Write>(
 /// Does what the words after the program's name say, and gives the exit status.
 ///
 /// 0: done; of an audit each question is never, and of a comparison what is asked. 1: some question, or what is asked of a
-/// comparison, is allowed. 2: none is allowed and some is unsettled. 3: the filters, the policy or the input are refused; standard output is left as it was. 4: the command line is refused; no
-/// file was read, standard output is left as it was, and standard error has the text of `clap`. 5: reading, writing or
-/// memory failed. At 3 and 5 one line on standard error says what: `error`, the number, the name and the place of the
-/// fault. With `--explain-errors` lines for a person follow.
+/// comparison, is allowed. 2: none is allowed and some is unsettled. 3: the filters, the policy or the input are refused;
+/// standard output is left as it was. 4: the command line is refused; no file was read, standard output is left as it was,
+/// and standard error has the text of `clap`. 5: reading, writing or memory failed; standard output is left as it was, unless
+/// writing failed. At 3 and 5 one line on standard error says what: `error`, the number, the name and the place of the fault.
+/// With `--explain-errors` lines for a person follow.
 pub fn command<R: Threads + Wait + Sync, F: Files, O: Write, E: Write>(
     rt: &R,
     alloc: Global,
@@ -240,6 +235,9 @@ pub fn command<R: Threads + Wait + Sync, F: Files, O: Write, E: Write>(
     ensures refused { result ≡ 3 → (out.new ≡ out.old)
         × ((e : Fault) × (fault_status (fault_number e) ≡ 3)
         × RefusesAsTold (F.holds files.old) (map string_bytes words.now) e) }
+    ensures failed { result ≡ 5 → (e : Fault) × (fault_status (fault_number e) ≡ 5)
+        × RefusesAsTold (F.holds files.old) (map string_bytes words.now) e
+        × ((e ≡ WriteFault) ⊎ (out.new ≡ out.old)) }
 {
     let mut notes = Notes::new(alloc);
     match reply(rt, alloc, words, files, &mut notes, out, err) {

@@ -24,7 +24,8 @@ pub returns-in_err-filters-clause-refused : goal.returns-in_err-filters-clause-r
 returns-in_err-filters-clause-refused g c =
     handed_on _ c.from_residual-in_err-filters.result c.in_err-filters.field-0.0
     c.from_residual-in_err-filters.ensures.1
-    (filters_why _ _ _ _ _ c.in_ok-questions.ensures.same c.in_err-filters.ensures.refused)
+    (filters_why _ _ _ _ _ _ c.in_ok-questions.ensures.asked c.in_ok-questions.ensures.same
+    c.in_err-filters.ensures.refused)
 
 pub returns-in_err-outcome-clause-refused : goal.returns-in_err-outcome-clause-refused
 returns-in_err-outcome-clause-refused g c =
