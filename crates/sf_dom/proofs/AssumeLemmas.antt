@@ -22,7 +22,7 @@ use Rattle.sf_dom.specs.Backward.{IsSwappable, IsPropagatedBack}
 use Rattle.sf_dom.proofs.Propagations.{AllNarrower-trans, AllNarrower-set, AllNarrower-refl, propagate-set, word-below, operands-below}
 use Rattle.sf_dom.proofs.GuardLemmas.{gives-differs}
 use Rattle.sf_dom.proofs.Reductions.{IsNarrower-trans, IsNarrower-refl}
-use Rattle.sf_dom.specs.FactsLaws.{value-word}
+use Rattle.sf_dom.specs.FactsLaws.{narrower-admits, value-word}
 use Rattle.sf_sym.specs.declared.pool.Cond.{Cond}
 use Rattle.sf_insn.specs.declared.ops.Test.{Test}
 use Rattle.sf_insn.specs.declared.ops.Test.TheVariants.{Equal, Greater, GreaterOrEqual, AnyBit}
@@ -228,7 +228,7 @@ tells-narrower Greater true v w a b c e h k t = (omega (arith, h.low, t.0), omeg
 tells-narrower Greater false v w a b c e h k t = (omega (arith, h.high, t.0), omega (arith, k.low, t.1))
 tells-narrower GreaterOrEqual true v w a b c e h k t = (omega (arith, h.low, t.0), omega (arith, k.high, t.1))
 tells-narrower GreaterOrEqual false v w a b c e h k t = (omega (arith, h.high, t.0), omega (arith, k.low, t.1))
-tells-narrower AnyBit true v w a b c e h k t = λ d one i. omega (arith, h.ones i, t d one i)
+tells-narrower AnyBit true v w a b c e h k t = (t.0, λ d one i. omega (arith, h.ones i, t.1 d one i))
 tells-narrower AnyBit false v w a b c e h k t = λ d i. omega (arith, h.zeros i, t d i)
 
 -- what is left of both nodes of a condition, by what its test leaves of them
@@ -251,8 +251,8 @@ left-alone ks ex ns cond v' w' node other lv lw pair tells sharp decided one two
   consistent = one.consistent;
   tells = tells-narrower cond.test cond.sense (known_at ks cond.node.0) (known_at ks cond.other.0) v' w' node other
       one.told two.told tells;
-  sharp = λ d s x h. sharp d s x (one.told.numbers x h);
-  decided = λ s d1 d2 x h. decided s d1 d2 x (one.told.numbers x h);
+  sharp = λ d s x h. sharp d s x (narrower-admits v' node x one.told h);
+  decided = λ s d1 d2 x h. decided s d1 d2 x (narrower-admits v' node x one.told h);
 }
 
 -- the first node gets what is left of it
@@ -374,8 +374,8 @@ assumed-all true o a b c e n ex ns cond v' w' s tells b1 b2 sharp decided propag
           (known_at n cond.node.0) (known_at n cond.other.0) k.1 k.2 tells;
       back_node = back cond.node.0 c s.node_back bc cn b1;
       back_other = back cond.other.0 e s.other_back (AllNarrower-trans b c e counts bc ce) propagate.narrower b2;
-      sharp = λ d s x h. sharp d s x (k.1.numbers x h);
-      decided = λ s d1 d2 x h. decided s d1 d2 x (k.1.numbers x h);
+      sharp = λ d s x h. sharp d s x (narrower-admits v' (known_at n cond.node.0) x k.1 h);
+      decided = λ s d1 d2 x h. decided s d1 d2 x (narrower-admits v' (known_at n cond.node.0) x k.1 h);
     }
 assumed-all false o a b c e n ex ns cond v' w' s tells b1 b2 sharp decided none =
     λ d p agrees h. none d p (steps-keep o a b c e ex ns cond v' w' s d p agrees h)
