@@ -16,7 +16,7 @@ use Rattle.sf_insn.specs.declared.input.Input.{Input}
 use Rattle.sf_dom.specs.declared.known.Known.{Known}
 use Rattle.sf_dom.specs.declared.guards.Pair.{Pair}
 use Rattle.sf_dom.specs.Known.{Admits, Leaves, IsNarrower, IsDecided, IsConsistent, IsTight, known_of}
-use Rattle.sf_dom.specs.Propagation.{IsReducedNode, IsLeft, AreTightWords, KeepsTight, AreOthersTight, AddsNumber, AreExcluded, AreBothExcluded, IsAssumed, IsRestricted, IsPropagated, IsSharp, IsMovedPast, Tells, TestGives, AllNarrower, KeepsAgreeing, NoneAgreesWith, KeepsAgreeingOn, NoneAgreesOn, LeavesPair, LeavesNoPair, HasGoneBack, Holds}
+use Rattle.sf_dom.specs.Propagation.{IsReady, IsPropagatedAt, IsReducedNode, IsLeft, AreTightWords, KeepsTight, AreOthersTight, AddsNumber, AreExcluded, AreBothExcluded, IsAssumed, IsRestricted, IsPropagated, IsSharp, IsMovedPast, Tells, TestGives, AllNarrower, KeepsAgreeing, NoneAgreesWith, KeepsAgreeingOn, NoneAgreesOn, LeavesPair, LeavesNoPair, HasGoneBack, Holds}
 use Rattle.sf_dom.specs.Conditions.{AreLeftAlone}
 use Rattle.sf_dom.specs.Backward.{IsSwappable, IsPropagatedBack}
 use Rattle.sf_dom.proofs.Propagations.{AllNarrower-trans, AllNarrower-set, AllNarrower-refl, propagate-set, word-below, operands-below}
@@ -26,7 +26,7 @@ use Rattle.sf_dom.specs.FactsLaws.{narrower-admits, value-word}
 use Rattle.sf_sym.specs.declared.pool.Cond.{Cond}
 use Rattle.sf_insn.specs.declared.ops.Test.{Test}
 use Rattle.sf_insn.specs.declared.ops.Test.TheVariants.{Equal, Greater, GreaterOrEqual, AnyBit}
-use Rattle.sf_dom.specs.Facts.{known_at, numbers_at, excluded_of, AgreesWith}
+use Rattle.sf_dom.specs.Facts.{known_at, numbers_at, excluded_of, AgreesWith, KnowDecided}
 use Rattle.sf_dom.specs.Reduction.{IsMeet, IsReducedWord}
 
 -- a test that lets fewer pairs through
@@ -116,12 +116,11 @@ value-left ns d i op a b c p l la s e k =
 
 -- the operand of a node with more bits known
 pub walked : (ks : List Known) (ex : List (List ℕ)) (ns : List Node) (d : Input) (i x c : ℕ) (op : BinOp)
-    (gained : Known)
-    → i < length ks → x < length ks → AgreesWith ks ex ns d → value_of ns d i ≡ apply op (value_of ns d x) c
-    → ((n : ℕ) → Admits (known_at ks x) n → Admits (known_at ks i) (apply op n c) → Admits gained n)
-    → Leaves gained (excluded_of ex (node_at ns x)) (value_of ns d x)
-walked ks ex ns d i x c op gained li lx a e g =
-    record { admitted = g (value_of ns d x) (a x lx).admitted (rw e at (a i li).admitted); kept = (a x lx).kept }
+    (node gained : Known) → x < length ks → AgreesWith ks ex ns d → value_of ns d i ≡ apply op (value_of ns d x) c
+    → ((n : ℕ) → Admits (known_at ks x) n → Admits node (apply op n c) → Admits gained n)
+    → Admits node (value_of ns d i) → Leaves gained (excluded_of ex (node_at ns x)) (value_of ns d x)
+walked ks ex ns d i x c op node gained lx a e g admitted =
+    record { admitted = g (value_of ns d x) (a x lx).admitted (rw e at admitted); kept = (a x lx).kept }
 
 -- one more number in the list of a word
 pub added-at : (ex : List (List ℕ)) (w : ℕ) (xs : List ℕ) (number : ℕ) → w < length ex
@@ -379,6 +378,68 @@ assumed-all true o a b c e n ex ns cond v' w' s tells b1 b2 sharp decided propag
     }
 assumed-all false o a b c e n ex ns cond v' w' s tells b1 b2 sharp decided none =
     λ d p agrees h. none d p (steps-keep o a b c e ex ns cond v' w' s d p agrees h)
+
+-- what holds of each node where facts are ready and as tight as they get
+pub already-passed : (o : List Known) (ex : List (List ℕ)) (ns : List Node) → IsReady o ns → KnowDecided o ns
+    → AreTightWords o ex → (i : ℕ) → i < length ns → IsPropagatedAt o ex ns i
+already-passed o ex ns ready decided tight i l =
+    let count = ready.count in
+    record {
+      consistent = ready.consistent i (omega arith);
+      tight = λ small. tight i small;
+      decided = decided i (omega arith);
+      constant = λ c e. ready.constants i c (omega arith) e;
+    }
+
+-- a condition that changes nothing is taken in
+pub assumed-nothing : (o : List Known) (ex : List (List ℕ)) (ns : List Node) (cond : Cond) → IsReady o ns
+    → KnowDecided o ns → AreLeftAlone o ex ns cond (known_at o cond.node.0) (known_at o cond.other.0)
+    → ((m : ℕ) → IsPropagatedBack m o ns cond.node.0) → ((m : ℕ) → IsPropagatedBack m o ns cond.other.0)
+    → AreTightWords o ex → IsAssumed o o ex ns cond
+assumed-nothing o ex ns cond ready decided left b1 b2 tight =
+    let back : (at : ℕ) → ((m : ℕ) → IsPropagatedBack m o ns at) → HasGoneBack o o ns cond at
+    = λ at walks. record {
+      between = o;
+      count = ready.count;
+      before = AllNarrower-refl o;
+      tells = left.tells;
+      walked = walks;
+      after = AllNarrower-refl o;
+    } in
+    record {
+      count = ready.count;
+      keeps = λ d p a h. a;
+      narrower = AllNarrower-refl o;
+      passed = already-passed o ex ns ready decided tight;
+      tells = left.tells;
+      back_node = back cond.node.0 b1;
+      back_other = back cond.other.0 b2;
+      sharp = left.sharp;
+      decided = left.decided;
+    }
+
+-- a word of which nothing else is known is restricted
+pub restricted-nothing : (o : List Known) (ex : List (List ℕ)) (ns : List Node) (w : ℕ) (more next : Known)
+    → IsReady o ns → KnowDecided o ns → AreTightWords o ex → IsLeft o ex ns w more next → next ≡ known_at o w
+    → IsRestricted o o ex ns w more
+restricted-nothing o ex ns w more next ready decided tight left same = record {
+  count = ready.count;
+  keeps = λ d i a h. a;
+  narrower = AllNarrower-refl o;
+  word = rw (← same) left.told;
+  passed = already-passed o ex ns ready decided tight;
+}
+
+-- what is left of a word is known of it
+pub left-set : (o : List Known) (ex : List (List ℕ)) (ns : List Node) (w : ℕ) (more next : Known) → w < length o
+    → IsLeft o ex ns w more next
+    → KeepsAgreeingOn o (set o w next) ex ns (λ d. Admits more (value_of ns d w)) × AllNarrower o (set o w next)
+    × IsNarrower more (known_at (set o w next) w)
+left-set o ex ns w more next l left = (
+  (λ d p a m. propagate-set o ex ns d w next l a (left.kept d p a m)),
+  AllNarrower-set o o w next refl l (AllNarrower-refl o) left.narrower,
+  narrower-at o w more next l left.told,
+)
 
 -- a word's facts are restricted, and forward propagation follows
 pub restricted-all : (r : Bool) (o a n : List Known) (ex : List (List ℕ)) (ns : List Node) (w : ℕ) (more : Known)
