@@ -111,7 +111,7 @@ fn facts_of(alloc: Global, pool: &Pool) -> Result<Facts, Fail>
     if !grown.grow(alloc, pool)? || !facts.equals(&grown) {
         return Err(Fail::from("grown facts are others"));
     }
-    if !facts.equals(&facts.fork(alloc)?) {
+    if !facts.equals(&facts.fork()?) {
         return Err(Fail::from("a fork has other facts"));
     }
     Ok(facts)

@@ -55,8 +55,8 @@ fn learn(alloc: Global, facts: &mut Facts, pool: &Pool, cond: &Cond) -> Option<b
     facts.learn(alloc, pool, cond).ok()
 }
 
-fn fork(alloc: Global, facts: &Facts) -> Option<Facts> {
-    facts.fork(alloc).ok()
+fn fork(facts: &Facts) -> Option<Facts> {
+    facts.fork().ok()
 }
 
 fn least_first(facts: &Facts) -> Option<u32> {
@@ -99,7 +99,7 @@ fn conditions_that_no_input_meets_have_no_facts(rt: HostRuntime) {
 fn told_of_fork(alloc: Global) -> Option<[bool; 3]> {
     let (pool, other_than_nine) = against_nine(alloc, Test::Equal, false)?;
     let mut facts = new_facts(alloc, &pool)?;
-    let before = fork(alloc, &facts)?;
+    let before = fork(&facts)?;
     let is_equal = facts.equals(&before);
     let is_taken = learn(alloc, &mut facts, &pool, &other_than_nine)?;
     Some([is_equal, is_taken, facts.equals(&before)])

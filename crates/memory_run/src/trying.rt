@@ -70,7 +70,7 @@ fn learn(
     requires below { IsCondBelow (length pool.now) cond.now }
     ensures { Covers facts.new pool.now }
 {
-    let before = facts.fork(alloc)?;
+    let before = facts.fork()?;
     match facts.learn(alloc, pool, cond) {
         Ok(taken) => {
             tally.expect(taken || facts.equals(&before));
@@ -119,7 +119,7 @@ fn confine(
     requires { Covers facts.old pool.now }
     ensures { Covers facts.new pool.now }
 {
-    let before = facts.fork(alloc)?;
+    let before = facts.fork()?;
     match confine_once(alloc, facts, pool, limit) {
         Ok(taken) => {
             tally.expect(taken || facts.equals(&before));
@@ -137,7 +137,7 @@ fn grow(alloc: Global, tally: &mut Tally, piece: &Piece) -> Result<(), Refused> 
     let mut pool = piece.pool().fork()?;
     let before = pool.fork()?;
     let _id = push(tally, &mut pool, &before, 2000)?;
-    let mut facts = piece.facts().fork(alloc)?;
+    let mut facts = piece.facts().fork()?;
     let grown = match facts.grow(alloc, &pool) {
         Ok(grown) => grown,
         Err(fault) => {
@@ -174,7 +174,7 @@ pub fn try_facts(alloc: Global, tally: &mut Tally, piece: &Piece) -> Result<bool
         tally.expect(false);
         return Ok(false);
     };
-    let mut facts = piece.facts().fork(alloc)?;
+    let mut facts = piece.facts().fork()?;
     let is_low = confine(alloc, tally, &mut facts, pool, Limit::Low)?;
     let is_even = confine(alloc, tally, &mut facts, pool, Limit::Even)?;
     let not_0 = Cond {

@@ -8,7 +8,7 @@ use Rattle.sf_insn.specs.Inputs.{IsInput}
 use Rattle.sf_sym.specs.declared.pool.Node.{Node}
 use Rattle.sf_dom.specs.Known.{Admits}
 use Rattle.sf_dom.specs.Facts.{FactsView, Covers, known_at, AreNarrower, lies_in, has_masked, KeepsInputs, KeepsOnly, NoInput}
-use Rattle.sf_dom.specs.FactsLaws.{agreeing-word}
+use Rattle.sf_dom.specs.FactsLaws.{narrower-admits, agreeing-word}
 use Rattle.sf_ask.specs.QuestionData.{QuestionData, range_at, mask_at}
 use Rattle.sf_ask.specs.Breaking.{IsNumberOf, IsInQuestion}
 use Rattle.sf_ask.specs.Searches.{NonePasses, WordIsInRange, WordHasBits, WordHasNumber, IsInBefore, IsRangeNumber, IsMaskNumber, IsWordNumber}
@@ -77,13 +77,13 @@ again f g h ns one two both first second may_have of a b to_one to_two to_both j
               high = omega arith;
               zeros = λ j. omega (arith, x.zeros j, y.zeros j);
               ones = λ j. omega (arith, x.ones j, y.ones j);
-              numbers = λ n m. x.numbers n (y.numbers n m);
             };
         excluded = λ w m l k. b.narrower.excluded w m l (a.narrower.excluded w m l k);
       };
       covers = b.covers;
       numbers = λ word n w l m. joins word n w
-          (a.numbers word n w l ((b.narrower.known word (omega arith)).numbers n m)) (b.numbers word n w l m);
+          (a.numbers word n w l (narrower-admits _ _ n (b.narrower.known word (omega arith)) m))
+          (b.numbers word n w l m);
     }
 
 -- no input passes both, where none that is left passes the second

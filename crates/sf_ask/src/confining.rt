@@ -130,7 +130,7 @@ pub(crate) fn confined(
         (IsNumberBefore question.now 16))) }
     ensures err { IfErr result (λ f. f ≡ Memory) }
 {
-    let mut confined = facts.fork(alloc)?;
+    let mut confined = facts.fork()?;
     for word in 0..16 {
         if !confine_word(alloc, &mut confined, pool, question, word)? {
             return Ok(None);

@@ -43,7 +43,7 @@ fn facts_learnt_again(alloc: Global, piece: &Piece) -> Result<Option<Facts>, Fau
         (CoverMembers piece.now)) }
     ensures err { IfErr result (λ f. f ≡ Memory) }
 {
-    let mut facts = piece.facts().fork(alloc)?;
+    let mut facts = piece.facts().fork()?;
     for i in 0..piece.cond_count() {
         if !facts.learn(alloc, piece.pool(), &piece.cond(i))? {
             return Ok(None);

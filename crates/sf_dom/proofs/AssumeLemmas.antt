@@ -16,17 +16,17 @@ use Rattle.sf_insn.specs.declared.input.Input.{Input}
 use Rattle.sf_dom.specs.declared.known.Known.{Known}
 use Rattle.sf_dom.specs.declared.guards.Pair.{Pair}
 use Rattle.sf_dom.specs.Known.{Admits, Leaves, IsNarrower, IsDecided, IsConsistent, IsTight, known_of}
-use Rattle.sf_dom.specs.Propagation.{IsReducedNode, IsLeft, AreTightWords, KeepsTight, AreOthersTight, AddsNumber, AreExcluded, AreBothExcluded, IsAssumed, IsRestricted, IsPropagated, IsSharp, IsMovedPast, Tells, TestGives, AllNarrower, KeepsAgreeing, NoneAgreesWith, KeepsAgreeingOn, NoneAgreesOn, LeavesPair, LeavesNoPair, HasGoneBack, Holds}
+use Rattle.sf_dom.specs.Propagation.{IsReady, IsPropagatedAt, IsReducedNode, IsLeft, AreTightWords, KeepsTight, AreOthersTight, AddsNumber, AreExcluded, AreBothExcluded, IsAssumed, IsRestricted, IsPropagated, IsSharp, IsMovedPast, Tells, TestGives, AllNarrower, KeepsAgreeing, NoneAgreesWith, KeepsAgreeingOn, NoneAgreesOn, LeavesPair, LeavesNoPair, HasGoneBack, Holds}
 use Rattle.sf_dom.specs.Conditions.{AreLeftAlone}
 use Rattle.sf_dom.specs.Backward.{IsSwappable, IsPropagatedBack}
 use Rattle.sf_dom.proofs.Propagations.{AllNarrower-trans, AllNarrower-set, AllNarrower-refl, propagate-set, word-below, operands-below}
 use Rattle.sf_dom.proofs.GuardLemmas.{gives-differs}
 use Rattle.sf_dom.proofs.Reductions.{IsNarrower-trans, IsNarrower-refl}
-use Rattle.sf_dom.specs.FactsLaws.{value-word}
+use Rattle.sf_dom.specs.FactsLaws.{narrower-admits, value-word}
 use Rattle.sf_sym.specs.declared.pool.Cond.{Cond}
 use Rattle.sf_insn.specs.declared.ops.Test.{Test}
 use Rattle.sf_insn.specs.declared.ops.Test.TheVariants.{Equal, Greater, GreaterOrEqual, AnyBit}
-use Rattle.sf_dom.specs.Facts.{known_at, numbers_at, excluded_of, AgreesWith}
+use Rattle.sf_dom.specs.Facts.{known_at, numbers_at, excluded_of, AgreesWith, KnowDecided}
 use Rattle.sf_dom.specs.Reduction.{IsMeet, IsReducedWord}
 
 -- a test that lets fewer pairs through
@@ -116,12 +116,11 @@ value-left ns d i op a b c p l la s e k =
 
 -- the operand of a node with more bits known
 pub walked : (ks : List Known) (ex : List (List ℕ)) (ns : List Node) (d : Input) (i x c : ℕ) (op : BinOp)
-    (gained : Known)
-    → i < length ks → x < length ks → AgreesWith ks ex ns d → value_of ns d i ≡ apply op (value_of ns d x) c
-    → ((n : ℕ) → Admits (known_at ks x) n → Admits (known_at ks i) (apply op n c) → Admits gained n)
-    → Leaves gained (excluded_of ex (node_at ns x)) (value_of ns d x)
-walked ks ex ns d i x c op gained li lx a e g =
-    record { admitted = g (value_of ns d x) (a x lx).admitted (rw e at (a i li).admitted); kept = (a x lx).kept }
+    (node gained : Known) → x < length ks → AgreesWith ks ex ns d → value_of ns d i ≡ apply op (value_of ns d x) c
+    → ((n : ℕ) → Admits (known_at ks x) n → Admits node (apply op n c) → Admits gained n)
+    → Admits node (value_of ns d i) → Leaves gained (excluded_of ex (node_at ns x)) (value_of ns d x)
+walked ks ex ns d i x c op node gained lx a e g admitted =
+    record { admitted = g (value_of ns d x) (a x lx).admitted (rw e at admitted); kept = (a x lx).kept }
 
 -- one more number in the list of a word
 pub added-at : (ex : List (List ℕ)) (w : ℕ) (xs : List ℕ) (number : ℕ) → w < length ex
@@ -228,7 +227,7 @@ tells-narrower Greater true v w a b c e h k t = (omega (arith, h.low, t.0), omeg
 tells-narrower Greater false v w a b c e h k t = (omega (arith, h.high, t.0), omega (arith, k.low, t.1))
 tells-narrower GreaterOrEqual true v w a b c e h k t = (omega (arith, h.low, t.0), omega (arith, k.high, t.1))
 tells-narrower GreaterOrEqual false v w a b c e h k t = (omega (arith, h.high, t.0), omega (arith, k.low, t.1))
-tells-narrower AnyBit true v w a b c e h k t = λ d one i. omega (arith, h.ones i, t d one i)
+tells-narrower AnyBit true v w a b c e h k t = (t.0, λ d one i. omega (arith, h.ones i, t.1 d one i))
 tells-narrower AnyBit false v w a b c e h k t = λ d i. omega (arith, h.zeros i, t d i)
 
 -- what is left of both nodes of a condition, by what its test leaves of them
@@ -251,8 +250,8 @@ left-alone ks ex ns cond v' w' node other lv lw pair tells sharp decided one two
   consistent = one.consistent;
   tells = tells-narrower cond.test cond.sense (known_at ks cond.node.0) (known_at ks cond.other.0) v' w' node other
       one.told two.told tells;
-  sharp = λ d s x h. sharp d s x (one.told.numbers x h);
-  decided = λ s d1 d2 x h. decided s d1 d2 x (one.told.numbers x h);
+  sharp = λ d s x h. sharp d s x (narrower-admits v' node x one.told h);
+  decided = λ s d1 d2 x h. decided s d1 d2 x (narrower-admits v' node x one.told h);
 }
 
 -- the first node gets what is left of it
@@ -374,11 +373,73 @@ assumed-all true o a b c e n ex ns cond v' w' s tells b1 b2 sharp decided propag
           (known_at n cond.node.0) (known_at n cond.other.0) k.1 k.2 tells;
       back_node = back cond.node.0 c s.node_back bc cn b1;
       back_other = back cond.other.0 e s.other_back (AllNarrower-trans b c e counts bc ce) propagate.narrower b2;
-      sharp = λ d s x h. sharp d s x (k.1.numbers x h);
-      decided = λ s d1 d2 x h. decided s d1 d2 x (k.1.numbers x h);
+      sharp = λ d s x h. sharp d s x (narrower-admits v' (known_at n cond.node.0) x k.1 h);
+      decided = λ s d1 d2 x h. decided s d1 d2 x (narrower-admits v' (known_at n cond.node.0) x k.1 h);
     }
 assumed-all false o a b c e n ex ns cond v' w' s tells b1 b2 sharp decided none =
     λ d p agrees h. none d p (steps-keep o a b c e ex ns cond v' w' s d p agrees h)
+
+-- what holds of each node where facts are ready and as tight as they get
+pub already-passed : (o : List Known) (ex : List (List ℕ)) (ns : List Node) → IsReady o ns → KnowDecided o ns
+    → AreTightWords o ex → (i : ℕ) → i < length ns → IsPropagatedAt o ex ns i
+already-passed o ex ns ready decided tight i l =
+    let count = ready.count in
+    record {
+      consistent = ready.consistent i (omega arith);
+      tight = λ small. tight i small;
+      decided = decided i (omega arith);
+      constant = λ c e. ready.constants i c (omega arith) e;
+    }
+
+-- a condition that changes nothing is taken in
+pub assumed-nothing : (o : List Known) (ex : List (List ℕ)) (ns : List Node) (cond : Cond) → IsReady o ns
+    → KnowDecided o ns → AreLeftAlone o ex ns cond (known_at o cond.node.0) (known_at o cond.other.0)
+    → ((m : ℕ) → IsPropagatedBack m o ns cond.node.0) → ((m : ℕ) → IsPropagatedBack m o ns cond.other.0)
+    → AreTightWords o ex → IsAssumed o o ex ns cond
+assumed-nothing o ex ns cond ready decided left b1 b2 tight =
+    let back : (at : ℕ) → ((m : ℕ) → IsPropagatedBack m o ns at) → HasGoneBack o o ns cond at
+    = λ at walks. record {
+      between = o;
+      count = ready.count;
+      before = AllNarrower-refl o;
+      tells = left.tells;
+      walked = walks;
+      after = AllNarrower-refl o;
+    } in
+    record {
+      count = ready.count;
+      keeps = λ d p a h. a;
+      narrower = AllNarrower-refl o;
+      passed = already-passed o ex ns ready decided tight;
+      tells = left.tells;
+      back_node = back cond.node.0 b1;
+      back_other = back cond.other.0 b2;
+      sharp = left.sharp;
+      decided = left.decided;
+    }
+
+-- a word of which nothing else is known is restricted
+pub restricted-nothing : (o : List Known) (ex : List (List ℕ)) (ns : List Node) (w : ℕ) (more next : Known)
+    → IsReady o ns → KnowDecided o ns → AreTightWords o ex → IsLeft o ex ns w more next → next ≡ known_at o w
+    → IsRestricted o o ex ns w more
+restricted-nothing o ex ns w more next ready decided tight left same = record {
+  count = ready.count;
+  keeps = λ d i a h. a;
+  narrower = AllNarrower-refl o;
+  word = rw (← same) left.told;
+  passed = already-passed o ex ns ready decided tight;
+}
+
+-- what is left of a word is known of it
+pub left-set : (o : List Known) (ex : List (List ℕ)) (ns : List Node) (w : ℕ) (more next : Known) → w < length o
+    → IsLeft o ex ns w more next
+    → KeepsAgreeingOn o (set o w next) ex ns (λ d. Admits more (value_of ns d w)) × AllNarrower o (set o w next)
+    × IsNarrower more (known_at (set o w next) w)
+left-set o ex ns w more next l left = (
+  (λ d p a m. propagate-set o ex ns d w next l a (left.kept d p a m)),
+  AllNarrower-set o o w next refl l (AllNarrower-refl o) left.narrower,
+  narrower-at o w more next l left.told,
+)
 
 -- a word's facts are restricted, and forward propagation follows
 pub restricted-all : (r : Bool) (o a n : List Known) (ex : List (List ℕ)) (ns : List Node) (w : ℕ) (more : Known)

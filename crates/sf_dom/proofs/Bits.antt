@@ -87,13 +87,6 @@ join-bits n z o y p h k = record {
   one = λ i. rw (bit_at_or o p i) (join_one _ _ _ (h.one i) (k.one i));
 }
 
--- what is known by both is known by one
-pub part-bits : (n z o y p : ℕ) → HasBits n (bit_or z y) (bit_or o p) → HasBits n z o
-part-bits n z o y p h = record {
-  zero = λ i. omega (arith, rw (bit_at_or z y i) at (h.zero i));
-  one = λ i. omega (arith, rw (bit_at_or o p i) at (h.one i));
-}
-
 -- back through an operation with a constant
 pub backward-and : (x c z o : ℕ) → HasBits (bit_and x c) z o → HasBits x (bit_and z c) o
 backward-and x c z o h = record {

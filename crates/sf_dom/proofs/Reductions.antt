@@ -8,7 +8,7 @@ use Rattle.std.proofs.lemmas.Bool.Decides.{Decides-eqb}
 use Rattle.std.proofs.lemmas.Nat.Bits.{bit_at_and, bit_at_or, bit_at_not, bit_at-lt, bit_at-zero, bit_at_above, bit_at_ones, same_from_bits}
 use Rattle.sf_dom.specs.declared.known.Known.{Known}
 use Rattle.sf_dom.specs.Known.{HasBits, Admits, Leaves, IsNarrower, IsTight, IsConsistent}
-use Rattle.sf_dom.proofs.Bits.{ones-le, zeros-le, bits-le, bits-of-or, join-bits, part-bits, leading-bits}
+use Rattle.sf_dom.proofs.Bits.{ones-le, zeros-le, bits-le, bits-of-or, join-bits, leading-bits}
 use Rattle.sf_dom.specs.Reduction.{AreApart, freedom, IsReductionRound, IsReducedWord}
 
 -- the numbers that are admitted lie between the ends that the bits give
@@ -35,11 +35,6 @@ narrowed k low high y p a b = record {
   high = b;
   zeros = bits-of-or k.zeros y;
   ones = bits-of-or k.ones p;
-  numbers = λ n h. record {
-    above = let t = h.above in omega arith;
-    below = let t = h.below in omega arith;
-    bits = part-bits n k.zeros k.ones _ _ h.bits;
-  };
 }
 
 pub IsNarrower-trans : (a b c : Known) → IsNarrower a b → IsNarrower b c → IsNarrower a c
@@ -48,7 +43,6 @@ IsNarrower-trans a b c h k = record {
   high = let x = h.high in let y = k.high in omega arith;
   zeros = λ i. omega (arith, h.zeros i, k.zeros i);
   ones = λ i. omega (arith, h.ones i, k.ones i);
-  numbers = λ n t. h.numbers n (k.numbers n t);
 }
 
 pub IsNarrower-refl : (a : Known) → IsNarrower a a
@@ -57,7 +51,6 @@ IsNarrower-refl a = record {
   high = omega arith;
   zeros = λ i. omega arith;
   ones = λ i. omega arith;
-  numbers = λ n t. t;
 }
 
 -- a round that changes something lessens what is not known

@@ -15,7 +15,7 @@ use Rattle.sf_sym.specs.declared.pool.Node.TheVariants.{Const, Word, Bin, Neg}
 use Rattle.sf_dom.specs.declared.known.Known.{Known}
 use Rattle.sf_dom.specs.Known.{Admits, Leaves, IsConsistent, IsDecided, IsNarrower}
 use Rattle.sf_dom.specs.Facts.{FactsView, known_at, numbers_at, excluded_of, AgreesWith, AreFacts, Covers, KeepsOnly, NoInput, SomeInput, IsPlainCondition, IsPlainTest, IsWordOrConst}
-use Rattle.sf_dom.specs.FactsLaws.{sampled, words-agree, value-word, decided-admits}
+use Rattle.sf_dom.specs.FactsLaws.{narrower-admits, sampled, words-agree, value-word, decided-admits}
 use Rattle.sf_dom.specs.Propagation.{IsPropagatedAt, AllNarrower, IsGrown, NoneAgreesWith, IsAssumed, AreBothExcluded, IsSharp, TestGives, Holds}
 use Rattle.sf_dom.proofs.GuardLemmas.{differs-gives}
 use Rattle.sf_dom.proofs.Propagations.{AreDecidedOperands-same, operands-below, word-below}
@@ -84,14 +84,19 @@ propagate-facts ks ex ns p len lex passed =
 pub agrees-back : (old new : List Known) (ex : List (List ℕ)) (ns : List Node) (d : Input) → length old ≡ length new
     → AllNarrower old new → AgreesWith new ex ns d → AgreesWith old ex ns d
 agrees-back old new ex ns d len h a i l = let k = a i (omega arith) in
-    record { admitted = (h i l).numbers (value_of ns d i) k.admitted; kept = k.kept }
+    record {
+      admitted = narrower-admits (known_at old i) (known_at new i) (value_of ns d i)
+          (h i l) k.admitted;
+      kept = k.kept;
+    }
 
 pub admits-word : (ks : List Known) (ex : List (List ℕ)) (ns : List Node) (d : Input) (w : ℕ) (more : Known) → IsPool ns
     → w < 16 → length ks ≡ length ns → IsNarrower more (known_at ks w)
     → AgreesWith ks ex ns d → Admits more (slice_index d.words w)
 admits-word ks ex ns d w more p l len h a =
     let words = p.words in
-    rw (value-word ns d w p l) at (h.numbers (value_of ns d w) (a w (omega arith)).admitted)
+    rw (value-word ns d w p l) at (narrower-admits more (known_at ks w) (value_of ns d w) h
+    (a w (omega arith)).admitted)
 
 -- a node of the older pool
 pub node-older : (before ns : List Node) (i : ℕ) → Extends before ns → i < length before

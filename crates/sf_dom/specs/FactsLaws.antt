@@ -11,7 +11,7 @@ use Rattle.sf_sym.specs.Pool.{IsPool, node_value, values_of, value_of, ArePlainN
 use Rattle.sf_sym.specs.ValueLaws.{value-node, value-constant}
 use Rattle.sf_sym.specs.declared.pool.Node.{Node}
 use Rattle.sf_dom.specs.declared.known.Known.{Known}
-use Rattle.sf_dom.specs.Known.{Admits, Leaves, IsConsistent}
+use Rattle.sf_dom.specs.Known.{Admits, Leaves, IsNarrower, IsConsistent}
 use Rattle.sf_dom.specs.WordFacts.{AgreesOnWords}
 use Rattle.sf_dom.specs.Facts.{FactsView, known_at, numbers_at, AgreesWith, Agrees, AreFacts, Covers, SomeInput}
 
@@ -21,6 +21,17 @@ bit_at-complement c i l = elim (cases_lt i 32) [
   | inl h ↦ omega (arith, bit_at_not w32 c i l h, bit_at-lt c i)
   | inr h ↦ omega (arith, bit_at_above c 32 i l h, bit_at-lt (4294967295 - c) i)
 ]
+
+-- what is admitted by what is known is admitted where less is known
+pub narrower-admits : (old new : Known) (n : ℕ) → IsNarrower old new → Admits new n → Admits old n
+narrower-admits old new n h a = record {
+  above = omega (arith, h.low, a.above);
+  below = omega (arith, h.high, a.below);
+  bits = record {
+    zero = λ i. omega (arith, h.zeros i, a.bits.zero i);
+    one = λ i. omega (arith, h.ones i, a.bits.one i);
+  };
+}
 
 -- a constant is known in full
 pub constant-admits : (c : ℕ) → c < 2 ^ 32 → Admits (record { low = c; high = c; zeros = 4294967295 - c; ones = c }) c

@@ -130,7 +130,8 @@ pub record IsMovedPast (other old new : Known) : Type 0 where
   pub high : IsDecided other → old.high ≡ other.low → new.high < other.low
 
 -- What a test with this result tells of two words, v and w before and v' and w' after: two equal words have what is
--- known of both; no end is left that the other word's ends rule out; and a decided w tells v of its bits.
+-- known of both; no end is left that the other word's ends rule out; and a decided w tells v of its bits: they have a
+-- common bit only if one of w's bits isn't known to be 0 in v.
 abbrev pub Tells : Test → Bool → Known → Known → Known → Known → Type 0
 Tells Equal true v w v' w' = IsNarrower w v' × IsNarrower v w'
 Tells Equal false v w v' w' = IsMovedPast w v v' × IsMovedPast v w w'
@@ -138,7 +139,8 @@ Tells Greater true v w v' w' = (w.low < v'.low) × (w'.high < v.high)
 Tells Greater false v w v' w' = (v'.high ≤ w.high) × (v.low ≤ w'.low)
 Tells GreaterOrEqual true v w v' w' = (w.low ≤ v'.low) × (w'.high ≤ v.high)
 Tells GreaterOrEqual false v w v' w' = (v'.high < w.high) × (v.low < w'.low)
-Tells AnyBit true v w v' w' = IsDecided w → IsOneBit w.low → AreBitsOf w.low v'.ones
+Tells AnyBit true v w v' w' = (IsDecided w → ¬ AreBitsOf w.low v.zeros)
+    × (IsDecided w → IsOneBit w.low → AreBitsOf w.low v'.ones)
 Tells AnyBit false v w v' w' = IsDecided w → AreBitsOf w.low v'.zeros
 
 -- Known bits have gone back from a node: at some time between, all that the condition tells was known, and the bits of

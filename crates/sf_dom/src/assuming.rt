@@ -5,20 +5,21 @@ ghost use Rattle.sf_insn.specs.Inputs.{IsInput};
 ghost use Rattle.sf_insn.specs.Words.{apply};
 ghost use Rattle.sf_sym.specs.Pool.{OperandsBelow, IsPool, node_at, node_value, values_of, value_of};
 ghost use Rattle.sf_insn.specs.declared.input.Input.{Input};
-ghost use Rattle.sf_dom.specs.Known.{AreBitsOf, HasBits, Admits, Leaves, IsNarrower, IsConsistent, IsDecided};
+ghost use Rattle.sf_dom.specs.Known.{AreBitsOf, HasBits, Admits, Leaves, IsNarrower, IsConsistent, IsDecided, IsTight};
 ghost use Rattle.sf_dom.specs.Propagation.{KeepsAgreeing, NoneAgreesWith, KeepsAgreeingOn, NoneAgreesOn, LeavesPair, LeavesNoPair, IsSharp, Tells, TestGives, AllNarrower, IsReady, IsLeft, IsAssumed, AreExcluded, AreBothExcluded, Holds, IsPropagated, KeepsTight, AreOthersTight};
 ghost use Rattle.sf_dom.specs.Conditions.{AreLeftAlone};
 ghost use Rattle.sf_dom.specs.Backward.{IsSwappable, HandsOn, constant_operand_of, IsPropagatedBack};
-ghost use Rattle.sf_dom.specs.Facts.{known_at, numbers_at, excluded_of, AgreesWith};
+ghost use Rattle.sf_dom.specs.Facts.{known_at, numbers_at, excluded_of, AgreesWith, KnowDecided};
 
 use crate::exclusions::Excluded;
 use crate::fault::Fault;
 use crate::guards::{Pair, at_least, common_bit, differs, equal, greater, no_common_bit};
-use crate::known::Known;
+use crate::known::{Known, is_same};
 use crate::nodes::Nodes;
-use crate::propagation::{propagate, reduced, tighten};
+use crate::propagation::{is_tight_at, propagate, reduced, tighten};
+use crate::telling::are_propagated_back;
 use sf_insn::{BinOp, Test};
-use sf_sym::{Cond, Node, Pool, constant_of};
+use sf_sym::{Cond, Node, NodeId, Pool, constant_of};
 use std::alloc::Global;
 
 /// What is known, with more known bits.
@@ -103,6 +104,36 @@ fn propagate_back(nodes: &mut Nodes, excluded: &Excluded, pool: &Pool, from: usi
     true
 }
 
+/// Whether no input agrees where this is known of a node: its bits, taken back through constants, leave some operand no
+/// number. Nothing is kept of it, so that a contradiction is seen before facts are copied.
+fn is_ruled_out_back(
+    nodes: &Nodes,
+    excluded: &Excluded,
+    pool: &Pool,
+    from: NodeId,
+    known: Known,
+) -> bool
+    requires count { length nodes.now.known ≡ length pool.now }
+    requires start { from.0 < length pool.now }
+    ensures { IsTrue result → NoneAgreesOn nodes.now.known excluded.now pool.now
+        (λ d. Admits known (value_of pool.now d from.0)) }
+{
+    let mut at = from.0 as usize;
+    let mut left = known;
+    while let Some((op, x, c)) = constant_operand(pool, at) {
+        let Some(gained) = backward(op, left, c, nodes.get(x)) else {
+            return false;
+        };
+        let node = pool.node_at(x);
+        match reduced(gained, node, excluded) {
+            None => return true,
+            Some(next) => left = next,
+        }
+        at = x;
+    }
+    false
+}
+
 /// What a test leaves of two words, or none where no two numbers pass it.
 fn assume_test(v: Known, w: Known, test: Test, sense: bool) -> Option<Pair>
     ensures pair { MatchOption result
@@ -160,7 +191,13 @@ fn assume_test(v: Known, w: Known, test: Test, sense: bool) -> Option<Pair>
 }
 
 /// What is left of a node, by what is known of it and what is told besides, or none where no input agrees.
-fn left_of(nodes: &Nodes, excluded: &Excluded, pool: &Pool, at: usize, more: Known) -> Option<Known>
+pub(crate) fn left_of(
+    nodes: &Nodes,
+    excluded: &Excluded,
+    pool: &Pool,
+    at: usize,
+    more: Known,
+) -> Option<Known>
     requires covers { length nodes.now.known ≡ length pool.now }
     requires place { at < length pool.now }
     ensures { MatchOption result
@@ -173,13 +210,7 @@ fn left_of(nodes: &Nodes, excluded: &Excluded, pool: &Pool, at: usize, more: Kno
 }
 
 /// Takes in what is told of a node besides. False: no input agrees.
-pub(crate) fn meet_node(
-    nodes: &mut Nodes,
-    excluded: &Excluded,
-    pool: &Pool,
-    at: usize,
-    more: Known,
-) -> bool
+fn meet_node(nodes: &mut Nodes, excluded: &Excluded, pool: &Pool, at: usize, more: Known) -> bool
     requires ready { IsReady nodes.old.known pool.now }
     requires place { at < length pool.now }
     ensures kept { MatchBool result
@@ -243,6 +274,63 @@ fn propagate_on(nodes: &mut Nodes, excluded: &Excluded, pool: &Pool, cond: &Cond
         return false;
     }
     propagate(nodes, excluded, pool)
+}
+
+/// Whether the bits that go back from one of the two nodes of a condition rule it out, by what it leaves of them.
+pub(crate) fn contradicts_back(
+    nodes: &Nodes,
+    excluded: &Excluded,
+    pool: &Pool,
+    cond: &Cond,
+    alone: Pair,
+) -> bool
+    requires count { length nodes.now.known ≡ length pool.now }
+    requires node { cond.now.node.0 < length pool.now }
+    requires other { cond.now.other.0 < length pool.now }
+    requires left { AreLeftAlone nodes.now.known excluded.now pool.now cond.now
+        alone.node alone.other }
+    ensures { IsTrue result → NoneAgreesOn nodes.now.known excluded.now pool.now
+        (Holds pool.now cond.now) }
+{
+    is_ruled_out_back(nodes, excluded, pool, cond.node, alone.node)
+        || is_ruled_out_back(nodes, excluded, pool, cond.other, alone.other)
+}
+
+/// Whether what is left of a node is what is known of it, no bit would go back from it, and a word is as tight as it gets.
+fn stays(nodes: &Nodes, excluded: &Excluded, pool: &Pool, at: NodeId, left: Known) -> bool
+    requires ready { IsReady nodes.now.known pool.now }
+    requires place { at.0 < length pool.now }
+    ensures same { IsTrue result → left ≡ known_at nodes.now.known at.0 }
+    ensures back { IsTrue result → (n : ℕ) → IsPropagatedBack n
+        nodes.now.known pool.now at.0 }
+    ensures tight { IsTrue result → (i : ℕ) → node_at pool.now at.0 ≡ Node.Word i
+        → IsTight (known_at nodes.now.known i) (numbers_at excluded.now i) }
+{
+    is_same(left, nodes.get(at.0 as usize))
+        && are_propagated_back(nodes, pool, at.0 as usize)
+        && is_tight_at(nodes, excluded, pool, at)
+}
+
+/// Whether a condition changes nothing that is known of a node, by what it leaves of its two nodes.
+pub(crate) fn changes_nothing(
+    nodes: &Nodes,
+    excluded: &Excluded,
+    pool: &Pool,
+    cond: &Cond,
+    alone: Pair,
+) -> bool
+    requires ready { IsReady nodes.now.known pool.now }
+    requires decided { KnowDecided nodes.now.known pool.now }
+    requires node { cond.now.node.0 < length pool.now }
+    requires other { cond.now.other.0 < length pool.now }
+    requires left { AreLeftAlone nodes.now.known excluded.now pool.now cond.now
+        alone.node alone.other }
+    requires tight { AreOthersTight nodes.now.known excluded.now pool.now cond.now }
+    ensures { IsTrue result → IsAssumed nodes.now.known nodes.now.known excluded.now pool.now
+        cond.now }
+{
+    stays(nodes, excluded, pool, cond.node, alone.node)
+        && stays(nodes, excluded, pool, cond.other, alone.other)
 }
 
 /// Takes a condition into what is known, with what it leaves of its two nodes alone. False: no input that agrees meets it.

@@ -1,19 +1,25 @@
 //! What a condition, and what else is known of a word, leave of the facts of a pool. What is handed in stays as it is.
 
-ghost use Rattle.std.specs.Prelude.{◌≡◌, ℕ, ◌<◌, ◌≤◌, length, slice_index, MatchBool, MatchOption, IfOk, IfSome};
+ghost use Rattle.std.specs.Prelude.{◌≡◌, ℕ, ◌<◌, ◌≤◌, length, slice_index, MatchOption, IfOk, IfSome, unwrap_or};
 ghost use Rattle.sf_sym.specs.Pool.{IsCondBelow};
 ghost use Rattle.sf_dom.specs.Known.{Admits};
+ghost use Rattle.sf_dom.specs.Facts.{KnowDecided};
 ghost use Rattle.sf_dom.specs.Propagation.{NoneAgreesOn, Holds, IsReady, IsRestricted, IsLearnt, AreBothExcluded, AreTightWords};
 
-use crate::assuming::{assume_cond, exclude_both, left_alone, meet_node};
+use crate::assuming::{
+    assume_cond, changes_nothing, contradicts_back, exclude_both, left_alone, left_of,
+};
 use crate::exclusions::Excluded;
 use crate::fault::Fault;
-use crate::known::Known;
+use crate::known::{Known, is_same};
 use crate::nodes::Nodes;
 use crate::propagation::propagate;
 use sf_insn::Test;
 use sf_sym::{Cond, Pool};
 use std::alloc::Global;
+
+/// Nodes of which something else is known, or none where they are as they were.
+pub(crate) type Changed = Option<Nodes>;
 
 /// The excluded numbers, with those that a condition tells: they are copied only where it tells one.
 fn with_told(
@@ -41,50 +47,45 @@ fn with_told(
     }
 }
 
-/// What a condition leaves, or none where no input that agrees meets it.
+/// What a condition leaves, or none where no input that agrees meets it. Nodes are copied only where its two words and the bits
+/// that go back from them don't contradict, and something that is known would change.
 pub(crate) fn assumed(
     alloc: Global,
     nodes: &Nodes,
     excluded: &Excluded,
     pool: &Pool,
     cond: &Cond,
-) -> Result<Option<(Nodes, Excluded)>, Fault>
+) -> Result<Option<(Changed, Excluded)>, Fault>
     requires ready { IsReady nodes.now.known pool.now }
     requires tight { AreTightWords nodes.now.known excluded.now }
+    requires decided { KnowDecided nodes.now.known pool.now }
     requires below { IsCondBelow (length pool.now) cond.now }
     ensures { IfOk result (λ o. MatchOption o
         (NoneAgreesOn nodes.now.known excluded.now pool.now (Holds pool.now cond.now))
-        (λ r. IsLearnt nodes.now.known excluded.now r.0.known r.1 pool.now cond.now)) }
+        (λ r. IsLearnt nodes.now.known excluded.now (unwrap_or r.0 nodes.now).known r.1
+        pool.now cond.now)) }
 {
     // For the prover: the pool is lawful.
     let _count = pool.len();
     let Some(alone) = left_alone(nodes, excluded, pool, cond) else {
         return Ok(None);
     };
-    let mut left = nodes.fork(alloc)?;
+    if contradicts_back(nodes, excluded, pool, cond, alone) {
+        return Ok(None);
+    }
     let lists = with_told(alloc, excluded, nodes, pool, cond)?;
+    if changes_nothing(nodes, &lists, pool, cond, alone) {
+        return Ok(Some((None, lists)));
+    }
+    let mut left = nodes.fork(alloc)?;
     if !assume_cond(&mut left, &lists, pool, cond, alone) {
         return Ok(None);
     }
-    Ok(Some((left, lists)))
+    Ok(Some((Some(left), lists)))
 }
 
-/// Takes into a word's facts what else is known of it. False: no input that agrees has it.
-fn meet_word(nodes: &mut Nodes, excluded: &Excluded, pool: &Pool, word: usize, more: Known) -> bool
-    requires ready { IsReady nodes.old.known pool.now }
-    requires tight { AreTightWords nodes.old.known excluded.now }
-    requires word { word < 16 }
-    ensures { MatchBool result
-        (IsRestricted nodes.old.known nodes.new.known excluded.now pool.now word more)
-        (NoneAgreesOn nodes.old.known excluded.now pool.now
-        (λ d. Admits more (slice_index d.words word))) }
-{
-    let count = pool.len();
-    prove!(word < count);
-    meet_node(nodes, excluded, pool, word, more) && propagate(nodes, excluded, pool)
-}
-
-/// What else is known of a word leaves this, or none where no input that agrees has it.
+/// What else is known of a word leaves this, or none where no input that agrees has it. Nodes are copied only where something
+/// that is known of the word would change.
 pub(crate) fn restricted(
     alloc: Global,
     nodes: &Nodes,
@@ -92,20 +93,30 @@ pub(crate) fn restricted(
     pool: &Pool,
     word: usize,
     more: Known,
-) -> Result<Option<Nodes>, Fault>
+) -> Result<Option<Changed>, Fault>
     requires ready { IsReady nodes.now.known pool.now }
     requires tight { AreTightWords nodes.now.known excluded.now }
+    requires decided { KnowDecided nodes.now.known pool.now }
     requires word { word < 16 }
     ensures { IfOk result (λ o. MatchOption o
         (NoneAgreesOn nodes.now.known excluded.now pool.now
         (λ d. Admits more (slice_index d.words word)))
-        (λ r. IsRestricted nodes.now.known r.known excluded.now pool.now word more)) }
+        (λ r. IsRestricted nodes.now.known (unwrap_or r nodes.now).known excluded.now
+        pool.now word more)) }
 {
-    // For the prover: the pool is lawful.
-    let _count = pool.len();
-    let mut left = nodes.fork(alloc)?;
-    if !meet_word(&mut left, excluded, pool, word, more) {
+    // For the prover: the pool has all words.
+    let count = pool.len();
+    prove!(word < count);
+    let Some(left) = left_of(nodes, excluded, pool, word, more) else {
+        return Ok(None);
+    };
+    if is_same(left, nodes.get(word)) {
+        return Ok(Some(None));
+    }
+    let mut next = nodes.fork(alloc)?;
+    next.set(word, left);
+    if !propagate(&mut next, excluded, pool) {
         return Ok(None);
     }
-    Ok(Some(left))
+    Ok(Some(Some(next)))
 }

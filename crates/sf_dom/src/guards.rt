@@ -1,6 +1,6 @@
 //! What the tests leave of two words.
 
-ghost use Rattle.std.specs.Prelude.{◌≡◌, ◌≢◌, ℕ, ◌+◌, ◌-◌, ◌*◌, ◌/◌, ◌%◌, ◌<◌, ◌≤◌, ◌^◌, MatchOption, IfSome, bit_and, bit_or};
+ghost use Rattle.std.specs.Prelude.{◌≡◌, ◌≢◌, ℕ, ◌+◌, ◌-◌, ◌*◌, ◌/◌, ◌%◌, ◌<◌, ◌≤◌, ◌^◌, MatchOption, IfSome, None, bit_and, bit_or};
 ghost use Rattle.sf_dom.specs.Known.{AreBitsOf, HasBits, Admits, IsConsistent, IsDecided};
 ghost use Rattle.sf_dom.specs.Propagation.{LeavesPair, LeavesNoPair};
 ghost use Rattle.sf_dom.specs.Reduction.{IsMeet};
@@ -115,6 +115,7 @@ pub(crate) fn no_common_bit(v: Known, bits: u32) -> Known
 pub(crate) fn common_bit(v: Known, bits: u32) -> Option<Known>
     ensures kept { MatchOption result ((x : ℕ) → Admits v x → ¬ (bit_and x bits ≢ 0))
         (λ r. (x : ℕ) → Admits v x → bit_and x bits ≢ 0 → Admits r x) }
+    ensures none { AreBitsOf bits v.zeros → result ≡ None }
     ensures told { IsOneBit bits → IfSome result (λ r. AreBitsOf bits r.ones) }
     ensures sharp { IsOneBit bits → IfSome result (λ r. (x : ℕ) → Admits r x
         → bit_and x bits ≢ 0) }

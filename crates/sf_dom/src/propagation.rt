@@ -1,6 +1,7 @@
 //! Forward propagation: what is known of each node, met with what follows from its operands.
 
 ghost use Rattle.std.specs.Prelude.{◌≡◌, ℕ, ◌+◌, ◌-◌, ◌*◌, ◌/◌, ◌%◌, ◌<◌, ◌≤◌, ◌↔◌, ◌⊎◌, ◌^◌, List, [], ◌∷◌, ◌++◌, length, slice_index, MatchBool, MatchOption, true, false, bit_or, max, min, IfOk, OnErr, IsTrue, Ok, take};
+ghost use Rattle.std.specs.Arc.{arc_value};
 ghost use Rattle.sf_insn.specs.Inputs.{IsInput};
 ghost use Rattle.sf_sym.specs.Pool.{OperandsBelow, IsPool, node_at, node_value, value_of};
 ghost use Rattle.sf_insn.specs.declared.input.Input.{Input};
@@ -17,6 +18,7 @@ use crate::known::{Known, reduce_known, reduce_word};
 use crate::nodes::{Nodes, WORDS};
 use sf_sym::{Node, NodeId, Pool};
 use std::alloc::Global;
+use std::sync::Arc;
 
 /// What is known of a node, reduced, or none where no number is left.
 pub(crate) fn reduced(known: Known, node: Node, excluded: &Excluded) -> Option<Known>
@@ -48,6 +50,19 @@ pub(crate) fn transfer(nodes: &Nodes, node: Node) -> Known
         Node::Word(_) => Known::top(),
         Node::Bin(op, a, b) => forward(op, nodes.get(a.0 as usize), nodes.get(b.0 as usize)),
         Node::Neg(a) => negated(nodes.get(a.0 as usize)),
+    }
+}
+
+/// Whether a node that is a word is as tight as it gets.
+pub(crate) fn is_tight_at(nodes: &Nodes, excluded: &Excluded, pool: &Pool, at: NodeId) -> bool
+    requires ready { IsReady nodes.now.known pool.now }
+    requires place { at.0 < length pool.now }
+    ensures { IsTrue result → (i : ℕ) → node_at pool.now at.0 ≡ Node.Word i
+        → IsTight (known_at nodes.now.known i) (numbers_at excluded.now i) }
+{
+    match pool.node(at) {
+        Node::Word(i) => is_tight(nodes.get(i as usize), excluded.of_word(i as usize)),
+        Node::Const(_) | Node::Bin(..) | Node::Neg(_) => true,
     }
 }
 
@@ -129,30 +144,53 @@ pub(crate) fn append(nodes: &mut Nodes, excluded: &Excluded, pool: &Pool) -> Res
     Ok(true)
 }
 
-/// Takes in the nodes of a pool that are new. False: no input agrees. Where they aren't taken in, for that or for want of
-/// memory, what is known is as it was: a copy to go back to is made only where several came at once.
-pub(crate) fn extend(
+/// Takes in the nodes of a pool that are new, in a copy that is then put in place. False: no input agrees. Where they aren't
+/// taken in, for that or for want of memory, what is known is as it was.
+fn extend_copy(
     alloc: Global,
-    nodes: &mut Nodes,
+    nodes: &mut Arc<Nodes>,
     excluded: &Excluded,
     pool: &Pool,
 ) -> Result<bool, Fault>
-    requires covers { length nodes.old.known ≤ length pool.now }
-    requires none { (16 ≤ length nodes.old.known)
+    requires covers { length (arc_value nodes.old).known ≤ length pool.now }
+    requires none { (16 ≤ length (arc_value nodes.old).known)
         ⊎ ((w : ℕ) → numbers_at excluded.now w ≡ []) }
     ensures grown { IfOk result (λ b. MatchBool b
-        (IsGrown nodes.old.known nodes.new.known excluded.now pool.now)
-        (NoneAgreesWith nodes.old.known excluded.now pool.now)) }
-    ensures false_unchanged { result ≡ Ok false → nodes.new ≡ nodes.old }
-    ensures err { OnErr result (nodes.new ≡ nodes.old) }
+        (IsGrown (arc_value nodes.old).known (arc_value nodes.new).known excluded.now pool.now)
+        (NoneAgreesWith (arc_value nodes.old).known excluded.now pool.now)) }
+    ensures false_unchanged { result ≡ Ok false → arc_value nodes.new ≡ arc_value nodes.old }
+    ensures err { OnErr result (arc_value nodes.new ≡ arc_value nodes.old) }
 {
-    if pool.len() - nodes.len() <= 1 {
-        return append(nodes, excluded, pool);
-    }
     let mut next = nodes.fork(alloc)?;
     if !append(&mut next, excluded, pool)? {
         return Ok(false);
     }
-    *nodes = next;
+    *nodes = Arc::new(alloc, next)?;
     Ok(true)
+}
+
+/// Takes in the nodes of a pool that are new. False: no input agrees. Where they aren't taken in, for that or for want of
+/// memory, what is known is as it was: a copy to go back to is made only where several came at once, or others share the nodes.
+pub(crate) fn extend(
+    alloc: Global,
+    nodes: &mut Arc<Nodes>,
+    excluded: &Excluded,
+    pool: &Pool,
+) -> Result<bool, Fault>
+    requires covers { length (arc_value nodes.old).known ≤ length pool.now }
+    requires none { (16 ≤ length (arc_value nodes.old).known)
+        ⊎ ((w : ℕ) → numbers_at excluded.now w ≡ []) }
+    ensures grown { IfOk result (λ b. MatchBool b
+        (IsGrown (arc_value nodes.old).known (arc_value nodes.new).known excluded.now pool.now)
+        (NoneAgreesWith (arc_value nodes.old).known excluded.now pool.now)) }
+    ensures false_unchanged { result ≡ Ok false → arc_value nodes.new ≡ arc_value nodes.old }
+    ensures err { OnErr result (arc_value nodes.new ≡ arc_value nodes.old) }
+{
+    if pool.len() - nodes.len() > 1 {
+        return extend_copy(alloc, nodes, excluded, pool);
+    }
+    match Arc::get_mut(nodes) {
+        Some(alone) => append(alone, excluded, pool),
+        None => extend_copy(alloc, nodes, excluded, pool),
+    }
 }

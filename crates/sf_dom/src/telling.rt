@@ -104,7 +104,7 @@ fn is_excluded(excluded: &Excluded, node: Node, number: u32) -> bool
 }
 
 /// Whether the known bits of a node are known of its operand, through a constant, and so on: none would go back.
-fn are_propagated_back(nodes: &Nodes, pool: &Pool, from: usize) -> bool
+pub(crate) fn are_propagated_back(nodes: &Nodes, pool: &Pool, from: usize) -> bool
     requires count { length nodes.now.known ≡ length pool.now }
     requires start { from < length pool.now }
     ensures { IsTrue result ↔ ((n : ℕ) → IsPropagatedBack n nodes.now.known pool.now from) }

@@ -59,7 +59,7 @@ impl Run {
             pool: self.pool.fork()?,
             conditions: self.conditions.fork()?,
             machine: self.machine,
-            facts: self.facts.fork(alloc)?,
+            facts: self.facts.fork()?,
         })
     }
 

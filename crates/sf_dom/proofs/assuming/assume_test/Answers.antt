@@ -1,4 +1,6 @@
-use Rattle.std.proofs.Common.{◌<◌, true}
+use Rattle.std.proofs.Common.{◌≡◌, ◌<◌, true, sym, ◌∙◌}
+use Rattle.std.specs.Prelude.{Option, Some, None}
+use Rattle.sf_dom.specs.declared.known.Known.{Known}
 use Rattle.sf_dom.specs.Propagation.{TestGives}
 use Rattle.sf_insn.specs.declared.ops.Test.TheVariants.{Greater}
 use Rattle.sf_dom.proofs.AssumeLemmas.{fewer_pairs}
@@ -27,3 +29,16 @@ returns-in_ok-swapped-in-GreaterOrEqual-false-clause-pair c =
     rw (c.in-GreaterOrEqual-false.is-0, c.in-GreaterOrEqual-false.is-1)
     (λ x y hx hy g. let both = c.in_ok-swapped-in-GreaterOrEqual-false.ensures.pair y x hy hx (gives-less x y g) in
     (both.1, both.0))
+
+not-none : (o : Option Known) (n : Known) → o ≡ Some n → o ≡ None → ⊥
+not-none o n is none = let clash : Some n ≡ None = sym is ∙ none in absurd cc
+
+pub returns-in_ok-node-in-Some-decided-2-clause-tells : goal.returns-in_ok-node-in-Some-decided-2-clause-tells
+returns-in_ok-node-in-Some-decided-2-clause-tells c =
+    let e = c.common_bit.ensures in
+    let bits = c.in-Some-decided-2.ensures.1 in
+    rw (c.in-AnyBit-true.is-0, c.in-AnyBit-true.is-1) (
+      (λ d h. not-none c.common_bit.result c.in_ok-node-in-Some-decided-2.node c.in_ok-node-in-Some-decided-2.was
+          (e.none (rw bits h))),
+      (λ d one. rw (← bits) (c.in_ok-node-in-Some-decided-2.ensures.told (rw bits one))),
+    )

@@ -28,8 +28,9 @@ returns-in-None-reduced-clause-kept c = λ d p a.
     let within = inv.within in
     let count = inv.ready.count in
     let bits = rw (c.get.ensures, c.get-in-Some.ensures) at c.in-Some-backward.ensures.bits in
-    let left = walked ks ex ns d c.loop-op.at o.x o.c o.op c.in-Some-backward.gained (omega arith)
-    (omega (arith, o.ensures.smaller)) agrees (o.ensures.value d p c.in-Some-backward.ensures.swappable) bits in
+    let left = walked ks ex ns d c.loop-op.at o.x o.c o.op (known_at ks c.loop-op.at) c.in-Some-backward.gained
+    (omega (arith, o.ensures.smaller)) agrees (o.ensures.value d p c.in-Some-backward.ensures.swappable) bits
+    (agrees c.loop-op.at (omega arith)).admitted in
     rw c.node_at-node.ensures.node at c.in-None-reduced.ensures (value_of ns d o.x) left
 
 pub loop-op-preserved : goal.loop-op-preserved
@@ -50,8 +51,9 @@ loop-op-preserved c =
       within = omega (arith, o.ensures.smaller);
       keeps = λ d p a.
           let agrees = inv.keeps d p a in
-          let left = walked ks ex ns d c.loop-op.at o.x o.c o.op c.in-Some-backward.gained (omega arith)
-          (omega (arith, o.ensures.smaller)) agrees (o.ensures.value d p c.in-Some-backward.ensures.swappable) bits in
+          let left = walked ks ex ns d c.loop-op.at o.x o.c o.op (known_at ks c.loop-op.at) c.in-Some-backward.gained
+          (omega (arith, o.ensures.smaller)) agrees (o.ensures.value d p c.in-Some-backward.ensures.swappable) bits
+          (agrees c.loop-op.at (omega arith)).admitted in
           propagate-set ks ex ns d o.x next (omega (arith, o.ensures.smaller)) agrees (t.same (value_of ns d o.x) left);
       narrower = AllNarrower-set c.args.nodes.now.known ks o.x next (omega arith)
           (omega (arith, o.ensures.smaller)) inv.narrower narrower;

@@ -1,6 +1,6 @@
 use Rattle.std.proofs.Common.{◌-◌, arith, ap, ◌∙◌}
 use Rattle.std.specs.Prelude.{bit_and}
-use Rattle.sf_dom.proofs.CommonBits.{common-open, open-known, and-zero, common-bits, common-some, common-decided, open-one, lowest-place}
+use Rattle.sf_dom.proofs.CommonBits.{common-open, none-open, open-known, and-zero, common-bits, common-some, common-decided, open-one, lowest-place}
 use Rattle.sf_dom.proofs.guards.common_bit.Goals as goal
 use Rattle.sf_dom.proofs.guards.common_bit.Goals.{else-place-lt32-via-then-place-lt32+else-open-place, else-place-lt32-via-else-place-lt32}
 
@@ -54,3 +54,10 @@ returns-clause-told c = λ one.
       | else-place-lt32-via-then-place-lt32+else-open-place w ↦ w.if-open-place.false place.1
       | else-place-lt32-via-else-place-lt32 w ↦ absurd (omega (arith, place.0, w.if-place-lt32.false))
     ])
+
+pub returns-then-open-place-clause-none : goal.returns-then-open-place-clause-none
+returns-then-open-place-clause-none c = λ h.
+    absurd (c.if-open-eq0.false (none-open c.args.bits c.args.v.zeros (omega arith) h))
+
+pub returns-clause-none : goal.returns-clause-none
+returns-clause-none c = λ h. absurd (c.if-open-eq0.false (none-open c.args.bits c.args.v.zeros (omega arith) h))

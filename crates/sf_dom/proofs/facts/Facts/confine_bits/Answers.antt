@@ -2,7 +2,7 @@ use Rattle.std.proofs.Common.{arith, refl}
 use Rattle.std.proofs.lemmas.Bool.{eqb-true, eq-eqb}
 use Rattle.std.specs.Prelude.{slice_index}
 use Rattle.sf_dom.specs.Facts.{Agrees}
-use Rattle.sf_dom.specs.FactsLaws.{some-input}
+use Rattle.sf_dom.specs.FactsLaws.{narrower-admits, some-input}
 use Rattle.sf_dom.proofs.Sampled.{exact-none, exact-some}
 use Rattle.sf_dom.proofs.Assumed.{not_met}
 use Rattle.sf_dom.proofs.Masks.{masked-admits, admits-masked}
@@ -35,7 +35,7 @@ returns-in-Some-clause-only c = λ e d p a.
 pub returns-in-Some-clause-masked : goal.returns-in-Some-clause-masked
 returns-in-Some-clause-masked c = λ e n h.
     let told = rw c.in-Some.is at c.in_ok-restricted_word.ensures in
-    let k = told.word.numbers n h in
+    let k = narrower-admits _ _ n told.word h in
     admits-masked n c.args.mask c.args.value (omega arith) (omega arith)
     (omega (arith, k.below)) c.requires.inside k.bits
 

@@ -1,4 +1,5 @@
 use Rattle.std.proofs.Common.{arith}
+use Rattle.std.specs.Arc.{arc_value}
 use Rattle.sf_dom.specs.Facts.{Agrees, known_at}
 use Rattle.sf_dom.proofs.Sampled.{undecided, decided-some, decided-none, decided-ends}
 use Rattle.sf_dom.proofs.facts.Facts.decided.Goals as goal
@@ -7,9 +8,9 @@ pub returns-clause-some : goal.returns-clause-some
 unfolding Agrees
 returns-clause-some c =
     let covers = rw (← c.self.view_is) at c.requires.covers in
-    let told = rw c.get-known.ensures at c.decided.ensures in
+    let told = rw (c.get-known.ensures, c.deref.ensures) at c.decided.ensures in
     rw (← c.self.view_is) (λ n e d p a.
-    let one = decided-some c.decided.result (known_at c.self.inside.nodes.known c.args.node.0) n told e in
+    let one = decided-some c.decided.result (known_at (arc_value c.self.inside.nodes).known c.args.node.0) n told e in
     let admitted = (a c.args.node.0 (omega (arith, c.requires.node, covers.count))).admitted in
     omega (arith, admitted.above, admitted.below, one.0, one.1))
 
@@ -17,12 +18,13 @@ pub returns-clause-none : goal.returns-clause-none
 unfolding Agrees
 returns-clause-none c =
     let covers = rw (← c.self.view_is) at c.requires.covers in
-    let told = rw c.get-known.ensures at c.decided.ensures in
+    let told = rw (c.get-known.ensures, c.deref.ensures) at c.decided.ensures in
     rw (← c.self.view_is) (λ plain e n all.
     undecided _ c.args.pool.now c.args.node.0 n covers plain c.requires.node
-    (decided-none c.decided.result (known_at c.self.inside.nodes.known c.args.node.0) told e) all)
+    (decided-none c.decided.result (known_at (arc_value c.self.inside.nodes).known c.args.node.0) told e) all)
 
 pub returns-clause-ends : goal.returns-clause-ends
 returns-clause-ends c =
-    let told = rw c.get-known.ensures at c.decided.ensures in
-    rw (← c.self.view_is) (decided-ends c.decided.result (known_at c.self.inside.nodes.known c.args.node.0) told)
+    let told = rw (c.get-known.ensures, c.deref.ensures) at c.decided.ensures in
+    rw (← c.self.view_is) (decided-ends c.decided.result
+    (known_at (arc_value c.self.inside.nodes).known c.args.node.0) told)

@@ -12,4 +12,4 @@ pub returns-clause-sound : goal.returns-clause-sound
 unfolding Agrees
 returns-clause-sound c = λ d p.
     let grown = rw (c.if-branch.true, c.in_ok-nodes.ensures) at c.in_ok-append.ensures.grown in
-    grown.keeps d p (λ i l. absurd (omega arith))
+    rw c.in_ok-new.ensures.ok (grown.keeps d p (λ i l. absurd (omega arith)))

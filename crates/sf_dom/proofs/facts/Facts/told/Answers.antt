@@ -3,10 +3,10 @@ use Rattle.sf_dom.proofs.facts.Facts.told.Goals as goal
 
 pub returns-clause-told : goal.returns-clause-told
 unfolding Agrees
-returns-clause-told c = rw (← c.self.view_is) c.told_of.ensures.told
+returns-clause-told c = rw (← c.self.view_is) (rw c.deref.ensures at c.told_of.ensures.told)
 
 pub returns-clause-walked : goal.returns-clause-walked
-returns-clause-walked c = rw (← c.self.view_is) c.told_of.ensures.walked
+returns-clause-walked c = rw (← c.self.view_is) (rw c.deref.ensures at c.told_of.ensures.walked)
 
 pub returns-clause-none : goal.returns-clause-none
-returns-clause-none c = rw (← c.self.view_is) c.told_of.ensures.none
+returns-clause-none c = rw (← c.self.view_is) (rw c.deref.ensures at c.told_of.ensures.none)
