@@ -36,7 +36,6 @@ narrower-refl f = record {
     high = omega arith;
     zeros = λ j. omega arith;
     ones = λ j. omega arith;
-    numbers = λ n a. a;
   };
   excluded = λ w m l k. k;
 }
