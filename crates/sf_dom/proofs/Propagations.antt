@@ -20,7 +20,7 @@ use Rattle.sf_dom.proofs.Bits.{join-bits, bits-le}
 use Rattle.sf_dom.specs.Facts.{known_at, numbers_at, excluded_of, AgreesWith, AreDecidedOperands}
 use Rattle.sf_dom.specs.Reduction.{IsForced, IsMeet}
 
--- what both know
+-- what is known of a word of which both are known
 pub meet-is : (a b : Known) (low high : ℕ) → low ≡ max a.low b.low → high ≡ min a.high b.high
     → IsMeet a b (known_of low high (bit_or a.zeros b.zeros) (bit_or a.ones b.ones))
 meet-is a b low high el eh = record {
@@ -229,7 +229,7 @@ agrees-push ks ex ns d i next len a h j lj =
           rw (e, get_or_push ks next (known_of 0 0 0 0) i len) h)
     ]
 
--- what lets new nodes be taken in goes on to hold
+-- the condition under which new nodes are taken in goes on to hold
 pub still-none : (old ks : List Known) (ex : List (List ℕ)) → length old ≤ length ks
     → ((16 ≤ length old) ⊎ ((w : ℕ) → numbers_at ex w ≡ [])) → ((16 ≤ length ks) ⊎ ((w : ℕ) → numbers_at ex w ≡ []))
 still-none old ks ex l (inl a) = inl (omega arith)
