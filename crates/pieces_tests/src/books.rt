@@ -212,7 +212,7 @@ fn split_all(alloc: Global, book: &mut Book) -> Result<(), Fail> {
     Ok(())
 }
 
-/// Whether so many pieces are leased one after the other in the order of their names, and then none.
+/// Whether n pieces are leased one after the other in the order of their names, and then none.
 fn leases_in_name_order(book: &mut Book, n: usize) -> Result<bool, Fail> {
     let mut last: Option<Arc<Piece>> = None;
     for _ in 0..n {

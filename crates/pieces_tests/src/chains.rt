@@ -1,4 +1,4 @@
-//! Filters that ask A for one number after the other, where A has one number alone.
+//! Filters that ask A for one number after the other, where A has only one number.
 use crate::regions::explored;
 use samples::{op, raw, stack_of};
 use sf_insn::RawInsn;
@@ -12,7 +12,7 @@ fn loading(alloc: Global, number: u32) -> Result<Vec<RawInsn>, Fail> {
     Ok(code)
 }
 
-/// Asks for each of these numbers, and goes on to the next place whatever A is.
+/// Tests whether A is each of these numbers, one after the other; each test goes on to the next place whatever A is.
 fn ask(code: &mut Vec<RawInsn>, from: u32, end: u32) -> Result<(), Fail> {
     for number in from..end {
         code.push(raw(0x15, 0, 0, number))?;
@@ -20,7 +20,8 @@ fn ask(code: &mut Vec<RawInsn>, from: u32, end: u32) -> Result<(), Fail> {
     Ok(())
 }
 
-/// The names of the regions that a filter has once it returns 0 at its end, as a report shows them, one behind the other.
+/// The names of the regions that a filter has once it returns 0 at its end, as a report shows them, one behind the
+/// other.
 fn names(alloc: Global, mut code: Vec<RawInsn>) -> Result<String, Fail> {
     code.push(op(0x06, 0))?;
     let stack = stack_of(alloc, &[&code])?;

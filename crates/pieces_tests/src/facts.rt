@@ -108,9 +108,10 @@ fn known_of_all(alloc: Global, stack: &Arc<Stack>) -> Result<String, Fail> {
     Ok(text)
 }
 
-/// Word 4 is anything at first. Where it isn't 0 it is at least 1, and 8 divided by 1 to 2^32 - 1 is 0 to 8: the bits from 4 up are 0.
-/// Without bit 3 it is 0 to 7, with it 8. Without bit 2, 0 to 3 are left of 0 to 7, and with it 4 to 7, of which bit 2 is 1 then. Bit 1
-/// halves these again, and bit 0 leaves one number, of which each bit is known. The last piece is that in which word 4 is 0.
+/// Word 4 is anything at first. Where it isn't 0 it is at least 1, and 8 divided by 1 to 2^32 - 1 is 0 to 8: the bits
+/// from 4 up are 0. Without bit 3 it is 0 to 7, with it 8. Without bit 2, 0 to 3 are left of 0 to 7; with it 4 to 7 are
+/// left, of which bit 2 is 1 then. Bit 1 halves these again, and bit 0 leaves one number, of which each bit is known.
+/// The last piece is that in which word 4 is 0.
 const KNOWN: &str = "0-4294967295;1-4294967295;\
     1-4294967295 0-7 fffffff8 00000000;1-4294967295 0-3 fffffffc 00000000;\
     1-4294967295 0-1 fffffffe 00000000;1-4294967295 0-0 ffffffff 00000000;\

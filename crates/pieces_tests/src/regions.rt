@@ -8,8 +8,8 @@ use std::alloc::Global;
 use std::sync::Arc;
 use std::test::Fail;
 
-/// The whole names and answers of the regions, in name order: works piece after piece, the first name first, until none
-/// is left or so many were worked. A work that doesn't settle tells no name.
+/// The whole names and answers of the regions, in name order. Pieces are worked one after the other, the first name
+/// first, until none is left or `most` were worked. A work that does not settle has to give an empty name.
 pub(crate) fn explored(
     alloc: Global,
     stack: &Arc<Stack>,

@@ -41,8 +41,8 @@ pub fn one_refusal()
     a_fault_spells_no_lawful_program();
 }
 
-/// What the definition of an audit holds of isn't refused: the files have no refusal, and there are 1 to 256 questions.
-/// So `audit` refuses what its definition refuses, and nothing else, unless memory is refused.
+/// Where there is an audit, nothing is refused: the files have no refusal, and there are 1 to 256 questions. So `audit`
+/// refuses exactly what `IsAuditRefusal` says, unless memory is refused.
 pub fn an_audit_is_not_refused()
     ensures { (files : List (List ℕ)) (questions : List QuestionData) (budget : ℕ)
         (o : Found) (e : Fault) →

@@ -21,8 +21,8 @@ use std::alloc::Global;
 use std::marker::Model;
 use std::sync::Arc;
 
-/// How many pieces, regions and works a book has: `left + settled + emptied = 1 + splits` and `commits = splits +
-/// settled + emptied`.
+/// How many pieces, regions and works a book has: `left + settled + emptied = 1 + splits`, and
+/// `commits = splits + settled + emptied`.
 #[derive(Clone, Copy, Debug, PartialEq, Eq)]
 pub struct Counts {
     /// Outstanding pieces, on lease or not.

@@ -26,7 +26,7 @@ pub(crate) struct LeaseState {
     pub(crate) leased: bool,
 }
 
-/// Outstanding pieces by their ids, and by their names their ids and whether they are on lease.
+/// Outstanding pieces: by ids the pieces themselves, and by names their ids and whether they are on lease.
 #[derive(Drop)]
 pub(crate) struct OutstandingPieces {
     by_id: BTreeMap<u64, NameKey>,

@@ -15,8 +15,11 @@ use std::alloc::Global;
 /// An input, with the answer of the old stack and that of the new one.
 #[derive(Clone, Copy, Debug, PartialEq, Eq)]
 pub struct Example {
+    /// The input that is changed.
     pub input: Input,
+    /// The old stack's answer to it.
     pub before: Answer,
+    /// The new stack's answer to it.
     pub after: Answer,
 }
 

@@ -1,4 +1,5 @@
-//! The board: jobs to draw, a least place for each question, the questions with a doubt, and how many sheets were entered.
+//! The board: jobs to draw, a least place for each question, the questions with a doubt, and how many sheets were
+//! entered.
 
 mod closing;
 mod drawing;

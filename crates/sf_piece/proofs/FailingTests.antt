@@ -31,7 +31,7 @@ gone_trans p q r a b = record {
   lawful = b.lawful;
 }
 
--- a number that is less is at most as great
+-- a number that is below another one is at most that one
 weakened : (m n : ℕ) → m < n → m ≤ n
 weakened m n h = omega (arith, h)
 

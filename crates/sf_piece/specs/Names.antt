@@ -1,8 +1,7 @@
 -- Names by the runs of false in them.
 use Rattle.std.specs.Prelude.{◌≡◌, ℕ, ◌+◌, ◌-◌, ◌*◌, ◌≤◌, Bool, true, false, List, [], ◌∷◌, length, slice_index}
 
--- the runs of a name with n falses before it: for each true how many falses are right before it, counted down from 2 ^
--- 32 - 1
+-- the runs of a name with n falses before it: for each true 2 ^ 32 - 1 minus the number of falses right before it
 abbrev pub runs_of : List Bool → ℕ → List ℕ
 runs_of [] n = []
 runs_of (false ∷ name) n = runs_of name (n + 1)

@@ -226,11 +226,11 @@ AfterTruthValue p _ b m = ⊥
 abbrev pub with_sense : Cond → Bool → Cond
 with_sense cond b = record cond { sense = b }
 
--- on no member has the condition this truth value
+-- the condition has this truth value on no member
 abbrev pub IsNever : PieceData → Cond → Bool → Type 0
 IsNever p cond b = (d : Input) → IsInput d → is_member p d ≡ true → is_met p.pool d (with_sense cond b) ≡ false
 
--- on every member the condition has this truth value
+-- the condition has this truth value on every member
 abbrev pub IsImplied : PieceData → Cond → Bool → Type 0
 IsImplied p cond b = (d : Input) → IsInput d → is_member p d ≡ true → is_met p.pool d (with_sense cond b) ≡ true
 
