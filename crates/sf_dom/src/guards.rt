@@ -11,7 +11,9 @@ use crate::known::Known;
 /// What is known of the two words of a test.
 #[derive(Clone, Copy, Debug, PartialEq, Eq)]
 pub(crate) struct Pair {
+    /// Of the first word.
     pub(crate) node: Known,
+    /// Of the second word.
     pub(crate) other: Known,
 }
 
