@@ -1,4 +1,4 @@
-//! The guards: what is known of two words once a test of them is known to have a result.
+//! The guards: what is known of two words once the result of a test of them is known.
 
 ghost use Rattle.std.specs.Prelude.{◌≡◌, ◌≢◌, ℕ, ◌+◌, ◌-◌, ◌*◌, ◌/◌, ◌%◌, ◌<◌, ◌≤◌, ◌^◌, MatchOption, IfSome, None, bit_and, bit_or};
 ghost use Rattle.sf_dom.specs.Known.{AreBitsOf, HasBits, Admits, IsConsistent, IsDecided};
