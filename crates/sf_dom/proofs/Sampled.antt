@@ -21,7 +21,7 @@ use Rattle.sf_dom.specs.Propagation.{IsPropagatedAt, AllNarrower, IsGrown, NoneA
 use Rattle.sf_dom.proofs.GuardLemmas.{differs-gives}
 use Rattle.sf_dom.proofs.Propagations.{AreDecidedOperands-same, operands-below, word-below}
 
--- an answer is true exactly where on some input that agreed this is so
+-- an answer is true exactly where `met` is true on some input that agreed
 pub exact-none : (old : FactsView) (ns : List Node) (met : Input → Bool) → NoInput old ns met → IsTrue false
     ↔ SomeInput old ns met
 exact-none old ns met none = ((λ t. absurd (false≢true t)), (λ s. absurd (false≢true (sym (none s.0 s.1 s.2) ∙ s.3))))

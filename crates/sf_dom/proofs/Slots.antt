@@ -30,7 +30,7 @@ pub place-at : (os : List Variable) (r : ℕ) → r < length os → slice_index 
     ≡ (get_or os r (variable_of 0 (known_of 0 0 0 0))).place
 place-at os r l = get_or-map (λ o. o.place) os r (variable_of 0 (known_of 0 0 0 0)) 0 l
 
--- a variable that is read tells its place
+-- a variable that is read has its place
 pub place-read : (os : List Variable) (r i : ℕ) (o : Variable) → r < length os → o ≡ get_or os r o
     → slice_index (places_of os) r ≡ i → o.place ≡ i
 place-read os r i o l read e = ap (λ (v : Variable). v.place) (get_or_read os r o l read

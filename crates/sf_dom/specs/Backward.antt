@@ -22,8 +22,7 @@ one_constant op a b None (Some c) = Some (op, a, c)
 one_constant op a b (Some c) None = Some (op, b, c)
 one_constant op a b _ _ = None
 
--- the operation of a node, the place of its operand that is no constant and the constant, where exactly one operand is
--- one
+-- where exactly one operand of a node is a constant: the operation, the place of the other operand and the constant
 abbrev pub constant_operand_of : List Node → Node → Option (BinOp × ℕ × ℕ)
 constant_operand_of ns (Bin op a b) = one_constant op a.0 b.0 (constant_number (node_at ns a.0))
     (constant_number (node_at ns b.0))

@@ -45,7 +45,7 @@ pub record IsReady (ks : List Known) (ns : List Node) : Type 0 where
   pub constants : (i c : ℕ) → i < length ks → node_at ns i ≡ Const c → ((known_at ks i).low ≡ c)
       × ((known_at ks i).high ≡ c)
 
--- what holds of a node that forward propagation has gone over
+-- what holds of a node that forward propagation has gone through
 pub record IsPropagatedAt (ks : List Known) (ex : List (List ℕ)) (ns : List Node) (i : ℕ) : Type 0 where
   pub consistent : IsConsistent (known_at ks i)
   pub tight : i < 16 → IsTight (known_at ks i) (numbers_at ex i)

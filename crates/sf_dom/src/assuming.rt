@@ -59,8 +59,7 @@ pub(crate) fn backward(op: BinOp, node: Known, c: u32, operand: Known) -> Option
     }
 }
 
-/// The operation of a node, the place of its operand that is no constant, and its operand that is one, where exactly
-/// one is.
+/// Where exactly one operand of a node is a constant: the operation, the place of the other operand, and the constant.
 pub(crate) fn constant_operand(pool: &Pool, at: usize) -> Option<(BinOp, usize, u32)>
     requires { at < length pool.now }
     ensures told { result ≡ constant_operand_of pool.now (node_at pool.now at) }
@@ -107,9 +106,8 @@ fn propagate_back(nodes: &mut Nodes, excluded: &Excluded, pool: &Pool, from: usi
     true
 }
 
-/// Whether no input that agrees has a value there of which this is known: its bits, taken back from operand to operand
-/// as `propagate_back` does, leave one of them no number. Nothing is written, so that a contradiction is seen before
-/// facts are copied.
+/// Whether `known`, of a node, contradicts: its bits, taken back from operand to operand as `propagate_back` does,
+/// leave one of them no number. Nothing is written, so a contradiction is seen before facts are copied.
 fn is_ruled_out_back(
     nodes: &Nodes,
     excluded: &Excluded,

@@ -52,8 +52,8 @@ fn with_told(
 /// What a condition leaves of the facts; `None` where no input that agrees meets it. `Memory` where an allocation is
 /// refused.
 ///
-/// Nodes are copied only where something that is known changes. So it is first looked, without a copy, what the
-/// condition leaves of its two nodes, and whether the bits that go back from these contradict.
+/// Nodes are copied only where something that is known changes. To see that, the condition is first tried without a
+/// copy: on its two nodes, and on the bits that go back from them.
 pub(crate) fn assumed(
     alloc: Global,
     nodes: &Nodes,

@@ -130,8 +130,8 @@ fn no_exclusions() -> Lists
     Lists::default()
 }
 
-/// Writes copies of the lists over `copies`, in place: to move the array takes long. `Memory` only where no more copies
-/// can share a list.
+/// Writes copies of the lists over `copies`, in place, since it takes long to move the array. `Memory` only where no
+/// more copies can share a list.
 fn copy_all(lists: &Lists, copies: &mut Lists) -> Result<(), Fault>
     requires { length copies.old ≡ 16 }
     ensures { IfOk result (λ _. copies.new ≡ lists.now) }

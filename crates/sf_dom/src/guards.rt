@@ -1,4 +1,4 @@
-//! The guards: what is known of two words once a test of them is known to have a result.
+//! The guards: what is known of two words once the result of a test of them is known.
 
 ghost use Rattle.std.specs.Prelude.{◌≡◌, ◌≢◌, ℕ, ◌+◌, ◌-◌, ◌*◌, ◌/◌, ◌%◌, ◌<◌, ◌≤◌, ◌^◌, MatchOption, IfSome, None, bit_and, bit_or};
 ghost use Rattle.sf_dom.specs.Known.{AreBitsOf, HasBits, Admits, IsConsistent, IsDecided};
@@ -11,7 +11,9 @@ use crate::known::Known;
 /// What is known of the two words of a test.
 #[derive(Clone, Copy, Debug, PartialEq, Eq)]
 pub(crate) struct Pair {
+    /// Of the first word.
     pub(crate) node: Known,
+    /// Of the second word.
     pub(crate) other: Known,
 }
 

@@ -31,10 +31,12 @@ impl Default for Slot {
     }
 }
 
-/// A node that may have several numbers: its place in the pool, and what is known of it.
+/// A node that may have several numbers.
 #[derive(Clone, Copy)]
 pub(crate) struct Variable {
+    /// Its place in the pool.
     pub(crate) place: u32,
+    /// What is known of it.
     pub(crate) known: Known,
 }
 
