@@ -213,11 +213,9 @@ impl Book {
         ensures err { IfErr result (λ f. (f ≡ Memory) × (self.new ≡ self.old)) }
     {
         let next = self.next_id;
-        // A region alone has a name of its own: of another work it is given back first, for the prover.
         let (piece, step, longer) = work.into_parts();
         match step {
             Step::Split(f, t) => {
-                drop(longer);
                 self.outstanding.split(id, next, next + 1, f, t)?;
                 self.splits += 1;
                 self.commits += 1;
@@ -231,7 +229,6 @@ impl Book {
                 Ok(None)
             }
             Step::Empty => {
-                drop(longer);
                 add(&mut self.emptied, Emptied { piece })?;
                 self.outstanding.take(id);
                 self.commits += 1;
