@@ -1,4 +1,5 @@
-//! Pieces and works of small stacks. What audits of such stacks find stands among the command lines of `command_run`.
+//! Tests of pieces and works of small stacks. What audits of such stacks find is tried by the command lines of
+//! `command_run`.
 use samples::{eight_divided, emptied_late, execve_refused, stack_of, x32_refused};
 use sf_check::Stack;
 use sf_insn::Input;
@@ -8,8 +9,8 @@ use std::alloc::Global;
 use std::sync::Arc;
 use std::test::Fail;
 
-/// The whole names and answers of the regions, in name order: works piece after piece, the first name first, until none
-/// is left or so many were worked. A work that doesn't settle tells no name.
+/// The whole names and the answers of the regions, in name order. It works piece after piece, the first name first,
+/// until none is left or `most` were worked. A work that doesn't settle has to give no name.
 pub(crate) fn explored(
     alloc: Global,
     stack: &Arc<Stack>,
@@ -23,11 +24,7 @@ pub(crate) fn explored(
             break;
         };
         let (piece, step, longer) = advance(alloc, &piece)?.into_parts();
-        let name = match longer {
-            Some(name) => name,
-            None => Vec::from_slice(alloc, piece.name())?,
-        };
-        if !name.is_empty() && !matches!(step, Step::Settled(_)) {
+        if longer.is_some() && !matches!(step, Step::Settled(_)) {
             return Err("a name of what didn't settle".into());
         }
         match step {
@@ -35,7 +32,13 @@ pub(crate) fn explored(
                 open.push(on_true)?;
                 open.push(on_false)?;
             }
-            Step::Settled(answer) => regions.push((name, answer))?,
+            Step::Settled(answer) => {
+                let name = match longer {
+                    Some(name) => name,
+                    None => Vec::from_slice(alloc, piece.name())?,
+                };
+                regions.push((name, answer))?;
+            }
             Step::Empty => {}
         }
     }
