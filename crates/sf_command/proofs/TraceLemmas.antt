@@ -12,11 +12,12 @@ pub one_more_filter : (brief : Bool) (n action : ℕ) (stood stands : Bool) (pro
     (code : List Insn) (w : CourseData) (old new whole : List ℕ)
     → slice_get programs n ≡ Some code → walk_of code d ≡ Some w
     → stands ≡ (not stood && (action_bits w.value == action))
-    → new ≡ old ++ walk_text brief (n + 1) stands w
+    → new ≡ old ++ walk_text brief (n + 1) stands code w
     → old ++ filters_text brief (suc n) action programs d stood ≡ whole
     → new ++ filters_text brief n action programs d (stood || stands) ≡ whole
 one_more_filter brief n action stood stands programs d code w old new whole at ran stands_is pushed so_far =
-    let so_far' : old ++ (walk_text brief (n + 1) stands w ++ filters_text brief n action programs d (stood || stands))
+    let so_far' : old ++ (walk_text brief (n + 1) stands code w
+    ++ filters_text brief n action programs d (stood || stands))
     ≡ whole = rw (stands_is, ← so_far, at, ran) refl in
     rw (pushed, append_assoc old) so_far'
 
@@ -28,11 +29,12 @@ program_at programs n k code read same within =
     slice_get-get_or programs n code within ∙ ap (λ (c : List Insn). Some c) (sym read')
 
 -- the parts of a line, added one after the other
-pub test_parts : (old head worded new number place word rest : List ℕ)
+pub test_parts : (old head named worded new number place name word rest : List ℕ)
     → head ≡ old ++ (codes "filter " ++ (number ++ (codes " instruction " ++ (place ++ 32 ∷ []))))
-    → worded ≡ head ++ word → new ≡ worded ++ rest
-    → new ≡ old ++ (codes "filter " ++ (number ++ (codes " instruction " ++ (place ++ 32 ∷ (word ++ rest)))))
-test_parts old head worded new number place word rest p q r = rw (r, q, p) (simp append_assoc)
+    → named ≡ head ++ name → worded ≡ named ++ word → new ≡ worded ++ rest
+    → new ≡ old ++ (codes "filter " ++ (number ++ (codes " instruction "
+    ++ (place ++ 32 ∷ (name ++ (word ++ rest))))))
+test_parts old head named worded new number place name word rest p q r s = rw (s, r, q, p) (simp append_assoc)
 
 pub return_parts : (old head acted new number action info place mark marked : List ℕ)
     → head ≡ old ++ (codes "filter " ++ (number ++ 32 ∷ []))
