@@ -2,6 +2,7 @@
 use Rattle.std.specs.Prelude.{◌≡◌, ℕ, Result, Ok, Err}
 use Rattle.sf_audit.specs.declared.fault.Fault.{Fault}
 use Rattle.sf_audit.specs.declared.fault.Fault.TheVariants as faults
+use Rattle.sf_audit.specs.declared.policy.refusal.Refusal.{Refusal}
 
 -- what each refusal of an audit, and want of memory, is told by
 abbrev pub fault_number : Fault → ℕ
@@ -39,3 +40,8 @@ Fails fault due = due ≡ Err fault
 abbrev pub Gives : {X Y : Type 0} → (X → Y) → Result X Fault → Result Y Fault → Type 0
 Gives view (Ok x) due = due ≡ Ok (view x)
 Gives view (Err fault) due = Fails fault due
+
+-- what was read, or the fault of a refusal without its place
+abbrev pub without_place : {X : Type 0} → Result X Refusal → Result X Fault
+without_place (Ok x) = Ok x
+without_place (Err refusal) = Err refusal.fault

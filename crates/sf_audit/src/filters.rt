@@ -6,12 +6,9 @@ ghost use Rattle.sf_check.specs.Programs.{SpellsProgram};
 ghost use Rattle.sf_audit.specs.Filters.{SpellPrograms, SpellStack, IsRefusalOf, IsFileRefusal, IsFirstRefusal};
 
 use crate::fault::Fault;
-use sf_check::{Program, Stack, check};
+use sf_check::{MOST_PROGRAMS, Program, Stack, check};
 use sf_insn::decode;
 use std::alloc::Global;
-
-/// The most filters of a stack.
-const MOST_FILTERS: usize = 64;
 
 /// What is wrong with the bytes of the filter with this number.
 fn undecodable(filter: usize, fault: sf_insn::Fault) -> Fault
@@ -93,7 +90,7 @@ pub fn stack_of(alloc: Global, filters: &[Vec<u8>]) -> Result<Stack, Fault>
     if filters.is_empty() {
         return Err(Fault::NoFilter);
     }
-    if filters.len() > MOST_FILTERS {
+    if filters.len() > MOST_PROGRAMS {
         return Err(Fault::TooMany);
     }
     let programs = programs_of(alloc, filters)?;

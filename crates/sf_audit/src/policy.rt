@@ -3,6 +3,7 @@
 mod actions;
 mod keys;
 mod questions;
+mod refusal;
 mod words;
 
 ghost use Rattle.std.specs.Prelude.{◌≡◌, ◌⊎◌, Some, None, Err, is_some, codes, map};
@@ -10,15 +11,17 @@ ghost use Rattle.std.specs.List.{list_all};
 ghost use Rattle.toml.specs.Data.{Members, as_table};
 ghost use Rattle.toml.specs.Parse.{parse_document};
 ghost use Rattle.toml.specs.View.{view, items_view, table_view};
-ghost use Rattle.sf_audit.specs.Faults.{Gives};
+ghost use Rattle.sf_audit.specs.Faults.{Gives, without_place};
 ghost use Rattle.sf_audit.specs.Encoding.{table_or_empty};
 ghost use Rattle.sf_audit.specs.Trees.{number_at, tables_of};
 ghost use Rattle.sf_audit.specs.Policies.{version_of, tables_of_value, questions_counted, questions_where_tables, policy_of};
 
 use crate::MOST_QUESTIONS;
 use crate::fault::Fault;
+pub use keys::WORD_KEYS;
 use keys::{has_top_keys, number_in, value_at};
 use questions::questions_in;
+pub use refusal::Refusal;
 use sf_ask::Question;
 use std::alloc::Global;
 use toml::{Table, Value};
@@ -111,6 +114,48 @@ fn policy_of_table(alloc: Global, table: &Table) -> Result<Vec<Question>, Fault>
     }
 }
 
+/// The questions of a policy, or the fault for which it is refused, with its tree.
+fn questions_or_refusal(alloc: Global, table: Table) -> Result<Vec<Question>, Refusal>
+    ensures { Gives (λ v. v.items) (without_place result) (policy_of (table_view table)) }
+{
+    match policy_of_table(alloc, &table) {
+        Ok(questions) => Ok(questions),
+        Err(fault) => Err(Refusal {
+            fault,
+            read: Ok(table),
+        }),
+    }
+}
+
+/// The questions of a policy file as `read_policy` reads them, or the fault for which it refuses them, and where that lies.
+pub fn read_policy_at(alloc: Global, text: &str) -> Result<Vec<Question>, Refusal>
+    // Where the text is TOML, the questions or the refusal are those of its tree.
+    ensures read { (tree : Members) → parse_document text.now ≡ Some tree
+        → Gives (λ v. v.items) (without_place result) (policy_of tree) }
+
+    // `Syntax` comes exactly where it is none, unless memory ran out.
+    ensures syntax { without_place result ≡ Err Fault.Syntax
+        → parse_document text.now ≡ None }
+    ensures no_syntax { parse_document text.now ≡ None
+        → (without_place result ≡ Err Fault.Syntax)
+        ⊎ (without_place result ≡ Err Fault.Memory) }
+{
+    match toml::table_from_str(alloc, text) {
+        Ok(table) => questions_or_refusal(alloc, table),
+        Err(error) => {
+            let fault = if error.is_memory() {
+                Fault::Memory
+            } else {
+                Fault::Syntax
+            };
+            Err(Refusal {
+                fault,
+                read: Err(error),
+            })
+        }
+    }
+}
+
 /// The questions of a policy file, which is TOML of version 1 or 2. A question names ranges of words and, in version 2,
 /// bits of them; a word that it doesn't name may have any number. Without actions it asks about ALLOW and LOG.
 ///
@@ -128,14 +173,5 @@ pub fn read_policy(alloc: Global, text: &str) -> Result<Vec<Question>, Fault>
     ensures no_syntax { parse_document text.now ≡ None → (result ≡ Err Fault.Syntax)
         ⊎ (result ≡ Err Fault.Memory) }
 {
-    match toml::table_from_str(alloc, text) {
-        Ok(table) => policy_of_table(alloc, &table),
-        Err(error) => {
-            if error.is_memory() {
-                Err(Fault::Memory)
-            } else {
-                Err(Fault::Syntax)
-            }
-        }
-    }
+    read_policy_at(alloc, text).map_err(|refusal| refusal.fault)
 }

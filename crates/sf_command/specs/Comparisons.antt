@@ -7,7 +7,7 @@ use Rattle.sf_audit.specs.declared.fault.Fault.TheVariants.{Memory, Read, Write}
 use Rattle.sf_audit.specs.Filters.{IsFirstRefusal}
 use Rattle.sf_compare.specs.declared.relation.Relation.{Relation}
 use Rattle.sf_compare.specs.Comparisons.{Compared, IsComparison, change_of, comparison_text}
-use Rattle.sf_command.specs.Files.{AreRead, HasUnknown}
+use Rattle.sf_command.specs.Files.{AreKept, AreRead, HasUnknown}
 use Rattle.sf_command.specs.Status.{change_status}
 
 module _ (holds : List ℕ → Option (List ℕ)) (old_paths new_paths : List (Bor (List ℕ))) where
@@ -18,6 +18,15 @@ module _ (holds : List ℕ → Option (List ℕ)) (old_paths new_paths : List (B
     pub read_old : AreRead holds old_paths olds
     pub read_new : AreRead holds new_paths news
     pub whole : files ≡ olds ++ news
+    pub parted : older ≡ length olds
+
+  -- the same of the files that were kept of both
+  pub record AreBothKept (kept : List (List ℕ)) (older : ℕ) : Type 0 where
+    pub olds : List (List ℕ)
+    pub news : List (List ℕ)
+    pub read_old : AreKept holds old_paths olds
+    pub read_new : AreKept holds new_paths news
+    pub whole : kept ≡ olds ++ news
     pub parted : older ≡ length olds
 
   -- `compare`: the files at the paths are read, their two stacks compared and what was found written; the status tells

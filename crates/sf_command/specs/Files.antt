@@ -1,5 +1,5 @@
 -- Files by their paths.
-use Rattle.std.specs.Prelude.{◌≡◌, ℕ, List, Option, Some, None, slice_get}
+use Rattle.std.specs.Prelude.{◌≡◌, ℕ, List, Option, Some, None, slice_get, take}
 use Rattle.std.specs.Borrow.{Bor}
 use Rattle.sf_command.specs.Pairs.{Pairwise}
 
@@ -11,6 +11,13 @@ AreKnownBytes (Some known) bytes = bytes ≡ known
 -- the bytes are those of the files at the paths, path by path
 abbrev pub AreRead : (List ℕ → Option (List ℕ)) → List (Bor (List ℕ)) → List (List ℕ) → Type 0
 AreRead holds paths files = Pairwise (λ path file. AreKnownBytes (holds path.now) file) paths files
+
+-- The files at the paths were read, and the first of them are these: no more than one that is too many for a stack.
+pub record AreKept (holds : List ℕ → Option (List ℕ)) (paths : List (Bor (List ℕ)))
+    (kept : List (List ℕ)) : Type 0 where
+  pub files : List (List ℕ)
+  pub read : AreRead holds paths files
+  pub first : kept ≡ take 65 files
 
 -- one of the paths is that of a file whose bytes aren't known: it may be that it can't be read
 pub record HasUnknown (holds : List ℕ → Option (List ℕ)) (paths : List (Bor (List ℕ))) : Type 0 where

@@ -1,10 +1,12 @@
 -- The text of `eval --trace`: the input, and how each filter comes to its return value.
-use Rattle.std.specs.Prelude.{ℕ, zero, suc, ◌+◌, ◌-◌, ◌^◌, Bool, true, false, ◌==◌, ◌&&◌, ◌||◌, not, if◌then◌else◌, List, [], ◌∷◌, ◌++◌, codes, length, Option, Some, None, slice_get, slice_index}
+use Rattle.std.specs.Prelude.{ℕ, zero, suc, ◌+◌, ◌-◌, ◌^◌, Bool, true, false, ◌==◌, ◌&&◌, ◌||◌, not, if◌then◌else◌, List, [], ◌∷◌, ◌++◌, codes, length, Option, Some, None, slice_get, slice_index, option_map, unwrap_or}
+use Rattle.std.specs.List.{list_any}
 use Rattle.std.specs.Fmt.{decimal, digits, padded_integral, format_spec}
 use Rattle.sf_insn.specs.declared.input.Input.{Input}
 use Rattle.sf_insn.specs.declared.ops.Test.{Test}
 use Rattle.sf_insn.specs.declared.ops.Test.TheVariants.{Equal, Greater, GreaterOrEqual, AnyBit}
 use Rattle.sf_check.specs.declared.insn.Insn.{Insn}
+use Rattle.sf_check.specs.declared.insn.Insn.TheVariants.{LoadWord, LoadConstant, LoadScratch, LoadLength, Alu, Negate, Jump, Branch, Txa}
 use Rattle.sf_run.specs.declared.action.Action.{Action}
 use Rattle.sf_run.specs.declared.action.Answer.{Answer}
 use Rattle.sf_run.specs.declared.walking.Meeting.{Meeting}
@@ -12,6 +14,7 @@ use Rattle.sf_run.specs.declared.walking.Met.{Met}
 use Rattle.sf_run.specs.declared.walking.Met.TheVariants.{Tested, Divided, Returned}
 use Rattle.sf_run.specs.Answers.{action_bits, action_of, data_bits, action_number}
 use Rattle.sf_run.specs.Walks.{CourseData, walk_of}
+use Rattle.sf_audit.specs.Keys.{word_keys}
 use Rattle.sf_audit.specs.Reports.{action_text, line}
 use Rattle.sf_command.specs.Texts.{answer_text}
 
@@ -54,6 +57,43 @@ last_arguments d =
 abbrev pub input_text : Input → List ℕ
 input_text d = call_text d ++ (first_arguments d ++ last_arguments d)
 
+-- ---- which word A is
+
+-- the word of the input that A is after an instruction, by the one that it was before: A has the word that was loaded
+-- into it, until another value is put there
+abbrev pub word_after : Option ℕ → Insn → Option ℕ
+word_after word (LoadWord loaded) = Some loaded
+word_after word (LoadConstant k) = None
+word_after word (LoadScratch k) = None
+word_after word LoadLength = None
+word_after word (Alu op other) = None
+word_after word Negate = None
+word_after word Txa = None
+word_after word _ = word
+
+-- how many instructions a run skips after one, whose test has this result if it is one
+abbrev pub skipped_after : Insn → Bool → ℕ
+skipped_after (Jump k) truth = k
+skipped_after (Branch test other on_true on_false) truth = if truth then on_true else on_false
+skipped_after _ truth = 0
+
+-- a test that is true
+abbrev pub is_true_test : Met → Bool
+is_true_test (Tested test a other passed) = passed
+is_true_test _ = false
+
+-- the test at a place is true
+abbrev pub is_true_at : ℕ → List Meeting → Bool
+is_true_at place met = list_any (λ m. (m.place == place) && is_true_test m.met) met
+
+-- For each instruction from a place on the word that A is when a run comes to it that meets this, after so many
+-- instructions that are skipped, to which it doesn't come.
+abbrev pub words_at : (place skips : ℕ) → Option ℕ → List Insn → List Meeting → List (Option ℕ)
+words_at place skips word [] met = []
+words_at place (suc skips) word (i ∷ code) met = word ∷ words_at (place + 1) skips word code met
+words_at place zero word (i ∷ code) met =
+    word ∷ words_at (place + 1) (skipped_after i (is_true_at place met)) (word_after word i) code met
+
 -- ---- a filter
 
 -- how two words are compared
@@ -72,19 +112,26 @@ truth_text false = codes "false"
 abbrev pub compared_text : List ℕ → ℕ → Bool → List ℕ
 compared_text sign other truth = 32 ∷ (sign ++ 32 ∷ (word_text other ++ 32 ∷ (truth_text truth ++ 10 ∷ [])))
 
--- two words that are compared by an instruction of a filter
-abbrev pub test_line : ℕ → ℕ → ℕ → List ℕ → ℕ → Bool → List ℕ
-test_line number place a sign other truth =
-    codes "filter " ++ (decimal number ++ (codes " instruction "
-    ++ (decimal place ++ 32 ∷ (word_text a ++ compared_text sign other truth))))
+-- the name of a word of the input, if it is one, and a blank
+abbrev pub named_text : Option ℕ → List ℕ
+named_text (Some word) = unwrap_or (slice_get word_keys word) [] ++ 32 ∷ []
+named_text None = []
 
--- What a filter meets: a test; at a division by X, whether X is 0; at a return of A, that A.
-abbrev pub meeting_line : ℕ → Meeting → List ℕ
-meeting_line number m = by m.met
+-- two words that are compared by an instruction of a filter, the first of them by its name too, if it is a word of the
+-- input
+abbrev pub test_line : ℕ → ℕ → Option ℕ → ℕ → List ℕ → ℕ → Bool → List ℕ
+test_line number place word a sign other truth =
+    codes "filter " ++ (decimal number ++ (codes " instruction "
+    ++ (decimal place ++ 32 ∷ (named_text word ++ (word_text a ++ compared_text sign other truth)))))
+
+-- What a filter meets, where A is this word of the input, if it is one: a test; at a division by X, whether X is 0; at
+-- a return of A, that A.
+abbrev pub meeting_line : ℕ → Option ℕ → Meeting → List ℕ
+meeting_line number word m = by m.met
   where
     by : Met → List ℕ
-    by (Tested test a other passed) = test_line number m.place a (sign_text test) other passed
-    by (Divided x) = test_line number m.place x (codes "=") 0 (x == 0)
+    by (Tested test a other passed) = test_line number m.place word a (sign_text test) other passed
+    by (Divided x) = test_line number m.place None x (codes "=") 0 (x == 0)
     by (Returned a) = line (codes "filter" ∷ decimal number ∷ codes "instruction" ∷ decimal m.place ∷ word_text a
         ∷ codes "returned" ∷ [])
 
@@ -95,13 +142,14 @@ is_false (Divided x) = not (x == 0)
 is_false (Returned a) = false
 
 -- the line, which a brief trace has not where what is met is false
-abbrev pub shown_line : Bool → ℕ → Meeting → List ℕ
-shown_line brief number m = if brief && is_false m.met then [] else meeting_line number m
+abbrev pub shown_line : Bool → ℕ → Option ℕ → Meeting → List ℕ
+shown_line brief number word m = if brief && is_false m.met then [] else meeting_line number word m
 
--- the lines of all that is met
-abbrev pub meeting_lines : Bool → ℕ → List Meeting → List ℕ
-meeting_lines brief number [] = []
-meeting_lines brief number (m ∷ ms) = shown_line brief number m ++ meeting_lines brief number ms
+-- the lines of all that is met, by the word of the input that A is at each place
+abbrev pub meeting_lines : Bool → ℕ → List (Option ℕ) → List Meeting → List ℕ
+meeting_lines brief number words [] = []
+meeting_lines brief number words (m ∷ ms) =
+    shown_line brief number (unwrap_or (slice_get words m.place) None) m ++ meeting_lines brief number words ms
 
 -- the mark of the filter whose answer stands
 abbrev pub stands_text : Bool → List ℕ
@@ -119,24 +167,27 @@ return_line number place value stands =
     returned_line number place (action_of (action_bits value)) (data_bits value) stands
 
 -- a filter with this number: what it returns, and under it what it meets
-abbrev pub walk_text : Bool → ℕ → Bool → CourseData → List ℕ
-walk_text brief number stands w = return_line number w.place w.value stands ++ meeting_lines brief number w.met
+abbrev pub walk_text : Bool → ℕ → Bool → List Insn → CourseData → List ℕ
+walk_text brief number stands code w =
+    return_line number w.place w.value stands
+    ++ meeting_lines brief number (words_at 0 0 None code w.met) w.met
 
 -- ---- the stack
 
--- the run of the filter with this place, counted from 0 in order of installation; a lawful one always comes to a return
-abbrev pub walk_at : List (List Insn) → Input → ℕ → Option CourseData
+-- the filter with this place, counted from 0 in order of installation, and its run; a lawful one always comes to a
+-- return
+abbrev pub walk_at : List (List Insn) → Input → ℕ → Option (List Insn × CourseData)
 walk_at programs d place = from (slice_get programs place)
   where
-    from : Option (List Insn) → Option CourseData
-    from (Some code) = walk_of code d
+    from : Option (List Insn) → Option (List Insn × CourseData)
+    from (Some code) = option_map (λ w. (code, w)) (walk_of code d)
     from None = None
 
 -- a filter, of which it is told whether it stands, and the older ones
-abbrev pub next_text : Bool → ℕ → ℕ → Bool → (Bool → List ℕ) → Option CourseData → List ℕ
-next_text brief number action stood older (Some w) =
+abbrev pub next_text : Bool → ℕ → ℕ → Bool → (Bool → List ℕ) → Option (List Insn × CourseData) → List ℕ
+next_text brief number action stood older (Some (code, w)) =
     let stands = not stood && (action_bits w.value == action) in
-    walk_text brief number stands w ++ older (stood || stands)
+    walk_text brief number stands code w ++ older (stood || stands)
 next_text brief number action stood older None = older stood
 
 -- The first n filters, newest first. The one that stands is the newest that returns this action, if none that is newer

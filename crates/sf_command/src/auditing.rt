@@ -8,7 +8,7 @@ use crate::explaining::Notes;
 use crate::files::{Files, read_all};
 use crate::status::status_of_replies;
 use sf_ask::Question;
-use sf_audit::{Fault, Outcome, read_policy, write_report};
+use sf_audit::{Fault, Outcome, read_policy_at, write_report};
 use sf_crew::Open;
 use std::alloc::Global;
 use std::io::Write;
@@ -44,7 +44,10 @@ fn questions_in<F: Files>(
     notes.files = notes.files.saturating_add(1);
     notes.policy = bytes;
     match std::str::from_utf8(&notes.policy) {
-        Ok(text) => read_policy(alloc, text),
+        Ok(text) => {
+            let read = read_policy_at(alloc, text);
+            notes.take_refusal(read)
+        }
         Err(_) => Err(Fault::Syntax),
     }
 }

@@ -2,7 +2,7 @@
 
 ghost use Rattle.std.specs.Prelude.{◌≡◌, ◌<◌, ◌≤◌, ◌⊎◌, length, map, IfOk, IfErr};
 ghost use Rattle.sf_audit.specs.declared.fault.Fault.TheVariants.{Memory as MemoryFault, Read as ReadFault, Write as WriteFault};
-ghost use Rattle.sf_command.specs.Comparisons.{AreBothRead, ComparesFiles, RefusesComparison};
+ghost use Rattle.sf_command.specs.Comparisons.{AreBothKept, ComparesFiles, RefusesComparison};
 ghost use Rattle.sf_command.specs.Files.{HasUnknown};
 
 use crate::explaining::Notes;
@@ -27,7 +27,7 @@ pub struct Terms {
     pub asked: Relation,
 }
 
-/// The bytes of the old files and then of the new ones, and how many the old ones are.
+/// The bytes of the old files and then of the new ones, as far as `read_all` keeps them, and how many the old ones are.
 fn read_both<F: Files>(
     alloc: Global,
     old: &[&str],
@@ -35,7 +35,7 @@ fn read_both<F: Files>(
     files: &mut F,
     notes: &mut Notes,
 ) -> Result<(Vec<Vec<u8>>, usize), Fault>
-    ensures read { IfOk result (λ r. AreBothRead (F.holds files.old) old.now new.now
+    ensures read { IfOk result (λ r. AreBothKept (F.holds files.old) old.now new.now
         (map (λ f. f.items) r.0.items) r.1) }
     ensures parted { IfOk result (λ r. r.1 ≤ length r.0.items) }
     ensures refused { IfErr result (λ e. ((e ≡ ReadFault)

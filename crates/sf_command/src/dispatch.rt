@@ -12,7 +12,7 @@ ghost use Rattle.sf_command.specs.Status.{fault_status};
 use crate::auditing::{Options, audit};
 use crate::checking::{check, evaluate, print};
 use crate::comparing::{Terms, compare};
-use crate::explaining::{Notes, explanation};
+use crate::explaining::Notes;
 use crate::files::Files;
 use crate::options::{asked_of, brief_of, budget_of, regions_of, text_of, traced_of, workers_of};
 use crate::telling::tell;
@@ -205,7 +205,11 @@ fn reply<R: Threads + Wait + Sync, F: Files, O: Write, E: Write>(
         (map string_bytes words.now)) }
 {
     match words::form(alloc)?.try_get_matches_from(words) {
-        Ok(matches) => run(rt, alloc, &matches, files, notes, out),
+        Ok(matches) => {
+            let ran = run(rt, alloc, &matches, files, notes, out);
+            notes.explain(alloc, &matches, &ran, files.reason());
+            ran
+        }
         Err(error) => explain(alloc, &error, out, err),
     }
 }
@@ -242,9 +246,6 @@ pub fn command<R: Threads + Wait + Sync, F: Files, O: Write, E: Write>(
     let mut notes = Notes::new(alloc);
     match reply(rt, alloc, words, files, &mut notes, out, err) {
         Ok(status) => status,
-        Err(fault) => {
-            let more = explanation(alloc, words, &fault, &notes, files.reason());
-            tell(alloc, &fault, more, err)
-        }
+        Err(fault) => tell(alloc, &fault, notes.explanation, err),
     }
 }

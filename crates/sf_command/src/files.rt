@@ -1,11 +1,12 @@
 //! Where files come from.
 
 ghost use Rattle.std.specs.Prelude.{◌≡◌, ◌⊎◌, ◌≤◌, ℕ, List, None, length, map, IfOk, IfErr};
-ghost use Rattle.sf_command.specs.Files.{AreKnownBytes, AreRead, HasUnknown};
+ghost use Rattle.sf_command.specs.Files.{AreKept, AreKnownBytes, HasUnknown};
 ghost use Rattle.sf_audit.specs.declared.fault.Fault.TheVariants.{Memory, Read};
 
 use crate::explaining::Notes;
 use sf_audit::Fault;
+use sf_check::MOST_PROGRAMS;
 use std::alloc::Global;
 
 /// The most bytes of a file that is read: 1 MiB, which is 32 times the longest filter. So a file without an end is
@@ -37,15 +38,15 @@ pub trait Files {
     fn take_over<T: Drop>(&self, _found: T) {}
 }
 
-/// The bytes of the files at these paths, in their order. A refusal is that of the first file that can't be read. It is noted
-/// how many were.
+/// The bytes of the files at these paths, in their order. All are read, and no more are kept than the first one that is too many
+/// for a stack. A refusal is that of the first file that can't be read. It is noted how many were.
 pub fn read_all<F: Files>(
     alloc: Global,
     paths: &[&str],
     files: &mut F,
     notes: &mut Notes,
 ) -> Result<Vec<Vec<u8>>, Fault>
-    ensures read { IfOk result (λ v. AreRead (F.holds files.old) paths.now
+    ensures read { IfOk result (λ v. AreKept (F.holds files.old) paths.now
         (map (λ f. f.items) v.items)) }
     ensures refused { IfErr result (λ e. ((e ≡ Read)
         × HasUnknown (F.holds files.old) paths.now) ⊎ (e ≡ Memory)) }
@@ -55,7 +56,9 @@ pub fn read_all<F: Files>(
     for path in paths {
         let bytes = files.read(path)?;
         notes.files = notes.files.saturating_add(1);
-        read.push(bytes)?;
+        if read.len() <= MOST_PROGRAMS {
+            read.push(bytes)?;
+        }
     }
     Ok(read)
 }

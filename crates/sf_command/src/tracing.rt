@@ -4,6 +4,7 @@ ghost use Rattle.sf_run.specs.Answers.{action_bits, action_number};
 ghost use Rattle.sf_run.specs.Walks.{CourseData, walk_of};
 ghost use Rattle.sf_command.specs.Traces.{call_text, compared_text, field_line, filters_text, first_arguments, input_text, is_false, last_arguments, stands_text, meeting_line, meeting_lines, returned_line, shown_line, sign_text, test_line, trace_text, truth_text, walk_text, word_text};
 
+use crate::loaded::{push_name, words_at};
 use sf_audit::push_action;
 use sf_check::{Program, Stack};
 use sf_insn::{Input, Test};
@@ -101,30 +102,37 @@ fn push_test(
     text: &mut String,
     number: usize,
     place: usize,
+    word: Option<u8>,
     a: u32,
     sign: &str,
     other: u32,
     truth: bool,
 ) -> Result<(), AllocError>
     ensures { OnOk result (string_bytes text.new ≡ string_bytes text.old
-        ++ test_line number place a sign.now other truth) }
+        ++ test_line number place word a sign.now other truth) }
 {
     write!(text, "filter {number} instruction {place} ")?;
+    push_name(text, word)?;
     push_word(text, a)?;
     push_compared(text, sign, other, truth)
 }
 
-/// The line of what a filter met.
-fn push_meeting(text: &mut String, number: usize, meeting: Meeting) -> Result<(), AllocError>
+/// The line of what a filter met, where A was this word of the input, if it was one.
+fn push_meeting(
+    text: &mut String,
+    number: usize,
+    word: Option<u8>,
+    meeting: Meeting,
+) -> Result<(), AllocError>
     ensures { OnOk result (string_bytes text.new ≡ string_bytes text.old
-        ++ meeting_line number meeting) }
+        ++ meeting_line number word meeting) }
 {
     let place = meeting.place;
     match meeting.met {
         Met::Tested(test, a, other, passed) => {
-            push_test(text, number, place, a, sign_of(test), other, passed)
+            push_test(text, number, place, word, a, sign_of(test), other, passed)
         }
-        Met::Divided(x) => push_test(text, number, place, x, "=", 0, x == 0),
+        Met::Divided(x) => push_test(text, number, place, None, x, "=", 0, x == 0),
         Met::Returned(a) => write!(
             text,
             "filter {number} instruction {place} 0x{a:08X} returned\n"
@@ -148,29 +156,32 @@ fn push_shown(
     text: &mut String,
     brief: bool,
     number: usize,
+    word: Option<u8>,
     meeting: Meeting,
 ) -> Result<(), AllocError>
     ensures { OnOk result (string_bytes text.new ≡ string_bytes text.old
-        ++ shown_line brief number meeting) }
+        ++ shown_line brief number word meeting) }
 {
     if brief && is_false(meeting.met) {
         return Ok(());
     }
-    push_meeting(text, number, meeting)
+    push_meeting(text, number, word, meeting)
 }
 
-/// The lines of all that a filter met, in order.
+/// The lines of all that a filter met, in order, by the word of the input that A is at each place.
 fn push_meetings(
     text: &mut String,
     brief: bool,
     number: usize,
+    words: &[Option<u8>],
     met: &[Meeting],
 ) -> Result<(), AllocError>
     ensures { OnOk result (string_bytes text.new ≡ string_bytes text.old
-        ++ meeting_lines brief number met.now) }
+        ++ meeting_lines brief number words.now met.now) }
 {
     for meeting in met {
-        push_shown(text, brief, number, *meeting)?;
+        let word = words.get(meeting.place).copied().unwrap_or(None);
+        push_shown(text, brief, number, word, *meeting)?;
     }
     Ok(())
 }
@@ -213,7 +224,8 @@ fn push_filter(
 ) -> Result<bool, Fault>
     ensures { IfOk result (λ b. (w : CourseData) × (walk_of program.now input.now ≡ Some w)
         × (b ≡ (not stood && (action_bits w.value == action)))
-        × (string_bytes text.new ≡ string_bytes text.old ++ walk_text brief number b w)) }
+        × (string_bytes text.new ≡ string_bytes text.old
+        ++ walk_text brief number b program.now w)) }
 {
     let run = walk(alloc, program, input)?;
     let stands = !stood && run.value & 0xffff0000 == action;
@@ -226,7 +238,8 @@ fn push_filter(
         run.value & 0xffff,
         stands,
     )?;
-    push_meetings(text, brief, number, &run.met)?;
+    let words = words_at(alloc, program.insns(), &run.met)?;
+    push_meetings(text, brief, number, &words, &run.met)?;
     Ok(stands)
 }
 

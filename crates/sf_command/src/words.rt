@@ -23,8 +23,12 @@ Limits:
   a path length of at most 32768 (compare: of both stacks together)
   1 to 256 questions of a policy
   1 to 1000000 pieces that are worked on (--budget), 100000 if not given
-  1 to 64 workers (--workers), 4 if not given
+  1 to 64 workers (--workers), 4 if not given: 1 is as fast, and answers more under a budget
   1048576 bytes of a file
+
+Errors:
+  An error is one line on standard error: its number, its name, and where it lies.
+  --explain-errors, which each command takes, adds where that is, and what the number means.
 
 docs/GUIDE.md says how to get filters, how to ask questions and how to read the answers.";
 
@@ -75,7 +79,7 @@ fn workers<'a>(alloc: Global) -> Arg<'a>
     option(alloc, "workers", "N")
         .value_parser(numbers)
         .default_value("4")
-        .help("The number of workers, 1 to 64")
+        .help("The number of workers, 1 to 64: 1 is as fast, and answers more under a budget")
 }
 
 /// `--regions`: whether a report lists the regions.
@@ -117,7 +121,8 @@ fn explain<'a>(alloc: Global) -> Arg<'a>
     ensures rule { rule_of result ≡ switch_rule (codes "explain-errors") }
     ensures own { result.global ≡ false }
 {
-    switch(alloc, "explain-errors").help("Explain an error under its line")
+    switch(alloc, "explain-errors")
+        .help("Explain an error under its line: where it lies, and what its number means")
 }
 
 /// The filter files.

@@ -12,7 +12,7 @@ ghost use Rattle.sf_audit.specs.Trees.{number_at, number_or, text_at};
 use toml::{Table, Value};
 
 /// The keys of the sixteen words, in the order of `struct seccomp_data`.
-pub(crate) const WORD_KEYS: [&str; 16] = [
+pub const WORD_KEYS: [&str; 16] = [
     "nr", "arch", "ip_lo", "ip_hi", "arg0_lo", "arg0_hi", "arg1_lo", "arg1_hi", "arg2_lo",
     "arg2_hi", "arg3_lo", "arg3_hi", "arg4_lo", "arg4_hi", "arg5_lo", "arg5_hi",
 ];
@@ -24,7 +24,7 @@ const QUESTION_KEYS: [&str; 18] = [
 ];
 
 /// The keys that a policy may have at its top.
-const TOP_KEYS: [&str; 2] = ["version", "question"];
+pub(crate) const TOP_KEYS: [&str; 2] = ["version", "question"];
 
 /// The keys that the table of a word may have.
 const MASK_KEYS: [&str; 4] = ["mask", "value", "low", "high"];

@@ -60,7 +60,7 @@ fn question_of_parts(
 }
 
 /// The question of a table, each of whose values is to be of its kind.
-fn question_of_table(
+pub(super) fn question_of_table(
     alloc: Global,
     version: Version,
     number: usize,
