@@ -76,8 +76,8 @@ fn enter(
     Some(())
 }
 
-/// The seat looks at the second of two questions, and where it sees a place below its job, enters a sheet with a verdict on
-/// the first question alone.
+/// The seat looks at the second of two questions, and where it sees a place below its job, enters a sheet with a
+/// verdict on only the first question.
 fn enter_without_second(
     alloc: Global,
     board: &Board,

@@ -57,7 +57,7 @@ fn write_leases(text: &mut String, book: &mut Book) -> Result<(), Fail> {
     Ok(())
 }
 
-/// All that a book tells: its budget, the pieces that are free, all its pieces, and what it ends with.
+/// All that a book shows: its budget, the pieces that are free, all its pieces, and what it ends with.
 fn told(alloc: Global, mut book: Book, stack: &Stack) -> Result<String, Fail> {
     let mut text = String::new(alloc);
     let budget = book.budget();
@@ -71,7 +71,7 @@ fn told(alloc: Global, mut book: Book, stack: &Stack) -> Result<String, Fail> {
     Ok(text)
 }
 
-/// What a book tells in which one work was committed, that of the root.
+/// What a book shows in which one work was committed, that of the root.
 fn told_of_one(alloc: Global, stack: &Arc<Stack>) -> Result<String, Fail> {
     let mut book = Book::open(alloc, Arc::try_clone(stack)?, 100)?;
     let lease = book.lease()?.ok_or("nothing to lease")?;

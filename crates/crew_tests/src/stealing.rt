@@ -1,4 +1,4 @@
-//! One bench with several ends.
+//! One bench with several handles.
 use crossbeam_deque::Steal;
 use samples::{echo_stack, execve_stack};
 use sf_book::{Book, Lease};
@@ -45,7 +45,7 @@ fn many_leases(alloc: Global) -> Result<Vec<Lease>, Fail> {
     lease_all(alloc, &mut book)
 }
 
-/// An end of a bench.
+/// A handle of a bench.
 #[derive(Drop)]
 enum Any {
     Owning(Owner),
@@ -104,7 +104,7 @@ fn put_all(owner: &mut Owner, leases: Vec<Lease>) -> bool {
     true
 }
 
-/// All ids that the ends get, each on a thread of its own and in rising order.
+/// All ids that the handles get, each on a thread of its own and in rising order.
 fn drain_all<R: Threads + Sync>(rt: &R, alloc: Global, ends: Vec<Any>) -> Result<Vec<u64>, Fail> {
     let got = thread::map_vec(
         rt,

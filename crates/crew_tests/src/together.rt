@@ -33,7 +33,7 @@ impl Gate for Counting {
     }
 }
 
-/// The calls that a gate sees of so many workers, and the commits.
+/// The calls that a gate sees of this many workers, and the commits.
 fn calls_and_commits<R: Threads + Wait + Sync>(
     rt: &R,
     alloc: Global,
@@ -79,7 +79,7 @@ impl Gate for Handles {
     }
 }
 
-/// How many there are where a stack is explored by so many workers.
+/// How many there are where a stack is explored by this many workers.
 fn handles_of<R: Threads + Wait + Sync>(
     rt: &R,
     alloc: Global,

@@ -28,8 +28,8 @@ fn add_one(count: &AtomicUsize) -> usize {
     count.fetch_add(1, Ordering::SeqCst).wrapping_add(1)
 }
 
-/// Lets the first calls of all through, and then holds so many calls of each worker until the other one has made as
-/// many. The later ones go through.
+/// Lets the first `free` calls of all through, and then holds up to `most` calls of each worker until the other one has
+/// made as many. The later ones go through.
 #[derive(Drop)]
 struct Pairs {
     free: usize,
@@ -129,8 +129,8 @@ fn two_workers_work_in_pairs_to_the_end(rt: HostRuntime) -> Result<(), Fail> {
     Ok(())
 }
 
-/// Both pass the gate before the one of them commits for which the budget has room. (That one makes a further work,
-/// which isn't committed.)
+/// Both workers pass the gate before one of them commits, though the budget has room for only one of the two works.
+/// (The worker of that one makes a further work, which isn't committed.)
 #[test]
 fn two_works_are_ready_where_one_may_be_committed(rt: HostRuntime) -> Result<(), Fail> {
     let alloc = rt.alloc();
@@ -152,7 +152,7 @@ fn two_workers_judge_in_pairs_to_the_end(rt: HostRuntime) -> Result<(), Fail> {
     Ok(())
 }
 
-/// Holds one call, that of this place among all, until so many have come.
+/// Holds one call, that of this place among all, until `until` calls have come.
 #[derive(Drop)]
 struct Held {
     place: usize,
@@ -171,7 +171,7 @@ impl Held {
         }
     }
 
-    /// All calls, and whether the held one was let go too soon.
+    /// All calls, and whether the held one was let go too early.
     fn seen(&self) -> [usize; 2] {
         [
             self.begun.load(Ordering::SeqCst),
@@ -328,8 +328,8 @@ fn four_workers_have_a_piece_and_then_a_region_each_at_once(rt: HostRuntime) -> 
     Ok(())
 }
 
-/// Lets the first call of all through, and the next one of the same worker, and then holds each call until each of three
-/// workers has made one. So the other two find their leases on the bench of that worker alone.
+/// Lets the first call of all through, and the next one of the same worker, and then holds each call until each of
+/// three workers has made one. So the other two find their leases only on the bench of that worker.
 #[derive(Drop)]
 struct OneBench {
     begun: AtomicUsize,

@@ -1,10 +1,10 @@
-//! What the lines of cases say.
+//! Reads the lines of cases.
 
 use sf_insn::{BinOp, Test};
 use sf_sym::{Node, NodeId};
 use std::alloc::{AllocError, Global};
 
-/// What facts take.
+/// A step that facts take.
 #[derive(Clone, Copy)]
 pub enum Step {
     /// The test of two nodes has this result.
@@ -15,15 +15,18 @@ pub enum Step {
     ConfineBits(usize, u32, u32),
 }
 
-/// Nodes, what is learnt of them, and the place of the one that is shown.
+/// A case.
 #[derive(Drop)]
 pub struct Case {
+    /// The nodes that are pushed to the pool, in order.
     pub nodes: Vec<Node>,
+    /// The steps that the facts of the pool take, in order.
     pub steps: Vec<Step>,
+    /// The place of the node that is shown.
     pub at: usize,
 }
 
-/// A number in decimal digits, or in hexadecimal ones after `0x`.
+/// A number in decimal digits, or after `0x` in hexadecimal ones; `None` of any other text.
 fn number(text: &str) -> Option<u32> {
     match text.strip_prefix("0x") {
         Some(digits) => u32::from_str_radix(digits, 16).ok(),
@@ -31,10 +34,12 @@ fn number(text: &str) -> Option<u32> {
     }
 }
 
+/// The place that a text names.
 fn place(text: &str) -> Option<usize> {
     text.parse::<usize>().ok()
 }
 
+/// The operation that a word names.
 fn op_of(word: &str) -> Option<BinOp> {
     match word {
         "add" => Some(BinOp::Add),
@@ -50,11 +55,13 @@ fn op_of(word: &str) -> Option<BinOp> {
     }
 }
 
+/// The node that a text names by its place.
 fn id(text: &str) -> Option<NodeId> {
     let place = text.parse::<u32>().ok()?;
     Some(NodeId(place))
 }
 
+/// The test that a word names.
 fn test_of(word: &str) -> Option<Test> {
     match word {
         "=" => Some(Test::Equal),
@@ -65,6 +72,7 @@ fn test_of(word: &str) -> Option<Test> {
     }
 }
 
+/// The node that words name: `const N`, `neg A`, or an operation and its two operands.
 fn node_of(words: &[&str]) -> Option<Node> {
     match words {
         ["const", c] => Some(Node::Const(number(c)?)),
@@ -74,6 +82,8 @@ fn node_of(words: &[&str]) -> Option<Node> {
     }
 }
 
+/// The step that words name: `word W from LOW to HIGH`, `word W bits MASK are VALUE`, or a test of two nodes and its
+/// result.
 fn step_of(words: &[&str]) -> Option<Step> {
     match words {
         ["word", w, "from", low, "to", high] => {
@@ -92,7 +102,7 @@ fn step_of(words: &[&str]) -> Option<Step> {
     }
 }
 
-/// The nodes that semicolons part.
+/// The nodes of a text, with semicolons between them; `None` where a part names no node.
 fn nodes_of(alloc: Global, text: &str) -> Result<Option<Vec<Node>>, AllocError> {
     let mut nodes = Vec::new(alloc);
     for part in text.split(';') {
@@ -107,7 +117,7 @@ fn nodes_of(alloc: Global, text: &str) -> Result<Option<Vec<Node>>, AllocError> 
     Ok(Some(nodes))
 }
 
-/// The steps that semicolons part.
+/// The steps of a text, with semicolons between them; `None` where a part names no step.
 fn steps_of(alloc: Global, text: &str) -> Result<Option<Vec<Step>>, AllocError> {
     let mut steps = Vec::new(alloc);
     for part in text.split(';') {
@@ -122,7 +132,7 @@ fn steps_of(alloc: Global, text: &str) -> Result<Option<Vec<Step>>, AllocError> 
     Ok(Some(steps))
 }
 
-/// The case of a line, or none where it isn't one.
+/// The case of a line; `None` where it isn't one.
 pub fn case_of(alloc: Global, line: &str) -> Result<Option<Case>, AllocError> {
     let parts: Vec<&str> = line.split('|').collect(alloc)?;
     let [nodes, steps, at] = parts.as_slice() else {

@@ -1,4 +1,4 @@
-//! What cases leave.
+//! Takes the steps of a case, and says what they leave.
 
 ghost use Rattle.std.specs.Prelude.{◌≡◌, IsTrue, IfOk, length};
 ghost use Rattle.sf_sym.specs.Pool.{OperandsBelow};
@@ -11,6 +11,7 @@ use sf_sym::{Cond, Node, NodeId, Pool};
 use std::alloc::Global;
 use std::test::Fail;
 
+/// Whether the operands of a node are in the pool.
 fn is_lawful(pool: &Pool, node: Node) -> bool
     ensures { IsTrue result → OperandsBelow (length pool.now) node }
 {
@@ -23,6 +24,7 @@ fn is_lawful(pool: &Pool, node: Node) -> bool
     }
 }
 
+/// The pool of the words and these nodes.
 fn pool_of(alloc: Global, nodes: &[Node]) -> Result<Pool, Fail> {
     let mut pool = Pool::new(alloc)?;
     for node in nodes {
@@ -34,7 +36,7 @@ fn pool_of(alloc: Global, nodes: &[Node]) -> Result<Pool, Fail> {
     Ok(pool)
 }
 
-/// Takes in a condition. What it leaves of a copy has to be the same.
+/// Takes in a condition: `false`: it contradicts. What it leaves of a copy of the facts has to be the same.
 fn learn(
     alloc: Global,
     facts: &mut Facts,
@@ -65,6 +67,7 @@ fn learn(
     }
 }
 
+/// Takes one step. `false`: it contradicts.
 fn take(alloc: Global, facts: &mut Facts, pool: &Pool, step: Step) -> Result<bool, Fail>
     requires { Covers facts.old pool.now }
     ensures { Covers facts.new pool.now }
@@ -88,7 +91,7 @@ fn take(alloc: Global, facts: &mut Facts, pool: &Pool, step: Step) -> Result<boo
     }
 }
 
-/// Takes steps until one contradicts. False: one did.
+/// Takes steps until one contradicts. `false`: one did.
 fn take_all(alloc: Global, facts: &mut Facts, pool: &Pool, steps: &[Step]) -> Result<bool, Fail>
     requires { Covers facts.old pool.now }
     ensures { Covers facts.new pool.now }
@@ -101,7 +104,8 @@ fn take_all(alloc: Global, facts: &mut Facts, pool: &Pool, steps: &[Step]) -> Re
     Ok(true)
 }
 
-/// Facts of the pool, which have to be those that facts of the words alone grow to, and those of a fork.
+/// The facts of the pool. Facts of only the words have to become the same when they take in the other nodes, and so has
+/// a fork.
 fn facts_of(alloc: Global, pool: &Pool) -> Result<Facts, Fail>
     ensures { IfOk result (λ facts. Covers facts pool.now) }
 {
@@ -138,7 +142,7 @@ fn told(alloc: Global, facts: &Facts, pool: &Pool, at: usize, taken: bool) -> Re
     Ok(text)
 }
 
-/// What the case leaves of the node that it shows. Steps after one that contradicts are left out.
+/// What is known of the node that the case shows, after its steps. Those after one that contradicts are not taken.
 pub fn look(alloc: Global, case: &Case) -> Result<String, Fail> {
     let pool = pool_of(alloc, &case.nodes)?;
     let mut facts = facts_of(alloc, &pool)?;

@@ -1,9 +1,9 @@
 //! Shows what facts know of symbolic words.
 //!
-//! Each line of standard input is a case: nodes that are pushed to a pool, steps that its facts take, and the place of the
-//! node that is shown, parted by bars. `const 255; and 0 16 | 17 > 16 false | 17` pushes the number 255 at place 16 and its AND
-//! with word 0 at place 17, learns that the AND isn't above 255, and shows the AND. A line that begins with `#` says what the
-//! next ones are about.
+//! Each line of standard input is a case. It has three parts, with bars between them: nodes that are pushed to a pool,
+//! steps that its facts take, and the place of the node that is shown. For example, `const 255; and 0 16 | 17 > 16
+//! false | 17` pushes the number 255 at place 16 and its AND with word 0 at place 17, learns that the AND isn't above
+//! 255, and shows the AND. A line that begins with `#` says what the next ones are about.
 #![tactic(auto)]
 
 mod cases;

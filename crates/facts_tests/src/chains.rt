@@ -1,11 +1,11 @@
-//! How far a run comes over tests that ask A for other numbers than the one that it has.
+//! Tests of `Program::behind_others`: which tests for other numbers than the one that A has are skipped.
 use samples::{op, raw, wrong_case};
 use sf_check::{Passed, Program, check};
 use sf_insn::RawInsn;
 use std::alloc::Global;
 use std::test::Fail;
 
-/// Asks for a number, and skips so many instructions where A is another.
+/// A test for a number, which skips this many instructions where A is another one.
 fn ask(number: u32, skips: u8) -> RawInsn {
     raw(0x15, 0, skips, number)
 }
@@ -16,7 +16,7 @@ fn program_of(alloc: Global, mut code: Vec<RawInsn>) -> Result<Program, Fail> {
     Ok(check(alloc, &code)?)
 }
 
-/// How many tests are passed from a place on, and up to which place.
+/// How many tests are skipped from a place on, and up to which place; `None` where the program has no such place.
 fn passed(program: &Program, place: usize, number: u32) -> Option<Passed> {
     if place < program.insns().len() {
         Some(program.behind_others(place, number))
@@ -25,7 +25,8 @@ fn passed(program: &Program, place: usize, number: u32) -> Option<Passed> {
     }
 }
 
-/// The place and the number of the first case in which other tests are passed than so many, or up to another place.
+/// The place and the number of the first case that is wrong: not as many tests are skipped as it says, or up to another
+/// place.
 fn wrong_chain(program: &Program, cases: &[(usize, u32, usize, usize)]) -> Option<(usize, u32)> {
     for (place, number, count, behind) in cases {
         let (count, behind) = (*count, *behind);
@@ -46,8 +47,9 @@ fn over_returns(alloc: Global) -> Result<Program, Fail> {
     program_of(alloc, code)
 }
 
-/// The test at place 0 asks for 100 and skips twelve. Those at the places 1 to 25 ask for the number of their place, and a
-/// return is at 26. So the tests at 0 and at 12 both fail to 13: it is in the chain of 0, in whose midst the other one ends.
+/// The test at place 0 asks for 100 and skips twelve. Those at the places 1 to 25 ask for the number of their place,
+/// and a return is at 26. So the tests at 0 and at 12 both lead to 13 where they fail. That place is in the chain of 0,
+/// and the other chain ends in the midst of it.
 fn meeting(alloc: Global) -> Result<Program, Fail> {
     let mut code = vec![in alloc; ask(100, 12); 1]?;
     for number in 1..26 {
@@ -146,7 +148,7 @@ fn tests_fail_far(rt: HostRuntime) -> Result<(), Fail> {
     Ok(())
 }
 
-/// Whether the first of an instruction and a return is a test of equality.
+/// Whether an instruction, in a program with a return behind it, is a test of equality.
 fn is_equal_test(alloc: Global, insn: RawInsn) -> Option<bool> {
     let program = check(alloc, &[insn, op(0x06, 0)]).ok()?;
     Some(program.insns().first()?.equal_test().is_some())

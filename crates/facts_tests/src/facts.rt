@@ -1,4 +1,4 @@
-//! Facts. What steps leave of a node stands among the cases of `facts_run`.
+//! Tests of facts. What steps leave of a node is tried by the cases of `facts_run`.
 
 ghost use Rattle.std.specs.Prelude.{All, IfSome, length};
 ghost use Rattle.sf_sym.specs.Pool.{IsCondBelow};
@@ -11,6 +11,7 @@ use sf_sym::{Cond, Node, NodeId, Pool};
 use std::alloc::Global;
 use std::test::Fail;
 
+/// The first word.
 const FIRST: NodeId = NodeId(0);
 
 /// A pool with the number 9, and the condition that the test of the first word against it has this sense.
@@ -28,19 +29,21 @@ fn against_nine(alloc: Global, test: Test, sense: bool) -> Option<(Pool, Cond)>
     Some((pool, cond))
 }
 
+/// The facts of a pool where no condition is set.
 fn new_facts(alloc: Global, pool: &Pool) -> Option<Facts>
     ensures { IfSome result (λ facts. Covers facts pool.now) }
 {
     Facts::new(alloc, pool).ok()
 }
 
-/// What conditions leave: none where no input meets them.
+/// The facts where these conditions are met; `None`: no input meets them.
 fn facts_of(alloc: Global, pool: &Pool, conds: &[Cond]) -> Result<Option<Facts>, sf_dom::Fault>
     requires { All (IsCondBelow (length pool.now)) conds.now }
 {
     Facts::of(alloc, pool, conds)
 }
 
+/// The facts with a condition taken in, as a copy.
 fn learnt(alloc: Global, facts: &Facts, pool: &Pool, cond: &Cond) -> Option<Facts>
     requires covers { Covers facts.now pool.now }
     requires below { IsCondBelow (length pool.now) cond.now }
@@ -48,6 +51,7 @@ fn learnt(alloc: Global, facts: &Facts, pool: &Pool, cond: &Cond) -> Option<Fact
     facts.learnt(alloc, pool, cond).ok()?
 }
 
+/// Whether facts take a condition in.
 fn learn(alloc: Global, facts: &mut Facts, pool: &Pool, cond: &Cond) -> Option<bool>
     requires covers { Covers facts.old pool.now }
     requires below { IsCondBelow (length pool.now) cond.now }
@@ -55,15 +59,17 @@ fn learn(alloc: Global, facts: &mut Facts, pool: &Pool, cond: &Cond) -> Option<b
     facts.learn(alloc, pool, cond).ok()
 }
 
+/// A copy of facts.
 fn fork(facts: &Facts) -> Option<Facts> {
     facts.fork().ok()
 }
 
+/// The least number of the first word.
 fn least_first(facts: &Facts) -> Option<u32> {
     facts.least(0)
 }
 
-/// What is known where the first word is above 9: from the condition, and learnt.
+/// The facts where the first word is above 9: made from the condition, and learnt.
 fn above_nine(alloc: Global) -> Option<(Facts, Facts)> {
     let (pool, above) = against_nine(alloc, Test::Greater, true)?;
     let of_one = facts_of(alloc, &pool, &[above]).ok()??;
@@ -79,7 +85,7 @@ fn facts_of_conditions_are_those_learnt(rt: HostRuntime) -> Result<(), Fail> {
     Ok(())
 }
 
-/// Whether the first word may be above 9 and equal to it.
+/// Whether there are facts where the first word is above 9 and equal to 9.
 fn has_both(alloc: Global) -> Option<bool> {
     let (pool, above) = against_nine(alloc, Test::Greater, true)?;
     let equal = Cond {
@@ -95,7 +101,8 @@ fn conditions_that_no_input_meets_have_no_facts(rt: HostRuntime) {
     assert_eq!(rt; has_both(rt.alloc()), Some(false));
 }
 
-/// Whether facts are equal to a fork, whether they take in that the first word isn't 9, and whether they are equal then.
+/// Whether facts are equal to a fork, whether they take in that the first word isn't 9, and whether they are equal to
+/// the fork afterwards.
 fn told_of_fork(alloc: Global) -> Option<[bool; 3]> {
     let (pool, other_than_nine) = against_nine(alloc, Test::Equal, false)?;
     let mut facts = new_facts(alloc, &pool)?;
@@ -110,10 +117,12 @@ fn forks_are_equal_until_one_learns(rt: HostRuntime) {
     assert_eq!(rt; told_of_fork(rt.alloc()), Some([true, true, false]));
 }
 
+/// Whether facts take in the nodes that a pool has gained.
 fn grow(alloc: Global, facts: &mut Facts, pool: &Pool) -> Option<bool> {
     facts.grow(alloc, pool).ok()
 }
 
+/// The number of a node of a pool, where its interval has only one.
 fn decided(facts: &Facts, pool: &Pool, node: NodeId) -> Option<u32>
     requires { Covers facts.now pool.now }
 {
@@ -124,8 +133,8 @@ fn decided(facts: &Facts, pool: &Pool, node: NodeId) -> Option<u32>
     }
 }
 
-/// Facts of the words alone that grow with a word AND 0, once and once more: whether they may each time, and whether they are
-/// the facts of the pool each time. And what that node is.
+/// Facts of only the words take in a word AND 0, and then nothing more. The result says of each time whether they do,
+/// and whether they are then the facts of the pool; and which number the AND has.
 fn grown_twice(alloc: Global) -> Option<([bool; 4], Option<u32>)> {
     let mut pool = new_pool(alloc)?;
     let mut facts = new_facts(alloc, &pool)?;

@@ -1,4 +1,4 @@
-//! Bytes, fields and words.
+//! Tests of instructions and inputs as bytes and fields, and of operations and tests.
 use samples::{execve_refused, wrong_case};
 use sf_insn::{BinOp, Fault, RawInsn, Test, bytes_of_input, decode, encode, input_of_bytes};
 use std::alloc::Global;
@@ -16,13 +16,13 @@ fn decoded(alloc: Global, bytes: &[u8]) -> Result<Vec<RawInsn>, Fault> {
     decode(alloc, bytes)
 }
 
-/// How many instructions are read of so many bytes 0.
+/// How many instructions are read from this many bytes 0.
 fn read_of_zeros(alloc: Global, length: usize) -> Result<usize, Fault> {
     let zeros = vec![in alloc; 0u8; length]?;
     Ok(decoded(alloc, &zeros)?.len())
 }
 
-/// How many bytes are written of so many instructions.
+/// How many bytes this many instructions are written as.
 fn written_of(alloc: Global, count: usize) -> Result<usize, Fault> {
     let test = RawInsn {
         code: 0x15,

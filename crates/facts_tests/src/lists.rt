@@ -1,8 +1,9 @@
-//! Lists with shared blocks.
+//! Tests of lists with shared blocks.
 use sf_blocks::shared::SharedList;
 use std::alloc::{AllocError, Global};
 use std::test::Fail;
 
+/// The list of the numbers below n.
 fn counted(alloc: Global, n: u32) -> Result<SharedList<u32, 4>, AllocError> {
     let mut list = SharedList::new(alloc)?;
     for i in 0..n {
@@ -11,7 +12,7 @@ fn counted(alloc: Global, n: u32) -> Result<SharedList<u32, 4>, AllocError> {
     Ok(list)
 }
 
-/// Whether the list has the number of each place there, up to so many.
+/// Whether the list has at each place below n the number of the place.
 fn counts_up(list: &SharedList<u32, 4>, n: u32) -> bool {
     for i in 0..n {
         if i as usize >= list.len() || list.get(i as usize) != i {
@@ -21,7 +22,7 @@ fn counts_up(list: &SharedList<u32, 4>, n: u32) -> bool {
     true
 }
 
-/// A fork that grows leaves the list alone, and both have what they had.
+/// Whether a fork that gets one more element leaves the list as it was, and both keep what they had.
 fn forks_at(alloc: Global, n: u32) -> Result<bool, AllocError> {
     let list = counted(alloc, n)?;
     let mut copy = list.fork()?;

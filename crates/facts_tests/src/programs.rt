@@ -1,10 +1,11 @@
-//! Which programs and stacks are lawful.
+//! Tests of which programs and stacks are lawful, plain and the same.
 use samples::{ALLOW, negating, op, raw, unset_scratch, wrong_case};
 use sf_check::{Fault, Insn, Program, Stack, check};
 use sf_insn::RawInsn;
 use std::alloc::Global;
 use std::test::Fail;
 
+/// The program of these instructions.
 fn checked(alloc: Global, raws: &[RawInsn]) -> Result<Program, Fault> {
     check(alloc, raws)
 }
@@ -57,7 +58,7 @@ fn refuses_loads_that_a_path_has_not_set_and_targets_outside(rt: HostRuntime) {
     assert_eq!(rt; wrong_case(&cases), None);
 }
 
-/// How many instructions a program of so many returns has.
+/// How many instructions a program of this many returns has.
 fn returns(alloc: Global, count: usize) -> Result<usize, Fault> {
     let raws = vec![in alloc; op(0x06, 0); count]?;
     Ok(checked(alloc, &raws)?.insns().len())
@@ -116,7 +117,7 @@ fn programs_are_the_same_whatever_stands_in_unused_fields(rt: HostRuntime) {
     assert_eq!(rt; wrong_case(&cases), None);
 }
 
-/// A stack of so many programs of so many negations, and one more with a number of its own.
+/// A stack of `count` programs with `negations` negations each, and of one more with `newest` negations.
 fn stack_with(
     alloc: Global,
     count: usize,
@@ -131,7 +132,7 @@ fn stack_with(
     Stack::of(programs)
 }
 
-/// The path length and how many programs there are.
+/// The path length of such a stack, and how many programs it has.
 fn sizes(
     alloc: Global,
     count: usize,
@@ -163,7 +164,8 @@ fn stacks_have_1_to_64_programs_and_paths_of_at_most_32768(rt: HostRuntime) {
     assert!(rt; Stack::of(Vec::new(alloc)).err() == Some(Fault::NoFilter));
 }
 
-/// Whether 64 programs `ret 0x7fff0000`, and so many, the last with so many negations, are the same stack.
+/// Whether a stack of 64 programs `ret 0x7fff0000` is the same as one of `count` such programs and one more with
+/// `newest` negations.
 fn is_64_returns(alloc: Global, count: usize, newest: usize) -> Result<bool, Fault> {
     let returns = stack_with(alloc, 63, 0, 0)?;
     Ok(returns.is_same(&stack_with(alloc, count, 0, newest)?))

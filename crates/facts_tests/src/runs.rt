@@ -1,4 +1,4 @@
-//! What a program returns, and what a stack meets and answers.
+//! Tests of what a program returns, and of what a stack meets and answers.
 use samples::{eight_divided, execve_refused, op, shifted, stack_of, telling_apart, wrong_case};
 use sf_check::{Program, Stack, check};
 use sf_insn::{Input, RawInsn};
@@ -6,7 +6,7 @@ use sf_run::{Action, Answer, answer, fold, run, trace, walk};
 use std::alloc::Global;
 use std::test::Fail;
 
-/// The input with these words at the places 0, 1 and 4, and else zeros.
+/// The input with these words at the places 0, 1 and 4, and zeros at all others.
 fn input_of(nr: u32, arch: u32, argument: u32) -> Input {
     Input {
         words: [nr, arch, 0, 0, argument, 0, 0, 0, 0, 0, 0, 0, 0, 0, 0, 0],
@@ -15,6 +15,7 @@ fn input_of(nr: u32, arch: u32, argument: u32) -> Input {
 
 const ZEROS: Input = Input { words: [0; 16] };
 
+/// The program of these instructions.
 fn program_of(alloc: Global, raws: &[RawInsn]) -> Option<Program> {
     check(alloc, raws).ok()
 }
@@ -62,7 +63,7 @@ fn met(alloc: Global, stack: &Stack, input: &Input) -> Option<Vec<bool>> {
     trace(alloc, stack, input).ok()
 }
 
-/// How many truth values there are, and the last 64 of them as a number, whose lowest bit is the last one.
+/// How many truth values there are, and the last 64 of them as a number: its lowest bit is the last one.
 fn as_number(met: &[bool]) -> (usize, u64) {
     let mut number = 0u64;
     for entry in met {
@@ -199,13 +200,13 @@ fn the_longest_program_meets_each_of_its_tests(rt: HostRuntime) -> Result<(), Fa
     Ok(())
 }
 
-/// What so many programs like this one meet, one after the other, on the number 4000.
+/// What a stack of seven programs like this one meets on the number 4000.
 fn met_by_several(alloc: Global, raws: &[RawInsn]) -> Option<Vec<bool>> {
     let stack = stack_of(alloc, &[raws; 7]).ok()?;
     met(alloc, &stack, &input_of(4000, 0, 0))
 }
 
-/// As many of the longest programs as a path has room for.
+/// A path has room for seven of the longest programs.
 #[test]
 fn a_trace_has_the_tests_of_seven_of_the_longest_programs(rt: HostRuntime) -> Result<(), Fail> {
     let raws = telling_apart(rt.alloc(), 4094)?;

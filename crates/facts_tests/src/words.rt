@@ -1,4 +1,4 @@
-//! Pools of symbolic words.
+//! Tests of pools of symbolic words.
 
 ghost use Rattle.std.specs.Prelude.{IsTrue};
 ghost use Rattle.sf_sym.specs.Pool.{OperandsBelow};
@@ -14,7 +14,7 @@ const SECOND: NodeId = NodeId(1);
 
 const SUM: Node = Node::Bin(BinOp::Add, FIRST, SECOND);
 
-/// Whether the operands of a node are among so many nodes.
+/// Whether the operands of a node are among this many nodes.
 fn is_lawful(count: usize, node: Node) -> bool
     ensures { IsTrue result → OperandsBelow count node }
 {
@@ -26,7 +26,7 @@ fn is_lawful(count: usize, node: Node) -> bool
     }
 }
 
-/// Where the node stands, if its operands are there.
+/// Pushes a node, and gives its place; `None` where its operands are not in the pool.
 pub fn push(pool: &mut Pool, node: Node) -> Option<NodeId> {
     if is_lawful(pool.len(), node) {
         pool.push(node).ok()
@@ -35,6 +35,7 @@ pub fn push(pool: &mut Pool, node: Node) -> Option<NodeId> {
     }
 }
 
+/// The pool of the sixteen words.
 pub fn new_pool(alloc: Global) -> Option<Pool> {
     Pool::new(alloc).ok()
 }
@@ -80,7 +81,8 @@ fn an_operation_on_constants_is_the_constant_of_its_value(rt: HostRuntime) {
     assert_eq!(rt; wrong_case(&cases), None);
 }
 
-/// The nodes that two sums and then the sum the other way round become, and how many nodes there are then.
+/// The places of a sum that is pushed twice and of the sum with its operands swapped, and how many nodes there are
+/// then.
 fn three_sums(alloc: Global) -> Option<([NodeId; 3], usize)> {
     let mut pool = new_pool(alloc)?;
     let sum = push(&mut pool, SUM)?;
@@ -116,11 +118,13 @@ fn constants_are_found_among_many(rt: HostRuntime) {
     assert_eq!(rt; pushed_twice(rt.alloc(), 600), Some(616));
 }
 
+/// A copy of a pool.
 fn fork(pool: &Pool) -> Option<Pool> {
     pool.fork().ok()
 }
 
-/// Of a pool with the constants below a number: where a further one stands in a fork, and how many nodes the pool has then.
+/// A pool has the constants below a number, and a fork of it gets one more. Gives the place of that one, and how many
+/// nodes the pool has then.
 fn grown_fork(alloc: Global, count: u32, further: u32) -> Option<(NodeId, usize)> {
     let mut pool = new_pool(alloc)?;
     push_constants(&mut pool, count)?;
@@ -159,6 +163,7 @@ fn value_on_input(alloc: Global, node: Node) -> Option<u32> {
     value_at(alloc, &pool, id)
 }
 
+/// The value of a node of a pool on the words 100, 7 and then zeros.
 fn value_at(alloc: Global, pool: &Pool, id: NodeId) -> Option<u32> {
     if (id.0 as usize) < pool.len() {
         pool.value(alloc, id, &INPUT).ok()

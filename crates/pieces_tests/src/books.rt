@@ -1,4 +1,4 @@
-//! Books, worked by hand.
+//! Tests of books, whose pieces are worked one by one.
 use samples::{echo_stack, emptied_late, execve_stack, op, other_text, stack_of};
 use sf_book::{Book, Counts, Fault, Settled};
 use sf_piece::{Piece, Work, advance, root};
@@ -7,19 +7,20 @@ use std::alloc::Global;
 use std::sync::Arc;
 use std::test::Fail;
 
-/// Leases the first free piece and works it.
+/// Leases the first piece that isn't leased, and works it: the lease's id, and the work.
 fn worked(alloc: Global, book: &mut Book) -> Result<(u64, Work), Fail> {
     let lease = book.lease()?.ok_or("nothing to lease")?;
     Ok((lease.id, advance(alloc, &lease.piece)?))
 }
 
-/// Commits the first free piece's work, which splits it.
+/// Commits the work of the first piece that isn't leased, which splits it: the ids of its children.
 fn split_first(alloc: Global, book: &mut Book) -> Result<(u64, u64), Fail> {
     let (id, work) = worked(alloc, book)?;
     let ids = book.commit(id, work)?.ok_or("no split")?;
     Ok(ids)
 }
 
+/// The counts of a book.
 fn counts(left: usize, settled: usize, emptied: usize, splits: u32, commits: u32) -> Counts {
     Counts {
         left,
@@ -120,7 +121,7 @@ fn an_unknown_id_given_back_changes_nothing(rt: HostRuntime) -> Result<(), Fail>
     Ok(())
 }
 
-/// Works a book off, one piece after the other.
+/// Works the pieces of a book, one after the other, until none is left.
 fn work_off(alloc: Global, book: &mut Book) -> Result<(), Fail> {
     for _ in 0..100 {
         let Some(lease) = book.lease()? else {
@@ -135,6 +136,7 @@ fn work_off(alloc: Global, book: &mut Book) -> Result<(), Fail> {
     Ok(())
 }
 
+/// Whether the region at a place has this name and this answer.
 fn is_region(settled: &Settled, i: usize, name: &[bool], action: Action, info: u16) -> bool {
     if i >= settled.region_count() {
         return false;
@@ -195,7 +197,7 @@ fn a_book_of_another_stack_is_not_closed(rt: HostRuntime) -> Result<(), Fail> {
     Ok(())
 }
 
-/// Splits each of the pieces that are free, and takes the children off lease.
+/// Splits each piece that isn't leased, and takes the leases of the children back.
 fn split_all(alloc: Global, book: &mut Book) -> Result<(), Fail> {
     let mut leases = Vec::new(alloc);
     for _ in 0..1000 {
@@ -212,7 +214,7 @@ fn split_all(alloc: Global, book: &mut Book) -> Result<(), Fail> {
     Ok(())
 }
 
-/// Whether so many pieces are leased one after the other in the order of their names, and then none.
+/// Whether n pieces are leased one after the other, in the order of their names, and then none.
 fn leases_in_name_order(book: &mut Book, n: usize) -> Result<bool, Fail> {
     let mut last: Option<Arc<Piece>> = None;
     for _ in 0..n {

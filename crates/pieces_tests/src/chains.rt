@@ -1,18 +1,18 @@
-//! Filters that ask A for one number after the other, where A has one number alone.
+//! Tests of filters that compare A with one number after the other, where A has only one number.
 use crate::regions::explored;
 use samples::{op, raw, stack_of};
 use sf_insn::RawInsn;
 use std::alloc::Global;
 use std::test::Fail;
 
-/// The filter that loads this number, so far.
+/// The beginning of a filter: it loads this number.
 fn loading(alloc: Global, number: u32) -> Result<Vec<RawInsn>, Fail> {
     let mut code = Vec::new(alloc);
     code.push(op(0x00, number))?;
     Ok(code)
 }
 
-/// Asks for each of these numbers, and goes on to the next place whatever A is.
+/// Adds tests for each number from `from` up to `end`, without it. Each goes on to the next place whatever A is.
 fn ask(code: &mut Vec<RawInsn>, from: u32, end: u32) -> Result<(), Fail> {
     for number in from..end {
         code.push(raw(0x15, 0, 0, number))?;
@@ -20,7 +20,8 @@ fn ask(code: &mut Vec<RawInsn>, from: u32, end: u32) -> Result<(), Fail> {
     Ok(())
 }
 
-/// The names of the regions that a filter has once it returns 0 at its end, as a report shows them, one behind the other.
+/// The names of the regions of a filter, to which a return of 0 is added, as a report shows them, each with a full stop
+/// behind it.
 fn names(alloc: Global, mut code: Vec<RawInsn>) -> Result<String, Fail> {
     code.push(op(0x06, 0))?;
     let stack = stack_of(alloc, &[&code])?;
@@ -130,7 +131,7 @@ fn each_test_has_a_return_behind_it(rt: HostRuntime) -> Result<(), Fail> {
 
 #[test]
 fn a_chain_ends_in_the_midst_of_another(rt: HostRuntime) -> Result<(), Fail> {
-    // From a test for 50 that jumps to the chain of 1 to 9 where A is 50, and else behind it, to a chain of 10 to 20.
+    // A test for 50 leads to the chain of 1 to 9 where A is 50, and otherwise behind it, to a chain of 10 to 20.
     let alloc = rt.alloc();
     for (number, name) in [
         (50, "TFFFFFFFFFFFFFFFFFFFF."),

@@ -1,4 +1,4 @@
-//! What pieces know of their nodes.
+//! Tests of what pieces know of their nodes.
 
 ghost use Rattle.std.specs.Prelude.{length, IfOk, All};
 ghost use Rattle.sf_sym.specs.Pool.{IsCondBelow};
@@ -25,7 +25,7 @@ fn conds_of(alloc: Global, piece: &Piece) -> Result<Vec<Cond>, Fail>
     Ok(conds)
 }
 
-/// Whether the facts that the piece carries are those that its conditions give afresh.
+/// Whether the facts that the piece carries are those that are made of its conditions anew.
 fn carries_its_facts(alloc: Global, piece: &Piece) -> Result<bool, Fail> {
     let conds = conds_of(alloc, piece)?;
     match Facts::of(alloc, piece.pool(), conds.as_slice())? {
@@ -34,7 +34,7 @@ fn carries_its_facts(alloc: Global, piece: &Piece) -> Result<bool, Fail> {
     }
 }
 
-/// How many pieces of the stack carry other facts than their conditions give.
+/// How many pieces of the stack carry other facts than those that are made of their conditions.
 fn strays(alloc: Global, stack: &Arc<Stack>) -> Result<u64, Fail> {
     let mut strays = 0u64;
     let mut open: Vec<Arc<Piece>> = Vec::new(alloc);
@@ -69,11 +69,11 @@ fn carried_facts_are_those_built_afresh(rt: HostRuntime) -> Result<(), Fail> {
     Ok(())
 }
 
-/// Node 49 of the pools of `eight_divided`: the words are 0 to 15; then come 8, the 31 other numbers of one bit, of which
-/// a returned A may have each, and 0.
+/// The quotient is node 49 in the pools of `eight_divided`: the words are nodes 0 to 15; then come the number 8, the 31
+/// other numbers of one bit, since a returned A may have each bit, and the number 0.
 const QUOTIENT: NodeId = NodeId(49);
 
-/// What is known of word 4, and of the quotient once there is one.
+/// Writes what is known of word 4, and of the quotient where the pool has it.
 fn write_known(text: &mut String, piece: &Piece) -> Result<(), Fail> {
     let word = piece.facts().known(NodeId(4));
     write!(&mut *text, "{}-{}", word.low, word.high)?;
@@ -108,9 +108,10 @@ fn known_of_all(alloc: Global, stack: &Arc<Stack>) -> Result<String, Fail> {
     Ok(text)
 }
 
-/// Word 4 is anything at first. Where it isn't 0 it is at least 1, and 8 divided by 1 to 2^32 - 1 is 0 to 8: the bits from 4 up are 0.
-/// Without bit 3 it is 0 to 7, with it 8. Without bit 2, 0 to 3 are left of 0 to 7, and with it 4 to 7, of which bit 2 is 1 then. Bit 1
-/// halves these again, and bit 0 leaves one number, of which each bit is known. The last piece is that in which word 4 is 0.
+/// At first word 4 may be any number. Where it isn't 0, it is at least 1, and the quotient, 8 divided by 1 to 2^32 - 1,
+/// is 0 to 8: its bits from 4 up are 0. Without bit 3 the quotient is 0 to 7, and with it 8. Of 0 to 7, without bit 2
+/// there are left 0 to 3, and with it 4 to 7, in which bit 2 is 1. Bit 1 halves these again, and bit 0 leaves one
+/// number, of which each bit is known. In the last piece word 4 is 0.
 const KNOWN: &str = "0-4294967295;1-4294967295;\
     1-4294967295 0-7 fffffff8 00000000;1-4294967295 0-3 fffffffc 00000000;\
     1-4294967295 0-1 fffffffe 00000000;1-4294967295 0-0 ffffffff 00000000;\

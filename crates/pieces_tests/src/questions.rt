@@ -1,5 +1,5 @@
-//! What a question keeps. Why one is refused, and what regions tell of it, stands among the command lines of
-//! `command_run`.
+//! Tests of what a question keeps. Why a question is refused, and what its replies are, is tried by the command lines
+//! of `command_run`.
 use samples::other_text;
 use sf_ask::{ActionSet, Fault, Question};
 use sf_run::Action;

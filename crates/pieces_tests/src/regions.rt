@@ -1,4 +1,5 @@
-//! Pieces and works of small stacks. What audits of such stacks find stands among the command lines of `command_run`.
+//! Tests of pieces and works of small stacks. What audits of such stacks find is tried by the command lines of
+//! `command_run`.
 use samples::{eight_divided, emptied_late, execve_refused, stack_of, x32_refused};
 use sf_check::Stack;
 use sf_insn::Input;
@@ -8,8 +9,8 @@ use std::alloc::Global;
 use std::sync::Arc;
 use std::test::Fail;
 
-/// The whole names and answers of the regions, in name order: works piece after piece, the first name first, until none
-/// is left or so many were worked. A work that doesn't settle tells no name.
+/// The whole names and the answers of the regions, in name order. It works piece after piece, the first name first,
+/// until none is left or `most` were worked. A work that doesn't settle has to give no name.
 pub(crate) fn explored(
     alloc: Global,
     stack: &Arc<Stack>,

@@ -1,4 +1,4 @@
-//! Small filters, whose runs are worked by hand.
+//! Small filters, whose runs were worked out by hand.
 use crate::insns::{ALLOW, op, raw};
 use sf_insn::RawInsn;
 
@@ -26,7 +26,8 @@ pub fn x32_refused() -> [RawInsn; 4] {
     ]
 }
 
-/// Returns 8 divided by word 4: `ld [16]; tax; ld #8; div x; ret a`. A region for each quotient, and one for the word 0.
+/// Returns 8 divided by word 4: `ld [16]; tax; ld #8; div x; ret a`. There is a region for each quotient, and one where
+/// the word is 0.
 pub fn eight_divided() -> [RawInsn; 5] {
     [
         op(0x20, 16),
@@ -37,18 +38,18 @@ pub fn eight_divided() -> [RawInsn; 5] {
     ]
 }
 
-/// Returns 1 shifted by 40, which is by 8: `ld #1; ldx #40; lsh x; ret a`.
+/// Returns 1 shifted by 40, which shifts by 40 modulo 32, so by 8: `ld #1; ldx #40; lsh x; ret a`.
 pub fn shifted() -> [RawInsn; 4] {
     [op(0x00, 1), op(0x01, 40), op(0x6c, 0), op(0x16, 0)]
 }
 
-/// Returns the bits of word 4 that the mask has, of its low half, as the data of ERRNO:
-/// `ld [16]; and #mask; or #0x50000; ret a`.
+/// Returns ERRNO, whose data is those bits of word 4 that the mask has: `ld [16]; and #mask; or #0x50000; ret a`. The
+/// mask lies within the low 16 bits.
 pub fn low_bits(mask: u32) -> [RawInsn; 4] {
     [op(0x20, 16), op(0x54, mask), op(0x44, 0x50000), op(0x16, 0)]
 }
 
-/// Returns the first word: `ld [0]; ret a`. One region for each of its 2^32 values.
+/// Returns the first word: `ld [0]; ret a`. There is a region for each of its 2^32 values.
 pub fn echo() -> [RawInsn; 2] {
     [op(0x20, 0), op(0x16, 0)]
 }
@@ -64,8 +65,8 @@ pub fn any_bit(bits: u32) -> [RawInsn; 4] {
     ]
 }
 
-/// The second test has one way left after the first:
-/// `ld [0]; jge 100 0 3; jge 50 1 0; ret 0; ret 0x7fff0000; ret 0x00050001`.
+/// After the first test only one result of the second is possible: `ld [0]; jge 100 0 3; jge 50 1 0; ret 0; ret
+/// 0x7fff0000; ret 0x00050001`.
 pub fn nested() -> [RawInsn; 6] {
     [
         op(0x20, 0),
@@ -77,8 +78,8 @@ pub fn nested() -> [RawInsn; 6] {
     ]
 }
 
-/// The last of four tests has one way left, since a word below 3 is 0, 1 or 2:
-/// `ld [0]; jgt 2 4 0; jeq 0 3 0; jeq 1 2 0; jeq 2 1 0; ret 0x80000000; ret 0x7fff0000`.
+/// After three of four tests only one result of the last is possible, since a word below 3 is 0, 1 or 2: `ld [0]; jgt 2
+/// 4 0; jeq 0 3 0; jeq 1 2 0; jeq 2 1 0; ret 0x80000000; ret 0x7fff0000`.
 pub fn four_tests() -> [RawInsn; 7] {
     [
         op(0x20, 0),
@@ -91,8 +92,8 @@ pub fn four_tests() -> [RawInsn; 7] {
     ]
 }
 
-/// One way of its tests has no input, being not above 101 and yet at least 102, which `or #0` hides at first:
-/// `ld [12]; jgt 101 0 0; or #0; jge 102 0 1; jgt 104 0 0; ret 0x80010000`.
+/// One combination of results of its tests belongs to no input: a word that is not above 101, but at least 102. The `or
+/// #0` hides that at first: `ld [12]; jgt 101 0 0; or #0; jge 102 0 1; jgt 104 0 0; ret 0x80010000`.
 pub fn emptied_late() -> [RawInsn; 6] {
     [
         op(0x20, 12),

@@ -9,11 +9,12 @@ pub const ALLOW: RawInsn = RawInsn {
     k: 0x7fff0000,
 };
 
+/// An instruction with these fields.
 pub fn raw(code: u16, jt: u8, jf: u8, k: u32) -> RawInsn {
     RawInsn { code, jt, jf, k }
 }
 
-/// An instruction with nothing in its two fields for jumps.
+/// An instruction whose two fields for jumps are 0.
 pub fn op(code: u16, k: u32) -> RawInsn {
     raw(code, 0, 0, k)
 }

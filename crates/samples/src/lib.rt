@@ -1,4 +1,4 @@
-//! Filters, stacks, and looks at texts and cases, that the tests of several crates share.
+//! What the tests of several crates share: filters, stacks, and functions that compare texts and cases.
 #![tactic(auto)]
 
 mod cases;

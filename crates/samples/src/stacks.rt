@@ -14,12 +14,12 @@ pub fn stack_of(alloc: Global, filters: &[&[RawInsn]]) -> Result<Arc<Stack>, Fau
     Ok(Arc::new(alloc, Stack::of(programs)?)?)
 }
 
-/// The stack of `execve_refused` alone.
+/// The stack that has only `execve_refused`.
 pub fn execve_stack(alloc: Global) -> Result<Arc<Stack>, Fault> {
     stack_of(alloc, &[&execve_refused()])
 }
 
-/// The stack of `echo` alone.
+/// The stack that has only `echo`.
 pub fn echo_stack(alloc: Global) -> Result<Arc<Stack>, Fault> {
     stack_of(alloc, &[&echo()])
 }

@@ -1,8 +1,8 @@
-//! Texts of what is displayed.
+//! What values are displayed as.
 use std::alloc::{AllocError, Global};
 use std::fmt::Display;
 
-/// The first text that isn't the one beside its value. `None` where each is.
+/// The text of the first value that is displayed otherwise than the text beside it says; `None` where there is none.
 pub fn other_text<T: Display>(
     alloc: Global,
     cases: &[(T, &str)],

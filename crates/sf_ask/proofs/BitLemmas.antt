@@ -28,19 +28,19 @@ bits-more words p q long low =
     ∙ ap (λ x. bit_at (slice_index words x) (p % 64)) (sym same) ∙ sym t)
     (λ other. ap (λ x. bit_at x (p % 64)) (get_or-set_other words w (p / 64) m 0 other) ∙ sym t)))
 
--- a question whose bit was set
+-- a question has its bit after it was set
 pub set-here : (n : ℕ) (before after : List ℕ) → ((p : ℕ) → bit_of after p ≡ (if p == n then 1 else bit_of before p))
     → has_bit after n ≡ true
 set-here n before after h = let t : (if n == n then 1 else bit_of before n) ≡ 1 = grind (arith, nat_tests) in
     ap (λ x. x == 1) (h n ∙ t)
 
--- the others keep their bits
+-- the other questions keep their bits
 pub set-else : (n : ℕ) (before after : List ℕ) → ((p : ℕ) → bit_of after p ≡ (if p == n then 1 else bit_of before p))
     → (q : ℕ) → q ≢ n → has_bit after q ≡ has_bit before q
 set-else n before after h q ne = let t : (if q == n then 1 else bit_of before q) ≡ bit_of before q =
     grind (arith, nat_tests) in ap (λ x. x == 1) (h q ∙ t)
 
--- a question without its bit had none before one was set
+-- a question that lacks its bit lacked it before another one was set
 pub unset-before : (n : ℕ) (before after : List ℕ)
     → ((p : ℕ) → bit_of after p ≡ (if p == n then 1 else bit_of before p))
     → (q : ℕ) → has_bit after q ≡ false → has_bit before q ≡ false
@@ -60,12 +60,12 @@ pub apart : (first second : List ℕ) (q : ℕ)
 apart first second q none set =
     apart-at (slice_index first (q / 64)) (slice_index second (q / 64)) (q % 64) none set
 
--- a bit that is set only where it isn't
+-- a truth value that is false where it is true is false
 pub never-set : (b : Bool) → (b ≡ true → b ≡ false) → b ≡ false
 never-set true h = h refl
 never-set false h = refl
 
--- what holds of each question whose bit isn't set, with one question more
+-- what holds of the questions below n whose bit isn't set, with the question n
 pub clear-more : (P : ℕ → Type 0) (n : ℕ) (before after : List ℕ)
     → ((q : ℕ) → q < n → has_bit before q ≡ false → P q) → (has_bit after n ≡ false → P n)
     → ((q : ℕ) → q ≢ n → has_bit after q ≡ has_bit before q)

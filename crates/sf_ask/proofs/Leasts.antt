@@ -1,4 +1,4 @@
--- The input of the least numbers that facts leave.
+-- The input that has in each word the least number that facts leave for it.
 use Rattle.std.proofs.Common.{◌≡◌, ℕ, ◌+◌, ◌<◌, ◌≤◌, ◌^◌, List, length, get_or, set, arith, sym, subst, inl, inr, ◌∙◌, Some}
 use Rattle.std.specs.Prelude.{slice_index}
 use Rattle.std.proofs.lemmas.Bool.{cases_eq, cases_lt}
@@ -45,18 +45,18 @@ lows-all f words long small is = record { input = record { sixteen = long; each 
 
 -- ---- what it is
 
--- its numbers may be those of the words
+-- each number of the least input is one that its word may have
 pub least-admitted : (f : FactsView) (ns : List Node) (d : Input) → Covers f ns → IsLeastInput f d → (word : ℕ)
     → word < 16 → Admits (known_at f.known word) (slice_index d.words word)
 least-admitted f ns d covers h word w = rw (h.is word w) (low-left f ns word covers w).admitted
 
--- no input that agrees has less
+-- no input that agrees with the facts has a smaller number in any word
 pub least-below : (f : FactsView) (ns : List Node) (d other : Input) → Covers f ns → IsLeastInput f d
     → Agrees f ns other → (word : ℕ) → word < 16 → slice_index d.words word ≤ slice_index other.words word
 least-below f ns d other covers h agrees word w =
     rw (h.is word w) (agreeing-word f ns other word covers w agrees).admitted.above
 
--- over words and constants it agrees
+-- where a pool has only words and constants, the least input agrees with the facts
 pub least-agrees : (f : FactsView) (ns : List Node) (d : Input) → Covers f ns → ArePlainNodes ns
     → IsLeastInput f d → Agrees f ns d
 unfolding Agrees

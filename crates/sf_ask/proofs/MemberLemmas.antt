@@ -1,4 +1,4 @@
--- What conditions that are learnt once more tell of a piece's members.
+-- What a piece's conditions, learnt once more, tell of its members.
 use Rattle.std.proofs.Common.{◌≡◌, ℕ, ◌<◌, ◌≤◌, Bool, true, false, true≢false, Some, refl, sym, ◌∙◌}
 use Rattle.std.specs.Prelude.{slice_get, slice_index}
 use Rattle.sf_insn.specs.declared.input.Input.{Input}
@@ -33,7 +33,7 @@ meets p i c d there member = by (is_met p.pool d c) refl
     by true e = e
     by false e = absurd (true≢false (sym member ∙ not-met (is_met p.pool d) p.conditions i c there e))
 
--- where one of its conditions is learnt, the members agree still
+-- the members still agree with the facts after one of the piece's conditions is learnt
 pub still-covered : (p : PieceData) (f g : FactsView) (i : ℕ) (c : Cond) → CoverMembers p f
     → slice_get p.conditions i ≡ Some c → Covers g p.pool → KeepsInputs f g p.pool (λ d. is_met p.pool d c)
     → CoverMembers p g
@@ -51,7 +51,7 @@ least-member p d cover h m = record {
   least = λ other is inside. least-below p.facts p.pool d other cover.covers h (cover.agree other is inside);
 }
 
--- on a plain stack it is one
+-- on a plain stack the least input that the facts leave is the least member
 pub plain-least : (p : PieceData) (d : Input) → IsPlainPiece p → Covers p.facts p.pool → IsLeastInput p.facts d
     → is_member p d ≡ true
 plain-least p d exact covers h = exact.exact d h.input (least-agrees p.facts p.pool d covers exact.nodes h)

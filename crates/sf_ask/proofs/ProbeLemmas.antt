@@ -21,11 +21,11 @@ use Rattle.sf_ask.proofs.Words.{below-range, above-range}
 
 -- ---- one place after the other
 
--- what holds below a place, and at it
+-- what holds at each place below n, and at n, holds at each place below n + 1
 pub below-more : (P : ℕ → Type 0) (n : ℕ) → ((i : ℕ) → i < n → P i) → P n → (i : ℕ) → i < n + 1 → P i
 below-more P n before here i l = dite (ℕ_discrete i n) (λ e. subst P (sym e) here) (λ ne. before i (omega arith))
 
--- two readings of one place
+-- what is read twice at one place is the same
 pub same-place : {X : Type 0} (xs : List X) (i : ℕ) (x y : X) → slice_get xs i ≡ Some x
     → slice_get xs i ≡ Some y → x ≡ y
 same-place xs i x y one two = cc (one, two)
@@ -48,7 +48,7 @@ pub has-ordered : (before after : List Probe) (q : ℕ) → IsPermutation before
     → HasProbe after q
 has-ordered before after q same has = (has.0, Contains-permutation before after has.0 same has.1, has.2)
 
--- one probe more, of a question about one call
+-- with one probe more, of a question about one call
 pub one-call-more : (questions : List QuestionData) (n : ℕ) (by_call others : List Probe) (p : Probe)
     → p.question ≡ n → IsProbeIn questions p → has_one_call p ≡ true
     → AreProbes questions n by_call others → AreProbes questions (n + 1) (by_call ++ p ∷ []) others
@@ -64,7 +64,7 @@ one-call-more questions n by_call others p at is one h = record {
       ]);
 }
 
--- or of another question
+-- with one probe more, of another question
 pub other-more : (questions : List QuestionData) (n : ℕ) (by_call others : List Probe) (p : Probe)
     → p.question ≡ n → IsProbeIn questions p
     → AreProbes questions n by_call others → AreProbes questions (n + 1) by_call (others ++ p ∷ [])
@@ -80,7 +80,7 @@ other-more questions n by_call others p at is h = record {
       ]);
 }
 
--- those of questions about one call in another order
+-- with the probes of questions about one call in another order
 pub probes-ordered : (questions : List QuestionData) (n : ℕ) (before after others : List Probe)
     → IsPermutation before after → AreProbes questions n before others → AreProbes questions n after others
 probes-ordered questions n before after others same h = record {
@@ -120,7 +120,7 @@ found-between probes low high from to starts ends inside p there above below =
           ∙ ap (λ x. get_or probes x p) back ∙ there.2,
     )
 
--- and no others than stood there before
+-- between the places where two searches end stand only probes that stood there before
 pub stood-before : (probes : List Probe) (m to : ℕ) → to ≤ length probes → (p : Probe)
     → Contains (slice_range probes m to) p → Contains probes p
 stood-before probes m to inside p there =
@@ -145,12 +145,12 @@ none-in (suc (suc (suc (suc w)))) = refl
 pub none-set : (q : ℕ) → has_bit (0 ∷ 0 ∷ 0 ∷ 0 ∷ []) q ≡ false
 none-set q = ap (λ x. x == 1) (ap (λ x. bit_at x (q % 64)) (none-in (q / 64)) ∙ bit_at-zero (q % 64))
 
--- the bits of the questions below a place
+-- the bits of the questions below n that ask about an action
 abbrev pub AreAskersBelow : List QuestionData → Action → ℕ → List ℕ → Type 0
 AreAskersBelow questions action n bits = (q : ℕ) → q < n → (question : QuestionData)
     → slice_get questions q ≡ Some question → has_bit bits q ≡ has_action question.actions action
 
--- with one question more
+-- the bits of the questions that ask about an action, with one question more
 pub askers-more : (questions : List QuestionData) (action : Action) (n : ℕ) (x : QuestionData) (before after : List ℕ)
     → slice_get questions n ≡ Some x → has_bit after n ≡ has_action x.actions action
     → ((q : ℕ) → q ≢ n → has_bit after q ≡ has_bit before q) → AreAskersBelow questions action n before
@@ -184,7 +184,7 @@ marked-more P before after probes i d l less all here =
     (λ p. has_bit after p.question ≡ false → P p.question) (λ p h none. h (less p.question none)) (take i probes) all)
     here
 
--- a call's number that what is known of the first word leaves out
+-- a question about one call is ruled out where what is known of the first word leaves out the call's number
 pub call-misses : (f : FactsView) (questions : List QuestionData) (asked : List ℕ) (p : Probe) → IsProbeIn questions p
     → has_one_call p ≡ true → (p.low < (known_at f.known 0).low) ⊎ ((known_at f.known 0).high < p.low)
     → IsRuledOutIfAsked f questions asked p.question

@@ -45,13 +45,13 @@ not-met p cs i c there fails = list_all_at p cs i c (slice_get_within cs i c the
 abbrev MembersAgree : PieceData → FactsView → List Node → Type 0
 MembersAgree p f ns = (d : Input) → IsInput d → is_member p d ≡ true → Agrees f ns d
 
--- it is in the question
+-- the least input that confined facts leave is in the question
 pub least-inside : (q : QuestionData) (f g : FactsView) (ns : List Node) (d : Input)
     → AreConfined f g ns (IsInQuestion q) (IsNumberBefore q 16) → IsLeastInput g d → IsInQuestion q d
 least-inside q f g ns d a h = λ word w. a.numbers word (slice_index d.words word) w (h.input.each word)
     (least-admitted g ns d a.covers h word w) w
 
--- where the low input is a member, it is that
+-- where the low input is a member, it is the least input that confined facts leave
 pub low-is-least : (p : PieceData) (q : QuestionData) (f g : FactsView) (ns : List Node) (d low : Input)
     → MembersAgree p f ns
     → AreConfined f g ns (IsInQuestion q) (IsNumberBefore q 16) → IsLeastInput g d → IsInput low → IsLowInput q low
@@ -91,7 +91,7 @@ pub least-hit : (p : PieceData) (q : QuestionData) (f g : FactsView) (ns : List 
 least-hit p q f g ns d known a h other input member inside =
     least-below g ns d other a.covers h (a.keeps other input (known other input member) inside)
 
--- over words and constants the input of the least numbers is a member
+-- where a pool has only words and constants, the least input is a member
 pub exact-hit : (p : PieceData) (q : QuestionData) (g : FactsView) (d : Input) → IsPlainPiece p
     → AreConfined p.facts g p.pool (IsInQuestion q) (IsNumberBefore q 16) → IsLeastInput g d → is_member p d ≡ true
 exact-hit p q g d exact a h = exact.exact d h.input

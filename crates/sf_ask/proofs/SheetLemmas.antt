@@ -91,7 +91,7 @@ clear-ruled-out : (s : BookData) (questions : List QuestionData) (job q : ℕ) (
 clear-ruled-out s questions job q r x there right asking asked none =
     clear-is-right s questions job q x asking (region-right s job x r Clear there right asked none)
 
--- a question that doesn't ask about the region's action
+-- a question that doesn't ask about the region's action is clear
 pub clear-not-asked : (s : BookData) (questions : List QuestionData) (job q : ℕ) (r : RegionData) (asked : List ℕ)
     → slice_get s.regions job ≡ Some r → IsRightRegion s.stack r → q < length questions
     → AreAskers questions r.answer.action asked → has_bit asked q ≡ false → IsRightOn s questions job q Clear
@@ -99,7 +99,7 @@ clear-not-asked s questions job q r asked there right l askers none =
     let x = there-is questions q l in
     clear-unasked s questions job q r x.0 there right x.1 (sym (askers q x.0 x.1) ∙ none)
 
--- a question that is ruled out where it asks
+-- a question that is ruled out if it asks about the region's action is clear
 pub clear-if-asked : (s : BookData) (questions : List QuestionData) (job q : ℕ) (r : RegionData) (p : PieceData)
     (asked : List ℕ) → slice_get s.regions job ≡ Some r → IsRightRegion s.stack r → q < length questions
     → AreAskers questions r.answer.action asked → p ≡ r.piece

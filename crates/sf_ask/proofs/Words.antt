@@ -14,7 +14,7 @@ use Rattle.sf_ask.specs.Breaking.{IsNumberOf, IsInQuestion}
 use Rattle.sf_ask.specs.Searches.{NonePasses, WordIsInRange, WordHasBits, WordHasNumber, IsInBefore, IsRangeNumber, IsMaskNumber, IsWordNumber}
 use Rattle.sf_ask.specs.Trying.{AreConfined, IsNumberBefore}
 
--- what a call on the facts answers
+-- what the clauses of a call that restricts facts say together: the facts are confined, or no input passes
 pub confines : (b : Bool) (old new : FactsView) (ns : List Node) (met : Input → Bool) (may_have : ℕ → ℕ → Type 0)
     → MatchBool b (KeepsInputs old new ns met) (NoInput old ns met)
     → (b ≡ true → AreNarrower old new) → Covers new ns → (b ≡ true → KeepsOnly old new ns met)
@@ -36,12 +36,11 @@ narrower-refl f = record {
     high = omega arith;
     zeros = λ j. omega arith;
     ones = λ j. omega arith;
-    numbers = λ n a. a;
   };
   excluded = λ w m l k. k;
 }
 
--- facts that stay, where the fact holds of every input
+-- where every input passes, the facts are confined as they stand
 pub stays : (f : FactsView) (ns : List Node) (passes : Input → Type 0) (may_have : ℕ → ℕ → Type 0) → Covers f ns
     → ((d : Input) → IsInput d → passes d) → ((word n : ℕ) → word < 16 → n < 2 ^ 32 → may_have word n)
     → AreConfined f f ns passes may_have
@@ -53,7 +52,7 @@ stays f ns passes may_have of all any = record {
   numbers = λ word n w l a. any word n w l;
 }
 
--- facts that are confined again
+-- facts that are confined twice are confined by both
 pub again : (f g h : FactsView) (ns : List Node) (one two both : Input → Type 0)
     (first second may_have : ℕ → ℕ → Type 0)
     → Covers f ns
@@ -86,7 +85,7 @@ again f g h ns one two both first second may_have of a b to_one to_two to_both j
           (b.numbers word n w l m);
     }
 
--- no input passes both, where none that is left passes the second
+-- no input passes both, where none of those that passed the first passes the second
 pub none-again : (f g : FactsView) (ns : List Node) (one two both : Input → Type 0) (first : ℕ → ℕ → Type 0)
     → AreConfined f g ns one first → NonePasses g ns two → ((d : Input) → both d → one d)
     → ((d : Input) → both d → two d) → NonePasses f ns both
@@ -202,7 +201,7 @@ pub word-missed : (q : QuestionData) (at : ℕ) (f : FactsView) (ns : List Node)
     → NonePasses f ns (WordHasNumber q at)
 word-missed q at f ns none = λ d i agrees n. none d i agrees (number-lies q at d n)
 
--- what is known of a word rules out its range
+-- where all numbers that a word may have are below its range, the question is ruled out
 pub below-range : (q : QuestionData) (at : ℕ) (f : FactsView) (ns : List Node) → at < 16
     → (known_at f.known at).high < (range_at q at).0 → Covers f ns → NonePasses f ns (IsInQuestion q)
 below-range q at f ns l below covers = λ d i agrees inside.
@@ -246,7 +245,7 @@ pub before-missed : (q : QuestionData) (at : ℕ) (f g : FactsView) (ns : List N
 before-missed q at f g ns l a none = none-again f g ns (IsInBefore q at) (WordHasNumber q at) (IsInQuestion q)
     (IsNumberBefore q at) a none (λ d inside word early. inside word (omega arith)) (λ d inside. inside at l)
 
--- after the last word
+-- when the last word is confined, the facts are confined to the question
 pub before-all : (q : QuestionData) (at : ℕ) (f g : FactsView) (ns : List Node) → at ≡ 16
     → AreConfined f g ns (IsInBefore q at) (IsNumberBefore q at)
     → AreConfined f g ns (IsInQuestion q) (IsNumberBefore q 16)

@@ -1,4 +1,4 @@
--- What a search for a member of a piece tells, where no question is asked.
+-- What a search for a member of a piece finds, where no question is asked.
 use Rattle.std.specs.Prelude.{◌≡◌, ℕ, ◌<◌, ◌≤◌, true, false, slice_index}
 use Rattle.sf_insn.specs.declared.input.Input.{Input}
 use Rattle.sf_insn.specs.Inputs.{IsInput}
@@ -7,14 +7,14 @@ use Rattle.sf_piece.specs.Pieces.{PieceData, is_member, HasNoMember}
 use Rattle.sf_ask.specs.declared.members.Membership.{Membership}
 use Rattle.sf_ask.specs.declared.members.Membership.TheVariants.{Empty, Member, Doubt}
 
--- What was found is right: an empty piece has no member, an input that is told is one, and where there is a doubt an
--- input was tried that is none.
+-- What is found is right: a piece that is found empty has no member, an input that is found is a member, and where
+-- there is a doubt an input was tried that isn't one.
 abbrev pub IsRightMembership : PieceData → Membership → Type 0
 IsRightMembership p Empty = HasNoMember p
 IsRightMembership p (Member d) = IsInput d × (is_member p d ≡ true)
 IsRightMembership p Doubt = (d : Input) × IsInput d × (is_member p d ≡ false)
 
--- the least member of a piece: no member has a lesser number in any word
+-- the least member of a piece: no member has a smaller number in any word
 pub record IsLeastMember (p : PieceData) (d : Input) : Type 0 where
   pub input : IsInput d
   pub member : is_member p d ≡ true

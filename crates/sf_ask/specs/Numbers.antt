@@ -3,7 +3,7 @@ use Rattle.std.specs.Prelude.{ℕ}
 use Rattle.sf_ask.specs.declared.fault.Fault.{Fault}
 use Rattle.sf_ask.specs.declared.fault.Fault.TheVariants.{Name, Range, Mask, Actions, Memory}
 
--- what each refusal of a question is told by, and want of memory
+-- the number of each refusal of a question, and of refused memory
 abbrev pub fault_number : Fault → ℕ
 fault_number Name = 44
 fault_number Range = 42

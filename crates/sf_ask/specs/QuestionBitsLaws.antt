@@ -4,7 +4,7 @@ use Rattle.std.specs.Int.{bit_at}
 use Rattle.std.proofs.lemmas.Nat.Bits.{bit_at_ones}
 use Rattle.sf_ask.specs.QuestionBits.{bit_of}
 
--- each word of four is the same
+-- each of the four words is m
 four : (m w : ℕ) → w < 4 → slice_index (m ∷ m ∷ m ∷ m ∷ []) w ≡ m
 four m zero h = refl
 four m (suc zero) h = refl

@@ -1,4 +1,4 @@
--- What the search for a member in a question does, step by step: for the functions of this crate alone.
+-- What the search for a member in a question does, step by step, for contracts between functions of this crate.
 use Rattle.std.specs.Prelude.{◌≡◌, ℕ, ◌<◌, ◌≤◌, true, false, List, slice_index, bit_and}
 use Rattle.sf_insn.specs.declared.input.Input.{Input}
 use Rattle.sf_insn.specs.Inputs.{IsInput}
@@ -12,7 +12,7 @@ use Rattle.sf_ask.specs.Breaking.{IsNumberOf, IsInQuestion}
 use Rattle.sf_ask.specs.Trying.{IsTried}
 use Rattle.sf_ask.specs.Verdicts.{IsLowInput}
 
--- no input that agrees passes
+-- no input that agrees with the facts passes
 abbrev pub NonePasses : FactsView → List Node → (Input → Type 0) → Type 0
 NonePasses f ns passes = (d : Input) → IsInput d → Agrees f ns d → ¬ passes d
 
@@ -32,15 +32,15 @@ WordHasNumber q word d = IsNumberOf q word (slice_index d.words word)
 abbrev pub IsInBefore : QuestionData → ℕ → Input → Type 0
 IsInBefore q end d = (word : ℕ) → word < end → IsNumberOf q word (slice_index d.words word)
 
--- where the word is this one, the number lies in its range
+-- if the word is the one at this place, the number lies in its range
 abbrev pub IsRangeNumber : QuestionData → ℕ → ℕ → ℕ → Type 0
 IsRangeNumber q at word n = word ≡ at → ((range_at q at).0 ≤ n) × (n ≤ (range_at q at).1)
 
--- where the word is this one, the number has the bits of its mask
+-- if the word is the one at this place, the number has the bits of its mask
 abbrev pub IsMaskNumber : QuestionData → ℕ → ℕ → ℕ → Type 0
 IsMaskNumber q at word n = word ≡ at → bit_and n (mask_at q at).0 ≡ (mask_at q at).1
 
--- where the word is this one, the question lets it have the number
+-- if the word is the one at this place, the question lets it have the number
 abbrev pub IsWordNumber : QuestionData → ℕ → ℕ → ℕ → Type 0
 IsWordNumber q at word n = word ≡ at → IsNumberOf q at n
 

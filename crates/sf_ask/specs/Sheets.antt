@@ -46,11 +46,11 @@ is_clear_or_skipped (Some Clear) = true
 is_clear_or_skipped (Some (Hit d)) = false
 is_clear_or_skipped (Some Doubt) = false
 
--- a question that is clear where it is asked for
+-- a verdict that is clear on a question that is asked for, and none on another
 abbrev pub clear_if_wanted : List ℕ → ℕ → Option Verdict
 clear_if_wanted wanted q = if has_bit wanted q then Some Clear else None
 
--- so many of these, from the first question on
+-- these verdicts on the first n questions
 abbrev pub first_verdicts : List ℕ → ℕ → List (Option Verdict)
 first_verdicts wanted zero = []
 first_verdicts wanted (suc n) = first_verdicts wanted n ++ clear_if_wanted wanted n ∷ []

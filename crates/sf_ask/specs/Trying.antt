@@ -1,4 +1,5 @@
--- Which input is tried of a piece: the one of the least numbers that its facts, confined to the question, leave.
+-- Which input is tried of a piece: it has in each word the least number that the piece's facts, confined to the
+-- question, leave.
 use Rattle.std.specs.Prelude.{◌≡◌, ℕ, ◌<◌, ◌^◌, List, slice_index}
 use Rattle.sf_insn.specs.declared.input.Input.{Input}
 use Rattle.sf_insn.specs.Inputs.{IsInput}
@@ -9,8 +10,8 @@ use Rattle.sf_piece.specs.Pieces.{PieceData}
 use Rattle.sf_ask.specs.QuestionData.{QuestionData}
 use Rattle.sf_ask.specs.Breaking.{IsNumberOf, IsInQuestion}
 
--- facts are confined: of the inputs that agreed those that pass agree still, and what a word may have is kept to some
--- numbers
+-- facts are confined: of the inputs that agreed, those that pass agree still; and what is known leaves each word only
+-- numbers that it may have
 pub record AreConfined (old new : FactsView) (ns : List Node) (passes : Input → Type 0) (may_have : ℕ → ℕ
     → Type 0) : Type 0 where
   pub keeps : (d : Input) → IsInput d → Agrees old ns d → passes d → Agrees new ns d
@@ -23,12 +24,12 @@ pub record AreConfined (old new : FactsView) (ns : List Node) (passes : Input �
 abbrev pub IsNumberBefore : QuestionData → ℕ → ℕ → ℕ → Type 0
 IsNumberBefore q end word n = word < end → IsNumberOf q word n
 
--- the input of the least numbers that facts leave for the words
+-- the input that has in each word the least number that facts leave for it
 pub record IsLeastInput (f : FactsView) (d : Input) : Type 0 where
   pub input : IsInput d
   pub is : (word : ℕ) → word < 16 → slice_index d.words word ≡ (known_at f.known word).low
 
--- an input that is tried of a piece: that of the least numbers which the piece's facts, confined to the question, leave
+-- the input that is tried of a piece: the least one that the piece's facts, confined to the question, leave
 pub record IsTried (p : PieceData) (q : QuestionData) (d : Input) : Type 0 where
   pub facts : FactsView
   pub confined : AreConfined p.facts facts p.pool (IsInQuestion q) (IsNumberBefore q 16)

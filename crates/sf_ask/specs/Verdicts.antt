@@ -13,7 +13,7 @@ use Rattle.sf_ask.specs.QuestionData.{QuestionData}
 use Rattle.sf_ask.specs.Breaking.{IsNumberOf, IsInQuestion, Breaks}
 use Rattle.sf_ask.specs.Trying.{IsTried}
 
--- the input of the least numbers that the question leaves for each word
+-- the low input of a question: it has in each word the least number that the question leaves for it
 pub record IsLowInput (q : QuestionData) (d : Input) : Type 0 where
   pub inside : IsInQuestion q d
   pub least : (word n : ℕ) → word < 16 → IsNumberOf q word n → slice_index d.words word ≤ n

@@ -18,7 +18,7 @@ use sf_dom::Facts;
 use sf_sym::{NodeId, Pool};
 use std::alloc::Global;
 
-/// Whether what is known of a word rules out its range.
+/// Whether what is known of a word leaves no number of the question's range for it.
 fn misses(facts: &Facts, question: &Question, word: usize) -> bool
     requires word { word < 16 }
     requires known { 16 ≤ length facts.now.known }
@@ -33,7 +33,8 @@ fn misses(facts: &Facts, question: &Question, word: usize) -> bool
     known.high < low || high < known.low
 }
 
-/// Whether what is known of some word rules out its range: a look before anything is copied.
+/// Whether what is known of some word leaves no number of the question's range for it. Nothing is copied, so this is
+/// asked before the facts are confined.
 pub(crate) fn rules_out(facts: &Facts, question: &Question) -> bool
     requires { 16 ≤ length facts.now.known }
     ensures { result ≡ true → (pool : List ANode) → Covers facts.now pool
@@ -47,7 +48,7 @@ pub(crate) fn rules_out(facts: &Facts, question: &Question) -> bool
     false
 }
 
-/// Confines a word to its range. False: no input that agrees has it there.
+/// Confines a word to its range. False where no input that agrees with the facts has it there.
 fn confine_range(
     alloc: Global,
     facts: &mut Facts,
@@ -70,7 +71,7 @@ fn confine_range(
     Ok(facts.confine(alloc, pool, word, low, high)?)
 }
 
-/// Confines a word to the bits of its mask. False: no input that agrees has them.
+/// Confines a word to the bits of its mask. False where no input that agrees with the facts has them.
 fn confine_mask(
     alloc: Global,
     facts: &mut Facts,
@@ -93,7 +94,8 @@ fn confine_mask(
     Ok(facts.confine_bits(alloc, pool, word, mask, value)?)
 }
 
-/// Confines a word to the numbers that the question leaves for it. False: no input that agrees has one.
+/// Confines a word to the numbers that the question leaves for it. False where no input that agrees with the facts has
+/// one.
 fn confine_word(
     alloc: Global,
     facts: &mut Facts,
@@ -116,7 +118,7 @@ fn confine_word(
     Ok(kept)
 }
 
-/// The facts, confined to the question. None: no input that agrees is in it.
+/// The facts, confined to the question; none where no input that agrees with them is in it.
 pub(crate) fn confined(
     alloc: Global,
     facts: &Facts,

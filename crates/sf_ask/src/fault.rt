@@ -22,7 +22,7 @@ pub enum Fault {
     /// The set of actions is empty.
     #[error("no action is named")]
     Actions,
-    /// The allocator refused a growth.
+    /// An allocation was refused.
     #[error("out of memory")]
     Memory,
 }

@@ -24,7 +24,7 @@ use sf_piece::Piece;
 use sf_sym::Cond;
 use std::alloc::Global;
 
-/// The input that has in each word the least number that the facts leave for it, or none where they tell no least number.
+/// The input that has in each word the least number that the facts leave for it. None where they tell no least number.
 pub(crate) fn least_input(facts: &Facts) -> Option<Input>
     ensures { MatchOption result ⊥ (λ d. IsLeastInput facts.now d) }
 {
@@ -36,8 +36,8 @@ pub(crate) fn least_input(facts: &Facts) -> Option<Input>
     Some(Input { words })
 }
 
-/// Whether the input meets every condition, where these are on words and numbers alone, as most are: no other node is
-/// computed. None where one is on a computed word.
+/// Whether the input meets every condition; none where a condition is on a computed word. Most conditions are on words
+/// of the input and numbers only: no other node is computed for them.
 fn meets_leaves(piece: &Piece, input: &Input) -> Option<bool>
     ensures { IfSome result (λ b. b ≡ is_member piece.now input.now) }
 {
@@ -82,8 +82,10 @@ pub(crate) fn is_member_of(alloc: Global, piece: &Piece, input: &Input) -> Resul
     Ok(unmet.is_none())
 }
 
-/// Tries one input: it has in each word the least number that the piece's facts, confined to the question, leave for it,
-/// and it may be no member. Out of line, since most questions are ruled out before, and room is made for the facts here.
+/// Tries one input: the one that has in each word the least number that the piece's facts, confined to the question,
+/// leave for it. Where it isn't a member, the verdict is a doubt.
+///
+/// Not inlined: most questions are ruled out before, and only this function needs room for facts.
 #[inline(never)]
 fn try_least(alloc: Global, piece: &Piece, question: &Question) -> Result<Verdict, Fault>
     ensures right { IfOk result (IsRightSearch piece.now question.now) }
@@ -104,7 +106,8 @@ fn try_least(alloc: Global, piece: &Piece, question: &Question) -> Result<Verdic
     Ok(Verdict::Hit(input))
 }
 
-/// Looks for a member of the piece that is in the question: one input is tried where the facts don't rule it out at once.
+/// Looks for a member of the piece that is in the question: unless the facts rule the question out at once, one input
+/// is tried.
 fn search(alloc: Global, piece: &Piece, question: &Question) -> Result<Verdict, Fault>
     ensures right { IfOk result (IsRightSearch piece.now question.now) }
     ensures tried { IfOk result (TellsTried piece.now question.now) }
@@ -123,8 +126,8 @@ fn search(alloc: Global, piece: &Piece, question: &Question) -> Result<Verdict, 
 ///
 /// `Clear` where the region's action isn't asked about, or its facts, confined to the question, contradict. Else one
 /// input is tried: it has in each word the least number that these facts leave. `Hit` where it is a member of the
-/// region, and then no member in the question has a lesser number in any word; `Doubt` where it is none, which on a
-/// plain stack doesn't come. `Memory` where a growth is refused.
+/// region: then no member in the question has a smaller number in any word. `Doubt` where it isn't, which doesn't come
+/// on a plain stack. `Memory` where an allocation is refused.
 pub fn judge(
     alloc: Global,
     settled: &Settled,

@@ -27,7 +27,7 @@ pub enum Membership {
     Doubt,
 }
 
-/// How often an input is mended at most.
+/// How many times an input is mended at most.
 const MOST_MENDINGS: usize = 64;
 
 /// A word of the input under a mask.
@@ -37,7 +37,7 @@ struct MaskedWord {
     mask: u32,
 }
 
-/// The piece's facts, with each of its conditions learnt once more, or none where one contradicts.
+/// The piece's facts, with each of its conditions learnt once more; none where one of them contradicts.
 fn facts_learnt_again(alloc: Global, piece: &Piece) -> Result<Option<Facts>, Fault>
     ensures facts { IfOk result (λ o. MatchOption o (HasNoMember piece.now)
         (CoverMembers piece.now)) }
@@ -52,7 +52,7 @@ fn facts_learnt_again(alloc: Global, piece: &Piece) -> Result<Option<Facts>, Fau
     Ok(Some(facts))
 }
 
-/// The word and the mask that a node is made of: it is a word, or ANDs of a word with constants.
+/// The word and the mask that a node is made of, where it is a word of the input, or ANDs of one with constants.
 fn masked_word(pool: &Pool, id: NodeId) -> Option<MaskedWord>
     requires { id.0 < length pool.now }
     ensures { IfSome result (λ m. m.word < 16) }
@@ -87,7 +87,7 @@ fn masked_word(pool: &Pool, id: NodeId) -> Option<MaskedWord>
     None
 }
 
-/// The lowest bit that is set, by itself.
+/// The number that has only the lowest of these bits; none where there is no bit.
 fn lowest_bit(bits: u32) -> Option<u32> {
     if bits == 0 {
         return None;
@@ -95,8 +95,8 @@ fn lowest_bit(bits: u32) -> Option<u32> {
     Some(bits & bits.wrapping_neg())
 }
 
-/// A number that may pass a test which this one fails, under a mask and against a number, or none where no way is tried.
-/// It is only a guess: the input is looked at again.
+/// A number in place of `number`, with which the masked word may meet the condition against `wanted`; none where no way
+/// is tried. It is only a guess: the caller looks at the input again.
 fn mended_number(number: u32, mask: u32, known: Known, cond: &Cond, wanted: u32) -> Option<u32> {
     match (cond.test, cond.sense) {
         (Test::Equal, true) => Some((number & !mask) | (wanted & mask)),
@@ -113,8 +113,8 @@ fn mended_number(number: u32, mask: u32, known: Known, cond: &Cond, wanted: u32)
     }
 }
 
-/// An input with one word mended, so that it may meet the condition, or none where the condition isn't on a word under a
-/// mask, against a constant.
+/// The input with one word mended, so that it may meet the condition. None where the condition doesn't compare a word
+/// under a mask with a constant, or where no way is tried.
 fn mended_input(pool: &Pool, facts: &Facts, cond: &Cond, input: &Input) -> Option<Input>
     requires covers { Covers facts.now pool.now }
     requires node { cond.now.node.0 < length pool.now }
@@ -130,8 +130,8 @@ fn mended_input(pool: &Pool, facts: &Facts, cond: &Cond, input: &Input) -> Optio
     Some(Input { words })
 }
 
-/// A member near the least input that the facts leave: as long as a condition isn't met, a word is mended, and the input is
-/// looked at again. None where that doesn't come to a member.
+/// A member near the least input that the facts leave; none where the search doesn't come to one. As long as the input
+/// misses a condition, one word is mended for that condition, and the input is looked at again.
 fn member_near(alloc: Global, piece: &Piece, facts: &Facts) -> Result<Option<Input>, Fault>
     requires { CoverMembers piece.now facts.now }
     ensures member { IfOk result (λ o. IfSome o (λ d. IsInput d
@@ -153,10 +153,11 @@ fn member_near(alloc: Global, piece: &Piece, facts: &Facts) -> Result<Option<Inp
     Ok(None)
 }
 
-/// Looks for a member of the piece. First the input of the least numbers that the piece's facts leave is tried: where it
-/// is a member, no member has a lesser number in any word, and on a plain stack it always is one. Then the piece's
-/// conditions are learnt once more, which may show that it has no member. Else an input is mended bit by bit where words
-/// under masks are compared, and tried again. `Memory` where a growth is refused.
+/// Looks for a member of the piece. First an input is tried that has in each word the least number that the piece's
+/// facts leave: where it is a member, no member has a smaller number in any word, and on a plain stack it always is
+/// one. Then the piece's conditions are learnt once more, which may show that it has no member. Then one word after the
+/// other is mended, where a condition on a word under a mask isn't met. `Doubt` where that doesn't come to a member.
+/// `Memory` where an allocation is refused.
 pub fn find_member(alloc: Global, piece: &Piece) -> Result<Membership, Fault>
     ensures right { IfOk result (IsRightMembership piece.now) }
     ensures plain { IsPlain piece.now.stack → IfOk result (IsLeastFound piece.now) }

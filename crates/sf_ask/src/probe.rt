@@ -31,7 +31,7 @@ fn is_whole(range: (u32, u32)) -> bool
     range.0 == 0 && range.1 == u32::MAX
 }
 
-/// The first word whose range leaves a number out, or the last word where no other one does.
+/// The first word whose range leaves a number out; the last word where there is none.
 fn first_bounded(question: &Question) -> usize
     ensures word { result < 16 }
     ensures first { (word : ℕ) → word < result → is_whole
@@ -64,7 +64,7 @@ impl Probe {
         }
     }
 
-    /// Whether the question is about one call alone: the first word, the call's number, has one number.
+    /// Whether the question is about only one call: its range for the first word, the call's number, has one number.
     fn has_one_call(&self) -> bool
         ensures { result ≡ has_one_call self.now }
     {
@@ -86,7 +86,7 @@ pub(crate) struct Askers {
     other: [u64; 4],
 }
 
-/// The questions that ask about an action, as bits.
+/// The questions that ask about this action, as bits.
 fn askers_about(questions: &[Question], action: Action) -> [u64; 4]
     requires { length questions.now ≤ 256 }
     ensures { AreAskers questions.now action result }
@@ -101,7 +101,7 @@ fn askers_about(questions: &[Question], action: Action) -> [u64; 4]
 }
 
 impl Askers {
-    /// Those of these questions.
+    /// For each action the questions among these that ask about it.
     fn of(questions: &[Question]) -> Askers
         requires { length questions.now ≤ 256 }
         ensures { (action : AnAction) → AreAskers questions.now action
@@ -120,7 +120,7 @@ impl Askers {
         }
     }
 
-    /// The questions that ask about this action.
+    /// The questions that ask about this action, as bits.
     pub(crate) fn about(&self, action: Action) -> &[u64; 4]
         ensures { result.now ≡ asked_about self.now action }
     {
@@ -138,7 +138,7 @@ impl Askers {
     }
 }
 
-/// Probes of the questions about one call, and of the others, each in the order of the questions.
+/// The probes of the questions about one call, and those of the other questions, each in the order of the questions.
 fn probes_of(alloc: Global, questions: &[Question]) -> Result<(Vec<Probe>, Vec<Probe>), Fault>
     ensures each { IfOk result (λ r. AreProbes questions.now (length questions.now)
         r.0.items r.1.items) }
@@ -165,9 +165,9 @@ fn put_in_order(probes: &mut Vec<Probe>)
     probes.sort_unstable_by_key(|probe| probe.low);
 }
 
-/// What is looked at first of questions: who asks about an action, and the first bounded word of each. It is made once,
-/// and then serves for every region. Most questions are about one call alone: they are in the order of the calls' numbers,
-/// so that a region is held against those alone whose call it may be.
+/// What is looked at first of questions: who asks about an action, and the first bounded word of each question. It is
+/// made once and serves for every region. Most questions are about only one call. Their probes are in the order of the
+/// calls' numbers, so that a region is held only against those whose call it may be.
 #[derive(Drop)]
 pub struct Probes {
     pub(crate) askers: Askers,
@@ -176,7 +176,8 @@ pub struct Probes {
 }
 
 impl Probes {
-    /// The probes of these questions. The caller's condition: there are at most 256. `Memory` where a growth is refused.
+    /// The probes of these questions. The caller's condition: there are at most 256. `Memory` where an allocation is
+    /// refused.
     pub fn of(alloc: Global, questions: &[Question]) -> Result<Probes, Fault>
         requires { length questions.now ≤ 256 }
         ensures ok { IfOk result (AreProbesOf questions.now) }
@@ -191,7 +192,7 @@ impl Probes {
         })
     }
 
-    /// The probes of the questions about one call, where its number is in a range.
+    /// The probes of the questions about one call whose number is in this range, both ends included.
     pub(crate) fn by_calls(&self, low: u32, high: u32) -> &[Probe]
         requires { IsNonDecreasingBy (λ (p : AProbe). p.low) self.now.by_call.items }
         ensures all { (p : AProbe) → Contains self.now.by_call.items p → low ≤ p.low

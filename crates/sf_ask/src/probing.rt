@@ -14,7 +14,7 @@ use sf_book::Settled;
 use sf_dom::Facts;
 use sf_sym::NodeId;
 
-/// Whether what is known of the probe's word rules out its range.
+/// Whether what is known of the probe's word leaves no number of the probe's range.
 fn probe_misses(facts: &Facts, _question: &Question, probe: &Probe) -> bool
     requires known { 16 ≤ length facts.now.known }
     requires probe { IsProbeOf _question.now probe.now }
@@ -24,8 +24,8 @@ fn probe_misses(facts: &Facts, _question: &Question, probe: &Probe) -> bool
     known.high < probe.low || probe.high < known.low
 }
 
-/// Whether the bit of the probe's question is set, and the facts don't rule the question out at once. The probe is looked at
-/// first: most questions are ruled out by it, and the few that are left are held against all words.
+/// Whether the bit of the probe's question is set in `asked`, and the facts don't rule the question out at once. The
+/// probe is looked at first, since it rules out most questions; the few others are held against all words.
 fn is_left(facts: &Facts, questions: &[Question], asked: &[u64; 4], probe: &Probe) -> bool
     requires known { 16 ≤ length facts.now.known }
     requires questions { length questions.now ≤ 256 }
@@ -43,7 +43,7 @@ fn is_left(facts: &Facts, questions: &[Question], asked: &[u64; 4], probe: &Prob
     !rules_out(facts, question)
 }
 
-/// Sets the bits of those questions that are left.
+/// Sets in `left` the bits of the probes' questions that are left.
 fn mark_left(
     facts: &Facts,
     questions: &[Question],
@@ -65,7 +65,7 @@ fn mark_left(
     }
 }
 
-/// Of the questions whose bit is set, those that the facts don't rule out at once.
+/// Of the questions whose bit is set in `asked`, those that the facts don't rule out at once.
 fn left_of(facts: &Facts, questions: &[Question], probes: &Probes, asked: &[u64; 4]) -> [u64; 4]
     requires known { 16 ≤ length facts.now.known }
     requires questions { length questions.now ≤ 256 }
@@ -81,9 +81,9 @@ fn left_of(facts: &Facts, questions: &[Question], probes: &Probes, asked: &[u64;
     left
 }
 
-/// The questions on which a region is to be judged, as bits: its verdict on each other question is clear at once, since its
-/// action isn't asked about or what is known of some word rules out the word's range. The caller's conditions: there is a
-/// region at the place, there are at most 256 questions, and the probes are theirs.
+/// The questions on which a region is to be judged, as bits. Its verdict on each other question is clear: the region's
+/// action isn't asked about, or what is known of some word leaves no number of the question's range. The caller's
+/// conditions: there is a region at the place, there are at most 256 questions, and the probes are theirs.
 pub fn questions_to_judge(
     settled: &Settled,
     job: usize,

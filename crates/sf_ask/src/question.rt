@@ -12,8 +12,8 @@ use std::marker::Model;
 
 /// A question about a filter stack: is any input with these words answered with one of these actions?
 ///
-/// It has a name, and for each of the sixteen words of `struct seccomp_data` a range (low, high), both
-/// ends among it, and a pair (mask, value): the word has, on the bits of the mask, those of the value.
+/// It has a name, and for each of the sixteen 32-bit words of `struct seccomp_data` (seccomp(2)) a range (low, high),
+/// both ends included, and a pair (mask, value): on the bits of the mask, the word has those of the value.
 #[derive(Debug, Drop)]
 pub struct Question {
     name: String,
@@ -76,7 +76,7 @@ impl Question {
     /// The question with this name, these ranges and no masks.
     ///
     /// Refusals, tried in this order: `Name` where the name isn't 1 to 64 bytes from 0x21 to 0x7e, `Range` where a
-    /// low end is above its high end, `Actions` where the set is empty, `Memory` where a growth is refused.
+    /// low end is above its high end, `Actions` where the set is empty, `Memory` where an allocation is refused.
     pub fn of(
         alloc: Global,
         name: &str,
@@ -92,7 +92,7 @@ impl Question {
     ///
     /// Refusals, tried in this order: `Name` where the name isn't 1 to 64 bytes from 0x21 to 0x7e, `Range` where a
     /// low end is above its high end, `Mask` where a value has a bit outside its mask, `Actions` where the set is
-    /// empty, `Memory` where a growth is refused.
+    /// empty, `Memory` where an allocation is refused.
     pub fn of_masked(
         alloc: Global,
         name: &str,
@@ -129,7 +129,7 @@ impl Question {
         self.name.as_str()
     }
 
-    /// The range of a word, 0 to 15: its low and its high end, both among it.
+    /// The range of a word, 0 to 15: its low and its high end, both included.
     pub fn range(&self, word: usize) -> (u32, u32)
         requires { word < 16 }
         ensures { result ≡ range_at self.now word }

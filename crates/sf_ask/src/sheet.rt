@@ -16,15 +16,15 @@ use std::alloc::Global;
 use std::marker::Model;
 use std::snapshot::Snapshot;
 
-/// The job of one worker: the place of a settled region, and for each question a verdict on that region, or none where
-/// the question was skipped. Contracts also see of which regions and questions it is.
+/// The verdicts on one settled region: the region's place in the order of names, and for each question a verdict, or
+/// none where the question was skipped. Contracts also see which regions and questions the sheet is about.
 #[derive(Drop)]
 pub struct Sheet {
     settled: Snapshot<Settled>,
     questions: Vec<Snapshot<Question>>,
     job: usize,
     wanted: [u64; 4],
-    // None where the verdict on each question that is asked for is clear at once, as on most sheets.
+    // None where each verdict that is asked for is clear, as on most sheets.
     verdicts: Option<Vec<Option<Verdict>>>,
     finds_nothing: bool,
 }
@@ -55,7 +55,7 @@ impl Model for Sheet {
         (option_map (λ v. v.items) s.verdicts))) × (length s.questions.items ≤ 256) };
 }
 
-/// A snapshot of each question; they take no bytes.
+/// For the prover: a snapshot of each question, by which contracts see what a sheet is about. Snapshots take no bytes.
 fn snapshots(alloc: Global, questions: &[Question]) -> Result<Vec<Snapshot<Question>>, Fault>
     ensures each { IfOk result (λ v. map (λ q. q.value) v.items ≡ questions.now) }
     ensures err { IfErr result (λ f. f ≡ Memory) }
@@ -67,7 +67,7 @@ fn snapshots(alloc: Global, questions: &[Question]) -> Result<Vec<Snapshot<Quest
     Ok(all)
 }
 
-/// Whether there is neither a hit nor a doubt.
+/// Whether it is neither a hit nor a doubt.
 fn is_clear(verdict: Option<Verdict>) -> bool
     ensures { result ≡ is_clear_or_skipped verdict }
 {
@@ -77,7 +77,7 @@ fn is_clear(verdict: Option<Verdict>) -> bool
     }
 }
 
-/// The verdict on a question that is asked for, and none on another.
+/// The verdict on a question that is asked for; none on another one.
 fn verdict_if_wanted(
     alloc: Global,
     settled: &Settled,
@@ -104,7 +104,7 @@ fn verdict_if_wanted(
     Ok(Some(verdict))
 }
 
-/// The verdict on a question that is clear where it is asked for.
+/// The verdict on a question of which it is known that it is clear: none where it isn't asked for.
 fn clear_verdict(wanted: &[u64; 4], q: usize) -> Option<Verdict>
     requires { q < 256 }
     ensures { result ≡ clear_if_wanted wanted.now q }
@@ -116,7 +116,7 @@ fn clear_verdict(wanted: &[u64; 4], q: usize) -> Option<Verdict>
     }
 }
 
-/// A verdict on each question that is asked for.
+/// For each question a verdict, or none where it isn't asked for.
 fn verdicts_on(
     alloc: Global,
     settled: &Settled,
@@ -153,7 +153,7 @@ fn are_clear(verdicts: &[Option<Verdict>]) -> bool
 impl Sheet {
     /// The sheet of the region at the place `job`, with a verdict on each question that `wanted` asks for: question q
     /// has bit q % 64 of word q / 64, and bits past the last question are ignored. The caller's conditions: there is a
-    /// region at the place, and there are at most 256 questions. `Memory` where a growth is refused.
+    /// region at the place, and there are at most 256 questions. `Memory` where an allocation is refused.
     pub fn of(
         alloc: Global,
         settled: &Settled,
@@ -172,8 +172,9 @@ impl Sheet {
         Sheet::judging(alloc, settled, job, questions, &[u64::MAX; 4], wanted)
     }
 
-    /// The same sheet, where it was looked before which questions are to be judged. The caller's conditions: those of
-    /// `of`, and the verdict on each question that is not to be judged is clear. `Memory` where a growth is refused.
+    /// The sheet that `of` makes, for a caller who has looked before which questions are to be judged. The caller's
+    /// conditions: those of `of`, and the verdict is clear on each question that is not to be judged. `Memory` where an
+    /// allocation is refused.
     pub fn judging(
         alloc: Global,
         settled: &Settled,
@@ -221,7 +222,7 @@ impl Sheet {
         self.job
     }
 
-    /// How many questions there are, those skipped among them.
+    /// How many questions there are, with those that were skipped.
     pub fn question_count(&self) -> usize
         ensures count { result ≡ length self.now.questions }
         ensures right { IsRightSheet self.now }

@@ -1,8 +1,8 @@
-//! What is told of a region and of a question.
+//! Verdicts on regions, and replies to questions.
 
 use sf_insn::Input;
 
-/// What a settled region tells of a question.
+/// The verdict on a settled region, for one question.
 #[derive(Clone, Copy, Debug, PartialEq, Eq)]
 pub enum Verdict {
     /// No member of the region breaks the question.

@@ -98,7 +98,7 @@ set_same : (b : Bool) (set : ActionSet) → b ≡ true → (if b then set else n
 set_same true set h = refl
 set_same false set h = cc
 
--- a test that both make, and then the same
+-- what is made and what is due agree, where both begin with one test and agree behind it
 same_test : (number : ℕ) (fault : AskFault) (b b' : Bool) (r : Result QuestionData AskFault)
     (due : Result QuestionData Fault)
     → b' ≡ b → (b ≡ true → with_number number r ≡ due)

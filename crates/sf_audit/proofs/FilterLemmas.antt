@@ -17,7 +17,7 @@ use Rattle.sf_audit.specs.declared.fault.Fault.TheVariants as faults
 use Rattle.sf_audit.specs.FaultPlaces.{check_fault}
 use Rattle.sf_audit.specs.Filters.{SpellPrograms, IsRefusalOf, AreFew, IsFileRefusal, IsFirstRefusal}
 
--- an error that is another one by `map_err`
+-- what holds of an error after `map_err` made another one of it
 pub mapped_err : {X E D : Type 0} {Post : E → D → Type 0} {P : E → Type 0} {Q : D → Type 0} (r : Result X E)
     (s : Result X D)
     → MatchResult r (λ x. s ≡ Ok x) (λ e. IsErrAnd s (Post e)) → IfErr r P

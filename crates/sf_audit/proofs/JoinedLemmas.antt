@@ -9,7 +9,7 @@ pub added_two : (before middle after a b : List ℕ) → middle ≡ before ++ a 
     → after ≡ before ++ (a ++ b)
 added_two before middle after a b p q = q ∙ ap (λ l. l ++ b) p ∙ append_assoc before a b
 
--- the same where nothing stood before
+-- two texts, added where nothing stood before
 pub made_of_two : (before middle after a b : List ℕ) → before ≡ [] → middle ≡ before ++ a → after ≡ middle ++ b
     → after ≡ a ++ b
 made_of_two before middle after a b none p q =
@@ -25,7 +25,7 @@ pub added_four : (before first second third after a b c d : List ℕ) → first 
 added_four before first second third after a b c d p q r s =
     added_two before first after a (b ++ (c ++ d)) p (added_three first second third after b c d q r s)
 
--- the same where nothing stood before
+-- four texts, added where nothing stood before
 pub made_of_four : (before first second third after a b c d : List ℕ) → before ≡ [] → first ≡ before ++ a
     → second ≡ first ++ b → third ≡ second ++ c → after ≡ third ++ d → after ≡ a ++ (b ++ (c ++ d))
 made_of_four before first second third after a b c d none p q r s =

@@ -182,7 +182,7 @@ some_named b i r w at =
     let named : Contains (names b.regions) r.name = contains_map (λ (k : RegionData). k.name) b.regions r there in
     ((feasible_are b.stack).exactly r.name).0 (subst (λ (ns : List (List Bool)). Contains ns r.name) w.names named)
 
--- and is answered as its region says
+-- an input whose trace is the name of a region is answered as the region says
 answered : (stack : List (List Insn)) (r : RegionData) (d : Input) → IsRightRegion stack r → IsInput d
     → trace_of stack d ≡ r.name → Answers stack d r.answer
 answered stack r d right is named = right.answers d is (right.members d is

@@ -1,4 +1,4 @@
--- The definitions over trees, at the lists that the code walks.
+-- The definitions over trees, at the lists that the code goes through.
 use Rattle.std.proofs.Common.{◌≡◌, ℕ, true, false, List, [], ◌∷◌, ◌&&◌, map, refl, ap, ◌∙◌, sym, String, string_bytes, Global, is_some, Option, Some, None, length, get_or, take, drop, set, ◌<◌, ◌≤◌, ◌+◌, ◌++◌, append_assoc, arith, Bor, unwrap_or}
 use Rattle.std.proofs.lemmas.List.{get_or-map, drop_more, length-map}
 use Rattle.std.proofs.lemmas.Grind.{take-set_at}
@@ -48,7 +48,7 @@ listed_view : (vs : List Value) → item_list (items_view vs) ≡ map view vs
 listed_view [] = refl
 listed_view (v ∷ vs) = ap (λ ds. view v ∷ ds) (listed_view vs)
 
--- Each value can be read, or one of them can't be.
+-- Where each value can be read, all of them are.
 each_read : {X : Type 0} (read : Data → Option X) (absent : X) (vs : List Value)
     → list_all (λ v. is_some (read (view v))) vs ≡ true
     → each_of read (map view vs) ≡ Some (map (λ v. unwrap_or (read (view v)) absent) vs)

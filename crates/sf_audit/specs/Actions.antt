@@ -25,7 +25,7 @@ are_actions (text ∷ texts) = list_all is_action (text ∷ texts)
 abbrev pub is_named : List (List ℕ) → List ℕ → Bool
 is_named texts name = list_any (λ text. bytes_eq text name) texts
 
--- the actions that are named, how often does not matter
+-- the set of the actions that are named; it doesn't matter how often
 abbrev pub set_of : List (List ℕ) → ActionSet
 set_of texts = record {
   kill_process = is_named texts (codes "KILL_PROCESS");

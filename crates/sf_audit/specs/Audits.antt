@@ -18,7 +18,7 @@ pub record IsFoundOn (stack : List (List Insn)) (budget : ℕ) (asked : List Que
   pub questions : o.questions ≡ asked
   pub replies : AreRightReplies o.settled o.questions o.replies
 
--- it was found on the stack that the files spell, and there are 1 to 256 questions
+-- what was found was found on the stack that the files spell, and there are 1 to 256 questions
 pub record IsAudit (files : List (List ℕ)) (questions : List QuestionData) (budget : ℕ) (o : Found) : Type 0 where
   pub stack : SpellStack files o.settled.stack
   pub counted : (0 < length questions) × (length questions ≤ 256)

@@ -1,5 +1,5 @@
--- How an entry whose numbers are of 32 bits is handed to `Question::of_masked`, so that it is refused there in its
--- turn, an unknown action by the empty set; and what is wrong with one that has another number.
+-- How an entry is handed to `Question::of_masked`, which refuses it where that is due: an unknown action is handed in
+-- as the empty set. And what is wrong with an entry that has a number outside 32 bits, which can't be handed in.
 use Rattle.std.specs.Prelude.{ℕ, ℤ, pos, negsuc, ◌^◌, false, Option, Some, None, nat_lt, if◌then◌else◌, List, [], map, unwrap_or, Result, Ok, Err}
 use Rattle.std.specs.List.{list_all}
 use Rattle.toml.specs.Data.{Data, as_str, as_table, Members, no_members}
@@ -24,7 +24,7 @@ abbrev pub four_of : Option ℕ → Option ℕ → Option ℕ → Option ℕ →
 four_of (Some low) (Some high) (Some mask) (Some value) = Some ((low, high), (mask, value))
 four_of _ _ _ _ = None
 
--- those of an entry, where all its numbers are of 32 bits
+-- the ends, the mask and the value of an entry, where all its numbers are of 32 bits
 abbrev pub numbers_in : WordEntry → Option ((ℕ × ℕ) × (ℕ × ℕ))
 numbers_in w = four_of (word_in w.low) (word_in w.high) (word_in w.mask) (word_in w.value)
 

@@ -7,7 +7,7 @@ use Rattle.sf_check.specs.declared.fault.Fault.TheVariants as check
 use Rattle.sf_audit.specs.declared.fault.Fault.{Fault}
 use Rattle.sf_audit.specs.declared.fault.Fault.TheVariants as faults
 
--- what is wrong with the bytes of a filter; want of memory has no filter
+-- what is wrong with the bytes of a filter; refused memory has no filter's number
 abbrev pub decode_fault : ℕ → DecodeFault → Fault
 decode_fault filter decode.Ragged = faults.Ragged filter
 decode_fault filter decode.Empty = faults.Empty filter

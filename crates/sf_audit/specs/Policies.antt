@@ -20,13 +20,13 @@ pub record Entry : Type 0 where
   pub words : List WordEntry
   pub actions : List (List ℕ)
 
--- the entry, where name, words and actions could all be read
+-- the entry of a question, where its name, words and actions could all be read
 abbrev pub question_entry_of_parts : Option (List ℕ) → Option (List WordEntry) → Option (List (List ℕ)) → Option Entry
 question_entry_of_parts (Some name) (Some words) (Some actions) =
     Some (record { name = name; words = words; actions = actions })
 question_entry_of_parts _ _ _ = None
 
--- nothing where a key is unknown, the name is missing, or a value is of another kind
+-- what the table of a question says; nothing where a key is unknown, the name is missing, or a value is of another kind
 abbrev pub entry_of_question : Version → Members → Option Entry
 entry_of_question version ms =
     if has_only question_keys ms
@@ -92,7 +92,7 @@ abbrev pub questions_where_tables : Version → Option (List Members) → Result
 questions_where_tables version (Some mss) = questions_counted version mss
 questions_where_tables version None = Err faults.TopKey
 
--- the versions that there are
+-- the version with this number, where there is one
 abbrev pub version_of : Option ℤ → Option Version
 version_of (Some (pos n)) = if nat_eq n 1 then Some One else if nat_eq n 2 then Some Two else None
 version_of _ = None

@@ -2,12 +2,12 @@
 use Rattle.std.specs.Prelude.{ℕ, ℤ, List, [], ◌∷◌, Option, Some, None, option_and_then}
 use Rattle.toml.specs.Data.{Data, Items, no_items, item, Members, get_member, as_str, as_integer, as_table}
 
--- what was read of one before what was read of the others; nothing where either can't be read
+-- what was read of one value before what was read of the others; nothing where either can't be read
 abbrev pub option_cons : {X : Type 0} → Option X → Option (List X) → Option (List X)
 option_cons (Some x) (Some xs) = Some (x ∷ xs)
 option_cons _ _ = None
 
--- what is read of each, in order; nothing where one of them can't be read
+-- what is read of each value, in order; nothing where one of them can't be read
 abbrev pub each_of : {X Y : Type 0} → (X → Option Y) → List X → Option (List Y)
 each_of read [] = Some []
 each_of read (x ∷ xs) = option_cons (read x) (each_of read xs)
@@ -29,7 +29,7 @@ tables_of ds = each_of as_table (item_list ds)
 abbrev pub number_at : List ℕ → Members → Option ℤ
 number_at key ms = option_and_then as_integer (get_member key ms)
 
--- the whole number at a key, or another where the key is absent
+-- the whole number at a key, or a given one where the key is absent
 abbrev pub number_or : ℤ → Option Data → Option ℤ
 number_or absent None = Some absent
 number_or absent (Some d) = as_integer d

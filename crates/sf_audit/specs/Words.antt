@@ -12,7 +12,7 @@ use Rattle.sf_audit.specs.Trees.{number_at, number_or}
 abbrev pub most : ℤ
 most = pos (2 ^ 32 - 1)
 
--- a range alone, no bit under a mask
+-- only a range: no bit is under a mask
 abbrev pub between : ℤ → ℤ → WordEntry
 between low high = record { low = low; high = high; mask = pos 0; value = pos 0 }
 
@@ -44,7 +44,7 @@ entry_of_table ms =
     (number_or (pos 0) (get_member (codes "low") ms)) (number_or most (get_member (codes "high") ms))
     else None
 
--- such a table stands in files of version 2 alone
+-- what a table says in a file of this version: only version 2 has such tables
 abbrev pub entry_of_versioned : Version → Members → Option WordEntry
 entry_of_versioned One ms = None
 entry_of_versioned Two ms = entry_of_table ms
@@ -79,14 +79,14 @@ range_of w = (word_of w.low, word_of w.high)
 abbrev pub mask_of : WordEntry → ℕ × ℕ
 mask_of w = (word_of w.mask, word_of w.value)
 
--- all its numbers are of 32 bits
+-- all numbers of the entry are of 32 bits
 abbrev pub has_words : WordEntry → Bool
 has_words w = is_word w.low && is_word w.high && is_word w.mask && is_word w.value
 
--- all its numbers are of 32 bits, and the low end isn't above the high end
+-- all numbers of the entry are of 32 bits, and the low end isn't above the high end
 abbrev pub has_range : WordEntry → Bool
 has_range w = has_words w && nat_le (word_of w.low) (word_of w.high)
 
--- its value has no bit outside its mask
+-- the entry's value has no bit outside its mask
 abbrev pub has_mask : WordEntry → Bool
 has_mask w = is_inside_mask (mask_of w)

@@ -1,4 +1,4 @@
-//! How actions are told.
+//! How actions are written.
 
 ghost use Rattle.std.specs.Prelude.{◌≡◌, ◌++◌, OnOk, string_bytes};
 ghost use Rattle.sf_audit.specs.Reports.{action_text};
@@ -6,8 +6,8 @@ ghost use Rattle.sf_audit.specs.Reports.{action_text};
 use sf_run::Action;
 use std::alloc::AllocError;
 
-/// Appends the name of an action, without `SECCOMP_RET_`; one without a name is told as `OTHER:0x` and its eight
-/// hexadecimal digits. `AllocError` where a growth is refused.
+/// Appends the name of an action, without `SECCOMP_RET_`; one without a name is written as `OTHER:0x` and its eight
+/// hexadecimal digits. `AllocError` where an allocation is refused.
 pub fn push_action(text: &mut String, action: Action) -> Result<(), AllocError>
     ensures { OnOk result (string_bytes text.new ≡ string_bytes text.old ++ action_text action) }
 {

@@ -60,7 +60,7 @@ pub fn audit<R: Threads + Wait + Sync, G: Gate>(
     // Right replies to the questions, on the stack that the files spell.
     ensures found { IfOk result (IsAudit (map (λ f. f.items) filters.now) questions.items budget) }
 
-    // Anything else is the first refusal, but for want of memory.
+    // Any error is the first refusal, or refused memory.
     ensures refused { IfErr result (λ e. (e ≡ Fault.Memory)
         ⊎ IsAuditRefusal (map (λ f. f.items) filters.now) questions.items e) }
 {

@@ -5,7 +5,7 @@ ghost use Rattle.sf_audit.specs.Reports.{is_never, is_allowed, is_unsettled};
 
 use sf_ask::Reply;
 
-/// How many questions are never answered so.
+/// How many replies say that no input breaks the question.
 pub fn count_never(replies: &[Reply]) -> usize
     ensures { result ≡ count_by is_never replies.now }
 {
@@ -15,7 +15,7 @@ pub fn count_never(replies: &[Reply]) -> usize
         .count()
 }
 
-/// How many questions have an example.
+/// How many replies have an example.
 pub fn count_allowed(replies: &[Reply]) -> usize
     ensures { result ≡ count_by is_allowed replies.now }
 {
@@ -25,7 +25,7 @@ pub fn count_allowed(replies: &[Reply]) -> usize
         .count()
 }
 
-/// How many questions are unsettled.
+/// How many replies are unsettled.
 pub fn count_unsettled(replies: &[Reply]) -> usize
     ensures { result ≡ count_by is_unsettled replies.now }
 {

@@ -31,7 +31,7 @@ pub fn a_refusal_spells_no_stack()
     a_fault_spells_no_lawful_program();
 }
 
-/// Filter files have at most one first refusal, so `stack_of` tells the only one.
+/// Filter files have at most one first refusal, so `stack_of` answers the only one.
 pub fn one_refusal()
     ensures { (files : List (List ℕ)) (e f : Fault) → IsFirstRefusal files e
         → IsFirstRefusal files f → e ≡ f }
@@ -41,8 +41,8 @@ pub fn one_refusal()
     a_fault_spells_no_lawful_program();
 }
 
-/// What is audited is not refused: its files have no refusal, and there are 1 to 256 questions. So what `audit` refuses, but
-/// for want of memory, is what its definition says, and nothing else is.
+/// Where there is an audit, nothing is refused: the files have no refusal, and there are 1 to 256 questions. So `audit`
+/// refuses exactly what `IsAuditRefusal` says, unless memory is refused.
 pub fn an_audit_is_not_refused()
     ensures { (files : List (List ℕ)) (questions : List QuestionData) (budget : ℕ)
         (o : Found) (e : Fault) →
@@ -51,8 +51,8 @@ pub fn an_audit_is_not_refused()
     a_refusal_spells_no_stack();
 }
 
-/// Two audits with the same questions, of files that spell one plain stack, have the same report where they leave nothing
-/// outstanding: whatever their budgets, whoever worked, and whatever stands in fields that no instruction uses.
+/// Two audits with the same questions have the same report, where their files spell one plain stack and both leave
+/// nothing outstanding: whatever their budgets, whoever worked, and whatever stands in fields that no instruction uses.
 pub fn one_report()
     ensures { (files others : List (List ℕ)) (questions : List QuestionData)
         (b c : ℕ) (o p : Found) →

@@ -14,8 +14,8 @@ use std::io::Write;
 use text::report_of;
 pub use text::{hex_of, push_counts};
 
-/// Writes all the bytes, by as many writes as it takes. `Write` where one fails, also by a signal, or takes no byte; a
-/// beginning of them was written then.
+/// Writes all the bytes, with as many writes as it takes. `Write` where one fails, also by a signal, or takes no byte:
+/// a beginning of the bytes was written then.
 pub fn write_bytes<W: Write>(bytes: &[u8], out: &mut W) -> Result<(), Fault>
     ensures ok { OnOk result (Appends (W.contents out.old) (W.contents out.new) bytes.now) }
     ensures err { OnErr result (AppendsFront (W.contents out.old) (W.contents out.new) bytes.now) }
@@ -34,23 +34,23 @@ pub fn write_bytes<W: Write>(bytes: &[u8], out: &mut W) -> Result<(), Fault>
 
 /// Writes the report of an outcome, with a line for each settled region where `regions` asks for them.
 ///
-/// `Write` where a write fails or takes no byte, `Memory` where the text can't be built. After either a beginning of
-/// the text was written, after `Memory` nothing.
+/// `Write` where a write fails or takes no byte: a beginning of the text was written then. `Memory` where the text
+/// can't be built: nothing was written then.
 pub fn write_report<W: Write>(
     alloc: Global,
     outcome: &Outcome,
     regions: bool,
     out: &mut W,
 ) -> Result<(), Fault>
-    // The text is written, to a writer that tells its bytes.
+    // The text is written, where the writer tells its bytes.
     ensures written { OnOk result (Appends (W.contents out.old) (W.contents out.new)
         (report_text outcome.now regions)) }
 
-    // Otherwise a beginning of it is.
+    // After an error a beginning of the text is written.
     ensures begun { OnErr result (AppendsFront (W.contents out.old) (W.contents out.new)
         (report_text outcome.now regions)) }
 
-    // Nothing else is told than that writing failed or memory ran out, and then nothing was written.
+    // The only errors are that writing failed, or that memory ran out: then nothing was written.
     ensures refused { IfErr result (λ e. (e ≡ WriteFault)
         ⊎ ((e ≡ MemoryFault) × (out.new ≡ out.old))) }
 {

@@ -224,7 +224,7 @@ kept_fresh stack r budget lawful h = record {
   few = omega arith;
 }
 
--- want of memory refuses what may be committed
+-- refused memory is a right reason to refuse what may be committed
 pub memory_refuses : {A : Type 0} (r : Result A Fault) (b c : BookData) (id : ℕ) (w : WorkData) → MayCommit b id w
     → b.commits < b.budget
     → IfErr r (λ f. (f ≡ Memory) × (c ≡ b)) → IfErr r (λ f. Refuses b id w f × (c ≡ b))

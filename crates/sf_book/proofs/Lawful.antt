@@ -206,7 +206,7 @@ empty_lawful b p i e h r s =
       ids = rising_without b i e h r.there;
     }
 
--- a change of leases alone
+-- a book stays lawful where only leases change
 pub marks_lawful : (b : BookData) (g : OutstandingData → OutstandingData) → ((e : OutstandingData) → (g e).id ≡ e.id)
     → ((e : OutstandingData) → (g e).piece ≡ e.piece) → IsLawfulBook b
     → IsLawfulBook (record b { outstanding = map g b.outstanding })
@@ -259,7 +259,7 @@ fresh_lawful stack r budget lawful h =
       ids = (tt, tt);
     }
 
--- the regions in another order
+-- a book stays lawful with its regions in another order
 pub permuted_lawful : (b : BookData) (rs : List RegionData) → IsPermutation b.regions rs → IsLawfulBook b
     → IsLawfulBook (record b { regions = rs })
 permuted_lawful b rs p h =

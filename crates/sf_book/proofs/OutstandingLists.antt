@@ -63,7 +63,7 @@ insert_step i p e ids new Less is a h = rw (id_yes i i refl) refl
 insert_step i p e ids new Equal is a h = absurd (cc)
 insert_step i p e ids new Greater is a h = rw is (ap (λ l. e ∷ l) (h a))
 
--- to take out what was just put in
+-- what was just put in can be taken out again
 pub removed_insert : (i : ℕ) (p : PieceData) (ids : Ids) → piece_at ids i ≡ None
     → remove_entry (is_at (nat_cmp i)) (insert_entry nat_cmp ids i p) ≡ ids
 removed_insert i p [] h = rw (id_yes i i refl) refl
@@ -277,12 +277,12 @@ is_added ids names i p on ids' names' h above apart at_id at_name rising sorted 
   sorted = sorted;
 }
 
--- one more id, above all
+-- with one more id, above all others, the ids still rise
 pub added_ids : (ids : Ids) (names : Names) (i : ℕ) (p : PieceData) → All (λ e. e.id < i) (outstanding_list ids names)
     → insert_entry nat_cmp ids i p ≡ ids ++ (i, p) ∷ []
 added_ids ids names i p h = insert_last ids i p (below_ids ids names i h)
 
--- to take out what was just put in
+-- what was just put in can be taken out again, and the pieces are as before
 pub put_back : (ids : Ids) (names : Names) (i : ℕ) (p : PieceData) → All (λ e. e.id < i) (outstanding_list ids names)
     → remove_entry (is_at (nat_cmp i)) (insert_entry nat_cmp ids i p) ≡ ids
 put_back ids names i p h = removed_insert i p ids (absent_id ids i (below_ids ids names i h))
@@ -304,7 +304,7 @@ without_low i (e ∷ es) h =
     rw (num_no e.id i (λ k. let e = k in omega arith))
     (ap (λ l. e ∷ l) (without_low i es (All-tail (λ (x : OutstandingData). x.id < i) e es h)))
 
--- the last one out again
+-- without the id of the last one, the others are left
 pub without_last : (es : List OutstandingData) (x : OutstandingData) → All (λ e. e.id < x.id) es
     → without x.id (es ++ x ∷ []) ≡ es
 without_last es x h = without_append x.id es (x ∷ [])

@@ -1,4 +1,4 @@
--- After a lease, the leased piece's work is refused for nothing but a spent budget or want of memory.
+-- After a lease, the work of the leased piece is refused only where the budget is spent or memory is refused.
 use Rattle.std.proofs.Common.{◌≡◌, ℕ, ◌<◌, ◌==◌, Bool, true, false, cond, List, [], ◌∷◌, map, Some, refl, sym, ◌∙◌, ap, subst, arith}
 use Rattle.std.specs.List.{All}
 use Rattle.std.proofs.lemmas.Option.{same_Some}
@@ -47,7 +47,7 @@ lease_may_commit b c id p w h l is =
       same_name = ap (λ (q : PieceData). q.name) is;
     })
 
--- what may be committed within the budget is refused only for want of memory
+-- what may be committed within the budget is refused only where memory is
 pub only_memory : (b : BookData) (id : ℕ) (w : WorkData) (f : Fault) → MayCommit b id w → b.commits < b.budget
     → Refuses b id w f → f ≡ Memory
 only_memory b id w Foreign m room r = absurd (r m.same_stack)
@@ -55,7 +55,7 @@ only_memory b id w Stale m room r = let k = rw m.there at r.1 in absurd (k (sym 
 only_memory b id w Spent m room r = let k = r.1 in absurd (omega arith)
 only_memory b id w Memory m room r = refl
 
--- within the budget the work of the leased piece is refused only for want of memory
+-- within the budget the work of the leased piece is refused only where memory is
 pub lease_refused : (b c : BookData) (id : ℕ) (p : PieceData) (w : WorkData) (f : Fault) → IsLawfulBook b
     → Leases b id p c
     → w.piece ≡ p → (b.commits ≡ b.budget → ⊥) → Refuses c id w f → f ≡ Memory

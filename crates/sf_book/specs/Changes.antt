@@ -12,15 +12,15 @@ use Rattle.sf_book.specs.declared.fault.Fault.TheVariants.{Foreign, Stale, Spent
 abbrev pub outstanding_at : ℕ → List OutstandingData → Option OutstandingData
 outstanding_at id es = find (λ e. e.id == id) es
 
--- the outstanding piece, on lease or not
+-- the outstanding piece, put on lease or taken off
 abbrev pub with_lease : Bool → OutstandingData → OutstandingData
 with_lease on e = record { id = e.id; piece = e.piece; leased = on }
 
--- the same where it has the id
+-- the outstanding piece, put on lease or taken off where it has the id
 abbrev pub with_lease_at : ℕ → Bool → OutstandingData → OutstandingData
 with_lease_at id on e = record { id = e.id; piece = e.piece; leased = (if e.id == id then on else e.leased) }
 
--- the others
+-- the outstanding pieces under other ids
 abbrev pub without : ℕ → List OutstandingData → List OutstandingData
 without id es = filter (λ e. not (e.id == id)) es
 
@@ -50,7 +50,7 @@ Refuses b id w Stale = (w.piece.stack ≡ b.stack) × IsStale id b.outstanding w
 Refuses b id w Spent = MayCommit b id w × (b.commits ≡ b.budget)
 Refuses b id w Memory = MayCommit b id w × (b.commits < b.budget)
 
--- the ids are new and rise
+-- both ids are above all others, and the second one is above the first
 abbrev pub AreNewIds : List OutstandingData → ℕ → ℕ → Type 0
 AreNewIds es i j = All (λ e. e.id < i) es × (i < j)
 

@@ -1,4 +1,4 @@
--- A book in which nothing is without a member, as on a plain stack, against the feasible traces of its stack.
+-- Books in which each piece and region has a member, as on a plain stack, beside the feasible traces of their stacks.
 use Rattle.std.specs.Prelude.{◌≡◌, ◌+◌, ◌*◌, Bool, true, List, [], All, length, map}
 use Rattle.sf_insn.specs.declared.input.Input.{Input}
 use Rattle.sf_insn.specs.Inputs.{IsInput}

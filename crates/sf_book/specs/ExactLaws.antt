@@ -57,7 +57,7 @@ module _ {B : Type 0} where
       let a = sum_by-cons f y ys in
       omega arith
 
--- rows first or columns first
+-- the sum over a table is the same by its rows and by its columns
 sum_of_sums : {A B : Type 0} (h : A → B → ℕ) (xs : List A) (ys : List B)
     → sum_by (λ x. sum_by (λ y. h x y) ys) xs ≡ sum_by (λ y. sum_by (λ x. h x y) xs) ys
 sum_of_sums h [] ys = sym (sum_of_none ys)

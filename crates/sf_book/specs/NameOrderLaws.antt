@@ -13,6 +13,7 @@ use Rattle.sf_book.specs.Books.{RegionData, IsInNameOrder}
 use Rattle.sf_book.specs.PartitionLaws.{prefix-refl}
 use Rattle.sf_book.specs.PrefixCounts.{bit, hits}
 
+-- how two names compare
 abbrev cmp : List Bool → List Bool → Ordering
 cmp m n = slice_cmp bool_cmp m n
 

@@ -1,4 +1,4 @@
--- Outstanding pieces by id, beside a lease's state for each name.
+-- Outstanding pieces by their ids, and whether they are on lease by their names.
 use Rattle.std.specs.Prelude.{◌≡◌, ℕ, true, false, List, map, Option, Some, refl}
 use Rattle.std.specs.Ordering.{bool_cmp, is_eq, nat_cmp, eq_by_cmp}
 use Rattle.std.specs.declared.cmp.Ordering.{Ordering}
@@ -22,7 +22,7 @@ name_cmp p q = slice_cmp bool_cmp p.name q.name
 pub name_total : IsTotalOrder name_cmp
 name_total = on_total (λ (p : PieceData). p.name) names_total
 
--- two names are equal where they compare so
+-- two names are equal exactly where they compare as equal
 pub name_ties : (p q : PieceData) → eq_by_cmp name_cmp p q ≡ is_eq (name_cmp p q)
 name_ties p q = refl
 
@@ -46,7 +46,8 @@ outstanding_of names e = record {
 abbrev pub outstanding_list : List (ℕ × PieceData) → List (PieceData × LeaseState) → List OutstandingData
 outstanding_list ids names = map (outstanding_of names) ids
 
--- both in order; each piece's id stands under its name, and what stands under a name is of a piece with that name
+-- both maps are in order; each piece's id stands under its name, and what stands under a name is of a piece with that
+-- name
 pub record AreMatchingMaps (ids : List (ℕ × PieceData)) (names : List (PieceData × LeaseState)) : Type 0 where
   pub rising : IsStrictlySortedBy nat_cmp (keys_of ids)
   pub sorted : IsStrictlySortedBy name_cmp (keys_of names)

@@ -1,4 +1,4 @@
--- What the counts of a lawful book say place by place.
+-- What the counts of a lawful book say, piece by piece and name by name.
 use Rattle.std.specs.Prelude.{◌≡◌, ℕ, Bool, true, List, ◌++◌, map, slice_get, Some}
 use Rattle.sf_insn.specs.declared.input.Input.{Input}
 use Rattle.sf_piece.specs.Pieces.{PieceData, is_member, is_prefix}

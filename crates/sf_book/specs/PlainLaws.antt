@@ -14,9 +14,11 @@ use Rattle.sf_book.specs.Changes.{without, MayCommit}
 use Rattle.sf_book.specs.Exact.{HasMembers}
 use Rattle.sf_book.specs.PlainBooks.{IsPlainBook, IsPlainWhereStackIs}
 
+-- the outstanding piece is plain
 abbrev OfPlain : OutstandingData → Type 0
 OfPlain e = IsPlainPiece e.piece
 
+-- the piece, outstanding under this id and on lease
 abbrev leased_piece : ℕ → PieceData → OutstandingData
 leased_piece k p = record { id = k; piece = p; leased = true }
 

@@ -21,7 +21,8 @@ use std::alloc::Global;
 use std::marker::Model;
 use std::sync::Arc;
 
-/// What a book counts: `left + settled + emptied = 1 + splits` and `commits = splits + settled + emptied`.
+/// How many pieces, regions and works a book has: `left + settled + emptied = 1 + splits`, and
+/// `commits = splits + settled + emptied`.
 #[derive(Clone, Copy, Debug, PartialEq, Eq)]
 pub struct Counts {
     /// Outstanding pieces, on lease or not.
@@ -39,7 +40,7 @@ pub struct Counts {
 /// A piece to work on, and the id under which it is outstanding.
 #[derive(Drop)]
 pub struct Lease {
-    /// What the book knows the piece by; no other outstanding piece has it.
+    /// The id under which the book knows the piece; no other outstanding piece has it.
     pub id: u64,
     /// The piece, which the book and its lease share.
     pub piece: Arc<Piece>,
@@ -86,8 +87,8 @@ impl Model for Book {
 }
 
 impl Book {
-    /// A new book of the stack, with the piece of all inputs outstanding, that takes so many works in all, 0 to
-    /// 2^32 - 1. `Memory` where a growth is refused.
+    /// A new book of the stack, in which the piece of all inputs is outstanding. It takes this many works at most, 0 to
+    /// 2^32 - 1. `Memory` where an allocation is refused.
     pub fn open(alloc: Global, stack: Arc<Stack>, budget: u32) -> Result<Book, Fault>
         ensures ok { IfOk result (λ b. (r : PieceData) × IsRoot (arc_value stack) r
             × (b ≡ fresh (arc_value stack) r budget)) }
@@ -111,7 +112,7 @@ impl Book {
         })
     }
 
-    /// How many works the book takes in all.
+    /// How many works the book takes at most.
     pub fn budget(&self) -> u32
         ensures budget { result ≡ self.now.budget }
         ensures lawful { IsLawfulBook self.now }
@@ -119,7 +120,7 @@ impl Book {
         self.budget
     }
 
-    /// What the book counts. Whenever it is asked, each input lies in exactly one of its pieces and regions.
+    /// The counts of the book. At any time each input lies in exactly one of its pieces and regions.
     #[tactic(auto, using(crate::specs::PartitionLaws::lies_in_one, crate::specs::PartitionLaws::none_begins_another))]
     pub fn counts(&self) -> Counts
         ensures counts { result ≡ counts_of self.now }
@@ -137,8 +138,8 @@ impl Book {
         }
     }
 
-    /// Puts the piece with the first name among those not on lease on lease, and answers it; `None` where all are on
-    /// lease. `Memory` where a growth is refused: the book is unchanged then.
+    /// Leases out, of the pieces that aren't on lease, the one with the first name; `None` where all are on lease.
+    /// `Memory` where an allocation is refused: the book is unchanged then.
     pub fn lease(&mut self) -> Result<Option<Lease>, Fault>
         ensures ok { IfOk result (λ l. MatchOption l ((self.new ≡ self.old)
             × All (λ e. e.leased ≡ true) self.old.outstanding)
@@ -176,7 +177,7 @@ impl Book {
     ///
     /// Refused, with the book unchanged, in this order: `Foreign` where the work is of another stack; `Stale` where
     /// no piece is outstanding under the id, or one with another name; `Spent` where the budget is spent; `Memory`
-    /// where a growth is refused.
+    /// where an allocation is refused.
     pub fn commit(&mut self, id: u64, work: Work) -> Result<Option<(u64, u64)>, Fault>
         ensures ok { IfOk result (λ ids. MayCommit self.old id work
             × (self.old.commits < self.old.budget)
@@ -189,8 +190,8 @@ impl Book {
         self.commit_of_stack(id, work)
     }
 
-    /// The same for a caller who can show that the work is of the book's stack: the stacks aren't compared, and `Foreign`
-    /// can't come. The caller's condition: it is.
+    /// Commits as `commit` does, for a caller who can show that the work is of the book's stack. The stacks aren't
+    /// compared, and `Foreign` can't come. The caller's condition: the work is of the book's stack.
     pub fn commit_of_stack(&mut self, id: u64, work: Work) -> Result<Option<(u64, u64)>, Fault>
         requires { work.piece.stack ≡ self.old.stack }
         ensures ok { IfOk result (λ ids. MayCommit self.old id work
@@ -202,9 +203,9 @@ impl Book {
         self.commit_own(id, work)
     }
 
-    /// The same for a caller who can show that the work may be committed: nothing is compared. The caller's conditions:
-    /// the work is of the book's stack and of the piece outstanding under the id, and the budget isn't spent. `Memory`
-    /// where a growth is refused: the book is unchanged then.
+    /// Commits as `commit` does, for a caller who can show that the work may be committed. Nothing is compared. The
+    /// caller's conditions: the work is of the book's stack and of the piece outstanding under the id, and the budget
+    /// isn't spent. `Memory` where an allocation is refused: the book is unchanged then.
     pub fn commit_own(&mut self, id: u64, work: Work) -> Result<Option<(u64, u64)>, Fault>
         requires may { MayCommit self.old id work }
         requires room { self.old.commits < self.old.budget }
@@ -213,7 +214,7 @@ impl Book {
         ensures err { IfErr result (λ f. (f ≡ Memory) × (self.new ≡ self.old)) }
     {
         let next = self.next_id;
-        // A region alone has a name of its own: of another work it is given back first, for the prover.
+        // For the prover: `longer` is dropped before the change where there is no region, since only a region keeps it.
         let (piece, step, longer) = work.into_parts();
         match step {
             Step::Split(f, t) => {
@@ -240,7 +241,8 @@ impl Book {
         }
     }
 
-    /// Refuses a work of the book's stack that isn't of the piece under the id, or comes when the budget is spent.
+    /// Refuses a work of the book's stack: `Stale` where it isn't of the piece under the id, `Spent` where the budget
+    /// is spent.
     fn admit(&self, id: u64, work: &Work) -> Result<(), Fault>
         requires { work.now.piece.stack ≡ self.now.stack }
         ensures ok { OnOk result (MayCommit self.now id work.now

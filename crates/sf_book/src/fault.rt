@@ -16,10 +16,10 @@ pub enum Fault {
     /// No piece is outstanding under the id, or one with another name.
     #[error("no such piece is outstanding")]
     Stale,
-    /// As many works were committed as the budget allows.
+    /// The budget is spent: as many works are committed as it allows.
     #[error("the budget is spent")]
     Spent,
-    /// A growth was refused.
+    /// An allocation was refused.
     #[error("out of memory")]
     Memory,
 }

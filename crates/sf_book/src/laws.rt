@@ -28,8 +28,8 @@ pub fn at_most_one_for_each_trace()
         length b.outstanding + length b.regions ≤ length (feasible_traces b.stack) }
 {}
 
-/// Where an exploration of a plain stack ended with nothing outstanding, the names of its regions are exactly the feasible
-/// traces, in order.
+/// Where an exploration of a plain stack ended with nothing outstanding, the names of its regions are exactly the
+/// feasible traces, in order.
 pub fn what_is_worked_off_names_each_trace()
     ensures { (b : BookData) → IsSettled b → IsPlainBook b → b.outstanding ≡ [] →
         IsWorkedOff b (feasible_traces b.stack) }

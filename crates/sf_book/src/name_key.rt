@@ -17,11 +17,12 @@ use std::cmp::Ordering;
 use std::marker::Model;
 use std::sync::Arc;
 
-/// A piece under its name: two of one name are one key.
+/// A piece as a key by its name: two pieces with the same name are the same key.
 #[derive(Drop)]
 pub(crate) struct NameKey {
-    // Those of the name. They tell most keys apart in a map's own memory, while a piece lies elsewhere: the first one names
-    // that differ early, the second one those that differ behind long runs of false.
+    // Two numbers of the name. By them a map compares most keys in its own memory, without looking at the pieces, which
+    // lie elsewhere: the first number differs for names that differ early, the second one for names that differ behind
+    // long runs of false.
     number: u64,
     runs: u64,
     piece: Arc<Piece>,
@@ -54,7 +55,7 @@ impl NameKey {
         }
     }
 
-    /// The same key again, with the same number. `Memory` where the piece can't be shared once more.
+    /// Another key of the same piece, with the same numbers. `Memory` where the piece can't be shared once more.
     pub(crate) fn twin(&self) -> Result<NameKey, Fault>
         ensures ok { IfOk result (λ k. k ≡ self.now) }
         ensures err { IfErr result (λ f. f ≡ Memory) }

@@ -1,4 +1,4 @@
-//! The beginning of a name as one number, by which most names are told apart.
+//! The beginning of a name as one number, by which most names are put in order.
 
 ghost use Rattle.std.specs.Prelude.{◌≡◌, ◌≤◌, List, Bool, length, IfSome};
 ghost use Rattle.std.specs.Ordering.{bool_cmp};
@@ -8,11 +8,11 @@ ghost use Rattle.sf_piece.specs.NameNumbers.{name_number};
 
 use std::cmp::Ordering;
 
-/// Of how many truth values a number tells.
+/// How many truth values a number holds.
 const LEADING: usize = 58;
 
-/// The first 58 truth values of a name as the bits of a number, the first one highest, and in the lowest six bits how many
-/// these are: so a name that is a beginning of another has a less number.
+/// The first 58 truth values of a name as the bits of a number, the first one highest, and in the lowest six bits how
+/// many of them there are. So a name with which another begins has the smaller number, where it has fewer than 58.
 pub(crate) fn number_of(name: &[bool]) -> u64
     ensures { result ≡ name_number name.now }
 {
@@ -24,7 +24,7 @@ pub(crate) fn number_of(name: &[bool]) -> u64
     64 * (number << (LEADING - count)) + count as u64
 }
 
-/// How two names compare, where their numbers tell it: a name with a less number is before one with a greater.
+/// How two names compare, where their numbers differ: the one with the smaller number is before the other.
 pub(crate) fn order_of_numbers(left: u64, right: u64) -> Option<Ordering>
     ensures { (m n : List Bool) → left ≡ name_number m → right ≡ name_number n
         → IfSome result (λ order. slice_cmp bool_cmp m n ≡ order) }
@@ -38,7 +38,8 @@ pub(crate) fn order_of_numbers(left: u64, right: u64) -> Option<Ordering>
     }
 }
 
-/// How two names compare, where the numbers of their first two runs tell it.
+/// How two names compare, where the numbers of their first two runs differ: the one with the smaller number is before
+/// the other.
 pub(crate) fn order_of_runs(left: u64, right: u64) -> Option<Ordering>
     ensures { (m n : List Bool) → length m ≤ 4294967295 → length n ≤ 4294967295
         → left ≡ runs_number m → right ≡ runs_number n

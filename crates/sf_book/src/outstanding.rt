@@ -1,4 +1,4 @@
-//! The outstanding pieces of a book: a map from ids to pieces beside a map from their names to what is on lease.
+//! The outstanding pieces of a book, in two maps: the pieces by their ids, and what is on lease by their names.
 
 ghost use Rattle.std.specs.Prelude.{slice_get, ◌≡◌, ◌≢◌, ◌<◌, ◌∷◌, [], ◌++◌, All, IfOk, IfErr, OnOk, MatchOption, length, map, true, false, None, Some, find, not, option_map, Bool};
 ghost use Rattle.std.specs.Arc.{arc_value};
@@ -19,14 +19,14 @@ use std::collections::BTreeMap;
 use std::marker::Model;
 use std::sync::Arc;
 
-/// Which outstanding piece has a name, and whether it is on lease.
+/// Which outstanding piece has a name, by its id, and whether it is on lease.
 #[derive(Clone, Copy, Debug, PartialEq, Eq)]
 pub(crate) struct LeaseState {
     pub(crate) id: u64,
     pub(crate) leased: bool,
 }
 
-/// Outstanding pieces under their ids, and their ids by their names, with whether a piece is on lease.
+/// Outstanding pieces: by ids the pieces themselves, and by names their ids and whether they are on lease.
 #[derive(Drop)]
 pub(crate) struct OutstandingPieces {
     by_id: BTreeMap<u64, NameKey>,
@@ -99,7 +99,7 @@ impl OutstandingPieces {
         named_at(&self.by_id, i).piece()
     }
 
-    /// Puts the piece with the first name among those not on lease on lease.
+    /// Leases out, of the pieces that aren't on lease, the one with the first name; `None` where all are on lease.
     pub(crate) fn lease(&mut self) -> Result<Option<(u64, Arc<Piece>)>, Fault>
         ensures ok { IfOk result (λ l. MatchOption l ((self.new ≡ self.old)
             × All (λ e. e.leased ≡ true) self.old) (λ l.
@@ -133,7 +133,7 @@ impl OutstandingPieces {
         clear_leased(&mut self.by_name);
     }
 
-    /// Adds a piece, or leaves all as it was.
+    /// Adds a piece under an id, on lease or not, or leaves all as it was.
     fn add(&mut self, id: u64, piece: Arc<Piece>, leased: bool) -> Result<(), Fault>
         requires above { All (λ e. e.id < id) self.old }
         requires apart { All (λ e. e.piece.name ≢ (arc_value piece).name) self.old }
@@ -165,7 +165,7 @@ impl OutstandingPieces {
         }
     }
 
-    /// Puts two pieces on lease in the place of one, or leaves all as it was.
+    /// Puts two pieces, on lease, in the place of one, or leaves all as it was.
     pub(crate) fn split(
         &mut self,
         id: u64,

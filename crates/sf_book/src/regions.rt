@@ -1,4 +1,4 @@
-//! What a book keeps of pieces that are no longer outstanding, and how a work is told to be of one.
+//! What a book keeps of pieces that are no longer outstanding, and the test whether a work is of a piece and a stack.
 
 ghost use Rattle.std.specs.Prelude.{◌≡◌, ◌↔◌, ◌∷◌, [], ◌++◌, IsTrue, IfErr, OnOk, IsPermutation, option_map, unwrap_or};
 ghost use Rattle.std.specs.Ordering.{bool_cmp};
@@ -19,10 +19,10 @@ use std::sync::Arc;
 /// A settled piece: each member has this whole name as its trace, and this answer.
 #[derive(Drop)]
 pub struct Region {
-    // That of the name, which tells most names apart where regions are put in order.
+    // The number of the name, by which most regions are put in order.
     number: u64,
     piece: Arc<Piece>,
-    // The whole name where it goes on beyond the piece's, and none where it is the piece's own.
+    // The whole name where it is longer than the piece's, and none where it is the piece's own.
     longer: Option<Vec<bool>>,
     answer: Answer,
 }
@@ -45,7 +45,7 @@ impl Model for Region {
 }
 
 impl Region {
-    /// The region of a piece that settled, with its whole name where that goes on beyond the piece's.
+    /// The region of a piece that settled, with its whole name where that is longer than the piece's.
     pub(crate) fn of(piece: Arc<Piece>, longer: Option<Vec<bool>>, answer: Answer) -> Region
         ensures { result ≡ record {
           piece = arc_value piece;
@@ -90,7 +90,7 @@ impl Region {
     }
 }
 
-/// A piece without a member, seen as its name.
+/// A piece without a member, of which only the name is shown.
 #[derive(Drop)]
 pub(crate) struct Emptied {
     pub(crate) piece: Arc<Piece>,
@@ -122,7 +122,7 @@ pub(crate) fn add<T: Drop>(v: &mut Vec<T>, x: T) -> Result<(), Fault>
     Ok(())
 }
 
-/// Whether the piece has the name of the work's.
+/// Whether the piece has the name of the work's piece.
 pub(crate) fn has_name(piece: &Arc<Piece>, work: &Work) -> bool
     ensures { IsTrue result ↔ ((arc_value piece.now).name ≡ work.now.piece.name) }
 {
@@ -136,7 +136,8 @@ pub(crate) fn is_of(work: &Work, stack: &Arc<Stack>) -> bool
     work.piece().stack().is_same(stack)
 }
 
-/// How the names of two regions compare. Pieces' own names, as most regions have, pass long runs of false in one step.
+/// How the names of two regions compare. Most regions have their piece's own name, whose long runs of false are
+/// compared in one step.
 fn by_name(a: &Region, b: &Region) -> Ordering
     ensures { result ≡ slice_cmp bool_cmp a.now.name b.now.name }
 {

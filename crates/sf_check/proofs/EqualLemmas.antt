@@ -1,5 +1,5 @@
--- The tables of tests by which programs ask A for one number after the other: how they are made, and what a look-up in
--- them finds.
+-- The tables of the tests by which a program compares A with one number after the other: how they are made, and what a
+-- look-up in them finds.
 use Rattle.std.proofs.Common.{◌≡◌, ◌≢◌, ℕ, zero, suc, ◌+◌, ◌-◌, ◌*◌, ◌<◌, ◌≤◌, ◌⊎◌, List, [], ◌∷◌, ◌++◌, length, set, replicate, refl, sym, ap, subst, ◌∙◌, inl, inr, arith, length-set}
 use Rattle.std.specs.Prelude.{All, Contains, slice_index}
 use Rattle.std.specs.List.Sorted.{IsNonDecreasing, IsPermutation, IsPartitionPoint}
@@ -14,23 +14,23 @@ use Rattle.sf_check.specs.Programs.{AllBelow, IsAt}
 use Rattle.sf_check.specs.EqualTests.{AsksFor, IsEqualTest, ArePassed, LeadsOn, IsInChain, AreChains, test_key, IsTestKey, AreTestKeys, LeadInside}
 use Rattle.sf_check.specs.Joining.{AreJoined, AreOwn, IsReached}
 
--- an instruction asks for one number
+-- an instruction asks for one number at most
 same_number : (i : Insn) (j k r s : ℕ) → AsksFor i j r → AsksFor i k s → j ≡ k
 same_number i j k r s a b = let e = a.is in let f = b.is in cc
 
--- and so does a place
+-- the instruction at a place asks for one number at most
 pub one_number : (code : List Insn) (at j k p q : ℕ) → IsEqualTest code at j p → IsEqualTest code at k q → j ≡ k
 one_number code at j k p q a b =
     let same : a.insn ≡ b.insn = same_Some a.insn b.insn (sym a.here ∙ b.here) in
     same_number b.insn j k a.skips b.skips (subst (λ (i : Insn). AsksFor i j a.skips) same a.asks) b.asks
 
--- an instruction that isn't such a test is none where it stands
+-- where the instruction at a place is no equal test, no equal test is there
 pub none_here : (code : List Insn) (at : ℕ) (i : Insn) → IsAt code at i → ((k skips : ℕ) → AsksFor i k skips → ⊥)
     → (k next : ℕ) → IsEqualTest code at k next → ⊥
 none_here code at i here none k next t =
     none k t.skips (subst (λ (j : Insn). AsksFor j k t.skips) (same_Some t.insn i (sym t.here ∙ here)) t.asks)
 
--- an instruction that is such a test is one where it stands
+-- where the instruction at a place is an equal test, that test is there
 pub test_here : (code : List Insn) (at number skips : ℕ) (i : Insn) → IsAt code at i → AsksFor i number skips
     → IsEqualTest code at number (at + 1 + skips)
 test_here code at number skips i here asks =
@@ -42,7 +42,7 @@ pub only_number : (code : List Insn) (at number asked skips : ℕ) (i : Insn) �
 only_number code at number asked skips i here asks is k next t =
     one_number code at k asked next (at + 1 + skips) t (test_here code at asked skips i here asks) ∙ is
 
--- the tests of a program lead inside if its targets are inside
+-- equal tests lead to places of the program where all targets are inside
 pub tests_inside : (code : List Insn) → ((at : ℕ) (i : Insn) → IsAt code at i → AllBelow (length code) (targets at i))
     → LeadInside code
 tests_inside code inside at k next t =
@@ -50,9 +50,9 @@ tests_inside code inside at k next t =
     let there = subst (λ (i : Insn). AllBelow (length code) (targets at i)) t.asks.is below in
     omega (arith, t.leads, there.1.0)
 
--- ---- passing tests
+-- ---- skipping tests
 
--- so many and then so many more
+-- m tests are skipped, and then n more
 pub passed_more : (code : List Insn) (number m n place middle behind : ℕ) → ArePassed code number m place middle
     → ArePassed code number n middle behind → ArePassed code number (m + n) place behind
 passed_more code number zero n place middle behind some more =
@@ -62,7 +62,7 @@ passed_more code number (suc m) n place middle behind some more =
     let e : suc m + n ≡ suc (m + n) = omega arith in
     rw e (some.0, some.1, some.2, some.3, passed_more code number m n some.1 middle behind some.4 more)
 
--- so many, one, and then so many more
+-- m tests are skipped, then one, and then n more
 pub passed_one_more : (code : List Insn) (number m n all k place at next behind : ℕ)
     → ArePassed code number m place at → k ≢ number → IsEqualTest code at k next
     → ArePassed code number n next behind → all ≡ m + (1 + n) → ArePassed code number all place behind
@@ -72,7 +72,7 @@ passed_one_more code number m n all k place at next behind some other test more 
 
 -- ---- going on in a chain
 
--- a walk on the chain comes to a place that is reached
+-- going on along a chain leads to a place that is reached
 walked : (code : List Insn) (chains steps lasts : List ℕ) (number fuel p t : ℕ) → AreChains code chains steps lasts
     → t ≤ p + fuel → IsReached code chains p number t
     → (n : ℕ) × (slice_index steps t ≡ slice_index steps p + n) × (p + n ≤ t) × ArePassed code number n p t
@@ -101,7 +101,7 @@ walked code chains steps lasts number (suc fuel) p t are fuelled reached = elim 
       )
 ]
 
--- what is told of a look-up
+-- what a look-up finds: the tests between are skipped, and their number is a difference of steps
 pub record IsPassed (code : List Insn) (steps : List ℕ) (place number behind : ℕ) : Type 0 where
   pub forward : slice_index steps place ≤ slice_index steps behind
   pub passed : ArePassed code number (slice_index steps behind - slice_index steps place) place behind
@@ -121,7 +121,7 @@ passed_to code chains steps lasts place number at are reached =
 
 -- ---- looking a number up
 
--- a later test of the chain for the number has its key from there on, and the key there is at most that
+-- Where the chain has a later test for the number, the look-up finds a key, and that is at most the key of this test.
 least_key : (code : List Insn) (chains keys : List ℕ) (found place number at next : ℕ) → AreTestKeys code chains keys
     → IsPartitionPoint (λ k. k < test_key (slice_index chains place) number place)
     (λ k. test_key (slice_index chains place) number place ≤ k) keys found → place ≤ at
@@ -139,7 +139,7 @@ least_key code chains keys found place number at next tables cut from same test 
           (omega (arith, there.1), omega (arith, order, is))
     ]
 
--- no key is in reach, so no test before the last is for the number
+-- where no key of the chain and the number is found, no test before the last place asks for the number
 pub none_by_key : (code : List Insn) (chains keys : List ℕ) (found place last number : ℕ) → AreTestKeys code chains keys
     → IsPartitionPoint (λ k. k < test_key (slice_index chains place) number place)
     (λ k. test_key (slice_index chains place) number place ≤ k) keys found
@@ -156,7 +156,7 @@ none_by_key code chains keys found place last number keys_are cut from inside sa
       omega (arith, least.1, far);
 }
 
--- the key at hand is of the first test of the chain that is for the number
+-- the key that is found is that of the first test of the chain for the number
 pub found_by_key : (code : List Insn) (chains keys : List ℕ) (found place last number : ℕ)
     → AreTestKeys code chains keys
     → length code ≤ 4096 → IsPartitionPoint (λ k. k < test_key (slice_index chains place) number place)
@@ -238,7 +238,7 @@ record IsWritten (chains steps lasts chains' steps' lasts' : List ℕ) (place ne
   pub old_step : (p : ℕ) → p ≢ next → slice_index steps' p ≡ slice_index steps p
   pub old_last : (c : ℕ) → c ≢ chain → slice_index lasts' c ≡ slice_index lasts c
 
--- the chains then
+-- the chains after that
 joined_by : (code : List Insn) (chains steps lasts chains' steps' lasts' : List ℕ) (place next number chain : ℕ)
     → AreJoined code chains steps lasts place → IsEqualTest code place number next → next < length code
     → slice_index chains next ≡ next → IsWritten chains steps lasts chains' steps' lasts' place next chain
@@ -435,7 +435,7 @@ gathered_none code chains = record {
   keyed = λ at k next less t. absurd (omega arith);
 }
 
--- one such test more
+-- the next instruction is an equal test: its key is added
 pub gathered_test : (code : List Insn) (chains keys : List ℕ) (place number next : ℕ)
     → Gathered code chains keys place → IsEqualTest code place number next → number < 4294967296
     → Gathered code chains (keys ++ test_key (slice_index chains place) number place ∷ []) (place + 1)
@@ -453,7 +453,7 @@ gathered_test code chains keys place number next so_far test small =
       ];
     }
 
--- another instruction
+-- the next instruction is another one: no key is added
 pub gathered_other : (code : List Insn) (chains keys : List ℕ) (place : ℕ) (i : Insn)
     → Gathered code chains keys place → IsAt code place i → ((k skips : ℕ) → AsksFor i k skips → ⊥)
     → Gathered code chains keys (place + 1)
@@ -465,7 +465,7 @@ gathered_other code chains keys place i so_far here none = record {
   ];
 }
 
--- all of them, in order
+-- all keys of the program, sorted
 pub gathered_all : (code : List Insn) (chains keys sorted : List ℕ) → Gathered code chains keys (length code)
     → IsPermutation keys sorted → IsNonDecreasing sorted → AreTestKeys code chains sorted
 gathered_all code chains keys sorted all moved ascending = record {

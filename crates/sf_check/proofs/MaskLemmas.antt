@@ -1,4 +1,4 @@
--- The checker's pass with masks finds the least load that a path has not set.
+-- By its masks the checker finds the least load that a path has not set.
 use Rattle.std.proofs.Common.{◌≡◌, ℕ, zero, suc, ◌+◌, ◌*◌, ◌%◌, ◌^◌, ◌<◌, min, List, [], ◌∷◌, length, get_or, set, replicate, Some, bit_and, bit_or, refl, sym, ap, subst, ◌∙◌, ◌⊎◌, inl, inr, arith, length-set}
 use Rattle.std.specs.Prelude.{Contains, Any}
 use Rattle.std.specs.Int.{bit_at, w16}
@@ -126,7 +126,7 @@ path_goes_up : (code : List Insn) (q : ℕ) (earlier : List ℕ) → IsPath code
 path_goes_up code q [] path = tt
 path_goes_up code q (p ∷ earlier) path = successor_after p path.0.0 q path.0.2
 
--- ---- the pass
+-- ---- place after place
 
 -- Once the places below one are done: a bit of a mask stands for a word that each path from below has set, a clear
 -- bit for one that some path has not set, and no load below is of a word that may not be set.

@@ -1,4 +1,5 @@
--- Tests by which programs ask A for one number after the other, and the tables by which they are found.
+-- Tests that ask whether A equals a number, how programs chain them, and the tables that find the test for a number.
+-- Here they are called equal tests.
 use Rattle.std.specs.Prelude.{◌≡◌, ◌≢◌, ℕ, zero, suc, ◌+◌, ◌*◌, ◌<◌, ◌≤◌, List, length, All, Contains, slice_index}
 use Rattle.std.specs.List.Sorted.{IsNonDecreasing}
 use Rattle.sf_insn.specs.declared.ops.Test.TheVariants.{Equal}
@@ -7,12 +8,12 @@ use Rattle.sf_check.specs.declared.insn.Insn.TheVariants.{Branch}
 use Rattle.sf_check.specs.declared.insn.Operand.TheVariants.{Constant}
 use Rattle.sf_check.specs.Programs.{IsAt}
 
--- The instruction asks whether A equals this number, and skips so many instructions where it doesn't.
+-- The instruction asks whether A equals this number; where it doesn't, it skips this many instructions.
 pub record AsksFor (i : Insn) (number skips : ℕ) : Type 0 where
   pub on_true : ℕ
   pub is : i ≡ Branch Equal (Constant number) on_true skips
 
--- The instruction at a place is such a test, for this number, and leads to that place where A is another.
+-- The instruction at `at` asks whether A equals `number`, and leads to `next` where A is another number.
 pub record IsEqualTest (code : List Insn) (at number next : ℕ) : Type 0 where
   pub insn : Insn
   pub here : IsAt code at insn
@@ -20,14 +21,14 @@ pub record IsEqualTest (code : List Insn) (at number next : ℕ) : Type 0 where
   pub asks : AsksFor insn number skips
   pub leads : next ≡ at + 1 + skips
 
--- So many tests, each for another number than this one and each where the one before leads if A is another, lead
--- from one place to another.
+-- From `place` this many equal tests for other numbers, each where the one before leads, lead to `behind`. Where A is
+-- this number, all of them fail.
 abbrev pub ArePassed : List Insn → ℕ → ℕ → ℕ → ℕ → Type 0
 ArePassed code number zero place behind = behind ≡ place
 ArePassed code number (suc n) place behind =
     (k : ℕ) × (next : ℕ) × (k ≢ number) × IsEqualTest code place k next × ArePassed code number n next behind
 
--- So many tests for other numbers lead on from a place, and to that one, where no such test is.
+-- From `place` `count` equal tests for other numbers lead to `behind`, where no such test stands.
 pub record IsBehindOthers (code : List Insn) (place number count behind : ℕ) : Type 0 where
   pub passed : ArePassed code number count place behind
   pub inside : behind < length code
@@ -35,8 +36,8 @@ pub record IsBehindOthers (code : List Insn) (place number count behind : ℕ) :
 
 -- ---- the tables
 
--- The first of two places of a chain is a test that leads on to a place of the chain, one step further, and not past
--- the second.
+-- Of two places of a chain the first, p, has a test that leads to a place of the chain: one step further, and not past
+-- q.
 pub record LeadsOn (code : List Insn) (chains steps : List ℕ) (p q : ℕ) : Type 0 where
   pub number : ℕ
   pub next : ℕ
@@ -45,7 +46,7 @@ pub record LeadsOn (code : List Insn) (chains steps : List ℕ) (p q : ℕ) : Ty
   pub same : slice_index chains next ≡ slice_index chains p
   pub step : slice_index steps next ≡ slice_index steps p + 1
 
--- The place is in a chain, which has the number of its first place. By that number its last place is found.
+-- Place p is in a chain. A chain is numbered by its first place, and `lasts` has its last place under that number.
 pub record IsInChain (code : List Insn) (chains steps lasts : List ℕ) (p : ℕ) : Type 0 where
   pub begins : slice_index chains p ≤ p
   pub few : slice_index steps p ≤ p
@@ -53,8 +54,8 @@ pub record IsInChain (code : List Insn) (chains steps lasts : List ℕ) (p : ℕ
   pub inside : slice_index lasts (slice_index chains p) < length code
   pub same : slice_index chains (slice_index lasts (slice_index chains p)) ≡ slice_index chains p
 
--- For each place of a program which chain it is in, how many tests of the chain lead there, and for each chain its
--- last place.
+-- The tables say of each place of a program which chain it is in and how many tests of the chain lead there, and of
+-- each chain what its last place is.
 pub record AreChains (code : List Insn) (chains steps lasts : List ℕ) : Type 0 where
   pub each_chain : length chains ≡ length code
   pub each_step : length steps ≡ length code
@@ -63,11 +64,11 @@ pub record AreChains (code : List Insn) (chains steps lasts : List ℕ) : Type 0
   pub on : (p q : ℕ) → p < q → q < length code → slice_index chains p ≡ slice_index chains q
       → LeadsOn code chains steps p q
 
--- such a test as one number: by its chain, by what it asks for, and then by where it stands
+-- an equal test as one number: in order of its chain, then of the number it asks for, then of its place
 abbrev pub test_key : ℕ → ℕ → ℕ → ℕ
 test_key chain number at = 4096 * (4294967296 * chain + number) + at
 
--- The key is that of such a test of the program.
+-- The key is that of an equal test of the program.
 pub record IsTestKey (code : List Insn) (chains : List ℕ) (key : ℕ) : Type 0 where
   pub number : ℕ
   pub at : ℕ
@@ -76,17 +77,17 @@ pub record IsTestKey (code : List Insn) (chains : List ℕ) (key : ℕ) : Type 0
   pub small : number < 4294967296
   pub is : key ≡ test_key (slice_index chains at) number at
 
--- The keys of all such tests of a program, ascending.
+-- The keys of all equal tests of a program, ascending.
 pub record AreTestKeys (code : List Insn) (chains keys : List ℕ) : Type 0 where
   pub ascending : IsNonDecreasing keys
   pub are : All (IsTestKey code chains) keys
   pub of : (at k next : ℕ) → IsEqualTest code at k next → Contains keys (test_key (slice_index chains at) k at)
 
--- the tests of a program lead to places of the program
+-- the equal tests of a program lead to places of the program
 abbrev pub LeadInside : List Insn → Type 0
 LeadInside code = (at k next : ℕ) → IsEqualTest code at k next → next < length code
 
--- The tables of a program.
+-- These are the tables of a program.
 pub record AreEqualTests (code : List Insn) (keys chains steps lasts : List ℕ) : Type 0 where
   pub keys_are : AreTestKeys code chains keys
   pub chains_are : AreChains code chains steps lasts

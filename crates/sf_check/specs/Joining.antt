@@ -1,19 +1,19 @@
--- What the functions tell each other that make the tables of equal tests and look numbers up in them.
+-- What holds between the functions that make the tables of equal tests and look numbers up in them.
 use Rattle.std.specs.Prelude.{◌≡◌, ℕ, ◌<◌, ◌≤◌, List, length, slice_index}
 use Rattle.sf_check.specs.declared.insn.Insn.{Insn}
 use Rattle.sf_check.specs.EqualTests.{IsEqualTest, AreChains}
 
--- These are the chains of the tests below a place: no other place is followed by one of its chain.
+-- The tables chain the tests below `place`: no place from there on is followed by another one of its chain.
 pub record AreJoined (code : List Insn) (chains steps lasts : List ℕ) (place : ℕ) : Type 0 where
   pub are : AreChains code chains steps lasts
   pub front : (p q : ℕ) → p < q → q < length code → slice_index chains p ≡ slice_index chains q → p < place
 
--- for each of so many places the place itself
+-- a list of this size that has at each place the place itself
 pub record AreOwn (places : List ℕ) (size : ℕ) : Type 0 where
   pub each : length places ≡ size
   pub own : (p : ℕ) → p < size → slice_index places p ≡ p
 
--- In the chain of a place no test from there up to another place of the chain asks for the number.
+-- `at` is in the chain of `place`, at or after it, and no test of the chain between them asks for the number.
 pub record IsReached (code : List Insn) (chains : List ℕ) (place number at : ℕ) : Type 0 where
   pub from : place ≤ at
   pub inside : at < length code

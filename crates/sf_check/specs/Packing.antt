@@ -9,7 +9,7 @@ use Rattle.sf_check.specs.Programs.{Spells, IsLawfulProgram}
 abbrev pub packed_insn : RawInsn → ℕ
 packed_insn r = 4294967296 * r.k + (16777216 * r.jf + 65536 * r.jt + r.code)
 
--- instructions, each as one number, spell a lawful program
+-- the numbers stand for instructions, one each, that spell this lawful program
 pub record ArePacked (program : List Insn) (packed : List ℕ) : Type 0 where
   pub raws : List RawInsn
   pub fields : AreInsns raws

@@ -9,6 +9,7 @@ use Rattle.sf_check.specs.Insns.{IsReturn, targets, successors}
 use Rattle.sf_check.specs.Programs.{AllBelow, EndsInReturn, IsAt}
 use Rattle.sf_check.specs.ContainsLaws.{contains_cons, contains_nil}
 
+-- a list of one element contains no other
 pub only_one : (n q : ℕ) → Contains (n ∷ []) q → n ≡ q
 only_one n q c = elim (contains_cons n [] q c) [ inl e ↦ e | inr none ↦ absurd (contains_nil q none) ]
 
@@ -24,7 +25,7 @@ successor_after at (Branch test other t f) q c =
     ]
 successor_after at _ q c = omega (arith, only_one (at + 1) q c)
 
--- the targets of jumps and tests and the return at the end are all that successors need
+-- where all targets are inside and the last instruction is a return, all successors are inside
 pub successors_inside : (code : List Insn) (at : ℕ) (i : Insn) → IsAt code at i → AllBelow (length code) (targets at i)
     → EndsInReturn code → AllBelow (length code) (successors at i)
 successors_inside code at i here inside ends = by_kind i here inside
@@ -57,6 +58,7 @@ successors_inside code at i here inside ends = by_kind i here inside
     by_kind Tax here inside = (not_last Tax here (λ x. x), tt)
     by_kind Txa here inside = (not_last Txa here (λ x. x), tt)
 
+-- a number that a list contains is below the limit of the list
 pub below_in : (limit : ℕ) (ns : List ℕ) (n : ℕ) → AllBelow limit ns → Contains ns n → n < limit
 below_in limit [] n below c = absurd (contains_nil n c)
 below_in limit (m ∷ ns) n below c =

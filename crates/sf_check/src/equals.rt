@@ -1,5 +1,5 @@
-//! Chains of tests that ask A for one number after the other: which of them asks for a number is looked up, and not
-//! each of them run.
+//! Chains of tests that compare A with one number after the other. Which of them asks for a given number is looked up
+//! in tables, where a chain is long, rather than found by going through it.
 
 ghost use Rattle.std.specs.Prelude.{◌≡◌, ◌≢◌, ◌+◌, ◌-◌, ◌<◌, ◌≤◌, ℕ, length, slice_index, IfOk, IfErr, IfSome, IfNone};
 ghost use Rattle.std.specs.List.Sorted.{IsNonDecreasing, IsPartitionPoint};
@@ -10,14 +10,15 @@ use crate::fault::Fault;
 use crate::insn::Insn;
 use std::alloc::{AllocError, Global};
 
-/// Up to here it takes less to look at each instruction of a chain than to look the number up.
+/// A chain that has at most this many places to go is gone through test by test: that costs less than a look-up.
 const SHORT: usize = 8;
 
 /// The tests of a program that ask whether A equals a number, in chains: each test of a chain leads to the next one where
 /// A is another number. Where several tests lead to one place, it is in the chain of the first of them.
 #[derive(Debug, Drop)]
 pub(crate) struct EqualTests {
-    // Each as one number, ascending, so that those of one chain for one number stand together, in order of their places.
+    // The tests, each as one number (`key_of`), ascending: so those of one chain for one number stand together, in
+    // order of their places.
     pub(crate) keys: Vec<u64>,
     // The chain of each place: a chain has the number of its first place.
     pub(crate) chains: Vec<u16>,
@@ -27,16 +28,16 @@ pub(crate) struct EqualTests {
     pub(crate) lasts: Vec<u16>,
 }
 
-/// Tests that were passed, one behind the other.
+/// Tests that are skipped, since each of them fails and leads to the next one.
 #[derive(Clone, Copy, Debug, PartialEq, Eq)]
 pub struct Passed {
     /// How many there are.
     pub count: usize,
-    /// The place where the last one leads.
+    /// The place where the last one leads; with no test, the place that was asked about.
     pub behind: usize,
 }
 
-/// Such a test as one number: by its chain, by what it asks for, and then by where it stands.
+/// A test as one number: in order of its chain, then of the number it asks for, then of its place.
 fn key_of(chain: u16, number: u32, place: usize) -> u64
     requires { place < 4096 }
     ensures { result ≡ test_key chain number place }
@@ -44,7 +45,7 @@ fn key_of(chain: u16, number: u32, place: usize) -> u64
     4096 * (0x1_0000_0000 * chain as u64 + number as u64) + place as u64
 }
 
-/// Where the test at a place leads, if it asks for another number than this one.
+/// The place to which the equal test at a place leads where A is this number, if it asks for another one.
 fn next_of_other(insns: &[Insn], place: usize, number: u32) -> Option<usize>
     requires inside { place < length insns.now }
     requires short { length insns.now ≤ 4096 }
@@ -63,7 +64,7 @@ fn next_of_other(insns: &[Insn], place: usize, number: u32) -> Option<usize>
     }
 }
 
-/// The places below a number, in order.
+/// The places below a number, in order. `AllocError` where an allocation is refused.
 fn own_places(alloc: Global, size: usize) -> Result<Vec<u16>, AllocError>
     requires { size ≤ 4096 }
     ensures { IfOk result (λ places. AreOwn places.items size) }
@@ -75,7 +76,7 @@ fn own_places(alloc: Global, size: usize) -> Result<Vec<u16>, AllocError>
     Ok(places)
 }
 
-/// The place where a test leads comes into the chain of the test, unless it is in another one already.
+/// Puts the place where a test leads into the chain of the test, unless it is in another one already.
 fn join(
     insns: &[Insn],
     chains: &mut [u16],
@@ -100,7 +101,7 @@ fn join(
     }
 }
 
-/// Makes the chains, of places that each are a chain of their own.
+/// Makes the chains. At first each place is a chain of its own.
 fn join_all(insns: &[Insn], chains: &mut [u16], steps: &mut [u16], lasts: &mut [u16])
     requires short { length insns.now ≤ 4096 }
     requires inside { LeadInside insns.now }
@@ -121,7 +122,7 @@ fn join_all(insns: &[Insn], chains: &mut [u16], steps: &mut [u16], lasts: &mut [
     }
 }
 
-/// The keys of all tests, ascending.
+/// The keys of all tests, ascending. `AllocError` where an allocation is refused.
 fn keys_of(alloc: Global, insns: &[Insn], chains: &[u16]) -> Result<Vec<u64>, AllocError>
     requires short { length insns.now ≤ 4096 }
     requires each { length chains.now ≡ length insns.now }
@@ -145,7 +146,8 @@ fn count_below(keys: &[u64], key: u64) -> usize
     keys.partition_point(|k| *k < key)
 }
 
-/// The first place of a chain, from this one on, whose test asks for the number, or else the chain's last.
+/// The first place of a chain, from this one on, whose test asks for the number; where none does, the last place of the
+/// chain.
 fn searched(
     insns: &[Insn],
     keys: &[u64],
@@ -179,7 +181,7 @@ fn searched(
 }
 
 impl EqualTests {
-    /// The tables of a program. `Memory` where a growth is refused.
+    /// The tables of a program. `Memory` where an allocation is refused.
     pub(crate) fn of(alloc: Global, insns: &[Insn]) -> Result<EqualTests, Fault>
         requires short { length insns.now ≤ 4096 }
         requires inside { LeadInside insns.now }
@@ -212,7 +214,8 @@ impl EqualTests {
         (self.steps[to] - self.steps[from]) as usize
     }
 
-    /// Passes tests for other numbers of the chain of a place, as far as they are looked up.
+    /// Skips tests for other numbers in the chain of a place, by a look-up; none where the chain has only few places to
+    /// go.
     fn passed_in_chain(&self, insns: &[Insn], place: usize, number: u32) -> Passed
         requires tables { AreEqualTests insns.now self.now.keys.items self.now.chains.items
             self.now.steps.items self.now.lasts.items }
@@ -235,7 +238,8 @@ impl EqualTests {
         }
     }
 
-    /// Passes all tests for other numbers that come from a place on, each where the one before leads.
+    /// Skips all tests for other numbers from a place on, each where the one before leads, whether or not they are in
+    /// one chain.
     pub(crate) fn behind_others(&self, insns: &[Insn], place: usize, number: u32) -> Passed
         requires tables { AreEqualTests insns.now self.now.keys.items self.now.chains.items
             self.now.steps.items self.now.lasts.items }

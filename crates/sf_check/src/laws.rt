@@ -36,7 +36,7 @@ pub fn a_fault_spells_no_lawful_program()
         IsFirstFault raws e → Spells raws code → IsLawfulProgram code → ⊥ }
 {}
 
-/// Instructions have at most one first fault, so `check` tells the only one.
+/// Instructions have at most one first fault, so `check` answers the only one.
 pub fn one_first_fault()
     ensures { (raws : List RawInsn) (e f : Fault) → IsFirstFault raws e
         → IsFirstFault raws f → e ≡ f }

@@ -18,7 +18,7 @@ fn pack(insn: RawInsn) -> u64
     high + low
 }
 
-/// Instructions, each as one number. Fails for want of memory alone.
+/// Instructions, each as one number. `Memory` where an allocation is refused.
 pub(crate) fn pack_all(alloc: Global, insns: &[RawInsn]) -> Result<Vec<u64>, Fault>
     ensures packed { IfOk result (λ v. v.items ≡ map packed_insn insns.now) }
     ensures fields { OnOk result (AreInsns insns.now) }
@@ -31,7 +31,8 @@ pub(crate) fn pack_all(alloc: Global, insns: &[RawInsn]) -> Result<Vec<u64>, Fau
     Ok(packed)
 }
 
-/// Whether two lists of numbers are the same. It goes on past a difference, so that several numbers are compared at a time.
+/// Whether two lists of numbers are the same. It doesn't stop at a difference, so that the processor can compare
+/// several numbers at a time.
 pub(crate) fn are_same(left: &[u64], right: &[u64]) -> bool
     ensures { IsTrue result ↔ (left.now ≡ right.now) }
 {

@@ -1,4 +1,4 @@
--- Why what is told of two stacks is right.
+-- Why what is found of two stacks is right.
 use Rattle.std.proofs.Common.{◌≡◌, ℕ, zero, suc, ◌+◌, ◌-◌, ◌<◌, ◌++◌, true, true≢false, List, [], ◌∷◌, length, take, drop, Some, slice_get, refl, sym, ap, subst, ◌∙◌, inl, inr, arith, length-drop}
 use Rattle.std.proofs.lemmas.Bool.{cases_eq}
 use Rattle.std.proofs.lemmas.Option.{same_Some}
@@ -77,7 +77,7 @@ unrelated s older relation place both told none = λ d before after m change.
     none (subst (λ (x : Answer). AreRelated relation both.older x) a
     (subst (λ (x : Answer). AreRelated relation x after) b change.related))
 
--- nor where there is no member
+-- where a piece has no member, no member of its region is changed so
 pub memberless : (s : BookData) (older : ℕ) (relation : Relation) (place : ℕ) (r : RegionData)
     → slice_get s.regions place ≡ Some r → HasNoMember r.piece → IsUnchangedAt s older relation place
 memberless s older relation place r there none = λ d before after m change.
@@ -110,7 +110,7 @@ never s older relation settled none all = record {
   plain = λ _. tt;
 }
 
--- one more region
+-- with one region more
 pub one_more : (s : BookData) (older : ℕ) (relation : Relation) (n : ℕ)
     → ((r : ℕ) → r < n → IsUnchangedAt s older relation r) → IsUnchangedAt s older relation n
     → (r : ℕ) → r < n + 1 → IsUnchangedAt s older relation r
@@ -119,7 +119,7 @@ one_more s older relation n before here r lt = elim (cases_eq r n) [
   | inr other ↦ before r (omega arith)
 ]
 
--- a member of the first region with one that is changed so
+-- an example from the first region that has a member that is changed so
 pub allowed : (s : BookData) (older : ℕ) (relation : Relation) (place : ℕ) (e : Example)
     → IsChange (old_of s older) (new_of s older) relation e.input e.before e.after
     → (IsPlain s.stack → IsLeastAt s place e.input)
@@ -130,7 +130,7 @@ allowed s older relation place e change least earlier = record {
   plain = λ h. record { place = place; least = least h; none_earlier = earlier h };
 }
 
--- what is told of each relation
+-- what is found of each relation is right
 pub all_told : (s : BookData) (older : ℕ) (looser tighter different : Change) → IsChangeOf s older Looser looser
     → IsChangeOf s older Tighter tighter → IsChangeOf s older Different different → (relation : Relation)
     → IsChangeOf s older relation (change_of (record {

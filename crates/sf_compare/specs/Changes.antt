@@ -1,4 +1,4 @@
--- What is told of two stacks that were explored as one, the old stack's programs first.
+-- What is found of two stacks that were explored as one, the old stack's programs first.
 use Rattle.std.specs.Prelude.{◌≡◌, ℕ, ◌<◌, ◌⊎◌, true, false, List, [], length, take, drop, Some, slice_get}
 use Rattle.sf_insn.specs.declared.input.Input.{Input}
 use Rattle.sf_insn.specs.Inputs.{IsInput}
@@ -25,11 +25,11 @@ pub record IsChange (old new : List (List Insn)) (relation : Relation) (d : Inpu
   pub answered_after : Answers new d after
   pub related : AreRelated relation before after
 
--- the old stack of an exploration of both: so many of its programs, the first ones
+-- the old stack of an exploration of both: this many of its programs, the first ones
 abbrev pub old_of : BookData → ℕ → List (List Insn)
 old_of s older = take older s.stack
 
--- the new stack: the others
+-- the new stack of an exploration of both: the other programs
 abbrev pub new_of : BookData → ℕ → List (List Insn)
 new_of s older = drop older s.stack
 
@@ -70,8 +70,8 @@ pub record IsLeastAt (s : BookData) (place : ℕ) (d : Input) : Type 0 where
   pub there : slice_get s.regions place ≡ Some region
   pub least : IsLeastMember region.piece d
 
--- What the region at a place tells of a relation: no member is changed so; this member is, and on a plain stack it is
--- the least one; or the region is in doubt, which none is on a plain stack.
+-- What is found of a relation in the region at a place: no member is changed so; this member is, and on a plain stack
+-- it is the least one; or the region is in doubt, which none is on a plain stack.
 abbrev pub TellsOfRegion : BookData → ℕ → Relation → ℕ → Change → Type 0
 TellsOfRegion s older relation place Never = IsUnchangedAt s older relation place
 TellsOfRegion s older relation place (Allowed e) =
@@ -79,8 +79,8 @@ TellsOfRegion s older relation place (Allowed e) =
     × (IsPlain s.stack → IsLeastAt s place e.input)
 TellsOfRegion s older relation place Unsettled = IsDoubtfulAt s older relation place × ¬ IsPlain s.stack
 
--- What is told of a relation is right: never, where nothing is outstanding and no input is changed so; allowed, with an
--- input that is; and unsettled only where a piece is outstanding or a region is in doubt.
+-- What is found of a relation is right: never, where nothing is outstanding and no input is changed so; allowed, with
+-- an input that is; and unsettled only where a piece is outstanding or a region is in doubt.
 abbrev pub IsRightChange : BookData → ℕ → Relation → Change → Type 0
 IsRightChange s older relation Never = (s.outstanding ≡ [])
     × ((d : Input) (before after : Answer) → IsChange (old_of s older) (new_of s older) relation d before after → ⊥)
@@ -101,7 +101,7 @@ IsPlainChange s older relation Never = Unit {0}
 IsPlainChange s older relation (Allowed e) = IsFirstExample s older relation e.input
 IsPlainChange s older relation Unsettled = 0 < length s.outstanding
 
--- what is told is right, and on a plain stack it is exact
+-- what is found is right, and on a plain stack it is exact
 pub record IsChangeOf (s : BookData) (older : ℕ) (relation : Relation) (change : Change) : Type 0 where
   pub right : IsRightChange s older relation change
   pub plain : IsPlain s.stack → IsPlainChange s older relation change

@@ -14,8 +14,8 @@ use Rattle.sf_compare.specs.declared.changes.Change.{Change}
 use Rattle.sf_compare.specs.declared.changes.Change.TheVariants.{Never, Allowed, Unsettled}
 use Rattle.sf_compare.specs.Changes.{IsChangeOf, new_of, old_of}
 
--- how the exploration of both stacks as one ended, how many of its programs the old stack has, and what is told of each
--- relation
+-- how the exploration of both stacks as one ended, how many of its programs the old stack has, and what is found of
+-- each relation
 pub record Compared : Type 0 where
   pub settled : BookData
   pub older : ℕ
@@ -27,21 +27,22 @@ pub record Compared : Type 0 where
 pub record HasOldPart (c : Compared) : Type 0 where
   pub part : c.older ≤ length c.settled.stack
 
--- what is told of a relation
+-- what is found of a relation
 abbrev pub change_of : Compared → Relation → Change
 change_of c Looser = c.looser
 change_of c Tighter = c.tighter
 change_of c Different = c.different
 
--- An exploration of the stack came to its end, with nothing outstanding or all of the budget spent, on a plain stack to
--- the exact end, whoever worked; and of its first programs, as the old stack, and the others what is told is right.
+-- An exploration of the stack came to its end, with nothing outstanding or all of the budget spent; on a plain stack
+-- this is the exact end, whoever worked. What is found of its first programs, as the old stack, and the others is
+-- right.
 pub record IsComparedOn (stack : List (List Insn)) (older budget : ℕ) (c : Compared) : Type 0 where
   pub end : IsExplorationOf stack budget c.settled
   pub plain : IsPlain stack → IsExactExploration stack budget c.settled
   pub parted : c.older ≡ older
   pub told : (relation : Relation) → IsChangeOf c.settled older relation (change_of c relation)
 
--- so were the stacks of files, those of the old stack before those of the new one
+-- a comparison of the stacks of files, those of the old stack before those of the new one
 pub record IsComparison (files : List (List ℕ)) (older budget : ℕ) (c : Compared) : Type 0 where
   pub stack : SpellStack files c.settled.stack
   pub compared : IsComparedOn c.settled.stack older budget c
@@ -55,7 +56,7 @@ part_line which programs = line (which ∷ codes "filters" ∷ decimal (length p
 abbrev pub answer_words : Answer → List ℕ
 answer_words answer = action_text answer.action ++ 32 ∷ decimal answer.info
 
--- what is told of a relation, and the example with the answers of the old stack and of the new one
+-- what is found of a relation, and the example with the answers of the old stack and of the new one
 abbrev pub change_line : List ℕ → Change → List ℕ
 change_line relation Never = line (relation ∷ codes "never" ∷ [])
 change_line relation (Allowed e) = line (relation ∷ codes "allowed" ∷ hex_text e.input ∷ answer_words e.before

@@ -1,4 +1,4 @@
-//! What is told of a relation between the answers of two stacks, for all inputs.
+//! What is found of a relation between the answers of two stacks, for all inputs.
 
 ghost use Rattle.std.specs.Prelude.{◌≡◌, ◌<◌, ◌≤◌, ◌⊎◌, ℕ, true, false, length, slice_get, Some, IfOk, IfErr};
 ghost use Rattle.sf_check.specs.Stacks.{IsPlain};
@@ -15,12 +15,15 @@ use std::alloc::Global;
 /// An input, with the answer of the old stack and that of the new one.
 #[derive(Clone, Copy, Debug, PartialEq, Eq)]
 pub struct Example {
+    /// The input that is changed.
     pub input: Input,
+    /// The old stack's answer to it.
     pub before: Answer,
+    /// The new stack's answer to it.
     pub after: Answer,
 }
 
-/// What is told of a relation between the answers of two stacks.
+/// What is found of a relation between the answers of two stacks.
 #[derive(Clone, Copy, Debug, PartialEq, Eq)]
 pub enum Change {
     /// No input is changed so.
@@ -45,9 +48,9 @@ fn answers_at(settled: &Settled, older: usize, place: usize) -> PartAnswers
     }
 }
 
-/// The answers of both stacks to the members of each region, in the order of the regions. Both were explored as one stack:
-/// its first `older` programs are the old stack, and the others the new one. The caller's condition: there are as many
-/// programs. `Memory` where an allocation is refused.
+/// The answers of both stacks to the members of each region, in the order of the regions. Both were explored as one
+/// stack: its first `older` programs are the old stack, and the others the new one. The caller's condition: the stack
+/// has at least `older` programs. `Memory` where an allocation is refused.
 pub fn answers_of_regions(
     alloc: Global,
     settled: &Settled,
@@ -64,8 +67,8 @@ pub fn answers_of_regions(
     Ok(answers)
 }
 
-/// What the region at a place tells of a relation: `Never` where no member is changed so, `Allowed` with a member that is,
-/// and else `Unsettled`. `Memory` where a growth is refused.
+/// What is found of a relation in the region at a place: `Never` where no member is changed so, `Allowed` with a member
+/// that is, and else `Unsettled`. `Memory` where an allocation is refused.
 fn looked_at(
     alloc: Global,
     settled: &Settled,
@@ -95,7 +98,8 @@ fn looked_at(
     }
 }
 
-/// The reply where no region is known to have a member that is changed so.
+/// What is found where no region is known to have a member that is changed so: `Unsettled` where a region is in doubt
+/// or a piece is outstanding, and else `Never`.
 fn without_example(settled: &Settled, older: usize, relation: Relation, doubt: bool) -> Change
     requires passed { doubt ≡ false → (r : ℕ) → r < length settled.now.regions
         → IsUnchangedAt settled.now older relation r }
@@ -113,13 +117,14 @@ fn without_example(settled: &Settled, older: usize, relation: Relation, doubt: b
     }
 }
 
-/// What is told of a relation between the answers of an old stack and of a new one, for all inputs. Both were explored as
-/// one stack: its first `older` programs are the old stack, and the others the new one. The caller's condition: there are
-/// as many programs, and `answers` are those of `answers_of_regions`.
+/// What is found of a relation between the answers of an old stack and of a new one, for all inputs. Both were explored
+/// as one stack: its first `older` programs are the old stack, and the others the new one. The caller's condition: the
+/// stack has at least `older` programs, and `answers` are those of `answers_of_regions`.
 ///
-/// `Never` where nothing is outstanding and no input is changed so; `Allowed` with an input that is, which is a member of
-/// the first region where one was found; else `Unsettled`. On a plain stack the example is the least one of the first
-/// region that has any, and `Unsettled` comes only where a piece is outstanding. `Memory` where a growth is refused.
+/// `Never` where nothing is outstanding and no input is changed so; `Allowed` with an input that is, a member of the
+/// first region in which one was found; else `Unsettled`. On a plain stack the example is the least one of the first
+/// region that has any, and `Unsettled` comes only where a piece is outstanding. `Memory` where an allocation is
+/// refused.
 pub fn find_change(
     alloc: Global,
     settled: &Settled,

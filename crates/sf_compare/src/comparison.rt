@@ -17,7 +17,7 @@ use std::marker::Model;
 use std::sync::{Arc, Wait};
 use std::thread::Threads;
 
-/// What a comparison found: how the exploration of both stacks as one ended, and what is told of each relation.
+/// What a comparison found: how the exploration of both stacks as one ended, and what was found of each relation.
 #[derive(Drop)]
 pub struct Comparison {
     settled: Settled,
@@ -50,7 +50,7 @@ impl Model for Comparison {
 }
 
 impl Comparison {
-    /// How the exploration of both stacks ended, the old one's programs before those of the new one.
+    /// How the exploration of both stacks as one ended; the old one's programs stand before those of the new one.
     pub fn settled(&self) -> &Settled
         ensures { result.now ≡ self.now.settled }
     {
@@ -65,7 +65,7 @@ impl Comparison {
         self.older
     }
 
-    /// What is told of a relation.
+    /// What was found of a relation.
     pub fn change(&self, relation: Relation) -> Change
         ensures { result ≡ change_of self.now relation }
     {
@@ -77,7 +77,7 @@ impl Comparison {
     }
 }
 
-/// What is told of a relation. `Memory` where a growth is refused.
+/// What is found of a relation. `Memory` where an allocation is refused.
 fn told_of(
     alloc: Global,
     settled: &Settled,
@@ -107,7 +107,7 @@ fn answers_of(alloc: Global, settled: &Settled, older: usize) -> Result<Vec<Part
     }
 }
 
-/// The comparison of a stack's first programs with the others.
+/// The comparison of a stack's first `older` programs, as the old stack, with the others.
 fn compare_parts<R: Threads + Wait + Sync, G: Gate>(
     rt: &R,
     alloc: Global,
@@ -149,13 +149,13 @@ fn compare_parts<R: Threads + Wait + Sync, G: Gate>(
     })
 }
 
-/// Compares two stacks, for all inputs. The filter files of the old stack stand before those of the new one, each in order
-/// of installation, the newest last, and `older` of them are the old stack's. Both are explored as one stack, by at most
-/// `budget` works; the gate sees each work before it is committed.
+/// Compares two stacks, for all inputs. The filter files of the old stack stand before those of the new one, each in
+/// order of installation, the newest last, and `older` of them are the old stack's. Both are explored as one stack, by
+/// at most `budget` works; the gate sees each work before it is committed.
 ///
-/// The caller's conditions: as many files, a budget from 1 to 1,000,000 and 1 to 64 workers, each a thread of its own where
-/// there are more than one. Refusals: those of `stack_of` for all files together. `Memory` can come anywhere. Waits for the
-/// workers.
+/// The caller's conditions: at least `older` files, a budget from 1 to 1,000,000 and 1 to 64 workers, each a thread of
+/// its own where there are more than one. Refusals: those of `stack_of` for all files together. `Memory` can come
+/// anywhere. Waits for the workers.
 pub fn compare<R: Threads + Wait + Sync, G: Gate>(
     rt: &R,
     alloc: Global,
@@ -168,10 +168,10 @@ pub fn compare<R: Threads + Wait + Sync, G: Gate>(
     requires workers { (0 < workers) × (workers ≤ 64) }
     requires older { older ≤ length filters.now }
 
-    // What is told of the two stacks that the files spell is right.
+    // What is found of the two stacks that the files spell is right.
     ensures found { IfOk result (IsComparison (map (λ f. f.items) filters.now) older budget) }
 
-    // Anything else is the files' first refusal, but for want of memory.
+    // Any error is the files' first refusal, or refused memory.
     ensures refused { IfErr result (λ e. (e ≡ Fault.Memory)
         ⊎ IsFirstRefusal (map (λ f. f.items) filters.now) e) }
 {

@@ -29,7 +29,7 @@ fn reach(action: Action) -> u8
 }
 
 impl Relation {
-    /// Whether an answer is so related to the one before.
+    /// Whether an answer has this relation to the one that was given before.
     pub fn holds(self, before: Answer, after: Answer) -> bool
         ensures { IsTrue result ↔ AreRelated self before after }
     {

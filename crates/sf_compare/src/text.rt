@@ -27,7 +27,7 @@ fn words_of(alloc: Global, answer: Answer) -> Result<String, AllocError>
     Ok(text)
 }
 
-/// The line of a relation: what is told of it, and the example with both answers.
+/// The line of a relation: what was found of it, and the example with both answers.
 fn push_change(
     alloc: Global,
     text: &mut String,
@@ -88,7 +88,7 @@ fn push_sizes(text: &mut String, settled: &Settled, older: usize) -> Result<(), 
     push_counts(text, settled.counts())
 }
 
-/// The whole text.
+/// The whole text of a comparison.
 fn text_of(alloc: Global, comparison: &Comparison) -> Result<String, AllocError>
     ensures { IfOk result (λ text. string_bytes text ≡ comparison_text comparison.now) }
 {
@@ -100,22 +100,22 @@ fn text_of(alloc: Global, comparison: &Comparison) -> Result<String, AllocError>
 
 /// Writes the text of a comparison.
 ///
-/// `Write` where a write fails or takes no byte, `Memory` where the text can't be built. After either a beginning of the text
-/// was written, after `Memory` nothing.
+/// `Write` where a write fails or takes no byte: a beginning of the text was written then. `Memory` where the text
+/// can't be built: nothing was written then.
 pub fn write_comparison<W: Write>(
     alloc: Global,
     comparison: &Comparison,
     out: &mut W,
 ) -> Result<(), Fault>
-    // The text is written, to a writer that tells its bytes.
+    // The text is written, where the writer tells its bytes.
     ensures written { OnOk result (Appends (W.contents out.old) (W.contents out.new)
         (comparison_text comparison.now)) }
 
-    // Otherwise a beginning of it is.
+    // After an error a beginning of the text is written.
     ensures begun { OnErr result (AppendsFront (W.contents out.old) (W.contents out.new)
         (comparison_text comparison.now)) }
 
-    // Nothing else is told than that writing failed or memory ran out, and then nothing was written.
+    // The only errors are that writing failed, or that memory ran out: then nothing was written.
     ensures refused { IfErr result (λ e. (e ≡ WriteFault)
         ⊎ ((e ≡ MemoryFault) × (out.new ≡ out.old))) }
 {

@@ -1,4 +1,4 @@
--- The questions with a Doubt, and their bits.
+-- The questions in doubt, and their bits.
 use Rattle.std.proofs.Common.{◌≡◌, ◌≢◌, ℕ, ◌+◌, ◌*◌, ◌/◌, ◌%◌, ◌^◌, ◌<◌, ◌≤◌, ◌==◌, if◌then◌else◌, max, bit_or, List, [], ◌∷◌, ◌++◌, w64, ap, ◌∙◌, arith}
 use Rattle.std.specs.Int.{bit_at}
 use Rattle.std.proofs.lemmas.Bool.Decides.{nat_tests}
@@ -41,12 +41,12 @@ mask_apart b c b_low c_low same = dite (ℕ_discrete b c) (λ e. e) (λ ne. absu
     ap (λ m. bit_at (bit_or 0 m) b) same in
     omega arith))
 
--- a word of doubts and a mask belong to one question
+-- the place of a word of doubts and a mask in it belong to only one question
 pub question_is : (p q : ℕ) → p / 64 + 2 ≡ q / 64 + 2 → 1 * 2 ^ (p % 64) % 2 ^ 64 ≡ 1 * 2 ^ (q % 64) % 2 ^ 64 → p ≡ q
 question_is p q word mask = let rest : p % 64 ≡ q % 64 =
     mask_apart (p % 64) (q % 64) (omega arith) (omega arith) mask in omega arith
 
--- the bit of p, where the bit of q is set in its word
+-- the bit of q is 1 in its word after it was set there
 pub bit_set : (word q : ℕ) → bit_at (bit_or word (1 * 2 ^ (q % 64) % 2 ^ 64)) (q % 64) ≡ 1
 bit_set word q = bit_at_set_same w64 word (q % 64) (omega arith)
 

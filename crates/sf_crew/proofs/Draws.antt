@@ -18,7 +18,7 @@ use Rattle.sf_crew.proofs.OneView.{one_view, same_marks, later, in_words}
 below_next : (x n : ℕ) → once_below x (n + 1) ≡ once_below x n + (if x == n then 1 else 0)
 below_next x n = grind (arith, nat_tests)
 
--- the job word changes
+-- the word of the next job changes, and the rule stays
 put_next : (k : BoardKey) (words : List ℕ) (n : ℕ) (views : List View) → length words ≡ length (questions_of k) + 6
     → Kept k n (slice_index words 1) (doubts_in words) (least_in words) views
     → (length (set words 0 n) ≡ length (questions_of k) + 6)
@@ -94,7 +94,7 @@ pass_kept k n e d least views port v past fresh part at h = let w : View = view_
       covered = mine.covered;
     }) h
 
--- the job word stays far below the end of its type
+-- the word of the next job stays far below 2 ^ 64
 nones_below : (k : BoardKey) (n e : ℕ) (d least : ℕ → ℕ) (views : List View) (port : ℕ) (v : View)
     → v.exhausted_seats ≡ 0
     → 0 < v.joined_seats → get_elem? views port ≡ some v → Kept k n e d least views

@@ -70,7 +70,7 @@ pub lease_keeps : (b c : BookData) (l : Option Lease)
 lease_keeps b c None h = rw h.0 (record { stack = refl; budget = refl }, refl)
 lease_keeps b c (Some x) h = rw h.after (record { stack = refl; budget = refl }, refl)
 
--- it may be worked within the budget, and where there is none, nothing is outstanding
+-- the piece that was leased may be worked within the budget; where there is none, nothing is outstanding
 pub leased_or_end : (b c : BookData) (l : Option Lease) → IsFree b.outstanding → b.commits < b.budget
     → MatchOption l ((c ≡ b) × All (λ e. e.leased ≡ true) b.outstanding) (λ x. Leases b x.id (arc_value x.piece) c)
     → MatchOption l (IsExhausted c) (λ x. MayWork c x)
@@ -79,7 +79,7 @@ leased_or_end b c (Some x) free room h = record { lease = only_leased b c x free
 
 -- ---- a commit of the leased piece's work
 
--- it is of the book's stack, and of the piece under the lease's id
+-- the work is of the book's stack, and of the piece under the lease's id
 pub may_commit : (b : BookData) (x : Lease) (w : WorkData) → IsLawfulBook b → MayWork b x
     → w.piece ≡ arc_value x.piece → MayCommit b x.id w
 may_commit b x w h m is =
@@ -93,7 +93,7 @@ may_commit b x w h m is =
       same_name = ap (λ (q : PieceData). q.name) is;
     }
 
--- where nothing was split, no piece is on lease after it
+-- where nothing was split, no piece is on lease after the commit
 pub goes_one : (b c : BookData) (x : Lease) (p : PieceData) (n : List Bool) (s : StepData) → MayWork b x
     → CommitsAs b x.id p n s None c → GoesOn b None c
 goes_one b c x p n (Split f t) m k = absurd k

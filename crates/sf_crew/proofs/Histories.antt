@@ -267,7 +267,7 @@ module _ {T : Type 0} where
   first_got : (v w : HandleView T) (x : T) → HasNoThief v → Gets v x w → first_left v.events ≡ Some x
   first_got v w x one g = ap first_left (sym (known_whole v g.0 g.1 one g.2)) ∙ g.3
 
-  -- what a take gives there
+  -- what a take finds on a bench without thieves
   pub first_taken : (v w : HandleView T) (found : Option T) → HasNoThief v
       → MatchOption found ((w ≡ v) × AllGot v) (λ x. GetsAll v (x ∷ []) w) → found ≡ first_left v.events
   first_taken v w None one h = sym (none_left v one h.1)

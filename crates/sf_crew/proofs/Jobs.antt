@@ -18,7 +18,7 @@ pub jobs_once : (k : BoardKey) (n e : ℕ) (d least : ℕ → ℕ) (views : List
 jobs_once k n e d least views port v at h x = let a = total_at (λ u. times x (jobs u)) views port v at in
     let p = h.drawn x in omega arith
 
--- a view with every part has all that the views have
+-- a view in which no seat is joined has no jobs
 idle_jobs : (k : BoardKey) (n : ℕ) (least : ℕ → ℕ) (x : ℕ) (u : View) → Sound k n least u → u.joined_seats ≡ 0
     → times x (jobs u) ≡ 0
 idle_jobs k n least x u h none = let i = h.idle none in

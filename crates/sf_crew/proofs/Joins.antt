@@ -148,7 +148,7 @@ joint_count v w a b =
       length-append v.entered_sheets w.entered_sheets,
     )
 
--- two views at different places: the first becomes b, and the second z
+-- how a sum changes where two views change: the first becomes b, and the second z
 total_both : (f : View → ℕ) (views : List View) (i j : ℕ) (v w b z : View) → j ≢ i → get_elem? views i ≡ some v
     → get_elem? (set views i b) j ≡ some w → sum_by f (set (set views i b) j z) + f v + f w ≡ sum_by f views + f b + f z
 total_both f views i j v w b z apart at at' = let s = total_set f views i v b at in
@@ -160,7 +160,7 @@ long_enough [] i v b e = absurd (some-ne-none v (sym e))
 long_enough (x ∷ xs) zero v b e = refl
 long_enough (x ∷ xs) (suc i) v b e = long_enough xs i v b e
 
--- where b has what w had, the top stays when w falls to z
+-- the greatest value stays where b has the greater one of both views, and z has 0
 top_both : (f : View → ℕ) (views : List View) (i j : ℕ) (v w b z : View) → j ≢ i → get_elem? views i ≡ some v
     → get_elem? (set views i b) j ≡ some w → f b ≡ max (f v) (f w) → f z ≡ 0
     → top f (set (set views i b) j z) ≡ top f views

@@ -1,4 +1,4 @@
--- Each step keeps the rule.
+-- Each step of a seat keeps the rule of its board.
 use Rattle.std.proofs.Common.{◌≡◌, ◌≢◌, ℕ, false, ◌+◌, ◌-◌, ◌*◌, ◌/◌, ◌%◌, ◌^◌, ◌<◌, ◌≤◌, nat_lt, min, max, bit_or, List, [], ◌∷◌, ◌++◌, All, sum_by, map, length, set, slice_index, Some, IfSome, sym, refl, ap, ◌∙◌, subst, inl, inr, ⊎_elim, length-set, length-append, lt_of_not-le, arith}
 use Rattle.std.specs.Int.{bit_at}
 use Rattle.std.proofs.lemmas.Bool.Decides.{nat_tests}
@@ -33,7 +33,7 @@ noted_more k ns ms es more h = All-weaker (Covered k ns) (Covered k ms) (λ e c.
   doubts = c.doubts;
 }) es h
 
--- the notes of one view, and the least places, change
+-- the rule stays where the notes of one view and the least places change
 renoted : (k : BoardKey) (n e : ℕ) (d least less : ℕ → ℕ) (views : List View) (port : ℕ) (v : View) (ns : List Note)
     → get_elem? views port ≡ some v
     → ((q : ℕ) → less q ≤ least q) → ((q : ℕ) → q < length (questions_of k) → RightPlace k q (less q))
@@ -253,7 +253,7 @@ enters k slots id j me owing part small covered s h homes at fits =
       ((λ i is. ap (view_with_sheet me.0) (cc (owing, is))), refl),
     )
 
--- the same, in the words of the steps
+-- `looks` with the place of the question's word, as the steps have it
 pub looks_at : (k : BoardKey) (slots id q : ℕ) (me : Me ℕ View) → me.0.about ≡ Some k → q < length (questions_of k)
     → Allows (BoardKept k) slots id me (q + 6) (λ n. n) (λ n w. Looks me.0 (q + 6 - 6) n w.0 × (w.1 ≡ me.1))
 looks_at k slots id q me is there = let e : q ≡ q + 6 - 6 = omega arith in

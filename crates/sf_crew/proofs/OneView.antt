@@ -1,4 +1,4 @@
--- One view changes, and the words of the board with it: what keeps the rule.
+-- When the rule stays where one view and the words of the board change.
 use Rattle.std.proofs.Common.{◌≡◌, ℕ, ◌+◌, ◌/◌, ◌%◌, ◌<◌, ◌≤◌, ◌⊎◌, min, List, length, set, slice_index, sym, refl, ap, ◌∙◌, subst, inr, ⊎_elim, arith}
 use Rattle.std.specs.Int.{bit_at}
 use mathlib.Core.Option.{some}
@@ -11,8 +11,8 @@ use Rattle.sf_crew.specs.BoardRule.{Sound, Kept, least_in, doubts_in}
 use Rattle.sf_crew.specs.BoardSteps.{with_notes, with_marks}
 use Rattle.sf_crew.proofs.Totals.{times, total_set, top_kept, every_set}
 
--- What a view counts for, beside the view that it becomes: the word of the next job goes from n to m, that of the
--- sheets entered from e to f.
+-- What view v counts for, beside the view w that it becomes, where the word of the next job goes from n to m, and that
+-- of the sheets entered from e to f.
 pub record IsCounted (k : BoardKey) (n m e f : ℕ) (v w : View) : Type 0 where
   pub joined_seats : w.joined_seats ≡ v.joined_seats
   pub drawn : (x : ℕ) → times x (jobs w) + once_below x (min n (count_of_regions k))
@@ -32,7 +32,7 @@ marks_and_notes k n e v qs ns = record {
   entered_is = refl;
 }
 
--- where a view marks what the one before it marked, the bits stay right
+-- the bits stay right where the new view marks what the old one marked
 pub same_marks : (d : ℕ → ℕ) (views : List View) (port : ℕ) (v w : View) → get_elem? views port ≡ some v
     → ((q : ℕ) → doubt_at q w ≡ doubt_at q v)
     → ((q : ℕ) → q < 256 → bit_at (d (q / 64)) (q % 64) ≡ top (doubt_at q) views) → (q : ℕ) → q < 256
@@ -75,7 +75,7 @@ later k n m least less v up down h = record {
   covered = h.covered;
 }
 
--- the words of doubts are the first four alone
+-- the rule speaks of only four words of doubts
 redoubted : (k : BoardKey) (n e : ℕ) (d d' least : ℕ → ℕ) (views : List View) → ((w : ℕ) → w < 4 → d w ≡ d' w)
     → Kept k n e d least views → Kept k n e d' least views
 redoubted k n e d d' least views same h = record {
@@ -89,7 +89,7 @@ redoubted k n e d d' least views same h = record {
   each = h.each;
 }
 
--- the rule of numbers that stand in these words
+-- the rule of some numbers holds of the words that have these numbers
 pub in_words : (k : BoardKey) (words : List ℕ) (n e : ℕ) (d least : ℕ → ℕ) (views : List View)
     → length words ≡ length (questions_of k) + 6 → slice_index words 0 ≡ n → slice_index words 1 ≡ e
     → ((w : ℕ) → w < 4 → doubts_in words w ≡ d w) → ((q : ℕ) → least_in words q ≡ least q)

@@ -59,7 +59,7 @@ opens k = let words : List ℕ = first_words (length (questions_of k)) (count_of
   each = λ port v at. subst (Sound k 0 (least_in words)) (only_view (first_view k) v port at) (opened k);
 }
 
--- the same of any words that are these
+-- words that are the first words of a board keep its rule
 pub opens_at : (k : BoardKey) (words : List ℕ) (n regions : ℕ) → words ≡ first_words n regions
     → n ≡ length (questions_of k)
     → regions ≡ count_of_regions k → BoardKept {S = ℕ} k

@@ -52,7 +52,7 @@ reply_unsettled s q doubt h all why left = record {
   plain = left;
 }
 
--- a hit at a place below which no region is broken
+-- a hit is the reply where no earlier region has one
 pub reply_allowed : (s : BookData) (q : QuestionData) (r : ℕ) (d : Input) → IsRightVerdict s r q (Hit d)
     → TellsTriedAt s r q (Hit d)
     → ((e : ℕ) → e < r → IsWithoutHit s q e) → (IsPlain s.stack → (e : ℕ) → e < r → (x : Input) → ¬ IsBreakAt s e q x)
@@ -76,7 +76,7 @@ pub still_unbroken : (s : BookData) (q : QuestionData) (doubt : Bool) (r : ℕ) 
     → IsUnbroken s q true r
 still_unbroken s q doubt r h = record { passed = h.passed; none = λ e. absurd (true≢false e); low = h.low }
 
--- the same of the question of a number
+-- a region without a break of the question of a number is unbroken for that question
 pub none_unbroken : (s : BookData) (qs : List QuestionData) (q : ℕ) (question : QuestionData) (doubt : Bool) (r : ℕ)
     → slice_get qs q ≡ Some question → HasNoBreak s qs r q → IsUnbroken s question doubt r
 none_unbroken s qs q question doubt r asked h = let none : (d : Input) → ¬ IsBreakAt s r question d =
@@ -162,14 +162,14 @@ pub question_there : (qs : List QuestionData) (q : ℕ) (x : QuestionData) → q
     → slice_get qs q ≡ Some x
 question_there qs q x lt is = slice_get-get_or qs q x lt ∙ ap (λ (y : QuestionData). Some y) (sym is)
 
--- one region more
+-- with one region more
 pub unbroken_more : (s : BookData) (q : QuestionData) (was is : Bool) (place : ℕ)
     → ((r : ℕ) → r < place → IsUnbroken s q was r) → ((r : ℕ) → IsUnbroken s q was r → IsUnbroken s q is r)
     → IsUnbroken s q is place → (r : ℕ) → r < place + 1 → IsUnbroken s q is r
 unbroken_more s q was is place all keeps this r lt =
     dite (ℕ_discrete r place) (λ e. subst (IsUnbroken s q is) (sym e) this) (λ ne. keeps r (all r (omega arith)))
 
--- one reply more
+-- with one reply more
 pub replies_more : (P : ℕ → Reply → Type 0) (xs : List Reply) (x : Reply)
     → ((p : ℕ) (y : Reply) → slice_get xs p ≡ Some y → P p y) → P (length xs) x → (p : ℕ) (y : Reply)
     → slice_get (xs ++ x ∷ []) p ≡ Some y → P p y

@@ -65,7 +65,7 @@ verdict_cases s qs r q (Some Clear) h = inr (inr (inr (clear-breaks-none s qs r 
 verdict_cases s qs r q (Some (Hit d)) h = inl refl
 verdict_cases s qs r q (Some Doubt) h = inr (inl refl)
 
--- a verdict that is a doubt is the doubt
+-- a verdict that is a doubt is right as `Doubt`
 doubt_right : (s : BookData) (qs : List QuestionData) (r q : ℕ) (v : Option Verdict) → IsRightWhereGiven s qs r q v
     → is_doubt v ≡ true → IsRightWhereGiven s qs r q (Some Doubt)
 doubt_right s qs r q None h is = absurd (cc)
@@ -73,7 +73,7 @@ doubt_right s qs r q (Some Clear) h is = absurd (cc)
 doubt_right s qs r q (Some (Hit d)) h is = absurd (cc)
 doubt_right s qs r q (Some Doubt) h is = h
 
--- past the last verdict there is none
+-- past the last verdict there is no doubt
 doubt_below : (vs : List (Option Verdict)) (q : ℕ) → IsDoubt vs q → q < length vs
 doubt_below [] q is = absurd (cc)
 doubt_below (v ∷ vs) zero is = omega arith
@@ -106,7 +106,7 @@ covers k v s ds ns f right notes marks =
           (marks.only q one);
     }
 
--- the seat before its last step
+-- a seat's view before the last step of entering: its notes and its marks are new
 pub marked_view : (v m w : View) → m ≡ with_notes v m.notes → w ≡ with_marks m w.marked
     → w ≡ view_of v.about v.joined_seats v.exhausted_seats v.owes w.marked v.entered_sheets m.notes
 marked_view v m w noted marked = marked ∙ ap

@@ -76,7 +76,7 @@ pub top_snoc : (f : View → ℕ) (views : List View) (w : View) → f w ≡ 0 �
 top_snoc f [] w h = omega arith
 top_snoc f (x ∷ xs) w h = let rest = top_snoc f xs w h in omega arith
 
--- the top stays where the view that changes has what the one before it had
+-- the greatest value stays where the view that changes keeps its own
 pub top_kept : (f : View → ℕ) (views : List View) (port : ℕ) (v w : View) → get_elem? views port ≡ some v → f w ≡ f v
     → top f (set views port w) ≡ top f views
 top_kept f views port v w at same = let s = top_set f views port v w at (omega arith) in
@@ -106,7 +106,7 @@ pub every_snoc : (F : View → Type 0) (views : List View) (w : View)
 every_snoc F views w all mine j u e = ⊎_elim (λ (x : get_elem? views j ≡ some u). all j u x)
     (λ (x : w ≡ u). subst F x mine) (at_snoc views w u j e)
 
--- the top when a view changes, whether it rises or falls
+-- the greatest value after one view changed, whether its own rises or falls
 pub top_change : (f : View → ℕ) (views : List View) (port : ℕ) (v w : View) → get_elem? views port ≡ some v
     → max (top f (set views port w)) (f v) ≡ max (top f views) (f w)
 top_change f [] port v w at = absurd (some-ne-none v (sym at))

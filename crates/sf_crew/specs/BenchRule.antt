@@ -12,7 +12,8 @@ module _ {T : Type 0} where
   Fits h port v = (v.me ≡ port)
       × ((rest : List (Event T)) × (h ≡ v.events ++ rest) × All (λ e. handle_of e ≢ port) rest)
 
-  -- there is one history, which each handle knows up to its own last step. The bench holds what was put and not got
+  -- there is one history, which each handle knows up to its own last step; the bench holds the items that were put and
+  -- not got
   pub record BenchKept (items : List T) (views : List (HandleView T)) : Type 0 where
     pub history : List (Event T)
     pub lawful : IsLawfulHistory history
@@ -29,10 +30,10 @@ module _ {T : Type 0} where
   abbrev pub GetsAll : HandleView T → List T → HandleView T → Type 0
   GetsAll v xs w = (x : T) → xs ≡ x ∷ [] → Gets v x w
 
-  -- the owner after it made one more end
+  -- what the owner knows after it made one more thief
   abbrev pub owner_with_thief : HandleView T → HandleView T
   owner_with_thief v = handle_view v.me (v.made + 1) v.events
 
-  -- the end that the owner makes then, which knows all that the owner does of the history
+  -- what the new thief knows then: all that the owner does of the history
   abbrev pub new_thief_view : HandleView T → HandleView T
   new_thief_view v = handle_view v.made 0 v.events

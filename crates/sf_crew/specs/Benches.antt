@@ -11,7 +11,7 @@ module _ {T : Type 0} where
   abbrev pub owner_view : Owner T → HandleView T
   owner_view o = worker_view o.worker
 
-  -- what a thief knows of it
+  -- what a thief knows of its bench
   abbrev pub thief_view : Thief T → HandleView T
   thief_view t = view t.pass
 

@@ -18,8 +18,8 @@ pub record Sound (k : BoardKey) (next : ℕ) (least : ℕ → ℕ) (v : View) : 
   pub noted : (q r : ℕ) → Noted v.notes q r → least q ≤ r
   pub covered : All (Covered k v.notes) v.entered_sheets
 
--- the words: the next job, the number of sheets entered, four of bits of the questions with a Doubt, and for each
--- question its least place
+-- the words: the next job, the number of sheets entered, four of bits of the questions in doubt, and for each question
+-- its least place
 pub record Kept (k : BoardKey) (next entered : ℕ) (doubts least : ℕ → ℕ) (views : List View) : Type 0 where
   pub joined_seats : sum_by (λ v. v.joined_seats) views ≡ k.seats
   pub drawn : (x : ℕ) → sum_by (λ v. count_by (λ j. x == j) (jobs v)) views

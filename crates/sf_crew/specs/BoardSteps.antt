@@ -1,4 +1,4 @@
--- What each step does to a view, and what it tells.
+-- What each step does to a view, and what it finds.
 use Rattle.std.specs.Prelude.{◌≡◌, ℕ, ◌+◌, ◌-◌, ◌<◌, ◌≤◌, ◌==◌, List, [], ◌∷◌, ◌++◌, count_by, length, Option, Some, None, IfSome}
 use Rattle.sf_crew.specs.declared.board.view.BoardKey.{BoardKey}
 use Rattle.sf_crew.specs.declared.board.view.Note.{Note}
@@ -30,11 +30,11 @@ idle_view = view_of None 0 0 None [] [] []
 abbrev pub view_with_job : View → ℕ → View
 view_with_job v n = view_of v.about v.joined_seats v.exhausted_seats (Some n) v.marked v.entered_sheets v.notes
 
--- the seat was told that no job is left
+-- the seat has found that no job is left
 abbrev pub view_without_job : View → View
 view_without_job v = view_of v.about v.joined_seats (v.exhausted_seats + 1) v.owes v.marked v.entered_sheets v.notes
 
--- the same seat with other notes
+-- the view with other notes
 abbrev pub with_notes : View → List Note → View
 with_notes v ns = view_of v.about v.joined_seats v.exhausted_seats v.owes v.marked v.entered_sheets ns
 
@@ -42,7 +42,7 @@ with_notes v ns = view_of v.about v.joined_seats v.exhausted_seats v.owes v.mark
 abbrev pub view_with_note : View → ℕ → ℕ → View
 view_with_note v q r = with_notes v (note q r ∷ v.notes)
 
--- the same seat with other questions marked
+-- the view with other questions marked
 abbrev pub with_marks : View → List ℕ → View
 with_marks v qs = view_of v.about v.joined_seats v.exhausted_seats v.owes qs v.entered_sheets v.notes
 
@@ -78,7 +78,8 @@ abbrev pub Looks : View → ℕ → ℕ → View → Type 0
 Looks v q r w = (w ≡ view_with_note v q r) × ((s : ℕ) → Noted v.notes q s → r ≤ s)
     × IfSome v.about (λ k. RightPlace k q r)
 
--- no job of the view stands in it twice, and where it found the end, it has each job if it has every part
+-- each job stands in the view at most once; where the view found that no job is left, it has each job if it has every
+-- part
 abbrev pub Knows : View → Type 0
 Knows v = ((x : ℕ) → count_by (λ j. x == j) (jobs v) ≤ 1) × IfSome v.about (λ k. 0 < v.exhausted_seats → HasAllJobs k v)
 

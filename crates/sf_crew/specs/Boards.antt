@@ -7,7 +7,7 @@ use Rattle.sf_crew.specs.BoardSteps.{view_of}
 use Rattle.sf_crew.specs.declared.board.Board.{Board}
 use Rattle.sf_crew.specs.declared.board.Seat.{Seat}
 
--- the regions and questions that a board is of
+-- the regions and questions that a board is about
 abbrev pub about : Board → BoardKey
 about b = b.table.shared.key
 

@@ -16,7 +16,7 @@ IsExhausted b = (b.outstanding ≡ []) ⊎ (b.commits ≡ b.budget)
 abbrev pub IsFree : List OutstandingData → Type 0
 IsFree es = All (λ e. e.leased ≡ false) es
 
--- of the same stack and budget
+-- both books are of one stack and budget
 pub record IsSameExploration (b c : BookData) : Type 0 where
   pub stack : c.stack ≡ b.stack
   pub budget : c.budget ≡ b.budget
@@ -36,7 +36,7 @@ pub record MayWork (b : BookData) (x : Lease) : Type 0 where
   pub lease : IsOnlyLease b x
   pub room : b.commits < b.budget
 
--- one commit more, and no piece is on lease but that of the lease that is left, if there is one
+-- there is one commit more, and no piece is on lease but that of the lease that is left, if there is one
 pub record GoesOn (b : BookData) (left : Option Lease) (c : BookData) : Type 0 where
   pub commits : c.commits ≡ b.commits + 1
   pub only : HasOnly c left

@@ -1,5 +1,5 @@
 -- The history of a bench: one list of the items that were put, of which each handle has got some, each item at most
--- once and first in, first out. Items are leases, or what says more of them.
+-- once and first in, first out. An item is a lease, or a lease of which more is known.
 use Rattle.std.specs.Prelude.{◌≡◌, ◌≢◌, ℕ, ◌+◌, ◌<◌, List, [], ◌∷◌, ◌++◌, All, length, Option, Some, slice_get}
 use Rattle.sf_crew.specs.declared.benches.history.Event.{Event}
 use Rattle.sf_crew.specs.declared.benches.history.Event.TheVariants.{Put, Got}
@@ -10,12 +10,12 @@ module _ {T : Type 0} where
   abbrev pub handle_view : ℕ → ℕ → List (Event T) → HandleView T
   handle_view i n h = record { me = i; made = n; events = h }
 
-  -- the handle whose step it was. The owner has the number 0, and it alone puts
+  -- the handle that made the step; only the owner puts, and it has the number 0
   abbrev pub handle_of : Event T → ℕ
   handle_of (Put x) = 0
   handle_of (Got i) = i
 
-  -- Steps of other ends. The owner has made all of them, so it knows which there are; a thief doesn't.
+  -- Steps of other handles. The owner has made all handles, so it knows which there are; a thief doesn't.
   abbrev pub OfOthers : HandleView T → List (Event T) → Type 0
   OfOthers v es = All (λ e. handle_of e ≢ v.me) es × (v.me ≡ 0 → All (λ e. handle_of e < v.made) es)
 
@@ -49,7 +49,7 @@ module _ {T : Type 0} where
   abbrev pub IsLawfulHistory : List (Event T) → Type 0
   IsLawfulHistory h = IsLawfulFrom 0 0 h
 
-  -- at some moment the history was h: what the handle knew, and then steps of other handles alone
+  -- at some moment the history was h: what the handle knew, and then only steps of other handles
   abbrev pub HasHistory : HandleView T → List (Event T) → List (Event T) → Type 0
   HasHistory v between h = OfOthers v between × (h ≡ v.events ++ between) × IsLawfulHistory h
 

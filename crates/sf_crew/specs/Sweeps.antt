@@ -1,4 +1,4 @@
--- What a sweep does: the jobs of each worker, and the tally of all regions.
+-- What a sweep does: the jobs of each worker, the tally of all regions, and the replies.
 use Rattle.std.specs.Prelude.{◌≡◌, ℕ, ◌+◌, ◌*◌, ◌<◌, ◌≤◌, ◌⊎◌, Bool, false, IsTrue, List, length, Some, None, slice_get}
 use Rattle.std.specs.Int.{bit_at}
 use Rattle.sf_book.specs.Books.{BookData}
@@ -20,19 +20,19 @@ use Rattle.sf_crew.specs.declared.board.view.View.{View}
 use Rattle.sf_crew.specs.BoardSteps.{with_notes}
 use Rattle.sf_crew.specs.Boards.{IsSeatOf, seat_view}
 
--- looking adds notes alone, and each question below the last that isn't wanted has a noted place below the job
+-- looking only adds notes, and each of the questions that isn't wanted has a noted place below the job
 pub record SkipsOnly (questions : List QuestionData) (job : ℕ) (v w : View) (wanted : List ℕ) : Type 0 where
   pub same : w ≡ with_notes v w.notes
   pub skips : (q : ℕ) → q < length questions → bit_of wanted q ≡ 0 → (r : ℕ) × Noted w.notes q r × (r < job)
 
--- looking at the questions of one word of bits adds notes alone, and each that isn't wanted has a noted place below the
--- job
+-- looking at the questions of one word of bits only adds notes, and each question that isn't wanted has a noted place
+-- below the job
 pub record SkipsOnlyIn (word job : ℕ) (v w : View) (wanted : ℕ) : Type 0 where
   pub same : w ≡ with_notes v w.notes
   pub more : (p r : ℕ) → Noted v.notes p r → Noted w.notes p r
   pub skips : (bit : ℕ) → bit < 64 → bit_at wanted bit ≡ 0 → (r : ℕ) × Noted w.notes (word * 64 + bit) r × (r < job)
 
--- a worker's seat, and whether it found the end
+-- a worker's seat, and whether it found that no job is left
 abbrev pub IsWorked : Board → Seat × Bool → Type 0
 IsWorked b s = IsSeatOf b s.0 × ((seat_view s.0).joined_seats ≡ 1)
     × (IsTrue s.1 → ((seat_view s.0).owes ≡ None) × (0 < (seat_view s.0).exhausted_seats))
@@ -47,7 +47,7 @@ pub record IsFullTally (s : BookData) (qs : List QuestionData) (t : Tally) : Typ
   -- a bit is set only where some region is in doubt
   pub doubts : (q : ℕ) → q < length qs → bit_of t.doubts q ≡ 1 → (r : ℕ) × (r < length s.regions)
       × IsRightWhereGiven s qs r q (Some Doubt)
-  -- and none of the 256 past the last question
+  -- no bit past the last question is set
   pub past : (q : ℕ) → length qs ≤ q → q < 256 → bit_of t.doubts q ≡ 0
   pub counted : t.entered ≡ length s.regions
 
@@ -86,7 +86,7 @@ pub record IsReplyTo (s : BookData) (question : QuestionData) (reply : Reply) : 
   pub found : RestsOn s question reply
   pub plain : IsPlain s.stack → IsPlainReply s question reply
 
--- the reply to the question of a number is such a one
+-- the reply to the question of this number is such a one
 pub record IsRightReplyAt (s : BookData) (questions : List QuestionData) (q : ℕ) (reply : Reply) : Type 0 where
   pub question : QuestionData
   pub asked : slice_get questions q ≡ Some question

@@ -1,4 +1,4 @@
--- What the tally says that a seat closes a board with.
+-- What the tally says with which a seat closes a board.
 use Rattle.std.specs.Prelude.{◌≡◌, ℕ, ◌<◌, ◌≤◌, ◌⊎◌, ◌==◌, List, map, All, count_by, length, Some, slice_get}
 use Rattle.sf_ask.specs.Sheets.{HasBreak, HasNoBreak}
 use Rattle.sf_crew.specs.declared.board.view.BoardKey.{BoardKey}
@@ -29,18 +29,18 @@ pub record RightTally (k : BoardKey) (v : View) (t : Tally) : Type 0 where
   -- a least place is a region with a member that breaks the question
   pub breaks : (q r : ℕ) → slice_get t.least q ≡ Some (Some r) → (r < count_of_regions k)
       × HasBreak (regions_of k) (questions_of k) r q
-  -- the entered regions below it are cleared, all of them where there is none
+  -- the entered regions below a least place are cleared, and all of them where there is none
   pub cleared : All (λ e. (q : ℕ) → q < length (questions_of k) → IsBelow t q e.job
       → IsCleared k t e q) v.entered_sheets
-  -- and their doubts are right
+  -- the doubts of the entered sheets are right
   pub doubts : All (λ e. (q : ℕ) → has q e.doubts ≡ 1 → IsInDoubt k e.job q) v.entered_sheets
-  -- no fewer sheets are counted
+  -- at least the entered sheets are counted
   pub counted : length v.entered_sheets ≤ t.entered
-  -- as many as there are regions are all of them
+  -- where as many sheets are entered as there are regions, each region has one
   pub complete : length v.entered_sheets ≡ count_of_regions k → (x : ℕ)
       → count_by (λ j. x == j) (entered_jobs v) ≡ once_below x (count_of_regions k)
-  -- where all seats were joined, each of the 256 bits is set just for a doubt on an entered sheet, so none past the
-  -- last question, and no other sheet is counted
+  -- where all seats were joined, each of the 256 bits is set exactly where an entered sheet has a doubt, so none past
+  -- the last question, and no other sheet is counted
   pub all_doubts : v.joined_seats ≡ k.seats → (q : ℕ) → q < 256 → bit_of t.doubts q ≡ has_doubt q v.entered_sheets
   pub past : v.joined_seats ≡ k.seats → (q : ℕ) → length (questions_of k) ≤ q → q < 256 → bit_of t.doubts q ≡ 0
   pub all_counted : v.joined_seats ≡ k.seats → t.entered ≡ length v.entered_sheets

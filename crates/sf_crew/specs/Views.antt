@@ -1,4 +1,4 @@
--- What a seat of a board knows, and words on it.
+-- What a seat of a board knows, and the words in which that is said.
 use Rattle.std.specs.Prelude.{◌≡◌, ℕ, ◌<◌, ◌≤◌, ◌⊎◌, ◌==◌, nat_lt, if◌then◌else◌, max, List, [], ◌∷◌, ◌++◌, map, length, Option, Some, None}
 use Rattle.sf_book.specs.Books.{BookData}
 use Rattle.sf_ask.specs.QuestionData.{QuestionData}
@@ -43,7 +43,7 @@ abbrev pub has : ℕ → List ℕ → ℕ
 has x [] = 0
 has x (y ∷ ys) = max (if x == y then 1 else 0) (has x ys)
 
--- 1 where one of the sheets has a Doubt for question q, else 0
+-- 1 where one of the sheets has a doubt for question q, else 0
 abbrev pub has_doubt : ℕ → List EnteredSheet → ℕ
 has_doubt q [] = 0
 has_doubt q (e ∷ es) = max (has q e.doubts) (has_doubt q es)
@@ -61,15 +61,15 @@ RightPlace k q r = (r ≡ count_of_regions k) ⊎ ((r < count_of_regions k) × H
 abbrev pub IsInDoubt : BoardKey → ℕ → ℕ → Type 0
 IsInDoubt k r q = IsRightWhereGiven (regions_of k) (questions_of k) r q (Some Doubt)
 
--- an entered sheet is of a region, which breaks no question but where a place at or below it was noted, or the sheet
--- has a doubt; and its doubts are right
+-- The sheet is of a region that there is. For each question a place at or below the region was noted, or no member of
+-- the region breaks the question, or the sheet has a doubt for it. The doubts are right.
 pub record Covered (k : BoardKey) (notes : List Note) (e : EnteredSheet) : Type 0 where
   pub there : e.job < count_of_regions k
   pub cleared : (q : ℕ) → q < length (questions_of k) → ((r : ℕ) × Noted notes q r × (r ≤ e.job))
       ⊎ HasNoBreak (regions_of k) (questions_of k) e.job q ⊎ (has q e.doubts ≡ 1)
   pub doubts : (q : ℕ) → has q e.doubts ≡ 1 → IsInDoubt k e.job q
 
--- how often each number below n stands in a list of all of them
+-- how often x stands in a list of all numbers below n
 abbrev pub once_below : ℕ → ℕ → ℕ
 once_below x n = if nat_lt x n then 1 else 0
 

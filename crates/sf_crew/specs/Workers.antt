@@ -84,7 +84,7 @@ HoldsNext v (Some x) w = Finds v x w
 abbrev pub PutsOrNot : HandleView Lease → Lease → HandleView Lease → Type 0
 PutsOrNot v x w = Puts v x w ⊎ (w ≡ v)
 
--- the same of some lease of the piece
+-- some lease of the piece was put; or it was refused, and the handle did nothing
 abbrev pub PutsPiece : HandleView Lease → PieceData → HandleView Lease → Type 0
 PutsPiece v p w = (x : Lease) × (arc_value x.piece ≡ p) × PutsOrNot v x w
 

@@ -1,5 +1,5 @@
-//! Benches: the owner puts items and takes them, thieves steal them, first in, first out. Items are leases, or what says
-//! more of them.
+//! Benches: the owner puts items and takes them, thieves steal them, first in, first out. An item is a lease, or a
+//! lease of which more is known.
 
 mod handles;
 mod history;
@@ -17,10 +17,10 @@ pub use history::{Event, HandleView};
 use history::{AddingThief, Getting, Putting};
 use std::alloc::{AllocError, Global};
 
-/// How many items a new bench has room for. It grows as it needs.
+/// How many items a new bench has room for. It makes more room where it needs it.
 const ROOM: usize = 64;
 
-/// An owner and so many thieves, 0 to 63, over an empty list. `Memory` where a growth is refused.
+/// An owner and this many thieves, 0 to 63, over an empty list. `Memory` where an allocation is refused.
 pub fn bench<T: Drop>(alloc: Global, thieves: usize) -> Result<(Owner<T>, Vec<Thief<T>>), Fault>
     requires { thieves < 64 }
     ensures owner { IfOk result (λ b. owner_view b.0 ≡ handle_view 0 (thieves + 1) []) }
@@ -64,7 +64,7 @@ fn make_thieves<T: Drop>(
 }
 
 impl<T> Owner<T> {
-    /// One thief more, as long as nothing was put.
+    /// Makes one more thief, as long as nothing was put.
     fn add_thief(&mut self) -> Result<Thief<T>, AllocError>
         requires { (owner_view self.old).events ≡ [] }
         ensures owner { IfOk result (λ _. owner_view self.new ≡ handle_view
@@ -89,8 +89,8 @@ impl<T> Owner<T> {
         self.worker.push_as::<Putting>(item)
     }
 
-    /// The first item that no handle has got, at one moment of the call. `None` where each that was put had been got, by
-    /// this handle or by the thieves that were made with it.
+    /// Takes the first item that no handle has got, at one moment of the call. `None` where each item that was put had
+    /// been got, by this handle or by the thieves that were made with it.
     pub fn take(&mut self) -> Option<T>
         ensures got { MatchOption result ((owner_view self.new ≡ owner_view self.old)
             × AllGot (owner_view self.old))
@@ -104,8 +104,8 @@ impl<T> Owner<T> {
 }
 
 impl<T> Thief<T> {
-    /// The first item that no handle has got, at one moment of the call. `Empty` where each that was put had been got;
-    /// `Retry` where another handle came first, and this one got nothing.
+    /// Takes the first item that no handle has got, at one moment of the call. `Empty` where each item that was put had
+    /// been got; `Retry` where another handle came first, and this one got nothing.
     pub fn steal(&mut self) -> Steal<T>
         ensures got { MatchSteal result ((thief_view self.new ≡ thief_view self.old)
             × AllGot (thief_view self.old)) (thief_view self.new ≡ thief_view self.old)

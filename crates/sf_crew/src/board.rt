@@ -1,4 +1,5 @@
-//! The board: jobs to draw, a least place for each question, the questions with a doubt, and how many sheets were entered.
+//! The board: jobs to draw, a least place for each question, the questions with a doubt, and how many sheets were
+//! entered.
 
 mod closing;
 mod drawing;
@@ -16,9 +17,11 @@ use std::alloc::Global;
 use steps::WholeBoard;
 pub use view::{BoardKey, EnteredSheet, Note, View};
 
+/// A board's shared words, with what each seat knows of them.
 pub(crate) type Words = Table<u8, View, BoardKey, WholeBoard, Global>;
 
-/// A row of shared words about the regions of a settled exploration and some questions. Its jobs are the regions.
+/// Shared words by which workers judge the regions of a settled exploration by some questions. A job of a board is the
+/// place of a region.
 #[derive(Drop)]
 pub struct Board {
     pub(crate) table: Words,
@@ -32,7 +35,7 @@ pub struct Board {
     ghost few: { length (questions_of table.shared.key) ≤ 256 },
 }
 
-/// What one party has drawn, entered and seen. It is not a copy: a job that it has drawn no other seat draws.
+/// A worker's part at a board: what it has drawn, entered and seen there. No two seats draw the same job.
 #[derive(Drop)]
 pub struct Seat {
     pub(crate) seat: atomic_table::Seat<u8, View>,

@@ -9,7 +9,7 @@ use thiserror::Error;
 /// Why a call of this crate was refused.
 #[derive(Clone, Copy, Debug, PartialEq, Eq, Error)]
 pub enum Fault {
-    /// A growth was refused.
+    /// An allocation was refused.
     #[error("out of memory")]
     Memory,
 }
@@ -49,7 +49,7 @@ impl From<sf_piece::Fault> for Fault {
     }
 }
 
-/// Who has a book alone and works off its own pieces meets only want of memory.
+/// A worker that has a book to itself and works off its own pieces is refused nothing but memory.
 impl From<sf_book::Fault> for Fault {
     ghost from_gives = { λ _ e. e ≡ Memory };
 
@@ -58,7 +58,7 @@ impl From<sf_book::Fault> for Fault {
     }
 }
 
-/// Making a verdict or a sheet is refused for want of memory alone.
+/// Making a verdict or a sheet is refused nothing but memory.
 impl From<sf_ask::Fault> for Fault {
     ghost from_gives = { λ _ e. e ≡ Memory };
 

@@ -2,7 +2,8 @@
 
 /// Sees each call of each worker, outside of every lock. A test counts calls by it, or holds a worker back.
 pub trait Gate: Sync {
-    /// The worker has made something ready to be handed in. Its calls are numbered from 1.
+    /// Is called when the worker has made a work or a sheet that is ready to be handed in. Workers are numbered from 0,
+    /// and the calls of each worker from 1.
     fn pass(&self, worker: usize, call: usize);
 }
 

@@ -1,5 +1,5 @@
-//! Workers on threads: they explore a stack by the pieces of a locked book, with benches that they steal from, and judge
-//! regions by a board of shared words, without a lock.
+//! Workers on threads. They explore a stack by the pieces of a locked book, with benches from which they steal, and
+//! judge regions by a board of shared words, without a lock.
 #![tactic(auto)]
 
 mod benches;

@@ -20,7 +20,7 @@ use std::alloc::Global;
 use std::thread;
 use std::thread::Threads;
 
-/// Whether there is such a question, and a place below the job is seen for it.
+/// Whether there is such a question, and the seat sees a place below the job for it.
 fn is_beaten(board: &Board, seat: &mut Seat, job: usize, q: usize) -> bool
     requires seat { IsSeatOf board.now seat.old }
     ensures same { IsSeatOf board.now seat.new }
@@ -40,8 +40,8 @@ fn is_beaten(board: &Board, seat: &mut Seat, job: usize, q: usize) -> bool
     }
 }
 
-/// Looks at each question whose bit is set in one word of the four: all bits but those for which a place below the job was
-/// seen.
+/// Looks at each question whose bit is set in one of the four words, and answers that word with all bits set, but those
+/// of questions for which a place below the job was seen.
 fn look_at_word(board: &Board, seat: &mut Seat, job: usize, word: usize, to_judge: u64) -> u64
     requires seat { IsSeatOf board.now seat.old }
     requires word { word < 4 }
@@ -60,8 +60,8 @@ fn look_at_word(board: &Board, seat: &mut Seat, job: usize, word: usize, to_judg
     wanted
 }
 
-/// Looks at each question that is to be judged: the bits of all but those for which a place below the job was seen. Of most
-/// regions few are to be judged.
+/// Looks at each question that is to be judged, and answers all bits set, but those of questions for which a place
+/// below the job was seen. On most regions few questions are to be judged.
 fn look_at(board: &Board, seat: &mut Seat, job: usize, to_judge: &[u64; 4]) -> [u64; 4]
     requires seat { IsSeatOf board.now seat.old }
     ensures same { IsSeatOf board.now seat.new }
@@ -77,8 +77,8 @@ fn look_at(board: &Board, seat: &mut Seat, job: usize, to_judge: &[u64; 4]) -> [
     wanted
 }
 
-/// Judges the job that the seat owes and enters the sheet. Questions that are to be judged and have a lower place seen are
-/// skipped.
+/// Judges the region of the job that the seat owes, and enters the sheet. A question is skipped where a lower place is
+/// seen for it.
 pub(crate) fn enter_job<G: Gate>(
     alloc: Global,
     board: &Board,
@@ -112,7 +112,7 @@ pub(crate) fn enter_job<G: Gate>(
     Ok(())
 }
 
-/// Draws and enters until all jobs are drawn. False where memory ran out.
+/// Draws jobs and enters their sheets until all jobs are drawn. False where memory ran out.
 fn work<G: Gate>(
     alloc: Global,
     board: &Board,
@@ -147,7 +147,7 @@ fn work<G: Gate>(
     (seat, true)
 }
 
-/// Joins every seat of the list into the first. None where one of their workers ran out of memory.
+/// Joins every seat of the list into the first one. None where the worker of some seat ran out of memory.
 fn join_all(board: &Board, first: Seat, mut others: Vec<(Seat, bool)>) -> Option<Seat>
     requires first { IsSeatOf board.now first × ((seat_view first).owes ≡ None) }
     requires others { All (λ s. IsWorked board.now s) others.items }
@@ -179,6 +179,7 @@ fn numbered(alloc: Global, board: &Board, mut seats: Vec<Seat>) -> Result<Vec<Nu
         × All (λ p. IsNewSeat board.now p.seat) v.items) }
     ensures err { IfErr result (λ f. f ≡ Memory) }
 {
+    // For the prover: only clauses speak of it.
     let _ = board;
     let mut numbered_seats = Vec::new(alloc);
     while let Some(seat) = seats.pop() {
@@ -188,9 +189,9 @@ fn numbered(alloc: Global, board: &Board, mut seats: Vec<Seat>) -> Result<Vec<Nu
     Ok(numbered_seats)
 }
 
-/// The tally of all regions, by as many workers, each of which has a seat. What is looked at first of each question is made
-/// before they begin, and they share it. Then the calling thread draws with a seat
-/// of its own, under the next number.
+/// The tally of all regions, by this many workers, each of which has a seat. The probes of the questions are made
+/// before they begin, and they share them. When the workers have ended, the calling thread draws too, with a seat of
+/// its own, under the next number. `Memory` where an allocation is refused.
 pub(crate) fn tally<R: Threads + Sync, G: Gate>(
     rt: &R,
     alloc: Global,

@@ -50,11 +50,11 @@ pub(crate) struct Worker<N: Naming> {
     others: Thieves<N>,
 }
 
-/// How often a worker looks whether the lock is free before it sleeps.
+/// How many times a worker looks whether the lock is free before it sleeps.
 const LOOKS: usize = 400;
 
-/// The book, once its lock is got. Another worker soon has done with it, while a thread that sleeps is woken late: so it
-/// looks a while before it waits.
+/// The book, once its lock is got. The worker that has the book needs it for a moment only, while a thread that sleeps
+/// is woken late. So this one looks a while whether the lock is free, and only then waits.
 fn locked<'a, N: Naming, R: Wait>(
     rt: &R,
     book: &'a Mutex<SharedBook<N>>,
@@ -80,7 +80,7 @@ impl<N: Naming> NewWorker<N> {
 }
 
 impl<N: Naming> Worker<N> {
-    /// A lease from its own bench, or else a stolen one, the next worker's first, or else one from the book.
+    /// A lease from its own bench; or else a stolen one, from the next worker's bench first; or else one from the book.
     fn next_lease<R: Wait>(
         &mut self,
         rt: &R,
@@ -99,7 +99,7 @@ impl<N: Naming> Worker<N> {
         locked(rt, book).lease()
     }
 
-    /// The work of a piece and its children, once the gate has let it pass.
+    /// The work of a piece with its children, made and seen by the gate.
     fn make<G: Gate>(
         &self,
         alloc: Global,
@@ -118,8 +118,8 @@ impl<N: Naming> Worker<N> {
         Ok(made)
     }
 
-    /// Works the piece, passes the gate and hands the work in. The children come on its own bench, the false one first.
-    /// With a fault the lease is given back.
+    /// Works the piece, lets the gate see the work, and hands it in. The children are put on the worker's own bench,
+    /// the false one first. With a fault the lease is given back.
     fn work<R: Wait, G: Gate>(
         &mut self,
         rt: &R,
@@ -133,7 +133,7 @@ impl<N: Naming> Worker<N> {
         ensures ok { OnOk result (WorksOn held self.old self.new) }
         ensures err { OnErr result (own_view self.new ≡ own_view self.old) }
     {
-        // Gone after the commit, so that the piece's memory is given back when the lock has been left.
+        // Dropped after the commit, so that the piece's memory is given back when the lock has been left.
         let _piece = Arc::try_clone(held.piece());
         let made = match self.make(alloc, gate, held.piece(), call) {
             Ok(made) => made,
@@ -160,7 +160,7 @@ impl<N: Naming> Worker<N> {
         }
     }
 
-    /// Takes its bench empty, and gives each lease back to the book.
+    /// Takes all leases off its bench, and gives each back to the book.
     fn empty<R: Wait>(&mut self, rt: &R, book: &Mutex<SharedBook<N>>)
         ensures { AllGot (own_view self.new) }
     {
@@ -174,7 +174,7 @@ impl<N: Naming> Worker<N> {
     }
 }
 
-/// The turns of one worker, until nothing is left to do. Where it meets want of memory or a spent budget, it gives its
+/// The turns of one worker, until nothing is left to do. Where memory is refused or the budget is spent, it gives its
 /// pieces back and ends. It answers the handle of its bench, which it has emptied.
 fn run<N: Naming, R: Wait, G: Gate>(
     rt: &R,
@@ -212,8 +212,8 @@ fn run<N: Naming, R: Wait, G: Gate>(
     own.close()
 }
 
-/// Lets the workers work on a book, each on a thread, and ends when they have ended. A thread that can't be started is
-/// done without, and none is started once nothing is left to do.
+/// Lets the workers work on a book, each on a thread, and ends when they have ended. Where a thread can't be started,
+/// the others do the work; none is started once nothing is left to do.
 fn run_each<'a, N: Naming, R: Threads + Wait + Sync, G: Gate>(
     rt: &'a R,
     alloc: Global,
@@ -233,7 +233,7 @@ fn run_each<'a, N: Naming, R: Threads + Wait + Sync, G: Gate>(
     });
 }
 
-/// Lets so many workers work on a book, and answers it when they have ended.
+/// Lets this many workers work on a book, and answers it when they have ended.
 fn run_all<N: Naming, R: Threads + Wait + Sync, G: Gate>(
     rt: &R,
     alloc: Global,
@@ -252,11 +252,11 @@ fn run_all<N: Naming, R: Threads + Wait + Sync, G: Gate>(
     Ok(book.into_inner().into_book())
 }
 
-/// Explores a stack: works at most `budget` pieces, and gives what is settled and what is left. The gate sees each
-/// work between its making and its commit. With 1 worker no thread is started. With more, each has a thread, with the
+/// Explores a stack: works at most `budget` pieces, and gives what is settled and what is left. The gate sees each work
+/// between its making and its commit. With 1 worker no thread is started. With more, each has a thread, with the
 /// numbers from 0; when they have ended, the calling thread takes what is left on lease back and works it off, under
-/// the next number. The caller's conditions: 1 to 64 workers, and a budget from 1 to 1,000,000, though the contract
-/// holds for any. `Memory` where a growth is refused to the calling thread.
+/// the next number. The caller's conditions: 1 to 64 workers, and a budget from 1 to 1,000,000; the contract holds for
+/// others too. `Memory` where an allocation is refused to the calling thread.
 pub fn explore<R: Threads + Wait + Sync, G: Gate>(
     rt: &R,
     alloc: Global,
@@ -281,7 +281,7 @@ pub fn explore<R: Threads + Wait + Sync, G: Gate>(
     Ok(finished(book, &stack, budget))
 }
 
-/// Runs a closure on a book that others share, while the lock is held. The closure may rely on no more than that the
+/// Runs a closure on a book that others share, while the lock is held. All that the closure may rely on is that the
 /// book is lawful.
 pub fn visit<R: Wait, F: FnOnce(&Book)>(rt: &R, book: &Mutex<Book>, f: F)
     requires { (b : Bor BookData) → IsLawfulBook b.now → F.pre f b }

@@ -12,7 +12,7 @@ use Rattle.std.specs.Prelude.{Contains, Result, Ok, Err}
 use Rattle.std.specs.Result.{is_ok}
 use Rattle.sf_dom.specs.Ascending.{AreAscending, IsBetweenEnds}
 
--- what is not at a place where a number would stand is nowhere
+-- a number that isn't at the place where it would stand is nowhere in the list
 absent : (xs : List ℕ) (n at : ℕ) → ((k : ℕ) → k < at → get_or xs k 0 < n)
     → ((k : ℕ) → at ≤ k → k < length xs → n < get_or xs k 0) → ¬ Contains xs n
 absent xs n at below above w =
@@ -64,7 +64,7 @@ rising-pushed xs n rising above i j le l = elim (cases_lt j (length xs)) [
         let here : j ≡ length xs + 0 = omega (arith, l, long, g) in
         ap (λ k. get_or (xs ++ n ∷ []) k 0) here ∙ get_or-append-add xs (n ∷ []) 0 0
 
--- what one number more makes of a list's
+-- the numbers of a list with one more at its end
 pub pushed-numbers : (xs : List ℕ) (n m : ℕ) → Contains (xs ++ n ∷ []) m ↔ (Contains xs m ⊎ (m ≡ n))
 pushed-numbers xs n m = (there, back)
   where
@@ -82,7 +82,7 @@ pushed-numbers xs n m = (there, back)
     back (inl h) = Contains-append_left xs (n ∷ []) m h
     back (inr e) = rw e (Contains-push xs n)
 
--- and of two lists, one behind the other, where the first or the second gets it
+-- the numbers of two lists, one behind the other, where one of the two gets one more
 pub more-before : (xs xs' ys : List ℕ) (n : ℕ) → ((m : ℕ) → Contains xs' m ↔ (Contains xs m ⊎ (m ≡ n)))
     → (m : ℕ) → Contains (xs' ++ ys) m ↔ (Contains (xs ++ ys) m ⊎ (m ≡ n))
 more-before xs xs' ys n more m = (there, back)

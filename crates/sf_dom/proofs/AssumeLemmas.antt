@@ -62,7 +62,7 @@ word-node (Some r) k ex i h = record {
   tight = λ j e. let same : i ≡ j = cc in rw same at h.tight;
 }
 
--- what is left of a node whose facts are met with what is told
+-- what is left of a node whose facts are met with more
 pub left-of : (o : Option Known) (ks : List Known) (ex : List (List ℕ)) (ns : List Node) (i : ℕ) (more met : Known)
     → i < length ks → IsMeet (known_at ks i) more met
     → MatchOption o ((n : ℕ) → ¬ Leaves met (excluded_of ex (node_at ns i)) n)
@@ -218,7 +218,7 @@ moved-on other old a c n m = record {
   high = λ d s. omega (arith, n.high, m.high d s);
 }
 
--- what a test tells of two words is told where more is known of them
+-- what a test says of two words is known where more is known of them
 pub tells-narrower : (test : Test) (sense : Bool) (v w a b c e : Known) → IsNarrower a c → IsNarrower b e
     → Tells test sense v w a b → Tells test sense v w c e
 tells-narrower Equal true v w a b c e h k t = (IsNarrower-trans w a c t.0 h, IsNarrower-trans v b e t.1 k)
@@ -296,7 +296,8 @@ tight-all o a b ex ns cond h k m one two w l = elim (is-word (node_at ns cond.ot
   ])
 ]
 
--- how a condition is taken in: what is known at first, once each of its nodes is met, and once each is gone back from
+-- how a condition is taken in: what is known at first, after each of its nodes is met, and after bits have gone back
+-- from each
 pub record AreSteps (o a b c e : List Known) (ex : List (List ℕ)) (ns : List Node) (cond : Cond) (v' w' : Known)
     : Type 0 where
   pub first : length o ≡ length ns

@@ -33,7 +33,7 @@ pub walked-step : (ks : List Known) (ns : List Node) (at x c : ℕ) (op : BinOp)
 walked-step ks ns at x c op e h more zero = tt
 walked-step ks ns at x c op e h more (suc n) = rw e (λ s. (h, more n))
 
--- and the other way: its node's bits are the operand's, and what goes back from there has gone
+-- the other way round: where bits have gone back from a node, its operand has them, and they have gone back from there
 pub walked-hands : (ks : List Known) (ns : List Node) (at x c : ℕ) (op : BinOp)
     → constant_operand_of ns (node_at ns at) ≡ Some (op, x, c) → IsSwappable op
     → ((n : ℕ) → IsPropagatedBack n ks ns at) → HandsOn op c (known_at ks at) (known_at ks x)
@@ -44,13 +44,13 @@ pub walked-on : (ks : List Known) (ns : List Node) (at x c : ℕ) (op : BinOp)
     → ((n : ℕ) → IsPropagatedBack n ks ns at) → (n : ℕ) → IsPropagatedBack n ks ns x
 walked-on ks ns at x c op e s h n = ((rw e at (h (suc n))) s).1
 
--- backward propagation ends where no operand alone is a constant
+-- backward propagation ends at a node of which not exactly one operand is a constant
 pub walked-end : (ks : List Known) (ns : List Node) (at : ℕ) → constant_operand_of ns (node_at ns at) ≡ None → (n : ℕ)
     → IsPropagatedBack n ks ns at
 walked-end ks ns at e zero = tt
 walked-end ks ns at e (suc n) = rw e tt
 
--- and at an operation that hands on no bits
+-- backward propagation ends at an operation that hands on no bits
 pub walked-other : (ks : List Known) (ns : List Node) (at x c : ℕ) (op : BinOp)
     → constant_operand_of ns (node_at ns at) ≡ Some (op, x, c)
     → ¬ IsSwappable op → (n : ℕ) → IsPropagatedBack n ks ns at

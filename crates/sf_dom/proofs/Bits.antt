@@ -149,7 +149,7 @@ or-same a b h = same_from_bits (bit_or a b) a (λ i. bit_at_or a b i ∙ max_of 
     max_of : (a b : ℕ) → b ≤ a → max a b ≡ a
     max_of a b l = omega arith
 
--- and leave room for the known zeros
+-- a number leaves room for its known zeros
 pub zeros-le : (n z o : ℕ) → n < 2 ^ 32 → z < 2 ^ 32 → HasBits n z o → n ≤ 4294967295 - z
 zeros-le n z o ln lz h =
     let none : bit_and n z ≡ 0 = same_from_bits (bit_and n z) 0
@@ -230,7 +230,7 @@ shr-bits a za oa s ls la h = record {
     two_bits : (b c : ℕ) → b < 2 → c < 2 → max b c + 0 ≤ 1
     two_bits b c l m = omega arith
 
--- two numbers that differ below bit k alone
+-- two numbers that differ only below bit k
 pub same_quotient : (a b k : ℕ) → bit_xor a b < 2 ^ k → a / 2 ^ k ≡ b / 2 ^ k
 same_quotient a b k h =
     let none : bit_xor (a / 2 ^ k) (b / 2 ^ k) ≡ 0 = sym (xor_shr a b k) ∙ div-eq_of_lt h in
@@ -277,7 +277,7 @@ leading-bits low high n k ll above below e =
     min_first : (o m : ℕ) → min o m ≤ o
     min_first o m = omega arith
 
--- no bit is known to be both
+-- no bit is known to be both 0 and 1
 pub bits-apart : (n z o : ℕ) → HasBits n z o → bit_and z o ≡ 0
 bits-apart n z o h = same_from_bits (bit_and z o) 0 (λ i. bit_at_and z o i ∙ min_none _ _ _ (h.zero i) (h.one i)
     ∙ sym (bit_at-zero i))

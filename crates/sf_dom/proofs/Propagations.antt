@@ -20,7 +20,7 @@ use Rattle.sf_dom.proofs.Bits.{join-bits, bits-le}
 use Rattle.sf_dom.specs.Facts.{known_at, numbers_at, excluded_of, AgreesWith, AreDecidedOperands}
 use Rattle.sf_dom.specs.Reduction.{IsForced, IsMeet}
 
--- what both know
+-- what is known of a word of which both are known
 pub meet-is : (a b : Known) (low high : ℕ) → low ≡ max a.low b.low → high ≡ min a.high b.high
     → IsMeet a b (known_of low high (bit_or a.zeros b.zeros) (bit_or a.ones b.ones))
 meet-is a b low high el eh = record {
@@ -112,7 +112,7 @@ forced-decided r met next ex n h t f =
     let o = t.consistent.ordered in let ol = t.ones_low in let hz = t.high_zeros in
     elim f [ inl l ↦ omega arith | inr l ↦ omega arith ]
 
--- a node that forward propagation has just gone over
+-- a node that forward propagation has just gone through
 pub IsPropagatedAt-new : (ks : List Known) (ex : List (List ℕ)) (ns : List Node) (i : ℕ)
     (r met next : Known) → IsPool ns
     → known_at ks i ≡ next
@@ -229,7 +229,7 @@ agrees-push ks ex ns d i next len a h j lj =
           rw (e, get_or_push ks next (known_of 0 0 0 0) i len) h)
     ]
 
--- what lets new nodes be taken in goes on to hold
+-- the condition under which new nodes are taken in goes on to hold
 pub still-none : (old ks : List Known) (ex : List (List ℕ)) → length old ≤ length ks
     → ((16 ≤ length old) ⊎ ((w : ℕ) → numbers_at ex w ≡ [])) → ((16 ≤ length ks) ⊎ ((w : ℕ) → numbers_at ex w ≡ []))
 still-none old ks ex l (inl a) = inl (omega arith)
@@ -249,7 +249,7 @@ unlisted-passed n ex ns k ready laid l none = elim (laid.rest k l) [
   })
 ]
 
--- the variable at hand stands before those to come
+-- a variable stands before all later ones
 pub variable-before : (n : NodesView) (r j k : ℕ) → IsLaidOut n → r ≤ j → j < length n.variables
     → k < slice_index n.variables r → k < slice_index n.variables j
 variable-before n r j k laid b l h = elim (cases_eq j r) [
@@ -324,7 +324,7 @@ propagated-after true a b n ex ns la lb s h = record {
 }
 propagated-after false a b n ex ns la lb s h = λ d p g. h d p (s.0 d p g)
 
--- what was gone over, and the node at hand, and those up to the next variable
+-- after a step of forward propagation all nodes before the next variable have been gone through
 pub passed-up_to : (n m : NodesView) (ex : List (List ℕ)) (ns : List Node) (rank i : ℕ) → IsReady m.known ns
     → IsLaidOut n → IsLaidOut m → m.variables ≡ n.variables → rank < length n.variables
     → slice_index n.variables rank ≡ i

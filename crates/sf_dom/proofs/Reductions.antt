@@ -27,7 +27,7 @@ pub led : (k : Known) (low high mask n : ℕ) → low < 2 ^ 32 → low ≤ n →
     → HasBits n (bit_or k.zeros (bit_and (4294967295 - low) mask)) (bit_or k.ones (bit_and low mask))
 led k low high mask n fl a b h j = join-bits n k.zeros k.ones _ _ h (rw j.2 (leading-bits low high n j.0 fl a b j.3))
 
--- nothing is lost
+-- no bound and no known bit is lost
 pub narrowed : (k : Known) (low high y p : ℕ) → k.low ≤ low → high ≤ k.high
     → IsNarrower k (record { low = low; high = high; zeros = bit_or k.zeros y; ones = bit_or k.ones p })
 narrowed k low high y p a b = record {
@@ -80,7 +80,7 @@ freedom-falls new old h ordered fz fo ne =
           absurd (false≢true (ne ∙ same))
     ]
 
--- where all bits that a number has not are known zeros, and all that it has known ones, there are no others
+-- where all 0s of a number are known zeros and all its 1s known ones, no other bits are known
 pub all_bits : (n z o y p : ℕ) → n < 2 ^ 32 → z < 2 ^ 32 → o < 2 ^ 32 → HasBits n z o
     → z ≡ bit_or y (bit_and (4294967295 - n) 4294967295) → o ≡ bit_or p (bit_and n 4294967295)
     → (z ≡ 4294967295 - n) × (o ≡ n)

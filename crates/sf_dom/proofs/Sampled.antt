@@ -1,4 +1,5 @@
--- What facts are after forward propagation and after growth, and where a condition or a range is kept exactly.
+-- What facts are after forward propagation and after new nodes are taken in, and where a condition or a range is kept
+-- exactly.
 use Rattle.std.proofs.Common.{◌≡◌, ◌≢◌, ℕ, zero, suc, ◌<◌, ◌≤◌, ◌^◌, ◌↔◌, List, [], length, get_or, take, Bool, true, false, IsTrue, arith, refl, sym, ap, subst, ◌∙◌, inl, inr}
 use Rattle.std.proofs.lemmas.Bool.{cases_lt, eq-eqb, ne_eqb, false≢true}
 use Rattle.std.proofs.lemmas.List.{get_or-take, get_or_append_left}
@@ -20,7 +21,7 @@ use Rattle.sf_dom.specs.Propagation.{IsPropagatedAt, AllNarrower, IsGrown, NoneA
 use Rattle.sf_dom.proofs.GuardLemmas.{differs-gives}
 use Rattle.sf_dom.proofs.Propagations.{AreDecidedOperands-same, operands-below, word-below}
 
--- an answer is true exactly where on some input that agreed this is so
+-- an answer is true exactly where `met` is true on some input that agreed
 pub exact-none : (old : FactsView) (ns : List Node) (met : Input → Bool) → NoInput old ns met → IsTrue false
     ↔ SomeInput old ns met
 exact-none old ns met none = ((λ t. absurd (false≢true t)), (λ s. absurd (false≢true (sym (none s.0 s.1 s.2) ∙ s.3))))
@@ -29,7 +30,7 @@ pub exact-some : (old new : FactsView) (ns : List Node) (met : Input → Bool) �
     → KeepsOnly old new ns met → IsTrue true ↔ SomeInput old ns met
 exact-some old new ns met s only = let k = only s.0 s.1 s.2 in ((λ _. (s.0, s.1, k.0, k.1)), (λ _. refl))
 
--- The number of a word where one alone is left: where there is one, where there is none, and how the ends tell.
+-- The number of a node where only one is left: where there is one, where there is none, and how the ends say which.
 pub decided-some : (o : Option ℕ) (k : Known) (n : ℕ) → MatchOption o (¬ IsDecided k) (λ m. IsDecided k × (m ≡ k.low))
     → o ≡ Some n → IsDecided k × (n ≡ k.low)
 decided-some None k n h e = cc
@@ -118,7 +119,7 @@ agrees-after ks ex before ns d len more a i l =
     ∙ value-older before more.0 d i (omega arith) in
     rw (node-older before ns i more (omega arith), value) (a i l)
 
--- what agrees after growth agreed before
+-- an input that agrees after new nodes are taken in agreed before
 agrees-kept : (old new : List Known) (ex : List (List ℕ)) (ns : List Node) (d : Input) → take (length old) new ≡ old
     → length old ≤ length new → AgreesWith new ex ns d → AgreesWith old ex ns d
 agrees-kept old new ex ns d kept le a i l =
@@ -126,8 +127,8 @@ agrees-kept old new ex ns d kept le a i l =
     ∙ get_or-take (length old) new i (record { low = 0; high = 0; zeros = 0; ones = 0 }) l in
     rw same (a i (omega arith))
 
--- Growth over a longer pool takes in the inputs that agreed on its beginning, and no others; where no input agrees on
--- the longer pool, none did on its beginning.
+-- Where the new nodes of a longer pool are taken in, the inputs that agreed on its beginning agree, and no others;
+-- where no input agrees on the longer pool, none did on its beginning.
 module _ (old : List Known) (ex : List (List ℕ)) (before ns : List Node) (count : length old ≡ length before)
     (more : Extends before ns) where
   pub grown-takes_in : (new : List Known) → IsGrown old new ex ns → (d : Input) → IsInput d → AgreesWith old ex before d
@@ -143,7 +144,7 @@ module _ (old : List Known) (ex : List (List ℕ)) (before ns : List Node) (coun
   pub none-agreed : NoneAgreesWith old ex ns → (d : Input) → IsInput d → ¬ AgreesWith old ex before d
   none-agreed none d p a = none d p (agrees-after old ex before ns d count more a)
 
--- what is known after growth, where something was before
+-- what is known after new nodes are taken in
 pub grown-facts : (old new : List Known) (ex : List (List ℕ)) (ns : List Node) → IsPool ns
     → AreFacts (record { known = old; excluded = ex })
     → length old ≤ length ns → IsGrown old new ex ns

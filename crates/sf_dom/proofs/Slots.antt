@@ -30,7 +30,7 @@ pub place-at : (os : List Variable) (r : ℕ) → r < length os → slice_index 
     ≡ (get_or os r (variable_of 0 (known_of 0 0 0 0))).place
 place-at os r l = get_or-map (λ o. o.place) os r (variable_of 0 (known_of 0 0 0 0)) 0 l
 
--- a variable that is read tells its place
+-- a variable that is read has its place
 pub place-read : (os : List Variable) (r i : ℕ) (o : Variable) → r < length os → o ≡ get_or os r o
     → slice_index (places_of os) r ≡ i → o.place ≡ i
 place-read os r i o l read e = ap (λ (v : Variable). v.place) (get_or_read os r o l read
@@ -144,7 +144,7 @@ pub number-set : (slots : List Slot) (os : List Variable) (i : ℕ) (x : Known) 
     → known_by os slots ≡ set (known_by os slots) i x
 number-set slots os i x e = sym (ap (set (known_by os slots) i) e ∙ set-get_or (known_by os slots) i (known_of 0 0 0 0))
 
--- one more number
+-- one more slot, with a number
 pub kept-number : (slots : List Slot) (os : List Variable) (c : ℕ) → 16 ≤ length slots → AreKept slots os
     → AreKept (slots ++ Number c ∷ []) os
 kept-number slots os c past k = record {
@@ -167,7 +167,7 @@ pub known-number : (slots : List Slot) (os : List Variable) (c : ℕ)
     → known_by os (slots ++ Number c ∷ []) ≡ known_by os slots ++ known_of c c (4294967295 - c) c ∷ []
 known-number slots os c = map-append (slot_known os) slots (Number c ∷ [])
 
--- one more variable
+-- one more slot, of a variable
 pub known-variable : (slots : List Slot) (os : List Variable) (x : Known) → AreKept slots os
     → known_by (os ++ variable_of (length slots) x ∷ []) (slots ++ VariableAt (length os) ∷ [])
     ≡ known_by os slots ++ x ∷ []

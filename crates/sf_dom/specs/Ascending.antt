@@ -7,7 +7,7 @@ use Rattle.std.specs.declared.sync.Arc.{Arc}
 abbrev pub AreAscending : List ℕ → Type 0
 AreAscending xs = (i j : ℕ) → i ≤ j → j < length xs → slice_index xs i ≤ slice_index xs j
 
--- n is neither before the first number nor behind the last one
+-- n is neither below the first number nor above the last one
 abbrev pub IsBetweenEnds : List ℕ → ℕ → Type 0
 IsBetweenEnds xs n = (0 < length xs) × (slice_index xs 0 ≤ n) × (n ≤ slice_index xs (length xs - 1))
 

@@ -1,4 +1,4 @@
--- How known bits go back from a node to what it was made of, through constants.
+-- How known bits go back from a node to its operand, where the other operand is a constant.
 use Rattle.std.specs.Prelude.{◌≡◌, ℕ, zero, suc, ◌<◌, ◌-◌, List, Option, Some, None, IfSome, bit_and, bit_or}
 use Rattle.sf_insn.specs.declared.ops.BinOp.{BinOp}
 use Rattle.sf_insn.specs.declared.ops.BinOp.TheVariants.{Or, And, Xor}
@@ -9,26 +9,26 @@ use Rattle.sf_dom.specs.declared.known.Known.{Known}
 use Rattle.sf_dom.specs.Known.{AreBitsOf, IsNarrower}
 use Rattle.sf_dom.specs.Facts.{known_at}
 
--- an operation of single bits, whose operands may be swapped
+-- an operation that works bit by bit, whose operands may be swapped
 abbrev pub IsSwappable : BinOp → Type 0
 IsSwappable Or = Unit {0}
 IsSwappable And = Unit {0}
 IsSwappable Xor = Unit {0}
 IsSwappable _ = ⊥
 
--- of two operands, where one alone is a constant: the operation, the place of the other operand and the constant
+-- where exactly one of two operands is a constant: the operation, the place of the other operand and the constant
 abbrev pub one_constant : BinOp → ℕ → ℕ → Option ℕ → Option ℕ → Option (BinOp × ℕ × ℕ)
 one_constant op a b None (Some c) = Some (op, a, c)
 one_constant op a b (Some c) None = Some (op, b, c)
 one_constant op a b _ _ = None
 
--- the same of a node
+-- where exactly one operand of a node is a constant: the operation, the place of the other operand and the constant
 abbrev pub constant_operand_of : List Node → Node → Option (BinOp × ℕ × ℕ)
 constant_operand_of ns (Bin op a b) = one_constant op a.0 b.0 (constant_number (node_at ns a.0))
     (constant_number (node_at ns b.0))
 constant_operand_of ns _ = None
 
--- the known bits of a node are known of its operand, as far as the constant beside that lets them through
+-- what the known bits of a node `x op c` say of the bits of x is known of x
 abbrev pub HandsOn : BinOp → ℕ → Known → Known → Type 0
 HandsOn And c node x = AreBitsOf (bit_and node.zeros c) x.zeros × AreBitsOf node.ones x.ones
 HandsOn Or c node x = AreBitsOf node.zeros x.zeros × AreBitsOf (bit_and node.ones (4294967295 - c)) x.ones
@@ -37,14 +37,16 @@ HandsOn Xor c node x =
     × AreBitsOf (bit_or (bit_and node.ones (4294967295 - c)) (bit_and node.zeros c)) x.ones
 HandsOn _ c node x = Unit {0}
 
--- the known bits of a node are known of its operand, those of that one of its own operand, and so on, so many times
+-- what the known bits of a node say of its operand beside a constant is known of the operand, and so on from operand to
+-- operand, n times
 abbrev pub IsPropagatedBack : ℕ → List Known → List Node → ℕ → Type 0
 IsPropagatedBack zero ks ns at = Unit {0}
 IsPropagatedBack (suc n) ks ns at =
     IfSome (constant_operand_of ns (node_at ns at)) (λ o. IsSwappable o.0
     → HandsOn o.0 o.2 (known_at ks at) (known_at ks o.1) × IsPropagatedBack n ks ns o.1)
 
--- backward propagation that began at one node and stands at an older one: what is propagated from here is from there
+-- Backward propagation began at `from` and has come to the older node `at`: once it is through from `at` on, it is
+-- through from `from` on.
 abbrev pub Carries : List Known → List Node → ℕ → ℕ → Type 0
 Carries ks ns from at =
     (last : List Known) → ((j : ℕ) → at < j → known_at last j ≡ known_at ks j)

@@ -1,4 +1,4 @@
--- What a condition leaves of its two nodes, before it is taken into the facts of all.
+-- What a condition leaves of its two nodes, before it is taken into what is known of all nodes.
 use Rattle.std.specs.Prelude.{ℕ, List}
 use Rattle.sf_insn.specs.Inputs.{IsInput}
 use Rattle.sf_insn.specs.declared.input.Input.{Input}

@@ -1,4 +1,5 @@
--- What facts tell of the inputs that agree, and where only words and constants are known, that there is such an input.
+-- What facts say of the inputs that agree with them; and where a pool has only words and constants, that some input
+-- agrees.
 use Rattle.std.proofs.Common.{◌≡◌, ℕ, ◌<◌, ◌≤◌, ◌-◌, ◌+◌, ◌^◌, List, length, get_or, set, map, take, true, arith, refl, ap, ◌∙◌, inl, inr}
 use Rattle.std.proofs.lemmas.Bool.{cases_eq, cases_lt}
 use Rattle.std.proofs.lemmas.List.{get_or-set_same, get_or-set_other, length-set, length-map, get_or-map, get_or_past, get_or-take, length-take-le}
@@ -22,7 +23,7 @@ bit_at-complement c i l = elim (cases_lt i 32) [
   | inr h ↦ omega (arith, bit_at_above c 32 i l h, bit_at-lt (4294967295 - c) i)
 ]
 
--- what is admitted by what is known is admitted where less is known
+-- a number that is admitted is admitted where less is known
 pub narrower-admits : (old new : Known) (n : ℕ) → IsNarrower old new → Admits new n → Admits old n
 narrower-admits old new n h a = record {
   above = omega (arith, h.low, a.above);
@@ -83,7 +84,7 @@ decided-admits k c s el eh =
       bits = rw (s.zeros d, s.ones d, el) (constant-admits c (omega arith)).bits;
     }
 
--- over words and constants, what agrees on the words agrees
+-- where a pool has only words and constants, an input that agrees on the words agrees
 pub words-agree : (f : FactsView) (ns : List Node) (d : Input) → Covers f ns → ArePlainNodes ns → AgreesOnWords f d
     → AgreesWith f.known f.excluded ns d
 words-agree f ns d h plain a i l =
@@ -100,7 +101,7 @@ words-agree f ns d h plain a i l =
           }))
     ]
 
--- Over words and constants some input agrees.
+-- Where a pool has only words and constants, some input agrees.
 pub some-input : (f : FactsView) (ns : List Node) → Covers f ns → ArePlainNodes ns → SomeInput f ns (λ d. true)
 unfolding Agrees
 some-input f ns h plain =

@@ -1,4 +1,4 @@
--- How what is known of the nodes of a pool is kept, and which of the nodes may still gain.
+-- How what is known of the nodes of a pool is kept, and of which nodes more can become known.
 use Rattle.std.specs.Prelude.{◌≡◌, ℕ, ◌-◌, ◌<◌, ◌≤◌, ◌⊎◌, List, length, map, slice_index, slice_index_or}
 use Rattle.sf_dom.specs.declared.known.Known.{Known}
 use Rattle.sf_dom.specs.declared.nodes.Variable.{Variable}
@@ -12,7 +12,7 @@ pub record NodesView : Type 0 where
   pub known : List Known
   pub variables : List ℕ
 
--- The variables are told in rising order. Each other node is past the words of the input, and has one number.
+-- The places of the variables are rising. Each other node is past the words of the input, and has only one number.
 pub record IsLaidOut (n : NodesView) : Type 0 where
   pub within : (j : ℕ) → j < length n.variables → slice_index n.variables j < length n.known
   pub rising : (j k : ℕ) → j < k → k < length n.variables → slice_index n.variables j < slice_index n.variables k
@@ -36,7 +36,7 @@ places_of os = map (λ o. o.place) os
 abbrev pub slot_at : List Slot → ℕ → Slot
 slot_at slots i = slice_index_or slots i (Number 0)
 
--- variables and their slots tell of each other, and no word is kept as a number
+-- variables and their slots refer to each other, and no word of the input is kept as a number
 pub record AreKept (slots : List Slot) (os : List Variable) : Type 0 where
   pub variables : (i r : ℕ) → i < length slots → slot_at slots i ≡ VariableAt r → (r < length os)
       × (slice_index (places_of os) r ≡ i)

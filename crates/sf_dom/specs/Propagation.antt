@@ -1,4 +1,5 @@
--- What the steps of learning do to the facts of nodes, a list, and to the numbers that are excluded for words.
+-- What the steps of learning a condition do to what is known of the nodes, which is a list here, and to the numbers
+-- that are excluded for words.
 use Rattle.std.specs.Prelude.{◌≡◌, ◌≢◌, ℕ, ◌-◌, ◌<◌, ◌≤◌, ◌↔◌, ◌⊎◌, List, length, take, slice_index, Contains, Bool, true, false, All}
 use Rattle.sf_insn.specs.Inputs.{IsInput}
 use Rattle.sf_insn.specs.Words.{IsOneBit, passes}
@@ -37,14 +38,14 @@ pub record IsReducedNode (old new : Known) (ex : List (List ℕ)) (n : Node) : T
   pub high_zeros : new.high ≤ 4294967295 - new.zeros
   pub tight : (i : ℕ) → n ≡ Word i → IsTight new (numbers_at ex i)
 
--- each node of the pool is told, every interval holds a number, and a constant's is its number
+-- something is known of each node of the pool, every interval holds a number, and a constant's interval is its number
 pub record IsReady (ks : List Known) (ns : List Node) : Type 0 where
   pub count : length ks ≡ length ns
   pub consistent : (i : ℕ) → i < length ks → IsConsistent (known_at ks i)
   pub constants : (i c : ℕ) → i < length ks → node_at ns i ≡ Const c → ((known_at ks i).low ≡ c)
       × ((known_at ks i).high ≡ c)
 
--- what holds of a node that forward propagation has gone over
+-- what holds of a node that forward propagation has gone through
 pub record IsPropagatedAt (ks : List Known) (ex : List (List ℕ)) (ns : List Node) (i : ℕ) : Type 0 where
   pub consistent : IsConsistent (known_at ks i)
   pub tight : i < 16 → IsTight (known_at ks i) (numbers_at ex i)
@@ -55,12 +56,12 @@ pub record IsPropagatedAt (ks : List Known) (ex : List (List ℕ)) (ns : List No
 abbrev pub AreTightWords : List Known → List (List ℕ) → Type 0
 AreTightWords ks ex = (w : ℕ) → w < 16 → IsTight (known_at ks w) (numbers_at ex w)
 
--- each word of which this was so is so still
+-- each word whose ends were left for it has ends that are left for it still
 abbrev pub KeepsTight : List Known → List Known → List (List ℕ) → Type 0
 KeepsTight old new ex = (w : ℕ) → w < 16 → IsTight (known_at old w) (numbers_at ex w)
     → IsTight (known_at new w) (numbers_at ex w)
 
--- it is so of each word that is neither node of a condition
+-- both ends of the interval of each word that is neither node of a condition are left for it
 abbrev pub AreOthersTight : List Known → List (List ℕ) → List Node → Cond → Type 0
 AreOthersTight ks ex ns cond = (w : ℕ) → w < 16 → node_at ns cond.node.0 ≢ Word w → node_at ns cond.other.0 ≢ Word w
     → IsTight (known_at ks w) (numbers_at ex w)
@@ -92,7 +93,7 @@ TestGives test a b sense = passes test a b ≡ sense
 abbrev pub Holds : List Node → Cond → Input → Type 0
 Holds ns c d = TestGives c.test (value_of ns d c.node.0) (value_of ns d c.other.0) c.sense
 
--- what is left of a node, by what is known of it and what is told besides
+-- what is left of a node where `more` is known of it
 pub record IsLeft (ks : List Known) (ex : List (List ℕ)) (ns : List Node) (at : ℕ) (more next : Known) : Type 0 where
   pub kept : (d : Input) → IsInput d → AgreesWith ks ex ns d → Admits more (value_of ns d at)
       → Leaves next (excluded_of ex (node_at ns at)) (value_of ns d at)
@@ -109,12 +110,12 @@ LeavesPair v w v' w' passes = (x y : ℕ) → Admits v x → Admits w y → pass
 abbrev pub LeavesNoPair : Known → Known → (ℕ → ℕ → Type 0) → Type 0
 LeavesNoPair v w passes = (x y : ℕ) → Admits v x → Admits w y → ¬ passes x y
 
--- every input that agreed, and that passes, agrees still
+-- every input that agreed, and on which this holds, agrees still
 abbrev pub KeepsAgreeingOn : List Known → List Known → List (List ℕ) → List Node → (Input → Type 0) → Type 0
 KeepsAgreeingOn old new ex ns passes = (d : Input) → IsInput d → AgreesWith old ex ns d → passes d
     → AgreesWith new ex ns d
 
--- no input that agrees passes
+-- this holds on no input that agrees
 abbrev pub NoneAgreesOn : List Known → List (List ℕ) → List Node → (Input → Type 0) → Type 0
 NoneAgreesOn old ex ns passes = (d : Input) → IsInput d → AgreesWith old ex ns d → ¬ passes d
 
@@ -129,9 +130,10 @@ pub record IsMovedPast (other old new : Known) : Type 0 where
   pub low : IsDecided other → old.low ≡ other.low → other.low < new.low
   pub high : IsDecided other → old.high ≡ other.low → new.high < other.low
 
--- What a test with this result tells of two words, v and w before and v' and w' after: two equal words have what is
--- known of both; no end is left that the other word's ends rule out; and a decided w tells v of its bits: they have a
--- common bit only if one of w's bits isn't known to be 0 in v.
+-- What a test with this result says of two words, v and w before and v' and w' afterwards. Of equal words, what was
+-- known of each is known of the other. No end is left that the other word's ends rule out. Where w is decided, a test
+-- for a common bit says something of v's bits: with a common bit, not all bits of w are known to be 0 in v, and if w
+-- has only one bit, v has it; without one, all bits of w are 0 in v.
 abbrev pub Tells : Test → Bool → Known → Known → Known → Known → Type 0
 Tells Equal true v w v' w' = IsNarrower w v' × IsNarrower v w'
 Tells Equal false v w v' w' = IsMovedPast w v v' × IsMovedPast v w w'
@@ -143,8 +145,8 @@ Tells AnyBit true v w v' w' = (IsDecided w → ¬ AreBitsOf w.low v.zeros)
     × (IsDecided w → IsOneBit w.low → AreBitsOf w.low v'.ones)
 Tells AnyBit false v w v' w' = IsDecided w → AreBitsOf w.low v'.zeros
 
--- Known bits have gone back from a node: at some time between, all that the condition tells was known, and the bits of
--- the node, and of each operand in turn, were known of the next.
+-- Known bits have gone back from a node: at some time in between all that the condition says of its two nodes was
+-- known, and what the bits of the node say of its operand was known, and so on from operand to operand.
 pub record HasGoneBack (old new : List Known) (ns : List Node) (cond : Cond) (at : ℕ) : Type 0 where
   pub between : List Known
   pub count : length between ≡ length ns
@@ -170,13 +172,13 @@ pub record IsAssumed (old new : List Known) (ex : List (List ℕ)) (ns : List No
       → IsDecided (known_at old cond.other.0)
       → (x : ℕ) → Admits (known_at new cond.node.0) x → TestGives cond.test x (known_at old cond.other.0).low cond.sense
 
--- one more number is excluded for a word, and for the other words the same numbers
+-- one more number is excluded for a word, and the other words keep their numbers
 pub record AddsNumber (old new : List (List ℕ)) (w number : ℕ) : Type 0 where
   pub words : length new ≡ length old
   pub word : (m : ℕ) → Contains (numbers_at new w) m ↔ (Contains (numbers_at old w) m ⊎ (m ≡ number))
   pub others : (v : ℕ) → v ≢ w → numbers_at new v ≡ numbers_at old v
 
--- the number of a decided node is excluded for a word
+-- where a node is a word and another one is decided, the number of that one is excluded for the word
 pub record AreExcluded (old new : List (List ℕ)) (n : Node) (other : Known) : Type 0 where
   pub words : length new ≡ length old
   pub more : (i m : ℕ) → i < 16 → Contains (numbers_at old i) m → Contains (numbers_at new i) m
@@ -184,7 +186,8 @@ pub record AreExcluded (old new : List (List ℕ)) (n : Node) (other : Known) : 
       ⊎ ((n ≡ Word i) × IsDecided other × (m ≡ other.low))
   pub added : (i : ℕ) → n ≡ Word i → IsDecided other → Contains (numbers_at new i) other.low
 
--- where a condition says that two nodes differ, neither is the number of the other, if that is decided
+-- where a condition says that two nodes differ, and one is decided, its number is excluded for the other, if that is a
+-- word
 pub record AreBothExcluded (ks : List Known) (old new : List (List ℕ)) (ns : List Node) (cond : Cond) : Type 0 where
   pub words : length new ≡ length old
   pub keeps : (d : Input) → IsInput d → AgreesWith ks old ns d → Holds ns cond d → AgreesWith ks new ns d
@@ -205,9 +208,9 @@ pub record IsLearnt (old : List Known) (ex : List (List ℕ)) (new : List Known)
   pub both : AreBothExcluded old ex ex' ns cond
   pub consistent : IsAssumed old new ex' ns cond
 
--- What a condition tells of its two nodes is known after: of their ends and bits, which have gone back from both; where
--- the other node is decided and the test is kept exactly, no number is left for the node that fails it; and where they
--- differ, a word doesn't have the number of the other node, if that is decided.
+-- What a condition says of its two nodes is known afterwards, and known bits have gone back from both. Where the other
+-- node is decided and the test is kept exactly, each number that the node may have has the condition's result. Where
+-- the nodes differ, and one is decided, its number is excluded for the other, if that is a word.
 pub record IsTold (old new : FactsView) (ns : List Node) (cond : Cond) : Type 0 where
   pub tells : Tells cond.test cond.sense (known_at old.known cond.node.0) (known_at old.known cond.other.0)
       (known_at new.known cond.node.0) (known_at new.known cond.other.0)
@@ -224,7 +227,7 @@ pub record IsTold (old new : FactsView) (ns : List Node) (cond : Cond) : Type 0 
       → cond.test ≡ Equal → cond.sense ≡ false
       → Contains (numbers_at new.excluded i) (known_at old.known cond.node.0).low
 
--- what else is known of a word is taken in
+-- `more` is taken into what is known of a word
 pub record IsRestricted (old new : List Known) (ex : List (List ℕ)) (ns : List Node) (w : ℕ)
     (more : Known) : Type 0 where
   pub count : length new ≡ length ns
@@ -237,11 +240,11 @@ pub record IsRestricted (old new : List Known) (ex : List (List ℕ)) (ns : List
 abbrev pub AllMet : List Node → List Cond → Input → Type 0
 AllMet ns conds d = All (λ c. is_met ns d c ≡ true) conds
 
--- no input that agrees has in a word a number that is admitted
+-- no input that agrees has in a word a number that `more` admits
 abbrev pub NoneHas : FactsView → List Node → ℕ → Known → Type 0
 NoneHas f ns w more = NoneAgreesOn f.known f.excluded ns (λ d. Admits more (slice_index d.words w))
 
--- the facts of a word are restricted by what else is known of it
+-- `more` is taken into the facts of a word: exactly the inputs that agreed and have such a number there agree
 pub record RestrictsWord (old new : FactsView) (ns : List Node) (w : ℕ) (more : Known) : Type 0 where
   pub covers : Covers new ns
   pub keeps : (d : Input) → IsInput d → AgreesWith old.known old.excluded ns d → Admits more (slice_index d.words w)

@@ -12,11 +12,11 @@ AreApart zeros ones = (i : ℕ) → bit_at zeros i + bit_at ones i ≤ 1
 abbrev pub freedom : Known → ℕ
 freedom k = (k.high - k.low) + (4294967295 - k.zeros) + (4294967295 - k.ones)
 
--- what is reduced from this is decided
+-- once it is reduced, it is decided
 abbrev pub IsForced : Known → Type 0
 IsForced k = (k.high ≤ k.low) ⊎ (4294967295 ≤ k.zeros + k.ones)
 
--- what both know
+-- what is known of a word of which both are known
 pub record IsMeet (a b r : Known) : Type 0 where
   pub left : IsNarrower a r
   pub right : IsNarrower b r
@@ -41,7 +41,7 @@ pub record IsReducedKnown (old new : Known) : Type 0 where
   pub ones_low : new.ones ≤ new.low
   pub high_zeros : new.high ≤ 4294967295 - new.zeros
 
--- the same of a word with excluded numbers: those that are left stay, and the ends are two of them
+-- a word with excluded numbers is reduced: the numbers that were left are left still, and both ends are such numbers
 pub record IsReducedWord (old new : Known) (xs : List ℕ) : Type 0 where
   pub same : (n : ℕ) → Leaves old xs n → Leaves new xs n
   pub narrower : IsNarrower old new

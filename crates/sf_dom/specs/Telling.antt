@@ -9,7 +9,7 @@ use Rattle.sf_dom.specs.Known.{AreBitsOf}
 use Rattle.sf_dom.specs.Facts.{known_at, excluded_of}
 use Rattle.sf_dom.specs.Propagation.{TestGives}
 
--- some number between the ends of an interval gives a test against a number this result
+-- a test against a number has this result for some number between the ends of an interval
 abbrev pub SomeBetweenGives : Known → Test → ℕ → Bool → Type 0
 SomeBetweenGives k test number sense = (x : ℕ) × (k.low ≤ x) × (x ≤ k.high) × TestGives test x number sense
 
@@ -20,7 +20,8 @@ abbrev pub IsOpen : Test → Known → ℕ → Type 0
 IsOpen AnyBit k number = (bit_and k.ones number ≡ 0) × ¬ AreBitsOf number k.zeros
 IsOpen test k number = SomeBetweenGives k test number true × SomeBetweenGives k test number false
 
--- the same of a node: for an equal, the number isn't excluded for it either
+-- What is known of a node leaves the result of a test against a number open: its interval and bits do, and where the
+-- test is for equality, the number isn't excluded for the node.
 pub record IsOpenAt (ks : List Known) (ex : List (List ℕ)) (ns : List Node) (at : ℕ) (test : Test)
     (number : ℕ) : Type 0 where
   pub known : IsOpen test (known_at ks at) number

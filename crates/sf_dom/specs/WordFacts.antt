@@ -1,4 +1,4 @@
--- What facts ask of the words of an input alone.
+-- What facts say of the words of an input.
 use Rattle.std.specs.Prelude.{ℕ, ◌<◌, slice_index}
 use Rattle.sf_insn.specs.declared.input.Input.{Input}
 use Rattle.sf_dom.specs.Known.{Leaves}

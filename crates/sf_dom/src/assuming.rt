@@ -36,7 +36,8 @@ fn with_bits(known: Known, zeros: u32, ones: u32) -> Known
     }
 }
 
-/// What is known of an operand, with the bits that it gains from those of its node, whose other operand is a constant.
+/// What is known of the operand x of a node `x op c`, with the bits that follow from those of the node. `None` where
+/// the operation is not AND, OR or XOR.
 pub(crate) fn backward(op: BinOp, node: Known, c: u32, operand: Known) -> Option<Known>
     ensures bits { IfSome result (λ g. (x : ℕ) → Admits operand x
         → Admits node (apply op x c) → Admits g x) }
@@ -58,7 +59,7 @@ pub(crate) fn backward(op: BinOp, node: Known, c: u32, operand: Known) -> Option
     }
 }
 
-/// The constant operand of a node and its other operand, where exactly one is constant.
+/// Where exactly one operand of a node is a constant: the operation, the place of the other operand, and the constant.
 pub(crate) fn constant_operand(pool: &Pool, at: usize) -> Option<(BinOp, usize, u32)>
     requires { at < length pool.now }
     ensures told { result ≡ constant_operand_of pool.now (node_at pool.now at) }
@@ -76,7 +77,8 @@ pub(crate) fn constant_operand(pool: &Pool, at: usize) -> Option<(BinOp, usize, 
     }
 }
 
-/// Takes known bits back from a node through constants. False: no input agrees.
+/// Takes the known bits of a node back to its operand beside a constant, and so on from operand to operand. `false`: no
+/// input agrees.
 fn propagate_back(nodes: &mut Nodes, excluded: &Excluded, pool: &Pool, from: usize) -> bool
     requires ready { IsReady nodes.old.known pool.now }
     requires start { from < length pool.now }
@@ -104,8 +106,8 @@ fn propagate_back(nodes: &mut Nodes, excluded: &Excluded, pool: &Pool, from: usi
     true
 }
 
-/// Whether no input agrees where this is known of a node: its bits, taken back through constants, leave some operand no
-/// number. Nothing is kept of it, so that a contradiction is seen before facts are copied.
+/// Whether `known`, of a node, contradicts: its bits, taken back from operand to operand as `propagate_back` does,
+/// leave one of them no number. Nothing is written, so a contradiction is seen before facts are copied.
 fn is_ruled_out_back(
     nodes: &Nodes,
     excluded: &Excluded,
@@ -134,7 +136,7 @@ fn is_ruled_out_back(
     false
 }
 
-/// What a test leaves of two words, or none where no two numbers pass it.
+/// What is known of two words whose test has this result; `None` where no two numbers of theirs have it.
 fn assume_test(v: Known, w: Known, test: Test, sense: bool) -> Option<Pair>
     ensures pair { MatchOption result
         (LeavesNoPair v w (λ x y. TestGives test x y sense))
@@ -190,7 +192,7 @@ fn assume_test(v: Known, w: Known, test: Test, sense: bool) -> Option<Pair>
     }
 }
 
-/// What is left of a node, by what is known of it and what is told besides, or none where no input agrees.
+/// What is left of a node where `more` is known of it; `None` where no input that agrees has such a number there.
 pub(crate) fn left_of(
     nodes: &Nodes,
     excluded: &Excluded,
@@ -209,7 +211,7 @@ pub(crate) fn left_of(
     reduced(nodes.get(at).meet(more), node, excluded)
 }
 
-/// Takes in what is told of a node besides. False: no input agrees.
+/// Adds `more` to what is known of a node. `false`: no input that agrees has such a number there.
 fn meet_node(nodes: &mut Nodes, excluded: &Excluded, pool: &Pool, at: usize, more: Known) -> bool
     requires ready { IsReady nodes.old.known pool.now }
     requires place { at < length pool.now }
@@ -234,8 +236,8 @@ fn meet_node(nodes: &mut Nodes, excluded: &Excluded, pool: &Pool, at: usize, mor
     }
 }
 
-/// What a condition leaves of its two nodes, each by itself, or none where that rules it out. It is asked before facts are
-/// copied.
+/// What a condition leaves of its two nodes, each by itself; `None` where it leaves one no number. This is asked before
+/// facts are copied.
 pub(crate) fn left_alone(
     nodes: &Nodes,
     excluded: &Excluded,
@@ -257,7 +259,8 @@ pub(crate) fn left_alone(
     Some(Pair { node, other })
 }
 
-/// Forward propagation after a condition: of the words, its two nodes alone may not be tight.
+/// Forward propagation after a condition. Of the words, only its two nodes may not be tight, so these are made so
+/// first. `false`: no input agrees.
 fn propagate_on(nodes: &mut Nodes, excluded: &Excluded, pool: &Pool, cond: &Cond) -> bool
     requires ready { IsReady nodes.old.known pool.now }
     requires node { cond.now.node.0 < length pool.now }
@@ -276,7 +279,8 @@ fn propagate_on(nodes: &mut Nodes, excluded: &Excluded, pool: &Pool, cond: &Cond
     propagate(nodes, excluded, pool)
 }
 
-/// Whether the bits that go back from one of the two nodes of a condition rule it out, by what it leaves of them.
+/// Whether a condition is ruled out by the bits that go back from one of its two nodes. `alone` is what it leaves of
+/// these, each by itself.
 pub(crate) fn contradicts_back(
     nodes: &Nodes,
     excluded: &Excluded,
@@ -296,7 +300,8 @@ pub(crate) fn contradicts_back(
         || is_ruled_out_back(nodes, excluded, pool, cond.other, alone.other)
 }
 
-/// Whether what is left of a node is what is known of it, no bit would go back from it, and a word is as tight as it gets.
+/// Whether a node stays as it is: what is left of it is what is known of it, no bit would go back from it, and if it is
+/// a word, it is tight.
 fn stays(nodes: &Nodes, excluded: &Excluded, pool: &Pool, at: NodeId, left: Known) -> bool
     requires ready { IsReady nodes.now.known pool.now }
     requires place { at.0 < length pool.now }
@@ -311,7 +316,8 @@ fn stays(nodes: &Nodes, excluded: &Excluded, pool: &Pool, at: NodeId, left: Know
         && is_tight_at(nodes, excluded, pool, at)
 }
 
-/// Whether a condition changes nothing that is known of a node, by what it leaves of its two nodes.
+/// Whether a condition changes nothing that is known of any node. `alone` is what it leaves of its two nodes, each by
+/// itself.
 pub(crate) fn changes_nothing(
     nodes: &Nodes,
     excluded: &Excluded,
@@ -333,8 +339,8 @@ pub(crate) fn changes_nothing(
         && stays(nodes, excluded, pool, cond.other, alone.other)
 }
 
-/// Takes a condition into what is known, with what it leaves of its two nodes alone. False: no input that agrees meets it.
-/// The second is met with what is known of it then, since both may be one node.
+/// Takes a condition into what is known. `alone` is what it leaves of its two nodes, each by itself. `false`: no input
+/// that agrees meets it. Both may be one node, so what is left of the second is added to what is known by then.
 pub(crate) fn assume_cond(
     nodes: &mut Nodes,
     excluded: &Excluded,
@@ -369,7 +375,8 @@ pub(crate) fn assume_cond(
     propagate_on(nodes, excluded, pool, cond)
 }
 
-/// A word is not the number of a node that is decided.
+/// Excludes the number of another node, if that is decided, for a node that is a word. `other` is what is known of the
+/// other node. `Memory` where an allocation is refused.
 pub(crate) fn exclude(
     alloc: Global,
     excluded: &mut Excluded,
@@ -387,7 +394,8 @@ pub(crate) fn exclude(
     Ok(())
 }
 
-/// Two nodes differ, as the condition says: neither is the number of the other, if that is decided.
+/// Takes in that the two nodes of a condition differ: where one is decided and the other is a word, its number is
+/// excluded for the word. `Memory` where an allocation is refused.
 pub(crate) fn exclude_both(
     alloc: Global,
     excluded: &mut Excluded,

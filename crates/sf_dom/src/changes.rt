@@ -1,4 +1,5 @@
-//! What a condition, and what else is known of a word, leave of the facts of a pool. What is handed in stays as it is.
+//! What is left of the facts of a pool where a condition is met, or where more is known of a word. The facts that are
+//! handed in stay as they are.
 
 ghost use Rattle.std.specs.Prelude.{◌≡◌, ℕ, ◌<◌, ◌≤◌, length, slice_index, MatchOption, IfOk, IfSome, unwrap_or};
 ghost use Rattle.sf_sym.specs.Pool.{IsCondBelow};
@@ -18,10 +19,11 @@ use sf_insn::Test;
 use sf_sym::{Cond, Pool};
 use std::alloc::Global;
 
-/// Nodes of which something else is known, or none where they are as they were.
+/// The nodes with what is known of them after a change; `None` where nothing changed.
 pub(crate) type Changed = Option<Nodes>;
 
-/// The excluded numbers, with those that a condition tells: they are copied only where it tells one.
+/// The excluded numbers, with those that a condition adds: it adds some only where it says that its two nodes differ.
+/// `Memory` where an allocation is refused.
 fn with_told(
     alloc: Global,
     excluded: &Excluded,
@@ -47,8 +49,11 @@ fn with_told(
     }
 }
 
-/// What a condition leaves, or none where no input that agrees meets it. Nodes are copied only where its two words and the bits
-/// that go back from them don't contradict, and something that is known would change.
+/// What a condition leaves of the facts; `None` where no input that agrees meets it. `Memory` where an allocation is
+/// refused.
+///
+/// Nodes are copied only where something that is known changes. To see that, the condition is first tried without a
+/// copy: on its two nodes, and on the bits that go back from them.
 pub(crate) fn assumed(
     alloc: Global,
     nodes: &Nodes,
@@ -84,8 +89,9 @@ pub(crate) fn assumed(
     Ok(Some((Some(left), lists)))
 }
 
-/// What else is known of a word leaves this, or none where no input that agrees has it. Nodes are copied only where something
-/// that is known of the word would change.
+/// What is left of the nodes where `more` is known of a word; `None` where no input that agrees has such a number
+/// there. `Memory` where an allocation is refused. Nodes are copied only where something that is known of the word
+/// changes.
 pub(crate) fn restricted(
     alloc: Global,
     nodes: &Nodes,

@@ -14,8 +14,8 @@ use std::alloc::Global;
 use std::marker::Model;
 use std::sync::Arc;
 
-/// The numbers that a word does not have. Copies share them, until one gets another number, and where there are none
-/// nothing is shared.
+/// The numbers that a word does not have. Copies share them, until one of them gets another number. Where there are
+/// none, nothing is allocated.
 #[derive(Drop)]
 pub(crate) struct Exclusions {
     numbers: Option<Arc<Numbers>>,
@@ -52,7 +52,7 @@ fn are_among(numbers: &Numbers, others: &Exclusions) -> bool
     true
 }
 
-/// The numbers that are shared, if there are any, and one more. `Memory` where a growth is refused.
+/// The numbers that are shared, if there are any, and one more. `Memory` where an allocation is refused.
 fn with_number(alloc: Global, numbers: &Option<Arc<Numbers>>, number: u32) -> Result<Numbers, Fault>
     ensures { IfOk result (λ v. (n : ℕ) → Contains v n
         ↔ (Contains (shared_numbers numbers.now) n ⊎ (n ≡ number))) }
@@ -74,7 +74,7 @@ impl Exclusions {
         }
     }
 
-    /// The same numbers, shared. `Memory` where a growth is refused.
+    /// A copy, which shares the numbers. Takes no memory; `Memory` only where no more copies can share them.
     fn copy(&self) -> Result<Exclusions, Fault>
         ensures { IfOk result (λ e. e ≡ self.now) }
     {
@@ -86,7 +86,7 @@ impl Exclusions {
         }
     }
 
-    /// The numbers with one more, or none where it is there. `Memory` where a growth is refused.
+    /// The numbers with one more; `None` where it is among them already. `Memory` where an allocation is refused.
     fn with(&self, alloc: Global, number: u32) -> Result<Option<Exclusions>, Fault>
         ensures { IfOk result (λ o. MatchOption o
             (Contains self.now number)
@@ -130,7 +130,8 @@ fn no_exclusions() -> Lists
     Lists::default()
 }
 
-/// Makes copies the same as the lists. They are written where they lie, since the array is long to move.
+/// Writes copies of the lists over `copies`, in place, since it takes long to move the array. `Memory` only where no
+/// more copies can share a list.
 fn copy_all(lists: &Lists, copies: &mut Lists) -> Result<(), Fault>
     requires { length copies.old ≡ 16 }
     ensures { IfOk result (λ _. copies.new ≡ lists.now) }
@@ -159,7 +160,7 @@ impl Model for Excluded {
 }
 
 impl Excluded {
-    /// These lists. `Memory` where a growth is refused.
+    /// These lists. `Memory` where an allocation is refused.
     fn of(alloc: Global, lists: Lists) -> Result<Excluded, Fault>
         ensures { IfOk result (λ e. e ≡ lists) }
     {
@@ -168,7 +169,7 @@ impl Excluded {
         })
     }
 
-    /// A list without numbers for each word. `Memory` where a growth is refused.
+    /// A list without numbers for each word. `Memory` where an allocation is refused.
     pub(crate) fn none(alloc: Global) -> Result<Excluded, Fault>
         ensures { IfOk result (λ e. (length e ≡ 16) × ((w : ℕ) → numbers_at e w ≡ [])) }
     {
@@ -192,7 +193,7 @@ impl Excluded {
         &lists[word]
     }
 
-    /// The same lists, shared. `Memory` where a growth is refused.
+    /// A copy, which shares the lists. Takes no memory; `Memory` only where no more copies can share them.
     pub(crate) fn copy(&self) -> Result<Excluded, Fault>
         ensures same { IfOk result (λ e. e ≡ self.now) }
         ensures words { IfOk result (λ e. length e ≡ 16) }
@@ -202,7 +203,8 @@ impl Excluded {
         })
     }
 
-    /// Adds a number to those of a word, 0 to 15. `Memory` where a growth is refused: the lists are as they were then.
+    /// Adds a number to those of a word, 0 to 15. `Memory` where an allocation is refused; the lists then stay as they
+    /// were.
     pub(crate) fn add(&mut self, alloc: Global, word: usize, number: u32) -> Result<(), Fault>
         requires { word < 16 }
         ensures ok { IfOk result (λ _. AddsNumber self.old self.new word number) }

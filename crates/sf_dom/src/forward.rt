@@ -1,4 +1,4 @@
-//! What follows of an operation from what is known of its operands: an interval and known bits for each.
+//! The transfer functions: what is known of the result of each operation, by what is known of its operands.
 
 ghost use Rattle.std.specs.Prelude.{◌≡◌, ℕ, ◌+◌, ◌-◌, ◌*◌, ◌/◌, ◌%◌, ◌<◌, ◌≤◌, ◌^◌, if◌then◌else◌, ◌==◌, bit_and, bit_or, bit_xor};
 ghost use Rattle.sf_insn.specs.Words.{apply};
@@ -9,7 +9,7 @@ ghost use Rattle.sf_dom.specs.Reduction.{IsForced};
 use crate::known::Known;
 use sf_insn::BinOp;
 
-/// A sum: where none of the sums wraps, or each does, they lie between those of the ends.
+/// A sum. Where no possible sum wraps, or all of them do, they lie between those of the ends.
 fn add(a: Known, b: Known) -> Known
     ensures admits { (x y : ℕ) → Admits a x → Admits b y
         → Admits result ((x + y) % 2 ^ 32) }
@@ -27,7 +27,7 @@ fn add(a: Known, b: Known) -> Known
     }
 }
 
-/// A difference: where none of them wraps, or each does, they lie between those of the ends.
+/// A difference. Where no possible difference wraps, or all of them do, they lie between those of the ends.
 fn sub(a: Known, b: Known) -> Known
     ensures admits { (x y : ℕ) → Admits a x → Admits b y
         → Admits result ((x + (2 ^ 32 - y)) % 2 ^ 32) }
@@ -43,7 +43,7 @@ fn sub(a: Known, b: Known) -> Known
     }
 }
 
-/// A product: where the greatest fits, the products lie between those of the ends.
+/// A product. Where the greatest possible product fits, the products lie between those of the ends.
 fn mul(a: Known, b: Known) -> Known
     ensures { (x y : ℕ) → Admits a x → Admits b y → Admits result ((x * y) % 2 ^ 32) }
 {
@@ -53,7 +53,8 @@ fn mul(a: Known, b: Known) -> Known
     }
 }
 
-/// A quotient, which is 0 where the divisor is: where no divisor is 0, the quotients lie between those of the ends.
+/// A quotient, which is 0 where the divisor is 0. Where the divisor can't be 0, the quotients lie between those of the
+/// ends; otherwise they are at most the dividend.
 fn div(a: Known, b: Known) -> Known
     ensures { (x y : ℕ) → Admits a x → Admits b y
         → Admits result (if y == 0 then 0 else x / y) }
@@ -155,7 +156,8 @@ fn shift_left(a: Known, b: Known) -> Known
     }
 }
 
-/// A shift to the right goes by the second operand modulo 32; where that is not decided, the word does not grow.
+/// A shift to the right goes by the second operand modulo 32; where that is not decided, the result is at most the
+/// first operand.
 fn shift_right(a: Known, b: Known) -> Known
     ensures { (x y : ℕ) → Admits a x → Admits b y → Admits result (x / 2 ^ (y % 32)) }
 {
@@ -165,7 +167,7 @@ fn shift_right(a: Known, b: Known) -> Known
     }
 }
 
-/// What follows of an operation from what is known of its operands.
+/// What is known of the result of an operation, by what is known of its operands.
 pub(crate) fn forward(op: BinOp, a: Known, b: Known) -> Known
     ensures admits { (x y : ℕ) → Admits a x → Admits b y → Admits result (apply op x y) }
     ensures forced { KeepsDecided op → IsConsistent a → IsConsistent b
@@ -185,7 +187,7 @@ pub(crate) fn forward(op: BinOp, a: Known, b: Known) -> Known
     }
 }
 
-/// What follows of the negation of a word.
+/// What is known of the negation of a word.
 pub(crate) fn negated(a: Known) -> Known
     ensures admits { (x : ℕ) → Admits a x → Admits result ((2 ^ 32 - x) % 2 ^ 32) }
     ensures forced { IsConsistent a → IsDecided a → IsForced result }

@@ -1,4 +1,4 @@
-//! What the tests leave of two words.
+//! The guards: what is known of two words once the result of a test of them is known.
 
 ghost use Rattle.std.specs.Prelude.{◌≡◌, ◌≢◌, ℕ, ◌+◌, ◌-◌, ◌*◌, ◌/◌, ◌%◌, ◌<◌, ◌≤◌, ◌^◌, MatchOption, IfSome, None, bit_and, bit_or};
 ghost use Rattle.sf_dom.specs.Known.{AreBitsOf, HasBits, Admits, IsConsistent, IsDecided};
@@ -11,11 +11,13 @@ use crate::known::Known;
 /// What is known of the two words of a test.
 #[derive(Clone, Copy, Debug, PartialEq, Eq)]
 pub(crate) struct Pair {
+    /// Of the first word.
     pub(crate) node: Known,
+    /// Of the second word.
     pub(crate) other: Known,
 }
 
-/// The two are equal: each has what is known of both.
+/// What is known of two equal words: of each of them, all that is known of either.
 pub(crate) fn equal(v: Known, w: Known) -> Pair
     ensures pair { LeavesPair v w result.node result.other (λ x y. x ≡ y) }
     ensures both { IsMeet v w result.node × IsMeet v w result.other }
@@ -28,7 +30,7 @@ pub(crate) fn equal(v: Known, w: Known) -> Pair
     }
 }
 
-/// The first is greater.
+/// What is known of two words of which the first is greater; `None` where it can't be.
 pub(crate) fn greater(v: Known, w: Known) -> Option<Pair>
     ensures pair { MatchOption result (LeavesNoPair v w (λ x y. y < x))
         (λ p. LeavesPair v w p.node p.other (λ x y. y < x)) }
@@ -54,7 +56,7 @@ pub(crate) fn greater(v: Known, w: Known) -> Option<Pair>
     })
 }
 
-/// The first is at least the second.
+/// What is known of two words of which the first is at least the second.
 pub(crate) fn at_least(v: Known, w: Known) -> Pair
     ensures pair { LeavesPair v w result.node result.other (λ x y. y ≤ x) }
     ensures ends { (w.low ≤ result.node.low) × (result.other.high ≤ v.high) }
@@ -73,7 +75,8 @@ pub(crate) fn at_least(v: Known, w: Known) -> Pair
     }
 }
 
-/// A bound that is a number which the word does not have is moved past it.
+/// What is known of a word that doesn't have this number: a bound that is the number moves past it. `None` where no
+/// number is left.
 pub(crate) fn differs(v: Known, number: u32) -> Option<Known>
     ensures kept { MatchOption result ((x : ℕ) → Admits v x
         → ¬ (x ≢ number)) (λ r. (x : ℕ)
@@ -99,7 +102,7 @@ pub(crate) fn differs(v: Known, number: u32) -> Option<Known>
     Some(at)
 }
 
-/// The two have no common bit.
+/// What is known of a word that has none of these bits: all of them are 0.
 pub(crate) fn no_common_bit(v: Known, bits: u32) -> Known
     ensures kept { (x : ℕ) → Admits v x → bit_and x bits ≡ 0 → Admits result x }
     ensures told { AreBitsOf bits result.zeros }
@@ -111,7 +114,8 @@ pub(crate) fn no_common_bit(v: Known, bits: u32) -> Known
     }
 }
 
-/// The two have a common bit.
+/// What is known of a word that has at least one of these bits: where only one of them isn't known to be 0, it is 1.
+/// `None` where all of them are known to be 0.
 pub(crate) fn common_bit(v: Known, bits: u32) -> Option<Known>
     ensures kept { MatchOption result ((x : ℕ) → Admits v x → ¬ (bit_and x bits ≢ 0))
         (λ r. (x : ℕ) → Admits v x → bit_and x bits ≢ 0 → Admits r x) }

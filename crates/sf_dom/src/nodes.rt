@@ -16,12 +16,12 @@ use std::sync::Arc;
 /// How many words an input has. They are the first nodes of each pool.
 pub(crate) const WORDS: usize = 16;
 
-/// Where what is known of a node stands.
+/// Where to find what is known of a node.
 #[derive(Clone, Copy)]
 pub(crate) enum Slot {
-    /// The node has this number.
+    /// In the slot itself: the node has this number.
     Number(u32),
-    /// At this place of the list of variables.
+    /// In the list of variables, at this place.
     Variable(u32),
 }
 
@@ -31,19 +31,21 @@ impl Default for Slot {
     }
 }
 
-/// A node that may have several numbers, its place in the pool and what is known of it.
+/// A node that may have several numbers.
 #[derive(Clone, Copy)]
 pub(crate) struct Variable {
+    /// Its place in the pool.
     pub(crate) place: u32,
+    /// What is known of it.
     pub(crate) known: Known,
 }
 
-/// Where what is known of each node stands, oldest first.
+/// The slots of the nodes, oldest first.
 type Slots = SharedList<Slot, 1>;
 
-/// What is known of the nodes of a pool, oldest first. A node that comes with one number, as each constant does, is
-/// told in its slot, and forks share the slots until one of them gets another node. The others are the variables: they
-/// alone can gain, and may be gone over alone.
+/// What is known of the nodes of a pool, oldest first. A node that comes with only one number, as each constant does,
+/// has it in its slot. Forks share the slots until one of them gets another node. The other nodes are the variables:
+/// only of them more can become known, so forward propagation goes through them only.
 #[derive(Drop)]
 pub(crate) struct Nodes {
     slots: Arc<Slots>,
@@ -64,7 +66,7 @@ impl Model for Nodes {
     ghost invariant = { λ n. AreKept (arc_value n.slots) n.variables.items };
 }
 
-/// Whether a number is known in full.
+/// Whether a number is known, with all its bits.
 fn is_number(known: Known) -> bool
     ensures { IsTrue result → known ≡ known_of known.low known.low
         (4294967295 - known.low) known.low }
@@ -80,7 +82,7 @@ fn slot_of(slots: &Slots, i: usize) -> Slot
     slots.get(i)
 }
 
-/// A copy with one more slot.
+/// A copy with one more slot. `AllocError` where an allocation is refused.
 fn with_slot(alloc: Global, slots: &Slots, slot: Slot) -> Result<Arc<Slots>, AllocError>
     ensures { IfOk result (λ r. arc_value r ≡ slots.now ++ slot ∷ []) }
 {
@@ -89,8 +91,8 @@ fn with_slot(alloc: Global, slots: &Slots, slot: Slot) -> Result<Arc<Slots>, All
     Ok(Arc::new(alloc, copy)?)
 }
 
-/// Adds a slot: to a copy where others share the slots, which keep what they have. `AllocError` where a growth is refused:
-/// nothing is added then.
+/// Adds a slot. Where forks share the slots, it is added to a copy, and theirs stay as they are. `AllocError` where an
+/// allocation is refused; nothing is added then.
 fn add_slot(alloc: Global, slots: &mut Arc<Slots>, slot: Slot) -> Result<(), AllocError>
     ensures ok { OnOk result (arc_value slots.new ≡ arc_value slots.old ++ slot ∷ []) }
     ensures err { OnErr result (arc_value slots.new ≡ arc_value slots.old) }
@@ -105,7 +107,7 @@ fn add_slot(alloc: Global, slots: &mut Arc<Slots>, slot: Slot) -> Result<(), All
 }
 
 impl Nodes {
-    /// No nodes. `Memory` where a growth is refused.
+    /// No nodes. `Memory` where an allocation is refused.
     pub(crate) fn new(alloc: Global) -> Result<Nodes, Fault>
         ensures { IfOk result (λ n. n.known ≡ []) }
     {
@@ -149,7 +151,7 @@ impl Nodes {
         self.variables[rank].place as usize
     }
 
-    /// What is known of a variable, the oldest at 0: what `get` tells of its place, in fewer steps.
+    /// What is known of a variable, the oldest at 0. It is what `get` gives for its place, in fewer steps.
     pub(crate) fn variable_known(&self, rank: usize) -> Known
         requires { rank < length self.now.variables }
         ensures { result ≡ known_at self.now.known (slice_index self.now.variables rank) }
@@ -157,7 +159,7 @@ impl Nodes {
         self.variables[rank].known
     }
 
-    /// Writes what is known of a node. One that has one number keeps it.
+    /// Writes what is known of a node. The caller's condition: a node that has only one number keeps it.
     pub(crate) fn set(&mut self, i: usize, known: Known)
         requires within { i < length self.old.known }
         requires decided { IsDecided (known_at self.old.known i)
@@ -171,7 +173,8 @@ impl Nodes {
         }
     }
 
-    /// Adds what is known of the next node. `Memory` where a growth is refused: what is known is as it was then.
+    /// Adds what is known of the next node. `Memory` where an allocation is refused; what is known then stays as it
+    /// was.
     pub(crate) fn push(&mut self, known: Known) -> Result<(), Fault>
         ensures ok { IfOk result (λ _. self.new.known ≡ self.old.known ++ known ∷ []) }
         ensures err { OnErr result (self.new ≡ self.old) }
@@ -195,7 +198,7 @@ impl Nodes {
         Ok(())
     }
 
-    /// The same again, with the shared slots. `Memory` where a growth is refused.
+    /// A copy, which shares the slots. `Memory` where an allocation is refused.
     pub(crate) fn fork(&self, alloc: Global) -> Result<Nodes, Fault>
         ensures { IfOk result (λ n. n ≡ self.now) }
     {

@@ -1,4 +1,4 @@
-//! Numbers that a word does not have, of which copies share most.
+//! Lists of numbers that a word does not have. Copies share most of a list.
 
 ghost use Rattle.std.specs.Prelude.{◌≡◌, ℕ, ◌<◌, ◌≤◌, ◌↔◌, ◌⊎◌, ◌*◌, ◌^◌, ◌-◌, ◌∷◌, ◌++◌, [], length, slice_index, unwrap_or, IfOk, IsTrue, MatchBool, Contains};
 ghost use Rattle.std.specs.List.{insert};
@@ -11,13 +11,13 @@ use smallvec::SmallVec;
 use std::alloc::Global;
 use std::marker::Model;
 
-/// Numbers that came each above those before it, as most filters test them: copies share all but the last block.
+/// Numbers that came in rising order, as most filters test them. Copies share all blocks but the last.
 type Rising = SharedList<u32, 1>;
 
-/// The other numbers, in ascending order: so few lie in the node that is shared, and more in a growth of their own.
+/// The other numbers, ascending. Up to two lie in the list itself; more take an allocation of their own.
 type Others = SmallVec<u32, 2>;
 
-/// Some numbers. The first one is among the others, since many lists have no more, and none is rising then.
+/// Some numbers. The first one is put among the others: many lists have only one number, and then take no rising ones.
 #[derive(Drop)]
 pub(crate) struct Numbers {
     rising: Option<Rising>,
@@ -53,7 +53,7 @@ fn count_below(list: &Rising, number: u32) -> usize
     low
 }
 
-/// Whether a number is above each of an ascending list.
+/// Whether a number is above all numbers of an ascending list.
 fn is_behind(list: &Rising, number: u32) -> bool
     requires { AreAscending list.now }
     ensures { MatchBool result ((k : ℕ) → k < length list.now
@@ -64,7 +64,8 @@ fn is_behind(list: &Rising, number: u32) -> bool
     count == 0 || list.get(count - 1) < number
 }
 
-/// Whether a number stands in an ascending list. Most that are looked for are before the first or behind the last.
+/// Whether a number stands in an ascending list. Most that are looked for are below its first number or above its last,
+/// so these are compared first.
 fn is_in_blocks(list: &Rising, number: u32) -> bool
     requires { AreAscending list.now }
     ensures { IsTrue result ↔ Contains list.now number }
@@ -76,7 +77,7 @@ fn is_in_blocks(list: &Rising, number: u32) -> bool
     at < list.len() && list.get(at) == number
 }
 
-/// Whether a number is one of the rising.
+/// Whether a number is one of the rising ones.
 fn is_rising(rising: &Option<Rising>, number: u32) -> bool
     requires { AreAscending (unwrap_or rising.now []) }
     ensures { IsTrue result ↔ Contains (unwrap_or rising.now []) number }
@@ -87,7 +88,7 @@ fn is_rising(rising: &Option<Rising>, number: u32) -> bool
     }
 }
 
-/// Whether a number is above each of the rising.
+/// Whether a number is above all rising ones.
 fn comes_last(rising: &Option<Rising>, number: u32) -> bool
     requires { AreAscending (unwrap_or rising.now []) }
     ensures { MatchBool result ((k : ℕ) → k < length (unwrap_or rising.now [])
@@ -101,7 +102,7 @@ fn comes_last(rising: &Option<Rising>, number: u32) -> bool
     }
 }
 
-/// The rising numbers, and one more behind them. `Memory` where a growth is refused.
+/// The rising numbers, and one more behind them. `Memory` where an allocation is refused.
 fn with_last(alloc: Global, rising: &Option<Rising>, number: u32) -> Result<Rising, Fault>
     ensures { IfOk result (λ r. r ≡ unwrap_or rising.now [] ++ number ∷ []) }
 {
@@ -113,7 +114,7 @@ fn with_last(alloc: Global, rising: &Option<Rising>, number: u32) -> Result<Risi
     Ok(more)
 }
 
-/// The same rising numbers. `Memory` where a growth is refused.
+/// A copy of the rising numbers, which shares their full blocks. `Memory` where an allocation is refused.
 fn fork_of(rising: &Option<Rising>) -> Result<Option<Rising>, Fault>
     ensures { IfOk result (λ r. r ≡ rising.now) }
 {
@@ -123,7 +124,7 @@ fn fork_of(rising: &Option<Rising>) -> Result<Option<Rising>, Fault>
     }
 }
 
-/// How many the rising numbers are.
+/// How many rising numbers there are.
 fn count_of(rising: &Option<Rising>) -> usize
     ensures value { result ≡ length (unwrap_or rising.now []) }
     ensures small { result < 3 * 2 ^ 30 }
@@ -153,7 +154,8 @@ fn stands_in(list: &[u32], number: u32) -> bool
     is_between_ends(list, number) && list.binary_search(&number).is_ok()
 }
 
-/// Whether a number is neither before the first of a list nor behind the last, as most are that are looked for.
+/// Whether a number lies between the first number of a list and its last. Most that are looked for don't, and need no
+/// search.
 fn is_between_ends(list: &[u32], number: u32) -> bool
     ensures { IsTrue result ↔ IsBetweenEnds list.now number }
 {
@@ -161,7 +163,7 @@ fn is_between_ends(list: &[u32], number: u32) -> bool
     count > 0 && list[0] <= number && number <= list[count - 1]
 }
 
-/// A list with one more number at a place.
+/// A list with one more number at a place. `Memory` where an allocation is refused.
 fn inserted(alloc: Global, list: &[u32], at: usize, number: u32) -> Result<Others, Fault>
     requires { at ≤ length list.now }
     ensures { IfOk result (λ v. v.items ≡ insert list.now at number) }
@@ -173,7 +175,7 @@ fn inserted(alloc: Global, list: &[u32], at: usize, number: u32) -> Result<Other
     Ok(more)
 }
 
-/// An ascending list with a number that may be there.
+/// An ascending list with one more number, unless it is there already. `Memory` where an allocation is refused.
 fn with_number(alloc: Global, list: &[u32], number: u32) -> Result<Others, Fault>
     requires { AreAscending list.now }
     ensures rising { IfOk result (λ v. AreAscending v.items) }
@@ -187,7 +189,7 @@ fn with_number(alloc: Global, list: &[u32], number: u32) -> Result<Others, Fault
 }
 
 impl Numbers {
-    /// One number. `Memory` where a growth is refused.
+    /// A list of one number. `Memory` where an allocation is refused.
     pub(crate) fn of(alloc: Global, number: u32) -> Result<Numbers, Fault>
         ensures { IfOk result (λ v. v ≡ number ∷ []) }
     {
@@ -206,7 +208,7 @@ impl Numbers {
         is_rising(&self.rising, number) || stands_in(self.others.as_slice(), number)
     }
 
-    /// The same numbers, and one more that may be among them. `Memory` where a growth is refused.
+    /// These numbers and one more, which may be among them already. `Memory` where an allocation is refused.
     pub(crate) fn with(&self, alloc: Global, number: u32) -> Result<Numbers, Fault>
         ensures { IfOk result (λ v. (n : ℕ) → Contains v n
             ↔ (Contains self.now n ⊎ (n ≡ number))) }
@@ -224,7 +226,7 @@ impl Numbers {
         Ok(Numbers { rising, others })
     }
 
-    /// How many they are.
+    /// How many numbers there are.
     pub(crate) fn len(&self) -> usize
         ensures { result ≡ length self.now }
     {

@@ -20,7 +20,7 @@ use sf_sym::{Node, NodeId, Pool};
 use std::alloc::Global;
 use std::sync::Arc;
 
-/// What is known of a node, reduced, or none where no number is left.
+/// What is known of a node, reduced; `None` where no number is left.
 pub(crate) fn reduced(known: Known, node: Node, excluded: &Excluded) -> Option<Known>
     requires word { (i : ℕ) → node ≡ Node.Word i → i < 16 }
     ensures { MatchOption result
@@ -33,7 +33,7 @@ pub(crate) fn reduced(known: Known, node: Node, excluded: &Excluded) -> Option<K
     }
 }
 
-/// What follows of a node from what is known of the older ones.
+/// What is known of a node by its operation, from what is known of its operands.
 pub(crate) fn transfer(nodes: &Nodes, node: Node) -> Known
     requires { OperandsBelow (length nodes.now.known) node }
     ensures value { (d : Input) (older : List ℕ) → IsInput d
@@ -53,7 +53,8 @@ pub(crate) fn transfer(nodes: &Nodes, node: Node) -> Known
     }
 }
 
-/// Whether a node that is a word is as tight as it gets.
+/// Whether a node that is a word is tight: both ends of its interval are numbers that are left for it. True of any
+/// other node.
 pub(crate) fn is_tight_at(nodes: &Nodes, excluded: &Excluded, pool: &Pool, at: NodeId) -> bool
     requires ready { IsReady nodes.now.known pool.now }
     requires place { at.0 < length pool.now }
@@ -66,7 +67,8 @@ pub(crate) fn is_tight_at(nodes: &Nodes, excluded: &Excluded, pool: &Pool, at: N
     }
 }
 
-/// Makes a word as tight as it gets, where a node is a word. False: no input agrees.
+/// Makes a node that is a word tight: both ends of its interval become numbers that are left for it. `false`: no input
+/// agrees.
 pub(crate) fn tighten(nodes: &mut Nodes, excluded: &Excluded, pool: &Pool, at: NodeId) -> bool
     requires ready { IsReady nodes.old.known pool.now }
     requires place { at.0 < length pool.now }
@@ -95,8 +97,9 @@ pub(crate) fn tighten(nodes: &mut Nodes, excluded: &Excluded, pool: &Pool, at: N
     }
 }
 
-/// Takes what is known of the older nodes on to each node that may gain. False: no input agrees. The first variables are the
-/// words. These are as tight as they get, and nothing follows of them from older nodes.
+/// Adds to what is known of each variable what follows from its operands, the oldest variable first. `false`: no input
+/// agrees. The first sixteen variables are the words of the input. They are left out: they are tight, and have no
+/// operands.
 pub(crate) fn propagate(nodes: &mut Nodes, excluded: &Excluded, pool: &Pool) -> bool
     requires ready { IsReady nodes.old.known pool.now }
     requires tight { AreTightWords nodes.old.known excluded.now }
@@ -119,8 +122,8 @@ pub(crate) fn propagate(nodes: &mut Nodes, excluded: &Excluded, pool: &Pool) -> 
     true
 }
 
-/// Takes in the nodes of a pool that are new. False: no input agrees. A single new node that isn't taken in, for that
-/// or for want of memory, leaves what is known as it was.
+/// Takes in the new nodes of a pool. `false`: no input agrees. `Memory` where an allocation is refused. In both cases a
+/// single new node leaves what is known as it was; of several, some may have been taken in.
 pub(crate) fn append(nodes: &mut Nodes, excluded: &Excluded, pool: &Pool) -> Result<bool, Fault>
     requires covers { length nodes.old.known ≤ length pool.now }
     requires none { (16 ≤ length nodes.old.known)
@@ -144,8 +147,8 @@ pub(crate) fn append(nodes: &mut Nodes, excluded: &Excluded, pool: &Pool) -> Res
     Ok(true)
 }
 
-/// Takes in the nodes of a pool that are new, in a copy that is then put in place. False: no input agrees. Where they aren't
-/// taken in, for that or for want of memory, what is known is as it was.
+/// Takes in the new nodes of a pool, in a copy that is then put in place. `false`: no input agrees. `Memory` where an
+/// allocation is refused. In both cases what is known stays as it was.
 fn extend_copy(
     alloc: Global,
     nodes: &mut Arc<Nodes>,
@@ -169,8 +172,8 @@ fn extend_copy(
     Ok(true)
 }
 
-/// Takes in the nodes of a pool that are new. False: no input agrees. Where they aren't taken in, for that or for want of
-/// memory, what is known is as it was: a copy to go back to is made only where several came at once, or others share the nodes.
+/// Takes in the new nodes of a pool. `false`: no input agrees. `Memory` where an allocation is refused. In both cases
+/// what is known stays as it was. A copy is made only where several nodes are new, or where forks share what is known.
 pub(crate) fn extend(
     alloc: Global,
     nodes: &mut Arc<Nodes>,

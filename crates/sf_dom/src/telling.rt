@@ -1,4 +1,5 @@
-//! What is known of a node tells whether it passes a test against a number, and nothing could be learnt from that.
+//! Which tests of a node against a number are told: what is known of the node tells the result, and nothing could be
+//! learnt from it.
 
 ghost use Rattle.std.specs.Prelude.{◌≡◌, ◌≢◌, ℕ, ◌<◌, ◌≤◌, ◌-◌, ◌↔◌, ◌⊎◌, length, Contains, MatchBool, MatchOption, IfSome, IfNone, IsTrue, bit_and, true, false};
 ghost use Rattle.sf_insn.specs.Inputs.{IsInput};
@@ -76,9 +77,11 @@ fn told_common(known: Known, number: u32) -> Option<bool>
 }
 
 impl Known {
-    /// Whether a word of which this is known passes a test against a number, where its interval and known bits tell it. As
-    /// facts keep them, both ends are numbers that are left for the word, so a result that they tell moves no end and adds
-    /// no bit, and the other one leaves no number.
+    /// Whether a word of which this is known passes a test against a number, where its interval and known bits tell it;
+    /// `None` where they leave it open.
+    ///
+    /// In facts, both ends of an interval of a word are numbers that are left for it. So to learn a result that they
+    /// tell moves no end and adds no bit, and the other result leaves no number.
     pub fn told(&self, test: Test, number: u32) -> Option<bool>
         ensures { MatchOption result (IsOpen test self.now number)
             (λ b. (x : ℕ) → Admits self.now x → passes test x number ≡ b) }
@@ -103,7 +106,8 @@ fn is_excluded(excluded: &Excluded, node: Node, number: u32) -> bool
     }
 }
 
-/// Whether the known bits of a node are known of its operand, through a constant, and so on: none would go back.
+/// Whether no known bits would go back from a node: what they say of its operand beside a constant is known already,
+/// and so on from operand to operand.
 pub(crate) fn are_propagated_back(nodes: &Nodes, pool: &Pool, from: usize) -> bool
     requires count { length nodes.now.known ≡ length pool.now }
     requires start { from < length pool.now }
@@ -125,7 +129,8 @@ pub(crate) fn are_propagated_back(nodes: &Nodes, pool: &Pool, from: usize) -> bo
     true
 }
 
-/// Whether a node passes a test against a number on every input that agrees, where what is known of it alone tells that.
+/// Whether a node passes a test against a number on every input that agrees, where its own interval, known bits and
+/// excluded numbers tell it.
 fn told_at(
     nodes: &Nodes,
     excluded: &Excluded,
@@ -156,8 +161,8 @@ fn told_at(
     }
 }
 
-/// Whether a node passes a test against a number on every input that agrees, where that is told by what is known of it and
-/// nothing could be learnt from it: one result leaves the node no number, and the other changes nothing that is known.
+/// The result of a test of a node against a number, where it is told: every input that agrees has it, the other result
+/// leaves the node no number, and this one changes nothing that is known.
 pub(crate) fn told_of(
     nodes: &Nodes,
     excluded: &Excluded,

@@ -11,7 +11,7 @@ ones_zero : count_ones 0 ≡ 0
 unfolding ones
 ones_zero = refl
 
--- a number is a power of two where one is that is half as large
+-- an even number is a power of two where its half is one
 bit_above : (w n : ℕ) → ((i : ℕ) × (i < w) × (n / 2 ≡ 2 ^ i)) → n % 2 ≡ 0 → (i : ℕ) × (i < suc w) × (n ≡ 2 ^ i)
 bit_above w n (i, lt, half) even = (suc i, omega arith, omega (arith, pow-suc 2 i))
 
@@ -28,10 +28,11 @@ bit_found (suc w) n lt e =
           (0, omega arith, omega arith)
     ]
 
--- exactly the words with one bit set have a count of one
+-- a word whose count of ones is 1 has exactly one bit set
 pub one_bit_counted : (n : ℕ) → n < 2 ^ 32 → count_ones n ≡ 1 → IsOneBit n
 one_bit_counted n lt e = bit_found 32 n lt e
 
+-- a word with exactly one bit set has a count of ones of 1
 pub count_of_one_bit : (n : ℕ) → IsOneBit n → count_ones n ≡ 1
 unfolding ones
 count_of_one_bit n (i, lt, e) =

@@ -216,7 +216,7 @@ at_program stack lent n p same lt here =
     here ∙ sym (get_or_default lent (length lent - 1 - n) [] p (omega arith))
     ∙ ap (λ (t : List (List Insn)). get_or t (length t - 1 - n) []) same
 
--- it isn't long
+-- a program of a lawful stack isn't long
 pub short_program : (stack : List (List Insn)) (n : ℕ) → IsLawfulStack stack → n < length stack
     → length (get_or stack (length stack - 1 - n) []) ≤ 4096
 short_program stack n h lt =

@@ -95,7 +95,7 @@ other_way false false h = refl
 other_way true false h = absurd cc
 other_way false true h = absurd cc
 
--- no member has the entry the other way
+-- where no member has the other truth value, every member has this one
 pub never_implies : (p : PieceData) (cond : Cond) (b : Bool) → IsNever p cond (not b) → IsImplied p cond b
 never_implies p cond b h d inp member = other_way
     (passes cond.test (value_of p.pool d cond.node.0) (value_of p.pool d cond.other.0)) b (h d inp member)

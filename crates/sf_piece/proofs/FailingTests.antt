@@ -31,7 +31,7 @@ gone_trans p q r a b = record {
   lawful = b.lawful;
 }
 
--- less is left, so no more is
+-- a number that is below another one is at most that one
 weakened : (m n : ℕ) → m < n → m ≤ n
 weakened m n h = omega (arith, h)
 
@@ -39,7 +39,7 @@ weakened m n h = omega (arith, h)
 next_place : PieceData → ℕ → SymbolicMachine
 next_place p f = record p.machine { place = p.machine.place + 1 + f }
 
--- over one test that fails
+-- a piece goes on over one test that fails
 over_one : (p : PieceData) (i : Insn) (known : Known) (f : ℕ) → IsLawfulPiece p
     → p.machine.program < length p.stack → known ≡ known_at p.facts.known p.machine.a.0
     → IsAt (code_at p) p.machine.place i → IsFailing i known f → HasGoneOn p (taken_on p false (next_place p f))
@@ -57,18 +57,18 @@ over_one p i known f h running is at fails =
       lawful = lawful_taken p i false (next_place p f) h standing fore after;
     }
 
--- over none of them
+-- over no test a piece stays where it is
 pub over_none : (p : PieceData) → IsLawfulPiece p → HasGoneOn p (behind_chain p 0 p.machine.place)
 over_none p h = subst (λ (l : List Bool). HasGoneOn p (record p { name = l })) (sym (append-nil p.name)) (gone_same p h)
 
--- the place behind them is in the program
+-- the place behind n tests that fail is in the program
 pub inside_behind : (p : PieceData) (code : List Insn) (n place : ℕ) → IsCodeAtHand p code
     → HasGoneOn p (behind_chain p n place) → place < length code
 inside_behind p code n place at gone =
     let inside = place_inside (behind_chain p n place) gone.lawful.run at.running in
     omega (arith, inside, ap length at.is)
 
--- over one more
+-- a piece behind n tests that fail goes on over one more
 pub over_one_more : (p : PieceData) (code : List Insn) (known : Known) (n place f next : ℕ) → IsCodeAtHand p code
     → known ≡ known_at p.facts.known p.machine.a.0 → HasGoneOn p (behind_chain p n place)
     → IsFailing (get_or code place (LoadWord 0)) known f → next ≡ place + (1 + f)
@@ -115,14 +115,14 @@ others_fail code known number (suc n) place behind only passed =
     not_equal : (x k : ℕ) → x ≢ k → x == k ≡ false
     not_equal x k apart = grind (arith, nat_tests)
 
--- each leads on
+-- each test leads on, so the place behind n tests is at least n further
 pub few_failing : (code : List Insn) (known : Known) (n place behind : ℕ) → AreFailing code known n place behind
     → place + n ≤ behind
 few_failing code known zero place behind failing = omega (arith, failing)
 few_failing code known (suc n) place behind failing =
     omega (arith, few_failing code known n (place + 1 + failing.1) behind failing.4)
 
--- over all of them, behind those that are gone over already
+-- a piece behind m tests of a chain goes on over the others
 over_more : (p : PieceData) (code : List Insn) (known : Known) (m n place behind : ℕ) → IsCodeAtHand p code
     → known ≡ known_at p.facts.known p.machine.a.0 → HasGoneOn p (behind_chain p m place)
     → AreFailing code known n place behind → HasGoneOn p (behind_chain p (m + n) behind)
@@ -141,7 +141,7 @@ over_more p code known m (suc n) place behind at is gone failing =
     subst (λ (k : ℕ). HasGoneOn p (behind_chain p k behind)) e
     (over_more p code known (m + 1) n (place + 1 + skips) behind at is once failing.4)
 
--- over all of them, from where the piece stands
+-- a piece goes on over a whole chain from where it stands
 pub over_failing : (p : PieceData) (code : List Insn) (known : Known) (n behind : ℕ) → IsLawfulPiece p
     → IsCodeAtHand p code → known ≡ known_at p.facts.known p.machine.a.0
     → AreFailing code known n p.machine.place behind → HasGoneOn p (behind_chain p n behind)

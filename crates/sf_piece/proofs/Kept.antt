@@ -60,7 +60,7 @@ nothing_taken code place taken pre i d s t pending at e = none_pending code plac
     (λ is. div_clash (s.x == 0) (record s { place = s.place + 1; a = apply Div s.a s.x }) t
     (subst (λ (j : Insn). insn_progress d s j ≡ goes [] t) is e))
 
--- the same scratch words at a place to which the instruction leads
+-- where the instruction leads, the state with the same scratch words is reachable
 pub safe_moved : (code : List Insn) (s t : State) (i : Insn) → IsLawfulProgram code → IsReachable code s
     → IsAt code s.place i
     → Contains (successors s.place i) t.place → stored_by i ≡ None → t.scratch ≡ s.scratch → IsReachable code t

@@ -57,7 +57,7 @@ lawful_child p i cond b m fs h s e facts after =
     lawful (child_of p cond b m fs) (child_piece p i cond b m fs h.run s e facts after)
     (λ is. plain_child p cond b m fs (h.plain is) (e.plain is) facts (facts.plain is))
 
--- what holds wherever the facts agree tells of a test of A against a number
+-- where a test of A has one result on every input that agrees with the facts, it has that result on every member
 told_by_facts : (p : PieceData) (test : Test) (other : Operand) (n : ℕ) (b : Bool) → IsPiece p → other ≡ Constant n
     → ((d : Input) → IsInput d → Agrees p.facts p.pool d → passes test (value_of p.pool d p.machine.a.0) n ≡ b)
     → PassesAlways p test other b
@@ -66,7 +66,7 @@ told_by_facts p test other n b h e told = λ d inp member.
     (operand_of (concrete_state p.pool p.machine d) r)) e
     ∙ told d inp (h.known d inp member)
 
--- and where the facts tell nothing, nothing is said
+-- the answer of the facts on a test of A is right: one result on every member, or nothing said
 pub foretold : (p : PieceData) (test : Test) (other : Operand) (n : ℕ) (o : Option Bool) → IsPiece p
     → other ≡ Constant n
     → IfSome o (λ b. (d : Input) → IsInput d → Agrees p.facts p.pool d
@@ -75,7 +75,7 @@ pub foretold : (p : PieceData) (test : Test) (other : Operand) (n : ℕ) (o : Op
 foretold p test other n None h e told = told
 foretold p test other n (Some b) h e told = told_by_facts p test other n b h e told
 
--- what is known of A tells of a test of it against a number
+-- where what is known of A tells a test of it against a number, the test has that result on every member
 pub told_of_known : (p : PieceData) (test : Test) (other : Operand) (n : ℕ) (known : Known) (b : Bool) → IsPiece p
     → other ≡ Constant n → known ≡ known_at p.facts.known p.machine.a.0
     → ((x : ℕ) → Admits known x → passes test x n ≡ b) → PassesAlways p test other b

@@ -100,7 +100,7 @@ conds_grown ns added cs below h = All-from_recursion (IsPlainCond (ns ++ added))
 
 -- ---- what becomes of a plain piece
 
--- the piece's name and machine may change
+-- a plain piece stays plain where only its name and its machine change
 pub plain_kept : (p : PieceData) (name : List Bool) (m : SymbolicMachine) → IsPlainPiece p
     → IsPlainPiece (made p name p.conditions m p.facts)
 unfolding is_member
@@ -121,7 +121,7 @@ sensed_plain ns cond b h = record { node = h.node; number = h.number; other = h.
 and_is : (a b : Bool) → a ≡ true → b ≡ true → (a && b) ≡ true
 and_is a b e f = rw (e, f) refl
 
--- the members that have the truth value so, where the facts learnt are exact and some input agrees
+-- the piece of the members that have this truth value is plain, where the facts learnt are exact and some input agrees
 pub plain_child : (p : PieceData) (cond : Cond) (b : Bool) (m : SymbolicMachine) (fs : FactsView) → IsPlainPiece p
     → IsPlainCond p.pool cond → AreChildFacts p cond b fs
     → KeepsOnly p.facts fs p.pool (λ d. is_met p.pool d (with_sense cond b)) → IsPlainPiece (child_of p cond b m fs)

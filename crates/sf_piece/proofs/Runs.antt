@@ -50,7 +50,7 @@ with_true xs rs r h l = record {
   last = sym (rest_true xs 0);
 }
 
--- ---- so many falses more
+-- ---- more falses
 
 rest_falses : (n : ℕ) (xs : List Bool) (rs : List ℕ) (r : ℕ) → AreRuns xs rs r → length xs + n ≤ 4294967295
     → AreRuns (xs ++ replicate n false) rs (r + n)
@@ -66,7 +66,7 @@ rest_falses (suc n) xs rs r h l =
     subst (λ (k : ℕ). AreRuns (xs ++ replicate (suc n) false) rs k) counts
     (subst (λ (y : List Bool). AreRuns y rs (r + 1 + n)) (append_assoc xs (false ∷ []) (replicate n false)) rest)
 
--- a list of so many, made longer by falses
+-- a list of n values with falses added
 pub made_longer : (xs : List Bool) (m n : ℕ) → m ≡ length xs
     → take (m + n) xs ++ replicate (m + n - m) false ≡ xs ++ replicate n false
 made_longer xs m n h =

@@ -4,7 +4,7 @@ use Rattle.std.proofs.lemmas.List.{length-replicate}
 use Rattle.std.proofs.lemmas.Nat.{pow_pos}
 use Rattle.sf_piece.specs.NameNumbers.{leading_number, name_number}
 
--- what so many values spell is below the next power of two
+-- the number that n values spell is below 2 ^ n
 pub leading_below : (n : ℕ) (values : List Bool) → leading_number n values < 2 ^ n
 leading_below zero values = omega arith
 leading_below (suc n) [] = pow_pos (suc n)
@@ -43,7 +43,7 @@ leading_true (suc n) (true ∷ values) few =
     let place : suc n - (suc (length values) + 1) ≡ n - (length values + 1) = omega arith in
     omega (arith, leading_true n values (omega (arith, few)), ap (λ k. 2 ^ k) place)
 
--- what comes behind so many values adds nothing
+-- what comes behind the first n values adds nothing
 leading_whole : (n : ℕ) (values more : List Bool) → n ≤ length values
     → leading_number n (values ++ more) ≡ leading_number n values
 leading_whole zero values more all = refl
@@ -52,7 +52,7 @@ leading_whole (suc n) (false ∷ values) more all = leading_whole n values more 
 leading_whole (suc n) (true ∷ values) more all =
     ap (λ m. 2 ^ n + m) (leading_whole n values more (omega (arith, all)))
 
--- a name with one more truth value, which is true, where it has fewer than 58
+-- the number of a name of fewer than 58 truth values with a true added
 pub number_with_true : (name : List Bool) → length name < 58
     → name_number (name ++ true ∷ []) ≡ name_number name + (64 * 2 ^ (57 - length name) + 1)
 number_with_true name few =
@@ -65,7 +65,7 @@ number_with_true name few =
       length-append name (true ∷ []),
     )
 
--- with so many falses more
+-- the number of a name with k falses added
 pub number_with_falses : (name : List Bool) (k : ℕ)
     → name_number (name ++ replicate k false) ≡ name_number name + (min (length name + k) 58 - min (length name) 58)
 number_with_falses name k = omega (

@@ -1,7 +1,8 @@
 -- Names by a number that their first truth values spell.
 use Rattle.std.specs.Prelude.{ℕ, zero, suc, ◌+◌, ◌*◌, ◌^◌, Bool, true, false, List, [], ◌∷◌, length, min}
 
--- so many truth values of a list as the bits of a number, the first one highest; those that it lacks count as false
+-- the first n truth values of a list as the bits of a number, the first one highest; a value that the list lacks counts
+-- as false
 abbrev pub leading_number : ℕ → List Bool → ℕ
 leading_number zero values = 0
 leading_number (suc n) [] = 0

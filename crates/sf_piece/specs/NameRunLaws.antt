@@ -1,4 +1,5 @@
--- Names compare as their runs of false do: where the numbers of their first two runs differ, as these do.
+-- Names are ordered as the lists of their runs of false are, and as the numbers of their first two runs where these
+-- differ.
 use Rattle.std.proofs.Common.{◌≡◌, ℕ, ◌+◌, ◌-◌, ◌*◌, ◌<◌, ◌≤◌, inl, inr, Bool, true, false, List, [], ◌∷◌, length, refl, sym, ◌∙◌, ap, arith}
 use Rattle.std.specs.Prelude.{All, slice_index}
 use Rattle.std.specs.declared.cmp.Ordering.{Ordering}
@@ -19,12 +20,12 @@ at_less m n h = grind (arith, nat_tests)
 at_greater : (m n : ℕ) → n < m → nat_cmp m n ≡ Greater
 at_greater m n h = grind (arith, nat_tests)
 
--- how two names compare by their runs, each behind so many falses
+-- how two names compare by their runs, with m and n falses before them
 abbrev by_runs : List Bool → ℕ → List Bool → ℕ → Ordering
 by_runs xs m ys n = ordering_then (slice_cmp nat_cmp (runs_of xs m) (runs_of ys n))
     (nat_cmp (rest_of xs m) (rest_of ys n))
 
--- behind more falses, whatever comes is before a true
+-- with more falses before it, any name is before one that begins with a true
 sooner : (xs ys : List Bool) (m n : ℕ) → n < m → n < 4294967295 → by_runs xs m (true ∷ ys) n ≡ Less
 sooner [] ys m n h l = refl
 sooner (false ∷ xs) ys m n h l = sooner xs ys (m + 1) n (omega (arith, h)) l
@@ -52,7 +53,7 @@ goes_on [] m n h = at_greater m n h
 goes_on (false ∷ xs) m n h = goes_on xs (m + 1) n (omega (arith, h))
 goes_on (true ∷ xs) m n h = refl
 
--- behind as many falses
+-- with the same number of falses before both, names compare as their runs do
 same_from : (xs ys : List Bool) (n : ℕ) → n + length xs ≤ 4294967295 → n + length ys ≤ 4294967295
     → by_runs xs n ys n ≡ slice_cmp bool_cmp xs ys
 same_from [] [] n p q = at_equal n n refl
@@ -71,14 +72,14 @@ pub ordered_by_runs : (xs ys : List Bool) (rs ss : List ℕ) (r s : ℕ) → Are
 ordered_by_runs xs ys rs ss r s p q =
     rw (p.ended, p.last, q.ended, q.last) (same_from xs ys 0 (omega (arith, p.short)) (omega (arith, q.short)))
 
--- a run is counted down from the most, so each has 32 bits
+-- a run is counted down from 2 ^ 32 - 1, so each has 32 bits
 small_runs : (name : List Bool) (n : ℕ) → All (λ r. r < 4294967296) (runs_of name n)
 small_runs [] n = All-nil (λ r. r < 4294967296)
 small_runs (false ∷ name) n = small_runs name (n + 1)
 small_runs (true ∷ name) n =
     All-cons (λ r. r < 4294967296) (4294967295 - n) (runs_of name 0) (omega arith) (small_runs name 0)
 
--- of lists of such numbers, the one whose first two make less is before the other
+-- of two lists of such numbers, the one whose first two make the smaller number is before the other
 front_before : (rs ss : List ℕ) → All (λ r. r < 4294967296) ss
     → 4294967296 * slice_index rs 0 + slice_index rs 1 < 4294967296 * slice_index ss 0 + slice_index ss 1
     → slice_cmp nat_cmp rs ss ≡ Less
@@ -102,7 +103,7 @@ front_before (r ∷ q ∷ rs) (s ∷ t ∷ ss) small h =
           rw (at_equal r s same, at_less q t (omega (arith, h, same))) refl
     ]
 
--- and the one whose first two make more is behind it
+-- of two lists of such numbers, the one whose first two make the greater number is behind the other
 front_behind : (rs ss : List ℕ) → All (λ r. r < 4294967296) rs
     → 4294967296 * slice_index ss 0 + slice_index ss 1 < 4294967296 * slice_index rs 0 + slice_index rs 1
     → slice_cmp nat_cmp rs ss ≡ Greater
@@ -134,12 +135,12 @@ by_first m n o p q is =
     (record { short = p; ended = refl; last = refl }) (record { short = q; ended = refl; last = refl }))
     ∙ ap (λ x. ordering_then x (nat_cmp (rest_of m 0) (rest_of n 0))) is
 
--- a name whose first two runs are the less number is before the other
+-- a name whose first two runs make the smaller number is before the other
 pub less_runs_before : (m n : List Bool) → length m ≤ 4294967295 → length n ≤ 4294967295
     → runs_number m < runs_number n → slice_cmp bool_cmp m n ≡ Less
 less_runs_before m n p q h = by_first m n Less p q (front_before (runs_of m 0) (runs_of n 0) (small_runs n 0) h)
 
--- and one for which they are the greater number is behind it
+-- a name whose first two runs make the greater number is behind the other
 pub greater_runs_behind : (m n : List Bool) → length m ≤ 4294967295 → length n ≤ 4294967295
     → runs_number n < runs_number m → slice_cmp bool_cmp m n ≡ Greater
 greater_runs_behind m n p q h = by_first m n Greater p q (front_behind (runs_of m 0) (runs_of n 0) (small_runs m 0) h)

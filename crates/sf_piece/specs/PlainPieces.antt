@@ -11,15 +11,15 @@ use Rattle.sf_dom.specs.Facts.{Agrees}
 use Rattle.sf_dom.specs.Facts.{IsPlainCondition as IsPlainCond}
 use Rattle.sf_piece.specs.Pieces.{PieceData, StepData, Split, Settled, Empty, WorkData, is_member, IsRightWork}
 
--- The pool has words of the input and constants alone; each path condition sets one of these against a constant by a
--- plain test; the facts are exact (an input that agrees with them is a member); and some input is a member.
+-- The pool has only words of the input and constants. Each path condition compares one of these with a constant, by a
+-- plain test. The facts are exact: an input that agrees with them is a member. And some input is a member.
 pub record IsPlainPiece (p : PieceData) : Type 0 where
   pub nodes : ArePlainNodes p.pool
   pub conditions : All (IsPlainCond p.pool) p.conditions
   pub exact : (d : Input) → IsInput d → Agrees p.facts p.pool d → is_member p d ≡ true
   pub some : (d : Input) × IsInput d × (is_member p d ≡ true)
 
--- both pieces of a split are such pieces; a region has a member, whose trace is its name; no step is empty
+-- both pieces of a split are plain; a region has a member, whose trace is its name; no step is empty
 abbrev pub IsPlainStep : PieceData → StepData → List Bool → Type 0
 IsPlainStep p (Split f t) n = IsPlainPiece f × IsPlainPiece t
 IsPlainStep p (Settled a) n = (d : Input) × IsInput d × (is_member p d ≡ true) × (trace_of p.stack d ≡ n)

@@ -18,8 +18,8 @@ IsExecuted p q (Query i cond) = IsContinuation p q × (work_left q ≡ work_left
 IsExecuted p q End = IsRightAnswer p q.name q.machine.so_far
 IsExecuted p q Contradiction = HasNoMember p
 
--- after the truth value the piece goes on, is split, is settled, or has no member; of a split it has become the second
--- part
+-- after the truth value the piece goes on, is split, is settled, or has no member; where it is split, the second piece
+-- is that of the members on which the truth value is true
 abbrev pub IsSmallStep : PieceData → PieceData → SmallStep → Type 0
 IsSmallStep p q On = HasAdvanced p q × IsLawfulPiece q
 IsSmallStep p q (Split f) = IsRightSplit p f.value q × (IsPlain p.stack → IsPlainPiece f.value × IsPlainPiece q)

@@ -1,7 +1,8 @@
--- The symbolic run behind a piece: the invariant that the type of pieces keeps. What a reader must believe stands in
--- Pieces; this is what proves it. A machine's symbolic state means a concrete one on each input (`concrete_state`), and
--- for every member the concrete run of the stack, along the piece's name, comes to just that state: whatever the rest
--- of the run meets and returns from there, the trace is the name so far and then that (`Follows`, `StandsAt`).
+-- The symbolic run behind a piece: the invariant that the type of pieces keeps. A reader has to believe only what
+-- stands in Pieces; this proves it. A machine's symbolic state stands for a concrete one on each input
+-- (`concrete_state`). For every member the concrete run of the stack, after the truth values of the piece's name, has
+-- come to just that state: its trace is the name, and then what the rest of the run meets from there (`Follows`,
+-- `StandsAt`).
 use Rattle.std.specs.Prelude.{◌≡◌, ℕ, ◌+◌, ◌*◌, ◌<◌, ◌≤◌, ◌⊎◌, Bool, true, false, List, [], ◌∷◌, ◌++◌, length, take, drop, reverse, map, Some, option_map, slice_get, if◌then◌else◌}
 use Rattle.std.specs.List.{flat_map, AllByRecursion}
 use Rattle.sf_insn.specs.declared.input.Input.{Input}

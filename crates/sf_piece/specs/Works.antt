@@ -1,4 +1,4 @@
--- The parts of a step of the symbolic run: what the functions that work a piece tell each other. Nothing above this
+-- The parts of a step of the symbolic run, for contracts between the functions that work a piece. Nothing above this
 -- crate speaks of these.
 use Rattle.std.specs.Prelude.{◌≡◌, ℕ, zero, suc, ◌+◌, ◌-◌, ◌*◌, ◌&&◌, not, ◌<◌, ◌≤◌, ◌^◌, ◌⊎◌, Bool, true, false, List, [], ◌∷◌, ◌++◌, length, get_or, replicate, Option, Some, None, slice_get, if◌then◌else◌, ◌==◌}
 use Rattle.sf_insn.specs.declared.input.Input.{Input}
@@ -32,7 +32,7 @@ use Rattle.sf_piece.specs.Pieces.{PieceData, is_member, IsTrulyNamed}
 use Rattle.sf_piece.specs.PlainPieces.{IsPlainPiece}
 use Rattle.sf_piece.specs.SymbolicRun.{AreNodesBelow, IsLawfulPiece, StandsAt, met_of, concrete_state}
 
--- what is left to do at most
+-- what is left to do at most: each small step makes this number smaller
 abbrev pub work_left : PieceData → ℕ
 work_left p = 524288 * (length p.stack - p.machine.program) + 64 * (4096 - p.machine.place) + (33 - p.machine.taken)
 
@@ -65,29 +65,29 @@ pub record IsCodeAtHand (p : PieceData) (code : List Insn) : Type 0 where
   pub inside : p.machine.place < length code
   pub short : length code ≤ 4096
 
--- The instruction asks whether A equals a number that no word has of which this is known, and skips so many
--- instructions where it doesn't.
+-- The instruction tests whether A equals a number, and no word of which this is known has that number. So the test
+-- fails, and it skips this many instructions.
 pub record IsFailing (i : Insn) (known : Known) (skips : ℕ) : Type 0 where
   pub number : ℕ
   pub on_true : ℕ
   pub is : i ≡ Branch Equal (Constant number) on_true skips
   pub fails : (x : ℕ) → Admits known x → passes Equal x number ≡ false
 
--- So many such tests, each where the one before leads if it fails, lead from one place of a program to another.
+-- From one place of a program, n such tests lead to another place, each where the one before leads if it fails.
 abbrev pub AreFailing : List Insn → Known → ℕ → ℕ → ℕ → Type 0
 AreFailing code known zero place behind = behind ≡ place
 AreFailing code known (suc n) place behind =
     (i : Insn) × (skips : ℕ) × IsAt code place i × IsFailing i known skips
     × AreFailing code known n (place + 1 + skips) behind
 
--- the piece behind so many tests that fail, at the place where the last one leads
+-- the piece behind n tests that fail, at the place where the last one leads
 abbrev pub behind_chain : PieceData → ℕ → ℕ → PieceData
 behind_chain p n place = record p {
   name = p.name ++ replicate n false;
   machine = record p.machine { place = place };
 }
 
--- the same members of the same stack, by the same conditions, and a name that goes on
+-- q has the members of p, of the same stack and by the same conditions, and a name that goes on from p's
 pub record IsContinuation (p q : PieceData) : Type 0 where
   pub of : q.stack ≡ p.stack
   pub conditions : q.conditions ≡ p.conditions
@@ -140,7 +140,7 @@ GoesBy p i m =
       a = apply Div (value_of p.pool d p.machine.a.0) (value_of p.pool d p.machine.x.0);
     }))
 
--- The instruction goes to this state on each member, whatever else it meets is in the name already.
+-- The instruction goes to this state on each member, and all truth values that it meets are in the name already.
 pub record GoesTo (p : PieceData) (i : Insn) (m : SymbolicMachine) : Type 0 where
   pub program : m.program ≡ p.machine.program
   pub so_far : m.so_far ≡ p.machine.so_far
@@ -210,7 +210,7 @@ pub record IsForeseen (p : PieceData) (i : Insn) (b : Bool) : Type 0 where
   pub next : (d : Input) → IsInput d → is_member p d ≡ true
       → NextIs (insn_progress d (concrete_state p.pool p.machine d) i) p.machine.taken b
 
--- where the machine stands after it
+-- where the machine stands after this truth value of the instruction
 abbrev pub AfterTruthValue : PieceData → Insn → Bool → SymbolicMachine → Type 0
 AfterTruthValue p (Branch test other t f) b m =
     m ≡ record p.machine { place = p.machine.place + 1 + (if b then t else f) }
@@ -226,11 +226,11 @@ AfterTruthValue p _ b m = ⊥
 abbrev pub with_sense : Cond → Bool → Cond
 with_sense cond b = record cond { sense = b }
 
--- no member has the truth value so
+-- the condition has this truth value on no member
 abbrev pub IsNever : PieceData → Cond → Bool → Type 0
 IsNever p cond b = (d : Input) → IsInput d → is_member p d ≡ true → is_met p.pool d (with_sense cond b) ≡ false
 
--- every member has the truth value so
+-- the condition has this truth value on every member
 abbrev pub IsImplied : PieceData → Cond → Bool → Type 0
 IsImplied p cond b = (d : Input) → IsInput d → is_member p d ≡ true → is_met p.pool d (with_sense cond b) ≡ true
 
@@ -242,13 +242,13 @@ has_one_number p n = (known_at p.facts.known n.0).low == (known_at p.facts.known
 abbrev pub HasOneValue : PieceData → NodeId → ℕ → Type 0
 HasOneValue p node n = (d : Input) → IsInput d → Agrees p.facts p.pool d → value_of p.pool d node.0 ≡ n
 
--- of two operands, one alone is a constant
+-- exactly one of two operands is a constant
 abbrev pub is_one_constant : Option ℕ → Option ℕ → Bool
 is_one_constant (Some x) None = true
 is_one_constant None (Some y) = true
 is_one_constant _ _ = false
 
--- known bits go back from a node to an operand: it is an AND, an OR or an XOR, and its other operand alone is a
+-- known bits go back from a node to an operand: it is an AND, an OR or an XOR, and exactly one of its operands is a
 -- constant
 abbrev pub is_propagated_back : List Node → Node → Bool
 is_propagated_back ns (Bin And a b) = is_one_constant (constant_number (node_at ns a.0))
@@ -272,12 +272,13 @@ test_result test None n = None
 test_result test (Some m) None = None
 test_result test (Some m) (Some n) = Some (passes test m n)
 
--- the truth value as numbers tell it: each of the two nodes has one, and no known bits go back from either
+-- the truth value of a condition, where each of its two nodes has one number and no known bits go back from either
 abbrev pub told_by_numbers : PieceData → Cond → Option Bool
 told_by_numbers p cond = test_result cond.test (decided_number_of p cond.node) (decided_number_of p cond.other)
 
--- Facts of the members that have the truth value so: nothing known is lost, and what the truth value tells is known. On
--- a plain stack these are exact: what agrees with them agreed before, and has the truth value so.
+-- Facts of the members on which the condition has this truth value: nothing that was known is lost, and what the truth
+-- value tells is known. On a plain stack these are exact: an input that agrees with them agreed before, and the
+-- condition has this truth value on it.
 pub record AreChildFacts (p : PieceData) (cond : Cond) (b : Bool) (facts : FactsView) : Type 0 where
   pub covers : Covers facts p.pool
   pub known : (d : Input) → IsInput d → is_member p d ≡ true → is_met p.pool d (with_sense cond b) ≡ true
@@ -287,7 +288,8 @@ pub record AreChildFacts (p : PieceData) (cond : Cond) (b : Bool) (facts : Facts
   pub decided : DecidesTest p.facts (with_sense cond b)
   pub plain : IsPlain p.stack → KeepsOnly p.facts facts p.pool (λ d. is_met p.pool d (with_sense cond b))
 
--- the members that have the truth value so, by one condition more, with facts of just these
+-- the piece of the members on which the condition has this truth value: it has one condition more, and its facts are of
+-- just these members
 pub record IsChild (p : PieceData) (cond : Cond) (b : Bool) (c : PieceData) : Type 0 where
   pub of : c.stack ≡ p.stack
   pub conditions : c.conditions ≡ p.conditions ++ with_sense cond b ∷ []

@@ -26,8 +26,8 @@ fn asks_zero(op: BinOp, other: Operand, taken: usize) -> bool
     }
 }
 
-/// Whether A passes a test on every member, where the facts tell it and nothing could be learnt from it. It is asked of a
-/// test against a number alone.
+/// What the facts tell of a test of A against a number: the truth value that it has on every member, where nothing can
+/// be learnt from it. None where the facts leave it open, and for a test against X.
 fn foreseen(run: &Run, test: Test, other: Operand) -> Option<bool>
     requires { IsLawfulPiece run.now }
     ensures { IfSome result (λ b. PassesAlways run.now test other b) }
@@ -38,6 +38,8 @@ fn foreseen(run: &Run, test: Test, other: Operand) -> Option<bool>
     }
 }
 
+/// An operation on A, whose result is put in A as a node. A division by X first asks whether X is 0, unless the name
+/// has already that it isn't.
 pub(crate) fn alu(
     alloc: Global,
     run: &mut Run,
@@ -68,6 +70,8 @@ pub(crate) fn alu(
     }
 }
 
+/// A test of A. Where the facts tell it, its truth value is added to the name, with those of the told tests behind it.
+/// Else the test is asked for as a condition.
 pub(crate) fn branch(
     alloc: Global,
     run: &mut Run,
@@ -97,6 +101,8 @@ pub(crate) fn branch(
     Ok(Executed::Query(insn, cond))
 }
 
+/// A return of A, which meets the 32 bits of A, the highest first. Each bit that isn't in the name yet is taken where
+/// the facts tell it, and else asked for. When all are in the name, the program is left.
 pub(crate) fn return_a(alloc: Global, run: &mut Run) -> Result<Executed, Fault>
     requires lawful { IsLawfulPiece run.old }
     requires standing { HasAtHand run.old Insn.ReturnA }

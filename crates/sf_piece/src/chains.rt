@@ -15,7 +15,7 @@ use sf_check::{Insn, Operand, Passed, Program};
 use sf_dom::Known;
 use sf_insn::Test;
 
-/// On over a test with this truth value, which goes into the name. What is known stays as it is.
+/// Goes on over a test with this truth value, which is added to the name. What is known stays as it is.
 pub(crate) fn take_test(
     run: &mut Run,
     insn: Insn,
@@ -40,8 +40,8 @@ pub(crate) fn take_test(
     Ok(())
 }
 
-/// How many instructions a test skips where it fails, if it asks whether A equals a number that its interval leaves out.
-/// None for any other instruction.
+/// How many instructions an instruction skips, if it tests whether A equals a number and what is known of A tells that
+/// it doesn't. None for any other instruction.
 fn skipped_by_failing(insn: Insn, known: Known) -> Option<u8>
     ensures { IfSome result (λ n. IsFailing insn known n) }
 {
@@ -52,7 +52,7 @@ fn skipped_by_failing(insn: Insn, known: Known) -> Option<u8>
     }
 }
 
-/// The number of a word of which this is known, where one alone is left.
+/// The number of a word, where what is known of it leaves only one.
 fn only_number(known: Known) -> Option<u32>
     ensures { IfSome result (λ n. (x : ℕ) → Admits known x → x ≡ n) }
 {
@@ -63,8 +63,9 @@ fn only_number(known: Known) -> Option<u32>
     }
 }
 
-/// Those tests of this kind that come from a place on, each where the one before leads: looked up where A has one number
-/// alone, and else none is taken.
+/// How many tests in a row are told to fail from this place on, each where the one before leads, and the place behind
+/// them; each tests whether A equals a number. They are looked up where A has only one number. Where it may have more,
+/// the answer is no test: the caller looks at each instruction.
 fn behind_others(program: &Program, place: usize, known: Known) -> Passed
     requires { place < length program.now }
     ensures { AreFailing program.now known result.count place result.behind }
@@ -78,7 +79,7 @@ fn behind_others(program: &Program, place: usize, known: Known) -> Passed
     }
 }
 
-/// The tests of this kind that come now, each where the one before leads.
+/// How many tests of A in a row are told to fail from the machine's place on, and the place behind them.
 fn failing_chain(run: &Run, known: Known) -> Passed
     requires lawful { IsLawfulPiece run.now }
     requires known { known ≡ known_at run.now.facts.known run.now.machine.a.0 }
@@ -103,7 +104,8 @@ fn failing_chain(run: &Run, known: Known) -> Passed
     Passed { count, behind }
 }
 
-/// Goes on over these tests at once: each puts a false into the name, and what is known stays as it is.
+/// Goes on over the tests that `failing_chain` finds, at once: each adds a false to the name, and what is known stays
+/// as it is.
 fn take_failing(run: &mut Run, known: Known) -> Result<(), Fault>
     requires lawful { IsLawfulPiece run.old }
     requires known { known ≡ known_at run.old.facts.known run.old.machine.a.0 }
@@ -117,9 +119,9 @@ fn take_failing(run: &mut Run, known: Known) -> Result<(), Fault>
     Ok(())
 }
 
-/// Goes on over the tests of A against numbers that come now, as far as its interval and known bits tell their truth
-/// values. They are looked up once, since none of these tests changes them. Most of these tests ask for numbers that A
-/// can't have, one after the other: their falses go into the name at once.
+/// Goes on over the tests of A against numbers that come now, as long as what is known of A tells their truth values.
+/// No such test changes what is known of A, so it is looked up only once. Most of these tests ask for numbers that A
+/// can't have, one after the other: their falses are added to the name at once.
 pub(crate) fn take_told(run: &mut Run) -> Result<(), Fault>
     requires { IsLawfulPiece run.old }
     ensures { IfOk result (λ _. HasGoneOn run.old run.new) }

@@ -27,7 +27,8 @@ use std::sync::Arc;
 pub(crate) enum SmallStep {
     /// The run goes on.
     On,
-    /// The facts leave both ways open: the members on which the truth value is false. The run is that of the others.
+    /// The facts leave both truth values open. This is the piece of the members on which the truth value is false; the
+    /// run has become that of the members on which it is true.
     Split(Arc<Piece>),
     /// The last program has returned: the name is whole, and the answer is that of all programs.
     Settled,
@@ -72,7 +73,7 @@ fn after(run: &Run, insn: Insn, sense: bool) -> SymbolicMachine
     }
 }
 
-/// The truth value is this on every member: it goes into the name alone, and nothing is learnt from it.
+/// Takes a truth value that is the same on every member: it is added to the name, and nothing is learnt from it.
 pub(crate) fn take(run: &mut Run, insn: Insn, sense: bool) -> Result<(), Fault>
     requires lawful { IsLawfulPiece run.old }
     requires standing { HasAtHand run.old insn }
@@ -89,7 +90,7 @@ pub(crate) fn take(run: &mut Run, insn: Insn, sense: bool) -> Result<(), Fault>
     Ok(())
 }
 
-/// The members on which the truth value is false.
+/// The piece of the members on which the truth value is false.
 fn child(
     alloc: Global,
     run: &Run,
@@ -120,7 +121,7 @@ fn child(
     Ok(Arc::new(alloc, Piece { run: next })?)
 }
 
-/// The run becomes that of the members on which the truth value is true: nothing is copied for them.
+/// Makes the run that of the members on which the truth value is true. Nothing is copied for it.
 fn become_child(run: &mut Run, insn: Insn, cond: Cond, facts: Facts) -> Result<(), Fault>
     requires lawful { IsLawfulPiece run.old }
     requires standing { HasAtHand run.old insn }
@@ -140,7 +141,7 @@ fn become_child(run: &mut Run, insn: Insn, cond: Cond, facts: Facts) -> Result<(
     Ok(())
 }
 
-/// The piece's facts with the truth value as this, or none where that contradicts them.
+/// The piece's facts, with what this truth value of the condition tells; none where that contradicts them.
 fn learnt(alloc: Global, run: &Run, cond: Cond, sense: bool) -> Result<Option<Facts>, Fault>
     requires lawful { IsLawfulPiece run.now }
     requires below { IsCondBelow (length run.now.pool) cond }
@@ -152,8 +153,8 @@ fn learnt(alloc: Global, run: &Run, cond: Cond, sense: bool) -> Result<Option<Fa
     Ok(learnt)
 }
 
-/// Whether known bits go back from a node to an operand: it is an AND, an OR or an XOR, and its other operand alone is a
-/// constant.
+/// Whether known bits go back from a node to an operand: it is an AND, an OR or an XOR, and exactly one of its operands
+/// is a constant.
 fn propagates_back(pool: &Pool, node: NodeId) -> bool
     requires { node.0 < length pool.now }
     ensures { result ≡ is_propagated_back pool.now (node_at pool.now node.0) }
@@ -166,7 +167,8 @@ fn propagates_back(pool: &Pool, node: NodeId) -> bool
     }
 }
 
-/// The number of a word, where it has one on every member and a condition on it would tell nothing of another word.
+/// The number of a word, where it has the same one on every member and a condition on it would tell nothing of another
+/// word.
 fn decided_number(run: &Run, node: NodeId) -> Option<u32>
     requires lawful { IsLawfulPiece run.now }
     requires below { node.0 < length run.now.pool }
@@ -180,7 +182,7 @@ fn decided_number(run: &Run, node: NodeId) -> Option<u32>
     Some(number)
 }
 
-/// The truth value, where numbers tell it and there is nothing to learn from it.
+/// The truth value of a condition, where both words have numbers that decide it and there is nothing to learn from it.
 fn decided(run: &Run, cond: Cond) -> Option<bool>
     requires lawful { IsLawfulPiece run.now }
     requires below { IsCondBelow (length run.now.pool) cond }
@@ -192,10 +194,13 @@ fn decided(run: &Run, cond: Cond) -> Option<bool>
     Some(cond.test.passes(left, right))
 }
 
-/// Learns the truth value as false and as true, each from the same facts, unless numbers tell it. Where they do, one way
-/// contradicts and the other changes no fact: a word that has one number has all its bits known, the test moves no bound
-/// past it, and no bits go back from it. An AND, an OR or an XOR with a constant is different: its bits may go back to an
-/// operand that lacks them, and contradict there, so it is learnt from even where it has one number.
+/// Takes the next truth value, or splits the piece by it. It is learnt as false and as true, each from the same facts:
+/// where one of the two contradicts, the other is taken; where both do, the piece has no member.
+///
+/// Where numbers decide it, it is taken without that, since one truth value would contradict and the other change no
+/// fact: a word that has one number has all its bits known, the test moves no bound past it, and no bits go back from
+/// it. An AND, an OR or an XOR with a constant is different: its bits may go back to an operand that lacks them, and
+/// contradict there. So it is learnt from even where it has one number.
 fn decide(alloc: Global, run: &mut Run, insn: Insn, cond: Cond) -> Result<SmallStep, Fault>
     requires lawful { IsLawfulPiece run.old }
     requires standing { HasAtHand run.old insn }
@@ -222,7 +227,7 @@ fn decide(alloc: Global, run: &mut Run, insn: Insn, cond: Cond) -> Result<SmallS
     Ok(SmallStep::Split(apart))
 }
 
-/// One instruction, or one truth value of it.
+/// Runs one instruction, or takes one truth value that it asks for.
 pub(crate) fn advance_once(alloc: Global, run: &mut Run) -> Result<SmallStep, Fault>
     requires { IsLawfulPiece run.old }
     ensures { IfOk result (IsSmallStep run.old run.new) }

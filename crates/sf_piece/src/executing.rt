@@ -31,7 +31,7 @@ pub(crate) enum Executed {
     Contradiction,
 }
 
-/// One instruction, or the question that it asks first.
+/// Runs one instruction, or answers the condition that it asks for first.
 pub(crate) fn execute(alloc: Global, run: &mut Run) -> Result<Executed, Fault>
     requires { IsLawfulPiece run.old }
     ensures { IfOk result (IsExecuted run.old run.new) }
@@ -69,7 +69,7 @@ pub(crate) fn execute(alloc: Global, run: &mut Run) -> Result<Executed, Fault>
     }
 }
 
-/// On by an instruction that puts a node in A.
+/// Goes on by an instruction that puts a node in A.
 pub(crate) fn set_a(alloc: Global, run: &mut Run, insn: Insn, node: Node) -> Result<Executed, Fault>
     requires lawful { IsLawfulPiece run.old }
     requires standing { HasAtHand run.old insn }
@@ -94,7 +94,7 @@ pub(crate) fn set_a(alloc: Global, run: &mut Run, insn: Insn, node: Node) -> Res
     }
 }
 
-/// On by an instruction that puts a constant in X.
+/// Goes on by an instruction that puts a constant in X.
 fn set_x(alloc: Global, run: &mut Run, insn: Insn, k: u32) -> Result<Executed, Fault>
     requires lawful { IsLawfulPiece run.old }
     requires standing { HasAtHand run.old insn }
@@ -117,7 +117,7 @@ fn set_x(alloc: Global, run: &mut Run, insn: Insn, k: u32) -> Result<Executed, F
     }
 }
 
-/// On by an instruction that moves words about, or jumps.
+/// Goes on by an instruction that moves words about, or jumps.
 fn move_on(run: &mut Run, insn: Insn)
     requires lawful { IsLawfulPiece run.old }
     requires standing { HasAtHand run.old insn }
@@ -166,7 +166,7 @@ fn stored(m: &SymbolicMachine, k: u8, w: NodeId) -> SymbolicMachine
     SymbolicMachine { scratch, ..*m }
 }
 
-/// A scratch word that is set.
+/// The node of a scratch word that is set.
 fn scratch(m: &SymbolicMachine, k: u8) -> NodeId
     requires { (w : ANodeId) × (slice_get m.now.scratch k ≡ Some (Some w)) }
     ensures { slice_get m.now.scratch k ≡ Some (Some result) }
@@ -177,7 +177,7 @@ fn scratch(m: &SymbolicMachine, k: u8) -> NodeId
     }
 }
 
-/// On by an instruction that meets no truth value.
+/// Goes on by an instruction that meets no truth value.
 fn go(run: &mut Run, insn: Insn, to: SymbolicMachine)
     requires lawful { IsLawfulPiece run.old }
     requires standing { HasAtHand run.old insn }
@@ -190,7 +190,7 @@ fn go(run: &mut Run, insn: Insn, to: SymbolicMachine)
     run.machine = to;
 }
 
-/// On to the next program.
+/// Goes on to the next program, after a return of this value.
 pub(crate) fn leave_program(run: &mut Run, insn: Insn, value: u32)
     requires lawful { IsLawfulPiece run.old }
     requires standing { HasAtHand run.old insn }

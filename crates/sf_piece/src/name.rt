@@ -1,4 +1,4 @@
-//! Names, kept so that they are soon compared.
+//! Names, kept in a form that is fast to compare.
 
 ghost use Rattle.std.specs.Prelude.{◌≡◌, ◌<◌, ◌≤◌, ◌+◌, [], ◌∷◌, ◌++◌, length, slice_index, replicate, true, false, List, Bool, IfOk, OnOk, OnErr};
 ghost use Rattle.std.specs.Ordering.{bool_cmp};
@@ -11,25 +11,26 @@ use std::alloc::{AllocError, Global};
 use std::cmp::Ordering;
 use std::marker::Model;
 
-/// The most truth values that a name may have, so that a run of them is counted in a `u32`.
+/// The most truth values that a name may have: the length of a run of them fits in a `u32`.
 const LONGEST: u32 = 0xFFFF_FFFF;
 
-/// Of how many truth values the number of a name tells.
+/// How many truth values at the start of a name its number holds.
 const LEADING: usize = 58;
 
-/// For how many more truth values a fork has room: each gets one at least, and would be copied again for it.
+/// Room in a fork for more truth values: it gets at least one, and without room for it all would be copied once more.
 const SPARE: usize = 16;
 
-/// A name beside the lengths of its runs of false, by which names are compared: a path meets false far more often than
-/// true, so these are few, and where two names share a long run one comparison passes it.
+/// A name, with the lengths of its runs of false, by which names are compared. A path meets false far more often than
+/// true, so the runs are few, and one comparison of lengths goes over a whole run that two names share.
 #[derive(Drop)]
 pub(crate) struct Name {
     entries: Vec<bool>,
-    // For each true the falses right before it, counted down from `LONGEST`, since more of them come first.
+    // For each true how many falses are right before it, counted down from `LONGEST`: a name with more of them comes
+    // first.
     runs: SmallVec<u32, 8>,
-    // The falses at the end.
+    // How many falses are at the end.
     rest: u32,
-    // The first 58 truth values as bits, the first one highest, and in the lowest six bits how many these are.
+    // The first 58 truth values as bits, the first one highest, and in the lowest six bits how many of them there are.
     number: u64,
 }
 
@@ -66,15 +67,16 @@ impl Name {
         self.entries.as_slice()
     }
 
-    /// The number by which most names are told apart: one that is less is that of a name before.
+    /// The number of the name's first truth values. Of two names whose numbers differ, the one with the smaller number
+    /// is before the other; most names differ in it.
     pub(crate) fn number(&self) -> u64
         ensures { result ≡ name_number self.now }
     {
         self.number
     }
 
-    /// The first two runs as one number, those that it lacks counting as 0. Where the numbers of two names that begin alike
-    /// differ, the one with the less is before the other.
+    /// The first two runs as one number, the first run in its high half; a run that the name lacks counts as 0. Of two
+    /// names for which these numbers differ, the one with the smaller number is before the other.
     pub(crate) fn runs_number(&self) -> u64
         ensures value { result ≡ runs_number self.now }
         ensures short { length self.now ≤ 4294967295 }
@@ -83,7 +85,7 @@ impl Name {
         0x1_0000_0000 * run_at(runs, 0) as u64 + run_at(runs, 1) as u64
     }
 
-    /// The truth values alone.
+    /// The truth values, without their runs and number.
     pub(crate) fn into_entries(self) -> Vec<bool>
         ensures { result.items ≡ self }
     {
@@ -96,7 +98,7 @@ impl Name {
         entries
     }
 
-    /// The same name again, with some room to grow. `AllocError` where a growth is refused.
+    /// A copy of the name, with room for some more truth values. `AllocError` where an allocation is refused.
     pub(crate) fn fork(&self, alloc: Global) -> Result<Name, AllocError>
         ensures { IfOk result (λ n. n ≡ self.now) }
     {
@@ -111,7 +113,7 @@ impl Name {
         })
     }
 
-    /// The name with one truth value more. `AllocError` where a growth is refused, or at 2^32 - 1 truth values.
+    /// The name with one truth value more. `AllocError` where an allocation is refused, or at 2^32 - 1 truth values.
     pub(crate) fn with(&self, alloc: Global, entry: bool) -> Result<Name, AllocError>
         ensures { IfOk result (λ n. n ≡ self.now ++ entry ∷ []) }
     {
@@ -128,8 +130,8 @@ impl Name {
         runs.then(self.rest.cmp(&other.rest))
     }
 
-    /// Adds a truth value at the end. `AllocError` where a growth is refused, or at 2^32 - 1 truth values: the name is as
-    /// it was then.
+    /// Adds a truth value at the end. `AllocError` where an allocation is refused, or at 2^32 - 1 truth values: the name
+    /// is as it was then.
     pub(crate) fn push(&mut self, entry: bool) -> Result<(), AllocError>
         ensures ok { OnOk result (self.new ≡ self.old ++ entry ∷ []) }
         ensures err { OnErr result (self.new ≡ self.old) }
@@ -144,8 +146,8 @@ impl Name {
         }
     }
 
-    /// Adds so many falses at the end. `AllocError` where a growth is refused, or where there would be more than 2^32 - 1
-    /// truth values: the name is as it was then.
+    /// Adds this many falses at the end. `AllocError` where an allocation is refused, or where there would be more than
+    /// 2^32 - 1 truth values: the name is as it was then.
     pub(crate) fn push_falses(&mut self, count: usize) -> Result<(), AllocError>
         ensures ok { OnOk result (self.new ≡ self.old ++ replicate count false) }
         ensures err { OnErr result (self.new ≡ self.old) }
@@ -198,7 +200,7 @@ fn run_at(runs: &[u32], place: usize) -> u32
     if place < runs.len() { runs[place] } else { 0 }
 }
 
-/// What the number of a name of so many truth values gains by one more.
+/// By how much the number of a name that has this many truth values grows when this one is added.
 fn gain_by(before: usize, entry: bool) -> u64
     ensures { (name : List Bool) → length name ≡ before → name_number (name ++ entry ∷ [])
         ≡ name_number name + result }

@@ -14,7 +14,7 @@ use sf_check::Operand;
 use sf_sym::{Node, NodeId};
 use std::alloc::Global;
 
-/// Puts a node in the pool, or answers none where its facts contradict: there is no member then.
+/// Puts a node in the pool. None where its facts contradict: there is no member then.
 pub(crate) fn push(alloc: Global, run: &mut Run, node: Node) -> Result<Option<NodeId>, Fault>
     requires lawful { IsLawfulPiece run.old }
     requires below { OperandsBelow (length run.old.pool) node }
@@ -29,7 +29,7 @@ pub(crate) fn push(alloc: Global, run: &mut Run, node: Node) -> Result<Option<No
     Ok(Some(id))
 }
 
-/// The second word of an operation or a test.
+/// The node of the second word of an operation or a test. None where its facts contradict: there is no member then.
 pub(crate) fn operand(alloc: Global, run: &mut Run, other: Operand) -> Result<Option<NodeId>, Fault>
     requires { IsLawfulPiece run.old }
     ensures { IfOk result (λ o. MatchOption o (HasNoMember run.old)

@@ -1,5 +1,5 @@
-//! The numbers of a stack's instructions, which the first piece's pool has from the start: no piece below gains them then,
-//! and all share one pool until one of them gets an operation that isn't there.
+//! The numbers of a stack's instructions, put into the pool of the first piece. So no piece below has to add them, and
+//! all pieces share one pool until one of them makes an operation's node that isn't there.
 
 ghost use Rattle.std.specs.Prelude.{IfOk};
 ghost use Rattle.sf_sym.specs.Pool.{ArePlainNodes};
@@ -8,10 +8,10 @@ use crate::fault::Fault;
 use sf_check::{Insn, Operand, Program, Stack};
 use sf_sym::{Node, Pool};
 
-/// How many nodes a pool may have before it begins with no further number.
+/// A pool with this many nodes gets no further number at the start.
 const MOST_NODES: usize = 4096;
 
-/// Puts a number into the pool, unless it has many nodes.
+/// Puts a number into the pool, unless the pool has `MOST_NODES` nodes.
 fn add_number(pool: &mut Pool, number: u32) -> Result<(), Fault>
     requires { ArePlainNodes pool.old }
     ensures { IfOk result (λ _. ArePlainNodes pool.new) }
@@ -22,7 +22,7 @@ fn add_number(pool: &mut Pool, number: u32) -> Result<(), Fault>
     Ok(())
 }
 
-/// Puts the numbers of one bit into the pool: a returned A is asked for each.
+/// Puts the 32 numbers that have one bit into the pool: the bits of a returned A are tested with them.
 fn add_bits(pool: &mut Pool) -> Result<(), Fault>
     requires { ArePlainNodes pool.old }
     ensures { IfOk result (λ _. ArePlainNodes pool.new) }
@@ -33,7 +33,7 @@ fn add_bits(pool: &mut Pool) -> Result<(), Fault>
     Ok(())
 }
 
-/// Puts the number of an operand into the pool.
+/// Puts the number of an operand into the pool, where it is one.
 fn add_operand(pool: &mut Pool, operand: Operand) -> Result<(), Fault>
     requires { ArePlainNodes pool.old }
     ensures { IfOk result (λ _. ArePlainNodes pool.new) }
@@ -44,7 +44,7 @@ fn add_operand(pool: &mut Pool, operand: Operand) -> Result<(), Fault>
     }
 }
 
-/// Puts the numbers that an instruction may ask the pool for into it.
+/// Puts the numbers that an instruction may need as nodes into the pool.
 fn add_numbers_of(pool: &mut Pool, insn: Insn) -> Result<(), Fault>
     requires { ArePlainNodes pool.old }
     ensures { IfOk result (λ _. ArePlainNodes pool.new) }
@@ -73,8 +73,8 @@ fn add_program(pool: &mut Pool, program: &Program) -> Result<(), Fault>
     Ok(())
 }
 
-/// Puts the numbers of a stack's instructions into the pool, those of the newest program first: the pool has nothing but
-/// words and numbers then. `Memory` where a growth is refused.
+/// Puts the numbers of a stack's instructions into the pool, those of the newest program first, up to `MOST_NODES`
+/// nodes. The pool has only words of the input and numbers, before and after. `Memory` where an allocation is refused.
 pub(crate) fn add_numbers(pool: &mut Pool, stack: &Stack) -> Result<(), Fault>
     requires { ArePlainNodes pool.old }
     ensures { IfOk result (λ _. ArePlainNodes pool.new) }

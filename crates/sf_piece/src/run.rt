@@ -17,8 +17,8 @@ use std::sync::Arc;
 /// Path conditions, the oldest first; full blocks of 16 are shared with the pieces below.
 pub(crate) type Conditions = SharedList<Cond, 1>;
 
-/// The run behind a piece: what is in its name and its conditions so far, where the machine stands, and what is known of
-/// its words. It is worked where it stands, and between its steps it needn't be lawful; a piece keeps a lawful one.
+/// The run behind a piece: what is in its name and its conditions so far, where the machine stands, and what is known
+/// of its words. It is changed in place, and between two steps it needn't be lawful; a piece keeps a lawful one.
 #[derive(Drop)]
 pub struct Run {
     pub(crate) stack: Arc<Stack>,
@@ -49,7 +49,7 @@ impl Run {
     ghost use Rattle.sf_piece.specs.SymbolicRun.{IsLawfulPiece};
     ghost use Rattle.sf_piece.specs.Works.{HasAtHand, IsCodeAtHand};
 
-    /// The same run again. `Memory` where a growth is refused.
+    /// A copy of the run. `Memory` where an allocation is refused.
     pub(crate) fn fork(&self, alloc: Global) -> Result<Run, Fault>
         ensures { IfOk result (λ r. r ≡ self.now) }
     {
@@ -91,8 +91,8 @@ impl Run {
         Some(code[self.machine.place])
     }
 
-    /// The answer of the stack, where the instruction at hand is the last program's return of a constant. Nothing is left to
-    /// run then, and the name is whole.
+    /// The answer of the stack, where the instruction at hand is the last program's return of a constant: nothing is
+    /// left to run then, and the name is whole. None elsewhere.
     pub(crate) fn answer_at_hand(&self) -> Option<Answer>
         requires { IsLawfulPiece self.now }
         ensures { IfSome result (λ a. IsRightAnswer self.now self.now.name a) }

@@ -1,4 +1,4 @@
--- The code's replays, turn by turn.
+-- The code's replays, step by step.
 use Rattle.std.proofs.Common.{◌≡◌, ℕ, zero, suc, ◌+◌, ◌-◌, ◌*◌, ◌^◌, ◌<◌, ◌≤◌, Bool, true, false, List, ◌∷◌, length, Option, Some, None, get_or, drop, refl, sym, ap, subst, ◌∙◌, arith}
 use Rattle.std.specs.Prelude.{option_map, if◌then◌else◌}
 use Rattle.std.specs.List.{fold}
@@ -77,7 +77,7 @@ goes_out n code at i met v left some is lead =
 
 -- ---- programs
 
--- what programs answer after others
+-- the answer of the programs so far, and then of these
 abbrev pub onward : Answer → List Bool → List (List Insn) → Option (Answer × List Bool)
 onward a met codes = option_map (λ o. (fold folded_answer a o.0, o.1)) (returns_along codes met)
 

@@ -53,7 +53,7 @@ walk_goes_on code d s i met next left old new whole some at e pushed so_far w re
     so_far (after (meeting_at s i) w) (subst (λ (n : ℕ). walk_for n code d s ≡ Some (after (meeting_at s i) w))
     one_less more) ∙ joined
 
--- and after one that returns
+-- what has been met, and how the whole walk ends, after a step that returns
 pub walk_comes_to_end : (code : List Insn) (d : Input) (s : State) (i : Insn) (met : List Bool) (v : ℕ) (left : ℕ)
     (old new : List Meeting) (whole : Option CourseData) → 0 < left
     → IsAt code s.place i → insn_progress d s i ≡ returns met v → new ≡ old ++ meeting_at s i

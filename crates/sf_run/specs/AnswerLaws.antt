@@ -22,6 +22,7 @@ pick n c x y p q =
       | inr ne ↦ rw (ne_eqb n c ne) q
     ]
 
+-- the number of the action that a number names is that number
 pub number-action_of : (n : ℕ) → action_number (action_of n) ≡ n
 number-action_of n =
     pick n 0x80000000 KillProcess _ refl (pick n 0 KillThread _ refl
@@ -31,7 +32,7 @@ number-action_of n =
 
 -- ---- the newest value with an action
 
--- some value has an action that is among theirs
+-- where an action is among those of the values, some value has it
 find_among : (vs : List ℕ) (n : ℕ) → Contains (map action_bits vs) n → (v : ℕ)
     × (find (λ v. action_bits v == n) vs ≡ Some v)
 find_among [] n (k, lt, e) = absurd (omega arith)
@@ -45,7 +46,7 @@ find_among (u ∷ vs) n c = by (contains_cons (action_bits u) (map action_bits v
     by (inl e) rest (inr ne) = absurd (ne e)
     by (inr later) rest (inr ne) = let found = rest later in (found.0, rw (ne_eqb (action_bits u) n ne) found.1)
 
--- no value has an action that ranks below theirs
+-- where an action is none of those of the values, no value has it
 find_none : (vs : List ℕ) (n : ℕ) → ((v : ℕ) → Contains (map action_bits vs) v → n ≡ v → ⊥)
     → find (λ v. action_bits v == n) vs ≡ None
 find_none [] n other = refl
@@ -121,6 +122,7 @@ kept vs a v h le = record {
         let f = find_among vs n c in
         inr (f.1 ∙ sym (find-append (λ u. action_bits u == n) vs (v ∷ []) ∙ rw f.1 refl))
 
+-- the answer of more values is folded from that of fewer
 pub answer_more : (vs : List ℕ) (a : Answer) (v : ℕ) → IsAnswer vs a → IsAnswer (vs ++ v ∷ []) (folded_answer a v)
 answer_more vs a v h =
     elim (cases_lt (rank (action_bits v)) (rank (action_number a.action))) [
@@ -128,6 +130,7 @@ answer_more vs a v h =
       | inr le ↦ rw (le-ltb (rank (action_bits v)) (rank (action_number a.action)) le) (kept vs a v h le)
     ]
 
+-- no values make an ALLOW
 pub answer_none : IsAnswer [] (record { action = Allow; info = 0 })
 answer_none = record {
   among = contains_here 0x7fff0000 [] 0x7fff0000 refl;
@@ -160,6 +163,7 @@ rank_is m n p q e = omega arith
 abbrev answer : Action → ℕ → Answer
 answer a i = record { action = a; info = i }
 
+-- values make at most one answer
 pub one : (vs : List ℕ) (a b : Answer) → IsAnswer vs a → IsAnswer vs b → a ≡ b
 one vs a b p q =
     let ab : rank (action_number a.action) ≤ rank (action_number b.action) =

@@ -38,6 +38,7 @@ some_choice at (Alu op other) = alu op other
     alu _ other = inr ([], at + 1, (refl, refl), contains_here (at + 1) [] (at + 1) refl)
 some_choice at _ = inr ([], at + 1, (refl, refl), contains_here (at + 1) [] (at + 1) refl)
 
+-- from each place of a lawful program there is a way to a return
 pub some_way : (n : ℕ) (code : List Insn) (at : ℕ) → IsLawfulProgram code → at < length code → length code ≤ n + at
     → (met : List Bool) × IsWay code at met
 some_way zero code at lawful lt room = absurd (omega arith)

@@ -36,7 +36,7 @@ first_before x y (z ∷ zs) all c =
       | inr later ↦ first_before x y zs all.1 later
     ]
 
--- a later name of a list in order is a member of another list where it is one of that list with the first name
+-- Where all names of x ∷ xs, in order, are names of x ∷ ys, all names of xs are names of ys.
 later_in : (x : List Bool) (xs ys : List (List Bool)) → AreInNameOrder (x ∷ xs)
     → ((t : List Bool) → Contains (x ∷ xs) t → Contains (x ∷ ys) t) → (t : List Bool) → Contains xs t → Contains ys t
 unfolding IsStrictlySortedBy
@@ -50,7 +50,7 @@ later_in x xs ys order within t c =
       | inr found ↦ found
     ]
 
--- lists in name order with the same members are equal
+-- lists in name order that have the same names are equal
 pub one_order : (a b : List (List Bool)) → AreInNameOrder a → AreInNameOrder b
     → ((t : List Bool) → Contains a t → Contains b t) → ((t : List Bool) → Contains b t → Contains a t) → a ≡ b
 unfolding IsStrictlySortedBy
@@ -70,6 +70,7 @@ one_order (x ∷ xs) (y ∷ ys) p q ab ba =
     first (inr c) (inl e) = e
     first (inr c) (inr c') = absurd (before_one_way x y (first_before x y xs p.0 c') (first_before y x ys q.0 c))
 
+-- a stack has at most one list of feasible traces
 pub one_list : (programs : List (List Insn)) (a b : List (List Bool)) → AreFeasibleTraces programs a
     → AreFeasibleTraces programs b → a ≡ b
 one_list programs a b p q =
@@ -78,6 +79,7 @@ one_list programs a b p q =
 
 -- ---- there is one
 
+-- name order is total
 pub names_total : IsTotalOrder (slice_cmp bool_cmp)
 names_total = lists_total bool_cmp_total
 
@@ -95,12 +97,13 @@ names_exact (false ∷ a) (false ∷ b) h = ap (λ l. false ∷ l) (names_exact 
 abbrev IsBeforeAll : List Bool → List (List Bool) → Type 0
 IsBeforeAll t us = AllByRecursion (λ u. slice_cmp bool_cmp t u ≡ Less) us
 
+-- a name before another one is before all names that the other is before
 pub before_all : (t u : List Bool) (us : List (List Bool)) → slice_cmp bool_cmp t u ≡ Less → IsBeforeAll u us
     → IsBeforeAll t us
 before_all t u [] less all = tt
 before_all t u (v ∷ us) less all = (names_total.trans t u v less all.0, before_all t u us less all.1)
 
--- of two names that differ one is before the other
+-- where one name is after another, the other is before it
 turned : (t u : List Bool) → slice_cmp bool_cmp t u ≡ Greater → slice_cmp bool_cmp u t ≡ Less
 turned t u e = names_total.antisymm u t ∙ ap ordering_reverse e
 
@@ -151,7 +154,7 @@ put_keeps t (u ∷ us) v c =
       | inr later ↦ contains_there u (put_in t us) v (put_keeps t us v later)
     ])
 
--- and nothing else comes
+-- nothing else is put in
 put_adds : (t : List Bool) (us : List (List Bool)) (v : List Bool) → Contains (put_in t us) v → (t ≡ v) ⊎ Contains us v
 put_adds t [] v c = contains_cons t [] v c
 put_adds t (u ∷ us) v c =
@@ -193,6 +196,7 @@ order_adds (t ∷ ts) v c =
       | inr later ↦ contains_there t ts v (order_adds ts v later)
     ]
 
+-- the list that is computed is the list of feasible traces
 pub feasible_are : (programs : List (List Insn)) → AreFeasibleTraces programs (feasible_traces programs)
 unfolding feasible_traces
 feasible_are programs = record { order = ordered traces; exactly = λ t. (some t, there t) }

@@ -11,7 +11,7 @@ use Rattle.sf_insn.specs.Inputs.{IsInput}
 use Rattle.sf_check.specs.ContainsLaws.{contains_cons, contains_here, contains_there, contains_nil}
 use Rattle.sf_run.specs.Feasible.{lists_below, input_of, all_inputs}
 
--- ---- members of lists that are made of others
+-- ---- elements of lists that are made of other lists
 
 module _ {A B : Type 0} where
   pub contains_map : (f : A → B) (xs : List A) (x : A) → Contains xs x → Contains (map f xs) (f x)
@@ -102,7 +102,7 @@ list_fits (suc n) m ws c =
     let k = map_contains (λ (k : ℕ). k ∷ r.0) (range_with_len 0 m) ws r.2 in
     subst (Fits (suc n) m) k.2 (fits_more n m k.0 r.0 (number_below m k.0 k.1) (list_fits n m r.0 r.1))
 
--- what stands past the end is 0
+-- each number of the list is below m, and what stands past its end is 0
 each_below : (n m : ℕ) (ws : List ℕ) → 0 < m → Fits n m ws → (i : ℕ) → slice_index ws i < m
 each_below n m ws some fits i =
     elim (cases_lt i n) [
@@ -127,5 +127,6 @@ there_input d c =
     let is : IsInput (input_of ws.0) = record { sixteen = fits.0; each = each_below 16 (2 ^ 32) ws.0 (lit< tt) fits } in
     subst IsInput ws.2 is
 
+-- the list of all inputs has exactly the inputs
 pub inputs_are : (d : Input) → Contains all_inputs d ↔ IsInput d
 inputs_are d = (there_input d, input_there d)

@@ -3,6 +3,6 @@ use Rattle.std.specs.Prelude.{ℕ}
 use Rattle.sf_run.specs.declared.fault.Fault.{Fault}
 use Rattle.sf_run.specs.declared.fault.Fault.TheVariants.{Memory}
 
--- a run can only want memory, and this is what that is told by
+-- the number of the only fault, a lack of memory
 abbrev pub fault_number : Fault → ℕ
 fault_number Memory = 60

@@ -5,17 +5,17 @@ use Rattle.sf_check.specs.Insns.{stored_by, successors}
 use Rattle.sf_check.specs.Programs.{IsPath, Stores}
 use Rattle.sf_run.specs.Machine.{State}
 
--- truth values before those of an end
+-- an end of a run, with these truth values before its own
 abbrev pub put : List Bool → List Bool × ℕ → List Bool × ℕ
 put met o = (met ++ o.0, o.1)
 
--- what a step does to the scratch words
+-- set scratch words stay set, and the one that the instruction stores is set
 pub record Keeps (i : Insn) (old new : List (Option ℕ)) : Type 0 where
   pub size : length new ≡ length old
   pub kept : (k n : ℕ) → slice_get old k ≡ Some (Some n) → (m : ℕ) × (slice_get new k ≡ Some (Some m))
   pub stored : (k : ℕ) → stored_by i ≡ Some k → k < length old → (m : ℕ) × (slice_get new k ≡ Some (Some m))
 
--- where a step goes, and what it keeps
+-- the step leads to a place where the instruction may lead, and keeps set scratch words set
 pub record Moves (i : Insn) (s next : State) : Type 0 where
   pub leads : Contains (successors s.place i) next.place
   pub keeps : Keeps i s.scratch next.scratch

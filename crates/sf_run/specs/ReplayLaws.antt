@@ -1,5 +1,5 @@
--- A replay along the trace of an input comes to what the programs return on it, and one along a whole route to some
--- values.
+-- A replay along the trace of an input gives what the programs return on it, and a replay along a whole route gives
+-- some values.
 use Rattle.std.proofs.Common.{◌≡◌, ℕ, zero, suc, ◌+◌, ◌*◌, ◌^◌, ◌%◌, ◌<◌, ◌≤◌, lit<, Bool, true, false, List, [], ◌∷◌, ◌++◌, length, Option, Some, None, slice_get, map, refl, sym, ap, subst, ◌∙◌, ◌⊎◌, inl, inr, arith, append_assoc}
 use Rattle.std.specs.Prelude.{reverse, if◌then◌else◌, ◌==◌, ◌/◌, IsSome, All, option_map, bit_and}
 use Rattle.std.specs.List.{flat_map, fold, AllByRecursion}
@@ -116,7 +116,7 @@ number_bits (suc n) high a more =
         → (2 * high + (if a / 2 ^ n % 2 == 1 then 1 else 0)) * 2 ^ n + a % 2 ^ n ≡ high * 2 ^ suc n + a % 2 ^ suc n
     value c = rw (bit c, split, pow-suc 2 n) (one_more high (a / 2 ^ n % 2) (2 ^ n) (a % 2 ^ n))
 
--- as many truth values as bits make some number
+-- n truth values are the bits of some number
 some_number : (n high : ℕ) (met more : List Bool) → length met ≡ n
     → (v : ℕ) × (number_from n high (met ++ more) ≡ Some (v, more))
 some_number zero high [] more len = (high, refl)
@@ -314,7 +314,7 @@ same_words (w ∷ ws) (v ∷ vs) are small =
     cc
 
 -- A replay along the trace of an input gives the values that the programs return on it, newest first, if these are
--- words of 32 bits, as those of code are. Nothing is left.
+-- words of 32 bits; no truth value is left. The values of the code are such words.
 pub trace_is_replayed : (programs : List (List Insn)) (d : Input) → IsLawfulStack programs
     → All (λ v. v < 2 ^ 32) (returns_of programs d)
     → returns_along (reverse programs) (trace_of programs d) ≡ Some (returns_of programs d, [])

@@ -1,4 +1,4 @@
--- Exactly along the whole routes of a stack its parts have answers.
+-- The two parts of a stack have answers along its whole routes, and along no other truth values.
 use Rattle.std.proofs.Common.{◌≡◌, ℕ, zero, suc, ◌+◌, ◌*◌, Bool, true, false, List, [], ◌∷◌, ◌++◌, length, Option, Some, None, slice_get, refl, sym, ap, ◌∙◌, inl, inr, arith, append_assoc}
 use Rattle.std.specs.Prelude.{◌↔◌, reverse, if◌then◌else◌, ◌==◌, IsSome}
 use Rattle.std.specs.Bool.{then_some}
@@ -41,7 +41,7 @@ place_in (Returns v) = None
 abbrev lead : Next → List Bool → Option (Next × List Bool)
 lead next left = Some (next, left)
 
--- where control leads there, a route may go so
+-- where control leads to a place or a return, a route may lead there
 abbrev Taken : ℕ → Insn → List Bool → Next → List Bool → Type 0
 Taken at i met next left = (front : List Bool) × MayMeet at i front (place_in next) × (met ≡ front ++ left)
 
@@ -178,7 +178,7 @@ answers_have_route older newer met a e =
       | inr ne ↦ let clash : None ≡ Some a = rw (ne_eqb (length left) 0 ne) at e in absurd cc
     ]
 
--- Exactly the whole routes of the whole stack have answers of both parts.
+-- Both parts have answers along truth values exactly where these are a whole route of the whole stack.
 pub whole_routes_have_answers : (older newer : List (List Insn)) (met : List Bool)
     → IsWholeRoute (older ++ newer) met ↔ IsSome (answers_along older newer met)
 whole_routes_have_answers older newer met =

@@ -15,8 +15,8 @@ use Rattle.sf_run.specs.declared.machine.Next.TheVariants.{Goes, Returns}
 use Rattle.sf_run.specs.declared.replaying.PartAnswers.{PartAnswers}
 use Rattle.sf_run.specs.Answers.{Answers, folded_answer}
 
--- The number whose lowest n bits are the next truth values, the highest of them first, and the truth values that are
--- left. Its higher bits are those of the number that is given.
+-- A number, and the truth values that are left: its lowest n bits are the next truth values, the highest first, and its
+-- higher bits are those of `high`.
 abbrev pub number_from : ℕ → ℕ → List Bool → Option (ℕ × List Bool)
 number_from zero high met = Some (high, met)
 number_from (suc n) high [] = None
@@ -53,7 +53,7 @@ replay_for (suc n) code at met = option_and_then
 unfoldable pub replay_of : List Insn → List Bool → Option (ℕ × List Bool)
 replay_of code met = replay_for (length code) code 0 met
 
--- what programs return that run one after the other
+-- the values that programs return, which run one after the other
 abbrev pub returns_along : List (List Insn) → List Bool → Option (List ℕ × List Bool)
 returns_along [] met = Some ([], met)
 returns_along (code ∷ codes) met = option_and_then
@@ -63,11 +63,11 @@ returns_along (code ∷ codes) met = option_and_then
 abbrev pub answer_of : List ℕ → Answer
 answer_of values = fold folded_answer (record { action = Allow; info = 0 }) values
 
--- what programs in order of installation answer
+-- the answer of programs that stand in order of installation
 abbrev pub answer_along : List (List Insn) → List Bool → Option (Answer × List Bool)
 answer_along programs met = option_map (λ o. (answer_of o.0, o.1)) (returns_along (reverse programs) met)
 
--- What the older programs of a stack answer, and what its newer ones do, each part taken as a stack of its own: the
+-- The answer of the older programs of a stack and that of its newer ones, each part taken as a stack of its own. The
 -- newer ones run first. No truth value may be left at the end.
 unfoldable pub answers_along : List (List Insn) → List (List Insn) → List Bool → Option PartAnswers
 answers_along older newer met = option_and_then (λ after. option_and_then (λ before.

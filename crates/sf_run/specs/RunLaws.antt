@@ -36,7 +36,7 @@ same_continued (goes met next) f g same o o' e e' =
 same_continued (returns met v) f g same o o' e e' = sym (same_Some (met, v) o e) ∙ same_Some (met, v) o' e'
 same_continued stuck f g same o o' e e' = absurd cc
 
--- runs of any numbers of steps that come to an end come to the same
+-- runs that come to an end come to the same one, however many steps each may take
 pub run_same : (n m : ℕ) (code : List Insn) (d : Input) (s : State) (o o' : List Bool × ℕ) → run_for n code d s ≡ Some o
     → run_for m code d s ≡ Some o' → o ≡ o'
 unfolding run_for
@@ -103,11 +103,12 @@ loaded_goes s k f met next e = by (slice_get s.scratch k) refl e
     by (Some None) at e = let clash : stuck ≡ goes met next = rw at at e in absurd cc
     by None at e = let clash : stuck ≡ goes met next = rw at at e in absurd cc
 
+-- a step that goes on leads to a successor of the place, and keeps set scratch words set
 pub moves : (d : Input) (s : State) (i : Insn) (met : List Bool) (next : State) → insn_progress d s i ≡ goes met next
     → Moves i s next
 moves d s i met next e = by i e
   where
-    -- to the next instruction, with other words in A or X
+    -- a step to the next instruction that changes only A and X
     on : (i : Insn) (a x : ℕ) (met' : List Bool) → Contains (successors s.place i) (s.place + 1) → stored_by i ≡ None
         → goes met' (record { place = s.place + 1; a = a; x = x; scratch = s.scratch }) ≡ goes met next → Moves i s next
     on i a x met' leads none e =
@@ -183,6 +184,7 @@ moves d s i met next e = by i e
 
 -- ---- never stuck
 
+-- the start can be reached
 pub safe_start : (code : List Insn) → 0 < length code → IsReachable code start
 safe_start code some = record {
   inside = some;
@@ -192,7 +194,7 @@ safe_start code some = record {
   set_words = λ k any. absurd (any_nil (Stores code k) any);
 }
 
--- the instruction there may load what it loads
+-- in a state that can be reached, a scratch word that the instruction loads is set
 pub load_is_set : (code : List Insn) (s : State) (i : Insn) (k : ℕ) → IsLawfulProgram code → IsReachable code s
     → IsAt code s.place i
     → loaded_by i ≡ Some k → (n : ℕ) × (slice_get s.scratch k ≡ Some (Some n))
@@ -204,6 +206,7 @@ stored_small (StoreA j) k small e = let same : j ≡ k = same_Some j k e in omeg
 stored_small (StoreX j) k small e = let same : j ≡ k = same_Some j k e in omega (arith, small)
 stored_small _ k small e = absurd cc
 
+-- a step from a state that can be reached leads to one that can be reached
 pub safe_next : (code : List Insn) (d : Input) (s : State) (i : Insn) (met : List Bool) (next : State)
     → IsLawfulProgram code
     → IsReachable code s → IsAt code s.place i → insn_progress d s i ≡ goes met next → IsReachable code next
@@ -234,6 +237,7 @@ loaded_not_stuck : (s : State) (k : ℕ) (f : ℕ → Progress) → ((n : ℕ) �
     × (slice_get s.scratch k ≡ Some (Some n)) → load_progress s k f ≡ stuck → ⊥
 loaded_not_stuck s k f fine (n, at) e = fine n (rw at at e)
 
+-- no step is stuck where what the instruction loads is set
 pub not_stuck : (d : Input) (s : State) (i : Insn)
     → ((k : ℕ) → loaded_by i ≡ Some k → (n : ℕ) × (slice_get s.scratch k ≡ Some (Some n)))
     → insn_progress d s i ≡ stuck → ⊥
@@ -258,6 +262,7 @@ not_stuck d s i fine e = by i fine e
 
 -- ---- comes to an end
 
+-- a run of enough steps from a state that can be reached comes to an end
 pub ends_from : (n : ℕ) (code : List Insn) (d : Input) (s : State) → IsLawfulProgram code → IsReachable code s
     → length code ≤ n + s.place → IsSome (run_for n code d s)
 unfolding run_for
@@ -283,6 +288,7 @@ ends_from (suc n) code d s lawful safe room =
     by rest (returns met v) e = refl
     by rest stuck e = absurd (not_stuck d s i (λ k loads. load_is_set code s i k lawful safe at loads) e)
 
+-- a lawful program returns
 pub lawful_ends : (code : List Insn) (d : Input) → IsLawfulProgram code → IsSome (outcome_of code d)
 unfolding outcome_of
 lawful_ends code d lawful = ends_from (length code) code d start lawful (safe_start code lawful.some) (omega arith)

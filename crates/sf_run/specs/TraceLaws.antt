@@ -104,6 +104,7 @@ run_is_way (suc n) code d s o e = at_place (slice_get code s.place) refl (λ t p
     at_place (Some i) at rest e = by i at rest (insn_progress d s i) (step_allowed d s i)
         (rw (step_is code d s i at) at e)
 
+-- what a program meets is a way through it
 pub trace_is_way : (code : List Insn) (d : Input) → IsLawfulProgram code → IsWay code 0 (met_by code d)
 unfolding outcome_of
 trace_is_way code d lawful = by (outcome_of code d) refl (lawful_ends code d lawful)
@@ -112,6 +113,7 @@ trace_is_way code d lawful = by (outcome_of code d) refl (lawful_ends code d law
     by None e some = absurd cc
     by (Some o) e some = rw e (run_is_way (length code) code d start o e)
 
+-- what programs meet, one after the other, are ways through them
 pub traces_are_ways : (codes : List (List Insn)) (d : Input) → AllByRecursion IsLawfulProgram codes
     → AreWays codes (flat_map (λ p. met_by p d) codes)
 traces_are_ways [] d lawful = refl
@@ -132,6 +134,7 @@ newest_first programs lawful =
     (lawful.each (length programs - 1 - k) (get_or programs (length programs - 1 - k) d)
     (slice_get-get_or programs (length programs - 1 - k) d (omega arith))))
 
+-- the trace of a stack is a whole route
 pub trace_is_whole_route : (programs : List (List Insn)) (d : Input) → IsLawfulStack programs
     → IsWholeRoute programs (trace_of programs d)
 trace_is_whole_route programs d lawful = traces_are_ways (reverse programs) d (newest_first programs lawful)
@@ -216,7 +219,7 @@ all_short (code ∷ codes) d =
     (flat_map (λ p. met_by p d) codes) in
     omega (arith, whole, sum_by-cons counted code codes, met_short code d, all_short codes d)
 
--- the path length counts the programs in any order
+-- the sum of the lengths is the same, newest or oldest program first
 sum-reverse : (codes : List (List Insn)) → sum_by counted (reverse codes) ≡ sum_by counted codes
 sum-reverse [] = refl
 sum-reverse (code ∷ codes) =
@@ -231,6 +234,7 @@ sum-reverse (code ∷ codes) =
       sum-reverse codes,
     )
 
+-- a trace has at most 32768 + 32 * 64 truth values
 pub trace_is_short : (programs : List (List Insn)) (d : Input) → IsLawfulStack programs
     → length (trace_of programs d) ≤ 32768 + 32 * 64
 trace_is_short programs d lawful =

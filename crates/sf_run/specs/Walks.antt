@@ -11,7 +11,7 @@ use Rattle.sf_run.specs.declared.walking.Meeting.{Meeting}
 use Rattle.sf_run.specs.declared.walking.Met.{Met}
 use Rattle.sf_run.specs.declared.walking.Met.TheVariants.{Tested, Divided, Returned}
 
--- the one thing that is met at this place
+-- a list with the one thing that is met at this place
 abbrev pub at_place : ℕ → Met → List Meeting
 at_place place met = record { place = place; met = met } ∷ []
 
@@ -55,7 +55,7 @@ course met place value = record { met = met; place = place; value = value }
 abbrev pub after : List Meeting → CourseData → CourseData
 after met w = course (met ++ w.met) w.place w.value
 
--- how a run goes on that takes this step at a place where it meets this
+-- how a run goes on that takes this step at `place`, where it meets `met`
 abbrev pub onward : List Meeting → ℕ → (State → Option CourseData) → Progress → Option CourseData
 onward met place rest (goes _ next) = option_map (after met) (rest next)
 onward met place rest (returns _ value) = Some (course met place value)
@@ -66,6 +66,6 @@ unfoldable pub walk_for : ℕ → List Insn → Input → State → Option Cours
 walk_for zero code d s = None
 walk_for (suc n) code d s = onward (meeting_in code s) s.place (walk_for n code d) (step code d s)
 
--- the run of a program on an input
+-- the walk of a program on an input: its run, with all that it meets
 unfoldable pub walk_of : List Insn → Input → Option CourseData
 walk_of code d = walk_for (length code) code d start

@@ -1,4 +1,4 @@
-//! Why a trace was not told.
+//! Why a run was not recorded.
 
 ghost use Rattle.std.specs.Prelude.{◌≡◌};
 ghost use Rattle.sf_run.specs.declared.fault.Fault.TheVariants.{Memory};
@@ -7,10 +7,10 @@ ghost use Rattle.sf_run.specs.Numbers.{fault_number};
 use std::alloc::{AllocError, AllocFailed};
 use thiserror::Error;
 
-/// The only refusal of this crate.
+/// Why a call was refused. There is only one reason.
 #[derive(Clone, Copy, Debug, PartialEq, Eq, Error)]
 pub enum Fault {
-    /// A growth was refused.
+    /// An allocation was refused.
     #[error("out of memory")]
     Memory,
 }

@@ -37,8 +37,8 @@ pub fn no_whole_route_begins_another()
         IsWholeRoute programs a → IsWholeRoute programs b → a ++ more ≡ b → a ≡ b }
 {}
 
-/// A replay along the trace of an input gives the values that the programs return on it, newest first, if these are words
-/// of 32 bits, as those of code are. Nothing is left.
+/// A replay along the trace of an input gives the values that the programs return on it, newest first, and no truth
+/// value is left. The law asks that these values are words of 32 bits; those of the code are.
 pub fn traces_replay_the_returns()
     ensures { (programs : List (List Insn)) (d : Input) → IsLawfulStack programs
         → All (λ v. v < 2 ^ 32) (returns_of programs d)

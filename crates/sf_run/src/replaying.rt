@@ -1,7 +1,8 @@
 //! The answers of the two parts of a stack, replayed along a route of the whole.
 //!
-//! Only control is followed, with neither A nor X nor scratch words: a constant is returned by its value, A by its 32 bits
-//! among the truth values, and 0 by a division by an X of 0.
+//! A replay only follows control: it has neither A nor X nor scratch words. The truth values say how each test and each
+//! division by X goes on. A returned constant is known, a returned A is the number whose 32 bits are the next truth
+//! values, and a division by an X of 0 returns 0.
 
 ghost use Rattle.std.specs.Prelude.{◌≡◌, ◌↔◌, ◌<◌, ◌++◌, option_map, IfSome, IsSome};
 ghost use Rattle.sf_insn.specs.declared.input.Input.{Input};
@@ -25,7 +26,8 @@ pub struct PartAnswers {
     pub newer: Answer,
 }
 
-/// The number whose 32 bits are the next truth values, the highest first, and the truth values that are left.
+/// The number whose 32 bits are the next truth values, the highest first, and the truth values that are left. `None`
+/// where there are fewer than 32.
 fn next_number(met: &[bool]) -> Option<(u32, &[bool])>
     ensures { option_map (λ r. (r.0, r.1.now)) result ≡ number_from 32 0 met.now }
 {
@@ -39,7 +41,8 @@ fn next_number(met: &[bool]) -> Option<(u32, &[bool])>
     Some((number, left))
 }
 
-/// Where control leads from the instruction at the place, and the truth values that are left.
+/// Where control leads from the instruction at the place, and the truth values that are left. `None` where there are
+/// too few.
 fn follow<'a>(place: usize, insn: &Insn, met: &'a [bool]) -> Option<(Next, &'a [bool])>
     requires small { place < 4096 }
     ensures { option_map (λ r. (r.0, r.1.now)) result ≡ lead_of place insn.now met.now }
@@ -80,7 +83,7 @@ fn follow<'a>(place: usize, insn: &Insn, met: &'a [bool]) -> Option<(Next, &'a [
     }
 }
 
-/// What the program returns, and the truth values that are left.
+/// What the program returns, and the truth values that are left. `None` where there are too few.
 fn replay_program<'a>(program: &Program, met: &'a [bool]) -> Option<(u32, &'a [bool])>
     ensures { option_map (λ r. (r.0, r.1.now)) result ≡ replay_of program.now met.now }
 {
@@ -88,7 +91,7 @@ fn replay_program<'a>(program: &Program, met: &'a [bool]) -> Option<(u32, &'a [b
     let mut place = 0;
     let mut left = met;
     'steps: loop {
-        // A lawful program isn't left.
+        // A lawful program doesn't lead outside, so this is never `None`.
         let insn = code.get(place)?;
         let (next, rest) = follow(place, insn, left)?;
         left = rest;
@@ -99,7 +102,7 @@ fn replay_program<'a>(program: &Program, met: &'a [bool]) -> Option<(u32, &'a [b
     }
 }
 
-/// What programs in order of installation answer, and the truth values that are left.
+/// The answer of programs in order of installation, and the truth values that are left. `None` where there are too few.
 fn replay_part<'a>(programs: &[Program], met: &'a [bool]) -> Option<(Answer, &'a [bool])>
     ensures { option_map (λ r. (r.0, r.1.now)) result ≡ answer_along programs.now met.now }
 {
@@ -116,14 +119,14 @@ fn replay_part<'a>(programs: &[Program], met: &'a [bool]) -> Option<(Answer, &'a
     Some((so_far, left))
 }
 
-/// The answers of the older programs of a stack and of its newer ones, each part taken as a stack of its own, along a
-/// whole route of the stack: an input that has this trace is answered so. Both parts stand in order of installation. `None`
-/// where the truth values are not a whole route. Takes no memory.
+/// The answers of the two parts of a stack, its older programs and its newer ones, along a whole route of the stack.
+/// Each part is taken as a stack of its own, with its programs in order of installation. An input that has this trace
+/// is answered so. `None` where the truth values are not a whole route. Takes no memory.
 pub fn replay(older: &[Program], newer: &[Program], route: &[bool]) -> Option<PartAnswers>
     // These are the answers of the definition.
     ensures same { result ≡ answers_along older.now newer.now route.now }
 
-    // Exactly the whole routes have them, and those along the trace of an input are the answers to it.
+    // There are answers exactly along the whole routes, and along the trace of an input they are the answers to it.
     ensures whole { IsWholeRoute (older.now ++ newer.now) route.now ↔ IsSome result }
     ensures right { (d : Input) → IsLawfulStack (older.now ++ newer.now)
         → trace_of (older.now ++ newer.now) d ≡ route.now

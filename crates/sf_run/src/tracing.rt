@@ -69,7 +69,7 @@ fn push_program(met: &mut Vec<bool>, program: &Program, input: &Input) -> Result
 
 /// The truth values that the stack meets on the input, newest program first: the result of each conditional test; at
 /// each division by X whether X is 0; at each return of A the 32 bits of A, the highest first. At most 32768 + 32 * 64
-/// of them. `Memory` where a growth is refused.
+/// of them. `Memory` where an allocation is refused.
 pub fn trace(alloc: Global, stack: &Stack, input: &Input) -> Result<Vec<bool>, Fault>
     ensures met { IfOk result (λ v. v.items ≡ trace_of stack.now input.now) }
 {

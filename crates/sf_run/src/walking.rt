@@ -15,7 +15,7 @@ use std::alloc::Global;
 /// What an instruction meets.
 #[derive(Clone, Copy, Debug)]
 pub enum Met {
-    /// A conditional test of A against a second word, and its result.
+    /// A conditional test: what it asks, A, the second word, and its result.
     Tested(Test, u32, u32, bool),
     /// A division by this X, at which it is met whether X is 0.
     Divided(u32),
@@ -23,10 +23,12 @@ pub enum Met {
     Returned(u32),
 }
 
-/// What is met at the instruction with this place, which counts from 0.
+/// What the instruction at a place meets.
 #[derive(Clone, Copy, Debug)]
 pub struct Meeting {
+    /// The place of the instruction, from 0.
     pub place: usize,
+    /// What it meets.
     pub met: Met,
 }
 
@@ -79,7 +81,7 @@ fn push_meeting(
 }
 
 /// The run of the program on the input: what it meets, with the words that it compares, and where it returns which
-/// value. `Memory` where a growth is refused.
+/// value. `Memory` where an allocation is refused.
 pub fn walk(alloc: Global, program: &Program, input: &Input) -> Result<Course, Fault>
     // It is the run of the definition.
     ensures told { IfOk result (λ w. walk_of program.now input.now

@@ -88,7 +88,7 @@ IsIndexed-push es heads e old last small =
       ]);
     }
 
--- no node is there
+-- an index of no nodes
 pub IsIndexed-empty : (heads : List ℕ) → length heads ≡ 251 → ((i : ℕ) → i < 251 → get_or heads i 0 ≡ 0)
     → IsIndexed [] heads
 IsIndexed-empty heads buckets zeros = record {

@@ -1,4 +1,4 @@
--- How a pool finds the nodes that it has: each is linked to the last older one of the same hash.
+-- How a pool finds the nodes that it has: each node is linked to the last older one of the same hash.
 use Rattle.std.specs.Prelude.{◌≡◌, ◌≢◌, ℕ, suc, ◌+◌, ◌*◌, ◌%◌, ◌<◌, ◌≤◌, List, length, map, slice_index, slice_index_or}
 use Rattle.sf_sym.specs.Pool.{node_at}
 use Rattle.sf_sym.specs.declared.index.Interned.{Interned}
@@ -12,7 +12,7 @@ hash_of (Word i) = i % 251
 hash_of (Bin op a b) = (a.0 % 251 * 31 + b.0 % 251 * 7) % 251
 hash_of (Neg a) = (a.0 % 251 + 5) % 251
 
--- the nodes alone
+-- the nodes, without their links
 abbrev pub nodes_of : List Interned → List Node
 nodes_of es = map (λ e. e.node) es
 
@@ -20,7 +20,7 @@ nodes_of es = map (λ e. e.node) es
 abbrev pub link_at : List Interned → ℕ → ℕ
 link_at es i = (slice_index_or es i (record { node = Const 0; link = 0 })).link
 
--- of the first n nodes, none from place c on has this hash, and the one before it has, if there is one
+-- Of the first n nodes the last one with this hash stands at place c - 1; where c is 0, none has it.
 pub record IsLastWithHash (ns : List Node) (n hash c : ℕ) : Type 0 where
   pub within : c ≤ n
   pub here : (i : ℕ) → c ≡ suc i → hash_of (node_at ns i) ≡ hash
@@ -31,7 +31,7 @@ abbrev pub AreLinked : List Interned → Type 0
 AreLinked es = (i : ℕ) → i < length es → IsLastWithHash (nodes_of es) i
     (hash_of (node_at (nodes_of es) i)) (link_at es i)
 
--- and the heads are the last nodes of each hash
+-- nodes are linked, and `heads` has the last node of each hash
 pub record IsIndexed (es : List Interned) (heads : List ℕ) : Type 0 where
   pub buckets : length heads ≡ 251
   pub linked : AreLinked es

@@ -12,6 +12,7 @@ use Rattle.sf_sym.specs.Pool.{OperandsBelow, AreOrdered, IsPool, node_value, val
 use Rattle.sf_sym.specs.declared.pool.Node.{Node}
 use Rattle.sf_sym.specs.declared.pool.Node.TheVariants.{Const, Word, Bin, Neg}
 
+-- what an operation gives of two words is a word
 pub apply-small : (op : BinOp) (a b : ℕ) → a < 2 ^ 32 → b < 2 ^ 32 → apply op a b < 2 ^ 32
 apply-small Add a b p q = omega arith
 apply-small Sub a b p q = omega arith
@@ -56,6 +57,7 @@ no-words : AreWords []
 unfolding AreWords
 no-words i = omega arith
 
+-- the value of a node is a word
 pub value-small : (ns : List Node) (d : Input) (i : ℕ) → IsPool ns → IsInput d → value_of ns d i < 2 ^ 32
 unfolding AreWords
 value-small ns d i p h = values-small d [] 0 ns h no-words p.ordered i

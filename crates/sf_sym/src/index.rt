@@ -1,4 +1,4 @@
-//! The nodes of a pool with an index, so that a node that is there is found without a scan.
+//! The nodes of a pool, with an index by which an equal node is found without going through all of them.
 
 ghost use Rattle.std.specs.Prelude.{◌≡◌, ◌≢◌, ℕ, ◌<◌, ◌*◌, ◌^◌, [], ◌∷◌, ◌++◌, length, OnOk, OnErr, IfOk, IsTrue, false};
 ghost use Rattle.std.specs.Arc.{arc_value};
@@ -11,12 +11,13 @@ use std::alloc::{AllocError, Global};
 use std::marker::Model;
 use std::sync::Arc;
 
-/// How many buckets there are.
+/// How many buckets the index has. A hash is the number of a bucket.
 const BUCKETS: usize = 251;
 
 /// A node, and where to look next for a node of its hash.
 #[derive(Clone, Copy)]
 pub struct Interned {
+    /// The node.
     pub node: Node,
     /// One more than the place of the newest older node of the same hash, or 0 where there is none.
     pub link: u32,
@@ -55,7 +56,7 @@ fn is_same(a: Node, b: Node) -> bool
     a == b
 }
 
-/// The place of a node that is there, looked for from the head of its bucket on.
+/// The place of a node that is equal to this one, if there is one: its bucket is gone through, the newest first.
 fn place_of(interned_nodes: &InternedNodes, heads: &[u32], node: Node) -> Option<usize>
     requires { IsIndexed interned_nodes.now heads.now }
     ensures found { (i : ℕ) → result ≡ Some i → (i < length (nodes_of interned_nodes.now))
@@ -74,7 +75,7 @@ fn place_of(interned_nodes: &InternedNodes, heads: &[u32], node: Node) -> Option
     None
 }
 
-/// Adds a node, and answers its place.
+/// Adds a node, and gives its place. `AllocError` where an allocation is refused; no node is added then.
 fn add(
     interned_nodes: &mut InternedNodes,
     heads: &mut Vec<u32>,
@@ -95,7 +96,8 @@ fn add(
     Ok(at)
 }
 
-/// Nodes, oldest first, and where the newest of each mark is. Pools share them until one gets another node.
+/// Nodes, oldest first, and where the newest one of each bucket is. Pools share them until one of them gets another
+/// node.
 #[derive(Drop)]
 pub struct Indexed {
     interned_nodes: InternedNodes,
@@ -117,7 +119,7 @@ impl Model for Indexed {
 }
 
 impl Indexed {
-    /// No nodes. `AllocError` where a growth is refused.
+    /// No nodes. `AllocError` where an allocation is refused.
     pub fn new(alloc: Global) -> Result<Indexed, AllocError>
         ensures { IfOk result (λ n. n ≡ []) }
     {
@@ -145,7 +147,7 @@ impl Indexed {
         self.interned_nodes.get(i).node
     }
 
-    /// The place of a node that is there.
+    /// The place of a node that is equal to this one, if there is one.
     pub fn find(&self, node: Node) -> Option<usize>
         ensures found { (i : ℕ) → result ≡ Some i → (i < length self.now)
             × (node_at self.now i ≡ node) }
@@ -155,7 +157,7 @@ impl Indexed {
         place_of(&self.interned_nodes, self.heads.as_slice(), node)
     }
 
-    /// Adds a node, and answers its place. `AllocError` where a growth is refused: nothing is added then.
+    /// Adds a node, and gives its place. `AllocError` where an allocation is refused; nothing is added then.
     pub fn add(&mut self, node: Node) -> Result<usize, AllocError>
         ensures place { IfOk result (λ at. at ≡ length self.old) }
         ensures ok { OnOk result (self.new ≡ self.old ++ node ∷ []) }
@@ -164,7 +166,7 @@ impl Indexed {
         add(&mut self.interned_nodes, &mut self.heads, node)
     }
 
-    /// A copy with one more node, and the place of that. `AllocError` where a growth is refused.
+    /// A copy with one more node, and the place of this node. `AllocError` where an allocation is refused.
     pub fn with(&self, node: Node) -> Result<(Arc<Indexed>, usize), AllocError>
         ensures { IfOk result (λ r. (arc_value r.0 ≡ self.now ++ node ∷ [])
             × (r.1 ≡ length self.now)) }
@@ -179,8 +181,8 @@ impl Indexed {
     }
 }
 
-/// Adds a node, and answers its place: to a copy where others share the nodes, which keep what they have. `AllocError`
-/// where a growth is refused: nothing is added then.
+/// Adds a node, and gives its place. Where other pools share the nodes, it is added to a copy, and theirs stay as they
+/// are. `AllocError` where an allocation is refused; nothing is added then.
 pub fn add_to(nodes: &mut Arc<Indexed>, node: Node) -> Result<usize, AllocError>
     ensures place { IfOk result (λ at. at ≡ length (arc_value nodes.old)) }
     ensures ok { OnOk result (arc_value nodes.new ≡ arc_value nodes.old ++ node ∷ []) }

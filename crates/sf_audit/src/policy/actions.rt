@@ -69,7 +69,7 @@ fn are_actions(items: &[Value]) -> bool
     !items.is_empty() && are_all_actions(items)
 }
 
-/// The set of the actions that texts name, empty where one of them names none.
+/// The set of the actions that texts name; empty where there is no text, or one of them names no action.
 #[tactic(auto, using(crate::proofs::ActionLemmas::is_named_view))]
 fn set_from(items: &[Value]) -> ActionSet
     ensures { result ≡ encoded_set (map (λ v. text_or_empty (view v)) items.now) }
@@ -90,7 +90,7 @@ fn set_from(items: &[Value]) -> ActionSet
     }
 }
 
-/// The same of an array, none where a value is no text.
+/// The set of the actions that an array of texts names, as `set_from` has it; none where a value is no text.
 #[tactic(auto, using(crate::proofs::TreeLemmas::texts_view, crate::proofs::TreeLemmas::no_texts_view))]
 fn set_in_items(items: &[Value]) -> Option<ActionSet>
     ensures { result ≡ option_map encoded_set (texts_of (items_view items.now)) }
@@ -102,7 +102,7 @@ fn set_in_items(items: &[Value]) -> Option<ActionSet>
     }
 }
 
-/// The same of a value, none where it is no array of texts.
+/// The set of the actions that a value names, as `set_from` has it; none where it is no array of texts.
 fn set_in(value: &Value) -> Option<ActionSet>
     ensures { result ≡ option_map encoded_set (texts_of_value (view value.now)) }
 {
@@ -112,7 +112,8 @@ fn set_in(value: &Value) -> Option<ActionSet>
     }
 }
 
-/// The set of the actions that a question names, without one where a name isn't that of an action.
+/// The set of the actions that a question names: ALLOW and LOG where it has no key `actions`. Empty where a name isn't
+/// that of an action; none where the value isn't an array of texts.
 pub(super) fn actions_in(table: &Table) -> Option<ActionSet>
     ensures { result ≡ option_map encoded_set
         (names_at (get_member (codes "actions") (table_view table.now))) }

@@ -12,7 +12,7 @@ use super::Version;
 use super::keys::{WORD_KEYS, has_mask_keys, number_in, number_in_or, value_at};
 use toml::{Table, Value};
 
-/// What a word's value says, as the numbers that stand in the file.
+/// What a policy says of a word, as the numbers that stand in the file.
 #[derive(Clone, Copy, Debug)]
 pub(crate) struct WordEntry {
     pub(crate) low: i64,
@@ -24,7 +24,7 @@ pub(crate) struct WordEntry {
 /// The greatest number of 32 bits.
 const MOST: i64 = 0xffff_ffff;
 
-/// A word that isn't named: it may have any number.
+/// What an absent word says: it may have any number.
 const ANY_NUMBER: WordEntry = WordEntry {
     low: 0,
     high: MOST,
@@ -69,7 +69,7 @@ fn table_entry(table: &Table) -> Option<WordEntry>
     })
 }
 
-/// The same in a policy of this version: in the first a table says nothing.
+/// What a table says in a policy of this version; none in the first version, which has no such tables.
 fn versioned_entry(version: Version, table: &Table) -> Option<WordEntry>
     ensures { result ≡ entry_of_versioned version (table_view table.now) }
 {
@@ -79,7 +79,7 @@ fn versioned_entry(version: Version, table: &Table) -> Option<WordEntry>
     }
 }
 
-/// What the value of a word says, none where it is of a wrong kind.
+/// What the value of a word says; none where it is of a wrong kind.
 fn value_entry(version: Version, value: &Value) -> Option<WordEntry>
     ensures { result ≡ entry_of version (view value.now) }
 {
@@ -91,7 +91,7 @@ fn value_entry(version: Version, value: &Value) -> Option<WordEntry>
     }
 }
 
-/// What a table says of the word with this key, none where its value is of a wrong kind.
+/// What a table says of the word with this key; none where its value is of a wrong kind.
 fn entry_in(version: Version, table: &Table, key: &str) -> Option<WordEntry>
     ensures { result ≡ entry_at version (get_member key.now (table_view table.now)) }
 {
@@ -101,7 +101,7 @@ fn entry_in(version: Version, table: &Table, key: &str) -> Option<WordEntry>
     }
 }
 
-/// The same of sixteen words, none where one of the values is of a wrong kind.
+/// What a table says of the words with these sixteen keys; none where one of the values is of a wrong kind.
 fn entries_at(version: Version, table: &Table, keys: &[&str; 16]) -> Option<[WordEntry; 16]>
     ensures { result ≡ each_of (λ key. entry_at version (get_member key (table_view table.now)))
         (map (λ key. key.now) keys.now) }
@@ -113,7 +113,8 @@ fn entries_at(version: Version, table: &Table, keys: &[&str; 16]) -> Option<[Wor
     Some(words)
 }
 
-/// What the table of a question says of the sixteen words.
+/// What the table of a question says of the sixteen words of `struct seccomp_data`; none where a value is of a wrong
+/// kind.
 pub(super) fn entries_in(version: Version, table: &Table) -> Option<[WordEntry; 16]>
     ensures { result ≡ each_of (λ key. entry_at version
         (get_member key (table_view table.now))) word_keys }
@@ -138,7 +139,7 @@ fn numbers_of(entry: WordEntry) -> Option<((u32, u32), (u32, u32))>
     ))
 }
 
-/// The ranges of the entries, and their masks, each with its value, or none where a number isn't of 32 bits.
+/// The ranges of the entries, and their masks, each with its value; none where a number isn't of 32 bits.
 pub(super) fn words_of(entries: &[WordEntry; 16]) -> Option<([(u32, u32); 16], [(u32, u32); 16])>
     ensures { result ≡ ranges_and_masks entries.now }
 {

@@ -12,7 +12,7 @@ use sf_book::{Counts, Region, Settled};
 use sf_insn::{Input, bytes_of_input};
 use std::alloc::{AllocError, Global};
 
-/// A region's name, a letter for each truth value, or a dash where there is none.
+/// A region's name: a letter for each truth value, or a dash where it has none.
 fn push_trace(text: &mut String, name: &[bool]) -> Result<(), AllocError>
     ensures { OnOk result (string_bytes text.new ≡ string_bytes text.old ++ name_text name.now) }
 {
@@ -50,7 +50,7 @@ fn push_regions(text: &mut String, settled: &Settled) -> Result<(), AllocError>
     Ok(())
 }
 
-/// The same where they are asked for, else nothing.
+/// The lines of all regions where they are asked for, else nothing.
 fn push_shown_regions(text: &mut String, shown: bool, settled: &Settled) -> Result<(), AllocError>
     ensures { OnOk result (string_bytes text.new ≡ string_bytes text.old
         ++ shown_lines shown settled.now.regions) }
@@ -61,7 +61,7 @@ fn push_shown_regions(text: &mut String, shown: bool, settled: &Settled) -> Resu
     Ok(())
 }
 
-/// The hexadecimal digits of an input's bytes. `AllocError` where a growth is refused.
+/// The hexadecimal digits of an input's bytes. `AllocError` where an allocation is refused.
 pub fn hex_of(alloc: Global, input: &Input) -> Result<String, AllocError>
     ensures { IfOk result (λ digits. string_bytes digits ≡ hex_text input.now) }
 {
@@ -123,7 +123,7 @@ fn push_size(
     )
 }
 
-/// The line of an exploration's counts. `AllocError` where a growth is refused.
+/// The line of an exploration's counts. `AllocError` where an allocation is refused.
 pub fn push_counts(text: &mut String, counts: Counts) -> Result<(), AllocError>
     ensures { OnOk result (string_bytes text.new ≡ string_bytes text.old ++ counts_line counts) }
 {
@@ -138,7 +138,7 @@ pub fn push_counts(text: &mut String, counts: Counts) -> Result<(), AllocError>
     )
 }
 
-/// The line that tells how much was audited, of a stack.
+/// The line that tells how much was audited, by the exploration of the stack.
 fn push_stack(text: &mut String, settled: &Settled, questions: usize) -> Result<(), AllocError>
     ensures { OnOk result (string_bytes text.new ≡ string_bytes text.old
         ++ size_line (length settled.now.stack) (path_length settled.now.stack) questions) }
@@ -173,7 +173,7 @@ fn push_total(
     )
 }
 
-/// The same line, for these replies.
+/// The line that tells how many of these replies are of which kind.
 fn push_totals(text: &mut String, replies: &[Reply]) -> Result<(), AllocError>
     ensures { OnOk result (string_bytes text.new ≡ string_bytes text.old
         ++ totals_line replies.now) }
@@ -186,7 +186,7 @@ fn push_totals(text: &mut String, replies: &[Reply]) -> Result<(), AllocError>
     )
 }
 
-/// The whole text.
+/// The whole text of a report.
 pub(super) fn report_of(
     alloc: Global,
     outcome: &Outcome,

@@ -9,7 +9,8 @@ use crossbeam_deque::{Pass, Stealer, Worker};
 use sf_book::Lease;
 use std::alloc::Global;
 
-/// The handle of a bench by which items are put. It takes them too. Items are leases, or what says more of them.
+/// The owner of a bench: the handle that puts items, and takes them too. An item is a lease, or a lease of which more
+/// is known.
 #[derive(Drop)]
 pub struct Owner<T = Lease> {
     pub(crate) worker: Worker<T, Global, HandleView<T>, InOrder>,
@@ -17,7 +18,7 @@ pub struct Owner<T = Lease> {
     ghost port: { worker_port worker ≡ 0 },
 }
 
-/// A handle of a bench for another thread, which gets items alone.
+/// A thief of a bench: a handle for another thread, which only gets items.
 #[derive(Drop)]
 pub struct Thief<T = Lease> {
     pub(crate) stealer: Stealer<T, Global, HandleView<T>, InOrder>,

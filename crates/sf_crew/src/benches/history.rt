@@ -1,4 +1,4 @@
-//! What the handles of a bench know of it, for proofs alone.
+//! What the handles of a bench know of it, for proofs only.
 use crossbeam_deque::protocol::{Outcome, Protocol, Split};
 use sf_book::Lease;
 use std::collections::LinkedList;
@@ -11,18 +11,18 @@ pub enum Event<T = Lease> {
     Got(usize),
 }
 
-/// What a handle knows: its number, how many handles there are (the owner alone), and the history up to its last step. No
-/// value of it is made.
+/// What a handle knows: its number, how many handles there are (only the owner knows that), and the history up to its
+/// last step. For proofs only: no value of it is made.
 pub struct HandleView<T = Lease> {
     /// The handle's number; the owner has 0.
     pub me: usize,
-    /// How many handles the owner has made, itself with them; 0 for a thief.
+    /// How many handles the owner has made, itself included; 0 for a thief.
     pub made: usize,
     /// The history up to the handle's last step, oldest first.
     pub events: LinkedList<Event<T>>,
 }
 
-/// The rule of a bench: it holds what was put and not yet got, in the order of putting.
+/// The rule of a bench: it holds the items that were put and not yet got, in the order of putting.
 pub(crate) struct InOrder;
 
 impl<T> Protocol<T, HandleView<T>> for InOrder {
@@ -37,6 +37,7 @@ impl<T> Protocol<T, HandleView<T>> for InOrder {
     ghost guest = { handle_view 0 1 [] };
 }
 
+/// The step of the owner that puts an item.
 pub(crate) struct Putting;
 
 impl<T> Outcome<T, HandleView<T>> for Putting {
@@ -45,6 +46,7 @@ impl<T> Outcome<T, HandleView<T>> for Putting {
     ghost then = { PutsAll };
 }
 
+/// The step of a handle that gets an item, or finds none.
 pub(crate) struct Getting;
 
 impl<T> Outcome<T, HandleView<T>> for Getting {
@@ -56,6 +58,7 @@ impl<T> Outcome<T, HandleView<T>> for Getting {
     ghost empty = { AllGot };
 }
 
+/// The step of the owner that makes a thief.
 pub(crate) struct AddingThief;
 
 impl<T> Split<HandleView<T>> for AddingThief {

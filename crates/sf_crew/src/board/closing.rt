@@ -10,7 +10,7 @@ use crate::board::{Board, Seat, Tally};
 use atomic_table::Closed;
 use std::alloc::Global;
 
-/// The least places that the words tell.
+/// The least place of each question, as the words of a closed board have it; none where it has none.
 fn least_places(
     closed: &Closed<u8, Global>,
     regions: usize,
@@ -31,8 +31,8 @@ fn least_places(
 }
 
 impl Board {
-    /// What the words say at the end. The caller's condition: a seat of this board. What the tally tells of all regions
-    /// it tells where all seats were joined into this one.
+    /// What the words say at the end. Where all seats were joined into this one, it is said of all regions. The
+    /// caller's condition: the seat is of this board.
     pub fn close(self, seat: Seat) -> Tally
         requires { IsSeatOf self seat }
         ensures { RightTally (about self) (seat_view seat) result }

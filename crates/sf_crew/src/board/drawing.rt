@@ -9,7 +9,7 @@ use crate::board::steps::{Draw, Glance, LEAST, Look, Merge, NEXT};
 use crate::board::{Board, Seat};
 
 impl Seat {
-    /// The job that the seat has drawn and not entered a sheet for.
+    /// The job that the seat has drawn and not yet entered a sheet for.
     pub fn owes(&self) -> Option<usize>
         ensures { result ≡ (seat_view self.now).owes }
     {
@@ -19,7 +19,7 @@ impl Seat {
 
 impl Board {
     /// Draws the next job: the place of a region. `None` where all are drawn; the seat then draws no more. The caller's
-    /// conditions: a seat of this board that owes no sheet.
+    /// conditions: the seat is of this board and owes no sheet.
     pub fn draw(&self, seat: &mut Seat) -> Option<usize>
         requires seat { IsSeatOf self.now seat.old }
         requires free { (seat_view seat.old).owes ≡ None }
@@ -47,8 +47,8 @@ impl Board {
         }
     }
 
-    /// The least place of a region with a hit for the question so far, or `None`. The caller's conditions: a seat of this
-    /// board, and a question that there is.
+    /// The least place so far of a region with a hit for the question, or `None`. The caller's conditions: the seat is
+    /// of this board, and there is such a question.
     pub fn look(&self, seat: &mut Seat, q: usize) -> Option<usize>
         requires seat { IsSeatOf self.now seat.old }
         requires there { q < length (questions_of (about self.now)) }
@@ -69,8 +69,8 @@ impl Board {
         }
     }
 
-    /// One seat with all that both have drawn, entered and seen. The caller's conditions: seats of this board that owe no
-    /// sheet.
+    /// One seat with all that both have drawn, entered and seen. The caller's conditions: both are seats of this board
+    /// that owe no sheet.
     pub fn join(&self, first: Seat, second: Seat) -> Seat
         requires seats { IsSeatOf self.now first × IsSeatOf self.now second }
         requires free { ((seat_view first).owes ≡ None) × ((seat_view second).owes ≡ None) }

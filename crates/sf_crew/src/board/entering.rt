@@ -11,7 +11,8 @@ use crate::board::{Board, Seat};
 use sf_ask::Sheet;
 
 impl Board {
-    /// One step for each hit: the least place of its question becomes the job where that is lower.
+    /// Enters the hits of a sheet, one step for each: the least place of its question becomes the job where that is
+    /// lower.
     fn enter_hits(&self, seat: &mut atomic_table::Seat<u8, View>, sheet: &Sheet)
         requires table { seat.old.table_id ≡ board_id self.now }
         requires matter { (sheet.now.settled ≡ regions_of (about self.now))
@@ -33,7 +34,7 @@ impl Board {
         }
     }
 
-    /// One step for each doubt: it sets the bit of its question.
+    /// Enters the doubts of a sheet, one step for each: it sets the bit of its question.
     fn enter_doubts(&self, seat: &mut atomic_table::Seat<u8, View>, sheet: &Sheet)
         requires table { seat.old.table_id ≡ board_id self.now }
         requires questions { sheet.now.questions ≡ questions_of (about self.now) }
@@ -57,9 +58,9 @@ impl Board {
         }
     }
 
-    /// Enters the sheet that the seat owes. The caller's conditions: a seat of this board, and a sheet of the board's
-    /// regions and questions, for the job that the seat owes, that skips only questions for which the seat has seen a
-    /// place below the job.
+    /// Enters the sheet that the seat owes. The caller's conditions: the seat is of this board; the sheet is about the
+    /// board's regions and questions and for the job that the seat owes; and it skips only questions for which the seat
+    /// has seen a place below the job.
     pub fn enter(&self, seat: &mut Seat, sheet: Sheet)
         requires seat { IsSeatOf self.now seat.old }
         requires sheet { IsSheetFor (about self.now) (seat_view seat.old) sheet }

@@ -14,7 +14,7 @@ use sf_book::Settled;
 use std::alloc::Global;
 use std::snapshot::Snapshot;
 
-/// A snapshot of each question; they take no bytes.
+/// For the prover: a snapshot of each question, by which contracts see what a board is about. Snapshots take no bytes.
 fn snapshots(alloc: Global, questions: &[Question]) -> Result<Vec<Snapshot<Question>>, Fault>
     ensures ok { IfOk result (λ v. map (λ q. q.value) v.items ≡ questions.now) }
     ensures err { IfErr result (λ f. f ≡ Memory) }
@@ -26,7 +26,7 @@ fn snapshots(alloc: Global, questions: &[Question]) -> Result<Vec<Snapshot<Quest
     Ok(all)
 }
 
-/// No job drawn, no sheet entered, no doubt, and no least place.
+/// The words of a new board: no job drawn, no sheet entered, no doubt, and no least place.
 fn first_words(alloc: Global, regions: usize, questions: usize) -> Result<Vec<u64>, Fault>
     ensures ok { IfOk result (λ v. v.items ≡ (0 ∷ 0 ∷ 0 ∷ 0 ∷ 0 ∷ 0 ∷ [])
         ++ replicate questions regions) }
@@ -43,8 +43,8 @@ fn first_words(alloc: Global, regions: usize, questions: usize) -> Result<Vec<u6
 }
 
 impl Board {
-    /// A board about these regions and at most 256 questions, with so many seats, 1 to 65. No job is drawn and no sheet
-    /// entered. `Memory` where a growth is refused.
+    /// A board about these regions and at most 256 questions, with this many seats, 1 to 65. No job is drawn and no
+    /// sheet entered. `Memory` where an allocation is refused.
     pub fn new(
         alloc: Global,
         settled: &Settled,
@@ -77,7 +77,7 @@ impl Board {
         Ok((board, dealt))
     }
 
-    /// Splits the first seat into so many.
+    /// Splits the first seat into this many seats.
     fn deal(
         &self,
         alloc: Global,

@@ -1,4 +1,4 @@
-//! The atomic steps of a board, each of which keeps its rule and tells its seat something.
+//! The atomic steps of a board. Each keeps the board's rule, and tells its seat something of the board.
 use crate::board::view::{BoardKey, View};
 use atomic_table::{Join, Play, Split, TableRule};
 
@@ -10,9 +10,10 @@ pub(crate) const ENTERED: usize = 1;
 pub(crate) const DOUBTS: usize = 2;
 /// The word of the first question's least place.
 pub(crate) const LEAST: usize = 6;
-/// The questions that one word of doubts has bits for.
+/// How many questions one word of doubts has bits for.
 pub(crate) const BITS: usize = 64;
 
+/// The rule of a board, and what its first seat knows.
 pub(crate) struct WholeBoard;
 
 impl TableRule<u8, View, BoardKey> for WholeBoard {
@@ -24,6 +25,7 @@ impl TableRule<u8, View, BoardKey> for WholeBoard {
     ghost first = { first_view };
 }
 
+/// The step of a seat that draws the next job, or finds that all are drawn.
 pub(crate) struct Draw;
 
 impl Play<u8, View> for Draw {
@@ -33,6 +35,7 @@ impl Play<u8, View> for Draw {
     ghost then = { λ st m n w. Draws m.0 n w.0 × (w.1 ≡ m.1) };
 }
 
+/// The step of a seat that reads the least place of a question.
 pub(crate) struct Look;
 
 impl Play<u8, View> for Look {
@@ -42,6 +45,7 @@ impl Play<u8, View> for Look {
     ghost then = { λ st m n w. Looks m.0 (st.word - 6) n w.0 × (w.1 ≡ m.1) };
 }
 
+/// The step of a seat that enters a hit: the least place of the question becomes the job where that is lower.
 pub(crate) struct Hits;
 
 impl Play<u8, View> for Hits {
@@ -52,6 +56,7 @@ impl Play<u8, View> for Hits {
         × (w.1 ≡ m.1) };
 }
 
+/// The step of a seat that marks a question as one in doubt.
 pub(crate) struct Mark;
 
 impl Play<u8, View> for Mark {
@@ -62,6 +67,7 @@ impl Play<u8, View> for Mark {
         → st.first ≡ 1 * 2 ^ (q % 64) % 2 ^ 64 → w.0 ≡ view_with_mark m.0 q) × (w.1 ≡ m.1) };
 }
 
+/// The step of a seat that counts its sheet as entered.
 pub(crate) struct Enter;
 
 impl Play<u8, View> for Enter {
@@ -72,6 +78,8 @@ impl Play<u8, View> for Enter {
         → w.0 ≡ view_with_sheet m.0 j) × (w.1 ≡ m.1) };
 }
 
+/// For the prover: the step of a seat that changes nothing, and by which the board's rule tells what the seat knows of
+/// its jobs.
 pub(crate) struct Glance;
 
 impl Play<u8, View> for Glance {
@@ -81,6 +89,7 @@ impl Play<u8, View> for Glance {
     ghost then = { λ st m n w. (w ≡ m) × Knows m.0 };
 }
 
+/// A seat is split: the new one has done nothing.
 pub(crate) struct Deal;
 
 impl Split<View> for Deal {
@@ -91,6 +100,7 @@ impl Split<View> for Deal {
     ghost right = { shared_view };
 }
 
+/// Two seats become one, which has all that both have drawn, entered and seen.
 pub(crate) struct Merge;
 
 impl Join<View> for Merge {

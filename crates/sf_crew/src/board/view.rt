@@ -1,4 +1,4 @@
-//! What a seat of a board knows, for proofs alone.
+//! What a seat of a board knows, for proofs only.
 use sf_ask::Question;
 use sf_book::Settled;
 use std::collections::LinkedList;
@@ -31,7 +31,7 @@ pub struct Note {
     pub place: usize,
 }
 
-/// What a seat knows. No value of it is made.
+/// What a seat knows. For proofs only: no value of it is made.
 pub struct View {
     /// What its board is about.
     pub about: Option<BoardKey>,

@@ -15,7 +15,8 @@ use std::alloc::Global;
 use std::sync::Wait;
 use std::thread::Threads;
 
-/// The reply where no region is known to break the question.
+/// The reply where no region is known to break the question: unsettled where a region is in doubt or a piece is
+/// outstanding, and else never. `_question` is there for the contract only.
 fn unbroken(settled: &Settled, _question: &Question, doubt: bool) -> Reply
     requires unbroken { (r : ℕ) → r < length settled.now.regions
         → IsUnbroken settled.now _question.now doubt r }
@@ -34,7 +35,7 @@ fn unbroken(settled: &Settled, _question: &Question, doubt: bool) -> Reply
     }
 }
 
-/// The reply by the regions alone, one after another.
+/// The reply by judging the regions one after another, without a tally.
 fn reply_in_turn(alloc: Global, settled: &Settled, question: &Question) -> Result<Reply, Fault>
     ensures ok { IfOk result (IsReplyTo settled.now question.now) }
     ensures err { IfErr result (λ f. f ≡ Memory) }
@@ -50,8 +51,8 @@ fn reply_in_turn(alloc: Global, settled: &Settled, question: &Question) -> Resul
     Ok(unbroken(settled, question, doubt))
 }
 
-/// The reply to one question. Its least place is judged again, for the example. Should that give none, the regions are
-/// judged in turn.
+/// The reply to one question. The region at its least place is judged again, for the example. If that gave no example,
+/// the regions would be judged in turn.
 fn reply_of(
     alloc: Global,
     settled: &Settled,
@@ -75,9 +76,9 @@ fn reply_of(
     reply_in_turn(alloc, settled, question)
 }
 
-/// A reply to each question, by so many workers, which judge the regions by a board. The gate sees each sheet between
-/// its making and its entering. The caller's conditions: 1 to 64 workers, and at most 256 questions. `Memory` where a
-/// growth is refused.
+/// A reply to each question, by this many workers, which judge the regions by a board. The gate sees each sheet between
+/// its making and its entering. The caller's conditions: 1 to 64 workers, and at most 256 questions. `Memory` where an
+/// allocation is refused.
 pub fn sweep<R: Threads + Wait + Sync, G: Gate>(
     rt: &R,
     alloc: Global,

@@ -35,7 +35,7 @@ fn next_lease(book: &mut Book, left: Option<Lease>) -> Result<Option<Lease>, Fau
     Ok(book.lease()?)
 }
 
-/// The false child of a work that split its piece.
+/// The false child of a work that split its piece; none of another work.
 fn false_child(work: &Work) -> Result<Option<Arc<Piece>>, Fault>
     ensures ok { IfOk result (λ c. option_map (λ p. arc_value p) c
         ≡ option_map (λ c. c.0) (children_of work.now.step)) }
@@ -102,7 +102,8 @@ pub(crate) fn work_off<G: Gate>(
     Ok(())
 }
 
-/// The end of an exploration: closes a book of this stack and budget that was worked off.
+/// The end of an exploration: closes a book of this stack and budget that was worked off. `_budget` is there for the
+/// contract only.
 pub(crate) fn finished(book: Book, stack: &Arc<Stack>, _budget: u32) -> Settled
     requires end { IsExhausted book }
     requires stack { book.stack ≡ arc_value stack.now }
@@ -119,7 +120,7 @@ pub(crate) fn finished(book: Book, stack: &Arc<Stack>, _budget: u32) -> Settled
     settled
 }
 
-/// Explores a stack by the calling thread alone, as worker 0.
+/// Explores a stack by the calling thread only, as worker 0.
 pub(crate) fn explore_alone<G: Gate>(
     alloc: Global,
     stack: Arc<Stack>,

@@ -60,8 +60,8 @@ impl Made {
     }
 }
 
-/// The book that workers share, of the exploration that its type names: whenever its lock is got, it is of that stack and
-/// budget. What it gives on lease comes into a worker's hand.
+/// The book that workers share. Its type names the exploration: whenever the lock is got, the book is of that stack and
+/// budget. What the book leases out comes into a worker's hand.
 #[derive(Drop)]
 pub(crate) struct SharedBook<N: Naming> {
     book: Book,
@@ -107,7 +107,7 @@ impl<N: Naming> SharedBook<N> {
         counts.left == 0 || counts.commits == self.book.budget()
     }
 
-    /// A lease of the first piece that is on none.
+    /// A lease of the first piece that isn't on lease; none where all are.
     pub(crate) fn lease(&mut self) -> Result<Option<Held<N>>, Fault>
         ensures ok { IfOk result (λ found. MatchOption found ((self.new ≡ self.old)
             × All (λ e. e.leased ≡ true) self.old.outstanding)

@@ -1,8 +1,8 @@
-//! Names of explorations, by which a type says of which stack and budget a book is, and of which stack a lease.
+//! Names of explorations. By such a name a type says of which stack and budget a book is, and of which stack a lease.
 use sf_book::Lease;
 use std::marker::{Brand, Model, PhantomData};
 
-/// Which exploration it is, for proofs alone. `explore` picks it for its workers.
+/// The stack and the budget of an exploration, for proofs only. `explore` picks it for its workers.
 pub(crate) trait Naming: Send + Sync {
     ghost use Rattle.std.specs.Prelude.{ℕ, List};
     ghost use Rattle.sf_check.specs.declared.insn.Insn.{Insn};
@@ -42,7 +42,7 @@ impl<N: Naming> NamedLease<N> {
     ghost use Rattle.std.specs.Prelude.{◌≡◌};
     ghost use Rattle.std.specs.Arc.{arc_value};
 
-    /// A lease of which it is known.
+    /// The lease, of which it is known that its piece is of the stack that is named.
     pub(crate) fn of(lease: Lease) -> NamedLease<N>
         requires { (arc_value lease.piece).stack ≡ N.stack }
         ensures { result ≡ lease }
@@ -53,7 +53,7 @@ impl<N: Naming> NamedLease<N> {
         }
     }
 
-    /// What is on lease.
+    /// The lease itself.
     pub(crate) fn lease(&self) -> &Lease
         ensures same { result.now ≡ self.now }
         ensures named { (arc_value self.now.piece).stack ≡ N.stack }

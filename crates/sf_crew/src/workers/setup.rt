@@ -45,7 +45,7 @@ fn hand_out_all<N: Naming>(
     Ok(())
 }
 
-/// Gives each worker a thief on the bench that is so many steps after its own.
+/// Gives each worker a thief on the bench that is this many steps after its own.
 fn hand_out<N: Naming>(
     workers: &mut [NewWorker<N>],
     thieves: &mut [Vec<Thief<NamedLease<N>>>],

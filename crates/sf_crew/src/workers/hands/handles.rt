@@ -15,7 +15,7 @@ pub(crate) struct NewBench<N: Naming> {
     ghost unused: { length (owner_view owner).events ≡ 0 },
 }
 
-/// A worker's own bench. It can't be dropped: it is closed, when all that was put on it was got.
+/// A worker's own bench. It can't be dropped: it is closed when all that was put on it was got.
 pub(crate) struct Bench<N: Naming> {
     owner: Owner<NamedLease<N>>,
 }
@@ -82,7 +82,7 @@ impl<N: Naming> Bench<N> {
 impl<N: Naming> Thieves<N> {
     ghost use Rattle.sf_crew.specs.Workers.{thief_views, Steals};
 
-    /// No thief so far.
+    /// A list without thieves.
     pub(crate) fn new(alloc: Global) -> Thieves<N> {
         Thieves {
             thieves: Vec::new(alloc),
@@ -95,7 +95,7 @@ impl<N: Naming> Thieves<N> {
         Ok(())
     }
 
-    /// Tries each bench once: the first lease that is got.
+    /// Tries each bench once, in order, and answers the first lease that it gets.
     pub(crate) fn steal(&mut self) -> Option<Held<N>>
         ensures { Steals (thief_views self.old.thieves.items) result
             (thief_views self.new.thieves.items) }

@@ -4,7 +4,7 @@ use Rattle.sf_dom.specs.Nodes.{IsLaidOut}
 use Rattle.sf_dom.specs.Propagation.{KeepsAgreeing, AllNarrower, IsReady, IsPropagatedAt}
 use Rattle.sf_dom.proofs.propagation.propagate.Given as goal
 
--- a node that stands before every variable to come was gone over
+-- all nodes that stand before every later variable have been gone through
 abbrev pub invariant-loop-rank : goal.invariant-loop-rank
 invariant-loop-rank l = record {
   keeps : KeepsAgreeing l.fn.nodes.known l.nodes.known l.excluded l.pool;
