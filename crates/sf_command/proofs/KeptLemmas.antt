@@ -1,7 +1,7 @@
 -- Files of which only the first ones are kept: what holds of these holds of all.
 use Rattle.std.proofs.Common.{◌≡◌, ◌⊎◌, inl, inr, ℕ, ◌<◌, ◌≤◌, suc, List, [], ◌∷◌, ◌++◌, length, length-append, take, Option, Bor, Ok, refl, sym, ap, ap₂, subst, arith, ◌∙◌, ◌+◌, min}
 use Rattle.std.proofs.lemmas.List.{length-take, take-append-le, take_all}
-use Rattle.std.specs.Prelude.{Bool}
+use Rattle.std.specs.Prelude.{Bool, Some, is_ok, slice_get}
 use Rattle.hex.specs.Hex.{decode_sized}
 use Rattle.sf_insn.specs.declared.input.Input.{Input}
 use Rattle.sf_insn.specs.Inputs.{input_bytes}
@@ -12,8 +12,9 @@ use Rattle.sf_ask.specs.QuestionData.{QuestionData}
 use Rattle.sf_audit.specs.Audits.{IsAuditRefusal}
 use Rattle.sf_audit.specs.Filters.{SpellPrograms, SpellStack, IsFirstRefusal}
 use Rattle.sf_command.specs.Comparisons.{AreBothKept, AreBothRead}
-use Rattle.sf_command.specs.Files.{AreKept, AreRead}
+use Rattle.sf_command.specs.Files.{AreKept, AreKnownBytes, AreRead}
 use Rattle.sf_command.specs.Outputs.{ChecksFiles, EvaluatesFiles, RefusesEval, RefusesFiles, WritesAnswer, WritesCheck}
+use Rattle.sf_command.proofs.Pairing.{PairedSoFar, paired_all, paired_more}
 
 -- there is a program for each file
 spelled_same : (files : List (List ℕ)) (programs : List (List Insn)) → SpellPrograms files programs
@@ -55,6 +56,62 @@ pub kept_no_more : (kept files : List (List ℕ)) (file : List ℕ) → kept ≡
 kept_no_more kept files file first many =
     first ∙ sym (take-append-le 65 files (file ∷ []) (many_of_many kept files first many))
 
+-- The files at the first of the paths were read, and the first of them kept, by what was known before: nothing else is
+-- known after.
+pub record KeptSoFar (before after : List ℕ → Option (List ℕ)) (paths : List (Bor (List ℕ))) (place : ℕ)
+    (kept : List (List ℕ)) : Type 0 where
+  pub all : List (List ℕ)
+  pub paired : PairedSoFar (λ path file. AreKnownBytes (before path.now) file) paths all place
+  pub first : kept ≡ take 65 all
+  pub same : (p : List ℕ) → after p ≡ before p
+
+-- none was read
+pub none_kept : (before : List ℕ → Option (List ℕ)) (paths : List (Bor (List ℕ))) → KeptSoFar before before paths 0 []
+none_kept before paths = record {
+  all = [];
+  paired = record { count = refl; each = λ n path below h. absurd (omega (arith, below)) };
+  first = refl;
+  same = λ p. refl;
+}
+
+module _ (before after next : List ℕ → Option (List ℕ)) (paths : List (Bor (List ℕ))) (place : ℕ)
+    (kept : List (List ℕ)) (path : Bor (List ℕ)) (file : List ℕ) (so_far : KeptSoFar before after paths place kept)
+    (here : slice_get paths place ≡ Some path) (agrees : AreKnownBytes (after path.now) file)
+    (same : (p : List ℕ) → next p ≡ after p) where
+  -- one more was read, and is the last of them
+  one_paired : PairedSoFar (λ path file. AreKnownBytes (before path.now) file) paths (so_far.all ++ file ∷ []) (place + 1)
+  one_paired = paired_more _ _ _ _ _ _ _ so_far.paired here
+      (subst (λ known. AreKnownBytes known file) (so_far.same path.now) agrees) refl
+
+  -- it was kept too
+  pub one_kept : (more : List (List ℕ)) → more ≡ kept ++ file ∷ [] → length kept ≤ 64
+      → KeptSoFar before next paths (place + 1) more
+  one_kept more pushed few = record {
+    all = so_far.all ++ file ∷ [];
+    paired = one_paired;
+    first = pushed ∙ kept_more kept so_far.all file so_far.first few;
+    same = λ p. same p ∙ so_far.same p;
+  }
+
+  -- or there were enough
+  pub none_more_kept : 64 < length kept → KeptSoFar before next paths (place + 1) kept
+  none_more_kept many = record {
+    all = so_far.all ++ file ∷ [];
+    paired = one_paired;
+    first = kept_no_more kept so_far.all file so_far.first many;
+    same = λ p. same p ∙ so_far.same p;
+  }
+
+-- all were read
+pub all_kept : (before after : List ℕ → Option (List ℕ)) (paths : List (Bor (List ℕ))) (place : ℕ)
+    (kept : List (List ℕ)) → KeptSoFar before after paths place kept → length paths ≤ place → place ≤ length paths
+    → AreKept before paths kept
+all_kept before after paths place kept so_far over under = record {
+  files = so_far.all;
+  read = paired_all _ _ _ _ _ (λ path file h. h) so_far.paired over under;
+  first = so_far.first;
+}
+
 -- files that are all there are if they are few, and else too many, are refused as all are
 pub refusal_of_all : (kept files : List (List ℕ)) (e : Fault) → (length kept ≤ 64 → kept ≡ files)
     → (64 < length kept → 64 < length files) → IsFirstRefusal kept e → IsFirstRefusal files e
@@ -84,8 +141,8 @@ module _ (holds : List ℕ → Option (List ℕ)) (paths : List (Bor (List ℕ))
   pub kept_answers : (digits : List ℕ) (input : Input) (traced brief : Bool) (old new : Option (List ℕ))
       → decode_sized digits 64 ≡ Ok (input_bytes input) → WritesAnswer kept input traced brief old new
       → EvaluatesFiles digits traced brief holds paths old new
-  kept_answers digits input traced brief old new spelled (programs, answer, spell, written) =
-      (input, kept, spelled, kept_stack programs spell, (programs, answer, spell, written))
+  kept_answers digits input traced brief old new spelled (programs, answer, spell, answers, written) =
+      (input, kept, spelled, kept_stack programs spell, (programs, answer, spell, answers, written))
 
   pub kept_why : (e : Fault) → (e ≡ faults.Memory) ⊎ IsFirstRefusal kept e → RefusesFiles holds paths e
   kept_why e (inl memory) = inr (inl memory)
@@ -101,8 +158,9 @@ module _ (holds : List ℕ → Option (List ℕ)) (paths : List (Bor (List ℕ))
       → decode_sized digits 64 ≡ Ok (input_bytes input) → (e ≡ faults.Write)
       ⊎ (((e ≡ faults.Memory) ⊎ IsFirstRefusal kept e) × Same)
       → RefusesEval digits holds paths e
-  kept_refuses_eval digits input e spelled (inl write) = inr (rw spelled tt, inl write)
-  kept_refuses_eval digits input e spelled (inr (why, same)) = inr (rw spelled tt, inr (kept_why e why))
+  kept_refuses_eval digits input e spelled (inl write) = inr (ap (λ r. is_ok r) spelled, inl write)
+  kept_refuses_eval digits input e spelled (inr (why, same)) =
+      inr (ap (λ r. is_ok r) spelled, inr (kept_why e why))
 
   -- where an audit of the kept files is refused, that of all is refused
   pub kept_audit_refusal : (questions : List QuestionData) (e : Fault) → IsAuditRefusal kept questions e
@@ -115,11 +173,10 @@ module _ (holds : List ℕ → Option (List ℕ)) (paths : List (Bor (List ℕ))
   }
   kept_audit_refusal questions e refused = kept_refusal e refused
 
--- a choice of three with a weaker third statement
-pub third_weaker : {P Q R S : Type 0} → (R → S) → P ⊎ Q ⊎ R → P ⊎ Q ⊎ S
-third_weaker f (inl p) = inl p
-third_weaker f (inr (inl q)) = inr (inl q)
-third_weaker f (inr (inr r)) = inr (inr (f r))
+-- the second of two, weaker
+pub second_weaker : {P Q R : Type 0} → (Q → R) → P ⊎ Q → P ⊎ R
+second_weaker f (inl p) = inl p
+second_weaker f (inr q) = inr (f q)
 
 module _ (holds : List ℕ → Option (List ℕ)) (old new : List (Bor (List ℕ))) (kept : List (List ℕ)) (older : ℕ)
     (both : AreBothKept holds old new kept older) where
@@ -146,7 +203,7 @@ module _ (holds : List ℕ → Option (List ℕ)) (old new : List (Bor (List ℕ
       }
 
   -- all that were read of both
-  pub both_files : List (List ℕ)
+  abbrev pub both_files : List (List ℕ)
   both_files = both.read_old.files ++ both.read_new.files
 
   pub both_read : AreBothRead holds old new both_files (length both.read_old.files)

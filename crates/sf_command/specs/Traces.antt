@@ -74,18 +74,18 @@ word_after word _ = word
 
 -- how many instructions a run skips after one, whose test has this result if it is one
 abbrev pub skipped_after : Insn → Bool → ℕ
-skipped_after (Jump k) passed = k
-skipped_after (Branch test other on_true on_false) passed = if passed then on_true else on_false
-skipped_after _ passed = 0
+skipped_after (Jump k) truth = k
+skipped_after (Branch test other on_true on_false) truth = if truth then on_true else on_false
+skipped_after _ truth = 0
 
 -- a test that is true
-abbrev pub has_passed : Met → Bool
-has_passed (Tested test a other passed) = passed
-has_passed _ = false
+abbrev pub is_true_test : Met → Bool
+is_true_test (Tested test a other passed) = passed
+is_true_test _ = false
 
 -- the test at a place is true
-abbrev pub passed_at : ℕ → List Meeting → Bool
-passed_at place met = list_any (λ m. (m.place == place) && has_passed m.met) met
+abbrev pub is_true_at : ℕ → List Meeting → Bool
+is_true_at place met = list_any (λ m. (m.place == place) && is_true_test m.met) met
 
 -- For each instruction from a place on the word that A is when a run comes to it that meets this, after so many
 -- instructions that are skipped, to which it doesn't come.
@@ -93,7 +93,7 @@ abbrev pub words_at : (place skips : ℕ) → Option ℕ → List Insn → List 
 words_at place skips word [] met = []
 words_at place (suc skips) word (i ∷ code) met = word ∷ words_at (place + 1) skips word code met
 words_at place zero word (i ∷ code) met =
-    word ∷ words_at (place + 1) (skipped_after i (passed_at place met)) (word_after word i) code met
+    word ∷ words_at (place + 1) (skipped_after i (is_true_at place met)) (word_after word i) code met
 
 -- ---- a filter
 

@@ -1,7 +1,7 @@
 //! Which word of the input A holds, where the run of a program comes to an instruction.
 ghost use Rattle.std.specs.Prelude.{◌≡◌, ◌++◌, ◌==◌, ◌&&◌, IfOk, OnOk, None, string_bytes};
 ghost use Rattle.std.specs.List.{list_any};
-ghost use Rattle.sf_command.specs.Traces.{has_passed, named_text, passed_at, skipped_after, word_after, words_at};
+ghost use Rattle.sf_command.specs.Traces.{is_true_test, named_text, is_true_at, skipped_after, word_after, words_at};
 
 use sf_audit::WORD_KEYS;
 use sf_check::Insn;
@@ -35,13 +35,13 @@ fn word_after(word: Option<u8>, insn: &Insn) -> Option<u8>
 }
 
 /// How many instructions a run skips after one, whose test has this result if it is one.
-fn skipped_after(insn: &Insn, passed: bool) -> usize
-    ensures { result ≡ skipped_after insn.now passed }
+fn skipped_after(insn: &Insn, truth: bool) -> usize
+    ensures { result ≡ skipped_after insn.now truth }
 {
     match insn {
         Insn::Jump(count) => *count as usize,
         Insn::Branch(_, _, on_true, on_false) => {
-            if passed {
+            if truth {
                 usize::from(*on_true)
             } else {
                 usize::from(*on_false)
@@ -52,8 +52,8 @@ fn skipped_after(insn: &Insn, passed: bool) -> usize
 }
 
 /// Whether it is a test that is true.
-fn has_passed(met: Met) -> bool
-    ensures { result ≡ has_passed met }
+fn is_true_test(met: Met) -> bool
+    ensures { result ≡ is_true_test met }
 {
     match met {
         Met::Tested(_, _, _, passed) => passed,
@@ -62,10 +62,11 @@ fn has_passed(met: Met) -> bool
 }
 
 /// Whether the test at a place is true.
-fn passed_at(place: usize, met: &[Meeting]) -> bool
-    ensures { result ≡ passed_at place met.now }
+fn is_true_at(place: usize, met: &[Meeting]) -> bool
+    ensures { result ≡ is_true_at place met.now }
 {
-    met.iter().any(|meeting| meeting.place == place && has_passed(meeting.met))
+    met.iter()
+        .any(|meeting| meeting.place == place && is_true_test(meeting.met))
 }
 
 /// For each instruction of a program the word of the input that A holds when a run comes to it, from what the run met.
@@ -86,7 +87,7 @@ pub fn words_at(
         if 0 < skips {
             skips -= 1;
         } else {
-            skips = skipped_after(insn, passed_at(place, met));
+            skips = skipped_after(insn, is_true_at(place, met));
             word = word_after(word, insn);
         }
     }

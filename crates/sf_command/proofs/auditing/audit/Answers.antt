@@ -1,5 +1,5 @@
 use Rattle.std.proofs.Common.{map, rules}
-use Rattle.sf_command.proofs.KeptLemmas.{kept_audit_refusal, kept_stack, third_weaker}
+use Rattle.sf_command.proofs.KeptLemmas.{kept_audit_refusal, kept_stack, second_weaker}
 use Rattle.sf_command.proofs.ReadLemmas.{kept_same}
 use Rattle.sf_command.proofs.RefusalLemmas.{audit_why, filters_why, handed_on, policy_why}
 use Rattle.sf_command.proofs.auditing.audit.Goals as goal
@@ -33,7 +33,7 @@ pub returns-in_err-outcome-clause-refused : goal.returns-in_err-outcome-clause-r
 returns-in_err-outcome-clause-refused g c =
     let kept = kept_same _ _ _ _ c.in_ok-questions.ensures.same c.in_ok-filters.ensures.read in
     let why = audit_why _ _ _ _ _ _ c.in_ok-questions.ensures.asked kept.read
-    (third_weaker (kept_audit_refusal _ _ _ kept _ _)
+    (second_weaker (kept_audit_refusal _ _ _ kept _ _)
     (rw c.deref.ensures.value at c.in_err-outcome.ensures.refused)) in
     handed_on _ c.from_residual-in_err-outcome.result c.in_err-outcome.field-0.0
     c.from_residual-in_err-outcome.ensures.1 why

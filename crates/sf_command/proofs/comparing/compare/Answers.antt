@@ -1,5 +1,5 @@
 use Rattle.std.proofs.Common.{map}
-use Rattle.sf_command.proofs.KeptLemmas.{both_read, both_refusal, both_stack, third_weaker}
+use Rattle.sf_command.proofs.KeptLemmas.{both_read, both_refusal, both_stack, second_weaker}
 use Rattle.sf_command.proofs.RefusalLemmas.{comparison_why, handed_on, unread_why}
 use Rattle.sf_command.proofs.comparing.compare.Goals as goal
 
@@ -25,5 +25,5 @@ returns-in_err-comparison-clause-refused g c =
     handed_on _ c.from_residual-in_err-comparison.result c.in_err-comparison.field-0.0
     c.from_residual-in_err-comparison.ensures.1
     (comparison_why _ _ _ _ _ _ (both_read _ _ _ _ _ c.in_ok-filters.ensures.read)
-    (third_weaker (both_refusal _ _ _ _ _ c.in_ok-filters.ensures.read _)
+    (second_weaker (both_refusal _ _ _ _ _ c.in_ok-filters.ensures.read _)
     (rw c.deref.ensures.value at c.in_err-comparison.ensures.refused)))

@@ -1,9 +1,7 @@
-use Rattle.std.proofs.Common.{◌++◌, ◌∷◌, List, [], ℕ, ◌∙◌, Bor, refl, subst}
+use Rattle.std.proofs.Common.{List, [], ℕ, Bor}
 use Rattle.std.proofs.lemmas.Option.{slice_get-get_or}
-use Rattle.std.proofs.lemmas.List.{map-append}
-use Rattle.sf_command.specs.Files.{AreKnownBytes}
-use Rattle.sf_command.proofs.KeptLemmas.{kept_more, kept_no_more}
-use Rattle.sf_command.proofs.Pairing.{paired_more, paired_all}
+use Rattle.std.proofs.lemmas.List.{length-map, map-append}
+use Rattle.sf_command.proofs.KeptLemmas.{all_kept, none_kept, none_more_kept, one_kept}
 use Rattle.sf_command.proofs.RefusalLemmas.{handed_on, read_why}
 use Rattle.sf_command.proofs.files.read_all.Goals as goal
 
@@ -22,11 +20,5 @@ pub returns-clause-same : goal.returns-clause-same
 returns-clause-same g c = c.loop-path.invariant.same
 
 pub returns-clause-read : goal.returns-clause-read
-returns-clause-read g c =
-    let so_far = c.loop-path.invariant in
-    record {
-      files = so_far.all;
-      read = paired_all _ _ _ _ _ (λ path file h. h) so_far.paired c.loop-path-test.false
-          c.loop-path.auto.path-index-end;
-      first = so_far.kept;
-    }
+returns-clause-read g c = all_kept _ _ _ _ _ c.loop-path.invariant c.loop-path-test.false
+    c.loop-path.auto.path-index-end
