@@ -56,8 +56,8 @@ pub kept_no_more : (kept files : List (List ℕ)) (file : List ℕ) → kept ≡
 kept_no_more kept files file first many =
     first ∙ sym (take-append-le 65 files (file ∷ []) (many_of_many kept files first many))
 
--- The files at the first of the paths were read, and the first of them kept, by what was known before: nothing else is
--- known after.
+-- The files at the first of the paths were read, and the first of these were kept. What is known of files stays what it
+-- was before.
 pub record KeptSoFar (before after : List ℕ → Option (List ℕ)) (paths : List (Bor (List ℕ))) (place : ℕ)
     (kept : List (List ℕ)) : Type 0 where
   pub all : List (List ℕ)
@@ -65,7 +65,7 @@ pub record KeptSoFar (before after : List ℕ → Option (List ℕ)) (paths : Li
   pub first : kept ≡ take 65 all
   pub same : (p : List ℕ) → after p ≡ before p
 
--- none was read
+-- before any file is read
 pub none_kept : (before : List ℕ → Option (List ℕ)) (paths : List (Bor (List ℕ))) → KeptSoFar before before paths 0 []
 none_kept before paths = record {
   all = [];
@@ -78,12 +78,12 @@ module _ (before after next : List ℕ → Option (List ℕ)) (paths : List (Bor
     (kept : List (List ℕ)) (path : Bor (List ℕ)) (file : List ℕ) (so_far : KeptSoFar before after paths place kept)
     (here : slice_get paths place ≡ Some path) (agrees : AreKnownBytes (after path.now) file)
     (same : (p : List ℕ) → next p ≡ after p) where
-  -- one more was read, and is the last of them
+  -- with one file more, all that were read belong to the first paths
   one_paired : PairedSoFar (λ path file. AreKnownBytes (before path.now) file) paths (so_far.all ++ file ∷ []) (place + 1)
   one_paired = paired_more _ _ _ _ _ _ _ so_far.paired here
       (subst (λ known. AreKnownBytes known file) (so_far.same path.now) agrees) refl
 
-  -- it was kept too
+  -- where the one more is kept too
   pub one_kept : (more : List (List ℕ)) → more ≡ kept ++ file ∷ [] → length kept ≤ 64
       → KeptSoFar before next paths (place + 1) more
   one_kept more pushed few = record {
@@ -93,7 +93,7 @@ module _ (before after next : List ℕ → Option (List ℕ)) (paths : List (Bor
     same = λ p. same p ∙ so_far.same p;
   }
 
-  -- or there were enough
+  -- where it isn't kept, since there were enough
   pub none_more_kept : 64 < length kept → KeptSoFar before next paths (place + 1) kept
   none_more_kept many = record {
     all = so_far.all ++ file ∷ [];
@@ -102,7 +102,7 @@ module _ (before after next : List ℕ → Option (List ℕ)) (paths : List (Bor
     same = λ p. same p ∙ so_far.same p;
   }
 
--- all were read
+-- once all files are read, the kept ones are those of the paths
 pub all_kept : (before after : List ℕ → Option (List ℕ)) (paths : List (Bor (List ℕ))) (place : ℕ)
     (kept : List (List ℕ)) → KeptSoFar before after paths place kept → length paths ≤ place → place ≤ length paths
     → AreKept before paths kept
@@ -112,7 +112,8 @@ all_kept before after paths place kept so_far over under = record {
   first = so_far.first;
 }
 
--- files that are all there are if they are few, and else too many, are refused as all are
+-- What refuses the kept files refuses all files: the kept ones are all files if they are at most 64, and else there are
+-- more than 64.
 pub refusal_of_all : (kept files : List (List ℕ)) (e : Fault) → (length kept ≤ 64 → kept ≡ files)
     → (64 < length kept → 64 < length files) → IsFirstRefusal kept e → IsFirstRefusal files e
 refusal_of_all kept files faults.TooMany same more many = more many
@@ -173,7 +174,7 @@ module _ (holds : List ℕ → Option (List ℕ)) (paths : List (Bor (List ℕ))
   }
   kept_audit_refusal questions e refused = kept_refusal e refused
 
--- the second of two, weaker
+-- a choice of two with a weaker second statement
 pub second_weaker : {P Q R : Type 0} → (Q → R) → P ⊎ Q → P ⊎ R
 second_weaker f (inl p) = inl p
 second_weaker f (inr q) = inr (f q)
@@ -202,7 +203,7 @@ module _ (holds : List ℕ → Option (List ℕ)) (old new : List (Bor (List ℕ
         parted = both.parted;
       }
 
-  -- all that were read of both
+  -- all files that were read of both stacks
   abbrev pub both_files : List (List ℕ)
   both_files = both.read_old.files ++ both.read_new.files
 

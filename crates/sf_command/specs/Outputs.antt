@@ -21,7 +21,7 @@ WritesCheck files old new =
     (programs : List (List Insn)) × SpellStack files programs × Appends old new (check_text programs)
 
 -- The files spell a lawful stack, and the line of what it answers to the input is added to what was written, where that
--- is known; with a trace under it, if one is asked for.
+-- is known; and under it the lines that show where the answer comes from, if they are asked for.
 abbrev pub WritesAnswer : List (List ℕ) → Input → (traced brief : Bool) → Option (List ℕ) → Option (List ℕ) → Type 0
 WritesAnswer files input traced brief old new =
     (programs : List (List Insn)) × (answer : Answer) × SpellStack files programs

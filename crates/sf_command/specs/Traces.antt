@@ -72,23 +72,23 @@ word_after word Negate = None
 word_after word Txa = None
 word_after word _ = word
 
--- how many instructions a run skips after one, whose test has this result if it is one
+-- how many instructions a run skips after this one; if this one is a test, the truth value is its result
 abbrev pub skipped_after : Insn → Bool → ℕ
 skipped_after (Jump k) truth = k
 skipped_after (Branch test other on_true on_false) truth = if truth then on_true else on_false
 skipped_after _ truth = 0
 
--- a test that is true
+-- what was met is a test that is true
 abbrev pub is_true_test : Met → Bool
 is_true_test (Tested test a other passed) = passed
 is_true_test _ = false
 
--- the test at a place is true
+-- what a run met has a test at this place that is true
 abbrev pub is_true_at : ℕ → List Meeting → Bool
 is_true_at place met = list_any (λ m. (m.place == place) && is_true_test m.met) met
 
--- For each instruction from a place on the word that A is when a run comes to it that meets this, after so many
--- instructions that are skipped, to which it doesn't come.
+-- For each instruction from a place on, the word of the input that A holds when the run comes to it, from what the run
+-- meets. The first `skips` of them are skipped: the run doesn't come to these.
 abbrev pub words_at : (place skips : ℕ) → Option ℕ → List Insn → List Meeting → List (Option ℕ)
 words_at place skips word [] met = []
 words_at place (suc skips) word (i ∷ code) met = word ∷ words_at (place + 1) skips word code met
@@ -104,7 +104,7 @@ sign_text Greater = codes ">"
 sign_text GreaterOrEqual = codes ">="
 sign_text AnyBit = codes "&"
 
--- a truth value as a trace shows it
+-- the text of a truth value
 abbrev pub truth_text : Bool → List ℕ
 truth_text true = codes "true"
 truth_text false = codes "false"
@@ -142,7 +142,7 @@ is_false (Tested test a other passed) = not passed
 is_false (Divided x) = not (x == 0)
 is_false (Returned a) = false
 
--- the line of what a filter meets; a brief trace has none where that is false
+-- the line of what a filter meets; in brief nothing where that is false
 abbrev pub shown_line : Bool → ℕ → Option ℕ → Meeting → List ℕ
 shown_line brief number word m = if brief && is_false m.met then [] else meeting_line number word m
 
@@ -203,7 +203,7 @@ abbrev pub trace_text : Bool → List (List Insn) → Input → Answer → List 
 trace_text brief programs d answer =
     input_text d ++ filters_text brief (length programs) (action_number answer.action) programs d false
 
--- the line of the answer, and under it a trace, if one is asked for, in full or in brief
+-- the line of the answer; under it where the answer comes from, if that is asked for, in full or in brief
 abbrev pub eval_text : (traced brief : Bool) → List (List Insn) → Input → Answer → List ℕ
 eval_text false false programs d answer = answer_text answer
 eval_text traced brief programs d answer = answer_text answer ++ trace_text brief programs d answer

@@ -55,8 +55,8 @@ fn check_filters<O: Write>(alloc: Global, filters: &[Vec<u8>], out: &mut O) -> R
     print(&text, out)
 }
 
-/// The text of the stack's answer to the input. Where `traced` or `brief` asks for it, a trace stands under the answer,
-/// which shows where it comes from; in brief without what is false.
+/// The text of the stack's answer to the input. Where `traced` or `brief` asks for it, lines under the answer show
+/// where it comes from; in brief without what is false.
 fn eval_text(
     alloc: Global,
     stack: &Stack,
@@ -77,8 +77,8 @@ fn eval_text(
     Ok(text)
 }
 
-/// Writes what the stack of the filters answers to the input, and under it a trace where `traced` or `brief` asks for
-/// one.
+/// Writes what the stack of the filters answers to the input. Where `traced` or `brief` asks for it, lines under the
+/// answer show where it comes from.
 fn evaluate_filters<O: Write>(
     alloc: Global,
     input: &Input,
@@ -121,8 +121,8 @@ pub fn check<F: Files, O: Write>(
 }
 
 /// Reads the input from its hexadecimal digits and then the filter files, which are named in order of installation, and
-/// writes what the stack of the filters answers to the input. Where `traced` or `brief` asks for it, a trace follows,
-/// which shows where the answer comes from; in brief without what is false.
+/// writes what the stack of the filters answers to the input. Where `traced` or `brief` asks for it, lines under the
+/// answer show where it comes from; in brief without what is false.
 ///
 /// `Input` where the digits spell no input: no file is read then. The other refusals are those of `check`.
 pub fn evaluate<F: Files, O: Write>(

@@ -219,19 +219,14 @@ fn reply<R: Threads + Wait + Sync, F: Files, O: Write, E: Write>(
 
 /// Does what the words after the program's name ask for, and gives the exit status:
 ///
-/// 0: done. After an audit it says too that the reply to each question is never, and after a comparison that this is
-/// the reply to the relation that is asked for.
-///
-/// 1: some question, or the relation that is asked for, is allowed.
-///
-/// 2: none is allowed, and some is unsettled.
-///
-/// 3: the filters, the policy or the input are refused. Standard output is left as it was.
-///
-/// 4: the command line is refused. No file was read, standard output is left as it was, and standard error has the text
-/// of `clap`.
-///
-/// 5: reading, writing or memory failed. Standard output is left as it was, unless writing failed.
+/// - 0: done; after an audit each question is never, and after a comparison the relation that is asked
+///   for is never.
+/// - 1: some question of an audit, or the relation that is asked for, is allowed.
+/// - 2: none is allowed, and some is unsettled.
+/// - 3: the filters, the policy or the input are refused. Standard output is left as it was.
+/// - 4: the command line is refused. No file was read, standard output is left as it was, and standard error has the
+///   text of `clap`.
+/// - 5: reading, writing or memory failed. Standard output is left as it was, unless writing failed.
 ///
 /// At 3 and 5 one line on standard error names the fault: `error`, its number, its name and its place. With
 /// `--explain-errors` lines for a person follow.

@@ -34,7 +34,7 @@ fn word_after(word: Option<u8>, insn: &Insn) -> Option<u8>
     }
 }
 
-/// How many instructions a run skips after one, whose test has this result if it is one.
+/// How many instructions a run skips after this one. If this one is a test, `truth` is its result.
 fn skipped_after(insn: &Insn, truth: bool) -> usize
     ensures { result ≡ skipped_after insn.now truth }
 {
@@ -51,7 +51,7 @@ fn skipped_after(insn: &Insn, truth: bool) -> usize
     }
 }
 
-/// Whether it is a test that is true.
+/// Whether what was met is a test that is true.
 fn is_true_test(met: Met) -> bool
     ensures { result ≡ is_true_test met }
 {
@@ -61,12 +61,11 @@ fn is_true_test(met: Met) -> bool
     }
 }
 
-/// Whether the test at a place is true.
+/// Whether what a run met has a test at this place that is true.
 fn is_true_at(place: usize, met: &[Meeting]) -> bool
     ensures { result ≡ is_true_at place met.now }
 {
-    met.iter()
-        .any(|meeting| meeting.place == place && is_true_test(meeting.met))
+    met.iter().any(|meeting| meeting.place == place && is_true_test(meeting.met))
 }
 
 /// For each instruction of a program the word of the input that A holds when a run comes to it, from what the run met.

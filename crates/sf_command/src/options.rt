@@ -54,14 +54,14 @@ pub fn regions_of(found: &ArgMatches<'_>) -> bool
     is_on(found, "regions")
 }
 
-/// Whether an evaluation shows a trace, that is, where its answer comes from.
+/// Whether an evaluation shows where its answer comes from.
 pub fn traced_of(found: &ArgMatches<'_>) -> bool
     ensures { IsSwitch (one_of (codes "trace") (rows_of (found_of found.now))) result }
 {
     is_on(found, "trace")
 }
 
-/// Whether an evaluation shows a trace in brief, that is, without what is false.
+/// Whether an evaluation shows where its answer comes from, without what is false.
 pub fn brief_of(found: &ArgMatches<'_>) -> bool
     ensures { IsSwitch (one_of (codes "trace-true") (rows_of (found_of found.now))) result }
 {

@@ -81,7 +81,7 @@ fn sign_of(test: Test) -> &'static str
     }
 }
 
-/// A truth value as a trace shows it.
+/// The text of a truth value.
 fn truth_of(truth: bool) -> &'static str
     ensures { result.now ≡ truth_text truth }
 {
@@ -152,7 +152,7 @@ fn is_false(met: Met) -> bool
     }
 }
 
-/// Adds the line of what a filter met; nothing where that is false and the trace is brief.
+/// Adds the line of what a filter met; in brief nothing where that is false.
 fn push_shown(
     text: &mut String,
     brief: bool,
@@ -188,7 +188,7 @@ fn push_meetings(
     Ok(())
 }
 
-/// The word that a trace shows behind the filter whose answer stands.
+/// The word behind a filter whose answer stands; no text where it does not.
 fn mark_of(stands: bool) -> &'static str
     ensures { result.now ≡ stands_text stands }
 {
