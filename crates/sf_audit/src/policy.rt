@@ -98,7 +98,8 @@ fn questions_of_value(
     }
 }
 
-/// The questions of a policy's tree. `Version` and `TopKey` are tried first, then what its questions are refused for.
+/// The questions of a policy's tree. `Version`; then `TopKey` where a key at the top is unknown; then `Count` where the
+/// questions are missing, or what `questions_of_value` refuses.
 fn policy_of_table(alloc: Global, table: &Table) -> Result<Vec<Question>, Fault>
     ensures { Gives (λ v. v.items) result (policy_of (table_view table.now)) }
 {

@@ -12,7 +12,7 @@ use super::Version;
 use super::keys::{WORD_KEYS, has_mask_keys, number_in, number_in_or, value_at};
 use toml::{Table, Value};
 
-/// What a policy says of a word, as numbers that may lie outside 32 bits.
+/// What a policy says of a word, in the numbers of the file, which may lie outside 32 bits.
 #[derive(Clone, Copy, Debug)]
 pub(crate) struct WordEntry {
     /// The least number that the word may be.
@@ -21,7 +21,7 @@ pub(crate) struct WordEntry {
     pub(crate) high: i64,
     /// The bits of the word that are asked about.
     pub(crate) mask: i64,
-    /// What these bits are.
+    /// What these bits have to be.
     pub(crate) value: i64,
 }
 
