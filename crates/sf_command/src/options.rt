@@ -29,8 +29,7 @@ fn asked_workers(found: &ArgMatches<'_>) -> u8
     found.get_one::<u8>("workers").unwrap_or(4)
 }
 
-/// The number of workers, 1 to 64. The form of the command line lets no other number through, so none is replaced by 4
-/// here.
+/// The number of workers, 1 to 64. Another number would become 4, but the form of the command line lets none through.
 pub fn workers_of(found: &ArgMatches<'_>) -> u8
     ensures number { IsOptionNumber (one_of (codes "workers")
         (rows_of (found_of found.now))) 64 4 result }

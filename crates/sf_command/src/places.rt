@@ -5,8 +5,8 @@ use std::alloc::Global;
 use toml_parser::text::{first, skip, skip_blank, skip_ws};
 use toml_parser::{Key, dotted_key, quoted, starts_string, unquoted};
 
-/// What is looked for in a policy, and how far its tokens were read: looked for is a key of a question, a key at the
-/// top, or a question itself.
+/// How far the tokens of a policy were read, and what is looked for: a key of a question, a key at the top, or a
+/// question itself.
 #[derive(Drop)]
 struct Reading<'a> {
     /// The number, from 1, of the question that is looked for, or whose key is; none where a key at the top is looked
