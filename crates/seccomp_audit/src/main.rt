@@ -14,9 +14,10 @@ use std::{env, io, mem};
 /// The most bytes of the system's reason that are kept.
 const REASON: usize = 256;
 
-/// The files of the system, and why the last one that was refused could not be read.
+/// The files of the system, read through `rt`.
 struct Disk<'a, R> {
     rt: &'a R,
+    /// Why the last file that was refused could not be read, in the system's words; empty before one is.
     reason: InlineText<REASON>,
 }
 
