@@ -30,6 +30,7 @@ pub struct Limited {
 }
 
 impl Limited {
+    /// What a call answers once `limit` bytes are held.
     fn no_more(&mut self) -> io::Result<usize>
         ensures { IfOk result (λ taken. taken ≡ 0) }
     {

@@ -3,9 +3,9 @@
 //! A script comes on standard input, one command a line. `file NAME PIECE ..` makes a file from hexadecimal digits, and
 //! `text NAME LINE | LINE ..` one from lines; of files with one name the newest counts. `run WORD ..` runs a command
 //! line, and `count WORD ..` runs one and shows how many bytes it writes. `limit WORD ..` runs one over writers that
-//! take only a number of bytes: 0, 1, and so on, until one takes all. `interrupt WORD ..` runs one over a writer that a
-//! signal interrupts. For these two the writer takes one byte a call; with five and seven bytes a call the result has
-//! to be the same. A line that begins with `#` is a comment.
+//! take no byte, one byte, two, and so on, until one takes all. `interrupt WORD ..` runs one over a writer that a signal
+//! interrupts. For these two the writer takes one byte a call; with five and seven bytes a call the result has to be
+//! the same. A line that begins with `#` is a comment.
 #![tactic(auto)]
 
 mod limited;

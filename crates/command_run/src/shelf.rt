@@ -22,6 +22,7 @@ impl Shelf {
         }
     }
 
+    /// Adds a file.
     fn put(&mut self, name: &str, bytes: Vec<u8>) -> Result<(), AllocError> {
         let name = String::from_str(self.alloc, name)?;
         self.files.push((name, bytes))?;
