@@ -10,16 +10,19 @@ const TURNS: usize = 100_000_000;
 /// A place where two workers meet: which of them have come.
 #[derive(Drop)]
 struct Place {
+    /// For each worker, not 0 once it has come.
     come: [AtomicUsize; 2],
 }
 
 impl Place {
+    /// A place to which no worker has come yet.
     fn new() -> Place {
         Place {
             come: [AtomicUsize::new(0), AtomicUsize::new(0)],
         }
     }
 
+    /// Whether this worker has come.
     fn has_come(&self, worker: usize) -> bool {
         match self.come.get(worker) {
             Some(come) => come.load(Ordering::SeqCst) != 0,
