@@ -19,16 +19,16 @@ pub struct Page {
     len: usize,
 }
 
-/// A page on which nothing is written.
 impl Page {
+    /// A page on which nothing is written.
     pub fn new() -> Page {
         Page {
             held: [0; 8192],
             len: 0,
         }
     }
-    /// The bytes that were written.
 
+    /// The bytes that were written.
     pub fn bytes(&self) -> &[u8] {
         self.held.get(..self.len).unwrap_or(&[])
     }
@@ -116,8 +116,8 @@ fn push_fault(text: &mut String, fault: Option<Fault>) -> Result<(), Refused> {
     }
 }
 
-/// The texts of refusals that no command line can bring about: of no filter and of no question; and the text of a fault
-/// that no audit here shows.
+/// The texts of refusals that no command line can bring about: of no filter and of no question; and the text of refused
+/// memory, which no audit shows here.
 pub fn refusals<R: Threads + Wait + Sync + AllocGlobal>(rt: &R) -> Result<String, Refused> {
     let alloc = rt.alloc();
     let mut text = String::new(alloc);

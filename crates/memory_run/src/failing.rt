@@ -197,7 +197,7 @@ fn starve_each<R: Threads + Wait + Sync + AllocGlobal>(
 }
 
 /// A gate that holds two workers. The one that works the root goes on with one half of the tree, and is starved at its
-/// fifth call there. The other one has the other half, and is held at its first call until the starved one has ended.
+/// fifth call. The other one has the other half, and is held at its first call until the starved one has ended.
 #[derive(Drop)]
 struct Halving {
     alloc: Global,
