@@ -79,7 +79,8 @@ module _ (before after next : List ℕ → Option (List ℕ)) (paths : List (Bor
     (here : slice_get paths place ≡ Some path) (agrees : AreKnownBytes (after path.now) file)
     (same : (p : List ℕ) → next p ≡ after p) where
   -- with one file more, all that were read belong to the first paths
-  one_paired : PairedSoFar (λ path file. AreKnownBytes (before path.now) file) paths (so_far.all ++ file ∷ []) (place + 1)
+  one_paired : PairedSoFar (λ path file. AreKnownBytes (before path.now) file) paths
+      (so_far.all ++ file ∷ []) (place + 1)
   one_paired = paired_more _ _ _ _ _ _ _ so_far.paired here
       (subst (λ known. AreKnownBytes known file) (so_far.same path.now) agrees) refl
 
