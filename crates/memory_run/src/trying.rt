@@ -24,8 +24,8 @@ pub fn are_same(left: &Pool, right: &Pool) -> bool {
     true
 }
 
-/// Pushes a number. `before` has the same nodes as the pool; where an allocation is refused, they have to stay the
-/// same.
+/// Pushes a number to the pool. Where an allocation is refused, the pool has to keep the nodes that it had, which are
+/// those of `before`.
 fn push(tally: &mut Tally, pool: &mut Pool, before: &Pool, number: u32) -> Result<NodeId, Refused> {
     match pool.push(Node::Const(number)) {
         Ok(id) => Ok(id),
@@ -59,8 +59,8 @@ pub fn grow_pools(tally: &mut Tally, piece: &Piece) -> Result<(), Refused> {
     Ok(())
 }
 
-/// Learns a condition. False where no input meets it: the facts have to be as they were then. So they have to be where
-/// an allocation is refused.
+/// Learns a condition. False where no input meets it. Then, and where an allocation is refused, the facts have to be as
+/// they were.
 fn learn(
     alloc: Global,
     tally: &mut Tally,
@@ -110,8 +110,8 @@ fn confine_once(
     }
 }
 
-/// Takes in a limit. False where no input keeps to it: the facts have to be as they were then. So they have to be where
-/// an allocation is refused.
+/// Takes in a limit. False where no input keeps to it. Then, and where an allocation is refused, the facts have to be
+/// as they were.
 fn confine(
     alloc: Global,
     tally: &mut Tally,

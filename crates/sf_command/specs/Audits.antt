@@ -46,15 +46,15 @@ pub record AuditsFiles (holds : List ℕ → Option (List ℕ)) (policy : List �
   pub written : Appends old new (report_text found regions)
   pub told : status ≡ replies_status found.replies
 
--- Why an audit by these questions is refused: a filter file can't be read, which only a file can be whose bytes aren't
--- known; or all were read, and the audit of what they hold is refused.
+-- Why an audit by these questions is refused: a filter file whose bytes aren't known can't be read; or all were read,
+-- and the audit of what they hold is refused.
 abbrev pub RefusesAsked : (List ℕ → Option (List ℕ)) → List (Bor (List ℕ)) → List QuestionData → Fault → Type 0
 RefusesAsked holds paths questions fault =
     ((fault ≡ Read) × HasUnknown holds paths)
     ⊎ ((files : List (List ℕ)) × AreRead holds paths files × IsAuditRefusal files questions fault)
 
--- Why an audit is refused: writing or memory failed; the policy file can't be read, where its bytes aren't known; it
--- was read and is no policy; or it is one, and the audit by its questions is refused.
+-- Why an audit is refused: writing or memory failed; the policy file, whose bytes aren't known, can't be read; it was
+-- read and is no policy; or it is one, and the audit by its questions is refused.
 abbrev pub RefusesAudit : (List ℕ → Option (List ℕ)) → List ℕ → List (Bor (List ℕ)) → Fault → Type 0
 RefusesAudit holds policy paths fault =
     (fault ≡ Write) ⊎ (fault ≡ Memory)

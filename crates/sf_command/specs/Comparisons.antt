@@ -20,8 +20,7 @@ module _ (holds : List ℕ → Option (List ℕ)) (old_paths new_paths : List (B
     pub whole : files ≡ olds ++ news
     pub parted : older ≡ length olds
 
-  -- the kept files are those that are kept of the old paths, `older` of them, and then those that are kept of the new
-  -- paths
+  -- the kept files are those of the old paths, `older` of them, and then those of the new paths
   pub record AreBothKept (kept : List (List ℕ)) (older : ℕ) : Type 0 where
     pub olds : List (List ℕ)
     pub news : List (List ℕ)
@@ -41,8 +40,8 @@ module _ (holds : List ℕ → Option (List ℕ)) (old_paths new_paths : List (B
     pub written : Appends old new (comparison_text found)
     pub told : status ≡ change_status (change_of found asked)
 
-  -- Why a comparison is refused: a file can't be read, which only a file can be whose bytes aren't known; writing or
-  -- memory failed; or the files of both stacks together make no lawful stack.
+  -- Why a comparison is refused: a file whose bytes aren't known can't be read; writing or memory failed; or the files
+  -- of both stacks together make no lawful stack.
   abbrev pub RefusesComparison : Fault → Type 0
   RefusesComparison fault =
       ((fault ≡ Read) × (HasUnknown holds old_paths ⊎ HasUnknown holds new_paths))

@@ -21,7 +21,7 @@ WritesCheck files old new =
     (programs : List (List Insn)) × SpellStack files programs × Appends old new (check_text programs)
 
 -- The files spell a lawful stack, and the line of what it answers to the input is added to what was written, where that
--- is known; and under it the lines that show where the answer comes from, if they are asked for.
+-- is known. Under it stand the lines that show where the answer comes from, if they are asked for.
 abbrev pub WritesAnswer : List (List ℕ) → Input → (traced brief : Bool) → Option (List ℕ) → Option (List ℕ) → Type 0
 WritesAnswer files input traced brief old new =
     (programs : List (List Insn)) × (answer : Answer) × SpellStack files programs
@@ -38,8 +38,8 @@ EvaluatesFiles digits traced brief holds paths old new =
     (input : Input) × (files : List (List ℕ)) × (decode_sized digits 64 ≡ Ok (input_bytes input))
     × AreRead holds paths files × WritesAnswer files input traced brief old new
 
--- Why the files at the paths are refused: one can't be read, which only a file can be whose bytes aren't known; memory
--- ran out, which can come at any time; or all were read and make no lawful stack.
+-- Why the files at the paths are refused: one whose bytes aren't known can't be read; memory ran out, which can come at
+-- any time; or all were read and make no lawful stack.
 abbrev pub RefusesFiles : (List ℕ → Option (List ℕ)) → List (Bor (List ℕ)) → Fault → Type 0
 RefusesFiles holds paths fault =
     ((fault ≡ Read) × HasUnknown holds paths) ⊎ (fault ≡ Memory)

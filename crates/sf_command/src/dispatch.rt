@@ -219,8 +219,7 @@ fn reply<R: Threads + Wait + Sync, F: Files, O: Write, E: Write>(
 
 /// Does what the words after the program's name ask for, and gives the exit status:
 ///
-/// - 0: done; after an audit each question is never, and after a comparison the relation that is asked
-///   for is never.
+/// - 0: done; after an audit each question is never, and after a comparison the relation that is asked for is never.
 /// - 1: some question of an audit, or the relation that is asked for, is allowed.
 /// - 2: none is allowed, and some is unsettled.
 /// - 3: the filters, the policy or the input are refused. Standard output is left as it was.
