@@ -3,6 +3,7 @@ pub mod ActionLemmas
 pub mod EntryLemmas
 pub mod NeverSyntax
 pub mod FilterLemmas
+pub mod PlaceLemmas
 pub mod JoinedLemmas
 pub mod RefusalLemmas
 pub mod OneRefusal

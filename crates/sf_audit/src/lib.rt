@@ -18,8 +18,8 @@ pub use counting::{count_allowed, count_never, count_unsettled};
 pub use fault::Fault;
 pub use filters::stack_of;
 pub use outcome::Outcome;
-pub use policy::read_policy;
+pub use policy::{Refusal, WORD_KEYS, read_policy, read_policy_at};
 pub use report::{hex_of, push_counts, write_bytes, write_report};
 
 /// The most questions of a policy and of an audit.
-const MOST_QUESTIONS: usize = 256;
+pub const MOST_QUESTIONS: usize = 256;

@@ -3,6 +3,7 @@
 mod actions;
 mod keys;
 mod questions;
+mod refusal;
 mod words;
 
 ghost use Rattle.std.specs.Prelude.{◌≡◌, ◌⊎◌, Some, None, Err, is_some, codes, map};
@@ -10,27 +11,29 @@ ghost use Rattle.std.specs.List.{list_all};
 ghost use Rattle.toml.specs.Data.{Members, as_table};
 ghost use Rattle.toml.specs.Parse.{parse_document};
 ghost use Rattle.toml.specs.View.{view, items_view, table_view};
-ghost use Rattle.sf_audit.specs.Faults.{Gives};
+ghost use Rattle.sf_audit.specs.Faults.{Gives, without_place};
 ghost use Rattle.sf_audit.specs.Encoding.{table_or_empty};
 ghost use Rattle.sf_audit.specs.Trees.{number_at, tables_of};
 ghost use Rattle.sf_audit.specs.Policies.{version_of, tables_of_value, questions_counted, questions_where_tables, policy_of};
 
 use crate::MOST_QUESTIONS;
 use crate::fault::Fault;
+pub use keys::WORD_KEYS;
 use keys::{has_top_keys, number_in, value_at};
 use questions::questions_in;
+pub use refusal::Refusal;
 use sf_ask::Question;
 use std::alloc::Global;
 use toml::{Table, Value};
 
-/// The version of a policy file: in the second a word's value may be a table with a mask.
+/// The version of a policy file. In version 2 the value of a word may also be a table with a mask.
 #[derive(Clone, Copy, Debug)]
 enum Version {
     One,
     Two,
 }
 
-/// The version that a policy names, where it is a known one.
+/// The version that a policy names; none where it names no known one.
 fn version_in(table: &Table) -> Option<Version>
     ensures { result ≡ version_of (number_at (codes "version") (table_view table.now)) }
 {
@@ -48,7 +51,7 @@ fn are_tables(items: &[Value]) -> bool
     items.iter().all(|value| value.is_table())
 }
 
-/// The questions of tables, of which there are to be 1 to 256.
+/// The questions of a list of tables. `Count` where there is none or more than 256; then what `questions_in` refuses.
 #[tactic(auto, using(crate::proofs::TreeLemmas::count_view))]
 fn questions_counted(
     alloc: Global,
@@ -64,7 +67,7 @@ fn questions_counted(
     questions_in(alloc, version, items)
 }
 
-/// The questions of an array, whose values are to be tables.
+/// The questions of an array. `TopKey` where some value is no table; then what `questions_counted` refuses.
 fn questions_of_items(
     alloc: Global,
     version: Version,
@@ -80,7 +83,7 @@ fn questions_of_items(
     }
 }
 
-/// The questions of a value, which is to be an array of tables.
+/// The questions of a value. `TopKey` where it is no array of tables; then what `questions_counted` refuses.
 fn questions_of_value(
     alloc: Global,
     version: Version,
@@ -95,7 +98,8 @@ fn questions_of_value(
     }
 }
 
-/// The questions of a policy, by its version, its keys at the top and their values.
+/// The questions of a policy's tree. `Version`; then `TopKey` where a key at the top is unknown; then `Count` where the
+/// questions are missing, or what `questions_of_value` refuses.
 fn policy_of_table(alloc: Global, table: &Table) -> Result<Vec<Question>, Fault>
     ensures { Gives (λ v. v.items) result (policy_of (table_view table.now)) }
 {
@@ -111,31 +115,65 @@ fn policy_of_table(alloc: Global, table: &Table) -> Result<Vec<Question>, Fault>
     }
 }
 
+/// The questions of a policy's tree; or the fault for which they are refused, with the tree.
+fn questions_or_refusal(alloc: Global, table: Table) -> Result<Vec<Question>, Refusal>
+    ensures { Gives (λ v. v.items) (without_place result) (policy_of (table_view table)) }
+{
+    match policy_of_table(alloc, &table) {
+        Ok(questions) => Ok(questions),
+        Err(fault) => Err(Refusal {
+            fault,
+            read: Ok(table),
+        }),
+    }
+}
+
+/// The questions of a policy file, as `read_policy` reads them. A refusal has the fault that `read_policy` answers, and
+/// what was read of the file, from which a person can be told where the fault lies.
+pub fn read_policy_at(alloc: Global, text: &str) -> Result<Vec<Question>, Refusal>
+    // Where the text is TOML, the questions or the refusal are those of its tree.
+    ensures read { (tree : Members) → parse_document text.now ≡ Some tree
+        → Gives (λ v. v.items) (without_place result) (policy_of tree) }
+
+    // `Syntax` comes exactly where it is no TOML, unless memory ran out.
+    ensures syntax { without_place result ≡ Err Fault.Syntax
+        → parse_document text.now ≡ None }
+    ensures no_syntax { parse_document text.now ≡ None
+        → (without_place result ≡ Err Fault.Syntax)
+        ⊎ (without_place result ≡ Err Fault.Memory) }
+{
+    match toml::table_from_str(alloc, text) {
+        Ok(table) => questions_or_refusal(alloc, table),
+        Err(error) => {
+            let fault = if error.is_memory() {
+                Fault::Memory
+            } else {
+                Fault::Syntax
+            };
+            Err(Refusal {
+                fault,
+                read: Err(error),
+            })
+        }
+    }
+}
+
 /// The questions of a policy file, which is TOML of version 1 or 2. A question names ranges of words and, in version 2,
-/// bits of them; a word that it doesn't name may have any number. Without actions it asks about ALLOW and LOG.
+/// bits of them; a word that it doesn't name may have any number. A question without actions asks about ALLOW and LOG.
 ///
-/// Refusals, tried in this order: `Syntax` where the text is no TOML; `Version`; `TopKey` where a key at the top is
-/// unknown or the questions are no array of tables; `Count` where there are none or more than 256; then, question after
-/// question, `Key`, `Name`, `Range`, `Mask` and `Actions`, with the number of the question from 1. `Memory` can come
-/// anywhere.
+/// Refusals, tried in this order: `Syntax` where the text is no TOML; `Version` where the version is missing or neither
+/// 1 nor 2; `TopKey` where a key at the top is unknown or the questions are no array of tables; `Count` where there are
+/// none or more than 256; then, question after question, `Key`, `Name`, `Range`, `Mask` and `Actions`, with the number
+/// of the question from 1. `Memory` can come anywhere.
 pub fn read_policy(alloc: Global, text: &str) -> Result<Vec<Question>, Fault>
     // Where the text is TOML, the questions or the refusal are those of its tree.
     ensures read { (tree : Members) → parse_document text.now ≡ Some tree
         → Gives (λ v. v.items) result (policy_of tree) }
 
-    // `Syntax` comes exactly where it is none, unless memory ran out.
+    // `Syntax` comes exactly where it is no TOML, unless memory ran out.
     ensures syntax { result ≡ Err Fault.Syntax → parse_document text.now ≡ None }
     ensures no_syntax { parse_document text.now ≡ None → (result ≡ Err Fault.Syntax)
         ⊎ (result ≡ Err Fault.Memory) }
 {
-    match toml::table_from_str(alloc, text) {
-        Ok(table) => policy_of_table(alloc, &table),
-        Err(error) => {
-            if error.is_memory() {
-                Err(Fault::Memory)
-            } else {
-                Err(Fault::Syntax)
-            }
-        }
-    }
+    read_policy_at(alloc, text).map_err(|refusal| refusal.fault)
 }

@@ -1,6 +1,8 @@
 pub mod Pairing
 pub mod PolicyLemmas
 pub mod ReadLemmas
+pub mod KeptLemmas
+pub mod LoadedLemmas
 pub mod CommandLineLemmas
 pub mod SubcommandLemmas
 pub mod RefusalLemmas

@@ -1,38 +1,54 @@
--- The text of a trace, one filter longer.
-use Rattle.std.proofs.Common.{◌≡◌, ℕ, suc, ◌+◌, ◌<◌, Bool, List, [], ◌∷◌, ◌++◌, codes, Some, get_or, length, slice_get, append_assoc, ap, sym, ◌∙◌, refl}
+-- The text of a trace with one filter more, or one line.
+use Rattle.std.proofs.Common.{◌≡◌, ℕ, suc, ◌+◌, ◌<◌, Bool, List, [], ◌∷◌, ◌++◌, codes, Option, Some, None, drop, get_or, length, slice_get, unwrap_or, append_assoc, ap, sym, ◌∙◌, refl}
+use Rattle.std.proofs.lemmas.List.{drop_more}
 use Rattle.std.proofs.lemmas.Option.{slice_get-get_or}
 use Rattle.std.specs.Prelude.{not, ◌&&◌, ◌||◌, ◌==◌}
 use Rattle.sf_insn.specs.declared.input.Input.{Input}
 use Rattle.sf_check.specs.declared.insn.Insn.{Insn}
 use Rattle.sf_run.specs.Answers.{action_bits}
+use Rattle.sf_run.specs.declared.walking.Meeting.{Meeting}
 use Rattle.sf_run.specs.Walks.{CourseData, walk_of}
-use Rattle.sf_command.specs.Traces.{filters_text, walk_text}
+use Rattle.sf_command.specs.Traces.{filters_text, meeting_lines, shown_line, walk_text}
 
 pub one_more_filter : (brief : Bool) (n action : ℕ) (stood stands : Bool) (programs : List (List Insn)) (d : Input)
     (code : List Insn) (w : CourseData) (old new whole : List ℕ)
     → slice_get programs n ≡ Some code → walk_of code d ≡ Some w
     → stands ≡ (not stood && (action_bits w.value == action))
-    → new ≡ old ++ walk_text brief (n + 1) stands w
+    → new ≡ old ++ walk_text brief (n + 1) stands code w
     → old ++ filters_text brief (suc n) action programs d stood ≡ whole
     → new ++ filters_text brief n action programs d (stood || stands) ≡ whole
 one_more_filter brief n action stood stands programs d code w old new whole at ran stands_is pushed so_far =
-    let so_far' : old ++ (walk_text brief (n + 1) stands w ++ filters_text brief n action programs d (stood || stands))
+    let so_far' : old ++ (walk_text brief (n + 1) stands code w
+    ++ filters_text brief n action programs d (stood || stands))
     ≡ whole = rw (stands_is, ← so_far, at, ran) refl in
     rw (pushed, append_assoc old) so_far'
 
--- the program that was read at a place
+-- the lines of what a filter meets, with one more
+pub one_more_meeting : (brief : Bool) (number : ℕ) (words : List (Option ℕ)) (met : List Meeting) (place : ℕ)
+    (m : Meeting) (word : Option ℕ) (old new whole : List ℕ)
+    → place < length met → m ≡ get_or met place m → word ≡ unwrap_or (slice_get words m.place) None
+    → new ≡ old ++ shown_line brief number word m
+    → old ++ meeting_lines brief number words (drop place met) ≡ whole
+    → new ++ meeting_lines brief number words (drop (place + 1) met) ≡ whole
+one_more_meeting brief number words met place m word old new whole below at is pushed so_far =
+    let so_far' : old ++ (shown_line brief number word m ++ meeting_lines brief number words (drop (place + 1) met))
+    ≡ whole = rw (is, ← so_far, drop_more met place m below, ← at) refl in
+    rw (pushed, append_assoc old) so_far'
+
+-- the program that was read from a place of the list stands at that place
 pub program_at : (programs : List (List Insn)) (n k : ℕ) (code : List Insn) → code ≡ get_or programs k code → k ≡ n
     → n < length programs → slice_get programs n ≡ Some code
 program_at programs n k code read same within =
     let read' : code ≡ get_or programs n code = rw same at read in
     slice_get-get_or programs n code within ∙ ap (λ (c : List Insn). Some c) (sym read')
 
--- the parts of a line, added one after the other
-pub test_parts : (old head worded new number place word rest : List ℕ)
+-- the line of a comparison, whose parts were added one after the other
+pub test_parts : (old head named worded new number place name word rest : List ℕ)
     → head ≡ old ++ (codes "filter " ++ (number ++ (codes " instruction " ++ (place ++ 32 ∷ []))))
-    → worded ≡ head ++ word → new ≡ worded ++ rest
-    → new ≡ old ++ (codes "filter " ++ (number ++ (codes " instruction " ++ (place ++ 32 ∷ (word ++ rest)))))
-test_parts old head worded new number place word rest p q r = rw (r, q, p) (simp append_assoc)
+    → named ≡ head ++ name → worded ≡ named ++ word → new ≡ worded ++ rest
+    → new ≡ old ++ (codes "filter " ++ (number ++ (codes " instruction "
+    ++ (place ++ 32 ∷ (name ++ (word ++ rest))))))
+test_parts old head named worded new number place name word rest p q r s = rw (s, r, q, p) (simp append_assoc)
 
 pub return_parts : (old head acted new number action info place mark marked : List ℕ)
     → head ≡ old ++ (codes "filter " ++ (number ++ 32 ∷ []))

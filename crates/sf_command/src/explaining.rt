@@ -1,38 +1,78 @@
-//! What `--explain-errors` tells of a fault under its line. It is for a person: clauses say only when it may be told.
+//! What `--explain-errors` shows of a fault under its line. It is for a person: contracts say only when it may be
+//! shown.
 
-ghost use Rattle.std.specs.Prelude.{◌≡◌, Some, None, codes, map, string_bytes};
-ghost use Rattle.clap.specs.Words.{found_of, one_of, rows_of, subcommand_rows_of};
-ghost use Rattle.sf_command.specs.Runs.{IsUnasked, subcommand_at};
+ghost use Rattle.std.specs.Prelude.{◌≡◌, None};
+ghost use Rattle.clap.specs.Words.{subcommand_rows_of};
+ghost use Rattle.sf_audit.specs.Faults.{without_place};
+ghost use Rattle.sf_command.specs.Runs.{IsUnasked};
 
+use crate::meanings::meaning_of;
 use crate::options::explains_of;
 use crate::places::position_of;
-use crate::policies::push_refusal;
-use crate::subjects::{Subject, subject_of};
-use crate::words;
+use crate::policies::Page;
 use clap::ArgMatches;
-use sf_audit::Fault;
+use sf_ask::Question;
+use sf_audit::{Fault, Refusal};
 use std::alloc::{AllocError, Global};
 
-/// What was read before a fault.
+/// What was read before a fault came, and the text that explains the fault.
 #[derive(Drop)]
 pub struct Notes {
-    /// The bytes of the policy file, once it was read.
+    /// The bytes of the policy file once it is read, and empty before.
     pub policy: Vec<u8>,
-    /// How many files were read.
+    /// Why the policy is refused, if `read_policy` refuses it.
+    pub refusal: Option<Refusal>,
+    /// How many files were read, the policy file among them.
     pub files: usize,
+    /// The lines that explain the fault, where they are asked for and there is memory for them.
+    pub explanation: Option<String>,
 }
 
 impl Notes {
-    /// Nothing was read yet.
+    /// The notes before any file is read.
     pub fn new(alloc: Global) -> Notes {
         Notes {
             policy: Vec::new(alloc),
+            refusal: None,
             files: 0,
+            explanation: None,
+        }
+    }
+
+    /// The questions that were read of a policy, or the fault of its refusal, which is kept in the notes.
+    pub fn take_refusal(
+        &mut self,
+        read: Result<Vec<Question>, Refusal>,
+    ) -> Result<Vec<Question>, Fault>
+        ensures { result ≡ without_place read }
+    {
+        match read {
+            Ok(questions) => Ok(questions),
+            Err(refusal) => {
+                let fault = refusal.fault;
+                self.refusal = Some(refusal);
+                Err(fault)
+            }
+        }
+    }
+
+    /// Keeps the lines that explain a fault, if the run ended with one and the matches ask for them. `reason` says why
+    /// the last file was refused, in the system's words.
+    pub fn explain(
+        &mut self,
+        alloc: Global,
+        matches: &ArgMatches<'_>,
+        ran: &Result<u8, Fault>,
+        reason: &str,
+    ) {
+        if let Err(fault) = ran {
+            self.explanation = explanation(alloc, matches, fault, self, reason);
         }
     }
 }
 
-/// The path of a filter file, by its place from 0: of a comparison, those of the old stack stand before those of the new one.
+/// The path of the filter file at a place, counted from 0; empty where there is none. In a comparison the files of the
+/// old stack stand before those of the new one.
 fn filter_path<'a>(found: &ArgMatches<'a>, place: usize) -> &'a str {
     let mut place = place;
     for name in ["filters", "old", "new"] {
@@ -45,18 +85,17 @@ fn filter_path<'a>(found: &ArgMatches<'a>, place: usize) -> &'a str {
     ""
 }
 
-/// The path of the first file that wasn't read, where so many were. The policy file is read before the filters.
+/// The path of the first file that wasn't read, where `read` files were. The policy file is read before the filter
+/// files.
 fn unread_path<'a>(found: &ArgMatches<'a>, read: usize) -> &'a str {
-    let Some(policy) = found.get_str("policy") else {
-        return filter_path(found, read);
-    };
-    match read.checked_sub(1) {
-        Some(place) => filter_path(found, place),
-        None => policy,
+    match (found.get_str("policy"), read.checked_sub(1)) {
+        (Some(policy), None) => policy,
+        (Some(_), Some(place)) => filter_path(found, place),
+        (None, _) => filter_path(found, read),
     }
 }
 
-/// The file that can't be read, and the system's reason where it is known.
+/// Adds the line of a file that can't be read, with the system's reason where it is known.
 fn push_unread(text: &mut String, path: &str, reason: &str) -> Result<(), AllocError> {
     if reason.is_empty() {
         return write!(text, "file {path:?}\n");
@@ -64,28 +103,13 @@ fn push_unread(text: &mut String, path: &str, reason: &str) -> Result<(), AllocE
     write!(text, "file {path:?}: {reason}\n")
 }
 
-/// The number and the file of a filter that is refused.
-fn push_filter(text: &mut String, found: &ArgMatches<'_>, filter: usize) -> Result<(), AllocError> {
-    let path = filter_path(found, filter.saturating_sub(1));
-    write!(text, "filter {filter} {path:?}\n")
-}
-
-/// The place, from 1, of the first character that is no hexadecimal digit.
-fn no_digit(input: &str) -> Option<usize> {
-    let mut place = 0usize;
-    for character in input.chars() {
-        place = place.saturating_add(1);
-        if !character.is_ascii_hexdigit() {
-            return Some(place);
-        }
-    }
-    None
-}
-
-/// Why a text spells no input.
+/// Adds the line that says why a text spells no input.
 fn push_input(text: &mut String, input: &str) -> Result<(), AllocError> {
-    match no_digit(input) {
-        Some(place) => write!(text, "character {place} is no hexadecimal digit\n"),
+    match input.chars().position(|digit| !digit.is_ascii_hexdigit()) {
+        Some(place) => {
+            let number = place.saturating_add(1);
+            write!(text, "character {number} is no hexadecimal digit\n")
+        }
         None => {
             let digits = input.len();
             write!(text, "digits {digits}, where 128 are wanted\n")
@@ -93,25 +117,40 @@ fn push_input(text: &mut String, input: &str) -> Result<(), AllocError> {
     }
 }
 
-/// The policy file, and where it is refused, as far as that is known.
+/// A policy's bytes without a byte order mark at their front, which belongs to no line.
+fn unmarked(policy: &[u8]) -> &[u8] {
+    match policy {
+        [0xEF, 0xBB, 0xBF, rest @ ..] => rest,
+        _ => policy,
+    }
+}
+
+/// Adds the line of the policy file, and where the policy is refused, as far as that is known.
 fn push_policy(
     alloc: Global,
     text: &mut String,
     path: &str,
-    policy: &[u8],
-    fault: &Fault,
+    notes: &Notes,
 ) -> Result<(), AllocError> {
     write!(text, "policy {path:?}\n")?;
-    match std::str::from_utf8(policy) {
-        Ok(policy) => push_refusal(alloc, text, policy, fault),
-        Err(error) => {
-            let (line, column) = position_of(policy, error.valid_up_to());
+    let bytes = unmarked(&notes.policy);
+    let hidden = notes.policy.len().saturating_sub(bytes.len());
+    match (std::str::from_utf8(bytes), &notes.refusal) {
+        (Ok(policy), Some(refusal)) => Page {
+            alloc,
+            text,
+            policy,
+        }
+        .push_refusal(refusal, hidden),
+        (Ok(_), None) => Ok(()),
+        (Err(error), _) => {
+            let (line, column) = position_of(bytes, error.valid_up_to());
             write!(text, "line {line} column {column}: no UTF-8\n")
         }
     }
 }
 
-/// What there is to know of a fault.
+/// The lines that explain a fault: where it lies, and what its number means.
 fn told(
     alloc: Global,
     found: &ArgMatches<'_>,
@@ -120,43 +159,41 @@ fn told(
     reason: &str,
 ) -> Result<String, AllocError> {
     let mut text = String::new(alloc);
-    match subject_of(fault) {
-        Subject::Filter(filter) => push_filter(&mut text, found, filter)?,
-        Subject::Text
-        | Subject::Version
-        | Subject::TopKey
-        | Subject::Count
-        | Subject::Question(_) => {
-            let path = found.get_str("policy").unwrap_or("");
-            push_policy(alloc, &mut text, path, &notes.policy, fault)?;
+    match fault {
+        Fault::Ragged { filter }
+        | Fault::Empty { filter }
+        | Fault::TooLong { filter }
+        | Fault::Code { filter, .. }
+        | Fault::Field { filter, .. }
+        | Fault::Jump { filter, .. }
+        | Fault::Last { filter }
+        | Fault::Scratch { filter, .. } => {
+            let path = filter_path(found, filter.saturating_sub(1));
+            write!(text, "filter {filter} {path:?}\n")?;
         }
-        Subject::Input => push_input(&mut text, found.get_str("input").unwrap_or(""))?,
-        Subject::File => push_unread(&mut text, unread_path(found, notes.files), reason)?,
-        Subject::Other => {}
+        Fault::Input => push_input(&mut text, found.get_str("input").unwrap_or(""))?,
+        Fault::Read => push_unread(&mut text, unread_path(found, notes.files), reason)?,
+        Fault::Version
+        | Fault::TopKey
+        | Fault::Count
+        | Fault::Syntax
+        | Fault::Key { .. }
+        | Fault::Range { .. }
+        | Fault::Actions { .. }
+        | Fault::Name { .. }
+        | Fault::Mask { .. } => {
+            let path = found.get_str("policy").unwrap_or("");
+            push_policy(alloc, &mut text, path, notes)?;
+        }
+        _ => {}
     }
+    let meaning = meaning_of(fault);
+    write!(text, "{meaning}\n")?;
     Ok(text)
 }
 
-/// What there is to know of a fault, where the matches of the subcommand ask for it and there is memory for it.
-fn told_if_asked(
-    alloc: Global,
-    found: &ArgMatches<'_>,
-    fault: &Fault,
-    notes: &Notes,
-    reason: &str,
-) -> Option<String>
-    ensures { one_of (codes "explain-errors") (rows_of (found_of found.now))
-        ≡ Some (codes "false")
-        → result ≡ None }
-{
-    if !explains_of(found) {
-        return None;
-    }
-    told(alloc, found, fault, notes, reason).ok()
-}
-
-/// The same for the matches of the command line.
-fn told_by(
+/// The lines that explain a fault, where the matches ask for them and there is memory for them.
+fn explanation(
     alloc: Global,
     matches: &ArgMatches<'_>,
     fault: &Fault,
@@ -165,27 +202,9 @@ fn told_by(
 ) -> Option<String>
     ensures { IsUnasked (subcommand_rows_of matches.now) → result ≡ None }
 {
-    let Some((_, found)) = matches.subcommand() else {
+    let (_, found) = matches.subcommand()?;
+    if !explains_of(found) {
         return None;
-    };
-    told_if_asked(alloc, found, fault, notes, reason)
-}
-
-/// What there is to know of a fault, where the words ask for it and there is memory for it.
-pub fn explanation(
-    alloc: Global,
-    words: &[String],
-    fault: &Fault,
-    notes: &Notes,
-    reason: &str,
-) -> Option<String>
-    ensures { IsUnasked (subcommand_at (map string_bytes words.now)) → result ≡ None }
-{
-    let Ok(form) = words::form(alloc) else {
-        return None;
-    };
-    match form.try_get_matches_from(words) {
-        Ok(matches) => told_by(alloc, &matches, fault, notes, reason),
-        Err(_) => None,
     }
+    told(alloc, found, fault, notes, reason).ok()
 }

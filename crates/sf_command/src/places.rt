@@ -1,203 +1,157 @@
-//! On which lines of a policy its keys and questions stand: found by looking at its text, so no clause speaks of it.
+//! On which line of a policy a key or a question stands. The tokens of the policy are read for it once more. It is for
+//! a person, so no contract speaks of it.
 
-/// What follows a key at the head of a text, where these marks stand around it.
-fn after_quoted<'a>(text: &'a str, key: &str, quote: char) -> Option<&'a str> {
-    text.strip_prefix(quote)?
-        .strip_prefix(key)?
-        .strip_prefix(quote)
-}
+use std::alloc::Global;
+use toml_parser::text::{first, skip, skip_blank, skip_ws};
+use toml_parser::{Key, dotted_key, quoted, starts_string, unquoted};
 
-/// What follows a key at the head of a text, bare or in quotes.
-fn after_key<'a>(text: &'a str, key: &str) -> Option<&'a str> {
-    let text = text.trim_start();
-    if text.starts_with('"') {
-        return after_quoted(text, key, '"');
-    }
-    if text.starts_with('\'') {
-        return after_quoted(text, key, '\'');
-    }
-    text.strip_prefix(key)
-}
-
-/// Whether a text begins with this key, before its value, before a key of its table, or at the end of a header.
-fn is_at_key(text: &str, key: &str) -> bool {
-    match after_key(text, key) {
-        Some(rest) => {
-            let rest = rest.trim_start();
-            rest.starts_with('=') || rest.starts_with('.') || rest.starts_with(']')
-        }
-        None => false,
-    }
-}
-
-/// Whether a line is the header of a table.
-fn is_header(line: &str) -> bool {
-    line.trim_start().starts_with('[')
-}
-
-/// A header without the brackets that open it; another line as it is.
-fn unopened(line: &str) -> &str {
-    line.trim_start().trim_start_matches('[')
-}
-
-/// Whether a line is the header of a question: `[[question]]`.
-fn opens_question(line: &str) -> bool {
-    if !line.trim_start().starts_with("[[") {
-        return false;
-    }
-    match after_key(unopened(line), "question") {
-        Some(rest) => rest.trim_start().starts_with(']'),
-        None => false,
-    }
-}
-
-/// Whether a header is that of a key of a question: `[question.KEY]`.
-fn opens_key(line: &str, key: &str) -> bool {
-    let Some(rest) = after_key(unopened(line), "question") else {
-        return false;
-    };
-    match rest.trim_start().strip_prefix('.') {
-        Some(rest) => is_at_key(rest, key),
-        None => false,
-    }
-}
-
-/// Whether a line under the header of a question has this key. The empty text is none.
-fn has_key(line: &str, key: &str) -> bool {
-    if key.is_empty() {
-        return false;
-    }
-    if is_header(line) {
-        return opens_key(line, key);
-    }
-    is_at_key(line, key)
-}
-
-/// The number of the line with a key at the top: above all headers, or in a header of its own.
-pub fn top_line(policy: &str, key: &str) -> Option<usize> {
-    let mut number = 0usize;
-    let mut above = true;
-    for line in policy.lines() {
-        number = number.saturating_add(1);
-        let header = is_header(line);
-        above = above && !header;
-        if (above || header) && is_at_key(unopened(line), key) {
-            return Some(number);
-        }
-    }
-    None
-}
-
-/// The number of the line with a key of a question, or else of the question's header. None where it has no header.
-fn line_below_header(policy: &str, question: usize, key: &str) -> Option<usize> {
-    let mut number = 0usize;
-    let mut headers = 0usize;
-    let mut header = None;
-    for line in policy.lines() {
-        number = number.saturating_add(1);
-        if opens_question(line) {
-            headers = headers.saturating_add(1);
-            if headers == question {
-                header = Some(number);
-            }
-        } else if headers == question && has_key(line, key) {
-            return Some(number);
-        }
-    }
-    header
-}
-
-/// How far the array of questions was read: how many brackets stand open, what closes the text or the comment that is being
-/// read, whether its next byte is escaped, and how many questions have begun.
-#[derive(Clone, Copy)]
-struct Reading {
+/// How far the tokens of a policy were read, and what is looked for: a key of a question, a key at the top, or a
+/// question itself.
+#[derive(Drop)]
+struct Reading<'a> {
+    /// The number, from 1, of the question that is looked for, or whose key is; none where a key at the top is looked
+    /// for.
+    question: Option<usize>,
+    /// The key that is looked for; none where a question itself is.
+    key: Option<&'a str>,
+    /// Whether no header was read yet, so that keys stand at the top.
+    is_top: bool,
+    /// How many arrays and tables are open: brackets that were opened and not closed.
     depth: usize,
-    closing: Option<u8>,
-    escaped: bool,
+    /// How many are open where a key belongs to a question; none where no key does.
+    depth_of_questions: Option<usize>,
+    /// How many questions have begun.
     questions: usize,
 }
 
-/// Nothing of the array was read yet.
-const UNREAD: Reading = Reading {
-    depth: 0,
-    closing: None,
-    escaped: false,
-    questions: 0,
-};
+/// The part of a dotted key at a place, counted from 0; the last part where it has fewer.
+fn part_of(key: &Key, place: usize) -> Option<&str> {
+    let part = key.path.get(place).unwrap_or(&key.last);
+    Some(part.as_str())
+}
 
-/// The same after a byte of a text or of a comment.
-fn after_quoted_byte(reading: Reading, closing: u8, byte: u8) -> Reading {
-    let escapes = closing == b'"' && byte == b'\\' && !reading.escaped;
-    let closes = byte == closing && !reading.escaped;
-    Reading {
-        depth: reading.depth,
-        closing: if closes { None } else { Some(closing) },
-        escaped: escapes,
-        questions: reading.questions,
+/// Whether a key is `question`, which begins the questions.
+fn is_question(key: &Key) -> bool {
+    key.path.is_empty() && key.last.as_str() == "question"
+}
+
+/// The key at the head of a text, and the text from its value on. None where no key with a value stands there.
+fn key_and_value(alloc: Global, text: &str) -> Option<(Key, &str)> {
+    let (key, rest) = dotted_key(alloc, text).ok()?;
+    if first(rest) == b'=' {
+        Some((key, skip_ws(skip(rest, 1))))
+    } else {
+        None
     }
 }
 
-/// The same after another byte. A comment is closed by the end of its line.
-fn after_bare_byte(reading: Reading, byte: u8) -> Reading {
-    let mut after = reading;
-    match byte {
-        b'"' | b'\'' => after.closing = Some(byte),
-        b'#' => after.closing = Some(b'\n'),
-        b'[' => after.depth = reading.depth.saturating_add(1),
-        b'{' => {
-            if reading.depth == 1 {
-                after.questions = reading.questions.saturating_add(1);
-            }
-            after.depth = reading.depth.saturating_add(1);
+impl Reading<'_> {
+    /// Whether this key of the question that began last is looked for; without a key, whether that question itself is.
+    fn is_of_question(&self, key: Option<&str>) -> bool {
+        self.question == Some(self.questions) && self.key == key
+    }
+
+    /// Whether this key at the top is looked for.
+    fn is_at_top(&self, key: Option<&str>) -> bool {
+        self.question.is_none() && self.key == key
+    }
+
+    /// Reads a key that stands before a value, and says whether it is looked for.
+    fn take_key(&mut self, key: &Key) -> bool {
+        if self.is_top && self.depth == 0 {
+            self.depth_of_questions = if is_question(key) { Some(2) } else { None };
+            return self.is_at_top(part_of(key, 0));
         }
-        b']' | b'}' => after.depth = reading.depth.saturating_sub(1),
-        _ => {}
+        self.depth_of_questions == Some(self.depth) && self.is_of_question(part_of(key, 0))
     }
-    after
-}
 
-/// The same after a line. No text goes on behind it.
-fn after_line(reading: Reading, line: &str) -> Reading {
-    let mut after = reading;
-    for byte in line.bytes() {
-        after = match after.closing {
-            Some(closing) => after_quoted_byte(after, closing, byte),
-            None => after_bare_byte(after, byte),
-        };
-    }
-    after.closing = None;
-    after.escaped = false;
-    after
-}
-
-/// The number of the line on which a question begins that is a table in an array.
-fn line_in_array(policy: &str, question: usize) -> Option<usize> {
-    let mut number = 0usize;
-    let mut reading = UNREAD;
-    let mut begun = false;
-    for line in policy.lines() {
-        number = number.saturating_add(1);
-        begun = begun || is_at_key(line, "question");
-        if begun {
-            reading = after_line(reading, line);
-            if question <= reading.questions {
-                return Some(number);
-            }
+    /// Reads the key of a header, and says whether it is looked for, or the question that begins there is.
+    fn take_header(&mut self, key: &Key, is_array: bool) -> bool {
+        self.is_top = false;
+        self.depth_of_questions = None;
+        if is_array && is_question(key) {
+            self.depth_of_questions = Some(0);
+            return self.begin_question();
         }
+        self.is_at_top(part_of(key, 0))
+            || part_of(key, 0) == Some("question") && self.is_of_question(part_of(key, 1))
+    }
+
+    /// Begins a question, and says whether it is looked for.
+    fn begin_question(&mut self) -> bool {
+        self.questions = self.questions.saturating_add(1);
+        self.is_of_question(None)
+    }
+
+    /// Reads an opening bracket, and says whether a question begins there that is looked for.
+    fn open(&mut self, bracket: u8) -> bool {
+        let begins = bracket == b'{' && self.depth == 1 && self.depth_of_questions == Some(2);
+        self.depth = self.depth.saturating_add(1);
+        begins && self.begin_question()
+    }
+
+    /// Reads the token at the head of a text. Gives whether what is looked for stands there, and the text behind the
+    /// token; none where no token can be read.
+    fn step<'a>(&mut self, alloc: Global, text: &'a str) -> Option<(bool, &'a str)> {
+        if let Some((key, value)) = key_and_value(alloc, text) {
+            let found = self.take_key(&key);
+            if first(value) == b'[' {
+                self.open(b'[');
+                return Some((found, skip(value, 1)));
+            }
+            return Some((found, value));
+        }
+        if starts_string(text) {
+            return Some((false, quoted(alloc, text).ok()?.1));
+        }
+        match first(text) {
+            b'[' if self.depth == 0 => {
+                let name = skip_ws(text.trim_start_matches('['));
+                let (key, rest) = dotted_key(alloc, name).ok()?;
+                Some((self.take_header(&key, text.starts_with("[[")), rest))
+            }
+            b'[' | b'{' => Some((self.open(first(text)), skip(text, 1))),
+            b']' | b'}' => {
+                self.depth = self.depth.saturating_sub(1);
+                Some((false, skip(text, 1)))
+            }
+            b',' => Some((false, skip(text, 1))),
+            _ => Some((false, unquoted(alloc, text).ok()?.1)),
+        }
+    }
+}
+
+/// The number, from 1, of the line on which a key of a question stands, or without a question's number a key at the
+/// top. Without a key it is the line on which the question begins. None where that isn't found.
+pub fn line_of(
+    alloc: Global,
+    policy: &str,
+    question: Option<usize>,
+    key: Option<&str>,
+) -> Option<usize> {
+    let mut reading = Reading {
+        question,
+        key,
+        is_top: true,
+        depth: 0,
+        depth_of_questions: None,
+        questions: 0,
+    };
+    let mut rest = policy;
+    for _ in 0..policy.len() {
+        let start = skip_blank(rest, true);
+        let (found, after) = reading.step(alloc, start)?;
+        if found {
+            let before = policy.len().saturating_sub(start.len());
+            return Some(position_of(policy.as_bytes(), before).0);
+        }
+        rest = after;
     }
     None
 }
 
-/// The number of the line with a key of a question, or else of the one on which the question begins.
-pub fn question_line(policy: &str, question: usize, key: &str) -> Option<usize> {
-    let below = line_below_header(policy, question, key);
-    if below.is_some() {
-        return below;
-    }
-    line_in_array(policy, question)
-}
-
-/// The line and the column, both from 1, of the place that so many bytes stand before. A column counts characters.
+/// The line and the column, both from 1, of the place in a policy that has `before` bytes before it. A column counts
+/// characters.
 pub fn position_of(policy: &[u8], before: usize) -> (usize, usize) {
     let mut line = 1usize;
     let mut column = 1usize;

@@ -1,185 +1,127 @@
-//! What is told of a policy that is refused.
+//! What is shown of a policy that is refused. It is safe on a terminal: long texts are cut, and characters that a
+//! terminal obeys or hides are replaced.
 
-use crate::keys::{refused_key, refused_top_key};
-use crate::places::{position_of, question_line, top_line};
-use crate::subjects::{Subject, subject_of};
-use sf_audit::Fault;
+use crate::places::{line_of, position_of};
+use sf_audit::{Fault, MOST_QUESTIONS, Refusal};
 use std::alloc::{AllocError, Global};
-use toml::{Table, Value};
+use toml::de::Error;
 
-/// The most characters of a line of the policy that are shown.
+/// The most characters of a line, a name or a key that are shown.
 const MOST_CHARACTERS: usize = 160;
 
-/// The first question that is one too many.
-const TOO_MANY: usize = 257;
+/// The characters of a text that are shown, and ` ..` where it was cut there.
+fn front_of(alloc: Global, text: &str) -> Result<(String, &'static str), AllocError> {
+    let mut front = String::new(alloc);
+    for character in text.chars().take(MOST_CHARACTERS) {
+        front.push(character)?;
+    }
+    let mark = if front.len() < text.len() { " .." } else { "" };
+    Ok((front, mark))
+}
 
-/// The text of a line, without what a terminal would obey.
-fn push_shown(text: &mut String, line: &str) -> Result<(), AllocError> {
-    let mut shown = 0usize;
-    for character in line.chars() {
-        if MOST_CHARACTERS <= shown {
-            return text.push_str(" ..");
-        }
-        let shows = if character.is_control() {
-            ' '
-        } else {
-            character
-        };
-        text.push(shows)?;
-        shown = shown.saturating_add(1);
+/// Adds a character of a line: a blank for a control character, and its number for another one that can't be seen.
+fn push_character(text: &mut String, character: char) -> Result<(), AllocError> {
+    if character.is_control() {
+        return text.push(' ');
+    }
+    if character.is_ascii() {
+        return text.push(character);
+    }
+    for shown in character.escape_debug() {
+        text.push(shown)?;
     }
     Ok(())
 }
 
-/// The text of the line with this number, where there is one.
-fn push_text(text: &mut String, policy: &str, number: usize) -> Result<(), AllocError> {
-    let mut here = 0usize;
-    for line in policy.lines() {
-        here = here.saturating_add(1);
-        if here == number {
-            text.push_str(": ")?;
-            push_shown(text, line)?;
+/// A policy that is refused, and the text to which is added what is shown of it.
+#[derive(Drop)]
+pub struct Page<'a> {
+    /// The allocator of what is added.
+    pub alloc: Global,
+    /// The text to which lines are added.
+    pub text: &'a mut String,
+    /// The text of the policy, without a byte order mark.
+    pub policy: &'a str,
+}
+
+impl Page<'_> {
+    /// Adds a name or a key in quotes, and the end of the line.
+    fn push_quoted(&mut self, quoted: &str) -> Result<(), AllocError> {
+        let (front, mark) = front_of(self.alloc, quoted)?;
+        write!(self.text, "{front:?}{mark}\n")
+    }
+
+    /// Adds the text of the line with this number, from 1.
+    fn push_line(&mut self, number: usize) -> Result<(), AllocError> {
+        let lines = &mut self.policy.lines();
+        let line = lines.nth(number.saturating_sub(1)).unwrap_or("");
+        let (front, mark) = front_of(self.alloc, line)?;
+        self.text.push_str(": ")?;
+        for character in front.chars() {
+            push_character(self.text, character)?;
         }
+        write!(self.text, "{mark}\n")
     }
-    text.push_str("\n")
-}
 
-/// A line, where its number is known.
-fn push_line(text: &mut String, policy: &str, number: Option<usize>) -> Result<(), AllocError> {
-    let Some(number) = number else {
-        return Ok(());
-    };
-    write!(text, "line {number}")?;
-    push_text(text, policy, number)
-}
-
-/// Why and where a policy is no TOML.
-fn push_syntax(text: &mut String, policy: &str, error: &toml::de::Error) -> Result<(), AllocError> {
-    let Some(span) = error.span() else {
-        return Err(AllocError);
-    };
-    let message = error.message();
-    let (line, column) = position_of(policy.as_bytes(), span.start);
-    write!(text, "{message}\nline {line} column {column}")?;
-    push_text(text, policy, line)
-}
-
-/// The questions, where they are an array.
-fn items_of(policy: &Table) -> Option<&Vec<Value>> {
-    policy.get("question")?.as_array()
-}
-
-/// The key at the top that has a wrong value, or is missing.
-fn push_top_key(
-    text: &mut String,
-    policy: &str,
-    table: &Table,
-    key: &str,
-) -> Result<(), AllocError> {
-    if table.get(key).is_none() {
-        return write!(text, "no key {key:?}\n");
+    /// Adds the line on which a key stands, or without a key the one on which a question begins, where that is found.
+    fn push_place(&mut self, question: Option<usize>, key: Option<&str>) -> Result<(), AllocError> {
+        let Some(number) = line_of(self.alloc, self.policy, question, key) else {
+            return Ok(());
+        };
+        write!(self.text, "line {number}")?;
+        self.push_line(number)
     }
-    write!(text, "key {key:?}\n")?;
-    push_line(text, policy, top_line(policy, key))
-}
 
-/// How many questions there are, and the first that is one too many.
-fn push_count(text: &mut String, policy: &str, table: &Table) -> Result<(), AllocError> {
-    let count = match items_of(table) {
-        Some(items) => items.len(),
-        None => 0,
-    };
-    if count == 0 {
-        return push_top_key(text, policy, table, "question");
+    /// Adds why the policy is no TOML, and where. The place of the error counts the `hidden` bytes before the policy's
+    /// text too.
+    fn push_syntax(&mut self, error: &Error, hidden: usize) -> Result<(), AllocError> {
+        let Some(span) = error.span() else {
+            return Err(AllocError);
+        };
+        let message = error.message();
+        let (line, column) = position_of(self.policy.as_bytes(), span.start.saturating_sub(hidden));
+        write!(self.text, "{message}\nline {line} column {column}")?;
+        self.push_line(line)
     }
-    write!(text, "questions {count}, and 256 are the most\n")?;
-    push_line(text, policy, question_line(policy, TOO_MANY, ""))
-}
 
-/// The table of a question, by its number from 1.
-fn table_of(policy: &Table, question: usize) -> Option<&Table> {
-    let place = question.checked_sub(1)?;
-    items_of(policy)?.get(place)?.as_table()
-}
-
-/// The number of a question, and its name where it has one.
-fn push_name(text: &mut String, question: usize, table: &Table) -> Result<(), AllocError> {
-    write!(text, "question {question}")?;
-    if let Some(value) = table.get("name") {
-        if let Some(name) = value.as_str() {
-            write!(text, " {name:?}")?;
+    /// Adds the key that is refused or missing, and its line; for a missing one, the line of its question.
+    fn push_key(&mut self, refusal: &Refusal) -> Result<(), AllocError> {
+        let key = refusal.key(self.alloc)?;
+        let question = refusal.question();
+        if refusal.table().is_some_and(|table| table.contains_key(key)) {
+            self.text.push_str("key ")?;
+            self.push_quoted(key)?;
+            return self.push_place(question, Some(key));
         }
+        self.text.push_str("no key ")?;
+        self.push_quoted(key)?;
+        self.push_place(question, None)
     }
-    text.push_str("\n")
-}
 
-/// The key of a question that has a wrong value, or is missing, and its line, or that of the question.
-fn push_question_key(
-    text: &mut String,
-    policy: &str,
-    question: usize,
-    table: &Table,
-    refused: Option<&str>,
-) -> Result<(), AllocError> {
-    if let Some(key) = refused {
-        write!(text, "key {key:?}\n")?;
-    } else if table.get("name").is_none() {
-        text.push_str("no key \"name\"\n")?;
-    }
-    let key = refused.unwrap_or("");
-    push_line(text, policy, question_line(policy, question, key))
-}
-
-/// What is wrong with a question.
-fn push_question(
-    alloc: Global,
-    text: &mut String,
-    policy: &str,
-    table: &Table,
-    question: usize,
-    number: u16,
-) -> Result<(), AllocError> {
-    let Some(version) = table.get("version") else {
-        return Ok(());
-    };
-    let Some(asked) = table_of(table, question) else {
-        return Ok(());
-    };
-    push_name(text, question, asked)?;
-    let refused = refused_key(alloc, version, asked, number)?;
-    push_question_key(text, policy, question, asked, refused)
-}
-
-/// What is wrong with a policy that is TOML.
-fn push_cause(
-    alloc: Global,
-    text: &mut String,
-    policy: &str,
-    table: &Table,
-    fault: &Fault,
-) -> Result<(), AllocError> {
-    match subject_of(fault) {
-        Subject::Version => push_top_key(text, policy, table, "version"),
-        Subject::TopKey => push_top_key(text, policy, table, refused_top_key(table)),
-        Subject::Count => push_count(text, policy, table),
-        Subject::Question(question) => {
-            push_question(alloc, text, policy, table, question, fault.number())
+    /// Adds where the policy is refused, as far as that is known. `hidden` is the length in bytes of the byte order
+    /// mark before the policy's text. An error where an allocation is refused.
+    pub fn push_refusal(&mut self, refusal: &Refusal, hidden: usize) -> Result<(), AllocError> {
+        if let Err(error) = &refusal.read {
+            return self.push_syntax(error, hidden);
         }
-        Subject::Filter(_) | Subject::Text | Subject::Input | Subject::File | Subject::Other => {
-            Ok(())
+        let count = refusal.items().len();
+        if refusal.fault == Fault::Count && MOST_QUESTIONS < count {
+            write!(
+                self.text,
+                "questions {count}, and {MOST_QUESTIONS} are the most\n"
+            )?;
+            return self.push_place(Some(MOST_QUESTIONS + 1), None);
         }
-    }
-}
-
-/// Why a policy is refused, and where, as far as that is known.
-pub fn push_refusal(
-    alloc: Global,
-    text: &mut String,
-    policy: &str,
-    fault: &Fault,
-) -> Result<(), AllocError> {
-    match toml::table_from_str(alloc, policy) {
-        Ok(table) => push_cause(alloc, text, policy, &table, fault),
-        Err(error) => push_syntax(text, policy, &error),
+        if let Some(number) = refusal.question() {
+            write!(self.text, "question {number}")?;
+            match refusal.name() {
+                Some(name) => {
+                    self.text.push_str(" ")?;
+                    self.push_quoted(name)?;
+                }
+                None => self.text.push_str("\n")?,
+            }
+        }
+        self.push_key(refusal)
     }
 }

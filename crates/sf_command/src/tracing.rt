@@ -4,20 +4,21 @@ ghost use Rattle.sf_run.specs.Answers.{action_bits, action_number};
 ghost use Rattle.sf_run.specs.Walks.{CourseData, walk_of};
 ghost use Rattle.sf_command.specs.Traces.{call_text, compared_text, field_line, filters_text, first_arguments, input_text, is_false, last_arguments, stands_text, meeting_line, meeting_lines, returned_line, shown_line, sign_text, test_line, trace_text, truth_text, walk_text, word_text};
 
+use crate::loaded::{push_name, words_at};
 use sf_audit::push_action;
 use sf_check::{Program, Stack};
 use sf_insn::{Input, Test};
 use sf_run::{Action, Answer, Course, Fault, Meeting, Met, walk};
 use std::alloc::{AllocError, Global};
 
-/// A word as a number.
+/// Adds a word as a hexadecimal number.
 fn push_word(text: &mut String, word: u32) -> Result<(), AllocError>
     ensures { OnOk result (string_bytes text.new ≡ string_bytes text.old ++ word_text word) }
 {
     write!(text, "0x{word:08X}")
 }
 
-/// The line of a field of 64 bits.
+/// Adds the line of a field of 64 bits, from its low and its high half.
 fn push_field(text: &mut String, name: &str, low: u32, high: u32) -> Result<(), AllocError>
     ensures { OnOk result (string_bytes text.new ≡ string_bytes text.old
         ++ field_line name.now low high) }
@@ -27,7 +28,7 @@ fn push_field(text: &mut String, name: &str, low: u32, high: u32) -> Result<(), 
     write!(text, "{low:08X}\n")
 }
 
-/// The lines of the call's number, the architecture and the instruction pointer.
+/// Adds the lines of the call's number, the architecture and the instruction pointer.
 fn push_call(text: &mut String, input: &Input) -> Result<(), AllocError>
     ensures { OnOk result (string_bytes text.new ≡ string_bytes text.old ++ call_text input.now) }
 {
@@ -38,7 +39,7 @@ fn push_call(text: &mut String, input: &Input) -> Result<(), AllocError>
     push_field(text, "ip", input.words[2], input.words[3])
 }
 
-/// The lines of the arguments 0 to 2.
+/// Adds the lines of the arguments 0 to 2.
 fn push_first_arguments(text: &mut String, input: &Input) -> Result<(), AllocError>
     ensures { OnOk result (string_bytes text.new ≡ string_bytes text.old
         ++ first_arguments input.now) }
@@ -48,7 +49,7 @@ fn push_first_arguments(text: &mut String, input: &Input) -> Result<(), AllocErr
     push_field(text, "arg2", input.words[8], input.words[9])
 }
 
-/// The lines of the arguments 3 to 5.
+/// Adds the lines of the arguments 3 to 5.
 fn push_last_arguments(text: &mut String, input: &Input) -> Result<(), AllocError>
     ensures { OnOk result (string_bytes text.new ≡ string_bytes text.old
         ++ last_arguments input.now) }
@@ -58,7 +59,7 @@ fn push_last_arguments(text: &mut String, input: &Input) -> Result<(), AllocErro
     push_field(text, "arg5", input.words[14], input.words[15])
 }
 
-/// The lines of all fields of an input.
+/// Adds the lines of all fields of an input.
 fn push_input(text: &mut String, input: &Input) -> Result<(), AllocError>
     ensures { OnOk result (string_bytes text.new ≡ string_bytes text.old
         ++ input_text input.now) }
@@ -68,7 +69,7 @@ fn push_input(text: &mut String, input: &Input) -> Result<(), AllocError>
     push_last_arguments(text, input)
 }
 
-/// How a test compares two words.
+/// The sign of a test: how it compares two words.
 fn sign_of(test: Test) -> &'static str
     ensures { result.now ≡ sign_text test }
 {
@@ -80,14 +81,14 @@ fn sign_of(test: Test) -> &'static str
     }
 }
 
-/// The word for a truth value.
+/// The text of a truth value.
 fn truth_of(truth: bool) -> &'static str
     ensures { result.now ≡ truth_text truth }
 {
     if truth { "true" } else { "false" }
 }
 
-/// What A is compared with, and how that came out.
+/// Adds how A is compared, with which other number, and the result.
 fn push_compared(text: &mut String, sign: &str, other: u32, truth: bool) -> Result<(), AllocError>
     ensures { OnOk result (string_bytes text.new ≡ string_bytes text.old
         ++ compared_text sign.now other truth) }
@@ -96,35 +97,43 @@ fn push_compared(text: &mut String, sign: &str, other: u32, truth: bool) -> Resu
     write!(text, " {sign} 0x{other:08X} {truth}\n")
 }
 
-/// The line of a comparison of A.
+/// Adds the line of a comparison: an instruction of a filter compares the number `a` with another one. `word` is the
+/// word of the input that has this number there, if one has.
 fn push_test(
     text: &mut String,
     number: usize,
     place: usize,
+    word: Option<u8>,
     a: u32,
     sign: &str,
     other: u32,
     truth: bool,
 ) -> Result<(), AllocError>
     ensures { OnOk result (string_bytes text.new ≡ string_bytes text.old
-        ++ test_line number place a sign.now other truth) }
+        ++ test_line number place word a sign.now other truth) }
 {
     write!(text, "filter {number} instruction {place} ")?;
+    push_name(text, word)?;
     push_word(text, a)?;
     push_compared(text, sign, other, truth)
 }
 
-/// The line of what a filter met.
-fn push_meeting(text: &mut String, number: usize, meeting: Meeting) -> Result<(), AllocError>
+/// Adds the line of what a filter met. `word` is the word of the input that A held then, if it held one.
+fn push_meeting(
+    text: &mut String,
+    number: usize,
+    word: Option<u8>,
+    meeting: Meeting,
+) -> Result<(), AllocError>
     ensures { OnOk result (string_bytes text.new ≡ string_bytes text.old
-        ++ meeting_line number meeting) }
+        ++ meeting_line number word meeting) }
 {
     let place = meeting.place;
     match meeting.met {
         Met::Tested(test, a, other, passed) => {
-            push_test(text, number, place, a, sign_of(test), other, passed)
+            push_test(text, number, place, word, a, sign_of(test), other, passed)
         }
-        Met::Divided(x) => push_test(text, number, place, x, "=", 0, x == 0),
+        Met::Divided(x) => push_test(text, number, place, None, x, "=", 0, x == 0),
         Met::Returned(a) => write!(
             text,
             "filter {number} instruction {place} 0x{a:08X} returned\n"
@@ -132,7 +141,7 @@ fn push_meeting(text: &mut String, number: usize, meeting: Meeting) -> Result<()
     }
 }
 
-/// Whether a test is false, or an X that divides isn't 0.
+/// Whether what was met is false: a test that is false, or a division by an X that isn't 0.
 fn is_false(met: Met) -> bool
     ensures { result ≡ is_false met }
 {
@@ -143,46 +152,50 @@ fn is_false(met: Met) -> bool
     }
 }
 
-/// The same, but in brief nothing where it is false.
+/// Adds the line of what a filter met; in brief nothing where that is false.
 fn push_shown(
     text: &mut String,
     brief: bool,
     number: usize,
+    word: Option<u8>,
     meeting: Meeting,
 ) -> Result<(), AllocError>
     ensures { OnOk result (string_bytes text.new ≡ string_bytes text.old
-        ++ shown_line brief number meeting) }
+        ++ shown_line brief number word meeting) }
 {
     if brief && is_false(meeting.met) {
         return Ok(());
     }
-    push_meeting(text, number, meeting)
+    push_meeting(text, number, word, meeting)
 }
 
-/// The lines of all that a filter met, in order.
+/// Adds the lines of all that a filter met, in order. `words` has for each instruction the word of the input that A
+/// held there.
 fn push_meetings(
     text: &mut String,
     brief: bool,
     number: usize,
+    words: &[Option<u8>],
     met: &[Meeting],
 ) -> Result<(), AllocError>
     ensures { OnOk result (string_bytes text.new ≡ string_bytes text.old
-        ++ meeting_lines brief number met.now) }
+        ++ meeting_lines brief number words.now met.now) }
 {
     for meeting in met {
-        push_shown(text, brief, number, *meeting)?;
+        let word = words.get(meeting.place).copied().unwrap_or(None);
+        push_shown(text, brief, number, word, *meeting)?;
     }
     Ok(())
 }
 
-/// The mark of the filter whose answer stands.
+/// The word behind a filter whose answer stands; no text where it does not.
 fn mark_of(stands: bool) -> &'static str
     ensures { result.now ≡ stands_text stands }
 {
     if stands { " stands" } else { "" }
 }
 
-/// What a filter returns, and where.
+/// Adds the line of what a filter returns, and where. Its answer stands where it is the answer of the stack.
 fn push_return(
     text: &mut String,
     number: usize,
@@ -200,7 +213,8 @@ fn push_return(
     write!(text, " {info} instruction {place}{mark}\n")
 }
 
-/// A filter, and whether its answer is that of the stack: whether it returns this action, and no newer one stood.
+/// Adds the lines of a filter, and says whether its answer stands: it returns the action of the stack's answer, and the
+/// answer of no newer filter stood.
 fn push_filter(
     alloc: Global,
     text: &mut String,
@@ -213,7 +227,8 @@ fn push_filter(
 ) -> Result<bool, Fault>
     ensures { IfOk result (λ b. (w : CourseData) × (walk_of program.now input.now ≡ Some w)
         × (b ≡ (not stood && (action_bits w.value == action)))
-        × (string_bytes text.new ≡ string_bytes text.old ++ walk_text brief number b w)) }
+        × (string_bytes text.new ≡ string_bytes text.old
+        ++ walk_text brief number b program.now w)) }
 {
     let run = walk(alloc, program, input)?;
     let stands = !stood && run.value & 0xffff0000 == action;
@@ -226,18 +241,19 @@ fn push_filter(
         run.value & 0xffff,
         stands,
     )?;
-    push_meetings(text, brief, number, &run.met)?;
+    let words = words_at(alloc, program.insns(), &run.met)?;
+    push_meetings(text, brief, number, &words, &run.met)?;
     Ok(stands)
 }
 
-/// Whether one of the two is true.
+/// Whether one of the two is true. For the prover: its contract is the step of a loop.
 fn either(one: bool, other: bool) -> bool
     ensures { result ≡ (one || other) }
 {
     one || other
 }
 
-/// All filters, newest first.
+/// Adds the lines of all filters, newest first. `action` is that of the stack's answer.
 fn push_filters(
     alloc: Global,
     text: &mut String,
@@ -259,9 +275,9 @@ fn push_filters(
     Ok(())
 }
 
-/// Adds the lines of `eval --trace`: the fields of the input; then for each filter, newest first, what it returns and
-/// at which instruction, and whether the answer of the stack is its own, and under it all that it met, in order, and in
-/// brief nothing that is false. `Memory` where a growth is refused.
+/// Adds the lines of `eval --trace`. First come the fields of the input. Then comes each filter, newest first: what it
+/// returns and at which instruction, whether its answer is the stack's, and under it all that it met, in order; in
+/// brief without what is false. `Memory` where an allocation is refused.
 pub fn push_trace(
     alloc: Global,
     text: &mut String,

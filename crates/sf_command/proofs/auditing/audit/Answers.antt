@@ -1,5 +1,6 @@
 use Rattle.std.proofs.Common.{map, rules}
-use Rattle.sf_command.proofs.ReadLemmas.{read_same}
+use Rattle.sf_command.proofs.KeptLemmas.{kept_audit_refusal, kept_stack, second_weaker}
+use Rattle.sf_command.proofs.ReadLemmas.{kept_same}
 use Rattle.sf_command.proofs.RefusalLemmas.{audit_why, filters_why, handed_on, policy_why}
 use Rattle.sf_command.proofs.auditing.audit.Goals as goal
 
@@ -8,7 +9,8 @@ returns-clause-written g c = record {
   questions = c.in_ok-questions.questions.items;
   asked = c.in_ok-questions.ensures.asked;
   files = map (λ f. f.items) c.in_ok-filters.filters.items;
-  read = read_same _ _ _ _ c.in_ok-questions.ensures.same c.in_ok-filters.ensures.read;
+  read = kept_stack _ _ _ (kept_same _ _ _ _ c.in_ok-questions.ensures.same c.in_ok-filters.ensures.read) _
+      (rw c.deref.ensures.value at c.in_ok-outcome.ensures.found.stack);
   found = c.in_ok-outcome.outcome;
   audit = rw c.deref.ensures.value at c.in_ok-outcome.ensures.found;
   written = c.in_ok-write_report.ensures.written;
@@ -29,8 +31,9 @@ returns-in_err-filters-clause-refused g c =
 
 pub returns-in_err-outcome-clause-refused : goal.returns-in_err-outcome-clause-refused
 returns-in_err-outcome-clause-refused g c =
-    let read = read_same _ _ _ _ c.in_ok-questions.ensures.same c.in_ok-filters.ensures.read in
-    let why = audit_why _ _ _ _ _ _ c.in_ok-questions.ensures.asked read
-    (rw c.deref.ensures.value at c.in_err-outcome.ensures.refused) in
+    let kept = kept_same _ _ _ _ c.in_ok-questions.ensures.same c.in_ok-filters.ensures.read in
+    let why = audit_why _ _ _ _ _ _ c.in_ok-questions.ensures.asked kept.read
+    (second_weaker (kept_audit_refusal _ _ _ kept _ _)
+    (rw c.deref.ensures.value at c.in_err-outcome.ensures.refused)) in
     handed_on _ c.from_residual-in_err-outcome.result c.in_err-outcome.field-0.0
     c.from_residual-in_err-outcome.ensures.1 why

@@ -1,4 +1,5 @@
 use Rattle.std.proofs.Common.{map}
+use Rattle.sf_command.proofs.KeptLemmas.{both_read, both_refusal, both_stack, second_weaker}
 use Rattle.sf_command.proofs.RefusalLemmas.{comparison_why, handed_on, unread_why}
 use Rattle.sf_command.proofs.comparing.compare.Goals as goal
 
@@ -6,7 +7,8 @@ pub returns-clause-written : goal.returns-clause-written
 returns-clause-written g c = record {
   files = map (λ f. f.items) c.in_ok-filters.filters.items;
   older = c.in_ok-filters.older;
-  read = c.in_ok-filters.ensures.read;
+  read = both_stack _ _ _ _ _ c.in_ok-filters.ensures.read _
+      (rw c.deref.ensures.value at c.in_ok-comparison.ensures.found.stack);
   found = c.in_ok-comparison.comparison;
   comparison = rw c.deref.ensures.value at c.in_ok-comparison.ensures.found;
   written = c.in_ok-write_comparison.ensures.written;
@@ -22,5 +24,6 @@ pub returns-in_err-comparison-clause-refused : goal.returns-in_err-comparison-cl
 returns-in_err-comparison-clause-refused g c =
     handed_on _ c.from_residual-in_err-comparison.result c.in_err-comparison.field-0.0
     c.from_residual-in_err-comparison.ensures.1
-    (comparison_why _ _ _ _ _ _ c.in_ok-filters.ensures.read
-    (rw c.deref.ensures.value at c.in_err-comparison.ensures.refused))
+    (comparison_why _ _ _ _ _ _ (both_read _ _ _ _ _ c.in_ok-filters.ensures.read)
+    (second_weaker (both_refusal _ _ _ _ _ c.in_ok-filters.ensures.read _)
+    (rw c.deref.ensures.value at c.in_err-comparison.ensures.refused)))

@@ -1,6 +1,6 @@
 use Rattle.std.proofs.Common.{◌≡◌, ◌∙◌, length, map, rules, sym}
 use Rattle.std.proofs.lemmas.List.{length-map, map-append}
-use Rattle.sf_command.proofs.ReadLemmas.{read_same}
+use Rattle.sf_command.proofs.ReadLemmas.{kept_same}
 use Rattle.sf_command.proofs.RefusalLemmas.{either_unknown, handed_on}
 use Rattle.sf_command.proofs.comparing.read_both.Goals as goal
 
@@ -11,7 +11,7 @@ returns-clause-read g c =
       olds = map (λ f. f.items) c.in_ok-filters.filters.items;
       news = map (λ f. f.items) c.in_ok-newer.newer.items;
       read_old = c.in_ok-filters.ensures.read;
-      read_new = read_same _ _ _ _ c.in_ok-filters.ensures.same c.in_ok-newer.ensures.read;
+      read_new = kept_same _ _ _ _ c.in_ok-filters.ensures.same c.in_ok-newer.ensures.read;
       whole = rw c.in_ok-append.ensures.items (map-append _ c.in_ok-filters.filters.items c.in_ok-newer.newer.items);
       parted = count ∙ sym (length-map c.in_ok-filters.filters.items (λ f. f.items));
     }

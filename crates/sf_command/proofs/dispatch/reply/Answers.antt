@@ -9,8 +9,8 @@ pub returns-in-Ok-clause-done : goal.returns-in-Ok-clause-done
 returns-in-Ok-clause-done g c =
     let fits = told_errors (λ (ks : Kinds). ks ≡ []) _ _ c.in_ok-form.ensures c.in-Ok.ensures.kinds in
     let entered = told_subcommand _ _ c.in-Ok.matches c.in_ok-form.ensures c.in-Ok.ensures.matches in
-    IfOk-weaker c.run.result _ _ (λ s done small. let (found, named, does) = done small in
-    inl (fits, (found, sym entered ∙ named, does))) c.run.ensures.done
+    IfOk-weaker c.run-ran.result _ _ (λ s done small. let (found, named, does) = done small in
+    inl (fits, (found, sym entered ∙ named, does))) c.run-ran.ensures.done
 
 pub returns-in-Err-clause-done : goal.returns-in-Err-clause-done
 returns-in-Err-clause-done g c =
@@ -22,12 +22,12 @@ returns-in-Err-clause-done g c =
 pub returns-in-Ok-clause-usage : goal.returns-in-Ok-clause-usage
 returns-in-Ok-clause-usage g c =
     let entered = told_subcommand _ _ c.in-Ok.matches c.in_ok-form.ensures c.in-Ok.ensures.matches in
-    IfOk-weaker c.run.result _ _ (λ s usage four. (
+    IfOk-weaker c.run-ran.result _ _ (λ s usage four. (
       (λ fits. let (found, named, known) = known_subcommand _ fits in
           (usage four).0 (found, entered ∙ named, known)),
       (usage four).1,
       (usage four).2,
-    )) c.run.ensures.usage
+    )) c.run-ran.ensures.usage
 
 pub returns-in-Err-clause-usage : goal.returns-in-Err-clause-usage
 returns-in-Err-clause-usage g c =
@@ -43,5 +43,5 @@ pub returns-in-Ok-clause-refused : goal.returns-in-Ok-clause-refused
 returns-in-Ok-clause-refused g c =
     let fits = told_errors (λ (ks : Kinds). ks ≡ []) _ _ c.in_ok-form.ensures c.in-Ok.ensures.kinds in
     let entered = told_subcommand _ _ c.in-Ok.matches c.in_ok-form.ensures c.in-Ok.ensures.matches in
-    IfErr-weaker c.run.result _ _ (λ e why. let (found, named, refuses) = why in
-    inr (inr (fits, (found, sym entered ∙ named, refuses)))) c.run.ensures.refused
+    IfErr-weaker c.run-ran.result _ _ (λ e why. let (found, named, refuses) = why in
+    inr (inr (fits, (found, sym entered ∙ named, refuses)))) c.run-ran.ensures.refused

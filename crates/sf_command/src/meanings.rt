@@ -1,0 +1,36 @@
+//! What the number of a fault means, in words for a person.
+
+use sf_audit::Fault;
+
+/// What the number of a fault means, without the end of a line.
+pub(crate) fn meaning_of(fault: &Fault) -> &'static str {
+    match fault {
+        Fault::Ragged { .. } => "the length of the file is no multiple of 8",
+        Fault::Empty { .. } => "the file is empty",
+        Fault::TooLong { .. } => "more than 4096 instructions",
+        Fault::Code { .. } => "a code that isn't permitted",
+        Fault::Field { .. } => {
+            "a load of no word of the input or no scratch word, a division by 0, a shift by 32 or more"
+        }
+        Fault::Jump { .. } => "a jump or a test that leads outside the filter",
+        Fault::Last { .. } => "the last instruction is no return",
+        Fault::Scratch { .. } => "a load of a scratch word that some path hasn't stored",
+        Fault::NoFilter => "no filter",
+        Fault::TooMany => "more than 64 filters",
+        Fault::PathLength => "a path length above 32768",
+        Fault::Version => "no version, or neither 1 nor 2",
+        Fault::TopKey | Fault::Key { .. } => {
+            "an unknown key, a missing one, or a value of another kind: a call is named by its number"
+        }
+        Fault::Range { .. } => "a number outside 0 to 4294967295, or a low end above the high end",
+        Fault::Actions { .. } => "no action, or an unknown one",
+        Fault::Name { .. } => "a name that isn't 1 to 64 printable bytes without spaces",
+        Fault::Count => "no question, or more than 256",
+        Fault::Syntax => "the policy is no UTF-8 or no TOML",
+        Fault::Input => "the input isn't 128 hexadecimal digits",
+        Fault::Mask { .. } => "a value with a bit outside its mask",
+        Fault::Read => "a file can't be read, or has more than 1 MiB",
+        Fault::Write => "standard output can't be written, or a signal interrupted that",
+        Fault::Memory => "memory ran out",
+    }
+}
