@@ -79,7 +79,8 @@ module _ (before after next : List ℕ → Option (List ℕ)) (paths : List (Bor
     (here : slice_get paths place ≡ Some path) (agrees : AreKnownBytes (after path.now) file)
     (same : (p : List ℕ) → next p ≡ after p) where
   -- one more was read, and is the last of them
-  one_paired : PairedSoFar (λ path file. AreKnownBytes (before path.now) file) paths (so_far.all ++ file ∷ []) (place + 1)
+  one_paired : PairedSoFar (λ path file. AreKnownBytes (before path.now) file) paths
+      (so_far.all ++ file ∷ []) (place + 1)
   one_paired = paired_more _ _ _ _ _ _ _ so_far.paired here
       (subst (λ known. AreKnownBytes known file) (so_far.same path.now) agrees) refl
 
@@ -184,8 +185,7 @@ module _ (holds : List ℕ → Option (List ℕ)) (old new : List (Bor (List ℕ
   few_of_both : length kept ≤ 64 → (both.olds ≡ both.read_old.files) × (both.news ≡ both.read_new.files)
   few_of_both few =
       let counted : length kept ≡ length both.olds + length both.news =
-      ap (λ (xs : List (List ℕ)). length xs) both.whole ∙ length-append both.olds both.news in
-      (
+      ap (λ (xs : List (List ℕ)). length xs) both.whole ∙ length-append both.olds both.news in (
         few_are_all both.olds both.read_old.files both.read_old.first (omega (arith, counted, few)),
         few_are_all both.news both.read_new.files both.read_new.first (omega (arith, counted, few)),
       )
