@@ -1,29 +1,36 @@
-//! A writer that takes a few bytes a call, and only so many; and one that counts its calls.
+//! Two writers: one takes few bytes a call, and only up to a limit; the other one takes all and counts its calls.
 
 ghost use Rattle.std.specs.Prelude.{◌≡◌, IfOk};
 
 use std::io;
 use std::io::{ErrorKind, Write};
 
-/// What a writer does once it has taken all that it takes.
+/// What a writer does once it holds as many bytes as its limit allows.
 #[derive(Clone, Copy, Debug)]
 pub enum Full {
+    /// It takes no byte.
     TakesNothing,
+    /// It answers that there is no room.
     Fails,
-    /// A signal comes once, and then it would take all.
+    /// It answers once that a signal came. From then on it takes all.
     Interrupted,
 }
 
-/// Takes at most `most` bytes a call, until it holds `limit` bytes.
+/// A writer that takes at most `most` bytes a call, until it holds `limit` bytes.
 #[derive(Drop)]
 pub struct Limited {
+    /// The bytes that it took.
     pub held: Vec<u8>,
+    /// The most bytes that it takes a call.
     pub most: usize,
+    /// The most bytes that it holds.
     pub limit: usize,
+    /// What it does once it holds `limit` bytes.
     pub full: Full,
 }
 
 impl Limited {
+    /// What a call answers once `limit` bytes are held.
     fn no_more(&mut self) -> io::Result<usize>
         ensures { IfOk result (λ taken. taken ≡ 0) }
     {
@@ -57,10 +64,12 @@ impl Write for Limited {
     }
 }
 
-/// Takes all, and counts the calls.
+/// A writer that takes all, and counts its calls.
 #[derive(Drop)]
 pub struct Counted {
+    /// The bytes that it took.
     pub held: Vec<u8>,
+    /// How many calls it had.
     pub writes: u64,
 }
 

@@ -1,10 +1,11 @@
-//! Runs command lines over files that stand in memory, and shows what each writes and the status that it ends with.
+//! Runs command lines over files in memory, and shows what each writes and its exit status.
 //!
-//! A script comes on standard input. `file NAME PIECE ..` makes a file of hexadecimal digits, and `text NAME LINE | LINE ..` one of
-//! lines; a later file of a name takes the place of an earlier one. `run WORD ..` runs a command line, `count WORD ..` runs one and
-//! shows how much it writes, `limit WORD ..` runs one over writers that take so many bytes and no more, and `interrupt WORD ..` over
-//! one that a signal interrupts: one byte a call, and what comes of it has to be the same by five and by seven. A line that begins
-//! with `#` says what the next ones are about.
+//! A script comes on standard input, one command a line. `file NAME PIECE ..` makes a file from hexadecimal digits, and
+//! `text NAME LINE | LINE ..` one from lines; of files with one name the newest counts. `run WORD ..` runs a command
+//! line, and `count WORD ..` runs one and shows how many bytes it writes. `limit WORD ..` runs one over writers that
+//! take no byte, one byte, two, and so on, until one takes all. `interrupt WORD ..` runs one over a writer that a signal
+//! interrupts. For these two the writer takes one byte a call; with five and seven bytes a call the result has to be
+//! the same. A line that begins with `#` is a comment.
 #![tactic(auto)]
 
 mod limited;
@@ -18,7 +19,7 @@ use std::sync::Wait;
 use std::test::Fail;
 use std::thread::Threads;
 
-/// Does what one line says.
+/// Does what one line of the script says.
 fn take<R: Print + Threads + Wait + Sync + AllocGlobal>(
     rt: &R,
     shelf: &mut Shelf,

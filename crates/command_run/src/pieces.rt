@@ -1,9 +1,10 @@
-//! What a script writes short: `00*64` stands for `00` sixty-four times, and `15000000+5+2*3` for `15000000` with the numbers
-//! 5, 7 and 9 behind it, each as four bytes with the lowest first.
+//! What a script writes in short form. A piece here is a part of a script's text: `00*64` stands for `00` sixty-four
+//! times, and `15000000+5+2*3` for `15000000` three times, with the number 5, 7 or 9 behind it, each in four bytes with
+//! the lowest first.
 
 use std::alloc::{AllocError, Global};
 
-/// The text of a piece, and how often it stands there.
+/// The text of a piece, and how often it is repeated.
 fn parts_of(piece: &str) -> (&str, usize) {
     match piece.split_once('*') {
         Some((text, count)) => (text, count.parse::<usize>().unwrap_or(1)),
@@ -20,7 +21,8 @@ fn push_piece(text: &mut String, piece: &str) -> Result<(), AllocError> {
     Ok(())
 }
 
-/// Adds a text with one number after the other behind it, in eight digits each.
+/// Adds `head` and a number in eight digits, `count` times. The first number is `first`, and each is greater by `step`
+/// than the one before.
 fn push_numbered(
     text: &mut String,
     head: &str,
@@ -48,7 +50,7 @@ pub fn push_digits(text: &mut String, piece: &str) -> Result<(), AllocError> {
     push_numbered(text, head, first.unwrap_or(0), step.unwrap_or(1), count)
 }
 
-/// What pieces stand for that commas part.
+/// What pieces stand for that are separated by commas, as one text.
 fn joined(alloc: Global, pieces: &str) -> Result<String, AllocError> {
     let mut text = String::new(alloc);
     for piece in pieces.split(',') {
@@ -57,7 +59,7 @@ fn joined(alloc: Global, pieces: &str) -> Result<String, AllocError> {
     Ok(text)
 }
 
-/// Adds the words that one stands for: `allow*64` is sixty-four words, and `@00*63,02` is one.
+/// Adds the words that a word of a script stands for: `allow*64` is sixty-four words, and `@00*63,02` is one.
 fn push_words(alloc: Global, words: &mut Vec<String>, word: &str) -> Result<(), AllocError> {
     if let Some(pieces) = word.strip_prefix('@') {
         let text = joined(alloc, pieces)?;
@@ -71,7 +73,7 @@ fn push_words(alloc: Global, words: &mut Vec<String>, word: &str) -> Result<(), 
     Ok(())
 }
 
-/// The words of a command line.
+/// The words that a line of a script stands for.
 pub fn words_of(alloc: Global, line: &str) -> Result<Vec<String>, AllocError> {
     let mut words = Vec::new(alloc);
     for word in line.split_whitespace() {

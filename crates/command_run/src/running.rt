@@ -1,4 +1,4 @@
-//! Command lines, and what they write.
+//! Runs command lines, and shows what they write.
 
 use crate::limited::{Counted, Full, Limited};
 use crate::pieces::words_of;
@@ -9,7 +9,7 @@ use std::sync::Wait;
 use std::test::Fail;
 use std::thread::Threads;
 
-/// Standard error, with nothing on it.
+/// A writer for standard error that holds nothing yet.
 fn no_errors(alloc: Global) -> Counted {
     Counted {
         held: Vec::new(alloc),
@@ -17,7 +17,8 @@ fn no_errors(alloc: Global) -> Counted {
     }
 }
 
-/// Shows what stands on standard error, which is to be one write, and the status.
+/// Shows what was written to standard error, and the exit status. It says so where standard error had more than one
+/// write.
 fn show_end<R: Print>(rt: &R, err: &Counted, status: u8) -> Result<(), Fail> {
     for line in std::str::from_utf8(&err.held)?.lines() {
         println!(rt; "! {line}")?;
@@ -29,7 +30,7 @@ fn show_end<R: Print>(rt: &R, err: &Counted, status: u8) -> Result<(), Fail> {
     Ok(())
 }
 
-/// What came of a command line.
+/// What a command line wrote, and its exit status.
 #[derive(Drop)]
 struct Ended {
     out: Limited,
@@ -37,7 +38,7 @@ struct Ended {
     status: u8,
 }
 
-/// Runs a command line over a writer that takes at most so many bytes a call, and so many in all.
+/// Runs a command line over a writer that takes at most `most` bytes a call and `limit` bytes in all.
 fn run_over<R: Print + Threads + Wait + Sync + AllocGlobal>(
     rt: &R,
     shelf: &mut Shelf,
@@ -92,15 +93,15 @@ pub fn count<R: Print + Threads + Wait + Sync + AllocGlobal>(
     show_end(rt, &err, status)
 }
 
-/// Whether two runs wrote the same and ended with the same status.
+/// Whether two runs wrote the same bytes and ended with the same exit status.
 fn ended_alike(left: &Ended, right: &Ended) -> bool {
     left.status == right.status
         && left.out.held.as_slice() == right.out.held.as_slice()
         && left.err.held.as_slice() == right.err.held.as_slice()
 }
 
-/// Runs a command line over a writer that takes one byte a call, and so many in all, and shows what it took. Over writers that
-/// take five and seven bytes a call it has to end alike. False: it wasn't enough.
+/// Runs a command line over a writer that takes one byte a call and `limit` bytes in all, and shows what it took. Over
+/// writers that take five and seven bytes a call it has to end in the same way. True where the limit was enough.
 fn run_limited<R: Print + Threads + Wait + Sync + AllocGlobal>(
     rt: &R,
     shelf: &mut Shelf,
@@ -121,7 +122,7 @@ fn run_limited<R: Print + Threads + Wait + Sync + AllocGlobal>(
     Ok(ended.status < 5)
 }
 
-/// Runs a command line over a writer that takes five bytes, is interrupted by a signal, and then would take all.
+/// Runs a command line over a writer that takes five bytes, is interrupted by a signal once, and then takes all.
 pub fn interrupt<R: Print + Threads + Wait + Sync + AllocGlobal>(
     rt: &R,
     shelf: &mut Shelf,
@@ -133,8 +134,8 @@ pub fn interrupt<R: Print + Threads + Wait + Sync + AllocGlobal>(
     Ok(())
 }
 
-/// Runs a command line over a writer that takes no byte, over one that takes one, and on, until one takes all; each
-/// once where it then takes nothing more, and once where it then fails.
+/// Runs a command line over writers that take no byte, one byte, two, and so on, until one takes all. Each limit is
+/// tried twice: with a writer that then takes nothing more, and with one that then fails.
 pub fn limit<R: Print + Threads + Wait + Sync + AllocGlobal>(
     rt: &R,
     shelf: &mut Shelf,

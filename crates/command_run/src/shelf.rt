@@ -1,4 +1,4 @@
-//! Files in memory.
+//! Files in memory, by name.
 
 use crate::pieces::push_digits;
 use sf_audit::Fault;
@@ -6,7 +6,7 @@ use sf_command::{Files, MOST_BYTES};
 use std::alloc::{AllocError, Global};
 use std::test::Fail;
 
-/// Files by name, the newest last.
+/// Files by name, the newest last. Of files with one name the newest is read.
 #[derive(Drop)]
 pub struct Shelf {
     alloc: Global,
@@ -14,6 +14,7 @@ pub struct Shelf {
 }
 
 impl Shelf {
+    /// A shelf without files.
     pub fn new(alloc: Global) -> Shelf {
         Shelf {
             alloc,
@@ -21,13 +22,14 @@ impl Shelf {
         }
     }
 
+    /// Adds a file.
     fn put(&mut self, name: &str, bytes: Vec<u8>) -> Result<(), AllocError> {
         let name = String::from_str(self.alloc, name)?;
         self.files.push((name, bytes))?;
         Ok(())
     }
 
-    /// A file from its name and pieces of hexadecimal digits.
+    /// Adds a file from a line with its name and pieces of hexadecimal digits.
     pub fn put_digits(&mut self, line: &str) -> Result<(), Fail> {
         let (name, pieces) = line.split_once(' ').unwrap_or((line, ""));
         let mut digits = String::new(self.alloc);
@@ -39,7 +41,7 @@ impl Shelf {
         Ok(())
     }
 
-    /// A file from its name and lines, which bars part.
+    /// Adds a file from a line with its name and the lines of the file, which are separated by bars.
     pub fn put_lines(&mut self, line: &str) -> Result<(), Fail> {
         let (name, lines) = line.split_once(' ').unwrap_or((line, ""));
         let mut text = String::new(self.alloc);

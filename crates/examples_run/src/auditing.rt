@@ -10,10 +10,10 @@ use std::sync::Wait;
 use std::test::Fail;
 use std::thread::Threads;
 
-/// More than any of these stacks needs.
+/// The budget of each audit, in works: more than any of these stacks needs.
 const BUDGET: u32 = 100_000;
 
-/// The report, with its regions where they are asked for, of an audit by so many workers.
+/// The report of an audit by this many workers; with its regions, if they are asked for.
 fn report_of<R: Threads + Wait + Sync, G: Gate>(
     rt: &R,
     alloc: Global,
@@ -32,8 +32,8 @@ fn report_of<R: Threads + Wait + Sync, G: Gate>(
     Ok(report)
 }
 
-/// Shows the report without its regions, whether audits by 1, 2, 8 and 64 workers tell the same regions, and whether the two
-/// workers met.
+/// Shows the report without its regions; whether audits by 1, 2, 8 and 64 workers have the same report with regions;
+/// and whether the two workers met.
 pub fn show_audit<R: Threads + Wait + Sync + Print>(
     rt: &R,
     alloc: Global,

@@ -1,4 +1,4 @@
-//! Compares real filters, and shows that the number of workers changes no byte of what is told.
+//! Compares real filters, and shows that the number of workers changes no byte of what is written.
 
 ghost use Rattle.std.specs.Prelude.{◌<◌, ◌≤◌, length};
 
@@ -9,10 +9,10 @@ use std::sync::Wait;
 use std::test::Fail;
 use std::thread::Threads;
 
-/// More than any two of these stacks need.
+/// The budget of each comparison, in works: more than any two of these stacks need.
 const BUDGET: u32 = 100_000;
 
-/// What a comparison by so many workers tells.
+/// What a comparison by this many workers writes. The first `older` filters are the old stack.
 fn text_of<R: Threads + Wait + Sync>(
     rt: &R,
     alloc: Global,
@@ -29,8 +29,8 @@ fn text_of<R: Threads + Wait + Sync>(
     Ok(text)
 }
 
-/// Shows what is told of the change from the first filters, so many, to the others, and whether comparisons by 1, 2, 8 and 64
-/// workers tell the same.
+/// Shows what a comparison of the first `older` filters with the others writes, and whether comparisons by 1, 2, 8 and
+/// 64 workers write the same bytes.
 pub fn show_comparison<R: Threads + Wait + Sync + Print>(
     rt: &R,
     alloc: Global,

@@ -1,6 +1,6 @@
-//! Checks, evaluates, audits and compares real filters: lines such as `check A.bpf B.bpf`, `eval HEX A.bpf B.bpf`,
-//! `audit POLICY A.bpf B.bpf` and `compare OLD.bpf -- NEW.bpf` come on standard input, and the files lie where the program
-//! runs.
+//! Checks, evaluates, audits and compares real filters. Lines such as `check A.bpf B.bpf`, `eval HEX A.bpf B.bpf`,
+//! `audit POLICY A.bpf B.bpf` and `compare OLD.bpf -- NEW.bpf` come on standard input. The files stand in the folder in
+//! which the program runs.
 #![tactic(auto)]
 
 mod auditing;
@@ -19,7 +19,7 @@ use std::test::Fail;
 use std::thread::Threads;
 use std::{fs, io};
 
-/// The program in a filter file.
+/// The program that a filter file spells.
 fn program_in<R: Files + AllocGlobal>(rt: &R, path: &str) -> Result<Program, Fail> {
     let bytes = fs::read(rt, path)?;
     let raws = decode(rt.alloc(), &bytes)?;
@@ -36,7 +36,7 @@ fn stack_in<R: Files + AllocGlobal>(rt: &R, paths: &[&str]) -> Result<Stack, Fai
     Ok(Stack::of(programs)?)
 }
 
-/// Shows the instructions of each filter and the path length of their stack.
+/// Shows the number of instructions of each filter and the path length of their stack.
 fn show_check<R: Print>(rt: &R, stack: &Stack) -> io::Result<()> {
     for (i, program) in stack.programs().iter().enumerate() {
         println!(rt; "filter {} {} instructions", i + 1, program.insns().len())?;
@@ -52,7 +52,7 @@ fn show_answer<R: Print>(rt: &R, stack: &Stack, digits: &str) -> Result<(), Fail
     Ok(())
 }
 
-/// Shows what an audit of the filter files by the policy file finds.
+/// Shows the report of an audit of the filter files by the policy file.
 fn show_audit_of<R: Files + Print + Threads + Wait + Sync + AllocGlobal>(
     rt: &R,
     policy: &str,
@@ -67,7 +67,7 @@ fn show_audit_of<R: Files + Print + Threads + Wait + Sync + AllocGlobal>(
     show_audit(rt, rt.alloc(), policy.as_str(), &filters)
 }
 
-/// Shows what a comparison of the filter files before two dashes with those behind them finds.
+/// Shows what a comparison finds. The old stack's files stand before the word `--`, and the new one's behind it.
 fn show_comparison_of<R: Files + Print + Threads + Wait + Sync + AllocGlobal>(
     rt: &R,
     paths: &[&str],

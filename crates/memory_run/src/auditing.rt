@@ -12,7 +12,7 @@ use std::io::Write;
 use std::sync::Wait;
 use std::thread::Threads;
 
-/// A writer that takes no memory and one byte a call.
+/// A writer that allocates nothing and takes one byte a call.
 #[derive(Drop)]
 pub struct Page {
     held: [u8; 8192],
@@ -20,6 +20,7 @@ pub struct Page {
 }
 
 impl Page {
+    /// A page on which nothing is written.
     pub fn new() -> Page {
         Page {
             held: [0; 8192],
@@ -27,11 +28,12 @@ impl Page {
         }
     }
 
+    /// The bytes that were written.
     pub fn bytes(&self) -> &[u8] {
         self.held.get(..self.len).unwrap_or(&[])
     }
 
-    /// What was written.
+    /// The text that was written.
     pub fn text(&self) -> &str {
         std::str::from_utf8(self.bytes()).unwrap_or("no text\n")
     }
@@ -55,7 +57,7 @@ impl Write for Page {
     }
 }
 
-/// Audits the stack of these filters and writes the report.
+/// Audits the stack of these filters and writes the report to the page.
 fn report<R: Threads + Wait + Sync + AllocGlobal>(
     rt: &R,
     filters: &[Vec<u8>],
@@ -71,7 +73,7 @@ fn report<R: Threads + Wait + Sync + AllocGlobal>(
     Ok(())
 }
 
-/// Adds the bytes of these files.
+/// Adds the bytes of these files to the filters.
 pub fn push_filters(
     alloc: Global,
     filters: &mut Vec<Vec<u8>>,
@@ -85,7 +87,8 @@ pub fn push_filters(
     Ok(())
 }
 
-/// The report of an audit by one worker, which has to be that of two and of eight.
+/// Writes the report of an audit by one worker to the page. The audits by two and by eight workers have to write the
+/// same.
 pub fn audited<R: Threads + Wait + Sync + AllocGlobal>(
     rt: &R,
     tally: &mut Tally,
@@ -104,7 +107,7 @@ pub fn audited<R: Threads + Wait + Sync + AllocGlobal>(
     Ok(())
 }
 
-/// Adds a fault's text, where it isn't want of memory.
+/// Adds a fault's text, where the fault isn't refused memory.
 fn push_fault(text: &mut String, fault: Option<Fault>) -> Result<(), Refused> {
     match fault {
         Some(Fault::Memory) => Err(Refused { number: MEMORY }),
@@ -113,7 +116,8 @@ fn push_fault(text: &mut String, fault: Option<Fault>) -> Result<(), Refused> {
     }
 }
 
-/// What audits refuse that no command line can ask for, no filter and no question, and texts of faults that none shows.
+/// The texts of refusals that no command line can bring about: of no filter and of no question; and the text of refused
+/// memory, which no audit shows here.
 pub fn refusals<R: Threads + Wait + Sync + AllocGlobal>(rt: &R) -> Result<String, Refused> {
     let alloc = rt.alloc();
     let mut text = String::new(alloc);

@@ -1,4 +1,4 @@
-//! Books that are compared whole, by all that they show.
+//! Books that are compared by all that they show.
 
 use crate::refused::Refused;
 use crate::trying::are_same;
@@ -8,10 +8,11 @@ use sf_piece::{Piece, advance};
 use std::alloc::Global;
 use std::sync::Arc;
 
-/// How many works a book takes: more than any of the stacks needs.
+/// The budget of a book, in works: more than any of the stacks needs.
 pub const BUDGET: u32 = 1000;
 
-/// A book of the stack that took so many works, each that of the first piece. The first piece of the rest is on lease.
+/// A book of the stack that took this many works, each that of its first piece. The first piece that is left is on
+/// lease.
 pub fn worked(alloc: Global, stack: &Arc<Stack>, commits: u32) -> Result<Book, Refused> {
     let mut book = Book::open(alloc, Arc::try_clone(stack)?, BUDGET)?;
     for _ in 0..commits {
@@ -48,7 +49,7 @@ pub fn are_same_pieces(left: &Piece, right: &Piece) -> bool {
         && left.facts().equals(right.facts())
 }
 
-/// Leases all that is free of both books. False where these aren't the same pieces under the same ids.
+/// Leases all pieces that are free in both books. False where these aren't the same pieces under the same ids.
 fn lease_alike(one: &mut Book, other: &mut Book) -> Result<bool, Refused> {
     for _ in 0..BUDGET {
         match (one.lease()?, other.lease()?) {
@@ -64,7 +65,7 @@ fn lease_alike(one: &mut Book, other: &mut Book) -> Result<bool, Refused> {
     Ok(false)
 }
 
-/// Both books take the work of the piece under this id. False where they answer other ids.
+/// Commits the work of the piece under this id to both books. False where they answer different ids.
 fn commit_alike(
     alloc: Global,
     one: &mut Book,
@@ -93,7 +94,7 @@ fn have_same_regions(left: &Settled, right: &Settled) -> bool {
     true
 }
 
-/// Whether two explorations left the same pieces.
+/// Whether two explorations left the same pieces outstanding.
 fn have_same_pieces(left: &Settled, right: &Settled) -> bool {
     for i in 0..left.outstanding_count() {
         if i >= right.outstanding_count()
@@ -105,7 +106,7 @@ fn have_same_pieces(left: &Settled, right: &Settled) -> bool {
     true
 }
 
-/// Whether the same pieces turned out to have no member.
+/// Whether two explorations emptied the same pieces.
 fn have_same_emptied(left: &Settled, right: &Settled) -> bool {
     for i in 0..left.emptied_count() {
         if i >= right.emptied_count() || left.emptied(i) != right.emptied(i) {
@@ -115,7 +116,7 @@ fn have_same_emptied(left: &Settled, right: &Settled) -> bool {
     true
 }
 
-/// Whether two explorations ended alike.
+/// Whether two explorations ended in the same way.
 fn ended_alike(left: &Settled, right: &Settled) -> bool {
     left.stack().is_same(right.stack())
         && left.counts() == right.counts()
@@ -124,8 +125,8 @@ fn ended_alike(left: &Settled, right: &Settled) -> bool {
         && have_same_emptied(left, right)
 }
 
-/// Whether two books show the same: what they count, what is free, what is outstanding, what they answer where both take the
-/// work of the piece under this id, and what they end with.
+/// Whether two books are alike: in their counts, in what is free and what is outstanding, in the ids that they answer
+/// where both take the work of the piece under this id, and in what they end with.
 pub fn are_alike(
     alloc: Global,
     mut one: Book,

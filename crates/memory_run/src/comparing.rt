@@ -1,4 +1,4 @@
-//! Comparisons and what they tell.
+//! Comparisons, and what they write.
 
 ghost use Rattle.std.specs.Prelude.{◌≤◌, ◌<◌, length};
 
@@ -9,7 +9,7 @@ use sf_crew::Open;
 use std::sync::Wait;
 use std::thread::Threads;
 
-/// Compares the first filters, so many, with the others, and writes what is told.
+/// Compares the first `older` filters with the others, and writes what is found.
 fn tell<R: Threads + Wait + Sync + AllocGlobal>(
     rt: &R,
     filters: &[Vec<u8>],
@@ -26,7 +26,8 @@ fn tell<R: Threads + Wait + Sync + AllocGlobal>(
     Ok(())
 }
 
-/// What one worker tells of the stack of these files and the same stack, which two and eight have to tell too.
+/// Writes what a comparison by one worker finds, of the stack of these files with itself. Comparisons by two and by
+/// eight workers have to write the same bytes.
 pub fn compared<R: Threads + Wait + Sync + AllocGlobal>(
     rt: &R,
     tally: &mut Tally,

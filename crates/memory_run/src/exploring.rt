@@ -1,4 +1,4 @@
-//! Books, benches and sheets, and what becomes of them where a growth is refused.
+//! Books, benches and sheets, and what becomes of them where an allocation is refused.
 
 use crate::books::{BUDGET, are_alike, are_same_pieces, worked};
 use crate::refused::{MEMORY, Refused, Tally};
@@ -14,7 +14,7 @@ use sf_piece::{Piece, advance};
 use std::alloc::{AllocError, Global};
 use std::sync::Arc;
 
-/// Leases the first free piece.
+/// Leases the first free piece. Where an allocation is refused, the counts of the book have to be as before.
 fn lease(tally: &mut Tally, book: &mut Book) -> Result<Option<Lease>, Refused> {
     let before = book.counts();
     match book.lease() {
@@ -26,8 +26,8 @@ fn lease(tally: &mut Tally, book: &mut Book) -> Result<Option<Lease>, Refused> {
     }
 }
 
-/// Works a piece and commits the work, and takes the children off lease. Where a growth is refused, the book has to be as one
-/// that took the same works before, and then to take this one.
+/// Works a piece, commits the work and gives the children back. Where an allocation is refused, the book has to be like
+/// another one that took the same works before it, and both then have to take this work.
 fn commit(
     alloc: Global,
     tally: &mut Tally,
@@ -53,8 +53,8 @@ fn commit(
     }
 }
 
-/// Works a book off, one piece after the other, and tries each piece's pool and facts: on how many pieces word 0 may be
-/// above word 1.
+/// Works all pieces of a book, one after the other, and tries the pool and the facts of each. Gives the book, and on
+/// how many pieces word 0 may be above word 1.
 fn work_off(alloc: Global, tally: &mut Tally, mut book: Book) -> Result<(Book, u32), Refused> {
     let mut above = 0u32;
     for _ in 0..BUDGET {
@@ -72,7 +72,7 @@ fn work_off(alloc: Global, tally: &mut Tally, mut book: Book) -> Result<(Book, u
     Ok((book, above))
 }
 
-/// All regions of a stack, and the line of what the book counted and of what was tried.
+/// All regions of a stack. Adds the line of what the book counted and of what was tried.
 pub fn explored(
     alloc: Global,
     tally: &mut Tally,
@@ -92,7 +92,7 @@ pub fn explored(
     Ok(settled)
 }
 
-/// Adds a letter for each verdict of a sheet.
+/// Adds a letter for each verdict of a sheet, and a dash for each question that it wasn't asked.
 fn push_verdicts(text: &mut String, sheet: &Sheet) -> Result<(), AllocError> {
     for q in 0..sheet.question_count() {
         let letter = match sheet.verdict(q) {
@@ -106,8 +106,8 @@ fn push_verdicts(text: &mut String, sheet: &Sheet) -> Result<(), AllocError> {
     Ok(())
 }
 
-/// The line of the verdicts on each region, in the order of names, on all questions and on the second and the fourth
-/// alone.
+/// Adds the line of the verdicts on each region, in the order of names: on all questions, and on only the second and
+/// the fourth.
 pub fn judged(alloc: Global, settled: &Settled, text: &mut String) -> Result<(), Refused> {
     let questions = read_policy(alloc, POLICY)?;
     text.push_str("verdicts")?;
@@ -125,7 +125,7 @@ pub fn judged(alloc: Global, settled: &Settled, text: &mut String) -> Result<(),
     Ok(())
 }
 
-/// Puts a lease of the piece, which has to come back as it was where a growth is refused.
+/// Puts a lease of the piece on a bench. Where an allocation is refused, the lease has to come back as it was.
 fn put(tally: &mut Tally, owner: &mut Owner, id: u64, piece: &Arc<Piece>) -> Result<(), Refused> {
     let lease = Lease {
         id,
@@ -145,10 +145,11 @@ fn put(tally: &mut Tally, owner: &mut Owner, id: u64, piece: &Arc<Piece>) -> Res
     }
 }
 
-/// More leases than a new bench has room for.
+/// How many leases are put on a bench: more than a new one has room for.
 const LEASES: u64 = 150;
 
-/// Gets all leases of the bench, by the owner and the thief in turn.
+/// Gets all leases of the bench, by the owner and the thief in turn. They have to come in the order in which they were
+/// put.
 fn get_all(tally: &mut Tally, owner: &mut Owner, thief: &mut Thief) {
     for id in 0..LEASES {
         let got = if id % 2 == 0 {
@@ -164,7 +165,7 @@ fn get_all(tally: &mut Tally, owner: &mut Owner, thief: &mut Thief) {
     tally.expect(owner.take().is_none());
 }
 
-/// Puts the root of the stack on a bench, under one id after the other, and gets all again.
+/// Puts the root of the stack on a bench many times, each time under another id, and gets all leases again.
 pub fn bench_of(alloc: Global, tally: &mut Tally, stack: &Arc<Stack>) -> Result<(), Refused> {
     let mut book = Book::open(alloc, Arc::try_clone(stack)?, 1)?;
     let Some(root) = lease(tally, &mut book)? else {

@@ -1,8 +1,9 @@
-//! Explorations of which one worker gets no more memory: the others work what it gives back; and of which none gets more: the
-//! calling thread works what all have left.
+//! Explorations in which workers get no more memory. Where one worker gets none, the others work what it gives back;
+//! where no worker gets any, the calling thread works what all have left.
 //!
-//! A gate asks for a growth of an odd size on that worker's thread. `tools/refuse.c` can be told the size: then it refuses that
-//! growth, and all that the thread asks for later. Else nothing comes of it, and the explorations find the same.
+//! On the thread of such a worker, a gate makes an allocation of a size that nothing else asks for. `tools/refuse.c`
+//! can be told this size: then it refuses that allocation, and all later ones of the thread. Otherwise the allocation
+//! does nothing, and the explorations find the same regions.
 
 ghost use Rattle.std.specs.Prelude.{◌<◌, ◌≤◌};
 
@@ -16,19 +17,20 @@ use std::sync::atomic::{AtomicUsize, Ordering};
 use std::sync::{Arc, Wait};
 use std::thread::{Threads, yield_now};
 
-/// The size that nothing else asks for.
+/// The size in bytes of an allocation that nothing else asks for.
 const MARK: usize = 77_777;
 
+/// Makes an allocation of that size.
 fn room(alloc: Global) -> Result<Vec<u8>, AllocError> {
     Vec::with_capacity(alloc, MARK)
 }
 
-/// Whether this thread gets no more memory. A growth that is refused alone is granted at the second time.
+/// Whether this thread gets no more memory. Where only one allocation is refused, the second one is granted.
 fn is_starved(alloc: Global) -> bool {
     room(alloc).is_err() && room(alloc).is_err()
 }
 
-/// The count with one more.
+/// Adds one to the count, and gives what it is then.
 pub fn add_one(count: &AtomicUsize) -> usize {
     count.fetch_add(1, Ordering::SeqCst).wrapping_add(1)
 }
@@ -36,7 +38,7 @@ pub fn add_one(count: &AtomicUsize) -> usize {
 /// How often a call that is held looks for what it waits for.
 const TURNS: usize = 1_000_000;
 
-/// Whether the count gets so great while others may run so often.
+/// Whether the count becomes `wanted` or more while other threads may run `turns` times.
 pub fn is_reached(count: &AtomicUsize, wanted: usize, turns: usize) -> bool {
     for _ in 0..turns {
         if count.load(Ordering::SeqCst) >= wanted {
@@ -47,24 +49,27 @@ pub fn is_reached(count: &AtomicUsize, wanted: usize, turns: usize) -> bool {
     false
 }
 
-/// How often a call lets others run while a starved worker ends.
+/// How often a call lets other threads run, so that a starved worker can end.
 const WHILE: usize = 100_000;
 
+/// Lets other threads run, so that a starved worker can end.
 fn rest() {
     for _ in 0..WHILE {
         yield_now();
     }
 }
 
-/// Starves the worker that makes the third call of all.
+/// A gate that starves the worker that makes the third call of all.
 #[derive(Drop)]
 struct Starving {
     alloc: Global,
+    /// The number of workers.
     workers: usize,
+    /// How many calls were made.
     begun: AtomicUsize,
     /// The starved worker's number, from 1; 0 where there is none.
     starved: AtomicUsize,
-    /// The calls of the starved worker after that, and those of no worker's number.
+    /// How many calls the starved worker made after that, and how many had the number of no worker.
     strays: AtomicUsize,
 }
 
@@ -80,7 +85,7 @@ impl Gate for Starving {
     }
 }
 
-/// Counts an exploration. Where a worker was starved, that is a refusal.
+/// Counts an exploration: as a refusal, if a worker was starved; and as wrong, if it isn't right.
 fn tell(tally: &mut Tally, starved: bool, is_right: bool) {
     if starved {
         tally.refuse(Refused { number: MEMORY }, is_right);
@@ -89,7 +94,7 @@ fn tell(tally: &mut Tally, starved: bool, is_right: bool) {
     }
 }
 
-/// The line of an exploration by so many workers.
+/// Adds the line of an exploration by this many workers.
 pub fn write_counts(text: &mut String, workers: usize, settled: &Settled) -> Result<(), Refused> {
     let counts = settled.counts();
     let (regions, left, commits) = (counts.settled, counts.left, counts.commits);
@@ -100,8 +105,8 @@ pub fn write_counts(text: &mut String, workers: usize, settled: &Settled) -> Res
     Ok(())
 }
 
-/// Explores by so many workers, one of which is starved. The others work all that it gives back, so nothing is left for the
-/// calling thread.
+/// Explores with this many workers, one of which is starved. The others work all that it gives back, so nothing is left
+/// for the calling thread.
 fn starve_one<R: Threads + Wait + Sync + AllocGlobal>(
     rt: &R,
     tally: &mut Tally,
@@ -124,21 +129,24 @@ fn starve_one<R: Threads + Wait + Sync + AllocGlobal>(
     write_counts(text, workers, &settled)
 }
 
-/// Starves each worker at its first call, so that the calling thread works off what is left.
+/// A gate that starves each worker at its first call, so that the calling thread works what is left.
 #[derive(Drop)]
 struct StarvingAll {
     alloc: Global,
+    /// The number of workers.
     workers: usize,
-    /// All calls, those of the calling thread too.
+    /// How many calls were made, those of the calling thread among them.
     calls: AtomicUsize,
+    /// How many workers were starved.
     starved: AtomicUsize,
-    /// The calls of the calling thread, which come under the number of workers.
+    /// How many calls the calling thread made. In place of a worker's number, they have the number of workers.
     rest: AtomicUsize,
-    /// Calls that come under a greater number, and those of the calling thread that aren't its next.
+    /// How many calls had a greater number than that, and how many of the calling thread came out of order.
     strays: AtomicUsize,
 }
 
 impl StarvingAll {
+    /// A gate that has seen no call.
     fn of(alloc: Global, workers: usize) -> StarvingAll {
         StarvingAll {
             alloc,
@@ -150,7 +158,7 @@ impl StarvingAll {
         }
     }
 
-    /// Whether so many commits have passed, and each call of the calling thread was its next.
+    /// Whether there were at least as many calls as commits, and those of the calling thread came in order.
     fn has_seen(&self, commits: u32) -> bool {
         let calls = self.calls.load(Ordering::SeqCst);
         commits as usize <= calls && self.strays.load(Ordering::SeqCst) == 0
@@ -170,8 +178,8 @@ impl Gate for StarvingAll {
     }
 }
 
-/// Explores by so many workers, all of which are starved. Each makes one call, so the gate has seen as many calls as there are
-/// commits only where it sees those of the calling thread.
+/// Explores with this many workers, each of which is starved and makes only one call. So the gate sees as many calls as
+/// there are commits only where it sees those of the calling thread too.
 fn starve_each<R: Threads + Wait + Sync + AllocGlobal>(
     rt: &R,
     tally: &mut Tally,
@@ -188,29 +196,36 @@ fn starve_each<R: Threads + Wait + Sync + AllocGlobal>(
     write_counts(text, workers, &settled)
 }
 
-/// Holds two workers so that the one that works the root then works one half of the tree as far as its fifth call, where it is
-/// starved, and the other one stands at its first call, with the other half, until the starved one has ended.
+/// A gate that holds two workers. The one that works the root goes on with one half of the tree, and is starved at its
+/// fifth call. The other one has the other half, and is held at its first call until the starved one has ended.
 #[derive(Drop)]
 struct Halving {
     alloc: Global,
+    /// How many calls were made.
     begun: AtomicUsize,
     /// The number of the worker that works the root, from 1.
     first: AtomicUsize,
+    /// How many calls the worker made that works the root.
     own: AtomicUsize,
+    /// How many calls the other worker made.
     others: AtomicUsize,
+    /// Not 0 once the first worker's fifth call has asked for memory.
     asked: AtomicUsize,
+    /// Not 0 where that call got no memory.
     starved: AtomicUsize,
-    /// The calls that were held in vain.
+    /// How many calls waited in vain.
     missed: AtomicUsize,
 }
 
 impl Halving {
+    /// Waits until the count isn't 0.
     fn wait_for(&self, count: &AtomicUsize) {
         if !is_reached(count, 1, TURNS) {
             add_one(&self.missed);
         }
     }
 
+    /// Sees a call of the worker that works the root.
     fn pass_first(&self) {
         let call = add_one(&self.own);
         if call == 2 {
@@ -224,6 +239,7 @@ impl Halving {
         }
     }
 
+    /// Sees a call of the other worker.
     fn pass_other(&self) {
         if add_one(&self.others) != 1 {
             return;
@@ -234,7 +250,7 @@ impl Halving {
         }
     }
 
-    /// Whether the worker was starved, and no call was held in vain.
+    /// Whether the worker was starved, and no call waited in vain.
     fn has_starved(&self) -> bool {
         self.starved.load(Ordering::SeqCst) != 0 && self.missed.load(Ordering::SeqCst) == 0
     }
@@ -264,9 +280,12 @@ fn data_of(alloc: Global, settled: &Settled) -> Result<String, Refused> {
     Ok(text)
 }
 
-/// A region's data are its place among the sixteen. One half has all its eight regions, and the budget leaves two for the
-/// starved worker's half: its first two by name, since what was given back to the book is leased in the order of names. From a
-/// bench that is left full, others would come first.
+/// Explores with two workers, one of which is starved in its half of the tree.
+///
+/// The data of a region's answer are its place among the sixteen regions. The other half gets all its eight regions,
+/// and the budget leaves two for the starved worker's half. These are its first two by name, since pieces that were
+/// given back to the book are leased in the order of names. If leases were left on the starved worker's bench, other
+/// regions would come first.
 fn starve_half<R: Threads + Wait + Sync + AllocGlobal>(
     rt: &R,
     tally: &mut Tally,
@@ -294,7 +313,7 @@ fn starve_half<R: Threads + Wait + Sync + AllocGlobal>(
     Ok(())
 }
 
-/// The explorations, and the line of each.
+/// Makes these explorations, and gives the line of each.
 pub fn starve_all<R: Threads + Wait + Sync + AllocGlobal>(
     rt: &R,
     tally: &mut Tally,

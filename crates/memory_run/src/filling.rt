@@ -1,4 +1,5 @@
-//! An exploration of which one worker's bench grows: where a growth is refused it, the lease that it hands back isn't lost.
+//! An exploration in which the bench of one worker grows. Where it gets no memory to grow, the lease that it hands back
+//! isn't lost.
 
 use crate::failing::{add_one, is_reached, write_counts};
 use crate::refused::Refused;
@@ -8,17 +9,23 @@ use std::sync::atomic::AtomicUsize;
 use std::sync::{Arc, Wait};
 use std::thread::Threads;
 
-/// After so many calls of a worker that works half of 511 pieces, its bench has had more leases than a new one has room for.
+/// After this many calls, the bench of a worker that works half of 511 pieces has had more leases than a new bench has
+/// room for.
 const FULL: usize = 80;
 
-/// How often a call that is held looks whether the other worker's bench is full. (That one may have ended.)
+/// How often a call that is held looks whether the other worker's bench is full. The other worker may have ended, so it
+/// doesn't look for ever.
 const TURNS: usize = 20_000;
 
-/// Holds worker 0, once the root is worked and it has one half, until worker 1 has filled its bench from the other half.
+/// A gate that holds worker 0, once the root is worked and it has one half, until worker 1 has filled its bench from
+/// the other half.
 #[derive(Drop)]
 struct Filling {
+    /// How many calls were made.
     begun: AtomicUsize,
+    /// How many calls worker 0 made, without the first call of all.
     own: AtomicUsize,
+    /// How many calls worker 1 made.
     others: AtomicUsize,
 }
 
@@ -33,7 +40,7 @@ impl Gate for Filling {
     }
 }
 
-/// The exploration, and its line. A lease that is lost is outstanding for ever, so nobody would end.
+/// Makes the exploration, and gives its line. A lost lease would stay outstanding for ever, so no worker would end.
 pub fn fill_bench<R: Threads + Wait + Sync + AllocGlobal>(rt: &R) -> Result<String, Refused> {
     let alloc = rt.alloc();
     let mut text = String::new(alloc);

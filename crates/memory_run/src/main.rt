@@ -1,11 +1,13 @@
-//! Explores a stack by two workers, so that a bench grows; makes the calls of the libraries that take memory, on three stacks, and
-//! shows what they answer; and explores a fifth stack by workers of which one or all may find no more memory.
+//! Explores a stack with two workers, so that a bench grows; makes the calls of the libraries that allocate memory, on
+//! three stacks, and shows what they answer; and explores a fifth stack with workers of which one or all get no more
+//! memory.
 //!
-//! Where a call on a value finds no memory, the value is compared with what it was, and the call is made once more; where another
-//! call finds none, all is made once more for that stack. (A book can be compared whole only once: with another one that took the
-//! same works, and all is made once more then too.) So if one growth is refused, whichever it is, the answers are the same,
-//! and only the last line differs: it counts the calls that found no memory, and what was wrong. `tools/memory_sweep` refuses
-//! this program one growth after the other.
+//! Where a call on a value gets no memory, the value is compared with what it was, and the call is made once more.
+//! Where another call gets none, all calls on that stack are made once more. (A book can be compared whole only once,
+//! with another one that took the same works. So all calls are made once more then too.) If one allocation is refused,
+//! whichever it is, the answers therefore stay the same, and only the last line differs: it counts the calls that got
+//! no memory, and what was wrong. `tools/memory_sweep` runs this program many times, and each time refuses another
+//! allocation.
 #![tactic(auto)]
 
 mod auditing;
@@ -29,17 +31,17 @@ use std::io;
 use std::sync::{Arc, Wait};
 use std::thread::Threads;
 
-/// What calls are made.
+/// A part of the program: which calls are made.
 #[derive(Clone, Copy)]
 enum Part {
-    /// Those that are refused for what they are handed.
+    /// Calls that are refused for their arguments.
     Refusals,
-    /// All on one stack.
+    /// All calls on one stack.
     Calls,
-    /// An exploration of which a bench grows. It comes first: after others by several workers, which growth is the bench's would
-    /// differ from run to run.
+    /// An exploration in which a bench grows. It comes first: after other explorations by several workers, it would
+    /// differ from run to run which allocation is the bench's.
     Bench,
-    /// Explorations of which one worker finds no memory, or all.
+    /// Explorations in which one worker, or each worker, gets no more memory.
     Workers,
 }
 
@@ -61,7 +63,7 @@ fn calls_on<R: Threads + Wait + Sync + AllocGlobal>(
     Ok(text)
 }
 
-/// What the calls of a part answer, of which some are about the stack of these files.
+/// What the calls of a part answer. `files` are those of its stack, if it takes one.
 fn all_of<R: Threads + Wait + Sync + AllocGlobal>(
     rt: &R,
     tally: &mut Tally,
@@ -77,7 +79,7 @@ fn all_of<R: Threads + Wait + Sync + AllocGlobal>(
     }
 }
 
-/// Shows what the calls of a part answer, at the second time where memory ran out at the first.
+/// Shows what the calls of a part answer. Where memory runs out, all of them are made a second time.
 fn show<R: Print + Threads + Wait + Sync + AllocGlobal>(
     rt: &R,
     tally: &mut Tally,

@@ -1,31 +1,34 @@
-//! Calls that answer a fault, and how many there were.
+//! Calls that answer a fault, and how many there are.
 
 use std::alloc::{AllocError, AllocFailed};
 
-/// A call that answered a fault, and the fault's number.
+/// A call that answered a fault.
 #[derive(Clone, Copy)]
 pub struct Refused {
+    /// The number of the fault.
     pub number: u16,
 }
 
-/// The number of want of memory.
+/// The number of the fault that says that memory is refused.
 pub const MEMORY: u16 = 60;
 
-/// How many calls found no memory, and how many answered or left something wrong.
+/// How many calls got no memory, and how often something was wrong.
 #[derive(Drop)]
 pub struct Tally {
+    /// How many calls got no memory.
     pub refused: u64,
+    /// How often a call answered or left something wrong.
     pub wrong: u64,
 }
 
 impl Tally {
-    /// Counts a fault, which has to be want of memory, and after which all has to be as it was.
+    /// Counts a fault. It has to be refused memory, and what the call was made on has to be as it was (`is_same`).
     pub fn refuse(&mut self, refused: Refused, is_same: bool) {
         self.refused = self.refused.saturating_add(1);
         self.expect(refused.number == MEMORY && is_same);
     }
 
-    /// Counts what has to hold, where it doesn't.
+    /// Counts as wrong what has to hold, where it doesn't.
     pub fn expect(&mut self, holds: bool) {
         if !holds {
             self.wrong = self.wrong.saturating_add(1);

@@ -1,4 +1,4 @@
-//! The stacks, and the questions that are asked of them.
+//! The stacks, and the questions that are asked about them.
 
 use crate::refused::Refused;
 use sf_check::{Stack, check};
@@ -37,14 +37,15 @@ pub const TWO_BITS: [u8; 32] = [
     0xff, 0x7f,
 ];
 
-/// Returns the lowest four bits of word 4 as the data of ERRNO: `ld [16]; and #15; or #0x50000; ret a`. Sixteen regions, by 31
-/// works.
+/// Returns the lowest four bits of word 4 as the data of ERRNO: `ld [16]; and #15; or #0x50000; ret a`. It has 16
+/// regions, which 31 works find.
 pub const FOUR_BITS: [u8; 32] = [
     0x20, 0, 0, 0, 0x10, 0, 0, 0, 0x54, 0, 0, 0, 0xf, 0, 0, 0, 0x44, 0, 0, 0, 0, 0, 5, 0, 0x16, 0,
     0, 0, 0, 0, 0, 0,
 ];
 
-/// Returns the lowest eight bits of word 4 as the data of ERRNO: `ld [16]; and #255; or #0x50000; ret a`. 256 regions, by 511 works.
+/// Returns the lowest eight bits of word 4 as the data of ERRNO: `ld [16]; and #255; or #0x50000; ret a`. It has 256
+/// regions, which 511 works find.
 pub const EIGHT_BITS: [u8; 32] = [
     0x20, 0, 0, 0, 0x10, 0, 0, 0, 0x54, 0, 0, 0, 0xff, 0, 0, 0, 0x44, 0, 0, 0, 0, 0, 5, 0, 0x16, 0,
     0, 0, 0, 0, 0, 0,
@@ -80,7 +81,7 @@ nr = [8, 58]
 actions = ["KILL_THREAD", "OTHER"]
 "#;
 
-/// The stack of these files, and its line: how many filters it has, how long a path is, and whether it is plain.
+/// The stack of these files. Adds its line: how many filters it has, how long a path is, and whether it is plain.
 pub fn stack_in(alloc: Global, files: &[&[u8]], text: &mut String) -> Result<Stack, Refused> {
     let mut programs = Vec::new(alloc);
     for file in files {

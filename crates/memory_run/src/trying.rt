@@ -1,4 +1,4 @@
-//! Pools and facts of pieces, and what becomes of them where a growth is refused.
+//! Pools and facts of pieces, and what becomes of them where an allocation is refused.
 
 ghost use Rattle.std.specs.Prelude.{◌<◌, length, IfSome};
 ghost use Rattle.sf_sym.specs.Pool.{IsCondBelow};
@@ -24,7 +24,8 @@ pub fn are_same(left: &Pool, right: &Pool) -> bool {
     true
 }
 
-/// Pushes a number. The pool is the same as the other one before, which has to be so too where a growth is refused.
+/// Pushes a number to the pool. Where an allocation is refused, the pool has to keep the nodes that it had, which are
+/// those of `before`.
 fn push(tally: &mut Tally, pool: &mut Pool, before: &Pool, number: u32) -> Result<NodeId, Refused> {
     match pool.push(Node::Const(number)) {
         Ok(id) => Ok(id),
@@ -35,10 +36,10 @@ fn push(tally: &mut Tally, pool: &mut Pool, before: &Pool, number: u32) -> Resul
     }
 }
 
-/// More numbers than a block of nodes has.
+/// How many numbers are pushed: more than a block of nodes has room for.
 const NUMBERS: u32 = 70;
 
-/// Two forks that grow alike stay the same.
+/// Pushes the same numbers to two forks of the piece's pool, which have to stay the same.
 pub fn grow_pools(tally: &mut Tally, piece: &Piece) -> Result<(), Refused> {
     let mut left = piece.pool().fork()?;
     let mut right = left.fork()?;
@@ -58,7 +59,8 @@ pub fn grow_pools(tally: &mut Tally, piece: &Piece) -> Result<(), Refused> {
     Ok(())
 }
 
-/// Learns a condition. False: no input meets it, and the facts are as they were.
+/// Learns a condition. False where no input meets it. Then, and where an allocation is refused, the facts have to be as
+/// they were.
 fn learn(
     alloc: Global,
     tally: &mut Tally,
@@ -83,16 +85,16 @@ fn learn(
     }
 }
 
-/// What is taken in of word 3.
+/// A limit of word 3, which the facts take in.
 #[derive(Clone, Copy)]
 enum Limit {
-    /// It lies from 0 to 1000.
+    /// The word is from 0 to 1000.
     Low,
-    /// It is even.
+    /// The word is even.
     Even,
 }
 
-/// Takes in a limit, by one call.
+/// Takes in a limit by one call. False where no input keeps to it.
 fn confine_once(
     alloc: Global,
     facts: &mut Facts,
@@ -108,7 +110,8 @@ fn confine_once(
     }
 }
 
-/// Takes in a limit. False: no input has it, and the facts are as they were.
+/// Takes in a limit. False where no input keeps to it. Then, and where an allocation is refused, the facts have to be
+/// as they were.
 fn confine(
     alloc: Global,
     tally: &mut Tally,
@@ -132,7 +135,7 @@ fn confine(
     }
 }
 
-/// Takes in a number that a fork of the piece's pool has gained, after which the facts aren't the piece's any more.
+/// Takes in a number that a fork of the piece's pool got. The facts have to differ from the piece's then.
 fn grow(alloc: Global, tally: &mut Tally, piece: &Piece) -> Result<(), Refused> {
     let mut pool = piece.pool().fork()?;
     let before = pool.fork()?;
@@ -149,7 +152,7 @@ fn grow(alloc: Global, tally: &mut Tally, piece: &Piece) -> Result<(), Refused> 
     Ok(())
 }
 
-/// The node of the number 0, which the pool of each piece has.
+/// The node of the number 0. The pool of each piece has one.
 fn zero_of(pool: &Pool) -> Option<NodeId>
     ensures { IfSome result (λ id. id.0 < length pool.now) }
 {
@@ -161,8 +164,8 @@ fn zero_of(pool: &Pool) -> Option<NodeId>
     None
 }
 
-/// Learns of a fork of the piece's facts that word 3 is even, at most 1000 and not 0, which leaves 2 as the least
-/// number; and whether word 0 may be above word 1. The piece reads no word 3.
+/// Learns on a fork of the piece's facts that word 3 is even, at most 1000 and not 0; 2 has to be the least number that
+/// is left. Then says whether word 0 may be above word 1. The piece reads no word 3.
 pub fn try_facts(alloc: Global, tally: &mut Tally, piece: &Piece) -> Result<bool, Refused> {
     grow(alloc, tally, piece)?;
     let pool = piece.pool();

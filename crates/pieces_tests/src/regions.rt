@@ -24,11 +24,7 @@ pub(crate) fn explored(
             break;
         };
         let (piece, step, longer) = advance(alloc, &piece)?.into_parts();
-        let name = match longer {
-            Some(name) => name,
-            None => Vec::from_slice(alloc, piece.name())?,
-        };
-        if !name.is_empty() && !matches!(step, Step::Settled(_)) {
+        if longer.is_some() && !matches!(step, Step::Settled(_)) {
             return Err("a name of what didn't settle".into());
         }
         match step {
@@ -36,7 +32,13 @@ pub(crate) fn explored(
                 open.push(on_true)?;
                 open.push(on_false)?;
             }
-            Step::Settled(answer) => regions.push((name, answer))?,
+            Step::Settled(answer) => {
+                let name = match longer {
+                    Some(name) => name,
+                    None => Vec::from_slice(alloc, piece.name())?,
+                };
+                regions.push((name, answer))?;
+            }
             Step::Empty => {}
         }
     }

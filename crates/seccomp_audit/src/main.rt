@@ -14,13 +14,15 @@ use std::{env, io, mem};
 /// The most bytes of the system's reason that are kept.
 const REASON: usize = 256;
 
-/// The files of the system, and why the last one wasn't read.
+/// The files of the system, read through `rt`.
 struct Disk<'a, R> {
     rt: &'a R,
+    /// Why the last file that was refused could not be read, in the system's words; empty before one is.
     reason: InlineText<REASON>,
 }
 
-/// The bytes of a file, and of one that is too long so many that this is seen.
+/// The bytes of a file. Of one that is longer than `MOST_BYTES`, only one byte more than that is read, which shows that
+/// it is too long.
 fn bytes_of<R: FileSystem + AllocGlobal>(rt: &R, path: &str) -> io::Result<Vec<u8>> {
     let mut bytes = Vec::new(rt.alloc());
     let file = File::open(rt, path)?;
@@ -54,13 +56,14 @@ impl<R: FileSystem + AllocGlobal> Files for Disk<'_, R> {
         self.reason.as_str()
     }
 
-    /// The process ends next, and gives all memory back at once: piece by piece it would take a sixteenth of an audit.
+    /// Gives no memory back: the process ends next, and the system takes all of it at once. To free each allocation
+    /// would take a sixteenth of an audit's time.
     fn take_over<T: Drop>(&self, found: T) {
         mem::forget(found);
     }
 }
 
-/// The arguments after the program's name, which needn't be UTF-8 and isn't read.
+/// The arguments after the program's name. The name isn't read, so it needn't be UTF-8.
 #[derive(Drop)]
 struct AfterName<'a, R> {
     rt: &'a R,
@@ -89,7 +92,8 @@ fn words_of(rt: &HostRuntime) -> io::Result<Vec<String>> {
     Ok(words.collect(rt.alloc())?)
 }
 
-/// Says why there are no words, and gives the exit status: a word is no UTF-8, or memory ran out.
+/// Writes to standard error why there are no words, and gives the exit status: 4 where a word is no UTF-8, or that of
+/// refused memory.
 fn no_words<E: Write>(error: &io::Error, err: &mut E) -> u8 {
     if error.kind() == ErrorKind::OutOfMemory {
         return tell_fault(&Fault::Memory, err);

@@ -1,10 +1,10 @@
--- The numbers under which faults are reported, and results that only want of memory keeps from what is due.
+-- The numbers under which faults are reported, and results that are the due ones unless memory is refused.
 use Rattle.std.specs.Prelude.{◌≡◌, ℕ, Result, Ok, Err}
 use Rattle.sf_audit.specs.declared.fault.Fault.{Fault}
 use Rattle.sf_audit.specs.declared.fault.Fault.TheVariants as faults
 use Rattle.sf_audit.specs.declared.policy.refusal.Refusal.{Refusal}
 
--- what each refusal of an audit, and want of memory, is told by
+-- the number of each refusal of an audit, and of refused memory
 abbrev pub fault_number : Fault → ℕ
 fault_number (faults.Ragged filter) = 10
 fault_number (faults.Empty filter) = 11
@@ -31,17 +31,17 @@ fault_number faults.Read = 50
 fault_number faults.Write = 51
 fault_number faults.Memory = 60
 
--- a fault other than want of memory is the one that is due
+-- a fault other than refused memory is the one that is due
 abbrev pub Fails : {X : Type 0} → Fault → Result X Fault → Type 0
 Fails faults.Memory due = Unit {0}
 Fails fault due = due ≡ Err fault
 
--- what a function answered, seen by `view`, is what is due, unless memory ran out
+-- what a function answered, seen by `view`, is what is due, unless memory is refused
 abbrev pub Gives : {X Y : Type 0} → (X → Y) → Result X Fault → Result Y Fault → Type 0
 Gives view (Ok x) due = due ≡ Ok (view x)
 Gives view (Err fault) due = Fails fault due
 
--- what was read, or the fault of a refusal without its place
+-- what was read, or only the fault of a refusal
 abbrev pub without_place : {X : Type 0} → Result X Refusal → Result X Fault
 without_place (Ok x) = Ok x
 without_place (Err refusal) = Err refusal.fault

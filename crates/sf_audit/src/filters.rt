@@ -1,4 +1,4 @@
-//! The stack of the filters of filter files.
+//! The stack that filter files spell.
 
 ghost use Rattle.std.specs.Prelude.{◌≡◌, ◌⊎◌, ◌≤◌, length, map, IfOk, IfErr};
 ghost use Rattle.sf_audit.specs.FaultPlaces.{decode_fault, check_fault};
@@ -10,7 +10,7 @@ use sf_check::{MOST_PROGRAMS, Program, Stack, check};
 use sf_insn::decode;
 use std::alloc::Global;
 
-/// What is wrong with the bytes of the filter with this number.
+/// A fault of the bytes of a filter, with the filter's number, from 1.
 fn undecodable(filter: usize, fault: sf_insn::Fault) -> Fault
     ensures { result ≡ decode_fault filter fault }
 {
@@ -22,7 +22,7 @@ fn undecodable(filter: usize, fault: sf_insn::Fault) -> Fault
     }
 }
 
-/// What is wrong with the program of the filter with this number, or with a stack whose last filter it is.
+/// A fault of the program of a filter, with the filter's number, from 1; or of the stack whose last filter it is.
 fn unlawful(filter: usize, fault: sf_check::Fault) -> Fault
     ensures { result ≡ check_fault filter fault }
 {
@@ -53,7 +53,7 @@ fn unlawful(filter: usize, fault: sf_check::Fault) -> Fault
     }
 }
 
-/// The program that the bytes of the filter with this number spell.
+/// The program that the bytes of a filter spell. `filter` is the filter's number, from 1, in the fault.
 fn program_of(alloc: Global, filter: usize, bytes: &[u8]) -> Result<Program, Fault>
     ensures accepted { IfOk result (SpellsProgram bytes.now) }
     ensures refused { IfErr result (λ e. (e ≡ Fault.Memory) ⊎ IsRefusalOf filter bytes.now e) }
@@ -77,11 +77,11 @@ fn programs_of(alloc: Global, filters: &[Vec<u8>]) -> Result<Vec<Program>, Fault
     Ok(programs)
 }
 
-/// The stack of these filter files, which stand in order of installation, the newest last.
+/// The stack that these filter files spell. They stand in order of installation, the newest last.
 ///
-/// Tried in this order: `NoFilter` where there is no file, `TooMany` where there are more than 64; then for each file
-/// in order `Ragged`, `Empty` and `TooLong`, then the first fault of its instructions; then `PathLength` where the
-/// path through all programs is longer than 32768. `Memory` can come anywhere.
+/// Refusals, tried in this order: `NoFilter` where there is no file, `TooMany` where there are more than 64; then for
+/// each file in order `Ragged`, `Empty` and `TooLong`, then the first fault of its instructions; then `PathLength`
+/// where the path through all programs is longer than 32768. `Memory` can come anywhere.
 pub fn stack_of(alloc: Global, filters: &[Vec<u8>]) -> Result<Stack, Fault>
     ensures accepted { IfOk result (SpellStack (map (λ f. f.items) filters.now)) }
     ensures refused { IfErr result (λ e. (e ≡ Fault.Memory)

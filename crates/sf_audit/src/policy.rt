@@ -26,14 +26,14 @@ use sf_ask::Question;
 use std::alloc::Global;
 use toml::{Table, Value};
 
-/// The version of a policy file: in the second a word's value may be a table with a mask.
+/// The version of a policy file. In version 2 the value of a word may also be a table with a mask.
 #[derive(Clone, Copy, Debug)]
 enum Version {
     One,
     Two,
 }
 
-/// The version that a policy names, where it is a known one.
+/// The version that a policy names; none where it names no known one.
 fn version_in(table: &Table) -> Option<Version>
     ensures { result ≡ version_of (number_at (codes "version") (table_view table.now)) }
 {
@@ -51,7 +51,7 @@ fn are_tables(items: &[Value]) -> bool
     items.iter().all(|value| value.is_table())
 }
 
-/// The questions of tables, of which there are to be 1 to 256.
+/// The questions of a list of tables. `Count` where there is none or more than 256; then what `questions_in` refuses.
 #[tactic(auto, using(crate::proofs::TreeLemmas::count_view))]
 fn questions_counted(
     alloc: Global,
@@ -67,7 +67,7 @@ fn questions_counted(
     questions_in(alloc, version, items)
 }
 
-/// The questions of an array, whose values are to be tables.
+/// The questions of an array. `TopKey` where some value is no table; then what `questions_counted` refuses.
 fn questions_of_items(
     alloc: Global,
     version: Version,
@@ -83,7 +83,7 @@ fn questions_of_items(
     }
 }
 
-/// The questions of a value, which is to be an array of tables.
+/// The questions of a value. `TopKey` where it is no array of tables; then what `questions_counted` refuses.
 fn questions_of_value(
     alloc: Global,
     version: Version,
@@ -98,7 +98,8 @@ fn questions_of_value(
     }
 }
 
-/// The questions of a policy, by its version, its keys at the top and their values.
+/// The questions of a policy's tree. `Version`; then `TopKey` where a key at the top is unknown; then `Count` where the
+/// questions are missing, or what `questions_of_value` refuses.
 fn policy_of_table(alloc: Global, table: &Table) -> Result<Vec<Question>, Fault>
     ensures { Gives (λ v. v.items) result (policy_of (table_view table.now)) }
 {
@@ -114,7 +115,7 @@ fn policy_of_table(alloc: Global, table: &Table) -> Result<Vec<Question>, Fault>
     }
 }
 
-/// The questions of a policy, or the fault for which it is refused, with its tree.
+/// The questions of a policy's tree; or the fault for which they are refused, with the tree.
 fn questions_or_refusal(alloc: Global, table: Table) -> Result<Vec<Question>, Refusal>
     ensures { Gives (λ v. v.items) (without_place result) (policy_of (table_view table)) }
 {
@@ -127,13 +128,14 @@ fn questions_or_refusal(alloc: Global, table: Table) -> Result<Vec<Question>, Re
     }
 }
 
-/// The questions of a policy file as `read_policy` reads them, or the fault for which it refuses them, and where that lies.
+/// The questions of a policy file, as `read_policy` reads them. A refusal has the fault that `read_policy` answers, and
+/// what was read of the file, from which a person can be told where the fault lies.
 pub fn read_policy_at(alloc: Global, text: &str) -> Result<Vec<Question>, Refusal>
     // Where the text is TOML, the questions or the refusal are those of its tree.
     ensures read { (tree : Members) → parse_document text.now ≡ Some tree
         → Gives (λ v. v.items) (without_place result) (policy_of tree) }
 
-    // `Syntax` comes exactly where it is none, unless memory ran out.
+    // `Syntax` comes exactly where it is no TOML, unless memory ran out.
     ensures syntax { without_place result ≡ Err Fault.Syntax
         → parse_document text.now ≡ None }
     ensures no_syntax { parse_document text.now ≡ None
@@ -157,18 +159,18 @@ pub fn read_policy_at(alloc: Global, text: &str) -> Result<Vec<Question>, Refusa
 }
 
 /// The questions of a policy file, which is TOML of version 1 or 2. A question names ranges of words and, in version 2,
-/// bits of them; a word that it doesn't name may have any number. Without actions it asks about ALLOW and LOG.
+/// bits of them; a word that it doesn't name may have any number. A question without actions asks about ALLOW and LOG.
 ///
-/// Refusals, tried in this order: `Syntax` where the text is no TOML; `Version`; `TopKey` where a key at the top is
-/// unknown or the questions are no array of tables; `Count` where there are none or more than 256; then, question after
-/// question, `Key`, `Name`, `Range`, `Mask` and `Actions`, with the number of the question from 1. `Memory` can come
-/// anywhere.
+/// Refusals, tried in this order: `Syntax` where the text is no TOML; `Version` where the version is missing or neither
+/// 1 nor 2; `TopKey` where a key at the top is unknown or the questions are no array of tables; `Count` where there are
+/// none or more than 256; then, question after question, `Key`, `Name`, `Range`, `Mask` and `Actions`, with the number
+/// of the question from 1. `Memory` can come anywhere.
 pub fn read_policy(alloc: Global, text: &str) -> Result<Vec<Question>, Fault>
     // Where the text is TOML, the questions or the refusal are those of its tree.
     ensures read { (tree : Members) → parse_document text.now ≡ Some tree
         → Gives (λ v. v.items) result (policy_of tree) }
 
-    // `Syntax` comes exactly where it is none, unless memory ran out.
+    // `Syntax` comes exactly where it is no TOML, unless memory ran out.
     ensures syntax { result ≡ Err Fault.Syntax → parse_document text.now ≡ None }
     ensures no_syntax { parse_document text.now ≡ None → (result ≡ Err Fault.Syntax)
         ⊎ (result ≡ Err Fault.Memory) }

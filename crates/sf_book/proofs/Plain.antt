@@ -44,7 +44,7 @@ pub split_book : (b : BookData) (next id : ℕ) (w : WorkData) (f t : PieceData)
     → IsBook (after_split b ((without id b.outstanding ++ leased_piece next f ∷ []) ++ leased_piece (next + 1) t ∷ []))
     (next + 2)
 split_book b next id w f t h m room work = record {
-  kept = split_kept b next id w f t h.kept m room work.right.0 (right_step w (Split f t) work);
+  kept = split_kept b next id w f t h.kept m room work.right.0 (right_step w (Split f t) work).0;
   plain = split_plain b id next (next + 1) w f t h.plain m work.plain work.is;
 }
 
@@ -60,6 +60,6 @@ pub empty_book : (b : BookData) (next id : ℕ) (w : WorkData) → IsBook b next
     → IsLawfulWork w Empty
     → IsBook (after_empty b (without id b.outstanding) w.piece.name) next
 empty_book b next id w h m room work = record {
-  kept = empty_kept b next id w h.kept m room work.right.0 (right_step w Empty work);
+  kept = empty_kept b next id w h.kept m room work.right.0 (right_step w Empty work).0;
   plain = empty_plain b id w m work.plain work.is;
 }

@@ -1,4 +1,4 @@
--- Files of which only the first ones are kept: what is told of these holds of all.
+-- Files of which only the first ones are kept: what holds of these holds of all.
 use Rattle.std.proofs.Common.{◌≡◌, ◌⊎◌, inl, inr, ℕ, ◌<◌, ◌≤◌, suc, List, [], ◌∷◌, ◌++◌, length, length-append, take, Option, Bor, Ok, refl, sym, ap, ap₂, subst, arith, ◌∙◌, ◌+◌, min}
 use Rattle.std.proofs.lemmas.List.{length-take, take-append-le, take_all}
 use Rattle.std.specs.Prelude.{Bool, Some, is_ok, slice_get}
@@ -16,7 +16,7 @@ use Rattle.sf_command.specs.Files.{AreKept, AreKnownBytes, AreRead}
 use Rattle.sf_command.specs.Outputs.{ChecksFiles, EvaluatesFiles, RefusesEval, RefusesFiles, WritesAnswer, WritesCheck}
 use Rattle.sf_command.proofs.Pairing.{PairedSoFar, paired_all, paired_more}
 
--- a program for each file
+-- there is a program for each file
 spelled_same : (files : List (List ℕ)) (programs : List (List Insn)) → SpellPrograms files programs
     → length files ≡ length programs
 spelled_same [] [] spelled = refl
@@ -24,24 +24,24 @@ spelled_same (f ∷ files) (p ∷ programs) (one, others) = ap (λ (n : ℕ). su
 spelled_same [] (p ∷ programs) spelled = absurd spelled
 spelled_same (f ∷ files) [] spelled = absurd spelled
 
--- files that spell a lawful stack are no more than 64
+-- files that spell a lawful stack are at most 64
 pub stack_is_few : (files : List (List ℕ)) (programs : List (List Insn)) → SpellStack files programs
     → length files ≤ 64
 stack_is_few files programs spell = omega (arith, spelled_same files programs spell.spelled, spell.lawful.few)
 
--- how many are kept
+-- how many files are kept, from how many there are
 counted_of : (kept files : List (List ℕ)) → kept ≡ take 65 files → length kept ≡ min 65 (length files)
 counted_of kept files first = ap (λ (xs : List (List ℕ)). length xs) first ∙ length-take 65 files
 
--- no more than 64 that are kept are all
+-- where at most 64 files are kept, they are all
 few_are_all : (kept files : List (List ℕ)) → kept ≡ take 65 files → length kept ≤ 64 → kept ≡ files
 few_are_all kept files first few = first ∙ take_all 65 files (omega (arith, counted_of kept files first, few))
 
--- and of more than 64 there are more
+-- where more than 64 files are kept, there are more than 64
 many_of_many : (kept files : List (List ℕ)) → kept ≡ take 65 files → 64 < length kept → 64 < length files
 many_of_many kept files first many = omega (arith, counted_of kept files first, many)
 
--- one more that is read, and kept
+-- where at most 64 files are kept, one more that is read is kept too
 pub kept_more : (kept files : List (List ℕ)) (file : List ℕ) → kept ≡ take 65 files → length kept ≤ 64
     → kept ++ file ∷ [] ≡ take 65 (files ++ file ∷ [])
 kept_more kept files file first few =
@@ -50,14 +50,14 @@ kept_more kept files file first few =
     let short : length files ≡ length kept = rw same refl in
     rw same (sym (take_all 65 (files ++ file ∷ []) (omega (arith, counted, short, few))))
 
--- or not kept
+-- where more than 64 files are kept, one more that is read isn't kept
 pub kept_no_more : (kept files : List (List ℕ)) (file : List ℕ) → kept ≡ take 65 files → 64 < length kept
     → kept ≡ take 65 (files ++ file ∷ [])
 kept_no_more kept files file first many =
     first ∙ sym (take-append-le 65 files (file ∷ []) (many_of_many kept files first many))
 
--- The files at the first of the paths were read, and the first of them kept, by what was known before: nothing else is
--- known after.
+-- The files at the first of the paths were read, and the first of these were kept. What is known of files stays what it
+-- was before.
 pub record KeptSoFar (before after : List ℕ → Option (List ℕ)) (paths : List (Bor (List ℕ))) (place : ℕ)
     (kept : List (List ℕ)) : Type 0 where
   pub all : List (List ℕ)
@@ -65,7 +65,7 @@ pub record KeptSoFar (before after : List ℕ → Option (List ℕ)) (paths : Li
   pub first : kept ≡ take 65 all
   pub same : (p : List ℕ) → after p ≡ before p
 
--- none was read
+-- before any file is read
 pub none_kept : (before : List ℕ → Option (List ℕ)) (paths : List (Bor (List ℕ))) → KeptSoFar before before paths 0 []
 none_kept before paths = record {
   all = [];
@@ -78,13 +78,13 @@ module _ (before after next : List ℕ → Option (List ℕ)) (paths : List (Bor
     (kept : List (List ℕ)) (path : Bor (List ℕ)) (file : List ℕ) (so_far : KeptSoFar before after paths place kept)
     (here : slice_get paths place ≡ Some path) (agrees : AreKnownBytes (after path.now) file)
     (same : (p : List ℕ) → next p ≡ after p) where
-  -- one more was read, and is the last of them
+  -- with one file more, all that were read belong to the first paths
   one_paired : PairedSoFar (λ path file. AreKnownBytes (before path.now) file) paths
       (so_far.all ++ file ∷ []) (place + 1)
   one_paired = paired_more _ _ _ _ _ _ _ so_far.paired here
       (subst (λ known. AreKnownBytes known file) (so_far.same path.now) agrees) refl
 
-  -- it was kept too
+  -- where the one more is kept too
   pub one_kept : (more : List (List ℕ)) → more ≡ kept ++ file ∷ [] → length kept ≤ 64
       → KeptSoFar before next paths (place + 1) more
   one_kept more pushed few = record {
@@ -94,7 +94,7 @@ module _ (before after next : List ℕ → Option (List ℕ)) (paths : List (Bor
     same = λ p. same p ∙ so_far.same p;
   }
 
-  -- or there were enough
+  -- where it isn't kept, since there were enough
   pub none_more_kept : 64 < length kept → KeptSoFar before next paths (place + 1) kept
   none_more_kept many = record {
     all = so_far.all ++ file ∷ [];
@@ -103,7 +103,7 @@ module _ (before after next : List ℕ → Option (List ℕ)) (paths : List (Bor
     same = λ p. same p ∙ so_far.same p;
   }
 
--- all were read
+-- once all files are read, the kept ones are those of the paths
 pub all_kept : (before after : List ℕ → Option (List ℕ)) (paths : List (Bor (List ℕ))) (place : ℕ)
     (kept : List (List ℕ)) → KeptSoFar before after paths place kept → length paths ≤ place → place ≤ length paths
     → AreKept before paths kept
@@ -113,7 +113,8 @@ all_kept before after paths place kept so_far over under = record {
   first = so_far.first;
 }
 
--- files that are all there are if they are few, and else too many, are refused as all are
+-- What refuses the kept files refuses all files: the kept ones are all files if they are at most 64, and else there are
+-- more than 64.
 pub refusal_of_all : (kept files : List (List ℕ)) (e : Fault) → (length kept ≤ 64 → kept ≡ files)
     → (64 < length kept → 64 < length files) → IsFirstRefusal kept e → IsFirstRefusal files e
 refusal_of_all kept files faults.TooMany same more many = more many
@@ -126,12 +127,12 @@ refusal_of_all kept files fault same more (few, refused) =
 
 module _ (holds : List ℕ → Option (List ℕ)) (paths : List (Bor (List ℕ))) (kept : List (List ℕ))
     (all : AreKept holds paths kept) where
-  -- where they spell a lawful stack, they are all that were read
+  -- where the kept files spell a lawful stack, they are all that were read
   pub kept_stack : (programs : List (List Insn)) → SpellStack kept programs → AreRead holds paths kept
   kept_stack programs spell = subst (λ fs. AreRead holds paths fs)
       (sym (few_are_all kept all.files all.first (stack_is_few kept programs spell))) all.read
 
-  -- where they are refused, all that were read are refused
+  -- where the kept files are refused, all that were read are refused
   pub kept_refusal : (e : Fault) → IsFirstRefusal kept e → IsFirstRefusal all.files e
   kept_refusal e = refusal_of_all kept all.files e (few_are_all kept all.files all.first)
       (many_of_many kept all.files all.first)
@@ -163,7 +164,7 @@ module _ (holds : List ℕ → Option (List ℕ)) (paths : List (Bor (List ℕ))
   kept_refuses_eval digits input e spelled (inr (why, same)) =
       inr (ap (λ r. is_ok r) spelled, inr (kept_why e why))
 
-  -- so too where an audit is refused
+  -- where an audit of the kept files is refused, that of all is refused
   pub kept_audit_refusal : (questions : List QuestionData) (e : Fault) → IsAuditRefusal kept questions e
       → IsAuditRefusal all.files questions e
   kept_audit_refusal questions faults.Count wrong = record {
@@ -174,14 +175,14 @@ module _ (holds : List ℕ → Option (List ℕ)) (paths : List (Bor (List ℕ))
   }
   kept_audit_refusal questions e refused = kept_refusal e refused
 
--- the second of two, weaker
+-- a choice of two with a weaker second statement
 pub second_weaker : {P Q R : Type 0} → (Q → R) → P ⊎ Q → P ⊎ R
 second_weaker f (inl p) = inl p
 second_weaker f (inr q) = inr (f q)
 
 module _ (holds : List ℕ → Option (List ℕ)) (old new : List (Bor (List ℕ))) (kept : List (List ℕ)) (older : ℕ)
     (both : AreBothKept holds old new kept older) where
-  -- no more than 64 that are kept of both are all of each
+  -- where at most 64 files are kept of both stacks, they are all of each
   few_of_both : length kept ≤ 64 → (both.olds ≡ both.read_old.files) × (both.news ≡ both.read_new.files)
   few_of_both few =
       let counted : length kept ≡ length both.olds + length both.news =
@@ -190,7 +191,7 @@ module _ (holds : List ℕ → Option (List ℕ)) (old new : List (Bor (List ℕ
         few_are_all both.news both.read_new.files both.read_new.first (omega (arith, counted, few)),
       )
 
-  -- where they spell a lawful stack, they are all that were read
+  -- where the kept files spell a lawful stack, they are all that were read
   pub both_stack : (programs : List (List Insn)) → SpellStack kept programs → AreBothRead holds old new kept older
   both_stack programs spell =
       let (same_old, same_new) = few_of_both (stack_is_few kept programs spell) in
@@ -203,7 +204,7 @@ module _ (holds : List ℕ → Option (List ℕ)) (old new : List (Bor (List ℕ
         parted = both.parted;
       }
 
-  -- all that were read of both
+  -- all files that were read of both stacks
   abbrev pub both_files : List (List ℕ)
   both_files = both.read_old.files ++ both.read_new.files
 
@@ -217,7 +218,7 @@ module _ (holds : List ℕ → Option (List ℕ)) (old new : List (Bor (List ℕ
     parted = refl;
   }
 
-  -- where they are refused, all that were read are refused
+  -- where the kept files are refused, all that were read are refused
   pub both_refusal : (e : Fault) → IsFirstRefusal kept e → IsFirstRefusal both_files e
   both_refusal e = refusal_of_all kept both_files e same more
     where

@@ -1,4 +1,4 @@
--- A list that grows beside another, place by place.
+-- Two lists that belong together, place by place, where the second one grows.
 use Rattle.std.proofs.Common.{◌≡◌, ℕ, zero, suc, ◌+◌, ◌<◌, ◌≤◌, List, [], ◌∷◌, ◌++◌, length, map, Some, slice_get, refl, sym, ◌∙◌, ap, inl, inr, arith}
 use Rattle.std.proofs.lemmas.Bool.{cases_eq}
 use Rattle.std.proofs.lemmas.Option.{same_Some, slice_get_within, slice_get-map}
@@ -49,7 +49,7 @@ paired_all Holds Weaker xs ys place weaker so_far over under = record {
       (y, at, weaker x y holds);
 }
 
--- the second list, seen through a function
+-- two lists that belong together through a function on the second one's elements
 pub paired_mapped : {X Y Z : Type 0} (Holds : X → Z → Type 0) (view : Y → Z) (xs : List X) (ys : List Y)
     → Pairwise (λ x y. Holds x (view y)) xs ys → Pairwise Holds xs (map view ys)
 paired_mapped {X} {Y} {Z} Holds view xs ys paired = record {

@@ -1,4 +1,4 @@
--- What the answer of `read_policy` tells of the bytes of a policy file.
+-- What the answer of `read_policy` says of the bytes of a policy file.
 use Rattle.std.proofs.Common.{◌≡◌, ℕ, List, Option, Some, None, Result, Ok, Err, refl, ◌⊎◌, inl, inr}
 use Rattle.std.specs.Prelude.{IfOk, IfErr}
 use Rattle.toml.specs.Data.{Members}
@@ -15,7 +15,7 @@ option_cases : {X : Type 0} (o : Option X) → (o ≡ None) ⊎ ((x : X) × (o �
 option_cases None = inl refl
 option_cases (Some x) = inr (x, refl)
 
--- a refusal is want of memory or the one that is due
+-- a fault is refused memory, or the one that is due
 fails_due : {X : Type 0} (fault : Fault) (due : Result X Fault) → Fails fault due → (fault ≡ faults.Memory)
     ⊎ (due ≡ Err fault)
 fails_due (faults.Ragged f) due h = inr h

@@ -1,4 +1,4 @@
--- Files that hold the same read the same.
+-- Stores of files with the same known bytes: what was read from one was read from the other too.
 use Rattle.std.proofs.Common.{◌≡◌, ℕ, List, Option, Bor, subst}
 use Rattle.sf_command.specs.Files.{AreKept, AreKnownBytes, AreRead}
 

@@ -1,4 +1,4 @@
--- Which subcommand a command line enters that fits its form.
+-- Which subcommand the words of a command line name that fits its form.
 use Rattle.std.proofs.Common.{◌≡◌, ◌⊎◌, inl, inr, ap, sym, ◌∙◌, List, [], ◌∷◌, Bool, true, false, codes, refl}
 use Rattle.std.specs.Prelude.{if◌then◌else◌, Option, Some, None, find, is_some, option_map, unwrap_or}
 use Rattle.clap.specs.Words.{App, Kinds, Row, Shape, Text}
@@ -10,23 +10,23 @@ use Rattle.clap.specs.declared.error.kind.ErrorKind.{ErrorKind}
 use Rattle.sf_command.specs.CommandLine.{command_line}
 use Rattle.sf_command.specs.Runs.{IsKnown, errors_at, subcommand_at}
 
--- where two lists of errors are tried in turn and give none, the second gives none
+-- where two lists of errors are tried in turn and give none, the second list is empty
 second_none : (a b : Kinds) → or_else a b ≡ [] → b ≡ []
 second_none [] b none = none
 second_none (k ∷ ks) b none = cc
 
--- one error or another is no lack of errors
+-- a list of one error or of another isn't empty
 one_or_other : (b : Bool) (k l : ErrorKind) → (if b then k ∷ [] else (l ∷ [])) ≡ [] → ⊥
 one_or_other true k l none = cc
 one_or_other false k l none = cc
 
--- the last checks find none only where a subcommand was entered, if one must be
+-- the last checks find no error only where a subcommand was entered, if one must be
 check_needs : (s : Shape) (rows : List Row) (has : Bool) → s.subcommand_required ≡ true
     → check_fault s rows has ≡ [] → has ≡ true
 check_needs s rows true needed none = refl
 check_needs s rows false needed none = absurd (one_or_other _ _ _ (rw needed at none))
 
--- so a line that fits the form enters a subcommand, if one must be
+-- words that fit the form enter a subcommand, if one must be entered
 pub needs_subcommand : (a : App) (words : List Text) → a.top.subcommand_required ≡ true
     → built_fault a nothing_held words ≡ []
     → is_some (entered a (stop_after a.top.rules (names_of a) words)) ≡ true
@@ -38,7 +38,7 @@ needs_subcommand a words needed none =
     (second_none (settle_fault a.top.rules a.top.args_override_self end.held) _ settled_none) in
     check_needs a.top (finished a.top.rules end.held) _ needed last_none
 
--- the first of three that passes a test is one of them
+-- the first of three that has a property is one of them
 first_of_three : (p : Shape → Bool) (x y z s : Shape) → find p (x ∷ y ∷ z ∷ []) ≡ Some s → (s ≡ x) ⊎ (s ≡ y) ⊎ (s ≡ z)
 first_of_three p x y z s found = go (p x) refl
   where
@@ -54,7 +54,7 @@ first_of_three p x y z s found = go (p x) refl
     go true is = let h : Some x ≡ Some s = rw is at found in inl cc
     go false is = inr (second (p y) refl (rw is at found))
 
--- the first of four
+-- the first of four that has a property is one of them
 first_of_four : (p : Shape → Bool) (w x y z s : Shape) → find p (w ∷ x ∷ y ∷ z ∷ []) ≡ Some s
     → (s ≡ w) ⊎ (s ≡ x) ⊎ (s ≡ y) ⊎ (s ≡ z)
 first_of_four p w x y z s found = go (p w) refl
@@ -98,7 +98,7 @@ known_subcommand words fits =
     entered_name a _ _ _ _ refl (stop_after a.top.rules (names_of a) (argument_words command_line words))
     (needs_subcommand a (argument_words command_line words) refl fits)
 
--- a name that is none of the four
+-- where a subcommand's name is none of the four, none of the four is named
 pub unknown_name : (o : Option (Text × List Row)) (name : Text) (rows : List Row) → o ≡ Some (name, rows)
     → ¬ (name ≡ codes "audit") → ¬ (name ≡ codes "check") → ¬ (name ≡ codes "eval")
     → ¬ (name ≡ codes "compare") → ¬ IsKnown o
@@ -111,7 +111,7 @@ unknown_name o name rows is no_audit no_check no_eval no_compare (found, met, in
 unknown_name o name rows is no_audit no_check no_eval no_compare (found, met, inr (inr (inr compare))) =
     no_compare (ap (λ (p : Option (Text × List Row)). (unwrap_or p found).0) (sym is ∙ met) ∙ compare)
 
--- no name
+-- where there is no name, none of the four is named
 pub no_name : {X : Type 0} (f : X → Text) (g : X → List Row) (o : Option X) → None ≡ option_map f o
     → ¬ IsKnown (option_map {U = Text × List Row} (λ x. (f x, g x)) o)
 no_name f g None none (found, met, name) = cc

@@ -1,4 +1,4 @@
--- The text of a trace, one filter longer.
+-- The text of a trace with one filter more, or one line.
 use Rattle.std.proofs.Common.{◌≡◌, ℕ, suc, ◌+◌, ◌<◌, Bool, List, [], ◌∷◌, ◌++◌, codes, Option, Some, None, drop, get_or, length, slice_get, unwrap_or, append_assoc, ap, sym, ◌∙◌, refl}
 use Rattle.std.proofs.lemmas.List.{drop_more}
 use Rattle.std.proofs.lemmas.Option.{slice_get-get_or}
@@ -23,7 +23,7 @@ one_more_filter brief n action stood stands programs d code w old new whole at r
     ≡ whole = rw (stands_is, ← so_far, at, ran) refl in
     rw (pushed, append_assoc old) so_far'
 
--- one more of what is met, where A is this word
+-- the lines of what a filter meets, with one more
 pub one_more_meeting : (brief : Bool) (number : ℕ) (words : List (Option ℕ)) (met : List Meeting) (place : ℕ)
     (m : Meeting) (word : Option ℕ) (old new whole : List ℕ)
     → place < length met → m ≡ get_or met place m → word ≡ unwrap_or (slice_get words m.place) None
@@ -35,14 +35,14 @@ one_more_meeting brief number words met place m word old new whole below at is p
     ≡ whole = rw (is, ← so_far, drop_more met place m below, ← at) refl in
     rw (pushed, append_assoc old) so_far'
 
--- the program that was read at a place
+-- the program that was read from a place of the list stands at that place
 pub program_at : (programs : List (List Insn)) (n k : ℕ) (code : List Insn) → code ≡ get_or programs k code → k ≡ n
     → n < length programs → slice_get programs n ≡ Some code
 program_at programs n k code read same within =
     let read' : code ≡ get_or programs n code = rw same at read in
     slice_get-get_or programs n code within ∙ ap (λ (c : List Insn). Some c) (sym read')
 
--- the parts of a line, added one after the other
+-- the line of a comparison, whose parts were added one after the other
 pub test_parts : (old head named worded new number place name word rest : List ℕ)
     → head ≡ old ++ (codes "filter " ++ (number ++ (codes " instruction " ++ (place ++ 32 ∷ []))))
     → named ≡ head ++ name → worded ≡ named ++ word → new ≡ worded ++ rest

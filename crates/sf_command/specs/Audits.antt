@@ -34,7 +34,7 @@ abbrev pub RefusesPolicyFile : Option (List ℕ) → Fault → Type 0
 RefusesPolicyFile known fault = (bytes : List ℕ) × AreKnownBytes known bytes × RefusesPolicy bytes fault
 
 -- `audit`: the files at the paths are read and audited by the questions of the policy file; the report is written, and
--- the status tells the replies
+-- the status is that of the replies
 pub record AuditsFiles (holds : List ℕ → Option (List ℕ)) (policy : List ℕ) (paths : List (Bor (List ℕ))) (budget : ℕ)
     (regions : Bool) (status : ℕ) (old new : Option (List ℕ)) : Type 0 where
   pub questions : List QuestionData
@@ -46,15 +46,15 @@ pub record AuditsFiles (holds : List ℕ → Option (List ℕ)) (policy : List �
   pub written : Appends old new (report_text found regions)
   pub told : status ≡ replies_status found.replies
 
--- Why an audit by these questions is refused: a filter file, which isn't known, can't be read, or all were read and the
--- audit of what they hold is refused.
+-- Why an audit by these questions is refused: a filter file whose bytes aren't known can't be read; or all were read,
+-- and the audit of what they hold is refused.
 abbrev pub RefusesAsked : (List ℕ → Option (List ℕ)) → List (Bor (List ℕ)) → List QuestionData → Fault → Type 0
 RefusesAsked holds paths questions fault =
     ((fault ≡ Read) × HasUnknown holds paths)
     ⊎ ((files : List (List ℕ)) × AreRead holds paths files × IsAuditRefusal files questions fault)
 
--- Why an audit is refused: writing or memory failed; the policy file, which isn't known, can't be read, or it is no
--- policy; or it is one, and the audit by its questions is refused.
+-- Why an audit is refused: writing or memory failed; the policy file, whose bytes aren't known, can't be read; it was
+-- read and is no policy; or it is one, and the audit by its questions is refused.
 abbrev pub RefusesAudit : (List ℕ → Option (List ℕ)) → List ℕ → List (Bor (List ℕ)) → Fault → Type 0
 RefusesAudit holds policy paths fault =
     (fault ≡ Write) ⊎ (fault ≡ Memory)

@@ -9,11 +9,11 @@ use Rattle.clap.specs.declared.builder.value_parser.ValueParser.TheVariants.{Sig
 abbrev pub option_rule : Text → Rule
 option_rule name = record (new_rule name) { long = Some name; value_names = 1 }
 
--- such an option that must be given
+-- an option `--name VALUE` that must be given
 abbrev pub needed_rule : Text → Rule
 needed_rule name = record (option_rule name) { required = true }
 
--- such an option with a number from 1 to the greatest, and this text where it is left out
+-- an option `--name NUMBER`, with a number from 1 to the greatest; where it is left out, the usual text stands for it
 abbrev pub number_rule : Text → ℕ → Text → Rule
 number_rule name greatest usual = record (option_rule name) {
   parser = Some (Signed (pos 1) (pos greatest));
@@ -24,7 +24,7 @@ number_rule name greatest usual = record (option_rule name) {
 abbrev pub switch_rule : Text → Rule
 switch_rule name = record (new_rule name) { long = Some name; action = Some SetTrue }
 
--- the filter files: one word or more that belong to no option
+-- the filter files: one word or more, which belong to no option
 abbrev pub filters_rule : Rule
 filters_rule = record (new_rule (codes "filters")) {
   value_names = 1;
@@ -33,7 +33,7 @@ filters_rule = record (new_rule (codes "filters")) {
   action = Some Append;
 }
 
--- an option `--name FILE..` with one file or more, which must be given
+-- an option `--name FILE..` with one file or more that must be given
 abbrev pub files_rule : Text → Rule
 files_rule name = record (needed_rule name) {
   range = Some (record { start_inclusive = 1; end_inclusive = usize_max });
@@ -73,7 +73,8 @@ compare_line = with_rule (with_rule (with_rule (with_rule (with_rule (with_rule 
     (switch_rule (codes "same")))
     (switch_rule (codes "explain-errors"))
 
--- the program without its name: a subcommand that must be given, and none for help; it knows its version
+-- The program without its subcommands: the words begin behind its name, one of them must be a subcommand, `help` is
+-- none, and there is a version.
 abbrev pub program_line : App
 program_line = let new = new_app (codes "seccomp_audit") in record new {
   top = record new.top {
@@ -84,7 +85,7 @@ program_line = let new = new_app (codes "seccomp_audit") in record new {
   };
 }
 
--- one of the four subcommands
+-- the whole command line: the program with its four subcommands
 unfoldable pub command_line : App
 command_line =
     with_subcommand (with_subcommand (with_subcommand (with_subcommand program_line audit_line.top) check_line.top)

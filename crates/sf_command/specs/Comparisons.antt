@@ -11,7 +11,7 @@ use Rattle.sf_command.specs.Files.{AreKept, AreRead, HasUnknown}
 use Rattle.sf_command.specs.Status.{change_status}
 
 module _ (holds : List ℕ → Option (List ℕ)) (old_paths new_paths : List (Bor (List ℕ))) where
-  -- these are the files at the old paths, so many, and then those at the new paths
+  -- the files are those at the old paths, `older` of them, and then those at the new paths
   pub record AreBothRead (files : List (List ℕ)) (older : ℕ) : Type 0 where
     pub olds : List (List ℕ)
     pub news : List (List ℕ)
@@ -20,7 +20,7 @@ module _ (holds : List ℕ → Option (List ℕ)) (old_paths new_paths : List (B
     pub whole : files ≡ olds ++ news
     pub parted : older ≡ length olds
 
-  -- the same of the files that were kept of both
+  -- the kept files are those of the old paths, `older` of them, and then those of the new paths
   pub record AreBothKept (kept : List (List ℕ)) (older : ℕ) : Type 0 where
     pub olds : List (List ℕ)
     pub news : List (List ℕ)
@@ -29,8 +29,8 @@ module _ (holds : List ℕ → Option (List ℕ)) (old_paths new_paths : List (B
     pub whole : kept ≡ olds ++ news
     pub parted : older ≡ length olds
 
-  -- `compare`: the files at the paths are read, their two stacks compared and what was found written; the status tells
-  -- of the relation that is asked for
+  -- `compare`: the files at the paths are read, their two stacks are compared, and what was found is written; the
+  -- status is that of the relation that is asked for
   pub record ComparesFiles (budget : ℕ) (asked : Relation) (status : ℕ) (old new : Option (List ℕ)) : Type 0 where
     pub files : List (List ℕ)
     pub older : ℕ
@@ -40,8 +40,8 @@ module _ (holds : List ℕ → Option (List ℕ)) (old_paths new_paths : List (B
     pub written : Appends old new (comparison_text found)
     pub told : status ≡ change_status (change_of found asked)
 
-  -- Why a comparison is refused: a file, which isn't known, can't be read; writing or memory failed; or the files of
-  -- both stacks together make no lawful stack.
+  -- Why a comparison is refused: a file whose bytes aren't known can't be read; writing or memory failed; or the files
+  -- of both stacks together make no lawful stack.
   abbrev pub RefusesComparison : Fault → Type 0
   RefusesComparison fault =
       ((fault ≡ Read) × (HasUnknown holds old_paths ⊎ HasUnknown holds new_paths))

@@ -3,7 +3,7 @@ use Rattle.std.specs.Prelude.{◌≡◌, ℕ, List, Option, Some, None, slice_ge
 use Rattle.std.specs.Borrow.{Bor}
 use Rattle.sf_command.specs.Pairs.{Pairwise}
 
--- bytes that were read are those that are known
+-- the bytes that were read are the known ones, where any are known
 abbrev pub AreKnownBytes : Option (List ℕ) → List ℕ → Type 0
 AreKnownBytes None bytes = Unit {0}
 AreKnownBytes (Some known) bytes = bytes ≡ known
@@ -12,14 +12,14 @@ AreKnownBytes (Some known) bytes = bytes ≡ known
 abbrev pub AreRead : (List ℕ → Option (List ℕ)) → List (Bor (List ℕ)) → List (List ℕ) → Type 0
 AreRead holds paths files = Pairwise (λ path file. AreKnownBytes (holds path.now) file) paths files
 
--- The files at the paths were read, and the first of them are these: no more than one that is too many for a stack.
+-- The files at the paths were read, and the first of them are kept: at most 65, one more than a stack may have.
 pub record AreKept (holds : List ℕ → Option (List ℕ)) (paths : List (Bor (List ℕ)))
     (kept : List (List ℕ)) : Type 0 where
   pub files : List (List ℕ)
   pub read : AreRead holds paths files
   pub first : kept ≡ take 65 files
 
--- one of the paths is that of a file whose bytes aren't known: it may be that it can't be read
+-- the bytes of the file at one of the paths aren't known, so it may be that it can't be read
 pub record HasUnknown (holds : List ℕ → Option (List ℕ)) (paths : List (Bor (List ℕ))) : Type 0 where
   pub place : ℕ
   pub path : Bor (List ℕ)

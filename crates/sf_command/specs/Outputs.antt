@@ -15,13 +15,13 @@ use Rattle.sf_command.specs.Files.{AreRead, HasUnknown}
 use Rattle.sf_command.specs.Texts.{check_text}
 use Rattle.sf_command.specs.Traces.{eval_text}
 
--- the files spell a lawful stack, and known bytes grow by the text about it
+-- the files spell a lawful stack, and the text about it is added to what was written, where that is known
 abbrev pub WritesCheck : List (List ℕ) → Option (List ℕ) → Option (List ℕ) → Type 0
 WritesCheck files old new =
     (programs : List (List Insn)) × SpellStack files programs × Appends old new (check_text programs)
 
--- The files spell a lawful stack, and known bytes grow by the line of what it answers to the input, and by where that
--- comes from, if it is asked for.
+-- The files spell a lawful stack, and the line of what it answers to the input is added to what was written, where that
+-- is known. Under it stand the lines that show where the answer comes from, if they are asked for.
 abbrev pub WritesAnswer : List (List ℕ) → Input → (traced brief : Bool) → Option (List ℕ) → Option (List ℕ) → Type 0
 WritesAnswer files input traced brief old new =
     (programs : List (List Insn)) × (answer : Answer) × SpellStack files programs
@@ -38,8 +38,8 @@ EvaluatesFiles digits traced brief holds paths old new =
     (input : Input) × (files : List (List ℕ)) × (decode_sized digits 64 ≡ Ok (input_bytes input))
     × AreRead holds paths files × WritesAnswer files input traced brief old new
 
--- Why the files at the paths are refused: one, which isn't known, can't be read, or else all were read and make no
--- lawful stack. Want of memory can come at any time.
+-- Why the files at the paths are refused: one whose bytes aren't known can't be read; memory ran out, which can come at
+-- any time; or all were read and make no lawful stack.
 abbrev pub RefusesFiles : (List ℕ → Option (List ℕ)) → List (Bor (List ℕ)) → Fault → Type 0
 RefusesFiles holds paths fault =
     ((fault ≡ Read) × HasUnknown holds paths) ⊎ (fault ≡ Memory)
@@ -49,7 +49,7 @@ RefusesFiles holds paths fault =
 abbrev pub RefusesCheck : (List ℕ → Option (List ℕ)) → List (Bor (List ℕ)) → Fault → Type 0
 RefusesCheck holds paths fault = (fault ≡ Write) ⊎ RefusesFiles holds paths fault
 
--- why `eval` is refused: the digits spell no input, or else as `check`
+-- why `eval` is refused: the digits spell no input; or they spell one, and the files are refused as by `check`
 abbrev pub RefusesEval : List ℕ → (List ℕ → Option (List ℕ)) → List (Bor (List ℕ)) → Fault → Type 0
 RefusesEval digits holds paths fault =
     ((fault ≡ InputFault) × ¬ IsOk (decode_sized digits 64))

@@ -1,4 +1,4 @@
--- Lists whose elements belong together, place by place.
+-- Two lists whose elements belong together, place by place.
 use Rattle.std.specs.Prelude.{◌≡◌, ℕ, List, length, slice_get, Some}
 
 -- two lists of one length, in which a relation holds at each place

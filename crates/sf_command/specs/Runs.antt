@@ -1,4 +1,4 @@
--- What the program does as its command line says.
+-- What the program does, by the words of its command line.
 use Rattle.std.specs.Prelude.{◌≡◌, ◌⊎◌, ◌<◌, ◌≤◌, ℕ, Bool, true, false, List, [], Option, Some, None, codes, map, unwrap_or}
 use Rattle.std.specs.Borrow.{Bor}
 use Rattle.std.specs.Io.KnownBytes.{Appends}
@@ -15,7 +15,7 @@ use Rattle.sf_command.specs.CommandLine.{command_line}
 use Rattle.sf_command.specs.Comparisons.{ComparesFiles, RefusesComparison}
 use Rattle.sf_command.specs.Outputs.{ChecksFiles, EvaluatesFiles, RefusesCheck, RefusesEval}
 
--- the errors that `clap` may give at the words; there are none where they fit the form
+-- the errors that `clap` may give for the words; none where the words fit the form
 unfoldable pub errors_at : List Text → Kinds
 errors_at words = fault_of command_line words
 
@@ -23,32 +23,32 @@ errors_at words = fault_of command_line words
 unfoldable pub subcommand_at : List Text → Option (Text × List Row)
 subcommand_at words = subcommand_of command_line words
 
--- the text of an option
+-- the text of an option; empty where it isn't given
 abbrev pub text_of : Text → List Row → Text
 text_of name rows = unwrap_or (first_of name rows) []
 
--- the paths that an argument names
+-- the paths that an argument names; none where it isn't given
 abbrev pub paths_of : Text → List Row → List Text
 paths_of name rows = unwrap_or (all_of name rows) []
 
--- The number that the text of an option spells, or this one where there is no text. The form lets through no text but
--- of a number from 1 to the greatest.
+-- The number that the text of an option spells, or the usual one where there is no text. The form lets only the texts
+-- of numbers from 1 to the greatest through.
 abbrev pub IsOptionNumber : Option Text → ℕ → ℕ → ℕ → Type 0
 IsOptionNumber None greatest usual n = n ≡ usual
 IsOptionNumber (Some text) greatest usual n =
     let digits = without_leading_plus text in
     IsNumeral 10 digits → 0 < digits_value 10 digits → digits_value 10 digits ≤ greatest → n ≡ digits_value 10 digits
 
--- whether a switch is given
+-- the truth value says whether a switch is given
 abbrev pub IsSwitch : Option Text → Bool → Type 0
 IsSwitch text on = (text ≡ Some (codes "true") → on ≡ true) × (text ≡ Some (codes "false") → on ≡ false)
 
--- the relation that a status tells of: different where the switch is given, and else looser
+-- the relation that a status is about: `Different` where the switch is given, and else `Looser`
 abbrev pub IsAskedRelation : Option Text → Relation → Type 0
 IsAskedRelation text asked =
     (text ≡ Some (codes "true") → asked ≡ Different) × (text ≡ Some (codes "false") → asked ≡ Looser)
 
--- what explains an error isn't asked for: where a subcommand is named, its switch is off
+-- no explanation of errors is asked for: where a subcommand is named, its switch for that is off
 abbrev pub IsUnasked : Option (Text × List Row) → Type 0
 IsUnasked named =
     (found : Text × List Row) → named ≡ Some found → one_of (codes "explain-errors") found.1 ≡ Some (codes "false")
@@ -105,14 +105,14 @@ IsKnown named =
     × ((found.0 ≡ codes "audit") ⊎ (found.0 ≡ codes "check") ⊎ (found.0 ≡ codes "eval")
     ⊎ (found.0 ≡ codes "compare"))
 
--- one of the four subcommands is named, and this holds of the values of its arguments, by its name
+-- one of the four subcommands is named, and what belongs to its name holds of the values of its arguments
 abbrev pub ByName : (audit check eval compare : List Row → Type 0) → Option (Text × List Row) → Type 0
 ByName audit check eval compare named =
     (found : Text × List Row) × (named ≡ Some found)
     × (((found.0 ≡ codes "audit") × audit found.1) ⊎ ((found.0 ≡ codes "check") × check found.1)
     ⊎ ((found.0 ≡ codes "eval") × eval found.1) ⊎ ((found.0 ≡ codes "compare") × compare found.1))
 
--- what the subcommand that is named asks for was done
+-- what was done is what the named subcommand asks for
 abbrev pub RunsAs : (Text → Option Text) → Option (Text × List Row) → ℕ → Option Text → Option Text → Type 0
 RunsAs holds named status old new = ByName
     (λ rows. Audits holds rows status old new)
@@ -129,7 +129,7 @@ WritesText old new = (text : Text) × Appends old new text
 abbrev pub IsHelp : ErrorKind → Type 0
 IsHelp kind = (kind ≡ DisplayHelp) ⊎ (kind ≡ DisplayVersion)
 
--- some text was written, at the words' call for help or for the version
+-- the words ask for help or for the version, and some text was written
 pub record Helps (words : List Text) (status : ℕ) (old new : Option Text) : Type 0 where
   pub kind : ErrorKind
   pub error : IsAmong kind (errors_at words)
@@ -137,17 +137,17 @@ pub record Helps (words : List Text) (status : ℕ) (old new : Option Text) : Ty
   pub told : status ≡ 0
   pub written : WritesText old new
 
--- What the words ask for was done: what their subcommand says, where they fit the form, or else the help or the version
--- that they call for.
+-- What was done is what the words ask for: what their subcommand asks for, where they fit the form; or else help or the
+-- version was written, which they ask for.
 abbrev pub DoesAsTold : (Text → Option Text) → List Text → ℕ → Option Text → Option Text → Type 0
 DoesAsTold holds words status old new =
     ((errors_at words ≡ []) × RunsAs holds (subcommand_at words) status old new) ⊎ Helps words status old new
 
--- with the paths that an argument names
+-- this holds of the paths that an argument names
 abbrev pub OnPaths : Text → List Row → (List (Bor Text) → Type 0) → Type 0
 OnPaths name rows P = (paths : List (Bor Text)) × ArePaths name rows paths × P paths
 
--- why what the subcommand that is named asks for is refused
+-- why what the named subcommand asks for is refused
 abbrev pub RefusesAs : (Text → Option Text) → Option (Text × List Row) → Fault → Type 0
 RefusesAs holds named fault = ByName
     (λ rows. OnPaths (codes "filters") rows (λ paths. RefusesAudit holds (text_of (codes "policy") rows) paths fault))
@@ -157,8 +157,8 @@ RefusesAs holds named fault = ByName
     (λ new. RefusesComparison holds old new fault)))
     named
 
--- Why what words that fit the form ask for is refused. Want of memory can come at any time, and help may not be
--- written.
+-- Why what the words ask for is refused. Memory can run out at any time, and writing can fail even for help; the other
+-- reasons come only where the words fit the form.
 abbrev pub RefusesAsTold : (Text → Option Text) → List Text → Fault → Type 0
 RefusesAsTold holds words fault =
     (fault ≡ Memory) ⊎ (fault ≡ Write) ⊎ ((errors_at words ≡ []) × RefusesAs holds (subcommand_at words) fault)

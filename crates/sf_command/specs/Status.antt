@@ -16,7 +16,7 @@ replies_status replies =
     if nat_lt 0 (count_by is_unsettled replies) then 2 else
     0
 
--- the status of what is told of a relation, by the same numbers
+-- the status of what was found of a relation: 0 where no input is changed so, 1 where one is, 2 where it is unsettled
 abbrev pub change_status : Change → ℕ
 change_status Never = 0
 change_status (Allowed example) = 1

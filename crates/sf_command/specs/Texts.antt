@@ -1,4 +1,4 @@
--- The text that `check` and `eval` write.
+-- The texts that `check` and `eval` write.
 use Rattle.std.specs.Prelude.{ℕ, List, [], ◌∷◌, ◌++◌, ◌+◌, codes, length}
 use Rattle.std.specs.Fmt.{decimal}
 use Rattle.sf_check.specs.declared.insn.Insn.{Insn}
@@ -15,7 +15,7 @@ abbrev pub filter_line : ℕ → ℕ → List ℕ
 filter_line number instructions = line (codes "filter" ∷ decimal number ∷ decimal instructions
     ∷ codes "instructions" ∷ [])
 
--- a line for each filter, the first of them with this number
+-- a line for each filter; the first of them has this number
 abbrev pub filter_lines : ℕ → List (List Insn) → List ℕ
 filter_lines number [] = []
 filter_lines number (p ∷ ps) = filter_line number (length p) ++ filter_lines (number + 1) ps

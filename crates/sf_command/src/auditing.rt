@@ -1,4 +1,4 @@
-//! What `audit` does.
+//! The subcommand `audit`: reads the policy file and the filter files, audits the stack and writes the report.
 
 ghost use Rattle.std.specs.Prelude.{◌≡◌, ◌<◌, ◌≤◌, ◌⊎◌, ℕ, List, None, IfOk, IfErr};
 ghost use Rattle.sf_audit.specs.declared.fault.Fault.TheVariants.{Memory as MemoryFault, Read as ReadFault, Write as WriteFault};
@@ -15,19 +15,20 @@ use std::io::Write;
 use std::sync::Wait;
 use std::thread::Threads;
 
-/// How an audit is done and shown.
+/// How an audit is done, and what its report lists.
 #[derive(Clone, Copy)]
 pub struct Options {
-    /// The most works that are committed.
+    /// The most works that are committed, 1 to 1,000,000.
     pub budget: u32,
-    /// How many workers there are, 1 to 64.
+    /// The number of workers, 1 to 64.
     pub workers: u8,
-    /// Whether the settled regions are listed.
+    /// Whether the report lists the settled regions.
     pub regions: bool,
 }
 
-/// The questions of the policy file at a path, whose bytes are noted. `Read` where it can't be read, `Syntax` where it isn't
-/// UTF-8, and then what `read_policy` refuses.
+/// The questions of the policy file at a path. Its bytes are kept in the notes, and its refusal too, if `read_policy`
+/// refuses it. `Read` where the file can't be read, `Syntax` where it isn't UTF-8, then what `read_policy` refuses;
+/// `Memory` can come anywhere.
 fn questions_in<F: Files>(
     alloc: Global,
     path: &str,
@@ -52,10 +53,13 @@ fn questions_in<F: Files>(
     }
 }
 
-/// Reads the policy file and then the filter files, in order of installation, audits the stack of the filters, writes
-/// the report, and gives the status of the replies. `Read`, `Syntax` or what `read_policy` refuses for the policy file;
-/// then `Read` where a filter file can't be read; then what `audit` of the library refuses; `Write` where standard output
-/// can't be written, after a beginning of the report; `Memory` at any time. But for `Write` nothing is written.
+/// Reads the policy file and then the filter files, which are named in order of installation; audits the stack of the
+/// filters, writes the report, and gives the exit status of the replies.
+///
+/// Refusals, tried in this order: of the policy file `Read`, `Syntax` where it isn't UTF-8, and what `read_policy`
+/// refuses; `Read` where a filter file can't be read; what `audit` of the library refuses; `Write` where standard
+/// output can't be written, after a beginning of the report. `Memory` can come anywhere. After any error but `Write`
+/// nothing is written.
 pub fn audit<R: Threads + Wait + Sync, F: Files, O: Write>(
     rt: &R,
     alloc: Global,

@@ -1,4 +1,4 @@
-//! What `check` and `eval` do with the bytes that they were given.
+//! The subcommands `check` and `eval`: read the filter files and write what is found of their stack.
 
 ghost use Rattle.std.specs.Prelude.{◌≡◌, ◌⊎◌, map, string_bytes, Err, Ok, IfOk, IfErr, OnOk, IsOk};
 ghost use Rattle.std.specs.Io.KnownBytes.{Appends};
@@ -23,7 +23,7 @@ use sf_run::answer;
 use std::alloc::Global;
 use std::io::Write;
 
-/// Writes a text to standard output. `Write` where that fails.
+/// Writes a text to standard output. `Write` where that fails, after a beginning of the text.
 pub fn print<O: Write>(text: &str, out: &mut O) -> Result<(), Fault>
     ensures written { OnOk result (Appends (O.contents out.old) (O.contents out.new) text.now) }
     ensures refused { IfErr result (λ e. e ≡ WriteFault) }
@@ -31,8 +31,8 @@ pub fn print<O: Write>(text: &str, out: &mut O) -> Result<(), Fault>
     write_bytes(text.as_bytes(), out)
 }
 
-/// The input that 128 hexadecimal digits spell, in lower or upper case: the 64 bytes of `struct seccomp_data`, as
-/// seccomp(2) has it. `Input` where the text is anything else.
+/// The input that 128 hexadecimal digits spell, in lower or upper case: the 64 bytes of `struct seccomp_data`, in the
+/// order of seccomp(2). `Input` where the text is anything else.
 pub fn input_of(text: &str) -> Result<Input, Fault>
     ensures spelled { IfOk result (λ d. decode_sized text.now 64 ≡ Ok (input_bytes d)) }
     ensures refused { IfErr result (λ e. (e ≡ InputFault)
@@ -55,7 +55,8 @@ fn check_filters<O: Write>(alloc: Global, filters: &[Vec<u8>], out: &mut O) -> R
     print(&text, out)
 }
 
-/// The answer of the stack to the input, and where it comes from, if that is asked for, in full or in brief.
+/// The text of the stack's answer to the input. Where `traced` or `brief` asks for it, lines under the answer show
+/// where it comes from; in brief without what is false.
 fn eval_text(
     alloc: Global,
     stack: &Stack,
@@ -76,7 +77,8 @@ fn eval_text(
     Ok(text)
 }
 
-/// Writes what the stack of the filters answers to the input, and where that comes from, if it is asked for.
+/// Writes what the stack of the filters answers to the input. Where `traced` or `brief` asks for it, lines under the
+/// answer show where it comes from.
 fn evaluate_filters<O: Write>(
     alloc: Global,
     input: &Input,
@@ -96,9 +98,12 @@ fn evaluate_filters<O: Write>(
     print(&text, out)
 }
 
-/// Reads the filter files, in order of installation, and writes the number of instructions of each and the path length
-/// of their stack. `Read` where a file can't be read; then what the files are refused for; `Write` where standard output
-/// can't be written; `Memory` at any time. Before `Write` nothing is written.
+/// Reads the filter files, which are named in order of installation, and writes the number of instructions of each and
+/// the path length of their stack.
+///
+/// Refusals, tried in this order: `Read` where a file can't be read; what `stack_of` refuses; `Write` where standard
+/// output can't be written, after a beginning of the text. `Memory` can come anywhere. After any error but `Write`
+/// nothing is written.
 pub fn check<F: Files, O: Write>(
     alloc: Global,
     paths: &[&str],
@@ -115,9 +120,11 @@ pub fn check<F: Files, O: Write>(
     check_filters(alloc, &filters, out)
 }
 
-/// Reads the input from its hexadecimal digits and the filter files, in order of installation, and writes what the stack
-/// of the filters answers to the input, and where that comes from, if it is traced in full or in brief. `Input` where
-/// the digits spell no input, before a file is read; else as `check`.
+/// Reads the input from its hexadecimal digits and then the filter files, which are named in order of installation, and
+/// writes what the stack of the filters answers to the input. Where `traced` or `brief` asks for it, lines under the
+/// answer show where it comes from; in brief without what is false.
+///
+/// `Input` where the digits spell no input: no file is read then. The other refusals are those of `check`.
 pub fn evaluate<F: Files, O: Write>(
     alloc: Global,
     digits: &str,

@@ -1,4 +1,4 @@
-//! What `compare` does.
+//! The subcommand `compare`: reads the filter files of two stacks, compares the stacks and writes what is found.
 
 ghost use Rattle.std.specs.Prelude.{◌≡◌, ◌<◌, ◌≤◌, ◌⊎◌, length, map, IfOk, IfErr};
 ghost use Rattle.sf_audit.specs.declared.fault.Fault.TheVariants.{Memory as MemoryFault, Read as ReadFault, Write as WriteFault};
@@ -16,18 +16,19 @@ use std::io::Write;
 use std::sync::Wait;
 use std::thread::Threads;
 
-/// How a comparison is done, and what its status tells.
+/// How a comparison is done, and which relation its exit status is about.
 #[derive(Clone, Copy)]
 pub struct Terms {
-    /// The most works that are committed.
+    /// The most works that are committed, 1 to 1,000,000.
     pub budget: u32,
-    /// How many workers there are, 1 to 64.
+    /// The number of workers, 1 to 64.
     pub workers: u8,
-    /// The relation that the status tells of.
+    /// The relation that the exit status is about.
     pub asked: Relation,
 }
 
-/// The bytes of the old files and then of the new ones, as far as `read_all` keeps them, and how many the old ones are.
+/// The bytes of the old filter files and then those of the new ones, of each as many as `read_all` keeps; and how many
+/// of them are old. The refusals are those of `read_all`.
 fn read_both<F: Files>(
     alloc: Global,
     old: &[&str],
@@ -49,10 +50,12 @@ fn read_both<F: Files>(
     Ok((filters, older))
 }
 
-/// Reads the old filter files and then the new ones, each in order of installation, compares their stacks, writes what was
-/// found, and gives the status of the relation that is asked for. `Read` where a file can't be read; then what `compare` of
-/// the library refuses; `Write` where standard output can't be written, after a beginning of the text; `Memory` at any time.
-/// But for `Write` nothing is written.
+/// Reads the old filter files and then the new ones, each named in order of installation; compares their stacks, writes
+/// what is found, and gives the exit status of the relation that is asked for.
+///
+/// Refusals, tried in this order: `Read` where a file can't be read; what `compare` of the library refuses; `Write`
+/// where standard output can't be written, after a beginning of the text. `Memory` can come anywhere. After any error
+/// but `Write` nothing is written.
 pub fn compare<R: Threads + Wait + Sync, F: Files, O: Write>(
     rt: &R,
     alloc: Global,

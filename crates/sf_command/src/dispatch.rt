@@ -1,4 +1,4 @@
-//! From the words of a command line to a status.
+//! What the program does, from the words of its command line to its exit status.
 ghost use Rattle.std.specs.Prelude.{◌≡◌, ◌≢◌, ◌≤◌, ◌⊎◌, [], codes, map, string_bytes, IfOk, IfErr};
 ghost use Rattle.clap.specs.Words.{found_of, kind_of, rows_of, subcommand_rows_of};
 ghost use Rattle.sf_audit.specs.Faults.{fault_number};
@@ -25,7 +25,7 @@ use std::io::Write;
 use std::sync::Wait;
 use std::thread::Threads;
 
-/// Audits as the matches of the subcommand say.
+/// Runs `audit` as the matches of the subcommand say.
 fn run_audit<R: Threads + Wait + Sync, F: Files, O: Write>(
     rt: &R,
     alloc: Global,
@@ -52,7 +52,7 @@ fn run_audit<R: Threads + Wait + Sync, F: Files, O: Write>(
     audit(rt, alloc, policy, paths, options, files, notes, out)
 }
 
-/// Checks the filters that the matches of the subcommand name.
+/// Runs `check` on the filter files that the matches of the subcommand name.
 fn run_check<F: Files, O: Write>(
     alloc: Global,
     found: &ArgMatches<'_>,
@@ -71,7 +71,7 @@ fn run_check<F: Files, O: Write>(
     Ok(0)
 }
 
-/// Evaluates the input by the filters that the matches of the subcommand name.
+/// Runs `eval` on the input and the filter files that the matches of the subcommand name.
 fn run_eval<F: Files, O: Write>(
     alloc: Global,
     found: &ArgMatches<'_>,
@@ -94,7 +94,7 @@ fn run_eval<F: Files, O: Write>(
     Ok(0)
 }
 
-/// Compares as the matches of the subcommand say.
+/// Runs `compare` as the matches of the subcommand say.
 fn run_compare<R: Threads + Wait + Sync, F: Files, O: Write>(
     rt: &R,
     alloc: Global,
@@ -121,7 +121,7 @@ fn run_compare<R: Threads + Wait + Sync, F: Files, O: Write>(
     compare(rt, alloc, old, new, terms, files, notes, out)
 }
 
-/// Runs the subcommand that the command line names.
+/// Runs the subcommand that the command line names, and gives its exit status; 4 where it names none of the four.
 fn run<R: Threads + Wait + Sync, F: Files, O: Write>(
     rt: &R,
     alloc: Global,
@@ -151,7 +151,9 @@ fn run<R: Threads + Wait + Sync, F: Files, O: Write>(
     }
 }
 
-/// Shows the help or the version that was asked for, or why the command line is refused.
+/// Writes the help or the version to standard output, with status 0, where that was asked for. Otherwise writes to
+/// standard error why the command line is refused, with status 4. `Memory` where an allocation was refused, `Write`
+/// where standard output can't be written.
 fn explain<O: Write, E: Write>(
     alloc: Global,
     error: &clap::Error,
@@ -184,7 +186,8 @@ fn explain<O: Write, E: Write>(
     }
 }
 
-/// Does what the words say, and gives the exit status, or why it could not be done.
+/// Does what the words of the command line ask for, and gives the exit status, or the fault for which it could not be
+/// done.
 fn reply<R: Threads + Wait + Sync, F: Files, O: Write, E: Write>(
     rt: &R,
     alloc: Global,
@@ -214,14 +217,18 @@ fn reply<R: Threads + Wait + Sync, F: Files, O: Write, E: Write>(
     }
 }
 
-/// Does what the words after the program's name say, and gives the exit status.
+/// Does what the words after the program's name ask for, and gives the exit status:
 ///
-/// 0: done; of an audit each question is never, and of a comparison what is asked. 1: some question, or what is asked of a
-/// comparison, is allowed. 2: none is allowed and some is unsettled. 3: the filters, the policy or the input are refused;
-/// standard output is left as it was. 4: the command line is refused; no file was read, standard output is left as it was,
-/// and standard error has the text of `clap`. 5: reading, writing or memory failed; standard output is left as it was, unless
-/// writing failed. At 3 and 5 one line on standard error says what: `error`, the number, the name and the place of the fault.
-/// With `--explain-errors` lines for a person follow.
+/// - 0: done; after an audit each question is never, and after a comparison the relation that is asked for is never.
+/// - 1: some question of an audit, or the relation that is asked for, is allowed.
+/// - 2: none is allowed, and some is unsettled.
+/// - 3: the filters, the policy or the input are refused. Standard output is left as it was.
+/// - 4: the command line is refused. No file was read, standard output is left as it was, and standard error has the
+///   text of `clap`.
+/// - 5: reading, writing or memory failed. Standard output is left as it was, unless writing failed.
+///
+/// At 3 and 5 one line on standard error names the fault: `error`, its number, its name and its place. With
+/// `--explain-errors` lines for a person follow.
 pub fn command<R: Threads + Wait + Sync, F: Files, O: Write, E: Write>(
     rt: &R,
     alloc: Global,

@@ -1,4 +1,5 @@
-//! What `--explain-errors` tells of a fault under its line. It is for a person: clauses say only when it may be told.
+//! What `--explain-errors` shows of a fault under its line. It is for a person: contracts say only when it may be
+//! shown.
 
 ghost use Rattle.std.specs.Prelude.{◌≡◌, None};
 ghost use Rattle.clap.specs.Words.{subcommand_rows_of};
@@ -14,21 +15,21 @@ use sf_ask::Question;
 use sf_audit::{Fault, Refusal};
 use std::alloc::{AllocError, Global};
 
-/// What was read before a fault, and what explains it.
+/// What was read before a fault came, and the text that explains the fault.
 #[derive(Drop)]
 pub struct Notes {
-    /// The bytes of the policy file, once it was read.
+    /// The bytes of the policy file once it is read, and empty before.
     pub policy: Vec<u8>,
-    /// Why the policy is refused, if it is.
+    /// Why the policy is refused, if `read_policy` refuses it.
     pub refusal: Option<Refusal>,
-    /// How many files were read.
+    /// How many files were read, the policy file among them.
     pub files: usize,
-    /// What explains the fault, where that is asked for.
+    /// The lines that explain the fault, where they are asked for and there is memory for them.
     pub explanation: Option<String>,
 }
 
 impl Notes {
-    /// Nothing was read yet.
+    /// The notes before any file is read.
     pub fn new(alloc: Global) -> Notes {
         Notes {
             policy: Vec::new(alloc),
@@ -38,7 +39,7 @@ impl Notes {
         }
     }
 
-    /// What was read of a policy, with the fault of a refusal, which is noted.
+    /// The questions that were read of a policy, or the fault of its refusal, which is kept in the notes.
     pub fn take_refusal(
         &mut self,
         read: Result<Vec<Question>, Refusal>,
@@ -55,7 +56,8 @@ impl Notes {
         }
     }
 
-    /// Notes what explains a fault, if there is one, where the matches ask for it.
+    /// Keeps the lines that explain a fault, if the run ended with one and the matches ask for them. `reason` says why
+    /// the last file was refused, in the system's words.
     pub fn explain(
         &mut self,
         alloc: Global,
@@ -69,7 +71,8 @@ impl Notes {
     }
 }
 
-/// The path of a filter file, by its place from 0: of a comparison, those of the old stack stand before those of the new one.
+/// The path of the filter file at a place, counted from 0; empty where there is none. In a comparison the files of the
+/// old stack stand before those of the new one.
 fn filter_path<'a>(found: &ArgMatches<'a>, place: usize) -> &'a str {
     let mut place = place;
     for name in ["filters", "old", "new"] {
@@ -82,7 +85,8 @@ fn filter_path<'a>(found: &ArgMatches<'a>, place: usize) -> &'a str {
     ""
 }
 
-/// The path of the first file that wasn't read, where so many were. The policy file is read before the filters.
+/// The path of the first file that wasn't read, where `read` files were. The policy file is read before the filter
+/// files.
 fn unread_path<'a>(found: &ArgMatches<'a>, read: usize) -> &'a str {
     match (found.get_str("policy"), read.checked_sub(1)) {
         (Some(policy), None) => policy,
@@ -91,7 +95,7 @@ fn unread_path<'a>(found: &ArgMatches<'a>, read: usize) -> &'a str {
     }
 }
 
-/// The file that can't be read, and the system's reason where it is known.
+/// Adds the line of a file that can't be read, with the system's reason where it is known.
 fn push_unread(text: &mut String, path: &str, reason: &str) -> Result<(), AllocError> {
     if reason.is_empty() {
         return write!(text, "file {path:?}\n");
@@ -99,7 +103,7 @@ fn push_unread(text: &mut String, path: &str, reason: &str) -> Result<(), AllocE
     write!(text, "file {path:?}: {reason}\n")
 }
 
-/// Why a text spells no input.
+/// Adds the line that says why a text spells no input.
 fn push_input(text: &mut String, input: &str) -> Result<(), AllocError> {
     match input.chars().position(|digit| !digit.is_ascii_hexdigit()) {
         Some(place) => {
@@ -113,7 +117,7 @@ fn push_input(text: &mut String, input: &str) -> Result<(), AllocError> {
     }
 }
 
-/// A policy without the mark of its byte order, which belongs to no line.
+/// A policy's bytes without a byte order mark at their front, which belongs to no line.
 fn unmarked(policy: &[u8]) -> &[u8] {
     match policy {
         [0xEF, 0xBB, 0xBF, rest @ ..] => rest,
@@ -121,7 +125,7 @@ fn unmarked(policy: &[u8]) -> &[u8] {
     }
 }
 
-/// The policy file, and where it is refused, as far as that is known.
+/// Adds the line of the policy file, and where the policy is refused, as far as that is known.
 fn push_policy(
     alloc: Global,
     text: &mut String,
@@ -132,7 +136,12 @@ fn push_policy(
     let bytes = unmarked(&notes.policy);
     let hidden = notes.policy.len().saturating_sub(bytes.len());
     match (std::str::from_utf8(bytes), &notes.refusal) {
-        (Ok(policy), Some(refusal)) => Page { alloc, text, policy }.push_refusal(refusal, hidden),
+        (Ok(policy), Some(refusal)) => Page {
+            alloc,
+            text,
+            policy,
+        }
+        .push_refusal(refusal, hidden),
         (Ok(_), None) => Ok(()),
         (Err(error), _) => {
             let (line, column) = position_of(bytes, error.valid_up_to());
@@ -141,7 +150,7 @@ fn push_policy(
     }
 }
 
-/// What there is to know of a fault.
+/// The lines that explain a fault: where it lies, and what its number means.
 fn told(
     alloc: Global,
     found: &ArgMatches<'_>,
@@ -183,7 +192,7 @@ fn told(
     Ok(text)
 }
 
-/// What there is to know of a fault, where the matches ask for it and there is memory for it.
+/// The lines that explain a fault, where the matches ask for them and there is memory for them.
 fn explanation(
     alloc: Global,
     matches: &ArgMatches<'_>,

@@ -1,4 +1,4 @@
-//! Where files come from.
+//! The files that the program reads.
 
 ghost use Rattle.std.specs.Prelude.{◌≡◌, ◌⊎◌, ◌≤◌, ℕ, List, None, length, map, IfOk, IfErr};
 ghost use Rattle.sf_command.specs.Files.{AreKept, AreKnownBytes, HasUnknown};
@@ -9,19 +9,19 @@ use sf_audit::Fault;
 use sf_check::MOST_PROGRAMS;
 use std::alloc::Global;
 
-/// The most bytes of a file that is read: 1 MiB, which is 32 times the longest filter. So a file without an end is
-/// refused.
+/// The most bytes that a file may have: 1 MiB, which is 32 times the longest filter. So a file without an end is
+/// refused too.
 pub const MOST_BYTES: usize = 0x100000;
 
-/// Files by their paths, and what becomes of what was found in them.
+/// Where files are read by their paths. It also takes over what was found, when the program needs it no more.
 pub trait Files {
     ghost use Rattle.std.specs.Prelude.{List, ℕ, Option, None};
 
-    // The bytes of the file at a path, where they are known: it can be read then.
+    // The bytes of the file at a path, where they are known. A file with known bytes can be read.
     ghost holds: { Self → List ℕ → Option (List ℕ) } = { λ _ _. None };
 
-    /// The bytes of the file at a path. `Read` where it can't be read or has more than `MOST_BYTES`, `Memory` where a
-    /// growth is refused.
+    /// The bytes of the file at a path, at most `MOST_BYTES` of them. `Read` where the file can't be read or has more,
+    /// `Memory` where an allocation is refused.
     fn read(&mut self, path: &str) -> Result<Vec<u8>, Fault>
         ensures bytes { IfOk result (λ v. AreKnownBytes (holds self.old path.now) v.items) }
         ensures few { IfOk result (λ v. length v.items ≤ 0x100000) }
@@ -29,17 +29,19 @@ pub trait Files {
             ⊎ (e ≡ Memory)) }
         ensures same { (p : List ℕ) → holds self.new p ≡ holds self.old p };
 
-    /// Why the last file was refused, in the system's words, or nothing where they aren't known. It is for a person, so
-    /// nothing is promised of it.
+    /// Why the last file was refused, in the system's words; empty where they aren't known. It is for a person, so no
+    /// contract speaks of it.
     fn reason(&self) -> &str;
 
-    /// Takes over what was found, once it is written. Here its memory is given back, piece by piece; a program that ends next
-    /// may leave that to the end of its process.
+    /// Takes over what was found, once it is written. By default its memory is given back, one allocation after the
+    /// other. A program that ends next may leave that to the end of its process.
     fn take_over<T: Drop>(&self, _found: T) {}
 }
 
-/// The bytes of the files at these paths, in their order. All are read, and no more are kept than the first one that is too many
-/// for a stack. A refusal is that of the first file that can't be read. It is noted how many were.
+/// The bytes of the files at these paths, in order. All files are read, but only the first 65 are kept: one more than a
+/// stack may have, so that the stack is refused. The notes count the files that were read.
+///
+/// `Read` comes at the first file that can't be read, `Memory` where an allocation is refused.
 pub fn read_all<F: Files>(
     alloc: Global,
     paths: &[&str],

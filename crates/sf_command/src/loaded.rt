@@ -1,4 +1,4 @@
-//! Which word of the input A is, where the run of a program comes to an instruction.
+//! Which word of the input A holds, where the run of a program comes to an instruction.
 ghost use Rattle.std.specs.Prelude.{◌≡◌, ◌++◌, ◌==◌, ◌&&◌, IfOk, OnOk, None, string_bytes};
 ghost use Rattle.std.specs.List.{list_any};
 ghost use Rattle.sf_command.specs.Traces.{is_true_test, named_text, is_true_at, skipped_after, word_after, words_at};
@@ -8,7 +8,8 @@ use sf_check::Insn;
 use sf_run::{Meeting, Met};
 use std::alloc::{AllocError, Global};
 
-/// The word of the input that A is after an instruction, by the one that it was before.
+/// The word of the input that A holds after an instruction, from the one that it held before. None where A holds
+/// another value.
 fn word_after(word: Option<u8>, insn: &Insn) -> Option<u8>
     ensures { result ≡ word_after word insn.now }
 {
@@ -33,7 +34,7 @@ fn word_after(word: Option<u8>, insn: &Insn) -> Option<u8>
     }
 }
 
-/// How many instructions a run skips after one, whose test has this result if it is one.
+/// How many instructions a run skips after this one. If this one is a test, `truth` is its result.
 fn skipped_after(insn: &Insn, truth: bool) -> usize
     ensures { result ≡ skipped_after insn.now truth }
 {
@@ -50,7 +51,7 @@ fn skipped_after(insn: &Insn, truth: bool) -> usize
     }
 }
 
-/// Whether it is a test that is true.
+/// Whether what was met is a test that is true.
 fn is_true_test(met: Met) -> bool
     ensures { result ≡ is_true_test met }
 {
@@ -60,15 +61,16 @@ fn is_true_test(met: Met) -> bool
     }
 }
 
-/// Whether the test at a place is true.
+/// Whether what a run met has a test at this place that is true.
 fn is_true_at(place: usize, met: &[Meeting]) -> bool
     ensures { result ≡ is_true_at place met.now }
 {
-    met.iter()
-        .any(|meeting| meeting.place == place && is_true_test(meeting.met))
+    met.iter().any(|meeting| meeting.place == place && is_true_test(meeting.met))
 }
 
-/// For each instruction of a program the word that A is when a run comes to it that meets this, if A is one as it was loaded.
+/// For each instruction of a program the word of the input that A holds when a run comes to it, from what the run met.
+/// None where A holds another value. At an instruction that the run skips it is the word that A holds meanwhile. An
+/// error where an allocation is refused.
 pub fn words_at(
     alloc: Global,
     code: &[Insn],
@@ -91,7 +93,8 @@ pub fn words_at(
     Ok(words)
 }
 
-/// Adds the name of the word that A is, if it is one, and a blank.
+/// Adds the name of a word of the input and a blank; nothing where there is no word. An error where an allocation is
+/// refused.
 pub fn push_name(text: &mut String, word: Option<u8>) -> Result<(), AllocError>
     ensures { OnOk result (string_bytes text.new ≡ string_bytes text.old ++ named_text word) }
 {

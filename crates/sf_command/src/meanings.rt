@@ -1,8 +1,8 @@
-//! What the number of a fault means, for a person.
+//! What the number of a fault means, in words for a person.
 
 use sf_audit::Fault;
 
-/// What the number of a fault means, in words.
+/// What the number of a fault means, without the end of a line.
 pub(crate) fn meaning_of(fault: &Fault) -> &'static str {
     match fault {
         Fault::Ragged { .. } => "the length of the file is no multiple of 8",

@@ -6,14 +6,15 @@ ghost use Rattle.sf_command.specs.Runs.{IsAskedRelation, IsOptionNumber, IsSwitc
 use clap::ArgMatches;
 use sf_compare::Relation;
 
-/// The text of an option.
+/// The text of an option; empty where it isn't given.
 pub fn text_of<'a>(found: &ArgMatches<'a>, name: &str) -> &'a str
     ensures { result.now ≡ text_of name.now (rows_of (found_of found.now)) }
 {
     found.get_str(name).unwrap_or("")
 }
 
-/// The budget of an exploration.
+/// The budget of an exploration; 100,000 where it isn't given. The form of the command line lets only 1 to 1,000,000
+/// through.
 pub fn budget_of(found: &ArgMatches<'_>) -> u32
     ensures { IsOptionNumber (one_of (codes "budget") (rows_of (found_of found.now)))
         1000000 100000 result }
@@ -21,14 +22,14 @@ pub fn budget_of(found: &ArgMatches<'_>) -> u32
     found.get_one::<u32>("budget").unwrap_or(100_000)
 }
 
-/// The number of workers that is asked for.
+/// The number of workers that is asked for; 4 where it isn't given.
 fn asked_workers(found: &ArgMatches<'_>) -> u8
     ensures { IsOptionNumber (one_of (codes "workers") (rows_of (found_of found.now))) 64 4 result }
 {
     found.get_one::<u8>("workers").unwrap_or(4)
 }
 
-/// The number of workers, from 1 to 64; the form lets no other through.
+/// The number of workers, 1 to 64. Another number would become 4, but the form of the command line lets none through.
 pub fn workers_of(found: &ArgMatches<'_>) -> u8
     ensures number { IsOptionNumber (one_of (codes "workers")
         (rows_of (found_of found.now))) 64 4 result }
@@ -38,7 +39,7 @@ pub fn workers_of(found: &ArgMatches<'_>) -> u8
     if 0 < asked && asked <= 64 { asked } else { 4 }
 }
 
-/// Whether an option without a value is given.
+/// Whether a switch is given: an option without a value.
 fn is_on(found: &ArgMatches<'_>, name: &str) -> bool
     ensures { IsSwitch (one_of name.now (rows_of (found_of found.now))) result }
 {
@@ -52,21 +53,21 @@ pub fn regions_of(found: &ArgMatches<'_>) -> bool
     is_on(found, "regions")
 }
 
-/// Whether an evaluation tells where its answer comes from.
+/// Whether an evaluation shows where its answer comes from.
 pub fn traced_of(found: &ArgMatches<'_>) -> bool
     ensures { IsSwitch (one_of (codes "trace") (rows_of (found_of found.now))) result }
 {
     is_on(found, "trace")
 }
 
-/// Whether it leaves out what is false there.
+/// Whether an evaluation shows where its answer comes from, without what is false.
 pub fn brief_of(found: &ArgMatches<'_>) -> bool
     ensures { IsSwitch (one_of (codes "trace-true") (rows_of (found_of found.now))) result }
 {
     is_on(found, "trace-true")
 }
 
-/// The relation that the status of a comparison tells of.
+/// The relation that the exit status of a comparison is about: `Different` where `--same` is given, and else `Looser`.
 pub fn asked_of(found: &ArgMatches<'_>) -> Relation
     ensures { IsAskedRelation (one_of (codes "same") (rows_of (found_of found.now))) result }
 {
@@ -77,7 +78,7 @@ pub fn asked_of(found: &ArgMatches<'_>) -> Relation
     }
 }
 
-/// Whether it is told where an error lies.
+/// Whether a fault is explained under its line.
 pub fn explains_of(found: &ArgMatches<'_>) -> bool
     ensures { IsSwitch (one_of (codes "explain-errors") (rows_of (found_of found.now))) result }
 {

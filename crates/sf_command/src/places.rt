@@ -1,35 +1,41 @@
-//! On which line of a policy a key or a question stands: found by its tokens, so no clause speaks of it.
+//! On which line of a policy a key or a question stands. The tokens of the policy are read for it once more. It is for
+//! a person, so no contract speaks of it.
 
 use std::alloc::Global;
 use toml_parser::text::{first, skip, skip_blank, skip_ws};
 use toml_parser::{Key, dotted_key, quoted, starts_string, unquoted};
 
-/// How far a policy was read, to find a key of a question or at the top, or the question itself.
+/// How far the tokens of a policy were read, and what is looked for: a key of a question, a key at the top, or a
+/// question itself.
 #[derive(Drop)]
 struct Reading<'a> {
+    /// The number, from 1, of the question that is looked for, or whose key is; none where a key at the top is looked
+    /// for.
     question: Option<usize>,
+    /// The key that is looked for; none where a question itself is.
     key: Option<&'a str>,
-    /// Whether no header was read, so that keys stand at the top.
+    /// Whether no header was read yet, so that keys stand at the top.
     is_top: bool,
-    /// How many arrays and tables stand open, and at how many of them the keys of questions stand.
+    /// How many arrays and tables are open: brackets that were opened and not closed.
     depth: usize,
+    /// How many are open where a key belongs to a question; none where no key does.
     depth_of_questions: Option<usize>,
     /// How many questions have begun.
     questions: usize,
 }
 
-/// A part of a key with dots, by its place from 0.
+/// The part of a dotted key at a place, counted from 0; the last part where it has fewer.
 fn part_of(key: &Key, place: usize) -> Option<&str> {
     let part = key.path.get(place).unwrap_or(&key.last);
     Some(part.as_str())
 }
 
-/// Whether a key is that of the questions.
+/// Whether a key is `question`, which begins the questions.
 fn is_question(key: &Key) -> bool {
     key.path.is_empty() && key.last.as_str() == "question"
 }
 
-/// A key and its value, where a key comes next.
+/// The key at the head of a text, and the text from its value on. None where no key with a value stands there.
 fn key_and_value(alloc: Global, text: &str) -> Option<(Key, &str)> {
     let (key, rest) = dotted_key(alloc, text).ok()?;
     if first(rest) == b'=' {
@@ -40,7 +46,7 @@ fn key_and_value(alloc: Global, text: &str) -> Option<(Key, &str)> {
 }
 
 impl Reading<'_> {
-    /// Whether this key of the question that was begun last is looked for; without a key, that question.
+    /// Whether this key of the question that began last is looked for; without a key, whether that question itself is.
     fn is_of_question(&self, key: Option<&str>) -> bool {
         self.question == Some(self.questions) && self.key == key
     }
@@ -50,7 +56,7 @@ impl Reading<'_> {
         self.question.is_none() && self.key == key
     }
 
-    /// Takes a key before a value. Whether it is looked for.
+    /// Reads a key that stands before a value, and says whether it is looked for.
     fn take_key(&mut self, key: &Key) -> bool {
         if self.is_top && self.depth == 0 {
             self.depth_of_questions = if is_question(key) { Some(2) } else { None };
@@ -59,7 +65,7 @@ impl Reading<'_> {
         self.depth_of_questions == Some(self.depth) && self.is_of_question(part_of(key, 0))
     }
 
-    /// Takes the key of a header. Whether that is looked for, or the question that begins there.
+    /// Reads the key of a header, and says whether it is looked for, or the question that begins there is.
     fn take_header(&mut self, key: &Key, is_array: bool) -> bool {
         self.is_top = false;
         self.depth_of_questions = None;
@@ -71,20 +77,21 @@ impl Reading<'_> {
             || part_of(key, 0) == Some("question") && self.is_of_question(part_of(key, 1))
     }
 
-    /// Begins a question. Whether it is looked for.
+    /// Begins a question, and says whether it is looked for.
     fn begin_question(&mut self) -> bool {
         self.questions = self.questions.saturating_add(1);
         self.is_of_question(None)
     }
 
-    /// Takes an opening bracket. Whether the question that it begins is looked for.
+    /// Reads an opening bracket, and says whether a question begins there that is looked for.
     fn open(&mut self, bracket: u8) -> bool {
         let begins = bracket == b'{' && self.depth == 1 && self.depth_of_questions == Some(2);
         self.depth = self.depth.saturating_add(1);
         begins && self.begin_question()
     }
 
-    /// Takes the token at the head of a text. Whether what is looked for stands there, and what follows.
+    /// Reads the token at the head of a text. Gives whether what is looked for stands there, and the text behind the
+    /// token; none where no token can be read.
     fn step<'a>(&mut self, alloc: Global, text: &'a str) -> Option<(bool, &'a str)> {
         if let Some((key, value)) = key_and_value(alloc, text) {
             let found = self.take_key(&key);
@@ -114,8 +121,8 @@ impl Reading<'_> {
     }
 }
 
-/// The number of the line with a key of the question with this number, or at the top; without a key that of the line on which the
-/// question begins.
+/// The number, from 1, of the line on which a key of a question stands, or without a question's number a key at the
+/// top. Without a key it is the line on which the question begins. None where that isn't found.
 pub fn line_of(
     alloc: Global,
     policy: &str,
@@ -143,7 +150,8 @@ pub fn line_of(
     None
 }
 
-/// The line and the column, both from 1, of the place that so many bytes stand before. A column counts characters.
+/// The line and the column, both from 1, of the place in a policy that has `before` bytes before it. A column counts
+/// characters.
 pub fn position_of(policy: &[u8], before: usize) -> (usize, usize) {
     let mut line = 1usize;
     let mut column = 1usize;

@@ -1,4 +1,5 @@
-//! What is told of a policy that is refused. It is fit for a terminal: cut, and without what one would obey or hide.
+//! What is shown of a policy that is refused. It is safe on a terminal: long texts are cut, and characters that a
+//! terminal obeys or hides are replaced.
 
 use crate::places::{line_of, position_of};
 use sf_audit::{Fault, MOST_QUESTIONS, Refusal};
@@ -8,7 +9,7 @@ use toml::de::Error;
 /// The most characters of a line, a name or a key that are shown.
 const MOST_CHARACTERS: usize = 160;
 
-/// The characters of a text that are shown, and the mark that it was cut.
+/// The characters of a text that are shown, and ` ..` where it was cut there.
 fn front_of(alloc: Global, text: &str) -> Result<(String, &'static str), AllocError> {
     let mut front = String::new(alloc);
     for character in text.chars().take(MOST_CHARACTERS) {
@@ -18,7 +19,7 @@ fn front_of(alloc: Global, text: &str) -> Result<(String, &'static str), AllocEr
     Ok((front, mark))
 }
 
-/// A character of a line. What can't be seen is shown by its number, but a control character by a blank.
+/// Adds a character of a line: a blank for a control character, and its number for another one that can't be seen.
 fn push_character(text: &mut String, character: char) -> Result<(), AllocError> {
     if character.is_control() {
         return text.push(' ');
@@ -32,22 +33,25 @@ fn push_character(text: &mut String, character: char) -> Result<(), AllocError> 
     Ok(())
 }
 
-/// What is told of a policy.
+/// A policy that is refused, and the text to which is added what is shown of it.
 #[derive(Drop)]
 pub struct Page<'a> {
+    /// The allocator of what is added.
     pub alloc: Global,
+    /// The text to which lines are added.
     pub text: &'a mut String,
+    /// The text of the policy, without a byte order mark.
     pub policy: &'a str,
 }
 
 impl Page<'_> {
-    /// A name or a key, in quotes.
+    /// Adds a name or a key in quotes, and the end of the line.
     fn push_quoted(&mut self, quoted: &str) -> Result<(), AllocError> {
         let (front, mark) = front_of(self.alloc, quoted)?;
         write!(self.text, "{front:?}{mark}\n")
     }
 
-    /// The text of the line with this number.
+    /// Adds the text of the line with this number, from 1.
     fn push_line(&mut self, number: usize) -> Result<(), AllocError> {
         let lines = &mut self.policy.lines();
         let line = lines.nth(number.saturating_sub(1)).unwrap_or("");
@@ -59,7 +63,7 @@ impl Page<'_> {
         write!(self.text, "{mark}\n")
     }
 
-    /// The line on which a key stands, or without a key a question, where that is known.
+    /// Adds the line on which a key stands, or without a key the one on which a question begins, where that is found.
     fn push_place(&mut self, question: Option<usize>, key: Option<&str>) -> Result<(), AllocError> {
         let Some(number) = line_of(self.alloc, self.policy, question, key) else {
             return Ok(());
@@ -68,7 +72,8 @@ impl Page<'_> {
         self.push_line(number)
     }
 
-    /// Why and where it is no TOML, by a place that counts so many bytes that were hidden.
+    /// Adds why the policy is no TOML, and where. The place of the error counts the `hidden` bytes before the policy's
+    /// text too.
     fn push_syntax(&mut self, error: &Error, hidden: usize) -> Result<(), AllocError> {
         let Some(span) = error.span() else {
             return Err(AllocError);
@@ -79,7 +84,7 @@ impl Page<'_> {
         self.push_line(line)
     }
 
-    /// The key that is refused, or is missing, and its line or that of its question.
+    /// Adds the key that is refused or missing, and its line; for a missing one, the line of its question.
     fn push_key(&mut self, refusal: &Refusal) -> Result<(), AllocError> {
         let key = refusal.key(self.alloc)?;
         let question = refusal.question();
@@ -93,14 +98,18 @@ impl Page<'_> {
         self.push_place(question, None)
     }
 
-    /// Where a policy is refused, as far as that is known. In front of it so many bytes were hidden.
+    /// Adds where the policy is refused, as far as that is known. `hidden` is the length in bytes of the byte order
+    /// mark before the policy's text. An error where an allocation is refused.
     pub fn push_refusal(&mut self, refusal: &Refusal, hidden: usize) -> Result<(), AllocError> {
         if let Err(error) = &refusal.read {
             return self.push_syntax(error, hidden);
         }
         let count = refusal.items().len();
         if refusal.fault == Fault::Count && MOST_QUESTIONS < count {
-            write!(self.text, "questions {count}, and {MOST_QUESTIONS} are the most\n")?;
+            write!(
+                self.text,
+                "questions {count}, and {MOST_QUESTIONS} are the most\n"
+            )?;
             return self.push_place(Some(MOST_QUESTIONS + 1), None);
         }
         if let Some(number) = refusal.question() {

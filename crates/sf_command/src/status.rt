@@ -8,16 +8,16 @@ use sf_ask::Reply;
 use sf_audit::{Fault, count_allowed, count_unsettled};
 use sf_compare::Change;
 
-/// The status of a fault: 3 where the filters, the policy or the input are refused, 5 where reading, writing or memory
-/// fails.
+/// The exit status of a fault: 3 where the filters, the policy or the input are refused, 5 where reading, writing or
+/// memory fails.
 pub fn status_of(fault: &Fault) -> u8
     ensures { result ≡ fault_status (fault_number fault.now) }
 {
     if fault.number() < 50 { 3 } else { 5 }
 }
 
-/// The status of an audit: 1 where some question is allowed, 2 where none is and some is unsettled, 0 where all are
-/// never.
+/// The exit status of an audit: 1 where some question is allowed, 2 where none is allowed and some is unsettled, 0
+/// where all are never.
 pub fn status_of_replies(replies: &[Reply]) -> u8
     ensures { result ≡ replies_status replies.now }
 {
@@ -30,8 +30,8 @@ pub fn status_of_replies(replies: &[Reply]) -> u8
     }
 }
 
-/// The status of what is told of a relation between two stacks: 0 where no input is changed so, 1 where one is, 2 where it is
-/// unsettled.
+/// The exit status of a comparison, by what was found of a relation between two stacks: 0 where no input is changed so,
+/// 1 where one is, 2 where it is unsettled.
 pub fn status_of_change(change: Change) -> u8
     ensures { result ≡ change_status change }
 {

@@ -1,4 +1,4 @@
-//! What standard error is told.
+//! What is written to standard error.
 
 ghost use Rattle.std.specs.Prelude.{◌≡◌, ◌++◌, IfOk, string_bytes};
 ghost use Rattle.sf_audit.specs.Faults.{fault_number};
@@ -10,16 +10,16 @@ use std::alloc::{AllocError, Global};
 use std::fmt::InlineText;
 use std::io::Write;
 
-/// The most bytes of a fault's line: two numbers of 20 digits, and words.
+/// The most bytes of a fault's line: two numbers of at most 20 digits each, and words.
 const LINE: usize = 96;
 
-/// The line of a fault.
+/// The line of a fault: `error`, its number, its name and its place.
 fn line_of(fault: &Fault) -> InlineText<LINE> {
     InlineText::of(format_args!("error {fault}\n"))
 }
 
-/// Tells a fault by its line on standard error, and gives its exit status. The line is one write, so that it stands whole
-/// among those of programs that run side by side, and it takes no memory, since that may be what is wanting.
+/// Writes the line of a fault to standard error, and gives the exit status. The line is one write, so that it stays
+/// whole beside the lines of other programs. It allocates nothing, since memory may have run out.
 pub fn tell_fault<E: Write>(fault: &Fault, err: &mut E) -> u8
     ensures { result ≡ fault_status (fault_number fault.now) }
 {
@@ -28,7 +28,7 @@ pub fn tell_fault<E: Write>(fault: &Fault, err: &mut E) -> u8
     status_of(fault)
 }
 
-/// A line, and the lines under it.
+/// A line with more lines under it.
 fn with_more(alloc: Global, line: &str, more: &str) -> Result<String, AllocError>
     ensures { IfOk result (λ text. string_bytes text ≡ line.now ++ more.now) }
 {
@@ -37,8 +37,8 @@ fn with_more(alloc: Global, line: &str, more: &str) -> Result<String, AllocError
     Ok(text)
 }
 
-/// Tells a fault by the same line, and under it what explains it, where there is such a text and memory for both. It is one
-/// write too.
+/// Writes the line of a fault to standard error, and under it the lines that explain the fault, if there are any and
+/// memory for both. All is one write too. Gives the exit status.
 pub fn tell<E: Write>(alloc: Global, fault: &Fault, more: Option<String>, err: &mut E) -> u8
     ensures { result ≡ fault_status (fault_number fault.now) }
 {

@@ -1,4 +1,4 @@
-//! The text that `check` and `eval` write.
+//! The texts that `check` and `eval` write.
 ghost use Rattle.std.specs.Prelude.{◌≡◌, ◌++◌, IfOk, OnOk, length, string_bytes};
 ghost use Rattle.sf_command.specs.Texts.{answer_text, check_text, filter_lines, filter_line, path_line};
 
@@ -7,7 +7,7 @@ use sf_check::{Program, Stack};
 use sf_run::Answer;
 use std::alloc::{AllocError, Global};
 
-/// The line of an answer: its action and its data.
+/// The line of an answer: its action and its data. An error where an allocation is refused.
 pub fn answer_text(alloc: Global, answer: Answer) -> Result<String, AllocError>
     ensures { IfOk result (λ text. string_bytes text ≡ answer_text answer) }
 {
@@ -18,7 +18,7 @@ pub fn answer_text(alloc: Global, answer: Answer) -> Result<String, AllocError>
     Ok(text)
 }
 
-/// The line of a filter: its number, and how many instructions it has.
+/// Adds the line of a filter: its number, from 1, and how many instructions it has.
 fn push_filter(text: &mut String, number: usize, instructions: usize) -> Result<(), AllocError>
     ensures { OnOk result (string_bytes text.new ≡ string_bytes text.old
         ++ filter_line number instructions) }
@@ -26,7 +26,7 @@ fn push_filter(text: &mut String, number: usize, instructions: usize) -> Result<
     write!(text, "filter {number} {instructions} instructions\n")
 }
 
-/// The lines of all filters, in order of installation.
+/// Adds the lines of all filters, in order of installation.
 fn push_filters(text: &mut String, programs: &[Program]) -> Result<(), AllocError>
     ensures { OnOk result (string_bytes text.new ≡ string_bytes text.old
         ++ filter_lines 1 programs.now) }
@@ -37,14 +37,15 @@ fn push_filters(text: &mut String, programs: &[Program]) -> Result<(), AllocErro
     Ok(())
 }
 
-/// The line of a stack's path length.
+/// Adds the line of a stack's path length.
 fn push_path(text: &mut String, path: usize) -> Result<(), AllocError>
     ensures { OnOk result (string_bytes text.new ≡ string_bytes text.old ++ path_line path) }
 {
     write!(text, "path {path}\n")
 }
 
-/// A line for each filter, with its number of instructions, and one with the path length of the stack.
+/// The text of `check`: a line for each filter, with its number of instructions, and a line with the path length of the
+/// stack. An error where an allocation is refused.
 pub fn check_text(alloc: Global, stack: &Stack) -> Result<String, AllocError>
     ensures { IfOk result (λ text. string_bytes text ≡ check_text stack.now) }
 {

@@ -11,14 +11,14 @@ use sf_insn::{Input, Test};
 use sf_run::{Action, Answer, Course, Fault, Meeting, Met, walk};
 use std::alloc::{AllocError, Global};
 
-/// A word as a number.
+/// Adds a word as a hexadecimal number.
 fn push_word(text: &mut String, word: u32) -> Result<(), AllocError>
     ensures { OnOk result (string_bytes text.new ≡ string_bytes text.old ++ word_text word) }
 {
     write!(text, "0x{word:08X}")
 }
 
-/// The line of a field of 64 bits.
+/// Adds the line of a field of 64 bits, from its low and its high half.
 fn push_field(text: &mut String, name: &str, low: u32, high: u32) -> Result<(), AllocError>
     ensures { OnOk result (string_bytes text.new ≡ string_bytes text.old
         ++ field_line name.now low high) }
@@ -28,7 +28,7 @@ fn push_field(text: &mut String, name: &str, low: u32, high: u32) -> Result<(), 
     write!(text, "{low:08X}\n")
 }
 
-/// The lines of the call's number, the architecture and the instruction pointer.
+/// Adds the lines of the call's number, the architecture and the instruction pointer.
 fn push_call(text: &mut String, input: &Input) -> Result<(), AllocError>
     ensures { OnOk result (string_bytes text.new ≡ string_bytes text.old ++ call_text input.now) }
 {
@@ -39,7 +39,7 @@ fn push_call(text: &mut String, input: &Input) -> Result<(), AllocError>
     push_field(text, "ip", input.words[2], input.words[3])
 }
 
-/// The lines of the arguments 0 to 2.
+/// Adds the lines of the arguments 0 to 2.
 fn push_first_arguments(text: &mut String, input: &Input) -> Result<(), AllocError>
     ensures { OnOk result (string_bytes text.new ≡ string_bytes text.old
         ++ first_arguments input.now) }
@@ -49,7 +49,7 @@ fn push_first_arguments(text: &mut String, input: &Input) -> Result<(), AllocErr
     push_field(text, "arg2", input.words[8], input.words[9])
 }
 
-/// The lines of the arguments 3 to 5.
+/// Adds the lines of the arguments 3 to 5.
 fn push_last_arguments(text: &mut String, input: &Input) -> Result<(), AllocError>
     ensures { OnOk result (string_bytes text.new ≡ string_bytes text.old
         ++ last_arguments input.now) }
@@ -59,7 +59,7 @@ fn push_last_arguments(text: &mut String, input: &Input) -> Result<(), AllocErro
     push_field(text, "arg5", input.words[14], input.words[15])
 }
 
-/// The lines of all fields of an input.
+/// Adds the lines of all fields of an input.
 fn push_input(text: &mut String, input: &Input) -> Result<(), AllocError>
     ensures { OnOk result (string_bytes text.new ≡ string_bytes text.old
         ++ input_text input.now) }
@@ -69,7 +69,7 @@ fn push_input(text: &mut String, input: &Input) -> Result<(), AllocError>
     push_last_arguments(text, input)
 }
 
-/// How a test compares two words.
+/// The sign of a test: how it compares two words.
 fn sign_of(test: Test) -> &'static str
     ensures { result.now ≡ sign_text test }
 {
@@ -81,14 +81,14 @@ fn sign_of(test: Test) -> &'static str
     }
 }
 
-/// The word for a truth value.
+/// The text of a truth value.
 fn truth_of(truth: bool) -> &'static str
     ensures { result.now ≡ truth_text truth }
 {
     if truth { "true" } else { "false" }
 }
 
-/// What A is compared with, and how that came out.
+/// Adds how A is compared, with which other number, and the result.
 fn push_compared(text: &mut String, sign: &str, other: u32, truth: bool) -> Result<(), AllocError>
     ensures { OnOk result (string_bytes text.new ≡ string_bytes text.old
         ++ compared_text sign.now other truth) }
@@ -97,7 +97,8 @@ fn push_compared(text: &mut String, sign: &str, other: u32, truth: bool) -> Resu
     write!(text, " {sign} 0x{other:08X} {truth}\n")
 }
 
-/// The line of a comparison of A.
+/// Adds the line of a comparison: an instruction of a filter compares the number `a` with another one. `word` is the
+/// word of the input that has this number there, if one has.
 fn push_test(
     text: &mut String,
     number: usize,
@@ -117,7 +118,7 @@ fn push_test(
     push_compared(text, sign, other, truth)
 }
 
-/// The line of what a filter met, where A was this word of the input, if it was one.
+/// Adds the line of what a filter met. `word` is the word of the input that A held then, if it held one.
 fn push_meeting(
     text: &mut String,
     number: usize,
@@ -140,7 +141,7 @@ fn push_meeting(
     }
 }
 
-/// Whether a test is false, or an X that divides isn't 0.
+/// Whether what was met is false: a test that is false, or a division by an X that isn't 0.
 fn is_false(met: Met) -> bool
     ensures { result ≡ is_false met }
 {
@@ -151,7 +152,7 @@ fn is_false(met: Met) -> bool
     }
 }
 
-/// The same, but in brief nothing where it is false.
+/// Adds the line of what a filter met; in brief nothing where that is false.
 fn push_shown(
     text: &mut String,
     brief: bool,
@@ -168,7 +169,8 @@ fn push_shown(
     push_meeting(text, number, word, meeting)
 }
 
-/// The lines of all that a filter met, in order, by the word of the input that A is at each place.
+/// Adds the lines of all that a filter met, in order. `words` has for each instruction the word of the input that A
+/// held there.
 fn push_meetings(
     text: &mut String,
     brief: bool,
@@ -186,14 +188,14 @@ fn push_meetings(
     Ok(())
 }
 
-/// The mark of the filter whose answer stands.
+/// The word behind a filter whose answer stands; no text where it does not.
 fn mark_of(stands: bool) -> &'static str
     ensures { result.now ≡ stands_text stands }
 {
     if stands { " stands" } else { "" }
 }
 
-/// What a filter returns, and where.
+/// Adds the line of what a filter returns, and where. Its answer stands where it is the answer of the stack.
 fn push_return(
     text: &mut String,
     number: usize,
@@ -211,7 +213,8 @@ fn push_return(
     write!(text, " {info} instruction {place}{mark}\n")
 }
 
-/// A filter, and whether its answer is that of the stack: whether it returns this action, and no newer one stood.
+/// Adds the lines of a filter, and says whether its answer stands: it returns the action of the stack's answer, and the
+/// answer of no newer filter stood.
 fn push_filter(
     alloc: Global,
     text: &mut String,
@@ -243,14 +246,14 @@ fn push_filter(
     Ok(stands)
 }
 
-/// Whether one of the two is true.
+/// Whether one of the two is true. For the prover: its contract is the step of a loop.
 fn either(one: bool, other: bool) -> bool
     ensures { result ≡ (one || other) }
 {
     one || other
 }
 
-/// All filters, newest first.
+/// Adds the lines of all filters, newest first. `action` is that of the stack's answer.
 fn push_filters(
     alloc: Global,
     text: &mut String,
@@ -272,9 +275,9 @@ fn push_filters(
     Ok(())
 }
 
-/// Adds the lines of `eval --trace`: the fields of the input; then for each filter, newest first, what it returns and
-/// at which instruction, and whether the answer of the stack is its own, and under it all that it met, in order, and in
-/// brief nothing that is false. `Memory` where a growth is refused.
+/// Adds the lines of `eval --trace`. First come the fields of the input. Then comes each filter, newest first: what it
+/// returns and at which instruction, whether its answer is the stack's, and under it all that it met, in order; in
+/// brief without what is false. `Memory` where an allocation is refused.
 pub fn push_trace(
     alloc: Global,
     text: &mut String,

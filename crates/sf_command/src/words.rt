@@ -1,4 +1,4 @@
-//! The words of the command line.
+//! The form of the command line: its subcommands, and the options of each.
 ghost use Rattle.std.specs.Prelude.{◌≡◌, ℕ, IfOk, codes, false};
 ghost use Rattle.clap.specs.Words.{app_of, rule_of};
 ghost use Rattle.sf_command.specs.CommandLine.{audit_line, check_line, command_line, compare_line, eval_line, files_rule, filters_rule, needed_rule, number_rule, option_rule, program_line, switch_rule};
@@ -6,7 +6,7 @@ ghost use Rattle.sf_command.specs.CommandLine.{audit_line, check_line, command_l
 use clap::{Arg, ArgAction, Command, value_parser};
 use std::alloc::{AllocError, Global};
 
-/// The version of the program, as `--version` tells it.
+/// The version of the program, as `--version` shows it.
 const VERSION: &str = "1.0.0";
 
 /// What stands at the end of `--help`.
@@ -58,7 +58,7 @@ fn policy<'a>(alloc: Global) -> Arg<'a>
         .help("The policy file, which asks the questions")
 }
 
-/// `--budget`: how many works are committed at most.
+/// `--budget`: the most works that are committed.
 fn budget<'a>(alloc: Global) -> Arg<'a>
     ensures rule { rule_of result ≡ number_rule (codes "budget") 1000000 (codes "100000") }
     ensures own { result.global ≡ false }
@@ -70,7 +70,7 @@ fn budget<'a>(alloc: Global) -> Arg<'a>
         .help("The most pieces that are worked on, 1 to 1000000")
 }
 
-/// `--workers`: how many workers there are.
+/// `--workers`: the number of workers.
 fn workers<'a>(alloc: Global) -> Arg<'a>
     ensures rule { rule_of result ≡ number_rule (codes "workers") 64 (codes "4") }
     ensures own { result.global ≡ false }
@@ -82,7 +82,7 @@ fn workers<'a>(alloc: Global) -> Arg<'a>
         .help("The number of workers, 1 to 64: 1 is as fast, and answers more under a budget")
 }
 
-/// `--regions`: whether a report lists the regions.
+/// `--regions`: whether a report lists the settled regions.
 fn regions<'a>(alloc: Global) -> Arg<'a>
     ensures rule { rule_of result ≡ switch_rule (codes "regions") }
     ensures own { result.global ≡ false }
@@ -100,7 +100,7 @@ fn input<'a>(alloc: Global) -> Arg<'a>
     )
 }
 
-/// `--trace`: whether an evaluation tells where its answer comes from.
+/// `--trace`: whether an evaluation shows where its answer comes from.
 fn trace<'a>(alloc: Global) -> Arg<'a>
     ensures rule { rule_of result ≡ switch_rule (codes "trace") }
     ensures own { result.global ≡ false }
@@ -108,7 +108,7 @@ fn trace<'a>(alloc: Global) -> Arg<'a>
     switch(alloc, "trace").help("Show what each filter meets and returns too")
 }
 
-/// `--trace-true`: whether it tells that without what is false.
+/// `--trace-true`: whether an evaluation shows where its answer comes from, without what is false.
 fn trace_true<'a>(alloc: Global) -> Arg<'a>
     ensures rule { rule_of result ≡ switch_rule (codes "trace-true") }
     ensures own { result.global ≡ false }
@@ -121,11 +121,12 @@ fn explain<'a>(alloc: Global) -> Arg<'a>
     ensures rule { rule_of result ≡ switch_rule (codes "explain-errors") }
     ensures own { result.global ≡ false }
 {
-    switch(alloc, "explain-errors")
-        .help("Explain an error under its line: where it lies, and what its number means")
+    switch(alloc, "explain-errors").help(
+        "Explain an error under its line: where it lies, and what its number means",
+    )
 }
 
-/// The filter files.
+/// The paths of the filter files.
 fn filters<'a>(alloc: Global) -> Arg<'a>
     ensures rule { rule_of result ≡ filters_rule }
     ensures own { result.global ≡ false }
@@ -138,7 +139,7 @@ fn filters<'a>(alloc: Global) -> Arg<'a>
         .help("Filter files, in order of installation")
 }
 
-/// `--old` and `--new`: the filter files of a stack.
+/// `--old` or `--new`: the paths of the filter files of one of two stacks.
 fn files<'a>(alloc: Global, name: &'a str, help: &'a str) -> Arg<'a>
     ensures rule { rule_of result ≡ files_rule name.entry.now }
     ensures own { result.global ≡ false }
@@ -150,7 +151,7 @@ fn files<'a>(alloc: Global, name: &'a str, help: &'a str) -> Arg<'a>
         .help(help)
 }
 
-/// `--same`: whether the status of a comparison tells whether the stacks are different.
+/// `--same`: whether the exit status of a comparison is about `Different`, and not about `Looser`.
 fn same<'a>(alloc: Global) -> Arg<'a>
     ensures rule { rule_of result ≡ switch_rule (codes "same") }
     ensures own { result.global ≡ false }
@@ -158,7 +159,7 @@ fn same<'a>(alloc: Global) -> Arg<'a>
     switch(alloc, "same").help("Let the exit status tell of different, not of looser")
 }
 
-/// What `audit` takes.
+/// The subcommand `audit` and what it takes.
 fn audit<'a>(alloc: Global) -> Result<Command<'a>, AllocError>
     ensures { IfOk result (λ c. app_of c ≡ audit_line) }
 {
@@ -172,7 +173,7 @@ fn audit<'a>(alloc: Global) -> Result<Command<'a>, AllocError>
         .arg(filters(alloc))
 }
 
-/// What `check` takes.
+/// The subcommand `check` and what it takes.
 fn check<'a>(alloc: Global) -> Result<Command<'a>, AllocError>
     ensures { IfOk result (λ c. app_of c ≡ check_line) }
 {
@@ -182,7 +183,7 @@ fn check<'a>(alloc: Global) -> Result<Command<'a>, AllocError>
         .arg(filters(alloc))
 }
 
-/// What `eval` takes.
+/// The subcommand `eval` and what it takes.
 fn eval<'a>(alloc: Global) -> Result<Command<'a>, AllocError>
     ensures { IfOk result (λ c. app_of c ≡ eval_line) }
 {
@@ -195,7 +196,7 @@ fn eval<'a>(alloc: Global) -> Result<Command<'a>, AllocError>
         .arg(filters(alloc))
 }
 
-/// What `compare` takes.
+/// The subcommand `compare` and what it takes.
 fn compare<'a>(alloc: Global) -> Result<Command<'a>, AllocError>
     ensures { IfOk result (λ c. app_of c ≡ compare_line) }
 {
@@ -213,7 +214,7 @@ fn compare<'a>(alloc: Global) -> Result<Command<'a>, AllocError>
         .arg(explain(alloc))
 }
 
-/// What the program takes before a subcommand.
+/// The program without its subcommands.
 fn program<'a>(alloc: Global) -> Result<Command<'a>, AllocError>
     ensures { IfOk result (λ c. app_of c ≡ program_line) }
 {
@@ -230,7 +231,8 @@ fn program<'a>(alloc: Global) -> Result<Command<'a>, AllocError>
     )
 }
 
-/// The form of the command line: its subcommands and what each takes.
+/// The form of the command line: the program, its subcommands and what each takes. An error where an allocation is
+/// refused.
 pub(crate) fn form<'a>(alloc: Global) -> Result<Command<'a>, AllocError>
     ensures { IfOk result (λ c. app_of c ≡ command_line) }
 {

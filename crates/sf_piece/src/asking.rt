@@ -3,11 +3,11 @@
 ghost use Rattle.std.specs.Prelude.{◌≡◌, ℕ, IfOk, IfSome};
 ghost use Rattle.sf_piece.specs.SymbolicRun.{IsLawfulPiece};
 ghost use Rattle.sf_piece.specs.Works.{HasAtHand, PassesAlways, divides_at};
-ghost use Rattle.sf_piece.specs.SmallSteps.{IsExecuted};
+ghost use Rattle.sf_piece.specs.SmallSteps.{IsSmallStep};
 
 use crate::chains::take_told;
-use crate::deciding::take;
-use crate::executing::{Executed, leave_program, set_a};
+use crate::deciding::{SmallStep, decide, take};
+use crate::executing::{leave_program, set_a};
 use crate::fault::Fault;
 use crate::nodes::{operand, push};
 use crate::run::Run;
@@ -46,11 +46,11 @@ pub(crate) fn alu(
     insn: Insn,
     op: BinOp,
     other: Operand,
-) -> Result<Executed, Fault>
+) -> Result<SmallStep, Fault>
     requires lawful { IsLawfulPiece run.old }
     requires standing { HasAtHand run.old insn }
     requires is { insn ≡ Insn.Alu op other }
-    ensures { IfOk result (IsExecuted run.old run.new) }
+    ensures { IfOk result (IsSmallStep run.old run.new) }
 {
     if asks_zero(op, other, run.machine.taken) {
         let cond = Cond {
@@ -59,38 +59,38 @@ pub(crate) fn alu(
             other: run.machine.zero,
             sense: true,
         };
-        return Ok(Executed::Query(insn, cond));
+        return decide(alloc, run, insn, cond);
     }
     match operand(alloc, run, other)? {
         Some(right) => {
             let node = Node::Bin(op, run.machine.a, right);
             set_a(alloc, run, insn, node)
         }
-        None => Ok(Executed::Contradiction),
+        None => Ok(SmallStep::Empty),
     }
 }
 
 /// A test of A. Where the facts tell it, its truth value is added to the name, with those of the told tests behind it.
-/// Else the test is asked for as a condition.
+/// Else it is learnt as false and as true.
 pub(crate) fn branch(
     alloc: Global,
     run: &mut Run,
     insn: Insn,
     test: Test,
     other: Operand,
-) -> Result<Executed, Fault>
+) -> Result<SmallStep, Fault>
     requires lawful { IsLawfulPiece run.old }
     requires standing { HasAtHand run.old insn }
     requires is { (t : ℕ) × (f : ℕ) × (insn ≡ Insn.Branch test other t f) }
-    ensures { IfOk result (IsExecuted run.old run.new) }
+    ensures { IfOk result (IsSmallStep run.old run.new) }
 {
     if let Some(sense) = foreseen(run, test, other) {
         take(run, insn, sense)?;
         take_told(run)?;
-        return Ok(Executed::Done);
+        return Ok(SmallStep::On);
     }
     let Some(right) = operand(alloc, run, other)? else {
-        return Ok(Executed::Contradiction);
+        return Ok(SmallStep::Empty);
     };
     let cond = Cond {
         node: run.machine.a,
@@ -98,29 +98,29 @@ pub(crate) fn branch(
         other: right,
         sense: true,
     };
-    Ok(Executed::Query(insn, cond))
+    decide(alloc, run, insn, cond)
 }
 
 /// A return of A, which meets the 32 bits of A, the highest first. Each bit that isn't in the name yet is taken where
-/// the facts tell it, and else asked for. When all are in the name, the program is left.
-pub(crate) fn return_a(alloc: Global, run: &mut Run) -> Result<Executed, Fault>
+/// the facts tell it, and else learnt as false and as true. When all are in the name, the program is left.
+pub(crate) fn return_a(alloc: Global, run: &mut Run) -> Result<SmallStep, Fault>
     requires lawful { IsLawfulPiece run.old }
     requires standing { HasAtHand run.old Insn.ReturnA }
-    ensures { IfOk result (IsExecuted run.old run.new) }
+    ensures { IfOk result (IsSmallStep run.old run.new) }
 {
     let taken = run.machine.taken;
     if taken == 32 {
         let value = run.machine.value;
         leave_program(run, Insn::ReturnA, value);
-        return Ok(Executed::Done);
+        return Ok(SmallStep::On);
     }
     let number = 1 << (31 - taken as u32);
     if let Some(sense) = foreseen(run, Test::AnyBit, Operand::Constant(number)) {
         take(run, Insn::ReturnA, sense)?;
-        return Ok(Executed::Done);
+        return Ok(SmallStep::On);
     }
     let Some(bit) = push(alloc, run, Node::Const(number))? else {
-        return Ok(Executed::Contradiction);
+        return Ok(SmallStep::Empty);
     };
     let cond = Cond {
         node: run.machine.a,
@@ -128,5 +128,5 @@ pub(crate) fn return_a(alloc: Global, run: &mut Run) -> Result<Executed, Fault>
         other: bit,
         sense: true,
     };
-    Ok(Executed::Query(Insn::ReturnA, cond))
+    decide(alloc, run, Insn::ReturnA, cond)
 }

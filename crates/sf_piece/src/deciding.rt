@@ -10,7 +10,6 @@ ghost use Rattle.sf_piece.specs.Works.{HasAtHand, IsQuery, AfterTruthValue, HasA
 ghost use Rattle.sf_piece.specs.SmallSteps.{IsSmallStep};
 
 use crate::chains::take_test;
-use crate::executing::{Executed, execute};
 use crate::fault::Fault;
 use crate::machine::SymbolicMachine;
 use crate::piece::Piece;
@@ -201,7 +200,12 @@ fn decided(run: &Run, cond: Cond) -> Option<bool>
 /// fact: a word that has one number has all its bits known, the test moves no bound past it, and no bits go back from
 /// it. An AND, an OR or an XOR with a constant is different: its bits may go back to an operand that lacks them, and
 /// contradict there. So it is learnt from even where it has one number.
-fn decide(alloc: Global, run: &mut Run, insn: Insn, cond: Cond) -> Result<SmallStep, Fault>
+pub(crate) fn decide(
+    alloc: Global,
+    run: &mut Run,
+    insn: Insn,
+    cond: Cond,
+) -> Result<SmallStep, Fault>
     requires lawful { IsLawfulPiece run.old }
     requires standing { HasAtHand run.old insn }
     requires query { IsQuery run.old insn cond }
@@ -225,17 +229,4 @@ fn decide(alloc: Global, run: &mut Run, insn: Insn, cond: Cond) -> Result<SmallS
     let apart = child(alloc, run, insn, cond, on_false)?;
     become_child(run, insn, cond, on_true)?;
     Ok(SmallStep::Split(apart))
-}
-
-/// Runs one instruction, or takes one truth value that it asks for.
-pub(crate) fn advance_once(alloc: Global, run: &mut Run) -> Result<SmallStep, Fault>
-    requires { IsLawfulPiece run.old }
-    ensures { IfOk result (IsSmallStep run.old run.new) }
-{
-    match execute(alloc, run)? {
-        Executed::Done => Ok(SmallStep::On),
-        Executed::Query(insn, cond) => decide(alloc, run, insn, cond),
-        Executed::End => Ok(SmallStep::Settled),
-        Executed::Contradiction => Ok(SmallStep::Empty),
-    }
 }

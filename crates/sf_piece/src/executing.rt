@@ -1,4 +1,4 @@
-//! Symbolic execution: one instruction on symbolic words.
+//! Symbolic execution: one instruction on symbolic words, or one truth value of it.
 
 ghost use Rattle.std.specs.Prelude.{◌≡◌, ℕ, IfOk, length, slice_get, slice_set, Some, ◌<◌};
 ghost use Rattle.sf_sym.specs.declared.pool.NodeId.{NodeId as ANodeId};
@@ -7,37 +7,25 @@ ghost use Rattle.sf_sym.specs.Pool.{OperandsBelow};
 ghost use Rattle.sf_dom.specs.Facts.{IsWordOrConst};
 ghost use Rattle.sf_piece.specs.SymbolicRun.{IsLawfulPiece};
 ghost use Rattle.sf_piece.specs.Works.{HasAtHand, SetsA, SetsX, GoesTo, HasAdvanced, ReturnsNow, IsMove};
-ghost use Rattle.sf_piece.specs.SmallSteps.{IsExecuted};
+ghost use Rattle.sf_piece.specs.SmallSteps.{IsSmallStep};
 
 use crate::asking::{alu, branch, return_a};
+use crate::deciding::SmallStep;
 use crate::fault::Fault;
 use crate::machine::SymbolicMachine;
 use crate::nodes::push;
 use crate::run::Run;
 use sf_check::Insn;
-use sf_sym::{Cond, Node, NodeId};
+use sf_sym::{Node, NodeId};
 use std::alloc::Global;
 
-/// What one instruction led to.
-#[derive(Clone, Copy)]
-pub(crate) enum Executed {
-    /// It is done.
-    Done,
-    /// It asks for a truth value: whether the condition is met.
-    Query(Insn, Cond),
-    /// The last program has returned: the name is whole, and the answer is that of all programs.
-    End,
-    /// No input agrees with the facts of a new node.
-    Contradiction,
-}
-
-/// Runs one instruction, or answers the condition that it asks for first.
-pub(crate) fn execute(alloc: Global, run: &mut Run) -> Result<Executed, Fault>
+/// Runs one instruction, or takes one truth value that it asks for first.
+pub(crate) fn execute(alloc: Global, run: &mut Run) -> Result<SmallStep, Fault>
     requires { IsLawfulPiece run.old }
-    ensures { IfOk result (IsExecuted run.old run.new) }
+    ensures { IfOk result (IsSmallStep run.old run.new) }
 {
     let Some(insn) = run.insn() else {
-        return Ok(Executed::End);
+        return Ok(SmallStep::Settled);
     };
     match insn {
         Insn::LoadWord(i) => set_a(alloc, run, insn, Node::Word(i)),
@@ -53,7 +41,7 @@ pub(crate) fn execute(alloc: Global, run: &mut Run) -> Result<Executed, Fault>
         Insn::Branch(test, other, _, _) => branch(alloc, run, insn, test, other),
         Insn::ReturnConstant(k) => {
             leave_program(run, insn, k);
-            Ok(Executed::Done)
+            Ok(SmallStep::On)
         }
         Insn::ReturnA => return_a(alloc, run),
         Insn::LoadScratch(_)
@@ -64,19 +52,24 @@ pub(crate) fn execute(alloc: Global, run: &mut Run) -> Result<Executed, Fault>
         | Insn::Txa
         | Insn::Jump(_) => {
             move_on(run, insn);
-            Ok(Executed::Done)
+            Ok(SmallStep::On)
         }
     }
 }
 
 /// Goes on by an instruction that puts a node in A.
-pub(crate) fn set_a(alloc: Global, run: &mut Run, insn: Insn, node: Node) -> Result<Executed, Fault>
+pub(crate) fn set_a(
+    alloc: Global,
+    run: &mut Run,
+    insn: Insn,
+    node: Node,
+) -> Result<SmallStep, Fault>
     requires lawful { IsLawfulPiece run.old }
     requires standing { HasAtHand run.old insn }
     requires below { OperandsBelow (length run.old.pool) node }
     requires sets { SetsA run.old insn node }
     requires plain { IsPlain run.old.stack → IsWordOrConst node }
-    ensures { IfOk result (IsExecuted run.old run.new) }
+    ensures { IfOk result (IsSmallStep run.old run.new) }
 {
     match push(alloc, run, node)? {
         Some(id) => {
@@ -88,18 +81,18 @@ pub(crate) fn set_a(alloc: Global, run: &mut Run, insn: Insn, node: Node) -> Res
                 ..run.machine
             };
             go(run, insn, to);
-            Ok(Executed::Done)
+            Ok(SmallStep::On)
         }
-        None => Ok(Executed::Contradiction),
+        None => Ok(SmallStep::Empty),
     }
 }
 
 /// Goes on by an instruction that puts a constant in X.
-fn set_x(alloc: Global, run: &mut Run, insn: Insn, k: u32) -> Result<Executed, Fault>
+fn set_x(alloc: Global, run: &mut Run, insn: Insn, k: u32) -> Result<SmallStep, Fault>
     requires lawful { IsLawfulPiece run.old }
     requires standing { HasAtHand run.old insn }
     requires sets { SetsX run.old insn k }
-    ensures { IfOk result (IsExecuted run.old run.new) }
+    ensures { IfOk result (IsSmallStep run.old run.new) }
 {
     match push(alloc, run, Node::Const(k))? {
         Some(id) => {
@@ -111,9 +104,9 @@ fn set_x(alloc: Global, run: &mut Run, insn: Insn, k: u32) -> Result<Executed, F
                 ..run.machine
             };
             go(run, insn, to);
-            Ok(Executed::Done)
+            Ok(SmallStep::On)
         }
-        None => Ok(Executed::Contradiction),
+        None => Ok(SmallStep::Empty),
     }
 }
 

@@ -90,7 +90,7 @@ fn set_from(items: &[Value]) -> ActionSet
     }
 }
 
-/// The set of the actions that an array of texts names, as `set_from` has it; none where a value is no text.
+/// The set of the actions that an array of texts names, as `set_from` makes it; none where a value is no text.
 #[tactic(auto, using(crate::proofs::TreeLemmas::texts_view, crate::proofs::TreeLemmas::no_texts_view))]
 fn set_in_items(items: &[Value]) -> Option<ActionSet>
     ensures { result ≡ option_map encoded_set (texts_of (items_view items.now)) }
@@ -102,7 +102,7 @@ fn set_in_items(items: &[Value]) -> Option<ActionSet>
     }
 }
 
-/// The set of the actions that a value names, as `set_from` has it; none where it is no array of texts.
+/// The set of the actions that a value names, as `set_from` makes it; none where it is no array of texts.
 fn set_in(value: &Value) -> Option<ActionSet>
     ensures { result ≡ option_map encoded_set (texts_of_value (view value.now)) }
 {

@@ -1,4 +1,4 @@
-//! The keys of a policy file, and what stands at a key.
+//! The keys of a policy file, and the values at them.
 
 ghost use Rattle.std.specs.Prelude.{◌≡◌, string_bytes, option_map};
 ghost use Rattle.std.specs.BTreeMap.{keys};
@@ -29,21 +29,21 @@ pub(crate) const TOP_KEYS: [&str; 2] = ["version", "question"];
 /// The keys that the table of a word may have.
 const MASK_KEYS: [&str; 4] = ["mask", "value", "low", "high"];
 
-/// The value at a key, where it is there.
+/// The value at a key; none where the key is missing.
 pub(crate) fn value_at<'a>(table: &'a Table, key: &str) -> Option<&'a Value>
     ensures { option_map (λ v. view v.now) result ≡ get_member key.now (table_view table.now) }
 {
     table.get(key)
 }
 
-/// The whole number at a key, none where it is missing or another value.
+/// The whole number at a key; none where the key is missing or has another value.
 pub(crate) fn number_in(table: &Table, key: &str) -> Option<i64>
     ensures { result ≡ number_at key.now (table_view table.now) }
 {
     value_at(table, key)?.as_integer()
 }
 
-/// The whole number at a key, none where it is another value, and `absent` where it is missing.
+/// The whole number at a key, and `absent` where the key is missing; none where it has another value.
 pub(crate) fn number_in_or(table: &Table, key: &str, absent: i64) -> Option<i64>
     ensures { result ≡ number_or absent (get_member key.now (table_view table.now)) }
 {
@@ -53,21 +53,21 @@ pub(crate) fn number_in_or(table: &Table, key: &str, absent: i64) -> Option<i64>
     }
 }
 
-/// The text at a key, none where it is missing or another value.
+/// The text at a key; none where the key is missing or has another value.
 pub(crate) fn text_in<'a>(table: &'a Table, key: &str) -> Option<&'a str>
     ensures { option_map (λ s. s.now) result ≡ text_at key.now (table_view table.now) }
 {
     value_at(table, key)?.as_str()
 }
 
-/// Whether the text is one of these.
+/// Whether the text is one of these texts.
 pub(crate) fn is_among(text: &str, texts: &[&str]) -> bool
     ensures { result ≡ list_any (λ t. bytes_eq text.now t.now) texts.now }
 {
     texts.iter().any(|t| text == *t)
 }
 
-/// Whether each key of a table is a known one.
+/// Whether each key of a table is among the known keys.
 fn has_only_keys(table: &Table, known: &[&str]) -> bool
     ensures { result ≡ list_all (λ key. list_any (λ k. bytes_eq (string_bytes key) k.now)
         known.now) (keys table.now) }
@@ -75,7 +75,7 @@ fn has_only_keys(table: &Table, known: &[&str]) -> bool
     table.keys().all(|key| is_among(key.as_str(), known))
 }
 
-/// Whether a table has no key but those of a question.
+/// Whether a table has only keys of a question.
 #[tactic(auto, using(crate::proofs::TreeLemmas::has_only_question_keys))]
 pub(crate) fn has_question_keys(table: &Table) -> bool
     ensures { result ≡ has_only question_keys (table_view table.now) }
@@ -83,7 +83,7 @@ pub(crate) fn has_question_keys(table: &Table) -> bool
     has_only_keys(table, QUESTION_KEYS.as_slice())
 }
 
-/// Whether a table has no key but those at the top of a policy.
+/// Whether a table has only keys that may stand at the top of a policy.
 #[tactic(auto, using(crate::proofs::TreeLemmas::has_only_top_keys))]
 pub(crate) fn has_top_keys(table: &Table) -> bool
     ensures { result ≡ has_only top_keys (table_view table.now) }
@@ -91,7 +91,7 @@ pub(crate) fn has_top_keys(table: &Table) -> bool
     has_only_keys(table, TOP_KEYS.as_slice())
 }
 
-/// Whether a table has no key but those of a word.
+/// Whether a table has only keys that may stand in the table of a word.
 #[tactic(auto, using(crate::proofs::TreeLemmas::has_only_mask_keys))]
 pub(crate) fn has_mask_keys(table: &Table) -> bool
     ensures { result ≡ has_only mask_keys (table_view table.now) }

@@ -15,7 +15,7 @@ use sf_ask::{ActionSet, Question};
 use std::alloc::Global;
 use toml::{Table, Value};
 
-/// What is wrong with the question with this number.
+/// A fault of a question, with the question's number, from 1.
 fn numbered(question: usize, fault: sf_ask::Fault) -> Fault
     ensures { result ≡ numbered_fault question fault }
 {
@@ -28,7 +28,7 @@ fn numbered(question: usize, fault: sf_ask::Fault) -> Fault
     }
 }
 
-/// What is wrong with a question that has a number outside 32 bits: its name, or else a range.
+/// The fault of a question that has a number outside 32 bits: `Name` where its name is wrong too, and else `Range`.
 fn outside(number: usize, name: &str) -> Fault
     ensures { result ≡ fault_outside number name.now }
 {
@@ -39,7 +39,8 @@ fn outside(number: usize, name: &str) -> Fault
     }
 }
 
-/// The question of a name, of what is said of the sixteen words, and of actions.
+/// The question with this name, these entries for the sixteen words, and these actions. The refusals, in order: `Name`,
+/// `Range`, `Mask` and `Actions`; `number` is the question's, from 1. `Memory` can come anywhere.
 fn question_of_parts(
     alloc: Global,
     number: usize,
@@ -59,7 +60,8 @@ fn question_of_parts(
     question.map_err(|fault| numbered(number, fault))
 }
 
-/// The question of a table, each of whose values is to be of its kind.
+/// The question of a table. `Key` where a key is unknown, the name is missing, or a value is of a wrong kind; then what
+/// `question_of_parts` refuses. `number` is the question's, from 1.
 pub(super) fn question_of_table(
     alloc: Global,
     version: Version,
@@ -83,7 +85,7 @@ pub(super) fn question_of_table(
     question_of_parts(alloc, number, name, &entries, actions)
 }
 
-/// The question of a value, which is to be a table.
+/// The question of a value. `Key` where it is no table; then what `question_of_table` refuses.
 fn question_of_value(
     alloc: Global,
     version: Version,
@@ -99,7 +101,7 @@ fn question_of_value(
     }
 }
 
-/// The questions of an array's tables.
+/// The questions of an array's tables, in order. The refusal is that of the first question that is refused.
 pub(super) fn questions_in(
     alloc: Global,
     version: Version,

@@ -1,4 +1,4 @@
-//! Where a policy is refused. It is for a person, so nothing is promised of it.
+//! Where a policy is refused. It is for a person, so no contract speaks of it.
 
 use super::keys::{TOP_KEYS, is_among, text_in, value_at};
 use super::questions::question_of_table;
@@ -11,13 +11,13 @@ use toml::{Table, Value};
 /// Why a policy is refused, and what was read of it.
 #[derive(Debug, Drop)]
 pub struct Refusal {
-    /// What is wrong.
+    /// The fault for which the policy is refused.
     pub fault: Fault,
-    /// The tree of the policy, or why and where its text is no TOML.
+    /// The tree of the policy; or why and where its text is no TOML.
     pub read: Result<Table, Error>,
 }
 
-/// Whether a question that has a name and this key alone is refused for this fault.
+/// Whether a question that has a name and only this key is refused for this fault.
 fn is_refused_alone(
     alloc: Global,
     version: Version,
@@ -49,7 +49,7 @@ impl Refusal {
         }
     }
 
-    /// The questions.
+    /// The values of the policy's array of questions; empty where it has none.
     pub fn items(&self) -> &[Value] {
         match &self.read {
             Ok(table) => match value_at(table, "question") {
@@ -60,7 +60,7 @@ impl Refusal {
         }
     }
 
-    /// The table of the question that is refused, or else the whole tree.
+    /// The table of the question that is refused; or the whole tree, where no question is. None where there is no tree.
     pub fn table(&self) -> Option<&Table> {
         match self.question() {
             Some(number) => self.items().get(number.checked_sub(1)?)?.as_table(),
@@ -74,8 +74,9 @@ impl Refusal {
         text_in(self.table()?, "name")
     }
 
-    /// The key of the question that is refused, or else at the top: the first one, in the order of the alphabet, that alone is
-    /// refused for the same fault, or else one that has to be there.
+    /// The key that is refused. In a question it is the first one, in alphabetical order, that is refused for the same
+    /// fault where only this key and a name stand in a question; where there is none, `name`, which must be there.
+    /// Otherwise it is a key at the top. Empty where there is no tree. An error where an allocation is refused.
     pub fn key(&self, alloc: Global) -> Result<&str, AllocError> {
         let (Some(table), Ok(tree)) = (self.table(), &self.read) else {
             return Ok("");
@@ -91,7 +92,7 @@ impl Refusal {
         Ok("name")
     }
 
-    /// The key at the top that is refused.
+    /// The key at the top that is refused: `version` for its fault, else the first unknown key, and else `question`.
     fn top_key<'a>(&self, tree: &'a Table) -> &'a str {
         if self.fault == Fault::Version {
             return "version";

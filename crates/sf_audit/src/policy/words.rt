@@ -1,4 +1,4 @@
-//! The value of a word: a whole number, an array of two, or a table with a mask.
+//! The value of a word in a policy: a whole number, an array of two, or a table with a mask.
 
 ghost use Rattle.std.specs.Prelude.{◌≡◌, map};
 ghost use Rattle.toml.specs.Data.{get_member};
@@ -12,19 +12,23 @@ use super::Version;
 use super::keys::{WORD_KEYS, has_mask_keys, number_in, number_in_or, value_at};
 use toml::{Table, Value};
 
-/// What a policy says of a word, as the numbers that stand in the file.
+/// What a policy says of a word, in the numbers of the file, which may lie outside 32 bits.
 #[derive(Clone, Copy, Debug)]
 pub(crate) struct WordEntry {
+    /// The least number that the word may be.
     pub(crate) low: i64,
+    /// The greatest number that the word may be.
     pub(crate) high: i64,
+    /// The bits of the word that are asked about.
     pub(crate) mask: i64,
+    /// What these bits have to be.
     pub(crate) value: i64,
 }
 
 /// The greatest number of 32 bits.
 const MOST: i64 = 0xffff_ffff;
 
-/// What an absent word says: it may have any number.
+/// The entry of a word that the policy doesn't name: it may be any number.
 const ANY_NUMBER: WordEntry = WordEntry {
     low: 0,
     high: MOST,
@@ -32,7 +36,7 @@ const ANY_NUMBER: WordEntry = WordEntry {
     value: 0,
 };
 
-/// A range, without a mask.
+/// The entry of a range, without a mask.
 fn range_entry(low: i64, high: i64) -> WordEntry
     ensures { result ≡ between low high }
 {
@@ -44,7 +48,7 @@ fn range_entry(low: i64, high: i64) -> WordEntry
     }
 }
 
-/// What an array says: the two ends of a range.
+/// The entry of an array, which has the two ends of a range; none where it is another array.
 fn array_entry(items: &[Value]) -> Option<WordEntry>
     ensures { result ≡ entry_of_array (items_view items.now) }
 {
@@ -54,7 +58,8 @@ fn array_entry(items: &[Value]) -> Option<WordEntry>
     }
 }
 
-/// What a table says: a mask and its value, and the ends of a range where they are named.
+/// The entry of a table: a mask and its value, and the ends of a range where they are named; none where a key is
+/// unknown, or a number is missing or of a wrong kind.
 fn table_entry(table: &Table) -> Option<WordEntry>
     ensures { result ≡ entry_of_table (table_view table.now) }
 {
@@ -69,7 +74,7 @@ fn table_entry(table: &Table) -> Option<WordEntry>
     })
 }
 
-/// What a table says in a policy of this version; none in the first version, which has no such tables.
+/// The entry of a table in a policy of this version; none in version 1, which has no such tables.
 fn versioned_entry(version: Version, table: &Table) -> Option<WordEntry>
     ensures { result ≡ entry_of_versioned version (table_view table.now) }
 {
@@ -79,7 +84,7 @@ fn versioned_entry(version: Version, table: &Table) -> Option<WordEntry>
     }
 }
 
-/// What the value of a word says; none where it is of a wrong kind.
+/// The entry of a word's value; none where it is of a wrong kind.
 fn value_entry(version: Version, value: &Value) -> Option<WordEntry>
     ensures { result ≡ entry_of version (view value.now) }
 {
@@ -91,7 +96,7 @@ fn value_entry(version: Version, value: &Value) -> Option<WordEntry>
     }
 }
 
-/// What a table says of the word with this key; none where its value is of a wrong kind.
+/// The entry of the word with this key in a question's table; none where its value is of a wrong kind.
 fn entry_in(version: Version, table: &Table, key: &str) -> Option<WordEntry>
     ensures { result ≡ entry_at version (get_member key.now (table_view table.now)) }
 {
@@ -101,7 +106,8 @@ fn entry_in(version: Version, table: &Table, key: &str) -> Option<WordEntry>
     }
 }
 
-/// What a table says of the words with these sixteen keys; none where one of the values is of a wrong kind.
+/// The entries of the words with these sixteen keys in a question's table; none where one of the values is of a wrong
+/// kind.
 fn entries_at(version: Version, table: &Table, keys: &[&str; 16]) -> Option<[WordEntry; 16]>
     ensures { result ≡ each_of (λ key. entry_at version (get_member key (table_view table.now)))
         (map (λ key. key.now) keys.now) }
@@ -113,8 +119,8 @@ fn entries_at(version: Version, table: &Table, keys: &[&str; 16]) -> Option<[Wor
     Some(words)
 }
 
-/// What the table of a question says of the sixteen words of `struct seccomp_data`; none where a value is of a wrong
-/// kind.
+/// The entries of the sixteen words of `struct seccomp_data` in a question's table; none where one of the values is of
+/// a wrong kind.
 pub(super) fn entries_in(version: Version, table: &Table) -> Option<[WordEntry; 16]>
     ensures { result ≡ each_of (λ key. entry_at version
         (get_member key (table_view table.now))) word_keys }
@@ -122,14 +128,14 @@ pub(super) fn entries_in(version: Version, table: &Table) -> Option<[WordEntry; 
     entries_at(version, table, &WORD_KEYS)
 }
 
-/// The number, where it is of 32 bits.
+/// A number as a word; none where it isn't of 32 bits.
 fn word_from(number: i64) -> Option<u32>
     ensures { result ≡ word_in number }
 {
     u32::try_from(number).ok()
 }
 
-/// The ends of an entry's range, and its mask and value, where all four are of 32 bits.
+/// The ends of an entry's range, and then its mask and value; none where one of the four isn't of 32 bits.
 fn numbers_of(entry: WordEntry) -> Option<((u32, u32), (u32, u32))>
     ensures { result ≡ numbers_in entry }
 {
@@ -139,7 +145,7 @@ fn numbers_of(entry: WordEntry) -> Option<((u32, u32), (u32, u32))>
     ))
 }
 
-/// The ranges of the entries, and their masks, each with its value; none where a number isn't of 32 bits.
+/// The ranges of the entries, and then their masks, each with its value; none where a number isn't of 32 bits.
 pub(super) fn words_of(entries: &[WordEntry; 16]) -> Option<([(u32, u32); 16], [(u32, u32); 16])>
     ensures { result ≡ ranges_and_masks entries.now }
 {

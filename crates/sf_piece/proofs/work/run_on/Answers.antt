@@ -8,19 +8,19 @@ loop-run-init c =
 
 pub loop-run-preserved : goal.loop-run-preserved
 loop-run-preserved c =
-    let h = rw c.in-On.is at c.in_ok-advance_once.ensures in
+    let h = rw c.in-On.is at c.in_ok-execute.ensures in
     record { is_on = on_trans _ _ _ c.loop-run.invariant.is_on h.0.is_on; lawful = h.1 }
 
 pub invariant_of-result : goal.invariant_of-result
 invariant_of-result c =
-    let h = rw c.in-Split.is at c.in_ok-advance_once.ensures in
-    rw (c.in_ok-mine.ensures, c.in_ok-on_true-in-Split.ensures.ok) (split_work _ _ _ _ _
+    let h = rw c.in-Split.is at c.in_ok-execute.ensures in
+    rw (c.in_ok-mine.ensures, c.in_ok-on_true-in-Split.ensures.ok) (split_work _ _ _ _
     (rw c.deref.ensures at c.name-name.ensures.named) (rw c.deref.ensures at c.name-name.ensures.plain)
     c.loop-run.invariant.is_on (h.0, h.1))
 
 pub invariant_of-result-in-Settled : goal.invariant_of-result-in-Settled
 invariant_of-result-in-Settled c =
-    let h = rw c.in-Settled.is at c.in_ok-advance_once.ensures in
+    let h = rw c.in-Settled.is at c.in_ok-execute.ensures in
     let work = settled_work _ _ _ _ (rw c.deref.ensures at c.name-name.ensures.named)
     (rw c.deref.ensures at c.name-name.ensures.plain) c.loop-run.invariant.is_on h in
     let begins = work.right.1.begins in
@@ -29,6 +29,6 @@ invariant_of-result-in-Settled c =
 
 pub invariant_of-result-in-Empty : goal.invariant_of-result-in-Empty
 invariant_of-result-in-Empty c =
-    let h = rw c.in-Empty.is at c.in_ok-advance_once.ensures in
-    rw c.in_ok-mine.ensures (empty_work _ _ _ (rw c.deref.ensures at c.name-name.ensures.named)
+    let h = rw c.in-Empty.is at c.in_ok-execute.ensures in
+    rw c.in_ok-mine.ensures (empty_work _ _ (rw c.deref.ensures at c.name-name.ensures.named)
     (rw c.deref.ensures at c.name-name.ensures.plain) c.loop-run.invariant.is_on h)

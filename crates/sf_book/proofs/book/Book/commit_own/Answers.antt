@@ -18,7 +18,7 @@ split-requires-clause-apart c =
     let is : c.args.work.step ≡ Split c.in-Split.f.value c.in-Split.t.value =
     sym parts.step ∙ ap step_data c.in-Split.is in
     child_names _ c.args.id c.args.work _ _ c.self.invariant.kept.lawful (rw (← c.self.view_is) at c.requires.may)
-    (rw is at parts.right.1)
+    (rw is at parts.right.1).0
 
 pub invariant_of-self-in-Split-1 : goal.invariant_of-self-in-Split-1
 invariant_of-self-in-Split-1 c =
