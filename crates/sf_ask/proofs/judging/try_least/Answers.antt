@@ -5,7 +5,7 @@ use Rattle.sf_ask.proofs.Searching.{doubtful, least-hit, exact-hit}
 use Rattle.sf_ask.proofs.judging.try_least.Goals as goal
 
 -- what the question leaves of the piece's facts
-confined : (c : goal.After-drop-facts-inside-then-not-branch-3) → AreConfined c.args.piece.now.facts c.in-Some.facts
+confined : (c : goal.After-drop-facts-inside-then-not-branch-2) → AreConfined c.args.piece.now.facts c.in-Some.facts
     c.args.piece.now.pool (IsInQuestion c.args.question.now) (IsNumberBefore c.args.question.now 16)
 confined c = rw (c.in-Some.is, c.facts-known.ensures.value, c.pool.ensures.value) at c.in_ok-facts.ensures.confined
 
