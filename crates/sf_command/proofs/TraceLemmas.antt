@@ -25,15 +25,13 @@ one_more_filter brief n action stood stands programs d code w old new whole at r
 
 -- the lines of what a filter meets, with one more
 pub one_more_meeting : (brief : Bool) (number : ℕ) (words : List (Option ℕ)) (met : List Meeting) (place : ℕ)
-    (m : Meeting) (word : Option ℕ) (old new whole : List ℕ)
-    → place < length met → m ≡ get_or met place m → word ≡ unwrap_or (slice_get words m.place) None
-    → new ≡ old ++ shown_line brief number word m
+    (d : Meeting) (word : Option ℕ) (old new whole : List ℕ)
+    → place < length met → new ≡ old ++ shown_line brief number word (get_or met place d)
     → old ++ meeting_lines brief number words (drop place met) ≡ whole
+    → word ≡ unwrap_or (slice_get words (get_or met place d).place) None
     → new ++ meeting_lines brief number words (drop (place + 1) met) ≡ whole
-one_more_meeting brief number words met place m word old new whole below at is pushed so_far =
-    let so_far' : old ++ (shown_line brief number word m ++ meeting_lines brief number words (drop (place + 1) met))
-    ≡ whole = rw (is, ← so_far, drop_more met place m below, ← at) refl in
-    rw (pushed, append_assoc old) so_far'
+one_more_meeting brief number words met place d word old new whole below pushed so_far is =
+    rw (pushed, append_assoc old, is) (rw (drop_more met place d below) at so_far)
 
 -- the program that was read from a place of the list stands at that place
 pub program_at : (programs : List (List Insn)) (n k : ℕ) (code : List Insn) → code ≡ get_or programs k code → k ≡ n
