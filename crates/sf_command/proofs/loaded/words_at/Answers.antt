@@ -6,7 +6,7 @@ use Rattle.sf_command.proofs.loaded.words_at.Goals.{then-skips-gt0, else-skips-g
 pub loop-place-preserved : goal.loop-place-preserved
 loop-place-preserved c =
     elim c.if-skips-gt0.branch [
-      | then-skips-gt0 w ↦ rw (w.skips-is, w.word-is) (word_skipped _ _ _ c.loop-place.place _ _ c.args.code.now _ _
+      | then-skips-gt0 w ↦ rw (w.skips-is, w.word-is) (word_skipped _ _ _ c.loop-place.place _ _ c.args.code.now _
           c.loop-place-test.true w.if-skips-gt0.true c.in_ok-push.ensures.items c.loop-place.invariant)
       | else-skips-gt0 w ↦
           let none : c.loop-place.skips ≡ 0 = omega (arith, w.if-skips-gt0.false) in
