@@ -23,5 +23,6 @@ pub word_taken : (old new whole : List (Option ℕ)) (place skips skips' : ℕ) 
     → skips' ≡ skipped_after (get_or code place d) truth → word' ≡ word_after word (get_or code place d)
     → old ++ words_at place skips word (drop place code) met ≡ whole
     → new ++ words_at (place + 1) skips' word' (drop (place + 1) code) met ≡ whole
-word_taken old new whole place skips skips' word word' code d met truth below none pushed met_is skips_is word_is so_far =
+word_taken old new whole place skips skips' word word' code d met truth below none pushed met_is skips_is
+    word_is so_far =
     rw (skips_is, met_is, word_is, pushed, append_assoc old) (rw (none, drop_more code place d below) at so_far)
