@@ -1,0 +1,252 @@
+-- What is held, and the labels of it.
+use Rattle.std.proofs.Common.{◌≡◌, ℕ, ◌<◌, ◌≤◌, ◌+◌, ◌^◌, Bool, true, false, true≢false, List, [], ◌∷◌, ◌++◌, length, take, get_or, Some, refl, sym, ap, subst, ◌∙◌, inl, inr, arith}
+use Rattle.std.specs.Prelude.{slice_get, slice_index, bit_and, Contains, All}
+use Rattle.std.proofs.lemmas.Bool.{cases_eq}
+use Rattle.std.specs.List.{list_all}
+use Rattle.std.specs.List.Sorted.{IsPermutation}
+use Rattle.std.proofs.lemmas.List.{take_all}
+use Rattle.std.proofs.lemmas.List.Sorted.{Contains-permutation}
+use Rattle.std.proofs.lemmas.List.Folds.{list_all_at}
+use Rattle.std.proofs.lemmas.List.Elements.{All-weaker, All-more, All-push, All-contains, Contains-append_left, Contains-push, Contains-get_or}
+use Rattle.std.proofs.lemmas.Option.{get_or_from_slice_get, slice_get_within}
+use Rattle.sf_insn.specs.declared.input.Input.{Input}
+use Rattle.sf_insn.specs.Inputs.{IsInput}
+use Rattle.sf_sym.specs.declared.pool.Cond.{Cond}
+use Rattle.sf_sym.specs.declared.pool.Node.{Node}
+use Rattle.sf_sym.specs.Pool.{is_met}
+use Rattle.sf_dom.specs.Known.{Admits}
+use Rattle.sf_dom.specs.Facts.{FactsView, Agrees, Covers, KeepsInputs, NoInput, known_at}
+use Rattle.sf_dom.specs.FactsLaws.{agreeing-word}
+use Rattle.sf_piece.specs.Pieces.{PieceData, is_member}
+use Rattle.sf_book.specs.Books.{RegionData, BookData}
+use Rattle.sf_picture.specs.declared.axis.Axis.{Axis}
+use Rattle.sf_picture.specs.Spans.{NoneInSpan, KeepsSpan, KeepsOnlySpan, IsExactSpan}
+use Rattle.sf_picture.specs.Holding.{HeldData, IsHeldBy, KeepsMembers, NoMemberAgrees, NoneIsHeldIn, IsHeldIn, IsKeptIn, IsHeldAt, IsNarrowed, IsFromSome, AreOneLabel, AreAtMost}
+
+-- a condition that isn't met leaves no member
+not-met : (p : Cond → Bool) (cs : List Cond) (i : ℕ) (c : Cond) → slice_get cs i ≡ Some c → p c ≡ false
+    → list_all p cs ≡ false
+not-met p cs i c there fails = list_all_at p cs i c (slice_get_within cs i c there)
+    (ap p (get_or_from_slice_get cs i c c there) ∙ fails)
+
+-- a member meets each condition
+pub meets : (p : PieceData) (i : ℕ) (c : Cond) (d : Input) → slice_get p.conditions i ≡ Some c → is_member p d ≡ true
+    → is_met p.pool d c ≡ true
+unfolding is_member
+meets p i c d there member = by (is_met p.pool d c) refl
+  where
+    by : (b : Bool) → is_met p.pool d c ≡ b → is_met p.pool d c ≡ true
+    by true e = e
+    by false e = absurd (true≢false (sym member ∙ not-met (is_met p.pool d) p.conditions i c there e))
+
+-- one of its conditions that no input meets leaves no member
+pub none-agrees : (p : PieceData) (f g : FactsView) (i : ℕ) (c : Cond) → KeepsMembers p f g
+    → slice_get p.conditions i ≡ Some c → NoInput g p.pool (λ d. is_met p.pool d c) → NoMemberAgrees p f
+none-agrees p f g i c keeps there none d is member agrees =
+    true≢false (sym (meets p i c d there member) ∙ none d is (keeps.keeps d is member agrees))
+
+-- where one is learnt, members agree still
+pub keeps-more : (p : PieceData) (f g h : FactsView) (i : ℕ) (c : Cond) → KeepsMembers p f g
+    → slice_get p.conditions i ≡ Some c → Covers h p.pool → KeepsInputs g h p.pool (λ d. is_met p.pool d c)
+    → KeepsMembers p f h
+keeps-more p f g h i c keeps there covers more = record {
+  covers = covers;
+  keeps = λ d is member agrees. more d is (keeps.keeps d is member agrees) (meets p i c d there member);
+}
+
+-- what was kept is kept among more
+pub kept-push : (inside : List HeldData) (k : HeldData) (axis : Axis) (first last : ℕ) (h : HeldData)
+    → IsKeptIn inside axis first last h → IsKeptIn (inside ++ k ∷ []) axis first last h
+kept-push inside k axis first last h kept d held span =
+    let there = kept d held span in
+    (there.0, Contains-append_left inside (k ∷ []) there.0 there.1, there.2, there.3)
+
+-- what is held of a region is kept once it is added
+pub kept-last : (inside : List HeldData) (k : HeldData) (axis : Axis) (first last : ℕ) (h : HeldData)
+    → IsHeldIn h axis first last k → IsKeptIn (inside ++ k ∷ []) axis first last h
+kept-last inside k axis first last h in' d held span = (k, Contains-push inside k, in'.label, in'.keeps d held span)
+
+-- nothing of a region is to be kept where it has no member in the span
+pub kept-none : (inside : List HeldData) (axis : Axis) (first last : ℕ) (h : HeldData)
+    → NoneIsHeldIn h axis first last → IsKeptIn inside axis first last h
+kept-none inside axis first last h none d held span = absurd (none d held span)
+
+-- no member is held in a span where no input that agrees with its facts is
+pub none-held : (h : HeldData) (ns : List Node) (axis : Axis) (first last : ℕ) → ns ≡ h.piece.pool
+    → NoneInSpan h.facts ns axis first last → NoneIsHeldIn h axis first last
+none-held h ns axis first last same none d held span =
+    none d held.input (subst (λ (k : List Node). Agrees h.facts k d) (sym same) held.agrees) span
+
+-- the members of a span are held with the facts that keep them
+pub in-held : (h k : HeldData) (ns : List Node) (f : FactsView) (axis : Axis) (first last : ℕ) → ns ≡ h.piece.pool
+    → k ≡ record h { facts = f } → KeepsSpan h.facts ns axis first last f → IsHeldIn h axis first last k
+in-held h k ns f axis first last same is keeps =
+    subst (IsHeldIn h axis first last) (sym is) (record {
+      label = refl;
+      keeps = λ d held span. record {
+        input = held.input;
+        member = held.member;
+        agrees = subst (λ (n : List Node). Agrees f n d) same
+            (keeps d held.input (subst (λ (n : List Node). Agrees h.facts n d) (sym same) held.agrees) span);
+      };
+    })
+
+-- all members are held as they were
+pub same-held : (h k : HeldData) (axis : Axis) (first last : ℕ) → k ≡ h → IsHeldIn h axis first last k
+same-held h k axis first last is =
+    subst (IsHeldIn h axis first last) (sym is) (record { label = refl; keeps = λ d held span. held })
+
+-- no member is held where none agrees with the facts
+pub none-ruled : (h : HeldData) → NoMemberAgrees h.piece h.facts → (d : Input) → IsHeldBy h d → ⊥
+none-ruled h none d held = none d held.input held.member held.agrees
+
+-- what was held is held among more
+pub held-push : (held : List HeldData) (k : HeldData) (s : BookData) (place label : ℕ) → IsHeldAt held s place label
+    → IsHeldAt (held ++ k ∷ []) s place label
+held-push held k s place label at region d there is member =
+    let h = at region d there is member in
+    (h.0, Contains-append_left held (k ∷ []) h.0 h.1, h.2, h.3)
+
+-- a region is held once it is added, with facts that all members agree with
+pub held-last : (held : List HeldData) (k : HeldData) (s : BookData) (place label : ℕ) (r : RegionData) (p : PieceData)
+    → slice_get s.regions place ≡ Some r → p ≡ r.piece
+    → ((d : Input) → IsInput d → is_member p d ≡ true → Agrees p.facts p.pool d)
+    → k ≡ record { piece = p; label = label; facts = p.facts; cuts = k.cuts } → IsHeldAt (held ++ k ∷ []) s place label
+held-last held k s place label r p here same all is region d there input member =
+    let found : r ≡ region = cc (here, there) in
+    let inside : is_member p d ≡ true = ap (λ (q : PieceData). is_member q d) same
+    ∙ (ap (λ (x : RegionData). is_member x.piece d) found ∙ member) in (
+      k,
+      Contains-push held k,
+      ap (λ (x : HeldData). x.label) is,
+      subst (λ (x : HeldData). IsHeldBy x d) (sym is)
+          (record { input = input; member = inside; agrees = all d input inside }),
+    )
+
+-- one region more
+pub held-more : (held : List HeldData) (s : BookData) (labels : List ℕ) (n : ℕ)
+    → ((place : ℕ) → place < n → IsHeldAt held s place (slice_index labels place))
+    → IsHeldAt held s n (slice_index labels n)
+    → (place : ℕ) → place < n + 1 → IsHeldAt held s place (slice_index labels place)
+held-more held s labels n before here place lt = elim (cases_eq place n) [
+  | inl same ↦ subst (λ (i : ℕ). IsHeldAt held s i (slice_index labels i)) (sym same) here
+  | inr other ↦ before place (omega arith)
+]
+
+-- its members' labels are among some
+abbrev pub IsLabelled : List ℕ → HeldData → Type 0
+IsLabelled labels h = (d : Input) → IsHeldBy h d → Contains labels h.label
+
+-- one label more
+pub labelled-more : (held : List HeldData) (i : ℕ) (h : HeldData) (labels more : List ℕ) → i < length held
+    → h ≡ get_or held i h → ((n : ℕ) → Contains labels n → Contains more n) → IsLabelled more h
+    → All (IsLabelled labels) (take i held) → All (IsLabelled more) (take (i + 1) held)
+labelled-more held i h labels more lt is keeps here before = All-more (IsLabelled more) held i h lt
+    (All-weaker (IsLabelled labels) (IsLabelled more) (λ k f d m. keeps k.label (f d m)) (take i held) before)
+    (subst (IsLabelled more) is here)
+
+-- labels in another order
+pub labelled-sorted : (held : List HeldData) (labels sorted : List ℕ) (n : ℕ) → length held ≤ n
+    → IsPermutation labels sorted → All (IsLabelled labels) (take n held) → All (IsLabelled sorted) held
+labelled-sorted held labels sorted n le moved all =
+    All-weaker (IsLabelled labels) (IsLabelled sorted) (λ k f d m.
+    Contains-permutation labels sorted k.label moved (f d m))
+    held (subst (All (IsLabelled labels)) (take_all n held le) all)
+
+-- what is kept of one region more
+pub kept-more : (held : List HeldData) (i : ℕ) (h : HeldData) (inside more : List HeldData) (axis : Axis)
+    (first last : ℕ) → i < length held → h ≡ get_or held i h
+    → ((k : HeldData) → IsKeptIn inside axis first last k → IsKeptIn more axis first last k)
+    → IsKeptIn more axis first last h → All (IsKeptIn inside axis first last) (take i held)
+    → All (IsKeptIn more axis first last) (take (i + 1) held)
+kept-more held i h inside more axis first last lt is keeps here before =
+    All-more (IsKeptIn more axis first last) held i h lt
+    (All-weaker (IsKeptIn inside axis first last) (IsKeptIn more axis first last) keeps (take i held) before)
+    (subst (IsKeptIn more axis first last) is here)
+
+pub kept-all : (held : List HeldData) (inside : List HeldData) (axis : Axis) (first last n : ℕ) → length held ≤ n
+    → All (IsKeptIn inside axis first last) (take n held) → All (IsKeptIn inside axis first last) held
+kept-all held inside axis first last n le all =
+    subst (All (IsKeptIn inside axis first last)) (take_all n held le) all
+
+-- ---- what is held is narrowed to spans
+
+-- the same again, where all that agrees lies in the span
+pub narrowed-same : (h k : HeldData) (axis : Axis) (first last : ℕ) → k ≡ h → axis.word < 16
+    → Covers h.facts h.piece.pool
+    → ((n : ℕ) → n < 2 ^ 32 → Admits (known_at h.facts.known axis.word) n
+    → (first ≤ bit_and n axis.mask) × (bit_and n axis.mask ≤ last)) → IsNarrowed h axis first last k
+narrowed-same h k axis first last is word covers within =
+    subst (IsNarrowed h axis first last) (sym is) (record {
+      piece = refl;
+      label = refl;
+      cuts = refl;
+      covers = covers;
+      only = λ exact d input agrees.
+          let w = within (slice_index d.words axis.word) (input.each axis.word)
+          (agreeing-word h.facts h.piece.pool d axis.word covers word agrees).admitted in
+          (agrees, record { above = w.0; below = w.1 });
+    })
+
+-- the same with other facts
+pub narrowed-facts : (h k : HeldData) (ns : List Node) (f : FactsView) (axis : Axis) (first last : ℕ)
+    → ns ≡ h.piece.pool → k ≡ record h { facts = f } → Covers f ns
+    → (IsExactSpan axis first last → KeepsOnlySpan h.facts ns axis first last f) → IsNarrowed h axis first last k
+narrowed-facts h k ns f axis first last same is covers only =
+    subst (IsNarrowed h axis first last) (sym is) (record {
+      piece = refl;
+      label = refl;
+      cuts = refl;
+      covers = subst (Covers f) same covers;
+      only = λ exact d input agrees.
+          let r = only exact d input (subst (λ (n : List Node). Agrees f n d) (sym same) agrees) in
+          (subst (λ (n : List Node). Agrees h.facts n d) same r.0, r.1);
+    })
+
+pub from-push : (held : List HeldData) (one k : HeldData) (axis : Axis) (first last : ℕ) (inside : List HeldData)
+    → Contains held one → IsNarrowed one axis first last k → All (IsFromSome held axis first last) inside
+    → All (IsFromSome held axis first last) (inside ++ k ∷ [])
+from-push held one k axis first last inside there narrowed all =
+    All-push (IsFromSome held axis first last) inside k all
+    (record { held_one = one; there = there; narrowed = narrowed })
+
+-- what stands at a place is among all
+pub there-at : (held : List HeldData) (i : ℕ) (h : HeldData) → i < length held → h ≡ get_or held i h → Contains held h
+there-at held i h lt is = subst (Contains held) (sym is) (Contains-get_or held i h lt)
+
+-- ---- one label
+
+-- a label that isn't there yet
+pub once-push : (labels : List ℕ) (label : ℕ) → (Contains labels label → ⊥) → AreAtMost label labels
+    → AreAtMost label (labels ++ label ∷ [])
+once-push labels label new (inl none) = inr (ap (λ (l : List ℕ). l ++ label ∷ []) none)
+once-push labels label new (inr one) =
+    absurd (new (subst (λ (l : List ℕ). Contains l label) (sym one) (Contains-push [] label)))
+
+-- all that is held has the label of each one
+pub one-each : (held : List HeldData) (i : ℕ) (h : HeldData) (labels more : List ℕ) → AreOneLabel held
+    → i < length held → h ≡ get_or held i h → (AreAtMost h.label labels → AreAtMost h.label more)
+    → ((k : HeldData) → Contains held k → AreAtMost k.label labels)
+    → (k : HeldData) → Contains held k → AreAtMost k.label more
+one-each held i h labels more one lt is once before k there =
+    let here = there-at held i h lt is in
+    subst (λ (l : ℕ). AreAtMost l more) (one h k here there) (once (before h here))
+
+-- at most one label is at most one
+pub at-most-short : (label : ℕ) (labels : List ℕ) → AreAtMost label labels → length labels ≤ 1
+at-most-short label labels (inl none) = let e : length labels ≡ 0 = ap length none in omega arith
+at-most-short label labels (inr one) = let e : length labels ≡ 1 = ap length one in omega arith
+
+-- all that is held has one label where each has the same
+pub have-one : (held : List HeldData) (label : ℕ) → All (λ (h : HeldData). h.label ≡ label) held → AreOneLabel held
+have-one held label all h k ih ik =
+    All-contains (λ (x : HeldData). x.label ≡ label) held h all ih
+    ∙ sym (All-contains (λ (x : HeldData). x.label ≡ label) held k all ik)
+
+-- labels of what is held, where that has one
+pub one-short : (held : List HeldData) (labels sorted : List ℕ) (n : ℕ) → length sorted ≡ length labels
+    → length labels ≤ n → n ≤ length held → ((k : HeldData) → Contains held k → AreAtMost k.label labels)
+    → length sorted ≤ 1
+one-short [] labels sorted n same few le one = omega arith
+one-short (h ∷ hs) labels sorted n same few le one =
+    let short = at-most-short h.label labels (one h (Contains-get_or (h ∷ hs) 0 h (omega arith))) in omega arith

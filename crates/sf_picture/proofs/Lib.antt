@@ -1,0 +1,10 @@
+pub mod RunLemmas
+pub mod SketchLemmas
+pub mod SpanLemmas
+pub mod HoldingLemmas
+pub mod CutLemmas
+pub mod LastLemmas
+pub mod DrawLemmas
+pub mod PlainLemmas
+pub mod AttainLemmas
+pub mod LawLemmas

@@ -1,0 +1,201 @@
+-- Numbers under masks, and spans of them.
+use Rattle.std.proofs.Common.{◌≡◌, ℕ, ◌<◌, ◌≤◌, ◌^◌, ◌-◌, ◌+◌, ◌*◌, min, List, Bool, true, false, Result, Ok, arith, sym, ap, subst, ◌∙◌, inl, inr, eq-eqb, true≢false}
+use Rattle.std.specs.Prelude.{MatchBool, bit_and, slice_index, nat_le}
+use Rattle.std.specs.Int.{bit_at, w32}
+use Rattle.std.proofs.lemmas.Bool.{cases_lt, and_from, and_parts, le-leb, leb-true, eqb-true}
+use Rattle.std.proofs.lemmas.Nat.{and_le_l, and_mask}
+use Rattle.std.proofs.lemmas.Nat.Bits.{bit_at_and, bit_at_not, bit_at-lt, bit_at_above, same_from_bits, and_pow}
+use Rattle.sf_insn.specs.declared.input.Input.{Input}
+use Rattle.sf_insn.specs.Inputs.{IsInput}
+use Rattle.sf_insn.specs.Words.{IsOneBit}
+use Rattle.sf_sym.specs.declared.pool.Node.{Node}
+use Rattle.sf_dom.specs.Known.{HasBits, Admits}
+use Rattle.sf_dom.specs.Facts.{FactsView, Covers, KeepsInputs, KeepsOnly, NoInput, lies_in, has_masked, known_at}
+use Rattle.sf_dom.specs.FactsLaws.{agreeing-word}
+use Rattle.sf_picture.specs.declared.axis.Axis.{Axis}
+use Rattle.sf_picture.specs.Pictures.{number_on}
+use Rattle.sf_picture.specs.Spans.{IsInSpan, NoneInSpan, KeepsSpan, KeepsOnlySpan, IsSpanOfBit, IsExactSpan}
+
+-- bits of a number are no greater
+bits-le : (a b : ℕ) → ((i : ℕ) → bit_at a i ≤ bit_at b i) → a ≤ b
+bits-le a b h =
+    let same : bit_and b a ≡ a = same_from_bits (bit_and b a) a (λ i. bit_at_and b a i ∙ min_of _ _ (h i)) in
+    rw same at (and_le_l b a)
+  where
+    min_of : (x y : ℕ) → y ≤ x → min x y ≡ y
+    min_of x y l = omega arith
+
+-- the known ones under a mask are at most the number under it
+pub masked-least : (n z o m : ℕ) → HasBits n z o → bit_and o m ≤ bit_and n m
+masked-least n z o m h =
+    bits-le (bit_and o m) (bit_and n m) (λ i. rw (bit_at_and o m i, bit_at_and n m i) (less _ _ _ (h.one i)))
+  where
+    less : (x y k : ℕ) → x ≤ y → min x k ≤ min y k
+    less x y k l = omega arith
+
+-- and the number leaves room for the known zeros
+pub masked-most : (n z o m : ℕ) → m < 2 ^ 32 → z < 2 ^ 32 → HasBits n z o → bit_and n m ≤ bit_and m (4294967295 - z)
+masked-most n z o m lm lz h = bits-le (bit_and n m) (bit_and m (4294967295 - z)) (λ i. elim (cases_lt i 32) [
+  | inl l ↦ rw (bit_at_and n m i, bit_at_and m (4294967295 - z) i, bit_at_not w32 z i lz l)
+      (less _ _ _ (h.zero i) (bit_at-lt n i) (bit_at-lt m i))
+  | inr g ↦ rw (bit_at_and n m i, bit_at_above m 32 i lm g) (none _ _)
+])
+  where
+    less : (x z k : ℕ) → z + x ≤ 1 → x < 2 → k < 2 → min x k ≤ min k (1 - z)
+    less x z k h lx lk = omega arith
+
+    none : (x y : ℕ) → min x 0 ≤ y
+    none x y = omega arith
+
+-- a whole word is its number
+pub whole-number : (n : ℕ) → n < 2 ^ 32 → bit_and n 4294967295 ≡ n
+whole-number n l = and_mask n 32 ∙ omega arith
+
+-- of one bit there is one number that isn't 0
+pub one-bit-number : (m n first : ℕ) → IsOneBit m → 0 < first → first ≤ bit_and n m → bit_and n m ≡ m
+one-bit-number m n first (i, lt, e) some le =
+    let is : bit_and n m ≡ bit_at n i * 2 ^ i = ap (bit_and n) e ∙ and_pow n i in
+    let small = bit_at-lt n i in
+    elim (cases_lt (bit_at n i) 1) [
+      | inl none ↦ (let zero : bit_at n i ≡ 0 = omega arith in
+          let nothing : bit_at n i * 2 ^ i ≡ 0 = ap (λ b. b * 2 ^ i) zero ∙ omega arith in absurd (omega arith))
+      | inr set ↦ (let one : bit_at n i ≡ 1 = omega arith in
+          is ∙ (ap (λ b. b * 2 ^ i) one ∙ (times-one (2 ^ i) ∙ sym e)))
+    ]
+  where
+    times-one : (k : ℕ) → 1 * k ≡ k
+    times-one k = omega arith
+
+-- a span that what is known of a word rules out
+pub missed : (f : FactsView) (ns : List Node) (axis : Axis) (first last : ℕ) → Covers f ns → axis.word < 16
+    → ((n : ℕ) → n < 2 ^ 32 → Admits (known_at f.known axis.word) n → first ≤ bit_and n axis.mask
+    → bit_and n axis.mask ≤ last → ⊥) → NoneInSpan f ns axis first last
+missed f ns axis first last covers word none d is agrees span =
+    none (slice_index d.words axis.word) (is.each axis.word)
+    (agreeing-word f ns d axis.word covers word agrees).admitted span.above span.below
+
+-- a whole word in a span lies in the range
+whole-lies : (axis : Axis) (first last : ℕ) (d : Input) → axis.mask ≡ 4294967295 → IsInput d
+    → IsInSpan axis first last d → lies_in axis.word first last d ≡ true
+whole-lies axis first last d whole is span =
+    let n = slice_index d.words axis.word in
+    let same : number_on axis d ≡ n = ap (bit_and n) whole ∙ whole-number n (is.each axis.word) in
+    let above : first ≤ n = subst (λ (k : ℕ). first ≤ k) same span.above in
+    let below : n ≤ last = subst (λ (k : ℕ). k ≤ last) same span.below in
+    and_from (nat_le first n) (nat_le n last) (le-leb first n above) (le-leb n last below)
+
+pub whole-keeps : (f g : FactsView) (ns : List Node) (axis : Axis) (first last : ℕ) → axis.mask ≡ 4294967295
+    → KeepsInputs f g ns (lies_in axis.word first last) → KeepsSpan f ns axis first last g
+whole-keeps f g ns axis first last whole keeps d is agrees span =
+    keeps d is agrees (whole-lies axis first last d whole is span)
+
+pub whole-none : (f : FactsView) (ns : List Node) (axis : Axis) (first last : ℕ) → axis.mask ≡ 4294967295
+    → NoInput f ns (lies_in axis.word first last) → NoneInSpan f ns axis first last
+whole-none f ns axis first last whole none d is agrees span =
+    true≢false (sym (whole-lies axis first last d whole is span) ∙ none d is agrees)
+
+-- one number under a mask
+abbrev pub OneNumberIn : Axis → ℕ → ℕ → ℕ → Type 0
+OneNumberIn axis first last v = (n : ℕ) → first ≤ bit_and n axis.mask → bit_and n axis.mask ≤ last
+    → bit_and n axis.mask ≡ v
+
+one-has : (axis : Axis) (first last v : ℕ) (d : Input) → OneNumberIn axis first last v → IsInSpan axis first last d
+    → has_masked axis.word axis.mask v d ≡ true
+one-has axis first last v d one span = eq-eqb (number_on axis d) v
+    (one (slice_index d.words axis.word) span.above span.below)
+
+pub one-keeps : (f g : FactsView) (ns : List Node) (axis : Axis) (first last v : ℕ) → OneNumberIn axis first last v
+    → KeepsInputs f g ns (has_masked axis.word axis.mask v) → KeepsSpan f ns axis first last g
+one-keeps f g ns axis first last v one keeps d is agrees span = keeps d is agrees (one-has axis first last v d one span)
+
+pub one-none : (f : FactsView) (ns : List Node) (axis : Axis) (first last v : ℕ) → OneNumberIn axis first last v
+    → NoInput f ns (has_masked axis.word axis.mask v) → NoneInSpan f ns axis first last
+one-none f ns axis first last v one none d is agrees span =
+    true≢false (sym (one-has axis first last v d one span) ∙ none d is agrees)
+
+pub whole-confines : (b : Bool) (f g : FactsView) (ns : List Node) (axis : Axis) (first last : ℕ)
+    → axis.mask ≡ 4294967295
+    → MatchBool b (KeepsInputs f g ns (lies_in axis.word first last)) (NoInput f ns (lies_in axis.word first last))
+    → MatchBool b (KeepsSpan f ns axis first last g) (NoneInSpan f ns axis first last)
+whole-confines true f g ns axis first last whole keeps = whole-keeps f g ns axis first last whole keeps
+whole-confines false f g ns axis first last whole none = whole-none f ns axis first last whole none
+
+pub one-confines : (b : Bool) (f g : FactsView) (ns : List Node) (axis : Axis) (first last v : ℕ)
+    → OneNumberIn axis first last v
+    → MatchBool b (KeepsInputs f g ns (has_masked axis.word axis.mask v))
+    (NoInput f ns (has_masked axis.word axis.mask v))
+    → MatchBool b (KeepsSpan f ns axis first last g) (NoneInSpan f ns axis first last)
+one-confines true f g ns axis first last v one keeps = one-keeps f g ns axis first last v one keeps
+one-confines false f g ns axis first last v one none = one-none f ns axis first last v one none
+
+-- ---- spans to which facts are confined exactly
+
+pub whole-only : (f g : FactsView) (ns : List Node) (axis : Axis) (first last : ℕ) → axis.mask ≡ 4294967295
+    → KeepsOnly f g ns (lies_in axis.word first last) → KeepsOnlySpan f ns axis first last g
+whole-only f g ns axis first last whole only d is agrees =
+    let n = slice_index d.words axis.word in
+    let same : number_on axis d ≡ n = ap (bit_and n) whole ∙ whole-number n (is.each axis.word) in
+    let r = only d is agrees in
+    let both = and_parts (nat_le first n) (nat_le n last) r.1 in (
+      r.0,
+      record {
+        above = subst (λ (k : ℕ). first ≤ k) (sym same) (leb-true first n both.0);
+        below = subst (λ (k : ℕ). k ≤ last) (sym same) (leb-true n last both.1);
+      },
+    )
+
+pub one-only : (f g : FactsView) (ns : List Node) (axis : Axis) (first last v : ℕ) → first ≤ v → v ≤ last
+    → KeepsOnly f g ns (has_masked axis.word axis.mask v) → KeepsOnlySpan f ns axis first last g
+one-only f g ns axis first last v above below only d is agrees =
+    let r = only d is agrees in
+    let same : number_on axis d ≡ v = eqb-true (number_on axis d) v r.1 in (
+      r.0,
+      record {
+        above = subst (λ (k : ℕ). first ≤ k) (sym same) above;
+        below = subst (λ (k : ℕ). k ≤ last) (sym same) below;
+      },
+    )
+
+-- a number under itself as a mask
+pub and-self : (m : ℕ) → bit_and m m ≡ m
+and-self m = same_from_bits (bit_and m m) m (λ i. bit_at_and m m i ∙ min-self (bit_at m i))
+  where
+    min-self : (x : ℕ) → min x x ≡ x
+    min-self x = omega arith
+
+-- a span of a bit that isn't the whole word
+pub exact-of-bit : (axis : Axis) (first last : ℕ) → (axis.mask ≡ 4294967295 → ⊥) → IsExactSpan axis first last
+    → IsSpanOfBit axis.mask first last
+exact-of-bit axis first last part (inl whole) = absurd (part whole)
+exact-of-bit axis first last part (inr bit) = bit
+
+-- the one number of a span of a bit: its first one, where that is its last one, and else the bit
+pub span-first : (mask first last : ℕ) → first ≡ last → IsSpanOfBit mask first last
+    → (first ≤ first) × (first ≤ last) × (bit_and first mask ≡ first)
+span-first mask first last same h = (
+  omega arith,
+  omega arith,
+  elim h.kind [
+    | inl zero ↦ (let none = zero.0 in let most = and_le_l first mask in omega arith)
+    | inr bit ↦ (let is : first ≡ mask = same ∙ bit.2 in
+        ap (λ (k : ℕ). bit_and k mask) is ∙ (and-self mask ∙ sym is))
+  ],
+)
+
+pub span-bit : (mask first last : ℕ) → (first ≡ 0 → ⊥) → IsSpanOfBit mask first last
+    → (first ≤ mask) × (mask ≤ last) × (bit_and mask mask ≡ mask)
+span-bit mask first last some h = elim h.kind [
+  | inl zero ↦ absurd (some zero.0)
+  | inr bit ↦ (let le = bit.1 in let end = bit.2 in (omega arith, omega arith, and-self mask))
+]
+
+-- a span with more than one number doesn't begin with 0
+pub span-none : (mask first last : ℕ) → (first ≡ last → ⊥) → first ≡ 0 → IsSpanOfBit mask first last → ⊥
+span-none mask first last other none h = elim h.kind [
+  | inl zero ↦ other (zero.0 ∙ sym zero.1)
+  | inr bit ↦ (let some = bit.0 in omega arith)
+]
+
+-- what an Ok holds
+pub ok-holds : {E : Type 0} (b c : Bool) → ◌≡◌ {A = Result Bool E} (Ok b) (Ok c) → b ≡ c
+ok-holds b c e = cc

@@ -1,0 +1,23 @@
+use Rattle.std.proofs.Common.{◌<◌, arith}
+use Rattle.std.proofs.lemmas.List.Sorted.{All-permutation}
+use Rattle.sf_picture.specs.declared.axis.Axis.{Axis}
+use Rattle.sf_picture.proofs.LastLemmas.{axes-more, axes-sorted}
+use Rattle.sf_picture.proofs.axes.axes_of.Goals as goal
+
+pub loop-one-preserved : goal.loop-one-preserved
+loop-one-preserved c = record {
+  words = c.in_ok-push_axes.ensures.words c.loop-one.invariant.words;
+  has = axes-more c.args.held.now c.loop-one.one-index c.one-item.result c.loop-one.axes.items
+      c.push_axes.new.axes.items (omega arith) c.one-item.is c.in_ok-push_axes.ensures.keeps
+      c.in_ok-push_axes.ensures.has c.loop-one.invariant.has;
+}
+
+pub returns-clause-words : goal.returns-clause-words
+returns-clause-words c =
+    All-permutation (λ (a : Axis). a.word < 16) _ _ c.sort_unstable_by_key.ensures.permutation
+    c.loop-one.invariant.words
+
+pub returns-clause-each : goal.returns-clause-each
+returns-clause-each c =
+    axes-sorted c.args.held.now c.loop-one.axes.items c.sort_unstable_by_key.new.self.items c.loop-one.one-index
+    (omega arith) c.sort_unstable_by_key.ensures.permutation c.loop-one.invariant.has

@@ -1,0 +1,198 @@
+use Rattle.std.proofs.Common.{◌≡◌, ℕ, ◌<◌, ◌≤◌, ◌+◌, List, ◌∷◌, length, get_or, refl, sym, ap, subst, ◌∙◌, arith}
+use Rattle.std.specs.Prelude.{slice_index}
+use Rattle.std.proofs.lemmas.List.{get_or_default}
+use Rattle.std.proofs.lemmas.Result.{IfOk-weaker}
+use Rattle.sf_book.specs.Books.{BookData}
+use Rattle.sf_picture.specs.declared.axis.Axis.{Axis}
+use Rattle.sf_picture.specs.declared.drawing.Span.{Span}
+use Rattle.sf_picture.specs.PlainHolding.{IsPlainTask}
+use Rattle.sf_picture.specs.Drawing.{AreLasts}
+use Rattle.sf_picture.proofs.SketchLemmas.{grows-none, grows-more}
+use Rattle.sf_picture.proofs.LastLemmas.{lasts-inside}
+use Rattle.sf_picture.proofs.DrawLemmas.{runs-grow, runs-whole, drawn-fork, whole-passed, passed-more, draws-none, draws-missed, draws-added}
+use Rattle.sf_picture.proofs.PlainLemmas.{child-task, skip-task, plain-span, one-label}
+use Rattle.sf_picture.proofs.AttainLemmas.{short-none, short-more, short-same, attained-missed, attained-added, attained-fork}
+use Rattle.sf_picture.proofs.drawing.+draw.Goals as goal
+
+pub draw_span-returns-then-is_past-clause-drawn : goal.draw_span-returns-then-is_past-clause-drawn
+draw_span-returns-then-is_past-clause-drawn t c =
+    let span = c.args.span in
+    draws-none c.args.sketch.now c.args.runs.now.items c.args.held.now span.axis span.first span.last c.requires.right
+    c.requires.runs c.requires.short (c.if-is_past.ensures.past refl)
+
+pub draw_span-returns-then-is_past-clause-short : goal.draw_span-returns-then-is_past-clause-short
+draw_span-returns-then-is_past-clause-short t c = λ s labels box task span. short-none c.args.sketch.now
+
+pub draw_span-returns-then-is_past-clause-attained : goal.draw_span-returns-then-is_past-clause-attained
+draw_span-returns-then-is_past-clause-attained t c = λ s labels box from task span before. before
+
+pub draw_span-returns-in_default-clause-drawn : goal.draw_span-returns-in_default-clause-drawn
+draw_span-returns-in_default-clause-drawn t c =
+    let span = c.args.span in
+    let ahead = c.if-is_past.ensures.ahead refl in
+    draws-missed c.args.sketch.now c.draw.new.sketch c.args.runs.now.items c.in_ok-inside.inside.items c.args.held.now
+    span.axis span.first span.last c.in_ok-next.ensures.grows c.requires.right c.in_ok-next.ensures.right
+    c.requires.runs ahead.0 ahead.1 c.in_ok-inside.ensures.kept
+    (rw (c.in_default.is, c.as_slice.ensures.value) at c.in_ok-next.ensures.drawn)
+
+pub draw_span-returns-in_default-clause-short : goal.draw_span-returns-in_default-clause-short
+draw_span-returns-in_default-clause-short t c = λ s labels box task is.
+    let ahead = c.if-is_past.ensures.ahead refl in
+    c.in_ok-next.ensures.short s labels (c.args.span ∷ box) (rw c.as_slice.ensures.value
+    (child-task s labels box c.args.held.now c.in_ok-inside.inside.items c.args.axes.now c.args.at c.args.span task is
+    c.requires.at ahead.0 ahead.1 c.in_ok-inside.ensures.only))
+
+pub draw_span-returns-in_default-clause-attained : goal.draw_span-returns-in_default-clause-attained
+draw_span-returns-in_default-clause-attained t c = λ s labels box from task is before.
+    let span = c.args.span in
+    let ahead = c.if-is_past.ensures.ahead refl in
+    let le : span.first ≤ span.last + 1 = omega (arith, ahead.0) in
+    attained-missed from c.args.sketch.now c.draw.new.sketch span.axis c.args.runs.now.items span.first (span.last + 1)
+    c.args.held.now c.in_ok-inside.inside.items c.in_ok-next.ensures.grows c.requires.right le
+    (rw c.in_default.is at (c.in_ok-next.ensures.attained s labels (span ∷ box)
+    (rw c.as_slice.ensures.value
+    (child-task s labels box c.args.held.now c.in_ok-inside.inside.items c.args.axes.now c.args.at span task is
+    c.requires.at ahead.0 ahead.1 c.in_ok-inside.ensures.only)))) before
+
+pub draw_span-returns-clause-drawn : goal.draw_span-returns-clause-drawn
+draw_span-returns-clause-drawn t c =
+    let span = c.args.span in
+    let ahead = c.if-is_past.ensures.ahead refl in
+    draws-added c.args.sketch.now c.draw.new.sketch c.args.runs.now.items c.push_run.new.runs.items
+    c.in_ok-inside.inside.items c.args.held.now
+    span.axis span.first span.last c.in-Some.next c.in_ok-next.ensures.grows c.requires.right c.in_ok-next.ensures.right
+    c.requires.runs ahead.0 ahead.1 c.in_ok-inside.ensures.kept
+    (rw (c.in-Some.is, c.as_slice.ensures.value) at c.in_ok-next.ensures.drawn) c.in_ok-push_run.ensures.added
+
+pub draw_span-returns-clause-short : goal.draw_span-returns-clause-short
+draw_span-returns-clause-short t c = λ s labels box task is.
+    let ahead = c.if-is_past.ensures.ahead refl in
+    c.in_ok-next.ensures.short s labels (c.args.span ∷ box) (rw c.as_slice.ensures.value
+    (child-task s labels box c.args.held.now c.in_ok-inside.inside.items c.args.axes.now c.args.at c.args.span task is
+    c.requires.at ahead.0 ahead.1 c.in_ok-inside.ensures.only))
+
+pub draw_span-returns-clause-attained : goal.draw_span-returns-clause-attained
+draw_span-returns-clause-attained t c = λ s labels box from task is before.
+    let span = c.args.span in
+    let ahead = c.if-is_past.ensures.ahead refl in
+    let shown = rw (c.in-Some.is, c.as_slice.ensures.value) at c.in_ok-next.ensures.drawn in
+    let sketch = c.draw.new.sketch in
+    let added = c.in_ok-push_run.ensures.added (length sketch.leaves) (length sketch.forks) span.first ahead.0
+    (runs-grow c.args.sketch.now sketch span.first c.args.runs.now.items c.in_ok-next.ensures.grows c.requires.runs)
+    shown.below in
+    attained-added from c.args.sketch.now sketch span.axis c.args.runs.now.items c.push_run.new.runs.items span.first
+    span.last c.in-Some.next c.args.held.now c.in_ok-inside.inside.items c.in_ok-next.ensures.grows c.requires.right
+    ahead.0 added.1 shown.below c.in_ok-inside.ensures.only (is.exact ahead.0)
+    (rw (c.in-Some.is, c.as_slice.ensures.value) at (c.in_ok-next.ensures.attained s labels (span ∷ box)
+    (rw c.as_slice.ensures.value
+    (child-task s labels box c.args.held.now c.in_ok-inside.inside.items c.args.axes.now c.args.at span task is
+    c.requires.at ahead.0 ahead.1 c.in_ok-inside.ensures.only)))) before
+
+pub draw-loop-last-init : goal.draw-loop-last-init
+draw-loop-last-init t c = record {
+  grows = grows-none c.args.sketch.now;
+  right = c.requires.right;
+  runs = rw c.new-runs.ensures.items (record { rising = tt; apart = tt; lead = tt; ends = tt });
+  found = λ k x lt d is below. absurd (omega arith);
+  short = omega arith;
+  passed = λ k lt. absurd (omega arith);
+  keeps_short = λ s labels box task. short-none c.args.sketch.now;
+  attained = λ s labels box task place above lt. absurd (omega arith);
+}
+
+pub draw-loop-last-preserved : goal.draw-loop-last-preserved
+draw-loop-last-preserved t c =
+    let i = c.loop-last.invariant in
+    let d = c.in_ok-first.ensures.drawn in
+    let axes = c.args.axes.now in
+    let axis : Axis = get_or axes c.args.at (record { word = 0; mask = 0 }) in
+    let lasts = c.as_slice-last-items.result.now in
+    let index = c.loop-last.last-index in
+    let inside : index < length lasts = omega arith in
+    let l = subst (AreLasts c.args.held.now axis) (sym c.as_slice-last-items.ensures.value)
+    c.in_ok-lasts.ensures.lasts in
+    let several : length lasts ≡ 1 → ⊥ = λ one.
+    c.if-len-eq1.false (omega (arith, c.len.ensures, one, ap length c.as_slice-last-items.ensures.value)) in
+    let on : get_or axes c.args.at axis ≡ axis = get_or_default axes c.args.at axis _ (omega arith) in
+    let span = λ (s : BookData) (labels : List ℕ) (box : List Span)
+    (task : IsPlainTask s labels box c.args.held.now axes c.args.at).
+    plain-span s labels box c.args.held.now axes c.args.at axis lasts index c.loop-last.first (slice_index lasts index)
+    task on l several inside refl i.passed in
+    record {
+      grows = grows-more c.args.sketch.now c.loop-last.sketch c.draw_span.new.sketch i.grows d.grows;
+      right = d.right;
+      runs = d.runs;
+      found = d.found i.found;
+      short = d.short;
+      passed = passed-more lasts index c.loop-last.first c.in_ok-first.first i.passed d.onward
+          (d.passed (lasts-inside c.args.held.now axis lasts index l inside));
+      keeps_short = λ s labels box task. short-more c.args.sketch.now c.loop-last.sketch c.draw_span.new.sketch
+          (i.keeps_short s labels box task)
+          (c.in_ok-first.ensures.short s labels box task (span s labels box task));
+      attained = λ s labels box task. c.in_ok-first.ensures.attained s labels box (length c.args.sketch.now.leaves) task
+          (span s labels box task) (i.attained s labels box task);
+    }
+
+pub draw-returns-then-is_one_label-clause-short : goal.draw-returns-then-is_one_label-clause-short
+draw-returns-then-is_one_label-clause-short t c = IfOk-weaker c.leaf_of_all.result _ _
+    (λ _ h s labels box task. h (c.if-is_one_label.ensures refl)) c.leaf_of_all.ensures.short
+
+pub draw-returns-then-at-axes-clause-short : goal.draw-returns-then-at-axes-clause-short
+draw-returns-then-at-axes-clause-short t c = IfOk-weaker c.leaf_of_left.result _ _
+    (λ _ h s labels box task. h (one-label s labels box c.args.held.now c.args.axes.now c.args.at task (omega arith)))
+    c.leaf_of_left.ensures.short
+
+pub draw-returns-then-len-eq1-clause-short : goal.draw-returns-then-len-eq1-clause-short
+draw-returns-then-len-eq1-clause-short t c =
+    let axes = c.args.axes.now in
+    let axis : Axis = get_or axes c.args.at (record { word = 0; mask = 0 }) in
+    let on : get_or axes c.args.at axis ≡ axis = get_or_default axes c.args.at axis _ (omega arith) in
+    let one : length c.in_ok-lasts.lasts.items ≡ 1 = omega (arith, c.len.ensures) in
+    IfOk-weaker c.draw.result _ _ (λ _ h s labels box task. h s labels box
+    (skip-task s labels box c.args.held.now axes c.args.at axis c.in_ok-lasts.lasts.items task (omega arith) on
+    c.in_ok-lasts.ensures.lasts one)) c.draw.ensures.short
+
+pub draw-returns-then-len-eq1-clause-attained : goal.draw-returns-then-len-eq1-clause-attained
+draw-returns-then-len-eq1-clause-attained t c =
+    let axes = c.args.axes.now in
+    let axis : Axis = get_or axes c.args.at (record { word = 0; mask = 0 }) in
+    let on : get_or axes c.args.at axis ≡ axis = get_or_default axes c.args.at axis _ (omega arith) in
+    let one : length c.in_ok-lasts.lasts.items ≡ 1 = omega (arith, c.len.ensures) in
+    IfOk-weaker c.draw.result _ _ (λ _ h s labels box task. h s labels box
+    (skip-task s labels box c.args.held.now axes c.args.at axis c.in_ok-lasts.lasts.items task (omega arith) on
+    c.in_ok-lasts.ensures.lasts one)) c.draw.ensures.attained
+
+pub draw-fork_of-requires-clause-runs : goal.draw-fork_of-requires-clause-runs
+draw-fork_of-requires-clause-runs t c =
+    let i = c.loop-last.invariant in
+    let l = c.in_ok-lasts.ensures.lasts in
+    let passed = whole-passed _ l.before _ c.loop-last.first c.loop-last.last-index
+    (c.as_slice-last-items.ensures.value ∙ l.whole) (omega arith) i.passed in
+    runs-whole _ _ _ _ _ passed i.short i.runs
+
+pub draw-returns-clause-grows : goal.draw-returns-clause-grows
+draw-returns-clause-grows t c =
+    grows-more c.args.sketch.now c.loop-last.sketch c.fork_of.new.sketch c.loop-last.invariant.grows
+    c.in_ok-drawn.ensures.grows
+
+pub draw-returns-clause-drawn : goal.draw-returns-clause-drawn
+draw-returns-clause-drawn t c =
+    let i = c.loop-last.invariant in
+    let l = c.in_ok-lasts.ensures.lasts in
+    let passed = whole-passed _ l.before _ c.loop-last.first c.loop-last.last-index
+    (c.as_slice-last-items.ensures.value ∙ l.whole) (omega arith) i.passed in
+    drawn-fork c.in_ok-drawn.drawn c.loop-last.sketch c.fork_of.new.sketch _ c.loop-last.runs.items c.loop-last.first
+    c.args.held.now c.in_ok-drawn.ensures.grows i.right passed i.found c.in_ok-drawn.ensures.fork
+
+pub draw-returns-clause-short : goal.draw-returns-clause-short
+draw-returns-clause-short t c = λ s labels box task.
+    short-more c.args.sketch.now c.loop-last.sketch c.fork_of.new.sketch
+    (c.loop-last.invariant.keeps_short s labels box task)
+    (short-same c.loop-last.sketch c.fork_of.new.sketch c.in_ok-drawn.ensures.leaves c.in_ok-drawn.ensures.spent)
+
+pub draw-returns-clause-attained : goal.draw-returns-clause-attained
+draw-returns-clause-attained t c = λ s labels box task.
+    let i = c.loop-last.invariant in
+    attained-fork c.in_ok-drawn.drawn (length c.args.sketch.now.leaves) c.loop-last.sketch c.fork_of.new.sketch _
+    c.loop-last.runs.items c.loop-last.first c.args.held.now c.in_ok-drawn.ensures.grows i.right
+    c.in_ok-drawn.ensures.leaves c.in_ok-drawn.ensures.fork (i.attained s labels box task)

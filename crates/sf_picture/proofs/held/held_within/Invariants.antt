@@ -1,0 +1,10 @@
+use Rattle.std.proofs.Common.{take}
+use Rattle.std.specs.Prelude.{All}
+use Rattle.sf_picture.specs.Holding.{IsKeptIn, IsFromSome}
+use Rattle.sf_picture.proofs.held.held_within.Given as goal
+
+abbrev pub invariant-loop-one : goal.invariant-loop-one
+invariant-loop-one l = record {
+  kept : All (IsKeptIn l.inside.items l.axis l.first l.last) (take l.one-index l.held);
+  only : All (IsFromSome l.held l.axis l.first l.last) l.inside.items;
+}

@@ -1,0 +1,12 @@
+use Rattle.std.proofs.Common.{length, take, ◌≤◌}
+use Rattle.std.specs.Prelude.{All, Contains}
+use Rattle.sf_picture.specs.Holding.{HeldData, AreOneLabel, AreAtMost}
+use Rattle.sf_picture.proofs.HoldingLemmas.{IsLabelled}
+use Rattle.sf_picture.proofs.labels.labels_left.Given as goal
+
+abbrev pub invariant-loop-one : goal.invariant-loop-one
+invariant-loop-one l = record {
+  labels : All (IsLabelled l.labels.items) (take l.one-index l.held);
+  one : AreOneLabel l.held → (k : HeldData) → Contains l.held k → AreAtMost k.label l.labels.items;
+  few : length l.labels.items ≤ l.one-index;
+}

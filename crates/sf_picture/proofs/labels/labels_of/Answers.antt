@@ -1,0 +1,32 @@
+use Rattle.std.proofs.Common.{ℕ, subst, arith}
+use Rattle.std.specs.Prelude.{Contains}
+use Rattle.sf_picture.specs.Holding.{AreAtMost}
+use Rattle.std.proofs.lemmas.List.Sorted.{length_permutation}
+use Rattle.sf_picture.proofs.HoldingLemmas.{labelled-more, labelled-sorted, one-each, one-short}
+use Rattle.sf_picture.proofs.labels.labels_of.Goals as goal
+
+pub loop-one-preserved : goal.loop-one-preserved
+loop-one-preserved c =
+    let i = c.loop-one.invariant in
+    record {
+      labels = labelled-more c.args.held.now c.loop-one.one-index c.one-item.result c.loop-one.labels.items
+          c.push_label.new.labels.items (omega arith) c.one-item.is c.in_ok-push_label.ensures.keeps
+          (λ d m. subst (λ (l : ℕ). Contains c.push_label.new.labels.items l) c.label.ensures
+          c.in_ok-push_label.ensures.has) i.labels;
+      one = λ one. one-each c.args.held.now c.loop-one.one-index c.one-item.result c.loop-one.labels.items
+          c.push_label.new.labels.items one (omega arith) c.one-item.is
+          (subst (λ (l : ℕ). AreAtMost l c.loop-one.labels.items → AreAtMost l c.push_label.new.labels.items)
+          c.label.ensures c.in_ok-push_label.ensures.once) (i.one one);
+      few = omega (arith, c.in_ok-push_label.ensures.few, i.few);
+    }
+
+pub returns-clause-labels : goal.returns-clause-labels
+returns-clause-labels c =
+    labelled-sorted c.args.held.now c.loop-one.labels.items c.sort_unstable.new.self.items c.loop-one.one-index
+    (omega arith) c.sort_unstable.ensures.permutation c.loop-one.invariant.labels
+
+pub returns-clause-one : goal.returns-clause-one
+returns-clause-one c = λ one.
+    one-short c.args.held.now c.loop-one.labels.items c.sort_unstable.new.self.items c.loop-one.one-index
+    (length_permutation c.loop-one.labels.items c.sort_unstable.new.self.items c.sort_unstable.ensures.permutation)
+    c.loop-one.invariant.few (omega arith) (c.loop-one.invariant.one one)

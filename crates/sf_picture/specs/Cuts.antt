@@ -1,0 +1,67 @@
+-- Cuts of axes: between which numbers and inputs they lie, and which cuts of a plain piece are enough.
+use Rattle.std.specs.Prelude.{◌≡◌, ℕ, ◌<◌, ◌≤◌, ◌⊎◌, true, false, List, All, Contains, slice_index, bit_and}
+use Rattle.sf_insn.specs.declared.input.Input.{Input}
+use Rattle.sf_insn.specs.Inputs.{IsInput}
+use Rattle.sf_insn.specs.Words.{IsOneBit}
+use Rattle.sf_sym.specs.declared.pool.Node.{Node}
+use Rattle.sf_sym.specs.declared.pool.Cond.{Cond}
+use Rattle.sf_sym.specs.Pool.{is_met}
+use Rattle.sf_dom.specs.Facts.{FactsView, Agrees, Covers}
+use Rattle.sf_piece.specs.Pieces.{PieceData, is_member}
+use Rattle.sf_picture.specs.declared.cuts.Cut.{Cut}
+use Rattle.sf_picture.specs.declared.windows.Window.{Window}
+
+-- Two numbers of a word are on the two sides of a cut under a mask: the one is at most the last number below it, and
+-- the other is above.
+abbrev pub LiesBetweenNumbers : ℕ → ℕ → ℕ → ℕ → Type 0
+LiesBetweenNumbers mask last m n = ((bit_and m mask ≤ last) × (last < bit_and n mask))
+    ⊎ ((bit_and n mask ≤ last) × (last < bit_and m mask))
+
+-- one of the cuts is of this word, and lies between the numbers
+pub record SomeLiesBetweenNumbers (cuts : List Cut) (word m n : ℕ) : Type 0 where
+  pub cut : Cut
+  pub there : Contains cuts cut
+  pub of_word : cut.axis.word ≡ word
+  pub between : LiesBetweenNumbers cut.axis.mask cut.last m n
+
+-- the cut lies between the numbers that two inputs have on its axis
+abbrev pub LiesBetween : Cut → Input → Input → Type 0
+LiesBetween c d e = LiesBetweenNumbers c.axis.mask c.last (slice_index d.words c.axis.word)
+    (slice_index e.words c.axis.word)
+
+-- one of the cuts does
+pub record SomeLiesBetween (cuts : List Cut) (d e : Input) : Type 0 where
+  pub cut : Cut
+  pub there : Contains cuts cut
+  pub between : LiesBetween cut d e
+
+-- the cut is of a word of the input
+abbrev pub IsCutOfWord : Cut → Type 0
+IsCutOfWord c = c.axis.word < 16
+
+-- The cut is of a whole word, or of one bit of a word, which it tells to be 0 or 1.
+pub record IsPlainCut (c : Cut) : Type 0 where
+  pub word : c.axis.word < 16
+  pub kind : (c.axis.mask ≡ 4294967295) ⊎ (IsOneBit c.axis.mask × (c.last ≡ 0))
+
+-- between any two inputs of which only the first one meets the condition, one of the cuts lies
+abbrev pub LieBetweenResults : List Node → Cond → List Cut → Type 0
+LieBetweenResults ns cond cuts = (d e : Input) → IsInput d → IsInput e → is_met ns d cond ≡ true
+    → is_met ns e cond ≡ false → SomeLiesBetween cuts d e
+
+-- where the cut lies between an input that agrees with the facts and another input, one of the cuts does
+abbrev pub IsMovedTo : FactsView → List Cut → Cut → Type 0
+IsMovedTo facts cuts c = (ns : List Node) (d e : Input) → Covers facts ns → IsInput d → IsInput e → Agrees facts ns d
+    → LiesBetween c d e → SomeLiesBetween cuts d e
+
+-- the window of a word whose numbers are from low to high: they are above its first number, unless that is 0, and none
+-- is above its last one
+pub record IsWindow (w : Window) (low high : ℕ) : Type 0 where
+  pub first : (w.first ≡ 0) ⊎ (w.first < low)
+  pub last : high ≤ w.last
+
+-- Between each member of the piece and each input that is none, one of the cuts lies.
+pub record AreCutsOf (p : PieceData) (cuts : List Cut) : Type 0 where
+  pub between : (d e : Input) → IsInput d → IsInput e → is_member p d ≡ true → is_member p e ≡ false
+      → SomeLiesBetween cuts d e
+  pub plain : All IsPlainCut cuts

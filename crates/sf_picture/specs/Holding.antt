@@ -1,0 +1,81 @@
+-- What is held of a region while a picture is drawn: for the functions of this crate only.
+use Rattle.std.specs.Prelude.{◌≡◌, ℕ, ◌⊎◌, true, slice_get, List, [], ◌∷◌, Contains, Some}
+use Rattle.sf_insn.specs.declared.input.Input.{Input}
+use Rattle.sf_insn.specs.Inputs.{IsInput}
+use Rattle.sf_dom.specs.Facts.{FactsView, Agrees, Covers}
+use Rattle.sf_piece.specs.Pieces.{PieceData, is_member}
+use Rattle.sf_book.specs.Books.{RegionData, BookData}
+use Rattle.sf_picture.specs.declared.axis.Axis.{Axis}
+use Rattle.sf_picture.specs.declared.cuts.Cut.{Cut}
+use Rattle.sf_picture.specs.Spans.{IsInSpan, IsExactSpan}
+
+-- a region's piece, its label, and where it cuts axes
+pub record SourceData : Type 0 where
+  pub piece : PieceData
+  pub label : ℕ
+  pub cuts : List Cut
+
+-- a region's piece, label and cuts, with facts that were confined to some spans of axes
+pub record HeldData : Type 0 where
+  pub piece : PieceData
+  pub label : ℕ
+  pub facts : FactsView
+  pub cuts : List Cut
+
+-- a member of the piece that agrees with the facts
+pub record IsHeldBy (h : HeldData) (d : Input) : Type 0 where
+  pub input : IsInput d
+  pub member : is_member h.piece d ≡ true
+  pub agrees : Agrees h.facts h.piece.pool d
+
+-- each member of the region at a place is held, under a label
+abbrev pub IsHeldAt : List HeldData → BookData → ℕ → ℕ → Type 0
+IsHeldAt held s place label = (region : RegionData) (d : Input) → slice_get s.regions place ≡ Some region → IsInput d
+    → is_member region.piece d ≡ true → (h : HeldData) × Contains held h × (h.label ≡ label) × IsHeldBy h d
+
+-- no member of the piece agrees with the facts
+abbrev pub NoMemberAgrees : PieceData → FactsView → Type 0
+NoMemberAgrees p f = (d : Input) → IsInput d → is_member p d ≡ true → Agrees f p.pool d → ⊥
+
+-- each member of the piece that agrees with the first facts agrees with the others
+pub record KeepsMembers (p : PieceData) (f g : FactsView) : Type 0 where
+  pub covers : Covers g p.pool
+  pub keeps : (d : Input) → IsInput d → is_member p d ≡ true → Agrees f p.pool d → Agrees g p.pool d
+
+-- no member that is held has a number of the span
+abbrev pub NoneIsHeldIn : HeldData → Axis → ℕ → ℕ → Type 0
+NoneIsHeldIn h axis first last = (d : Input) → IsHeldBy h d → IsInSpan axis first last d → ⊥
+
+-- what is held of the same region, with each member that has a number of the span
+pub record IsHeldIn (h : HeldData) (axis : Axis) (first last : ℕ) (inside : HeldData) : Type 0 where
+  pub label : inside.label ≡ h.label
+  pub keeps : (d : Input) → IsHeldBy h d → IsInSpan axis first last d → IsHeldBy inside d
+
+-- each member with a number of the span is held, under the same label
+abbrev pub IsKeptIn : List HeldData → Axis → ℕ → ℕ → HeldData → Type 0
+IsKeptIn inside axis first last h = (d : Input) → IsHeldBy h d → IsInSpan axis first last d
+    → (k : HeldData) × Contains inside k × (k.label ≡ h.label) × IsHeldBy k d
+
+-- The second is held of the same region as the first, and where the span is one to which facts are confined exactly,
+-- each input that agrees with its facts agrees with those of the first, and has a number of the span.
+pub record IsNarrowed (h : HeldData) (axis : Axis) (first last : ℕ) (k : HeldData) : Type 0 where
+  pub piece : k.piece ≡ h.piece
+  pub label : k.label ≡ h.label
+  pub cuts : k.cuts ≡ h.cuts
+  pub covers : Covers k.facts k.piece.pool
+  pub only : IsExactSpan axis first last → (d : Input) → IsInput d → Agrees k.facts k.piece.pool d
+      → Agrees h.facts h.piece.pool d × IsInSpan axis first last d
+
+-- it is narrowed from one of those that are held
+pub record IsFromSome (held : List HeldData) (axis : Axis) (first last : ℕ) (k : HeldData) : Type 0 where
+  pub held_one : HeldData
+  pub there : Contains held held_one
+  pub narrowed : IsNarrowed held_one axis first last k
+
+-- all that is held has the same label
+abbrev pub AreOneLabel : List HeldData → Type 0
+AreOneLabel held = (h k : HeldData) → Contains held h → Contains held k → h.label ≡ k.label
+
+-- no label but this one, and that at most once
+abbrev pub AreAtMost : ℕ → List ℕ → Type 0
+AreAtMost label labels = (labels ≡ []) ⊎ (labels ≡ label ∷ [])

@@ -1,0 +1,9 @@
+pub mod PictureData
+pub mod Pictures
+pub mod Spans
+pub mod Cuts
+pub mod Holding
+pub mod PlainHolding
+pub mod Drawing
+pub mod Answering
+pub mod PictureLaws

@@ -1,0 +1,85 @@
+//! Axes: words of the input under masks.
+
+ghost use Rattle.std.specs.Prelude.{◌≡◌, ℕ, ◌<◌, length, IfSome, Some, None};
+ghost use Rattle.sf_sym.specs.declared.pool.Node.TheVariants.{Const, Word};
+ghost use Rattle.sf_sym.specs.Pool.{node_at};
+
+use sf_insn::BinOp;
+use sf_sym::{Node, NodeId, Pool, constant_of};
+
+/// A word of the input under a mask. The whole word has the mask 0xffffffff.
+#[derive(Clone, Copy, Debug, PartialEq, Eq)]
+pub struct Axis {
+    /// The word, 0 to 15.
+    pub word: usize,
+    /// The bits of it that count.
+    pub mask: u32,
+}
+
+/// The place of each word in the order of axes: architecture, call number, then the arguments and the instruction pointer,
+/// the high half before the low one.
+const PLACES: [u8; 16] = [1, 0, 15, 14, 3, 2, 5, 4, 7, 6, 9, 8, 11, 10, 13, 12];
+
+impl Axis {
+    /// A number by which axes are put in order: by the places of their words, and of one word those with greater masks first.
+    pub(crate) fn order(self) -> u64 {
+        let place = match PLACES.get(self.word) {
+            Some(place) => *place as u64,
+            None => 16,
+        };
+        (place << 32) | (u32::MAX - self.mask) as u64
+    }
+}
+
+/// The axis that ANDs of a word with constants stand for.
+fn masked_axis_of(pool: &Pool, id: NodeId) -> Option<Axis>
+    requires { id.0 < length pool.now }
+    ensures { IfSome result (λ a. a.word < 16) }
+{
+    let mut at = id;
+    let mut mask = u32::MAX;
+    for _ in 0..pool.len() {
+        match pool.node(at) {
+            Node::Word(word) => {
+                return Some(Axis {
+                    word: word as usize,
+                    mask,
+                });
+            }
+            Node::Bin(BinOp::And, a, b) => match (
+                constant_of(pool.node(a)),
+                constant_of(pool.node(b)),
+            ) {
+                (None, Some(bits)) => {
+                    at = a;
+                    mask &= bits;
+                }
+                (Some(bits), None) => {
+                    at = b;
+                    mask &= bits;
+                }
+                _ => return None,
+            },
+            _ => return None,
+        }
+    }
+    None
+}
+
+/// The axis that a node stands for: it is a word, or ANDs of a word with constants.
+pub(crate) fn axis_of(pool: &Pool, id: NodeId) -> Option<Axis>
+    requires { id.0 < length pool.now }
+    ensures inside { IfSome result (λ a. a.word < 16) }
+    ensures whole { (w : ℕ) → node_at pool.now id.0 ≡ Word w
+        → result ≡ Some (record { word = w; mask = 4294967295 }) }
+    ensures constant { (c : ℕ) → node_at pool.now id.0 ≡ Const c → result ≡ None }
+{
+    match pool.node(id) {
+        Node::Word(word) => Some(Axis {
+            word: word as usize,
+            mask: u32::MAX,
+        }),
+        Node::Const(_) => None,
+        _ => masked_axis_of(pool, id),
+    }
+}

@@ -1,0 +1,170 @@
+//! Facts, confined to spans of axes.
+
+ghost use Rattle.std.specs.Prelude.{◌≡◌, ◌<◌, ◌≤◌, ◌^◌, ◌↔◌, ℕ, true, Ok, IsTrue, IfOk, IfErr, IfSome, IsSomeAnd, MatchBool, MatchOption, List, bit_and};
+ghost use Rattle.sf_insn.specs.Words.{IsOneBit};
+ghost use Rattle.sf_dom.specs.Known.{Admits, HasBits};
+ghost use Rattle.sf_dom.specs.Facts.{Covers};
+ghost use Rattle.sf_sym.specs.declared.pool.Node.{Node as ANode};
+ghost use Rattle.sf_picture.specs.Spans.{NoneInSpan, KeepsSpan, KeepsOnlySpan, IsSpanOfBit, IsExactSpan};
+ghost use Rattle.sf_picture.specs.declared.fault.Fault.TheVariants.{Memory};
+
+use crate::axis::Axis;
+use crate::fault::Fault;
+use sf_dom::{Facts, Known};
+use sf_sym::{NodeId, Pool};
+use std::alloc::Global;
+
+/// Whether known bits of a word rule out a span of its numbers under a mask.
+fn bits_miss(zeros: u32, ones: u32, mask: u32, first: u32, last: u32) -> bool
+    ensures { result ≡ true → (n : ℕ) → HasBits n zeros ones → first ≤ bit_and n mask
+        → bit_and n mask ≤ last → ⊥ }
+{
+    let most = mask & !zeros;
+    let least = ones & mask;
+    most < first || last < least
+}
+
+/// Whether what is known of an axis's word rules out the span.
+fn misses(known: Known, axis: Axis, first: u32, last: u32) -> bool
+    ensures { result ≡ true → (n : ℕ) → n < 2 ^ 32 → Admits known n
+        → first ≤ bit_and n axis.mask
+        → bit_and n axis.mask ≤ last → ⊥ }
+{
+    if axis.mask == u32::MAX {
+        return known.high < first || last < known.low;
+    }
+    bits_miss(known.zeros, known.ones, axis.mask, first, last)
+}
+
+/// Whether exactly one bit is set.
+fn is_one_bit(mask: u32) -> bool
+    ensures { IsTrue result ↔ IsOneBit mask }
+{
+    mask.is_power_of_two()
+}
+
+/// The one number of the axis that lies in the span, where only one can.
+fn number_in(axis: Axis, first: u32, last: u32) -> Option<u32>
+    ensures one { IfSome result (λ v. (n : ℕ) → first ≤ bit_and n axis.mask
+        → bit_and n axis.mask ≤ last → bit_and n axis.mask ≡ v) }
+    ensures bit { IsSpanOfBit axis.mask first last → IsSomeAnd result (λ v. (first ≤ v)
+        × (v ≤ last) × (bit_and v axis.mask ≡ v)) }
+{
+    if first == last {
+        return Some(first);
+    }
+    if first == 0 {
+        return None;
+    }
+    if is_one_bit(axis.mask) {
+        return Some(axis.mask);
+    }
+    None
+}
+
+/// Confines facts to a span of numbers of a whole word. False: no input that agrees has one of them.
+fn confine_whole(
+    alloc: Global,
+    facts: &mut Facts,
+    pool: &Pool,
+    axis: Axis,
+    first: u32,
+    last: u32,
+) -> Result<bool, Fault>
+    requires covers { Covers facts.old pool.now }
+    requires word { axis.word < 16 }
+    requires whole { axis.mask ≡ 4294967295 }
+    ensures covers { Covers facts.new pool.now }
+    ensures confined { IfOk result (λ b. MatchBool b
+        (KeepsSpan facts.old pool.now axis first last facts.new)
+        (NoneInSpan facts.old pool.now axis first last)) }
+    ensures only { result ≡ Ok true
+        → KeepsOnlySpan facts.old pool.now axis first last facts.new }
+    ensures err { IfErr result (λ f. f ≡ Memory) }
+{
+    Ok(facts.confine(alloc, pool, axis.word, first, last)?)
+}
+
+/// Confines facts to a span of numbers of a word under a mask, where only one can lie in it; else nothing is learnt. False: no
+/// input that agrees has a number of the span.
+fn confine_masked(
+    alloc: Global,
+    facts: &mut Facts,
+    pool: &Pool,
+    axis: Axis,
+    first: u32,
+    last: u32,
+) -> Result<bool, Fault>
+    requires covers { Covers facts.old pool.now }
+    requires word { axis.word < 16 }
+    ensures covers { Covers facts.new pool.now }
+    ensures confined { IfOk result (λ b. MatchBool b
+        (KeepsSpan facts.old pool.now axis first last facts.new)
+        (NoneInSpan facts.old pool.now axis first last)) }
+    ensures only { result ≡ Ok true → IsSpanOfBit axis.mask first last
+        → KeepsOnlySpan facts.old pool.now axis first last facts.new }
+    ensures err { IfErr result (λ f. f ≡ Memory) }
+{
+    let Some(number) = number_in(axis, first, last) else {
+        return Ok(true);
+    };
+    if number & axis.mask != number {
+        return Ok(true);
+    }
+    Ok(facts.confine_bits(alloc, pool, axis.word, axis.mask, number)?)
+}
+
+/// Confines facts to a span of an axis. False: no input that agrees has a number of it.
+fn confine(
+    alloc: Global,
+    facts: &mut Facts,
+    pool: &Pool,
+    axis: Axis,
+    first: u32,
+    last: u32,
+) -> Result<bool, Fault>
+    requires covers { Covers facts.old pool.now }
+    requires word { axis.word < 16 }
+    ensures covers { Covers facts.new pool.now }
+    ensures confined { IfOk result (λ b. MatchBool b
+        (KeepsSpan facts.old pool.now axis first last facts.new)
+        (NoneInSpan facts.old pool.now axis first last)) }
+    ensures only { result ≡ Ok true → IsExactSpan axis first last
+        → KeepsOnlySpan facts.old pool.now axis first last facts.new }
+    ensures err { IfErr result (λ f. f ≡ Memory) }
+{
+    if axis.mask == u32::MAX {
+        return confine_whole(alloc, facts, pool, axis, first, last);
+    }
+    confine_masked(alloc, facts, pool, axis, first, last)
+}
+
+/// What is left of facts for a span of an axis, or none where no input that agrees has a number of it. `Memory` where an allocation
+/// is refused.
+pub(crate) fn facts_within(
+    alloc: Global,
+    facts: &Facts,
+    pool: &Pool,
+    axis: Axis,
+    first: u32,
+    last: u32,
+) -> Result<Option<Facts>, Fault>
+    requires covers { Covers facts.now pool.now }
+    requires word { axis.word < 16 }
+    ensures covers { IfOk result (λ o. IfSome o (λ f. Covers f pool.now)) }
+    ensures confined { IfOk result (λ o. MatchOption o
+        (NoneInSpan facts.now pool.now axis first last)
+        (KeepsSpan facts.now pool.now axis first last)) }
+    ensures only { IsExactSpan axis first last → IfOk result (λ o.
+        IfSome o (KeepsOnlySpan facts.now pool.now axis first last)) }
+    ensures err { IfErr result (λ f. f ≡ Memory) }
+{
+    if misses(facts.known(NodeId(axis.word as u32)), axis, first, last) {
+        return Ok(None);
+    }
+    let mut inside = facts.fork()?;
+    if !confine(alloc, &mut inside, pool, axis, first, last)? {
+        return Ok(None);
+    }
+    Ok(Some(inside))
+}

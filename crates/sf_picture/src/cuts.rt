@@ -1,0 +1,293 @@
+//! Where axes are cut: the numbers at which the tests of regions change their results.
+
+ghost use Rattle.std.specs.Prelude.{◌≡◌, ◌≢◌, ◌<◌, ◌≤◌, ◌-◌, ◌^◌, ◌↔◌, ℕ, true, false, length, All, Contains, IsTrue, IfOk, IfErr, IfSome, Some, min, max};
+ghost use Rattle.sf_insn.specs.Words.{passes};
+ghost use Rattle.sf_sym.specs.declared.pool.Node.{Node as ANode};
+ghost use Rattle.sf_sym.specs.declared.pool.Node.TheVariants.{Const};
+ghost use Rattle.sf_sym.specs.Pool.{IsPool, node_at};
+ghost use Rattle.sf_dom.specs.Facts.{Covers, IsWordOrConst, IsPlainTest, IsPlainCondition};
+ghost use Rattle.sf_piece.specs.PlainPieces.{IsPlainPiece};
+ghost use Rattle.sf_picture.specs.declared.cuts.Cut.{Cut as ACut};
+ghost use Rattle.sf_picture.specs.Cuts.{IsCutOfWord, IsPlainCut, SomeLiesBetweenNumbers, LieBetweenResults, IsMovedTo, AreCutsOf};
+ghost use Rattle.sf_picture.specs.declared.fault.Fault.TheVariants.{Memory};
+
+use crate::axis::{Axis, axis_of};
+use crate::fault::Fault;
+use crate::windows::{FixedBits, Window};
+use sf_insn::{BinOp, Test};
+use sf_piece::Piece;
+use sf_sym::{Cond, Node, NodeId, Pool, constant_of};
+use std::alloc::Global;
+
+/// A cut of an axis: `last` is the last number below it.
+#[derive(Clone, Copy, Debug, PartialEq, Eq)]
+pub(crate) struct Cut {
+    pub(crate) axis: Axis,
+    pub(crate) last: u32,
+}
+
+/// A test of a node against a number.
+#[derive(Clone, Copy)]
+struct NumberTest {
+    node: NodeId,
+    test: Test,
+    number: u32,
+}
+
+/// Adds a cut, where there are numbers on both sides of it.
+fn push_cut(cuts: &mut Vec<Cut>, axis: Axis, last: u32) -> Result<(), Fault>
+    ensures has { IfOk result (λ _. last < axis.mask
+        → Contains cuts.new.items (record { axis = axis; last = last })) }
+    ensures keeps { IfOk result (λ _. (c : ACut) → Contains cuts.old.items c
+        → Contains cuts.new.items c) }
+    ensures words { IfOk result (λ _. axis.word < 16 → All IsCutOfWord cuts.old.items
+        → All IsCutOfWord cuts.new.items) }
+    ensures plain { IfOk result (λ _. IsPlainCut (record { axis = axis; last = last })
+        → All IsPlainCut cuts.old.items → All IsPlainCut cuts.new.items) }
+    ensures err { IfErr result (λ f. f ≡ Memory) }
+{
+    if last >= axis.mask {
+        return Ok(());
+    }
+    cuts.push(Cut { axis, last })?;
+    Ok(())
+}
+
+/// Adds the cut right below a number.
+fn push_cut_below(cuts: &mut Vec<Cut>, axis: Axis, number: u32) -> Result<(), Fault>
+    ensures has { IfOk result (λ _. 0 < number → number - 1 < axis.mask
+        → Contains cuts.new.items (record { axis = axis; last = number - 1 })) }
+    ensures keeps { IfOk result (λ _. (c : ACut) → Contains cuts.old.items c
+        → Contains cuts.new.items c) }
+    ensures words { IfOk result (λ _. axis.word < 16 → All IsCutOfWord cuts.old.items
+        → All IsCutOfWord cuts.new.items) }
+    ensures plain { IfOk result (λ _.
+        IsPlainCut (record { axis = axis; last = number - 1 })
+        → All IsPlainCut cuts.old.items → All IsPlainCut cuts.new.items) }
+    ensures err { IfErr result (λ f. f ≡ Memory) }
+{
+    if number == 0 {
+        return Ok(());
+    }
+    push_cut(cuts, axis, number - 1)
+}
+
+/// Adds the cuts on both sides of a number.
+fn push_cuts_beside(cuts: &mut Vec<Cut>, axis: Axis, number: u32) -> Result<(), Fault>
+    ensures has { IfOk result (λ _. (number < axis.mask
+        → Contains cuts.new.items (record { axis = axis; last = number }))
+        × (0 < number → number - 1 < axis.mask
+        → Contains cuts.new.items (record { axis = axis; last = number - 1 }))) }
+    ensures keeps { IfOk result (λ _. (c : ACut) → Contains cuts.old.items c
+        → Contains cuts.new.items c) }
+    ensures words { IfOk result (λ _. axis.word < 16 → All IsCutOfWord cuts.old.items
+        → All IsCutOfWord cuts.new.items) }
+    ensures plain { IfOk result (λ _.
+        IsPlainCut (record { axis = axis; last = number - 1 })
+        → IsPlainCut (record { axis = axis; last = number })
+        → All IsPlainCut cuts.old.items → All IsPlainCut cuts.new.items) }
+    ensures err { IfErr result (λ f. f ≡ Memory) }
+{
+    push_cut_below(cuts, axis, number)?;
+    push_cut(cuts, axis, number)?;
+    Ok(())
+}
+
+/// Adds the cuts of a test of an axis against a number.
+fn push_cuts_of(cuts: &mut Vec<Cut>, axis: Axis, test: Test, number: u32) -> Result<(), Fault>
+    ensures between { IfOk result (λ _. axis.mask ≡ 4294967295 → (m n : ℕ) → m < 2 ^ 32
+        → n < 2 ^ 32 → passes test m number ≡ true → passes test n number ≡ false
+        → SomeLiesBetweenNumbers cuts.new.items axis.word m n) }
+    ensures keeps { IfOk result (λ _. (c : ACut) → Contains cuts.old.items c
+        → Contains cuts.new.items c) }
+    ensures words { IfOk result (λ _. axis.word < 16 → All IsCutOfWord cuts.old.items
+        → All IsCutOfWord cuts.new.items) }
+    ensures plain { IfOk result (λ _. axis.mask ≡ 4294967295 → axis.word < 16
+        → IsPlainTest test number → All IsPlainCut cuts.old.items
+        → All IsPlainCut cuts.new.items) }
+    ensures err { IfErr result (λ f. f ≡ Memory) }
+{
+    match test {
+        Test::Equal => push_cuts_beside(cuts, axis, number),
+        Test::Greater => push_cut(cuts, axis, number),
+        Test::GreaterOrEqual => push_cut_below(cuts, axis, number),
+        Test::AnyBit => {
+            let mask = axis.mask & number;
+            let word = axis.word;
+            push_cut(cuts, Axis { word, mask }, 0)
+        }
+    }
+}
+
+/// The same test of the other operand, where the node is a sum or a difference with a constant.
+fn without_constant(pool: &Pool, tested: NumberTest) -> NumberTest
+    requires { tested.node.0 < length pool.now }
+    ensures node { result.node.0 < length pool.now }
+    ensures same { IsWordOrConst (node_at pool.now tested.node.0) → result ≡ tested }
+{
+    let Node::Bin(op, a, b) = pool.node(tested.node) else {
+        return tested;
+    };
+    let test = tested.test;
+    match (op, constant_of(pool.node(b))) {
+        (BinOp::Add, Some(added)) => NumberTest {
+            node: a,
+            test,
+            number: tested.number.wrapping_sub(added),
+        },
+        (BinOp::Sub, Some(taken)) => NumberTest {
+            node: a,
+            test,
+            number: tested.number.wrapping_add(taken),
+        },
+        _ => tested,
+    }
+}
+
+/// The test of a condition against a number, if it is one. A sum or a difference with a constant that is compared for equality
+/// is a test of the other operand.
+fn number_test(pool: &Pool, cond: &Cond) -> Option<NumberTest>
+    requires node { cond.now.node.0 < length pool.now }
+    requires other { cond.now.other.0 < length pool.now }
+    ensures node { IfSome result (λ t. t.node.0 < length pool.now) }
+    ensures same { (k : ℕ) → node_at pool.now cond.now.other.0 ≡ Const k
+        → IsWordOrConst (node_at pool.now cond.now.node.0)
+        → result ≡ Some (record { node = cond.now.node; test = cond.now.test; number = k }) }
+    ensures lawful { IsPool pool.now }
+{
+    let number = constant_of(pool.node(cond.other))?;
+    let tested = NumberTest {
+        node: cond.node,
+        test: cond.test,
+        number,
+    };
+    if cond.test == Test::Equal {
+        return Some(without_constant(pool, tested));
+    }
+    Some(tested)
+}
+
+/// Adds the cuts of a condition, where it is on an axis against a number, and the bits that it fixes.
+fn push_cuts_of_cond(
+    cuts: &mut Vec<Cut>,
+    bits: &mut [FixedBits],
+    pool: &Pool,
+    cond: &Cond,
+) -> Result<(), Fault>
+    requires bits { length bits.old ≡ 16 }
+    requires node { cond.now.node.0 < length pool.now }
+    requires other { cond.now.other.0 < length pool.now }
+    ensures between { IfOk result (λ _. IsPlainCondition pool.now cond.now
+        → LieBetweenResults pool.now cond.now cuts.new.items) }
+    ensures keeps { IfOk result (λ _. (c : ACut) → Contains cuts.old.items c
+        → Contains cuts.new.items c) }
+    ensures words { IfOk result (λ _. All IsCutOfWord cuts.old.items
+        → All IsCutOfWord cuts.new.items) }
+    ensures plain { IfOk result (λ _. IsPlainCondition pool.now cond.now
+        → All IsPlainCut cuts.old.items → All IsPlainCut cuts.new.items) }
+    ensures err { IfErr result (λ f. f ≡ Memory) }
+{
+    let Some(tested) = number_test(pool, cond) else {
+        return Ok(());
+    };
+    let Some(axis) = axis_of(pool, tested.node) else {
+        return Ok(());
+    };
+    let fixed = bits[axis.word];
+    bits[axis.word] = fixed.and_by_test(axis, tested.test, tested.number, cond.sense);
+    push_cuts_of(cuts, axis, tested.test, tested.number)?;
+    Ok(())
+}
+
+/// The cut of the window that is nearest to a cut of the whole word. One under another mask stays.
+fn cut_within(window: Window, cut: Cut) -> Cut
+    ensures axis { result.axis ≡ cut.axis }
+    ensures whole { cut.axis.mask ≡ 4294967295
+        → result.last ≡ min (max cut.last window.first) window.last }
+    ensures masked { cut.axis.mask ≢ 4294967295 → result ≡ cut }
+{
+    if cut.axis.mask == u32::MAX {
+        Cut {
+            axis: cut.axis,
+            last: window.nearest(cut.last),
+        }
+    } else {
+        cut
+    }
+}
+
+/// Whether a cut is among others.
+fn has(cuts: &[Cut], cut: Cut) -> bool
+    ensures { IsTrue result ↔ Contains cuts.now cut }
+{
+    cuts.contains(&cut)
+}
+
+/// Whether a cut is one of the last two.
+fn is_among_newest(cuts: &Vec<Cut>, cut: Cut) -> bool
+    ensures { result ≡ true → Contains cuts.now.items cut }
+{
+    let all = cuts.as_slice();
+    let newest = all.len().saturating_sub(2);
+    has(&all[newest..], cut)
+}
+
+/// Adds a cut of a piece, moved into the window of its word.
+fn push_moved(cuts: &mut Vec<Cut>, piece: &Piece, bits: &[FixedBits], cut: Cut) -> Result<(), Fault>
+    requires bits { length bits.now ≡ 16 }
+    requires word { cut.axis.word < 16 }
+    ensures moved { IfOk result (λ _. IsMovedTo piece.now.facts cuts.new.items cut) }
+    ensures keeps { IfOk result (λ _. (c : ACut) → Contains cuts.old.items c
+        → Contains cuts.new.items c) }
+    ensures plain { IfOk result (λ _. IsPlainCut cut → All IsPlainCut cuts.old.items
+        → All IsPlainCut cuts.new.items) }
+    ensures err { IfErr result (λ f. f ≡ Memory) }
+{
+    let known = piece.facts().known(NodeId(cut.axis.word as u32));
+    let window = Window::of(known, bits[cut.axis.word]);
+    let moved = cut_within(window, cut);
+    if is_among_newest(cuts, moved) {
+        return Ok(());
+    }
+    push_cut(cuts, moved.axis, moved.last)?;
+    Ok(())
+}
+
+/// Cuts of a piece, each moved into the window of its word: of many that lie before or behind it few are left. `Memory` where
+/// an allocation is refused.
+fn moved_cuts(
+    alloc: Global,
+    piece: &Piece,
+    bits: &[FixedBits],
+    tested: &[Cut],
+) -> Result<Vec<Cut>, Fault>
+    requires bits { length bits.now ≡ 16 }
+    requires words { All IsCutOfWord tested.now }
+    ensures moved { IfOk result (λ v. All (IsMovedTo piece.now.facts v.items) tested.now) }
+    ensures plain { IfOk result (λ v. All IsPlainCut tested.now → All IsPlainCut v.items) }
+    ensures err { IfErr result (λ f. f ≡ Memory) }
+{
+    let mut cuts = Vec::new(alloc);
+    for cut in tested {
+        push_moved(&mut cuts, piece, bits, *cut)?;
+    }
+    Ok(cuts)
+}
+
+/// The cuts of a piece, by its conditions on axes. On a plain stack some cut lies between each member and each input that is
+/// none. `Memory` where an allocation is refused.
+pub(crate) fn cuts_of(alloc: Global, piece: &Piece) -> Result<Vec<Cut>, Fault>
+    ensures plain { IfOk result (λ v. IsPlainPiece piece.now → AreCutsOf piece.now v.items) }
+    ensures err { IfErr result (λ f. f ≡ Memory) }
+{
+    // For the prover: all members agree with the piece's facts.
+    let _known = piece.facts();
+    let none = FixedBits::none();
+    let mut bits = [none; 16];
+    let mut tested = Vec::new(alloc);
+    for i in 0..piece.cond_count() {
+        push_cuts_of_cond(&mut tested, &mut bits, piece.pool(), &piece.cond(i))?;
+    }
+    let cuts = moved_cuts(alloc, piece, &bits, tested.as_slice())?;
+    Ok(cuts)
+}

@@ -1,0 +1,335 @@
+//! Pictures of explorations, drawn axis by axis.
+
+ghost use Rattle.std.specs.Prelude.{◌≡◌, ◌<◌, ◌≤◌, ◌+◌, [], ℕ, true, false, List, length, slice_index, All, IfOk, IfErr, MatchOption, ◌⊎◌};
+ghost use Rattle.sf_check.specs.Stacks.{IsPlain};
+ghost use Rattle.sf_book.specs.Books.{BookData, IsSettled};
+ghost use Rattle.sf_picture.specs.Holding.{IsHeldAt, AreOneLabel};
+ghost use Rattle.sf_picture.specs.PlainHolding.{IsPlainHeld, IsPlainTask, IsPlainSpan};
+ghost use Rattle.sf_picture.specs.Drawing.{IsShownAt, NoneIsHeld, Grows, AddsLeaf, IsShort, KeepsShort, AreRuns, IsLeafOf, LeadsAs, IsRightSketch, DrawsTo, IsAttainedAt, AreAttainedAt, AreAttainedBelow};
+ghost use Rattle.sf_picture.specs.Pictures.{ShowsLabels, IsDetermined, IsAttainedEverywhere};
+ghost use Rattle.sf_picture.specs.declared.axis.Axis.{Axis as AnAxis};
+ghost use Rattle.sf_picture.specs.declared.drawing.Span.{Span as ASpan};
+ghost use Rattle.sf_picture.specs.declared.fault.Fault.TheVariants.{Memory};
+
+use crate::axes::axes_of;
+use crate::axis::Axis;
+use crate::fault::Fault;
+use crate::held::{Held, held_within};
+use crate::labels::{is_one_label, labels_left, labels_of};
+use crate::lasts::lasts_of;
+use crate::picture::{Branch, Picture, Run};
+use crate::runs::{close_runs, push_run};
+use crate::sketch::Sketch;
+use sf_book::Settled;
+use std::alloc::Global;
+use std::sync::Arc;
+
+/// A leaf with these labels, or none where there are none. `Memory` where an allocation is refused.
+fn leaf_of(sketch: &mut Sketch, labels: Vec<usize>) -> Result<Option<Branch>, Fault>
+    requires right { IsRightSketch sketch.old }
+    ensures grows { IfOk result (λ _. Grows sketch.old sketch.new) }
+    ensures right { IfOk result (λ _. IsRightSketch sketch.new) }
+    ensures leaf { IfOk result (λ o. MatchOption o (labels.items ≡ [])
+        (IsLeafOf sketch.new labels.items)) }
+    ensures added { IfOk result (λ o. MatchOption o (sketch.new ≡ sketch.old)
+        (λ b. (0 < length labels.items) × AddsLeaf sketch.old sketch.new labels.items b)) }
+    ensures spent { IfOk result (λ _. sketch.new.spent ≡ sketch.old.spent) }
+    ensures err { IfErr result (λ f. f ≡ Memory) }
+{
+    if labels.is_empty() {
+        return Ok(None);
+    }
+    let leaf = sketch.leaf(labels)?;
+    Ok(Some(leaf))
+}
+
+/// A leaf with the labels of all that is held, or none where nothing is. `Memory` where an allocation is refused.
+fn leaf_of_all(alloc: Global, sketch: &mut Sketch, held: &[Held]) -> Result<Option<Branch>, Fault>
+    requires right { IsRightSketch sketch.old }
+    ensures grows { IfOk result (λ _. Grows sketch.old sketch.new) }
+    ensures right { IfOk result (λ _. IsRightSketch sketch.new) }
+    ensures drawn { IfOk result (λ o. MatchOption o (NoneIsHeld held.now)
+        (λ b. IsShownAt sketch.new b held.now)) }
+    ensures short { IfOk result (λ _. AreOneLabel held.now
+        → KeepsShort sketch.old sketch.new) }
+    ensures attained { IfOk result (λ o. (s : BookData) (labels : List ℕ) (box : List ASpan)
+        → All (IsPlainHeld s labels box) held.now
+        → AreAttainedAt (length sketch.old.leaves) sketch.new held.now o) }
+    ensures spent { IfOk result (λ _. sketch.new.spent ≡ sketch.old.spent) }
+    ensures err { IfErr result (λ f. f ≡ Memory) }
+{
+    let labels = labels_of(alloc, held)?;
+    let leaf = leaf_of(sketch, labels)?;
+    Ok(leaf)
+}
+
+/// A leaf with the labels of what is held and isn't ruled out by conditions that are learnt once more, or none where all is
+/// ruled out. `Memory` where an allocation is refused.
+fn leaf_of_left(alloc: Global, sketch: &mut Sketch, held: &[Held]) -> Result<Option<Branch>, Fault>
+    requires right { IsRightSketch sketch.old }
+    ensures grows { IfOk result (λ _. Grows sketch.old sketch.new) }
+    ensures right { IfOk result (λ _. IsRightSketch sketch.new) }
+    ensures drawn { IfOk result (λ o. MatchOption o (NoneIsHeld held.now)
+        (λ b. IsShownAt sketch.new b held.now)) }
+    ensures short { IfOk result (λ _. AreOneLabel held.now
+        → KeepsShort sketch.old sketch.new) }
+    ensures attained { IfOk result (λ o. (s : BookData) (labels : List ℕ) (box : List ASpan)
+        → All (IsPlainHeld s labels box) held.now
+        → AreAttainedAt (length sketch.old.leaves) sketch.new held.now o) }
+    ensures spent { IfOk result (λ _. sketch.new.spent ≡ sketch.old.spent) }
+    ensures err { IfErr result (λ f. f ≡ Memory) }
+{
+    let labels = labels_left(alloc, held)?;
+    let leaf = leaf_of(sketch, labels)?;
+    Ok(leaf)
+}
+
+/// A leaf with the labels of all that is held, which is drawn early, since as many leaves were drawn as are allowed. `Memory`
+/// where an allocation is refused.
+fn early_leaf_of(alloc: Global, sketch: &mut Sketch, held: &[Held]) -> Result<Option<Branch>, Fault>
+    requires right { IsRightSketch sketch.old }
+    ensures grows { IfOk result (λ _. Grows sketch.old sketch.new) }
+    ensures right { IfOk result (λ _. IsRightSketch sketch.new) }
+    ensures drawn { IfOk result (λ o. MatchOption o (NoneIsHeld held.now)
+        (λ b. IsShownAt sketch.new b held.now)) }
+    ensures attained { IfOk result (λ o. (s : BookData) (labels : List ℕ) (box : List ASpan)
+        → All (IsPlainHeld s labels box) held.now
+        → AreAttainedAt (length sketch.old.leaves) sketch.new held.now o) }
+    ensures spent { IfOk result (λ _. sketch.new.spent ≡ true) }
+    ensures err { IfErr result (λ f. f ≡ Memory) }
+{
+    sketch.spend();
+    leaf_of_all(alloc, sketch, held)
+}
+
+/// A fork of these runs, of which the last one goes on to the greatest number of the axis. Where there is one run, it is what
+/// it leads to, and none where there is no run. `Memory` where an allocation is refused.
+fn fork_of(sketch: &mut Sketch, axis: Axis, mut runs: Vec<Run>) -> Result<Option<Branch>, Fault>
+    requires word { axis.word < 16 }
+    requires right { IsRightSketch sketch.old }
+    requires runs { AreRuns (length sketch.old.leaves) (length sketch.old.forks) (axis.mask + 1)
+        runs.items }
+    ensures grows { IfOk result (λ _. Grows sketch.old sketch.new) }
+    ensures right { IfOk result (λ _. IsRightSketch sketch.new) }
+    ensures fork { IfOk result (λ o. MatchOption o (runs.items ≡ [])
+        (LeadsAs sketch.new axis runs.items)) }
+    ensures leaves { IfOk result (λ _. sketch.new.leaves ≡ sketch.old.leaves) }
+    ensures spent { IfOk result (λ _. sketch.new.spent ≡ sketch.old.spent) }
+    ensures err { IfErr result (λ f. f ≡ Memory) }
+{
+    close_runs(&mut runs, axis.mask);
+    let count = runs.len();
+    if count == 0 {
+        return Ok(None);
+    }
+    if count == 1 {
+        return Ok(Some(runs[0].next));
+    }
+    let fork = sketch.fork(axis, runs)?;
+    Ok(Some(fork))
+}
+
+/// A span of an axis that is to be drawn: from the first number that isn't drawn yet.
+#[derive(Clone, Copy)]
+struct Span {
+    axis: Axis,
+    first: u64,
+    last: u32,
+}
+
+/// Whether nothing of a span is left to be drawn.
+fn is_past(span: Span) -> bool
+    ensures past { result ≡ true → (span.last < span.first) ⊎ (span.axis.mask < span.last) }
+    ensures ahead { result ≡ false → (span.first ≤ span.last)
+        × (span.last ≤ span.axis.mask) }
+{
+    (span.last as u64) < span.first || span.axis.mask < span.last
+}
+
+/// Draws a span, and adds a run that leads there, unless nothing that is held has a member with one of its numbers. Answers
+/// the first number that isn't drawn then. `Memory` where an allocation is refused.
+#[cycle(draw)]
+fn draw_span(
+    alloc: Global,
+    sketch: &mut Sketch,
+    runs: &mut Vec<Run>,
+    held: &[Held],
+    axes: &[Axis],
+    at: usize,
+    span: Span,
+) -> Result<u64, Fault>
+    requires words { All (λ (a : AnAxis). a.word < 16) axes.now }
+    requires at { at < length axes.now }
+    requires word { span.axis.word < 16 }
+    requires right { IsRightSketch sketch.old }
+    requires runs { AreRuns (length sketch.old.leaves) (length sketch.old.forks) span.first
+        runs.old.items }
+    requires short { span.first ≤ span.axis.mask + 1 }
+    ensures drawn { IfOk result (DrawsTo sketch.old sketch.new runs.old.items runs.new.items
+        held.now span.axis span.first span.last) }
+    ensures short { IfOk result (λ _. (s : BookData) (labels : List ℕ) (box : List ASpan)
+        → IsPlainTask s labels box held.now axes.now at → IsPlainSpan held.now axes.now at span
+        → KeepsShort sketch.old sketch.new) }
+    ensures attained { IfOk result (λ next. (s : BookData) (labels : List ℕ) (box : List ASpan)
+        (from : ℕ) → IsPlainTask s labels box held.now axes.now at
+        → IsPlainSpan held.now axes.now at span
+        → AreAttainedBelow from sketch.old span.axis runs.old.items span.first held.now
+        → AreAttainedBelow from sketch.new span.axis runs.new.items next held.now) }
+    ensures err { IfErr result (λ f. f ≡ Memory) }
+{
+    if is_past(span) {
+        return Ok(span.first);
+    }
+    let inside = held_within(alloc, held, span.axis, span.first as u32, span.last)?;
+    let Some(next) = draw(alloc, sketch, inside.as_slice(), axes, at + 1)? else {
+        return Ok(span.last as u64 + 1);
+    };
+    push_run(runs, span.last, next)?;
+    Ok(span.last as u64 + 1)
+}
+
+/// Draws what is held, from the axis at a place on. None: nothing that is held has a member. `Memory` where an allocation is
+/// refused.
+#[cycle(draw)]
+fn draw(
+    alloc: Global,
+    sketch: &mut Sketch,
+    held: &[Held],
+    axes: &[Axis],
+    at: usize,
+) -> Result<Option<Branch>, Fault>
+    requires words { All (λ (a : AnAxis). a.word < 16) axes.now }
+    requires at { at ≤ length axes.now }
+    requires right { IsRightSketch sketch.old }
+    ensures grows { IfOk result (λ _. Grows sketch.old sketch.new) }
+    ensures right { IfOk result (λ _. IsRightSketch sketch.new) }
+    ensures drawn { IfOk result (λ o. MatchOption o (NoneIsHeld held.now)
+        (λ b. IsShownAt sketch.new b held.now)) }
+    ensures short { IfOk result (λ _. (s : BookData) (labels : List ℕ) (box : List ASpan)
+        → IsPlainTask s labels box held.now axes.now at → KeepsShort sketch.old sketch.new) }
+    ensures attained { IfOk result (λ o. (s : BookData) (labels : List ℕ) (box : List ASpan)
+        → IsPlainTask s labels box held.now axes.now at
+        → AreAttainedAt (length sketch.old.leaves) sketch.new held.now o) }
+    ensures err { IfErr result (λ f. f ≡ Memory) }
+{
+    if is_one_label(held) {
+        return leaf_of_all(alloc, sketch, held);
+    }
+    if at == axes.len() {
+        return leaf_of_left(alloc, sketch, held);
+    }
+    if sketch.is_full() {
+        return early_leaf_of(alloc, sketch, held);
+    }
+    let axis = axes[at];
+    let lasts = lasts_of(alloc, held, axis)?;
+    if lasts.len() == 1 {
+        return draw(alloc, sketch, held, axes, at + 1);
+    }
+    let mut runs: Vec<Run> = Vec::new(alloc);
+    let mut first = 0u64;
+    for last in lasts.as_slice() {
+        let last = *last;
+        let span = Span { axis, first, last };
+        first = draw_span(alloc, sketch, &mut runs, held, axes, at, span)?;
+    }
+    let drawn = fork_of(sketch, axis, runs)?;
+    Ok(drawn)
+}
+
+/// Adds the region at a place, with its label. `Memory` where an allocation is refused.
+fn push_held(
+    alloc: Global,
+    held: &mut Vec<Held>,
+    settled: &Settled,
+    place: usize,
+    label: usize,
+) -> Result<(), Fault>
+    requires { place < length settled.now.regions }
+    ensures keeps { IfOk result (λ _. (n l : ℕ) → IsHeldAt held.old.items settled.now n l
+        → IsHeldAt held.new.items settled.now n l) }
+    ensures adds { IfOk result (λ _. IsHeldAt held.new.items settled.now place label) }
+    ensures plain { IfOk result (λ _. IsPlain settled.now.stack → (labels : List ℕ)
+        → slice_index labels place ≡ label
+        → All (IsPlainHeld settled.now labels []) held.old.items
+        → All (IsPlainHeld settled.now labels []) held.new.items) }
+    ensures count { IfOk result (λ _. length held.new.items ≡ length held.old.items + 1) }
+    ensures err { IfErr result (λ f. f ≡ Memory) }
+{
+    let region = settled.region(place);
+    let piece = Arc::try_clone(region.piece())?;
+    // For the prover: all members agree with the piece's facts, and on a plain stack those that agree are members.
+    let _known = piece.facts();
+    let one = Held::of(alloc, piece, label)?;
+    held.push(one)?;
+    Ok(())
+}
+
+/// The regions, each with its label. `Memory` where an allocation is refused.
+fn held_of(alloc: Global, settled: &Settled, labels: &[usize]) -> Result<Vec<Held>, Fault>
+    requires { length labels.now ≡ length settled.now.regions }
+    ensures held { IfOk result (λ v. (place : ℕ) → place < length settled.now.regions
+        → IsHeldAt v.items settled.now place (slice_index labels.now place)) }
+    ensures plain { IfOk result (λ v. IsPlain settled.now.stack
+        → All (IsPlainHeld settled.now labels.now []) v.items) }
+    ensures count { IfOk result (λ v. length v.items ≡ length settled.now.regions) }
+    ensures lawful { IfOk result (λ _. IsSettled settled.now) }
+    ensures err { IfErr result (λ f. f ≡ Memory) }
+{
+    let mut held = Vec::new(alloc);
+    for place in 0..settled.region_count() {
+        push_held(alloc, &mut held, settled, place, labels[place])?;
+    }
+    Ok(held)
+}
+
+/// Where the picture of what is held begins. `Memory` where an allocation is refused.
+fn root_of(alloc: Global, sketch: &mut Sketch, held: &[Held]) -> Result<Branch, Fault>
+    requires right { IsRightSketch sketch.old }
+    requires empty { sketch.old.leaves ≡ [] }
+    ensures right { IfOk result (λ _. IsRightSketch sketch.new) }
+    ensures shown { IfOk result (λ b. IsShownAt sketch.new b held.now) }
+    ensures short { IfOk result (λ _. (s : BookData) (labels : List ℕ) → IsSettled s
+        → All (IsPlainHeld s labels []) held.now → sketch.new.spent ≡ false
+        → All IsShort sketch.new.leaves) }
+    ensures attained { IfOk result (λ b. (s : BookData) (labels : List ℕ) → IsSettled s
+        → All (IsPlainHeld s labels []) held.now → 0 < length held.now → (place : ℕ)
+        → place < length sketch.new.leaves → IsAttainedAt sketch.new b held.now place) }
+    ensures err { IfErr result (λ f. f ≡ Memory) }
+{
+    let axes = axes_of(alloc, held)?;
+    let Some(root) = draw(alloc, sketch, held, axes.as_slice(), 0)? else {
+        let leaf = sketch.leaf(Vec::new(alloc))?;
+        return Ok(leaf);
+    };
+    Ok(root)
+}
+
+/// The picture of an exploration, with a label for each region: each member of a region is shown the region's label. Where
+/// nothing is outstanding, each input is a member of one region, and so lies at a leaf with its label.
+///
+/// Axes come in a fixed order, each cut where the regions' conditions change their results. At most `leaves` leaves are
+/// drawn, equal ones counted again: what is left then are leaves with all their labels, and the picture is spent.
+/// On a plain stack no leaf of a picture that isn't spent has two labels, and some member of a region lies at each leaf. On
+/// another stack a leaf has several labels also where what is known of regions can't tell them apart.
+///
+/// The caller's condition: there is a label for each region. `Memory` where an allocation is refused.
+pub fn picture_of(
+    alloc: Global,
+    settled: &Settled,
+    labels: &[usize],
+    leaves: usize,
+) -> Result<Picture, Fault>
+    requires { length labels.now ≡ length settled.now.regions }
+    ensures shows { IfOk result (ShowsLabels settled.now labels.now) }
+    ensures plain { IfOk result (λ p. IsPlain settled.now.stack → p.spent ≡ false
+        → IsDetermined p) }
+    ensures attained { IfOk result (λ p. IsPlain settled.now.stack
+        → 0 < length settled.now.regions → IsAttainedEverywhere settled.now p) }
+    ensures err { IfErr result (λ f. f ≡ Memory) }
+{
+    let held = held_of(alloc, settled, labels)?;
+    let mut sketch = Sketch::new(alloc, leaves);
+    let root = root_of(alloc, &mut sketch, held.as_slice())?;
+    Ok(sketch.picture_from(root))
+}

@@ -1,0 +1,278 @@
+//! What is held of the regions of an exploration while a picture of it is drawn: facts, confined to spans of axes.
+
+ghost use Rattle.std.specs.Prelude.{◌≡◌, ◌<◌, ◌≤◌, ◌^◌, ℕ, true, List, IfOk, IfErr, IfSome, All, Contains, MatchOption, bit_and};
+ghost use Rattle.std.specs.Arc.{arc_value};
+ghost use Rattle.sf_dom.specs.Known.{Admits, HasBits};
+ghost use Rattle.sf_dom.specs.Facts.{Covers};
+ghost use Rattle.sf_piece.specs.PlainPieces.{IsPlainPiece};
+ghost use Rattle.sf_insn.specs.declared.input.Input.{Input as AnInput};
+ghost use Rattle.sf_picture.specs.Cuts.{AreCutsOf};
+ghost use Rattle.sf_picture.specs.Holding.{HeldData, IsHeldBy, NoneIsHeldIn, IsHeldIn, IsKeptIn, NoMemberAgrees, IsNarrowed, IsFromSome};
+ghost use Rattle.sf_picture.specs.declared.fault.Fault.TheVariants.{Memory};
+
+use crate::axis::Axis;
+use crate::confining::facts_within;
+use crate::cuts::{Cut, cuts_of};
+use crate::fault::Fault;
+use sf_dom::{Facts, Known};
+use sf_piece::Piece;
+use sf_sym::NodeId;
+use std::alloc::Global;
+use std::marker::Model;
+use std::sync::Arc;
+
+/// A region of which a picture is drawn: its piece, its label, and where it cuts axes.
+#[derive(Drop)]
+pub(crate) struct Source {
+    piece: Arc<Piece>,
+    label: usize,
+    cuts: Vec<Cut>,
+}
+
+impl Model for Source {
+    ghost use Rattle.sf_picture.specs.Holding.{SourceData};
+
+    ghost Value = { SourceData };
+
+    ghost view = { λ s. record {
+      piece = s.piece.value;
+      label = s.label;
+      cuts = s.cuts.items;
+    } };
+}
+
+impl Source {
+    /// The region's piece.
+    fn piece(&self) -> &Piece
+        ensures { result.now ≡ self.now.piece }
+    {
+        &self.piece
+    }
+
+    /// The region's label.
+    fn label(&self) -> usize
+        ensures { result ≡ self.now.label }
+    {
+        self.label
+    }
+
+    /// Where the region cuts axes.
+    fn cuts(&self) -> &[Cut]
+        ensures { result.now ≡ self.now.cuts }
+    {
+        self.cuts.as_slice()
+    }
+}
+
+/// A region, with facts that were confined to some spans of axes.
+#[derive(Drop)]
+pub(crate) struct Held {
+    source: Arc<Source>,
+    facts: Arc<Facts>,
+}
+
+impl Model for Held {
+    ghost use Rattle.sf_dom.specs.Facts.{Covers};
+    ghost use Rattle.sf_picture.specs.Holding.{HeldData};
+
+    ghost Value = { HeldData };
+
+    ghost view = { λ h. record {
+      piece = h.source.value.piece;
+      label = h.source.value.label;
+      facts = h.facts.value;
+      cuts = h.source.value.cuts;
+    } };
+
+    ghost invariant = { λ h. Covers h.facts.value h.source.value.piece.pool };
+}
+
+impl Held {
+    /// A region with its own facts. `Memory` where an allocation is refused.
+    pub(crate) fn of(alloc: Global, piece: Arc<Piece>, label: usize) -> Result<Held, Fault>
+        ensures held { IfOk result (λ h. h ≡ record {
+          piece = arc_value piece;
+          label = label;
+          facts = (arc_value piece).facts;
+          cuts = h.cuts;
+        }) }
+        ensures cuts { IfOk result (λ h. IsPlainPiece (arc_value piece)
+            → AreCutsOf (arc_value piece) h.cuts) }
+        ensures err { IfErr result (λ f. f ≡ Memory) }
+    {
+        let cuts = cuts_of(alloc, &piece)?;
+        let facts = piece.facts().fork()?;
+        let facts = Arc::new(alloc, facts)?;
+        let source = Arc::new(alloc, Source { piece, label, cuts })?;
+        Ok(Held { source, facts })
+    }
+
+    /// The same region with other facts. `Memory` where an allocation is refused.
+    fn with_facts(&self, alloc: Global, facts: Facts) -> Result<Held, Fault>
+        requires { Covers facts self.now.piece.pool }
+        ensures held { IfOk result (λ h. h ≡ record self.now { facts = facts }) }
+        ensures err { IfErr result (λ f. f ≡ Memory) }
+    {
+        let source = Arc::try_clone(&self.source)?;
+        let facts = Arc::new(alloc, facts)?;
+        Ok(Held { source, facts })
+    }
+
+    /// The same again. `Memory` where it has too many owners.
+    fn again(&self) -> Result<Held, Fault>
+        ensures held { IfOk result (λ h. h ≡ self.now) }
+        ensures err { IfErr result (λ f. f ≡ Memory) }
+    {
+        let source = Arc::try_clone(&self.source)?;
+        let facts = Arc::try_clone(&self.facts)?;
+        Ok(Held { source, facts })
+    }
+
+    /// The region's piece.
+    fn piece(&self) -> &Piece
+        ensures { result.now ≡ self.now.piece }
+    {
+        self.source.piece()
+    }
+
+    /// What is known of its members so far.
+    fn facts(&self) -> &Facts
+        ensures value { result.now ≡ self.now.facts }
+        ensures covers { Covers self.now.facts self.now.piece.pool }
+    {
+        &self.facts
+    }
+
+    /// The region's label.
+    pub(crate) fn label(&self) -> usize
+        ensures { result ≡ self.now.label }
+    {
+        self.source.label()
+    }
+
+    /// Where the region cuts axes.
+    pub(crate) fn cuts(&self) -> &[Cut]
+        ensures { result.now ≡ self.now.cuts }
+    {
+        self.source.cuts()
+    }
+}
+
+/// Whether conditions of a piece, learnt once more from facts of it, show that no member agrees with the facts. `Memory` where
+/// an allocation is refused.
+fn rules_out(alloc: Global, piece: &Piece, facts: &Facts) -> Result<bool, Fault>
+    requires { Covers facts.now piece.now.pool }
+    ensures none { IfOk result (λ b. b ≡ true → NoMemberAgrees piece.now facts.now) }
+    ensures err { IfErr result (λ f. f ≡ Memory) }
+{
+    let mut learnt = facts.fork()?;
+    for i in 0..piece.cond_count() {
+        if !learnt.learn(alloc, piece.pool(), &piece.cond(i))? {
+            return Ok(true);
+        }
+    }
+    Ok(false)
+}
+
+/// Whether the region's conditions, learnt once more, show that no member is held. `Memory` where an allocation is refused.
+pub(crate) fn is_ruled_out(alloc: Global, one: &Held) -> Result<bool, Fault>
+    ensures none { IfOk result (λ b. b ≡ true → (d : AnInput) → IsHeldBy one.now d → ⊥) }
+    ensures err { IfErr result (λ f. f ≡ Memory) }
+{
+    let ruled = rules_out(alloc, one.piece(), one.facts())?;
+    Ok(ruled)
+}
+
+/// Whether a word with these known bits has only numbers of the span under the mask.
+fn bits_lie(zeros: u32, ones: u32, mask: u32, first: u32, last: u32) -> bool
+    ensures { result ≡ true → (n : ℕ) → HasBits n zeros ones
+        → (first ≤ bit_and n mask) × (bit_and n mask ≤ last) }
+{
+    let most = mask & !zeros;
+    let least = ones & mask;
+    first <= least && most <= last
+}
+
+/// Whether all that is known of an axis's word lies in the span: nothing is to be confined then.
+fn is_inside(known: Known, axis: Axis, first: u32, last: u32) -> bool
+    ensures { result ≡ true → (n : ℕ) → n < 2 ^ 32 → Admits known n
+        → (first ≤ bit_and n axis.mask) × (bit_and n axis.mask ≤ last) }
+{
+    if axis.mask == u32::MAX {
+        return first <= known.low && known.high <= last;
+    }
+    bits_lie(known.zeros, known.ones, axis.mask, first, last)
+}
+
+/// The same region, confined to a span of an axis, or none where no member that is held has a number of it. `Memory` where a
+/// allocation is refused.
+fn confined(
+    alloc: Global,
+    one: &Held,
+    axis: Axis,
+    first: u32,
+    last: u32,
+) -> Result<Option<Held>, Fault>
+    requires { axis.word < 16 }
+    ensures confined { IfOk result (λ o. MatchOption o (NoneIsHeldIn one.now axis first last)
+        (IsHeldIn one.now axis first last)) }
+    ensures narrowed { IfOk result (λ o. IfSome o (IsNarrowed one.now axis first last)) }
+    ensures err { IfErr result (λ f. f ≡ Memory) }
+{
+    let known = one.facts();
+    if is_inside(known.known(NodeId(axis.word as u32)), axis, first, last) {
+        let same = one.again()?;
+        return Ok(Some(same));
+    }
+    let Some(facts) = facts_within(alloc, known, one.piece().pool(), axis, first, last)? else {
+        return Ok(None);
+    };
+    let inside = one.with_facts(alloc, facts)?;
+    Ok(Some(inside))
+}
+
+/// Adds what is held of a region that has a number of a span of an axis. `Memory` where an allocation is refused.
+fn push_within(
+    alloc: Global,
+    inside: &mut Vec<Held>,
+    one: &Held,
+    axis: Axis,
+    first: u32,
+    last: u32,
+) -> Result<(), Fault>
+    requires { axis.word < 16 }
+    ensures keeps { IfOk result (λ _. (h : HeldData)
+        → IsKeptIn inside.old.items axis first last h
+        → IsKeptIn inside.new.items axis first last h) }
+    ensures adds { IfOk result (λ _. IsKeptIn inside.new.items axis first last one.now) }
+    ensures only { IfOk result (λ _. (held : List HeldData) → Contains held one.now
+        → All (IsFromSome held axis first last) inside.old.items
+        → All (IsFromSome held axis first last) inside.new.items) }
+    ensures err { IfErr result (λ f. f ≡ Memory) }
+{
+    let Some(next) = confined(alloc, one, axis, first, last)? else {
+        return Ok(());
+    };
+    inside.push(next)?;
+    Ok(())
+}
+
+/// What is held of the regions that have a number of a span of an axis. `Memory` where an allocation is refused.
+pub(crate) fn held_within(
+    alloc: Global,
+    held: &[Held],
+    axis: Axis,
+    first: u32,
+    last: u32,
+) -> Result<Vec<Held>, Fault>
+    requires { axis.word < 16 }
+    ensures kept { IfOk result (λ v. All (IsKeptIn v.items axis first last) held.now) }
+    ensures only { IfOk result (λ v. All (IsFromSome held.now axis first last) v.items) }
+    ensures err { IfErr result (λ f. f ≡ Memory) }
+{
+    let mut inside = Vec::new(alloc);
+    for one in held {
+        push_within(alloc, &mut inside, one, axis, first, last)?;
+    }
+    Ok(inside)
+}

@@ -1,0 +1,42 @@
+//! Laws of pictures, each the contract of a function that does nothing.
+
+ghost use Rattle.std.specs.Prelude.{◌≡◌, ◌≤◌, ℕ, true, [], ◌∷◌, List, length, Some, Contains, slice_get, slice_index};
+ghost use Rattle.sf_insn.specs.declared.input.Input.{Input};
+ghost use Rattle.sf_insn.specs.Inputs.{IsInput};
+ghost use Rattle.sf_run.specs.declared.action.Answer.{Answer};
+ghost use Rattle.sf_run.specs.Answers.{Answers};
+ghost use Rattle.sf_piece.specs.Pieces.{is_member};
+ghost use Rattle.sf_book.specs.Books.{RegionData, BookData};
+ghost use Rattle.sf_picture.specs.PictureData.{PictureData};
+ghost use Rattle.sf_picture.specs.Pictures.{labels_at, IsPicture, IsDetermined, LiesAtLeaf, ShowsLabels};
+ghost use Rattle.sf_picture.specs.Answering.{IsPictureOf};
+
+/// Each input lies at exactly one leaf of a picture.
+pub fn each_input_lies_at_one_leaf()
+    ensures { (p : PictureData) (d : Input) → IsPicture p → (place : ℕ)
+        × LiesAtLeaf p d place
+        × ((other : ℕ) → LiesAtLeaf p d other → other ≡ place) }
+{}
+
+/// Where a picture shows an input at most one label, it shows that of the region of which the input is a member, and no other.
+pub fn one_label_is_that_of_the_region()
+    ensures { (s : BookData) (labels : List ℕ) (p : PictureData) (place : ℕ) (r : RegionData)
+        (d : Input) → ShowsLabels s labels p → length (labels_at p d) ≤ 1
+        → slice_get s.regions place ≡ Some r → IsInput d → is_member r.piece d ≡ true
+        → labels_at p d ≡ slice_index labels place ∷ [] }
+{}
+
+/// A picture of a stack shows each input a label of the answer that the stack gives to it.
+pub fn each_input_is_shown_its_answer()
+    ensures { (s : BookData) (answers : List Answer) (p : PictureData) (d : Input) →
+        IsPictureOf s answers p → IsInput d → (label : ℕ) × (a : Answer)
+        × Contains (labels_at p d) label × (slice_get answers label ≡ Some a)
+        × Answers s.stack d a }
+{}
+
+/// Two stacks of which one picture is, with at most one label at each leaf, give the same answer to each input.
+pub fn one_picture_has_one_meaning()
+    ensures { (s t : BookData) (answers : List Answer) (p : PictureData) (d : Input) →
+        IsPictureOf s answers p → IsPictureOf t answers p → IsDetermined p → IsInput d
+        → (a : Answer) × Answers s.stack d a × Answers t.stack d a }
+{}

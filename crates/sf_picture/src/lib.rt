@@ -1,0 +1,22 @@
+//! Pictures of stacks: what an exploration found, as a tree of forks on words of the input, with labels at its leaves.
+#![tactic(auto)]
+
+mod axes;
+mod axis;
+mod confining;
+mod cuts;
+mod drawing;
+mod fault;
+mod held;
+mod labels;
+mod lasts;
+pub mod laws;
+mod picture;
+mod runs;
+mod sketch;
+mod windows;
+
+pub use axis::Axis;
+pub use drawing::picture_of;
+pub use fault::Fault;
+pub use picture::{Branch, Fork, Picture, Run};

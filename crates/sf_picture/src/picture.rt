@@ -1,0 +1,161 @@
+//! Pictures: forks on axes, labels at the leaves.
+
+ghost use Rattle.std.specs.Prelude.{◌≡◌, ◌<◌, length, slice_get, Some};
+
+use crate::axis::Axis;
+use std::marker::Model;
+
+/// Where a run leads to: a leaf or a fork of the picture, by its place.
+#[derive(Clone, Copy, Debug, PartialEq, Eq)]
+pub enum Branch {
+    /// The leaf at this place.
+    Leaf(usize),
+    /// The fork at this place.
+    Fork(usize),
+}
+
+/// A run of numbers: from the number after the last one of the run before, or from 0, to `last`.
+#[derive(Clone, Copy, Debug, PartialEq, Eq)]
+pub struct Run {
+    /// The last number of the run.
+    pub last: u32,
+    /// Where it leads to.
+    pub next: Branch,
+}
+
+/// A fork: the number that an input has on the axis lies in one run, and the run leads on.
+#[derive(Drop)]
+pub struct Fork {
+    axis: Axis,
+    runs: Vec<Run>,
+}
+
+impl Model for Fork {
+    ghost use Rattle.sf_picture.specs.PictureData.{ForkData};
+
+    ghost Value = { ForkData };
+
+    ghost view = { λ f. record { axis = f.axis; runs = f.runs.items } };
+}
+
+impl Fork {
+    /// A fork of these runs.
+    pub(crate) fn of(axis: Axis, runs: Vec<Run>) -> Fork
+        ensures { result ≡ record { axis = axis; runs = runs.items } }
+    {
+        Fork { axis, runs }
+    }
+
+    /// The axis.
+    pub fn axis(&self) -> Axis
+        ensures { result ≡ self.now.axis }
+    {
+        self.axis
+    }
+
+    /// The runs, in the order of their numbers.
+    pub fn runs(&self) -> &[Run]
+        ensures { result.now ≡ self.now.runs }
+    {
+        self.runs.as_slice()
+    }
+}
+
+/// The labels of a leaf.
+#[derive(Drop)]
+pub(crate) struct Labels {
+    pub(crate) numbers: Vec<usize>,
+}
+
+impl Model for Labels {
+    ghost use Rattle.std.specs.Prelude.{ℕ, List};
+
+    ghost Value = { List ℕ };
+
+    ghost view = { λ l. l.numbers.items };
+}
+
+/// A picture of a stack. Each fork leads only to leaves and to forks at lower places.
+#[derive(Drop)]
+pub struct Picture {
+    pub(crate) leaves: Vec<Labels>,
+    pub(crate) forks: Vec<Fork>,
+    pub(crate) root: Branch,
+    pub(crate) spent: bool,
+}
+
+impl Model for Picture {
+    ghost use Rattle.sf_picture.specs.PictureData.{PictureData};
+    ghost use Rattle.sf_picture.specs.Pictures.{IsPicture};
+
+    ghost Value = { PictureData };
+
+    ghost view = { λ p. record {
+      leaves = p.leaves.items;
+      forks = p.forks.items;
+      root = p.root;
+      spent = p.spent;
+    } };
+
+    ghost invariant = { λ p. IsPicture (record {
+      leaves = p.leaves.items;
+      forks = p.forks.items;
+      root = p.root;
+      spent = p.spent;
+    }) };
+}
+
+impl Picture {
+    ghost use Rattle.sf_picture.specs.Pictures.{IsPicture};
+
+    /// Where the picture begins.
+    pub fn root(&self) -> Branch
+        ensures value { result ≡ self.now.root }
+        ensures lawful { IsPicture self.now }
+    {
+        self.root
+    }
+
+    /// Whether leaves were drawn early, each with all labels that were left there, since as many leaves were drawn as are
+    /// allowed.
+    pub fn is_spent(&self) -> bool
+        ensures value { result ≡ self.now.spent }
+        ensures lawful { IsPicture self.now }
+    {
+        self.spent
+    }
+
+    /// How many leaves there are.
+    pub fn leaf_count(&self) -> usize
+        ensures value { result ≡ length self.now.leaves }
+        ensures lawful { IsPicture self.now }
+    {
+        self.leaves.len()
+    }
+
+    /// The labels of the leaf at a place, in rising order.
+    pub fn leaf(&self, place: usize) -> &[usize]
+        requires { place < length self.now.leaves }
+        ensures value { slice_get self.now.leaves place ≡ Some result.now }
+        ensures lawful { IsPicture self.now }
+    {
+        self.leaves[place].numbers.as_slice()
+    }
+
+    /// How many forks there are.
+    pub fn fork_count(&self) -> usize
+        ensures value { result ≡ length self.now.forks }
+        ensures lawful { IsPicture self.now }
+    {
+        self.forks.len()
+    }
+
+    /// The fork at a place.
+    pub fn fork(&self, place: usize) -> &Fork
+        requires { place < length self.now.forks }
+        ensures value { slice_get self.now.forks place ≡ Some result.now }
+        ensures lawful { IsPicture self.now }
+    {
+        &self.forks[place]
+    }
+}

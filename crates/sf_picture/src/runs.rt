@@ -1,0 +1,63 @@
+//! Runs of numbers, while a fork is drawn.
+
+ghost use Rattle.std.specs.Prelude.{◌≡◌, ◌<◌, ◌≤◌, ◌+◌, ◌-◌, ℕ, true, false, length, slice_index_or, IfOk, IfErr};
+ghost use Rattle.sf_picture.specs.declared.picture.Run.{Run as ARun};
+ghost use Rattle.sf_picture.specs.Pictures.{IsBelow};
+ghost use Rattle.sf_picture.specs.Drawing.{AreRuns, AddsRun, ClosesRuns, EndsElsewhere};
+ghost use Rattle.sf_picture.specs.declared.fault.Fault.TheVariants.{Memory};
+
+use crate::fault::Fault;
+use crate::picture::{Branch, Run};
+
+/// Whether two branches are the same.
+fn is_same(left: Branch, right: Branch) -> bool
+    ensures same { result ≡ true → left ≡ right }
+    ensures other { result ≡ false → left ≡ right → ⊥ }
+{
+    left == right
+}
+
+/// Whether the last run leads to the branch.
+fn ends_at(runs: &Vec<Run>, next: Branch) -> bool
+    ensures some { result ≡ true → 0 < length runs.now.items }
+    ensures leads { result ≡ true → (d : ARun)
+        → (slice_index_or runs.now.items (length runs.now.items - 1) d).next ≡ next }
+    ensures elsewhere { result ≡ false → EndsElsewhere runs.now.items next }
+{
+    let count = runs.len();
+    if count == 0 {
+        return false;
+    }
+    let last = runs[count - 1];
+    is_same(last.next, next)
+}
+
+/// Adds a run, or lets the one before it go on where both lead to the same. `Memory` where an allocation is refused.
+pub(crate) fn push_run(runs: &mut Vec<Run>, last: u32, next: Branch) -> Result<(), Fault>
+    ensures added { IfOk result (λ _. (leaves forks first : ℕ) → first ≤ last
+        → AreRuns leaves forks first runs.old.items → IsBelow leaves forks next
+        → AreRuns leaves forks (last + 1) runs.new.items
+        × AddsRun runs.old.items runs.new.items first last next) }
+    ensures err { IfErr result (λ f. f ≡ Memory) }
+{
+    if ends_at(runs, next) {
+        let count = runs.len();
+        runs[count - 1] = Run { last, next };
+        return Ok(());
+    }
+    runs.push(Run { last, next })?;
+    Ok(())
+}
+
+/// Lets the last run go on to a number, or does nothing where there is none. The number of runs stays.
+pub(crate) fn close_runs(runs: &mut Vec<Run>, last: u32)
+    ensures count { length runs.new.items ≡ length runs.old.items }
+    ensures closed { (leaves forks : ℕ) → AreRuns leaves forks (last + 1) runs.old.items
+        → ClosesRuns leaves forks last runs.old.items runs.new.items }
+{
+    let count = runs.len();
+    if count > 0 {
+        let next = runs[count - 1].next;
+        runs[count - 1] = Run { last, next };
+    }
+}

@@ -1,0 +1,186 @@
+//! Pictures while they are drawn: leaves and forks, each once.
+
+ghost use Rattle.std.specs.Prelude.{◌≡◌, ◌<◌, ◌≤◌, ℕ, true, IfOk, IfErr, OnErr, All, length, IsTrue, ◌↔◌, IfSome, slice_index_or, []};
+ghost use Rattle.sf_picture.specs.declared.fault.Fault.TheVariants.{Memory};
+
+use crate::axis::Axis;
+use crate::fault::Fault;
+use crate::picture::{Branch, Fork, Labels, Picture, Run};
+use std::alloc::Global;
+use std::marker::Model;
+
+/// What was drawn so far. Equal leaves and equal forks are kept once, so branches that lead to the same are equal.
+#[derive(Drop)]
+pub(crate) struct Sketch {
+    leaves: Vec<Labels>,
+    forks: Vec<Fork>,
+    // How many leaves may still be drawn. Those that are equal to others count too.
+    left: usize,
+    // Whether a leaf was drawn early, since the budget of leaves was spent.
+    spent: bool,
+}
+
+impl Model for Sketch {
+    ghost use Rattle.std.specs.Prelude.{length};
+    ghost use Rattle.sf_picture.specs.Drawing.{SketchData};
+    ghost use Rattle.sf_picture.specs.Pictures.{AreRightForks};
+
+    ghost Value = { SketchData };
+
+    ghost view = { λ s. record {
+      leaves = s.leaves.items;
+      forks = s.forks.items;
+      spent = s.spent;
+    } };
+
+    ghost invariant = { λ s. AreRightForks (length s.leaves.items) s.forks.items };
+}
+
+/// Whether two lists of labels are the same.
+fn same_labels(a: &[usize], b: &[usize]) -> bool
+    ensures { IsTrue result ↔ (a.now ≡ b.now) }
+{
+    if a.len() != b.len() {
+        return false;
+    }
+    for (i, label) in a.iter().enumerate() {
+        if *label != b[i] {
+            return false;
+        }
+    }
+    true
+}
+
+/// Whether two lists of runs are the same.
+fn same_runs(a: &[Run], b: &[Run]) -> bool
+    ensures { IsTrue result ↔ (a.now ≡ b.now) }
+{
+    if a.len() != b.len() {
+        return false;
+    }
+    for (i, run) in a.iter().enumerate() {
+        if *run != b[i] {
+            return false;
+        }
+    }
+    true
+}
+
+impl Sketch {
+    ghost use Rattle.sf_picture.specs.Pictures.{AreRightForks, IsRightFork, IsBelow, fork_at};
+    ghost use Rattle.sf_picture.specs.PictureData.{ForkData};
+    ghost use Rattle.sf_picture.specs.Drawing.{Grows, AddsLeaf, IsLeafOf, IsForkOf, IsRightSketch};
+
+    /// Nothing is drawn yet, and at most this many leaves are to be.
+    pub(crate) fn new(alloc: Global, most: usize) -> Sketch
+        ensures right { IsRightSketch result }
+        ensures empty { result.leaves ≡ [] }
+    {
+        Sketch {
+            leaves: Vec::new(alloc),
+            forks: Vec::new(alloc),
+            left: most,
+            spent: false,
+        }
+    }
+
+    /// Whether as many leaves were drawn as are allowed.
+    pub(crate) fn is_full(&self) -> bool {
+        self.left == 0
+    }
+
+    /// Keeps in mind that a leaf is drawn early.
+    pub(crate) fn spend(&mut self)
+        ensures { self.new ≡ record self.old { spent = true } }
+    {
+        self.spent = true;
+    }
+
+    /// The place of an equal leaf.
+    fn find_leaf(&self, labels: &[usize]) -> Option<usize>
+        ensures { IfSome result (λ i. (i < length self.now.leaves)
+            × (slice_index_or self.now.leaves i [] ≡ labels.now)) }
+    {
+        for (i, leaf) in self.leaves.iter().enumerate() {
+            if same_labels(leaf.numbers.as_slice(), labels) {
+                return Some(i);
+            }
+        }
+        None
+    }
+
+    /// A leaf with these labels. `Memory` where an allocation is refused.
+    pub(crate) fn leaf(&mut self, labels: Vec<usize>) -> Result<Branch, Fault>
+        ensures grows { IfOk result (λ _. Grows self.old self.new) }
+        ensures right { IsRightSketch self.new }
+        ensures leaf { IfOk result (λ b. IsLeafOf self.new labels.items b) }
+        ensures added { IfOk result (λ b. AddsLeaf self.old self.new labels.items b) }
+        ensures spent { self.new.spent ≡ self.old.spent }
+        ensures err { IfErr result (λ f. f ≡ Memory) }
+    {
+        self.left = self.left.saturating_sub(1);
+        if let Some(place) = self.find_leaf(labels.as_slice()) {
+            return Ok(Branch::Leaf(place));
+        }
+        let place = self.leaves.len();
+        self.leaves.push(Labels { numbers: labels })?;
+        Ok(Branch::Leaf(place))
+    }
+
+    /// The place of an equal fork.
+    fn find_fork(&self, axis: Axis, runs: &[Run]) -> Option<usize>
+        ensures { IfSome result (λ i. (i < length self.now.forks)
+            × (fork_at self.now.forks i ≡ record { axis = axis; runs = runs.now })) }
+    {
+        for (i, fork) in self.forks.iter().enumerate() {
+            if fork.axis() == axis && same_runs(fork.runs(), runs) {
+                return Some(i);
+            }
+        }
+        None
+    }
+
+    /// A fork of these runs. `Memory` where an allocation is refused.
+    pub(crate) fn fork(&mut self, axis: Axis, runs: Vec<Run>) -> Result<Branch, Fault>
+        requires { IsRightFork (length self.old.leaves) (length self.old.forks)
+            (record { axis = axis; runs = runs.items }) }
+        ensures grows { IfOk result (λ _. Grows self.old self.new) }
+        ensures right { IsRightSketch self.new }
+        ensures fork { IfOk result (λ b. IsForkOf self.new
+            (record { axis = axis; runs = runs.items }) b) }
+        ensures leaves { self.new.leaves ≡ self.old.leaves }
+        ensures spent { self.new.spent ≡ self.old.spent }
+        ensures err { IfErr result (λ f. f ≡ Memory) }
+    {
+        if let Some(place) = self.find_fork(axis, runs.as_slice()) {
+            return Ok(Branch::Fork(place));
+        }
+        let place = self.forks.len();
+        self.forks.push(Fork::of(axis, runs))?;
+        Ok(Branch::Fork(place))
+    }
+
+    /// The picture that begins at a branch.
+    pub(crate) fn picture_from(self, root: Branch) -> Picture
+        requires { IsBelow (length self.leaves) (length self.forks) root }
+        ensures { result ≡ record {
+          leaves = self.leaves;
+          forks = self.forks;
+          root = root;
+          spent = self.spent;
+        } }
+    {
+        let Sketch {
+            leaves,
+            forks,
+            left: _,
+            spent,
+        } = self;
+        Picture {
+            leaves,
+            forks,
+            root,
+            spent,
+        }
+    }
+}

@@ -1,0 +1,97 @@
+//! Windows of words: which cuts of a word tell something of a piece.
+
+ghost use Rattle.std.specs.Prelude.{◌≡◌, ◌<◌, ◌≤◌, ◌⊎◌, min, max};
+ghost use Rattle.sf_picture.specs.Cuts.{IsWindow};
+
+use crate::axis::Axis;
+use sf_dom::Known;
+use sf_insn::Test;
+
+/// The bits of a word that tests under masks fix: on each member of a piece those of `zeros` are 0, and those of `ones` 1.
+#[derive(Clone, Copy)]
+pub(crate) struct FixedBits {
+    zeros: u32,
+    ones: u32,
+}
+
+impl FixedBits {
+    /// No bit.
+    pub(crate) fn none() -> FixedBits {
+        FixedBits { zeros: 0, ones: 0 }
+    }
+
+    /// More bits.
+    fn and(self, zeros: u32, ones: u32) -> FixedBits {
+        FixedBits {
+            zeros: self.zeros | zeros,
+            ones: self.ones | ones,
+        }
+    }
+
+    /// These, and those that a test of an axis of the word against a number fixes, which has the result `sense`.
+    pub(crate) fn and_by_test(self, axis: Axis, test: Test, number: u32, sense: bool) -> FixedBits {
+        let common = axis.mask & number;
+        match (test, sense) {
+            (Test::AnyBit, false) => self.and(common, 0),
+            (Test::AnyBit, true) if common.is_power_of_two() => self.and(0, common),
+            (Test::Equal, true) if axis.mask != u32::MAX => self.and(axis.mask & !number, common),
+            _ => self,
+        }
+    }
+
+    /// Whether a number has them.
+    fn allow(self, number: u32) -> bool {
+        number & self.zeros == 0 && number & self.ones == self.ones
+    }
+}
+
+/// A window of a word, for a piece: the cuts of the word that lie in it stay where they are. It begins with the last number
+/// below those of the piece, and ends with the last number of the piece. A cut before it or behind it is moved to its end:
+/// there the piece has a cut anyway, unless tests of bits rule out the number next to it. Then the window goes on to the
+/// end of all numbers, since the piece may have its cut anywhere beyond.
+#[derive(Clone, Copy)]
+pub(crate) struct Window {
+    first: u32,
+    last: u32,
+}
+
+/// Where the window of a word begins whose numbers are at least `low`.
+fn first_of(low: u32, bits: FixedBits) -> u32
+    ensures { (result ≡ 0) ⊎ (result < low) }
+{
+    if low > 0 && bits.allow(low - 1) {
+        low - 1
+    } else {
+        0
+    }
+}
+
+/// Where the window of a word ends whose numbers are at most `high`.
+fn last_of(high: u32, bits: FixedBits) -> u32
+    ensures { high ≤ result }
+{
+    if high < u32::MAX && bits.allow(high + 1) {
+        high
+    } else {
+        u32::MAX
+    }
+}
+
+impl Window {
+    /// The window of a word of which this is known.
+    pub(crate) fn of(known: Known, bits: FixedBits) -> Window
+        ensures { IsWindow result known.low known.high }
+    {
+        Window {
+            first: first_of(known.low, bits),
+            last: last_of(known.high, bits),
+        }
+    }
+
+    /// The number of the window that is nearest to one.
+    pub(crate) fn nearest(self, number: u32) -> u32
+        ensures { result ≡ min (max number self.first) self.last }
+    {
+        number.max(self.first).min(self.last)
+    }
+}
