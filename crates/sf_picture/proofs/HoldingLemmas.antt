@@ -1,10 +1,10 @@
 -- What is held, and the labels of it.
-use Rattle.std.proofs.Common.{◌≡◌, ℕ, ◌<◌, ◌≤◌, ◌+◌, ◌^◌, Bool, true, false, true≢false, List, [], ◌∷◌, ◌++◌, length, take, get_or, Some, refl, sym, ap, subst, ◌∙◌, inl, inr, arith}
+use Rattle.std.proofs.Common.{◌≡◌, ℕ, ◌<◌, ◌≤◌, ◌⊎◌, ◌+◌, ◌^◌, Bool, true, false, true≢false, List, [], ◌∷◌, ◌++◌, length, take, get_or, Some, refl, sym, ap, subst, ◌∙◌, inl, inr, arith}
 use Rattle.std.specs.Prelude.{slice_get, slice_index, bit_and, Contains, All}
 use Rattle.std.proofs.lemmas.Bool.{cases_eq}
 use Rattle.std.specs.List.{list_all}
 use Rattle.std.specs.List.Sorted.{IsPermutation}
-use Rattle.std.proofs.lemmas.List.{take_all}
+use Rattle.std.proofs.lemmas.List.{take_all, get_or_push, get_or_append_left, get_or_default}
 use Rattle.std.proofs.lemmas.List.Sorted.{Contains-permutation}
 use Rattle.std.proofs.lemmas.List.Folds.{list_all_at}
 use Rattle.std.proofs.lemmas.List.Elements.{All-weaker, All-more, All-push, All-contains, Contains-append_left, Contains-push, Contains-get_or}
@@ -14,14 +14,16 @@ use Rattle.sf_insn.specs.Inputs.{IsInput}
 use Rattle.sf_sym.specs.declared.pool.Cond.{Cond}
 use Rattle.sf_sym.specs.declared.pool.Node.{Node}
 use Rattle.sf_sym.specs.Pool.{is_met}
+use Rattle.sf_dom.specs.declared.known.Known.{Known}
 use Rattle.sf_dom.specs.Known.{Admits}
 use Rattle.sf_dom.specs.Facts.{FactsView, Agrees, Covers, KeepsInputs, NoInput, known_at}
 use Rattle.sf_dom.specs.FactsLaws.{agreeing-word}
 use Rattle.sf_piece.specs.Pieces.{PieceData, is_member}
 use Rattle.sf_book.specs.Books.{RegionData, BookData}
 use Rattle.sf_picture.specs.declared.axis.Axis.{Axis}
+use Rattle.sf_picture.specs.declared.ends.Ends.{Ends}
 use Rattle.sf_picture.specs.Spans.{NoneInSpan, KeepsSpan, KeepsOnlySpan, IsExactSpan}
-use Rattle.sf_picture.specs.Holding.{HeldData, IsHeldBy, KeepsMembers, NoMemberAgrees, NoneIsHeldIn, IsHeldIn, IsKeptIn, IsHeldAt, IsNarrowed, IsFromSome, AreOneLabel, AreAtMost}
+use Rattle.sf_picture.specs.Holding.{HeldData, IsHeldBy, KeepsMembers, NoMemberAgrees, NoneIsHeldIn, IsHeldIn, IsKeptIn, IsHeldAt, IsNarrowed, IsFromSome, AreOneLabel, AreAtMost, AreEndsOf}
 
 -- a condition that isn't met leaves no member
 not-met : (p : Cond → Bool) (cs : List Cond) (i : ℕ) (c : Cond) → slice_get cs i ≡ Some c → p c ≡ false
@@ -171,21 +173,55 @@ kept-all held inside axis first last n le all =
 
 -- ---- what is held is narrowed to spans
 
--- the same again, where all that agrees lies in the span
-pub narrowed-same : (h k : HeldData) (axis : Axis) (first last : ℕ) → k ≡ h → axis.word < 16
-    → Covers h.facts h.piece.pool
-    → ((n : ℕ) → n < 2 ^ 32 → Admits (known_at h.facts.known axis.word) n
-    → (first ≤ bit_and n axis.mask) × (bit_and n axis.mask ≤ last)) → IsNarrowed h axis first last k
-narrowed-same h k axis first last is word covers within =
+-- the ends of what is known of a word are those of what is held
+pub known-ends : (h : HeldData) (axis : Axis) (e : Ends) (k : Known) → axis.word < 16 → Covers h.facts h.piece.pool
+    → k ≡ known_at h.facts.known axis.word
+    → ((n : ℕ) → n < 2 ^ 32 → Admits k n → (e.low ≤ bit_and n axis.mask) × (bit_and n axis.mask ≤ e.high))
+    → AreEndsOf h axis e
+known-ends h axis e k word covers is ends d input agrees =
+    ends (slice_index d.words axis.word) (input.each axis.word)
+    (subst (λ (x : Known). Admits x (slice_index d.words axis.word)) (sym is)
+    (agreeing-word h.facts h.piece.pool d axis.word covers word agrees).admitted)
+
+-- no member is held in a span that the ends miss
+pub ends-miss : (h : HeldData) (axis : Axis) (e : Ends) (first last : ℕ) → AreEndsOf h axis e
+    → (last < e.low) ⊎ (e.high < first) → NoneIsHeldIn h axis first last
+ends-miss h axis e first last ends past d held span =
+    let both = ends d held.input held.agrees in
+    let above = span.above in
+    let below = span.below in
+    elim past [ inl before ↦ omega (arith, both.0, before) | inr behind ↦ omega (arith, both.1, behind) ]
+
+-- one more of the ends
+pub ends-more : (held : List HeldData) (axis : Axis) (ends : List Ends) (n : ℕ) (h : HeldData) (e : Ends)
+    → length ends ≡ n → h ≡ get_or held n h → AreEndsOf h axis e
+    → ((i : ℕ) (k : HeldData) (x : Ends) → i < n → AreEndsOf (get_or held i k) axis (get_or ends i x)) → n < length held
+    → (i : ℕ) (k : HeldData) (x : Ends) → i < n + 1 → AreEndsOf (get_or held i k) axis (get_or (ends ++ e ∷ []) i x)
+ends-more held axis ends n h e count is here before lt i k x less = elim (cases_eq i n) [
+  | inl same ↦ (let he : get_or (ends ++ e ∷ []) i x ≡ e = get_or_push ends e x i (count ∙ sym same) in
+      let hh : get_or held i k ≡ h = ap (λ (j : ℕ). get_or held j k) same
+      ∙ (get_or_default held n k h lt ∙ sym is) in
+      subst (λ (y : Ends). AreEndsOf (get_or held i k) axis y) (sym he)
+      (subst (λ (y : HeldData). AreEndsOf y axis e) (sym hh) here))
+  | inr other ↦ (let older : i < length ends = omega arith in
+      let he = get_or_append_left ends (e ∷ []) x i older in
+      subst (λ (y : Ends). AreEndsOf (get_or held i k) axis y) (sym he) (before i k x (omega arith)))
+]
+
+-- the same again, where the ends lie in the span
+pub narrowed-same : (h k : HeldData) (axis : Axis) (e : Ends) (first last : ℕ) → k ≡ h → Covers h.facts h.piece.pool
+    → AreEndsOf h axis e → (first ≤ e.low) × (e.high ≤ last) → IsNarrowed h axis first last k
+narrowed-same h k axis e first last is covers ends within =
     subst (IsNarrowed h axis first last) (sym is) (record {
       piece = refl;
       label = refl;
       cuts = refl;
       covers = covers;
       only = λ exact d input agrees.
-          let w = within (slice_index d.words axis.word) (input.each axis.word)
-          (agreeing-word h.facts h.piece.pool d axis.word covers word agrees).admitted in
-          (agrees, record { above = w.0; below = w.1 });
+          let both = ends d input agrees in
+          let low = within.0 in
+          let high = within.1 in
+          (agrees, record { above = omega (arith, both.0); below = omega (arith, both.1) });
     })
 
 -- the same with other facts

@@ -9,9 +9,8 @@ use Rattle.sf_insn.specs.declared.input.Input.{Input}
 use Rattle.sf_insn.specs.Inputs.{IsInput}
 use Rattle.sf_insn.specs.Words.{IsOneBit}
 use Rattle.sf_sym.specs.declared.pool.Node.{Node}
-use Rattle.sf_dom.specs.Known.{HasBits, Admits}
-use Rattle.sf_dom.specs.Facts.{FactsView, Covers, KeepsInputs, KeepsOnly, NoInput, lies_in, has_masked, known_at}
-use Rattle.sf_dom.specs.FactsLaws.{agreeing-word}
+use Rattle.sf_dom.specs.Known.{HasBits}
+use Rattle.sf_dom.specs.Facts.{FactsView, KeepsInputs, KeepsOnly, NoInput, lies_in, has_masked}
 use Rattle.sf_picture.specs.declared.axis.Axis.{Axis}
 use Rattle.sf_picture.specs.Pictures.{number_on}
 use Rattle.sf_picture.specs.Spans.{IsInSpan, NoneInSpan, KeepsSpan, KeepsOnlySpan, IsSpanOfBit, IsExactSpan}
@@ -65,14 +64,6 @@ one-bit-number m n first (i, lt, e) some le =
   where
     times-one : (k : ℕ) → 1 * k ≡ k
     times-one k = omega arith
-
--- a span that what is known of a word rules out
-pub missed : (f : FactsView) (ns : List Node) (axis : Axis) (first last : ℕ) → Covers f ns → axis.word < 16
-    → ((n : ℕ) → n < 2 ^ 32 → Admits (known_at f.known axis.word) n → first ≤ bit_and n axis.mask
-    → bit_and n axis.mask ≤ last → ⊥) → NoneInSpan f ns axis first last
-missed f ns axis first last covers word none d is agrees span =
-    none (slice_index d.words axis.word) (is.each axis.word)
-    (agreeing-word f ns d axis.word covers word agrees).admitted span.above span.below
 
 -- a whole word in a span lies in the range
 whole-lies : (axis : Axis) (first last : ℕ) (d : Input) → axis.mask ≡ 4294967295 → IsInput d

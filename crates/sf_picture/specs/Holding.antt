@@ -1,5 +1,5 @@
 -- What is held of a region while a picture is drawn: for the functions of this crate only.
-use Rattle.std.specs.Prelude.{◌≡◌, ℕ, ◌⊎◌, true, slice_get, List, [], ◌∷◌, Contains, Some}
+use Rattle.std.specs.Prelude.{◌≡◌, ℕ, ◌⊎◌, true, slice_get, List, [], ◌∷◌, Contains, Some, ◌<◌, ◌≤◌, length, slice_index_or, All}
 use Rattle.sf_insn.specs.declared.input.Input.{Input}
 use Rattle.sf_insn.specs.Inputs.{IsInput}
 use Rattle.sf_dom.specs.Facts.{FactsView, Agrees, Covers}
@@ -7,6 +7,9 @@ use Rattle.sf_piece.specs.Pieces.{PieceData, is_member}
 use Rattle.sf_book.specs.Books.{RegionData, BookData}
 use Rattle.sf_picture.specs.declared.axis.Axis.{Axis}
 use Rattle.sf_picture.specs.declared.cuts.Cut.{Cut}
+use Rattle.sf_picture.specs.declared.drawing.Span.{Span}
+use Rattle.sf_picture.specs.declared.ends.Ends.{Ends}
+use Rattle.sf_picture.specs.Pictures.{number_on}
 use Rattle.sf_picture.specs.Spans.{IsInSpan, IsExactSpan}
 
 -- a region's piece, its label, and where it cuts axes
@@ -79,3 +82,21 @@ AreOneLabel held = (h k : HeldData) → Contains held h → Contains held k → 
 -- no label but this one, and that at most once
 abbrev pub AreAtMost : ℕ → List ℕ → Type 0
 AreAtMost label labels = (labels ≡ []) ⊎ (labels ≡ label ∷ [])
+
+-- on each input that agrees with what is held, the axis lies between the ends
+abbrev pub AreEndsOf : HeldData → Axis → Ends → Type 0
+AreEndsOf h axis e = (d : Input) → IsInput d → Agrees h.facts h.piece.pool d
+    → (e.low ≤ number_on axis d) × (number_on axis d ≤ e.high)
+
+-- so for each of what is held
+pub record AreAllEnds (held : List HeldData) (axis : Axis) (ends : List Ends) : Type 0 where
+  pub count : length ends ≡ length held
+  pub each : (i : ℕ) (h : HeldData) (e : Ends) → i < length held
+      → AreEndsOf (slice_index_or held i h) axis (slice_index_or ends i e)
+
+-- Some of it is held in the span: each member with a number of the span is, and nothing else. (Of a span that isn't
+-- ahead the first is not asked.)
+pub record AreHeldIn (held : List HeldData) (span : Span) (inside : List HeldData) : Type 0 where
+  pub kept : span.first ≤ span.last → span.last ≤ span.axis.mask
+      → All (IsKeptIn inside span.axis span.first span.last) held
+  pub only : All (IsFromSome held span.axis span.first span.last) inside

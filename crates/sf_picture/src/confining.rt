@@ -2,7 +2,6 @@
 
 ghost use Rattle.std.specs.Prelude.{◌≡◌, ◌<◌, ◌≤◌, ◌^◌, ◌↔◌, ℕ, true, Ok, IsTrue, IfOk, IfErr, IfSome, IsSomeAnd, MatchBool, MatchOption, List, bit_and};
 ghost use Rattle.sf_insn.specs.Words.{IsOneBit};
-ghost use Rattle.sf_dom.specs.Known.{Admits, HasBits};
 ghost use Rattle.sf_dom.specs.Facts.{Covers};
 ghost use Rattle.sf_sym.specs.declared.pool.Node.{Node as ANode};
 ghost use Rattle.sf_picture.specs.Spans.{NoneInSpan, KeepsSpan, KeepsOnlySpan, IsSpanOfBit, IsExactSpan};
@@ -10,31 +9,9 @@ ghost use Rattle.sf_picture.specs.declared.fault.Fault.TheVariants.{Memory};
 
 use crate::axis::Axis;
 use crate::fault::Fault;
-use sf_dom::{Facts, Known};
-use sf_sym::{NodeId, Pool};
+use sf_dom::Facts;
+use sf_sym::Pool;
 use std::alloc::Global;
-
-/// Whether known bits of a word rule out a span of its numbers under a mask.
-fn bits_miss(zeros: u32, ones: u32, mask: u32, first: u32, last: u32) -> bool
-    ensures { result ≡ true → (n : ℕ) → HasBits n zeros ones → first ≤ bit_and n mask
-        → bit_and n mask ≤ last → ⊥ }
-{
-    let most = mask & !zeros;
-    let least = ones & mask;
-    most < first || last < least
-}
-
-/// Whether what is known of an axis's word rules out the span.
-fn misses(known: Known, axis: Axis, first: u32, last: u32) -> bool
-    ensures { result ≡ true → (n : ℕ) → n < 2 ^ 32 → Admits known n
-        → first ≤ bit_and n axis.mask
-        → bit_and n axis.mask ≤ last → ⊥ }
-{
-    if axis.mask == u32::MAX {
-        return known.high < first || last < known.low;
-    }
-    bits_miss(known.zeros, known.ones, axis.mask, first, last)
-}
 
 /// Whether exactly one bit is set.
 fn is_one_bit(mask: u32) -> bool
@@ -159,9 +136,6 @@ pub(crate) fn facts_within(
         IfSome o (KeepsOnlySpan facts.now pool.now axis first last)) }
     ensures err { IfErr result (λ f. f ≡ Memory) }
 {
-    if misses(facts.known(NodeId(axis.word as u32)), axis, first, last) {
-        return Ok(None);
-    }
     let mut inside = facts.fork()?;
     if !confine(alloc, &mut inside, pool, axis, first, last)? {
         return Ok(None);

@@ -3,7 +3,7 @@
 ghost use Rattle.std.specs.Prelude.{◌≡◌, ◌<◌, ◌≤◌, ◌+◌, [], ℕ, true, false, List, length, slice_index, All, IfOk, IfErr, MatchOption, ◌⊎◌};
 ghost use Rattle.sf_check.specs.Stacks.{IsPlain};
 ghost use Rattle.sf_book.specs.Books.{BookData, IsSettled};
-ghost use Rattle.sf_picture.specs.Holding.{IsHeldAt, AreOneLabel};
+ghost use Rattle.sf_picture.specs.Holding.{HeldData, IsHeldAt, AreOneLabel, AreAllEnds, AreHeldIn};
 ghost use Rattle.sf_picture.specs.PlainHolding.{IsPlainHeld, IsPlainTask, IsPlainSpan};
 ghost use Rattle.sf_picture.specs.Drawing.{IsShownAt, NoneIsHeld, Grows, AddsLeaf, IsShort, KeepsShort, AreRuns, IsLeafOf, LeadsAs, IsRightSketch, DrawsTo, IsAttainedAt, AreAttainedAt, AreAttainedBelow};
 ghost use Rattle.sf_picture.specs.Pictures.{ShowsLabels, IsDetermined, IsAttainedEverywhere};
@@ -13,8 +13,9 @@ ghost use Rattle.sf_picture.specs.declared.fault.Fault.TheVariants.{Memory};
 
 use crate::axes::axes_of;
 use crate::axis::Axis;
+use crate::ends::Ends;
 use crate::fault::Fault;
-use crate::held::{Held, held_within};
+use crate::held::{Held, all_ends, held_within};
 use crate::labels::{is_one_label, labels_left, labels_of};
 use crate::lasts::lasts_of;
 use crate::picture::{Branch, Picture, Run};
@@ -146,14 +147,29 @@ fn is_past(span: Span) -> bool
     (span.last as u64) < span.first || span.axis.mask < span.last
 }
 
-/// Draws a span, and adds a run that leads there, unless nothing that is held has a member with one of its numbers. Answers
-/// the first number that isn't drawn then. `Memory` where an allocation is refused.
+/// What is held of the regions that have a number of a span that is to be drawn, and nothing where nothing of it is left.
+/// `Memory` where an allocation is refused.
+fn held_in(alloc: Global, held: &[Held], ends: &[Ends], span: Span) -> Result<Vec<Held>, Fault>
+    requires word { span.axis.word < 16 }
+    requires ends { AreAllEnds held.now span.axis ends.now }
+    ensures inside { IfOk result (λ v. AreHeldIn held.now span v.items) }
+    ensures err { IfErr result (λ f. f ≡ Memory) }
+{
+    if is_past(span) {
+        return Ok(Vec::new(alloc));
+    }
+    let inside = held_within(alloc, held, ends, span.axis, span.first as u32, span.last)?;
+    Ok(inside)
+}
+
+/// Draws what is held in a span, and adds a run that leads there, unless it has no member. Answers the first number that isn't
+/// drawn then. `Memory` where an allocation is refused.
 #[cycle(draw)]
 fn draw_span(
     alloc: Global,
     sketch: &mut Sketch,
     runs: &mut Vec<Run>,
-    held: &[Held],
+    inside: &[Held],
     axes: &[Axis],
     at: usize,
     span: Span,
@@ -165,23 +181,24 @@ fn draw_span(
     requires runs { AreRuns (length sketch.old.leaves) (length sketch.old.forks) span.first
         runs.old.items }
     requires short { span.first ≤ span.axis.mask + 1 }
-    ensures drawn { IfOk result (DrawsTo sketch.old sketch.new runs.old.items runs.new.items
-        held.now span.axis span.first span.last) }
-    ensures short { IfOk result (λ _. (s : BookData) (labels : List ℕ) (box : List ASpan)
-        → IsPlainTask s labels box held.now axes.now at → IsPlainSpan held.now axes.now at span
+    ensures drawn { IfOk result (λ next. (held : List HeldData) → AreHeldIn held span inside.now
+        → DrawsTo sketch.old sketch.new runs.old.items runs.new.items held span.axis span.first
+        span.last next) }
+    ensures short { IfOk result (λ _. (held : List HeldData) (s : BookData) (labels : List ℕ)
+        (box : List ASpan) → AreHeldIn held span inside.now
+        → IsPlainTask s labels box held axes.now at → IsPlainSpan held axes.now at span
         → KeepsShort sketch.old sketch.new) }
-    ensures attained { IfOk result (λ next. (s : BookData) (labels : List ℕ) (box : List ASpan)
-        (from : ℕ) → IsPlainTask s labels box held.now axes.now at
-        → IsPlainSpan held.now axes.now at span
-        → AreAttainedBelow from sketch.old span.axis runs.old.items span.first held.now
-        → AreAttainedBelow from sketch.new span.axis runs.new.items next held.now) }
+    ensures attained { IfOk result (λ next. (held : List HeldData) (s : BookData)
+        (labels : List ℕ) (box : List ASpan) (from : ℕ) → AreHeldIn held span inside.now
+        → IsPlainTask s labels box held axes.now at → IsPlainSpan held axes.now at span
+        → AreAttainedBelow from sketch.old span.axis runs.old.items span.first held
+        → AreAttainedBelow from sketch.new span.axis runs.new.items next held) }
     ensures err { IfErr result (λ f. f ≡ Memory) }
 {
     if is_past(span) {
         return Ok(span.first);
     }
-    let inside = held_within(alloc, held, span.axis, span.first as u32, span.last)?;
-    let Some(next) = draw(alloc, sketch, inside.as_slice(), axes, at + 1)? else {
+    let Some(next) = draw(alloc, sketch, inside, axes, at + 1)? else {
         return Ok(span.last as u64 + 1);
     };
     push_run(runs, span.last, next)?;
@@ -226,12 +243,14 @@ fn draw(
     if lasts.len() == 1 {
         return draw(alloc, sketch, held, axes, at + 1);
     }
+    let ends = all_ends(alloc, held, axis)?;
     let mut runs: Vec<Run> = Vec::new(alloc);
     let mut first = 0u64;
     for last in lasts.as_slice() {
         let last = *last;
         let span = Span { axis, first, last };
-        first = draw_span(alloc, sketch, &mut runs, held, axes, at, span)?;
+        let inside = held_in(alloc, held, ends.as_slice(), span)?;
+        first = draw_span(alloc, sketch, &mut runs, inside.as_slice(), axes, at, span)?;
     }
     let drawn = fork_of(sketch, axis, runs)?;
     Ok(drawn)

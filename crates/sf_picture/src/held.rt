@@ -1,20 +1,20 @@
 //! What is held of the regions of an exploration while a picture of it is drawn: facts, confined to spans of axes.
 
-ghost use Rattle.std.specs.Prelude.{◌≡◌, ◌<◌, ◌≤◌, ◌^◌, ℕ, true, List, IfOk, IfErr, IfSome, All, Contains, MatchOption, bit_and};
+ghost use Rattle.std.specs.Prelude.{◌≡◌, ◌<◌, ℕ, true, List, IfOk, IfErr, IfSome, All, Contains, MatchOption};
 ghost use Rattle.std.specs.Arc.{arc_value};
-ghost use Rattle.sf_dom.specs.Known.{Admits, HasBits};
 ghost use Rattle.sf_dom.specs.Facts.{Covers};
 ghost use Rattle.sf_piece.specs.PlainPieces.{IsPlainPiece};
 ghost use Rattle.sf_insn.specs.declared.input.Input.{Input as AnInput};
 ghost use Rattle.sf_picture.specs.Cuts.{AreCutsOf};
-ghost use Rattle.sf_picture.specs.Holding.{HeldData, IsHeldBy, NoneIsHeldIn, IsHeldIn, IsKeptIn, NoMemberAgrees, IsNarrowed, IsFromSome};
+ghost use Rattle.sf_picture.specs.Holding.{HeldData, IsHeldBy, NoneIsHeldIn, IsHeldIn, IsKeptIn, NoMemberAgrees, IsNarrowed, IsFromSome, AreEndsOf, AreAllEnds};
 ghost use Rattle.sf_picture.specs.declared.fault.Fault.TheVariants.{Memory};
 
 use crate::axis::Axis;
 use crate::confining::facts_within;
 use crate::cuts::{Cut, cuts_of};
+use crate::ends::Ends;
 use crate::fault::Fault;
-use sf_dom::{Facts, Known};
+use sf_dom::Facts;
 use sf_piece::Piece;
 use sf_sym::NodeId;
 use std::alloc::Global;
@@ -143,6 +143,16 @@ impl Held {
         &self.facts
     }
 
+    /// Between which numbers an axis lies, by what is known so far.
+    pub(crate) fn ends_on(&self, axis: Axis) -> Ends
+        requires { axis.word < 16 }
+        ensures ends { AreEndsOf self.now axis result }
+        ensures covers { Covers self.now.facts self.now.piece.pool }
+    {
+        let known = self.facts().known(NodeId(axis.word as u32));
+        Ends::of(known, axis)
+    }
+
     /// The region's label.
     pub(crate) fn label(&self) -> usize
         ensures { result ≡ self.now.label }
@@ -183,27 +193,6 @@ pub(crate) fn is_ruled_out(alloc: Global, one: &Held) -> Result<bool, Fault>
     Ok(ruled)
 }
 
-/// Whether a word with these known bits has only numbers of the span under the mask.
-fn bits_lie(zeros: u32, ones: u32, mask: u32, first: u32, last: u32) -> bool
-    ensures { result ≡ true → (n : ℕ) → HasBits n zeros ones
-        → (first ≤ bit_and n mask) × (bit_and n mask ≤ last) }
-{
-    let most = mask & !zeros;
-    let least = ones & mask;
-    first <= least && most <= last
-}
-
-/// Whether all that is known of an axis's word lies in the span: nothing is to be confined then.
-fn is_inside(known: Known, axis: Axis, first: u32, last: u32) -> bool
-    ensures { result ≡ true → (n : ℕ) → n < 2 ^ 32 → Admits known n
-        → (first ≤ bit_and n axis.mask) × (bit_and n axis.mask ≤ last) }
-{
-    if axis.mask == u32::MAX {
-        return first <= known.low && known.high <= last;
-    }
-    bits_lie(known.zeros, known.ones, axis.mask, first, last)
-}
-
 /// The same region, confined to a span of an axis, or none where no member that is held has a number of it. `Memory` where a
 /// allocation is refused.
 fn confined(
@@ -219,12 +208,12 @@ fn confined(
     ensures narrowed { IfOk result (λ o. IfSome o (IsNarrowed one.now axis first last)) }
     ensures err { IfErr result (λ f. f ≡ Memory) }
 {
-    let known = one.facts();
-    if is_inside(known.known(NodeId(axis.word as u32)), axis, first, last) {
+    if one.ends_on(axis).lie_in(first, last) {
         let same = one.again()?;
         return Ok(Some(same));
     }
-    let Some(facts) = facts_within(alloc, known, one.piece().pool(), axis, first, last)? else {
+    let facts = one.facts();
+    let Some(facts) = facts_within(alloc, facts, one.piece().pool(), axis, first, last)? else {
         return Ok(None);
     };
     let inside = one.with_facts(alloc, facts)?;
@@ -257,21 +246,40 @@ fn push_within(
     Ok(())
 }
 
-/// What is held of the regions that have a number of a span of an axis. `Memory` where an allocation is refused.
+/// Between which numbers an axis lies in each of what is held. `Memory` where an allocation is refused.
+pub(crate) fn all_ends(alloc: Global, held: &[Held], axis: Axis) -> Result<Vec<Ends>, Fault>
+    requires { axis.word < 16 }
+    ensures ends { IfOk result (λ v. AreAllEnds held.now axis v.items) }
+    ensures err { IfErr result (λ f. f ≡ Memory) }
+{
+    let mut ends = Vec::new(alloc);
+    for one in held {
+        ends.push(one.ends_on(axis))?;
+    }
+    Ok(ends)
+}
+
+/// What is held of the regions that have a number of a span of an axis, where the axis lies between these ends in each.
+/// `Memory` where an allocation is refused.
 pub(crate) fn held_within(
     alloc: Global,
     held: &[Held],
+    ends: &[Ends],
     axis: Axis,
     first: u32,
     last: u32,
 ) -> Result<Vec<Held>, Fault>
-    requires { axis.word < 16 }
+    requires word { axis.word < 16 }
+    requires ends { AreAllEnds held.now axis ends.now }
     ensures kept { IfOk result (λ v. All (IsKeptIn v.items axis first last) held.now) }
     ensures only { IfOk result (λ v. All (IsFromSome held.now axis first last) v.items) }
     ensures err { IfErr result (λ f. f ≡ Memory) }
 {
     let mut inside = Vec::new(alloc);
-    for one in held {
+    for (i, one) in held.iter().enumerate() {
+        if ends[i].miss(first, last) {
+            continue;
+        }
         push_within(alloc, &mut inside, one, axis, first, last)?;
     }
     Ok(inside)

@@ -6,6 +6,7 @@ mod axis;
 mod confining;
 mod cuts;
 mod drawing;
+mod ends;
 mod fault;
 mod held;
 mod labels;

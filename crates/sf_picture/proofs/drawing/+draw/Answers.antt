@@ -5,6 +5,7 @@ use Rattle.std.proofs.lemmas.Result.{IfOk-weaker}
 use Rattle.sf_book.specs.Books.{BookData}
 use Rattle.sf_picture.specs.declared.axis.Axis.{Axis}
 use Rattle.sf_picture.specs.declared.drawing.Span.{Span}
+use Rattle.sf_picture.specs.Holding.{AreHeldIn}
 use Rattle.sf_picture.specs.PlainHolding.{IsPlainTask}
 use Rattle.sf_picture.specs.Drawing.{AreLasts}
 use Rattle.sf_picture.proofs.SketchLemmas.{grows-none, grows-more}
@@ -15,78 +16,75 @@ use Rattle.sf_picture.proofs.AttainLemmas.{short-none, short-more, short-same, a
 use Rattle.sf_picture.proofs.drawing.+draw.Goals as goal
 
 pub draw_span-returns-then-is_past-clause-drawn : goal.draw_span-returns-then-is_past-clause-drawn
-draw_span-returns-then-is_past-clause-drawn t c =
+draw_span-returns-then-is_past-clause-drawn t c = λ held part.
     let span = c.args.span in
-    draws-none c.args.sketch.now c.args.runs.now.items c.args.held.now span.axis span.first span.last c.requires.right
+    draws-none c.args.sketch.now c.args.runs.now.items held span.axis span.first span.last c.requires.right
     c.requires.runs c.requires.short (c.if-is_past.ensures.past refl)
 
 pub draw_span-returns-then-is_past-clause-short : goal.draw_span-returns-then-is_past-clause-short
-draw_span-returns-then-is_past-clause-short t c = λ s labels box task span. short-none c.args.sketch.now
+draw_span-returns-then-is_past-clause-short t c = λ held s labels box part task span. short-none c.args.sketch.now
 
 pub draw_span-returns-then-is_past-clause-attained : goal.draw_span-returns-then-is_past-clause-attained
-draw_span-returns-then-is_past-clause-attained t c = λ s labels box from task span before. before
+draw_span-returns-then-is_past-clause-attained t c = λ held s labels box from part task span before. before
 
 pub draw_span-returns-in_default-clause-drawn : goal.draw_span-returns-in_default-clause-drawn
-draw_span-returns-in_default-clause-drawn t c =
+draw_span-returns-in_default-clause-drawn t c = λ held part.
     let span = c.args.span in
     let ahead = c.if-is_past.ensures.ahead refl in
-    draws-missed c.args.sketch.now c.draw.new.sketch c.args.runs.now.items c.in_ok-inside.inside.items c.args.held.now
-    span.axis span.first span.last c.in_ok-next.ensures.grows c.requires.right c.in_ok-next.ensures.right
-    c.requires.runs ahead.0 ahead.1 c.in_ok-inside.ensures.kept
-    (rw (c.in_default.is, c.as_slice.ensures.value) at c.in_ok-next.ensures.drawn)
+    draws-missed c.args.sketch.now c.draw.new.sketch c.args.runs.now.items c.args.inside.now held span.axis span.first
+    span.last c.in_ok-next.ensures.grows c.requires.right c.in_ok-next.ensures.right c.requires.runs ahead.0 ahead.1
+    (part.kept ahead.0 ahead.1) (rw c.in_default.is at c.in_ok-next.ensures.drawn)
 
 pub draw_span-returns-in_default-clause-short : goal.draw_span-returns-in_default-clause-short
-draw_span-returns-in_default-clause-short t c = λ s labels box task is.
+draw_span-returns-in_default-clause-short t c = λ held s labels box part task is.
     let ahead = c.if-is_past.ensures.ahead refl in
-    c.in_ok-next.ensures.short s labels (c.args.span ∷ box) (rw c.as_slice.ensures.value
-    (child-task s labels box c.args.held.now c.in_ok-inside.inside.items c.args.axes.now c.args.at c.args.span task is
-    c.requires.at ahead.0 ahead.1 c.in_ok-inside.ensures.only))
+    c.in_ok-next.ensures.short s labels (c.args.span ∷ box)
+    (child-task s labels box held c.args.inside.now c.args.axes.now c.args.at c.args.span task is c.requires.at
+    ahead.0 ahead.1 part.only)
 
 pub draw_span-returns-in_default-clause-attained : goal.draw_span-returns-in_default-clause-attained
-draw_span-returns-in_default-clause-attained t c = λ s labels box from task is before.
+draw_span-returns-in_default-clause-attained t c = λ held s labels box from part task is before.
     let span = c.args.span in
     let ahead = c.if-is_past.ensures.ahead refl in
     let le : span.first ≤ span.last + 1 = omega (arith, ahead.0) in
     attained-missed from c.args.sketch.now c.draw.new.sketch span.axis c.args.runs.now.items span.first (span.last + 1)
-    c.args.held.now c.in_ok-inside.inside.items c.in_ok-next.ensures.grows c.requires.right le
+    held c.args.inside.now c.in_ok-next.ensures.grows c.requires.right le
     (rw c.in_default.is at (c.in_ok-next.ensures.attained s labels (span ∷ box)
-    (rw c.as_slice.ensures.value
-    (child-task s labels box c.args.held.now c.in_ok-inside.inside.items c.args.axes.now c.args.at span task is
-    c.requires.at ahead.0 ahead.1 c.in_ok-inside.ensures.only)))) before
+    (child-task s labels box held c.args.inside.now c.args.axes.now c.args.at c.args.span task is c.requires.at
+    ahead.0 ahead.1 part.only))) before
 
 pub draw_span-returns-clause-drawn : goal.draw_span-returns-clause-drawn
-draw_span-returns-clause-drawn t c =
+draw_span-returns-clause-drawn t c = λ held part.
     let span = c.args.span in
     let ahead = c.if-is_past.ensures.ahead refl in
     draws-added c.args.sketch.now c.draw.new.sketch c.args.runs.now.items c.push_run.new.runs.items
-    c.in_ok-inside.inside.items c.args.held.now
+    c.args.inside.now held
     span.axis span.first span.last c.in-Some.next c.in_ok-next.ensures.grows c.requires.right c.in_ok-next.ensures.right
-    c.requires.runs ahead.0 ahead.1 c.in_ok-inside.ensures.kept
-    (rw (c.in-Some.is, c.as_slice.ensures.value) at c.in_ok-next.ensures.drawn) c.in_ok-push_run.ensures.added
+    c.requires.runs ahead.0 ahead.1 (part.kept ahead.0 ahead.1) (rw c.in-Some.is at c.in_ok-next.ensures.drawn)
+    c.in_ok-push_run.ensures.added
 
 pub draw_span-returns-clause-short : goal.draw_span-returns-clause-short
-draw_span-returns-clause-short t c = λ s labels box task is.
+draw_span-returns-clause-short t c = λ held s labels box part task is.
     let ahead = c.if-is_past.ensures.ahead refl in
-    c.in_ok-next.ensures.short s labels (c.args.span ∷ box) (rw c.as_slice.ensures.value
-    (child-task s labels box c.args.held.now c.in_ok-inside.inside.items c.args.axes.now c.args.at c.args.span task is
-    c.requires.at ahead.0 ahead.1 c.in_ok-inside.ensures.only))
+    c.in_ok-next.ensures.short s labels (c.args.span ∷ box)
+    (child-task s labels box held c.args.inside.now c.args.axes.now c.args.at c.args.span task is c.requires.at
+    ahead.0 ahead.1 part.only)
 
 pub draw_span-returns-clause-attained : goal.draw_span-returns-clause-attained
-draw_span-returns-clause-attained t c = λ s labels box from task is before.
+draw_span-returns-clause-attained t c = λ held s labels box from part task is before.
     let span = c.args.span in
     let ahead = c.if-is_past.ensures.ahead refl in
-    let shown = rw (c.in-Some.is, c.as_slice.ensures.value) at c.in_ok-next.ensures.drawn in
+    let shown = rw c.in-Some.is at c.in_ok-next.ensures.drawn in
     let sketch = c.draw.new.sketch in
     let added = c.in_ok-push_run.ensures.added (length sketch.leaves) (length sketch.forks) span.first ahead.0
     (runs-grow c.args.sketch.now sketch span.first c.args.runs.now.items c.in_ok-next.ensures.grows c.requires.runs)
     shown.below in
     attained-added from c.args.sketch.now sketch span.axis c.args.runs.now.items c.push_run.new.runs.items span.first
-    span.last c.in-Some.next c.args.held.now c.in_ok-inside.inside.items c.in_ok-next.ensures.grows c.requires.right
-    ahead.0 added.1 shown.below c.in_ok-inside.ensures.only (is.exact ahead.0)
-    (rw (c.in-Some.is, c.as_slice.ensures.value) at (c.in_ok-next.ensures.attained s labels (span ∷ box)
-    (rw c.as_slice.ensures.value
-    (child-task s labels box c.args.held.now c.in_ok-inside.inside.items c.args.axes.now c.args.at span task is
-    c.requires.at ahead.0 ahead.1 c.in_ok-inside.ensures.only)))) before
+    span.last c.in-Some.next held c.args.inside.now c.in_ok-next.ensures.grows c.requires.right ahead.0 added.1
+    shown.below part.only (is.exact ahead.0)
+    (rw c.in-Some.is at (c.in_ok-next.ensures.attained s labels (span ∷ box)
+    (child-task s labels box held c.args.inside.now c.args.axes.now c.args.at c.args.span task is c.requires.at
+    ahead.0 ahead.1 part.only))) before
 
 pub draw-loop-last-init : goal.draw-loop-last-init
 draw-loop-last-init t c = record {
@@ -103,17 +101,23 @@ draw-loop-last-init t c = record {
 pub draw-loop-last-preserved : goal.draw-loop-last-preserved
 draw-loop-last-preserved t c =
     let i = c.loop-last.invariant in
-    let d = c.in_ok-first.ensures.drawn in
     let axes = c.args.axes.now in
     let axis : Axis = get_or axes c.args.at (record { word = 0; mask = 0 }) in
     let lasts = c.as_slice-last-items.result.now in
     let index = c.loop-last.last-index in
     let inside : index < length lasts = omega arith in
+    let part : AreHeldIn c.args.held.now (record {
+      axis = axis;
+      first = c.loop-last.first;
+      last = slice_index lasts index;
+    })
+    c.as_slice-in-loop-last.result.now = rw c.as_slice-in-loop-last.ensures.value c.in_ok-inside.ensures.inside in
     let l = subst (AreLasts c.args.held.now axis) (sym c.as_slice-last-items.ensures.value)
     c.in_ok-lasts.ensures.lasts in
     let several : length lasts ≡ 1 → ⊥ = λ one.
     c.if-len-eq1.false (omega (arith, c.len.ensures, one, ap length c.as_slice-last-items.ensures.value)) in
     let on : get_or axes c.args.at axis ≡ axis = get_or_default axes c.args.at axis _ (omega arith) in
+    let d = c.in_ok-first.ensures.drawn c.args.held.now part in
     let span = λ (s : BookData) (labels : List ℕ) (box : List Span)
     (task : IsPlainTask s labels box c.args.held.now axes c.args.at).
     plain-span s labels box c.args.held.now axes c.args.at axis lasts index c.loop-last.first (slice_index lasts index)
@@ -128,9 +132,9 @@ draw-loop-last-preserved t c =
           (d.passed (lasts-inside c.args.held.now axis lasts index l inside));
       keeps_short = λ s labels box task. short-more c.args.sketch.now c.loop-last.sketch c.draw_span.new.sketch
           (i.keeps_short s labels box task)
-          (c.in_ok-first.ensures.short s labels box task (span s labels box task));
-      attained = λ s labels box task. c.in_ok-first.ensures.attained s labels box (length c.args.sketch.now.leaves) task
-          (span s labels box task) (i.attained s labels box task);
+          (c.in_ok-first.ensures.short c.args.held.now s labels box part task (span s labels box task));
+      attained = λ s labels box task. c.in_ok-first.ensures.attained c.args.held.now s labels box
+          (length c.args.sketch.now.leaves) part task (span s labels box task) (i.attained s labels box task);
     }
 
 pub draw-returns-then-is_one_label-clause-short : goal.draw-returns-then-is_one_label-clause-short

@@ -1,19 +1,40 @@
-use Rattle.std.proofs.Common.{arith}
-use Rattle.sf_picture.proofs.HoldingLemmas.{kept-more, kept-all, there-at}
+use Rattle.std.proofs.Common.{◌<◌, length, get_or, refl, sym, subst, arith}
+use Rattle.sf_picture.specs.declared.ends.Ends.{Ends}
+use Rattle.sf_picture.specs.Holding.{HeldData, AreEndsOf}
+use Rattle.sf_picture.proofs.HoldingLemmas.{kept-more, kept-all, kept-none, there-at, ends-miss}
 use Rattle.sf_picture.proofs.held.held_within.Goals as goal
 
-pub loop-one-preserved : goal.loop-one-preserved
-loop-one-preserved c = record {
-  kept = kept-more c.args.held.now c.loop-one.one-index c.one-item.result c.loop-one.inside.items
-      c.push_within.new.inside.items
-      c.args.axis c.args.first c.args.last (omega arith) c.one-item.is c.in_ok-push_within.ensures.keeps
-      c.in_ok-push_within.ensures.adds c.loop-one.invariant.kept;
-  only = c.in_ok-push_within.ensures.only c.args.held.now
-      (there-at c.args.held.now c.loop-one.one-index c.one-item.result (omega arith) c.one-item.is)
-      c.loop-one.invariant.only;
-}
+pub loop-i-preserved : goal.loop-i-preserved
+loop-i-preserved c =
+    let i = c.loop-i.invariant in
+    let p = c.in_ok-push_within.ensures in
+    let lt : c.loop-i.i < length c.args.held.now = omega arith in
+    record {
+      kept = kept-more c.args.held.now c.loop-i.i c.index-held-i.result c.loop-i.inside.items
+          c.push_within.new.inside.items c.args.axis c.args.first c.args.last lt c.index-held-i.is
+          p.keeps p.adds i.kept;
+      only = p.only c.args.held.now (there-at c.args.held.now c.loop-i.i c.index-held-i.result lt c.index-held-i.is)
+          i.only;
+    }
+
+pub loop-i-preserved-then-miss : goal.loop-i-preserved-then-miss
+loop-i-preserved-then-miss c =
+    let i = c.loop-i.invariant in
+    let h = c.index-held-i.result in
+    let none : Ends = record { low = 0; high = 0 } in
+    let e : Ends = get_or c.args.ends.now c.loop-i.i none in
+    let lt : c.loop-i.i < length c.args.held.now = omega arith in
+    let ends = subst (λ (x : HeldData). AreEndsOf x c.args.axis e) (sym c.index-held-i.is)
+    (c.requires.ends.each c.loop-i.i h none lt) in
+    record {
+      kept = kept-more c.args.held.now c.loop-i.i h c.loop-i.inside.items c.loop-i.inside.items c.args.axis c.args.first
+          c.args.last lt c.index-held-i.is (λ k keep. keep)
+          (kept-none c.loop-i.inside.items c.args.axis c.args.first c.args.last h
+          (ends-miss h c.args.axis e c.args.first c.args.last ends (c.if-miss.ensures refl))) i.kept;
+      only = i.only;
+    }
 
 pub returns-clause-kept : goal.returns-clause-kept
 returns-clause-kept c =
-    kept-all c.args.held.now c.loop-one.inside.items c.args.axis c.args.first c.args.last c.loop-one.one-index
-    (omega arith) c.loop-one.invariant.kept
+    kept-all c.args.held.now c.loop-i.inside.items c.args.axis c.args.first c.args.last c.loop-i.i (omega arith)
+    c.loop-i.invariant.kept

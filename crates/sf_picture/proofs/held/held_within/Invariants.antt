@@ -3,8 +3,8 @@ use Rattle.std.specs.Prelude.{All}
 use Rattle.sf_picture.specs.Holding.{IsKeptIn, IsFromSome}
 use Rattle.sf_picture.proofs.held.held_within.Given as goal
 
-abbrev pub invariant-loop-one : goal.invariant-loop-one
-invariant-loop-one l = record {
-  kept : All (IsKeptIn l.inside.items l.axis l.first l.last) (take l.one-index l.held);
+abbrev pub invariant-loop-i : goal.invariant-loop-i
+invariant-loop-i l = record {
+  kept : All (IsKeptIn l.inside.items l.axis l.first l.last) (take l.i l.held);
   only : All (IsFromSome l.held l.axis l.first l.last) l.inside.items;
 }

@@ -1,0 +1,55 @@
+//! Between which numbers an axis lies, by what is known of its word.
+
+ghost use Rattle.std.specs.Prelude.{◌≡◌, ◌<◌, ◌≤◌, ◌^◌, ◌⊎◌, ℕ, true, bit_and};
+ghost use Rattle.sf_dom.specs.Known.{Admits, HasBits};
+
+use crate::axis::Axis;
+use sf_dom::Known;
+
+/// An interval of numbers of an axis.
+#[derive(Clone, Copy)]
+pub(crate) struct Ends {
+    low: u32,
+    high: u32,
+}
+
+/// Between which numbers a word with these known bits lies under a mask.
+fn ends_of_bits(zeros: u32, ones: u32, mask: u32) -> Ends
+    ensures { (n : ℕ) → HasBits n zeros ones
+        → (result.low ≤ bit_and n mask) × (bit_and n mask ≤ result.high) }
+{
+    Ends {
+        low: ones & mask,
+        high: mask & !zeros,
+    }
+}
+
+impl Ends {
+    /// Those of an axis of a word of which this is known.
+    pub(crate) fn of(known: Known, axis: Axis) -> Ends
+        ensures { (n : ℕ) → n < 2 ^ 32 → Admits known n
+            → (result.low ≤ bit_and n axis.mask) × (bit_and n axis.mask ≤ result.high) }
+    {
+        if axis.mask == u32::MAX {
+            return Ends {
+                low: known.low,
+                high: known.high,
+            };
+        }
+        ends_of_bits(known.zeros, known.ones, axis.mask)
+    }
+
+    /// Whether all numbers between them are numbers of a span.
+    pub(crate) fn lie_in(self, first: u32, last: u32) -> bool
+        ensures { result ≡ true → (first ≤ self.low) × (self.high ≤ last) }
+    {
+        first <= self.low && self.high <= last
+    }
+
+    /// Whether none of the numbers between them is a number of a span.
+    pub(crate) fn miss(self, first: u32, last: u32) -> bool
+        ensures { result ≡ true → (last < self.low) ⊎ (self.high < first) }
+    {
+        last < self.low || self.high < first
+    }
+}
