@@ -1,0 +1,5 @@
+pub mod TextLemmas
+pub mod PartLemmas
+pub mod SpanLemmas
+pub mod ForkLemmas
+pub mod RowLemmas

@@ -1,0 +1,103 @@
+-- The line of a row.
+use Rattle.std.specs.Prelude.{ℕ, ◌^◌, ◌-◌, ◌==◌, Bool, true, false, List, [], ◌∷◌, ◌++◌, codes, length, slice_index_or, Option, Some, None, nat_lt, if◌then◌else◌}
+use Rattle.std.specs.Fmt.{decimal, digits, padded_integral, format_spec}
+use Rattle.sf_run.specs.declared.action.Answer.{Answer}
+use Rattle.sf_audit.specs.Keys.{word_keys}
+use Rattle.sf_audit.specs.Reports.{action_text}
+use Rattle.sf_picture.specs.declared.axis.Axis.{Axis}
+use Rattle.sf_list.specs.declared.parts.Span.{Span}
+use Rattle.sf_list.specs.declared.conditions.Style.{Style}
+use Rattle.sf_list.specs.declared.conditions.Style.TheVariants.{Short, Long, Call}
+use Rattle.sf_list.specs.Parts.{PartData}
+use Rattle.sf_list.specs.Rows.{ConditionData, RowData, ScopeData}
+
+-- a number in hexadecimal, as short as it goes
+abbrev pub short_words : ℕ → List ℕ
+short_words n = codes "0x" ++ digits 16 true n
+
+-- a number in hexadecimal, with eight digits
+abbrev pub long_words : ℕ → List ℕ
+long_words n = codes "0x" ++ padded_integral (format_spec 32 0 4 8 (2 ^ 64 - 1)) false [] (digits 16 true n)
+
+-- the number of a call: below 65,536 in decimal
+abbrev pub call_words : ℕ → List ℕ
+call_words n = if nat_lt n 65536 then decimal n else short_words n
+
+-- a number
+abbrev pub number_words : Style → ℕ → List ℕ
+number_words Short n = short_words n
+number_words Long n = long_words n
+number_words Call n = call_words n
+
+-- a span: its number, or its two ends
+abbrev pub span_words : Style → Span → List ℕ
+span_words style s = number_words style s.first
+    ++ (if nat_lt s.first s.last then codes ".." ++ number_words style s.last else [])
+
+-- spans with commas between them
+abbrev pub spans_words : Style → List Span → List ℕ
+spans_words style [] = []
+spans_words style (s ∷ []) = span_words style s
+spans_words style (s ∷ t ∷ ss) = span_words style s ++ 44 ∷ spans_words style (t ∷ ss)
+
+-- whether spans are one number
+abbrev pub is_one_number : List Span → Bool
+is_one_number (s ∷ []) = s.first == s.last
+is_one_number _ = false
+
+-- what stands before the numbers of a part of the architectures
+abbrev pub arch_start : PartData → List ℕ
+arch_start p = if p.is_rest then (if is_one_number p.spans then codes "!= " else codes "not in ")
+    else (if is_one_number p.spans then [] else codes "in ")
+
+-- the architectures, where not all are meant by the numbers of a part
+abbrev pub arch_words : Option PartData → List ℕ
+arch_words None = codes "any"
+arch_words (Some p) = arch_start p ++ spans_words Long p.spans
+
+-- the call numbers, where not all are meant by the numbers of a part
+abbrev pub nr_words : Option PartData → List ℕ
+nr_words None = codes "any"
+nr_words (Some p) = spans_words Call p.spans
+
+-- the name of an axis: its word, and its mask where that leaves bits out
+abbrev pub axis_words : Axis → List ℕ
+axis_words a = slice_index_or word_keys a.word []
+    ++ (if a.mask == 4294967295 then [] else codes " & " ++ short_words a.mask)
+
+-- what stands between an axis and the numbers of a part
+abbrev pub part_start : PartData → List ℕ
+part_start p = if p.is_rest then (if is_one_number p.spans then codes " != " else codes " not in ")
+    else (if is_one_number p.spans then codes " = " else codes " in ")
+
+-- a condition
+abbrev pub condition_words : ConditionData → List ℕ
+condition_words c = axis_words c.axis ++ (part_start c.part ++ spans_words Short c.part.spans)
+
+-- conditions, with ` and ` between them, after these words
+abbrev pub conditions_words : List ℕ → List ConditionData → List ℕ
+conditions_words before [] = []
+conditions_words before (c ∷ cs) = before ++ (condition_words c ++ conditions_words (codes " and ") cs)
+
+-- an action and its data
+abbrev pub answer_words : Answer → List ℕ
+answer_words a = action_text a.action ++ 32 ∷ decimal a.info
+
+-- the words of labels, with ` | ` between them
+abbrev pub labels_words : List (List ℕ) → List ℕ → List ℕ
+labels_words words [] = []
+labels_words words (l ∷ []) = slice_index_or words l []
+labels_words words (l ∷ m ∷ ls) = slice_index_or words l [] ++ (codes " | " ++ labels_words words (m ∷ ls))
+
+-- the architectures and the call numbers of a row
+abbrev pub place_words : ScopeData → List ℕ
+place_words s = codes "arch " ++ (arch_words s.arch ++ (codes " nr " ++ (nr_words s.nr ++ 32 ∷ [])))
+
+-- the line of a row, by the words of labels
+abbrev pub row_line : List (List ℕ) → RowData → List ℕ
+row_line words r = place_words r.scope ++ (labels_words words r.labels
+    ++ (conditions_words (codes " if ") r.scope.conditions ++ 10 ∷ []))
+
+-- a row with several answers
+abbrev pub is_undetermined : RowData → Bool
+is_undetermined r = nat_lt 1 (length r.labels)

@@ -1,0 +1,78 @@
+-- What a listing of a stack of filter files finds, and its text.
+use Rattle.std.specs.Prelude.{◌≡◌, ℕ, ◌<◌, ◌==◌, Bool, false, List, [], ◌∷◌, ◌++◌, codes, length, map, count_by, Option, Some, None, MatchOption}
+use Rattle.std.specs.List.{flat_map}
+use Rattle.std.specs.List.Sorted.{IsNonDecreasingBy}
+use Rattle.std.specs.Fmt.{decimal}
+use Rattle.sf_check.specs.declared.insn.Insn.{Insn}
+use Rattle.sf_check.specs.Stacks.{IsPlain, path_length}
+use Rattle.sf_run.specs.declared.action.Answer.{Answer}
+use Rattle.sf_book.specs.Books.{BookData, counts_of}
+use Rattle.sf_crew.specs.Explorations.{IsExplorationOf}
+use Rattle.sf_picture.specs.PictureData.{PictureData}
+use Rattle.sf_picture.specs.Pictures.{IsAttainedEverywhere, IsDetermined, IsPicture, ShowsLabels}
+use Rattle.sf_picture.specs.Answering.{TellAnswers}
+use Rattle.sf_audit.specs.Filters.{SpellStack}
+use Rattle.sf_audit.specs.Reports.{counts_line, line}
+use Rattle.sf_list.specs.Answers.{AreFirstPlaces, answer_order}
+use Rattle.sf_list.specs.Rows.{RowData, rows_of}
+use Rattle.sf_list.specs.Lines.{answer_words, row_line, is_undetermined}
+
+-- How an exploration ended, the answers of its regions, and where no piece is outstanding its picture, whose labels are
+-- places of the answers.
+pub record Listed : Type 0 where
+  pub settled : BookData
+  pub answers : List Answer
+  pub picture : Option PictureData
+
+-- The picture shows each member of each region the label of its answer. Answers are in order, and equal ones have one
+-- label. On a plain stack no leaf of a picture that isn't spent has two labels, and some member of a region lies at
+-- each leaf.
+pub record IsPictured (s : BookData) (answers : List Answer) (p : PictureData) : Type 0 where
+  pub lawful : IsPicture p
+  pub none_left : s.outstanding ≡ []
+  pub order : IsNonDecreasingBy answer_order answers
+  pub labels : List ℕ
+  pub tell : TellAnswers s answers labels
+  pub first : AreFirstPlaces s answers labels
+  pub shows : ShowsLabels s labels p
+  pub plain : IsPlain s.stack → p.spent ≡ false → IsDetermined p
+  pub attained : IsPlain s.stack → 0 < length s.regions → IsAttainedEverywhere s p
+
+-- The stack that files spell was explored, and its picture was drawn, unless a piece is outstanding.
+pub record IsListing (files : List (List ℕ)) (budget : ℕ) (l : Listed) : Type 0 where
+  pub stack : SpellStack files l.settled.stack
+  pub end : IsExplorationOf l.settled.stack budget l.settled
+  pub picture : MatchOption l.picture (0 < length l.settled.outstanding) (IsPictured l.settled l.answers)
+
+-- what each listing begins with, and the number of its form
+abbrev pub listing_title : List ℕ
+listing_title = line (codes "seccomp_audit" ∷ codes "list" ∷ codes "1" ∷ [])
+
+-- how many filters, and the length of the path through them
+abbrev pub stack_line : List (List Insn) → List ℕ
+stack_line programs = line (codes "filters" ∷ decimal (length programs) ∷ codes "path"
+    ∷ decimal (path_length programs) ∷ [])
+
+-- the rows that are listed: all rows of the picture, if there is one
+abbrev pub listed_rows : Option PictureData → List RowData
+listed_rows None = []
+listed_rows (Some p) = rows_of p
+
+-- how many rows there are, and how many of them have several answers
+abbrev pub total_line : List RowData → List ℕ
+total_line rows = line (codes "total" ∷ codes "rows" ∷ decimal (length rows) ∷ codes "undetermined"
+    ∷ decimal (count_by is_undetermined rows) ∷ [])
+
+-- the lines before the rows
+abbrev pub head_text : BookData → List ℕ
+head_text b = listing_title ++ (stack_line b.stack ++ counts_line (counts_of b))
+
+-- the whole text
+abbrev pub listing_text : Listed → List ℕ
+listing_text l = head_text l.settled ++ (flat_map (row_line (map answer_words l.answers)) (listed_rows l.picture)
+    ++ total_line (listed_rows l.picture))
+
+-- whether each input lies in a row with one answer
+abbrev pub is_whole_listing : Option PictureData → Bool
+is_whole_listing None = false
+is_whole_listing (Some p) = count_by is_undetermined (rows_of p) == 0

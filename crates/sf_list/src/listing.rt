@@ -1,0 +1,134 @@
+//! The listing of a stack of filter files.
+
+ghost use Rattle.std.specs.Prelude.{◌≡◌, ◌<◌, ◌≤◌, ◌⊎◌, All, Contains, length, map, option_map, IfOk, IfErr, MatchOption};
+ghost use Rattle.std.specs.List.Sorted.{IsNonDecreasingBy};
+ghost use Rattle.sf_audit.specs.Filters.{IsFirstRefusal};
+ghost use Rattle.sf_book.specs.Books.{RegionData};
+ghost use Rattle.sf_list.specs.Answers.{answer_order};
+ghost use Rattle.sf_list.specs.Listings.{IsListing, IsPictured};
+
+use crate::answers::{answers_of, labels_of};
+use sf_audit::{Fault, stack_of};
+use sf_book::Settled;
+use sf_check::Stack;
+use sf_crew::{Gate, explore};
+use sf_picture::{Picture, picture_of};
+use sf_run::Answer;
+use std::alloc::Global;
+use std::marker::Model;
+use std::sync::{Arc, Wait};
+use std::thread::Threads;
+
+/// How an exploration of a stack ended, the answers of its regions, and where no piece is outstanding its picture, whose
+/// labels are places of the answers.
+#[derive(Drop)]
+pub struct Listing {
+    settled: Settled,
+    answers: Vec<Answer>,
+    picture: Option<Picture>,
+}
+
+impl Model for Listing {
+    ghost use Rattle.sf_book.specs.Books.{RegionData};
+    ghost use Rattle.sf_list.specs.Answers.{answer_order};
+    ghost use Rattle.sf_list.specs.Listings.{Listed};
+
+    ghost Value = { Listed };
+
+    ghost view = { λ l. record {
+      settled = l.settled;
+      answers = l.answers.items;
+      picture = l.picture;
+    } };
+}
+
+impl Listing {
+    /// How the exploration ended.
+    pub fn settled(&self) -> &Settled
+        ensures { result.now ≡ self.now.settled }
+    {
+        &self.settled
+    }
+
+    /// The picture, where no piece is outstanding. Its labels are places of the answers.
+    pub fn picture(&self) -> Option<&Picture>
+        ensures { option_map (λ p. p.now) result ≡ self.now.picture }
+    {
+        self.picture.as_ref()
+    }
+
+    /// The answers of the regions, by precedence and then by data.
+    pub fn answers(&self) -> &[Answer]
+        ensures { result.now ≡ self.now.answers }
+    {
+        self.answers.as_slice()
+    }
+}
+
+/// The picture of an exploration by the places of its answers, unless a piece is outstanding. `Memory` where an allocation is
+/// refused.
+fn picture_by(
+    alloc: Global,
+    settled: &Settled,
+    answers: &[Answer],
+    leaves: usize,
+) -> Result<Option<Picture>, Fault>
+    requires each { All (λ (r : RegionData). Contains answers.now r.answer) settled.now.regions }
+    requires order { IsNonDecreasingBy answer_order answers.now }
+    ensures picture { IfOk result (λ p. MatchOption p (0 < length settled.now.outstanding)
+        (IsPictured settled.now answers.now)) }
+    ensures refused { IfErr result (λ e. e ≡ Fault.Memory) }
+{
+    if settled.outstanding_count() > 0 {
+        return Ok(None);
+    }
+    let labels = labels_of(alloc, settled, answers)?;
+    match picture_of(alloc, settled, labels.as_slice(), leaves) {
+        Ok(picture) => Ok(Some(picture)),
+        Err(_) => Err(Fault::Memory),
+    }
+}
+
+/// The listing of an exploration. `Memory` where an allocation is refused.
+fn listing_of(alloc: Global, settled: Settled, leaves: usize) -> Result<Listing, Fault>
+    ensures same { IfOk result (λ l. l.settled ≡ settled) }
+    ensures picture { IfOk result (λ l. MatchOption l.picture (0 < length settled.outstanding)
+        (IsPictured settled l.answers)) }
+    ensures refused { IfErr result (λ e. e ≡ Fault.Memory) }
+{
+    let answers = answers_of(alloc, &settled)?;
+    let picture = picture_by(alloc, &settled, answers.as_slice(), leaves)?;
+    Ok(Listing {
+        settled,
+        answers,
+        picture,
+    })
+}
+
+/// Explores the stack that filter files spell, by at most `budget` works, and draws its picture, with at most so many leaves,
+/// unless a piece is outstanding.
+///
+/// The caller's conditions: a budget from 1 to 1,000,000 and 1 to 64 workers, each a thread of its own where there are more
+/// than one. Refusals: those of `stack_of`. `Memory` can come anywhere. Waits for the workers.
+pub fn list<R: Threads + Wait + Sync, G: Gate>(
+    rt: &R,
+    alloc: Global,
+    filters: &[Vec<u8>],
+    budget: u32,
+    workers: usize,
+    leaves: usize,
+    gate: &G,
+) -> Result<Listing, Fault>
+    requires workers { (0 < workers) × (workers ≤ 64) }
+
+    // The rows' answers are right, on the stack that the files spell.
+    ensures found { IfOk result (IsListing (map (λ f. f.items) filters.now) budget) }
+
+    // Anything else is the first refusal, but for want of memory.
+    ensures refused { IfErr result (λ e. (e ≡ Fault.Memory)
+        ⊎ IsFirstRefusal (map (λ f. f.items) filters.now) e) }
+{
+    let stack = Arc::new(alloc, stack_of(alloc, filters)?)?;
+    let settled = explore(rt, alloc, stack, budget, workers, gate)?;
+    listing_of(alloc, settled, leaves)
+}
