@@ -1,4 +1,4 @@
--- Why an audit or a comparison of files is refused.
+-- Why an audit, a comparison or a listing of files is refused.
 use Rattle.std.proofs.Common.{◌≡◌, ◌⊎◌, ◌∙◌, inl, inr, ℕ, List, None, Option, Bor, Result, Ok, Err, sym, subst}
 use Rattle.std.specs.Prelude.{slice_get, Some}
 use Rattle.std.specs.Result.{IfErr, IsErrAnd}
@@ -10,6 +10,7 @@ use Rattle.sf_audit.specs.Filters.{IsFirstRefusal}
 use Rattle.sf_command.specs.Audits.{IsPolicyFile, RefusesAudit, RefusesPolicyFile}
 use Rattle.sf_command.specs.Comparisons.{AreBothRead, RefusesComparison}
 use Rattle.sf_command.specs.Files.{AreRead, HasUnknown}
+use Rattle.sf_command.specs.Listings.{RefusesListing}
 
 -- what holds of an error holds of it where it is handed on
 pub handed_on : {T E : Type 0} (P : E → Type 0) (r : Result T E) (e : E) → IsErrAnd r (λ y. y ≡ e) → P e → IfErr r P
@@ -85,3 +86,16 @@ pub audit_why : (holds : List ℕ → Option (List ℕ)) (policy : List ℕ) (pa
 audit_why holds policy paths questions files e asked read (inl memory) = inr (inl memory)
 audit_why holds policy paths questions files e asked read (inr why) =
     inr (inr (inr (inr (questions, asked, inr (files, read, why)))))
+
+-- a file of a listing can't be read
+pub unlisted_why : (holds : List ℕ → Option (List ℕ)) (paths : List (Bor (List ℕ))) (e : Fault)
+    → ((e ≡ Read) × HasUnknown holds paths) ⊎ (e ≡ Memory) → RefusesListing holds paths e
+unlisted_why holds paths e (inl read) = inl read
+unlisted_why holds paths e (inr memory) = inr (inr (inl memory))
+
+-- the listing of what the files hold is refused
+pub listing_why : (holds : List ℕ → Option (List ℕ)) (paths : List (Bor (List ℕ))) (files : List (List ℕ)) (e : Fault)
+    → AreRead holds paths files → (e ≡ Memory) ⊎ IsFirstRefusal files e
+    → RefusesListing holds paths e
+listing_why holds paths files e read (inl memory) = inr (inr (inl memory))
+listing_why holds paths files e read (inr why) = inr (inr (inr (files, read, why)))

@@ -63,55 +63,67 @@ first_of_four p w x y z s found = go (p w) refl
     go true is = let h : Some w ≡ Some s = rw is at found in inl cc
     go false is = inr (first_of_three p x y z s (rw is at found))
 
--- a subcommand that was entered has the name of one of the four
-pub entered_name : (a : App) (w x y z : Shape) → a.subs ≡ w ∷ x ∷ y ∷ z ∷ [] → (stop : Option (Text × List Text))
+-- the first of five
+first_of_five : (p : Shape → Bool) (v w x y z s : Shape) → find p (v ∷ w ∷ x ∷ y ∷ z ∷ []) ≡ Some s
+    → (s ≡ v) ⊎ (s ≡ w) ⊎ (s ≡ x) ⊎ (s ≡ y) ⊎ (s ≡ z)
+first_of_five p v w x y z s found = go (p v) refl
+  where
+    go : (b : Bool) → p v ≡ b → (s ≡ v) ⊎ (s ≡ w) ⊎ (s ≡ x) ⊎ (s ≡ y) ⊎ (s ≡ z)
+    go true is = let h : Some v ≡ Some s = rw is at found in inl cc
+    go false is = inr (first_of_four p w x y z s (rw is at found))
+
+-- a subcommand that was entered has the name of one of the five
+pub entered_name : (a : App) (v w x y z : Shape) → a.subs ≡ v ∷ w ∷ x ∷ y ∷ z ∷ [] → (stop : Option (Text × List Text))
     → is_some (entered a stop) ≡ true
     → (found : Text × List Row) × (entered a stop ≡ Some found)
-    × ((found.0 ≡ w.name) ⊎ (found.0 ≡ x.name) ⊎ (found.0 ≡ y.name) ⊎ (found.0 ≡ z.name))
-entered_name a w x y z subs None some = cc
-entered_name a w x y z subs (Some p) some = go (find (λ s. answers_to p.0 (label_of s)) a.subs) refl some
+    × ((found.0 ≡ v.name) ⊎ (found.0 ≡ w.name) ⊎ (found.0 ≡ x.name) ⊎ (found.0 ≡ y.name) ⊎ (found.0 ≡ z.name))
+entered_name a v w x y z subs None some = cc
+entered_name a v w x y z subs (Some p) some = go (find (λ s. answers_to p.0 (label_of s)) a.subs) refl some
   where
-    named : (s : Shape) → (s ≡ w) ⊎ (s ≡ x) ⊎ (s ≡ y) ⊎ (s ≡ z)
-        → (s.name ≡ w.name) ⊎ (s.name ≡ x.name) ⊎ (s.name ≡ y.name) ⊎ (s.name ≡ z.name)
+    named : (s : Shape) → (s ≡ v) ⊎ (s ≡ w) ⊎ (s ≡ x) ⊎ (s ≡ y) ⊎ (s ≡ z)
+        → (s.name ≡ v.name) ⊎ (s.name ≡ w.name) ⊎ (s.name ≡ x.name) ⊎ (s.name ≡ y.name) ⊎ (s.name ≡ z.name)
     named s (inl is) = inl (ap (λ (t : Shape). t.name) is)
     named s (inr (inl is)) = inr (inl (ap (λ (t : Shape). t.name) is))
     named s (inr (inr (inl is))) = inr (inr (inl (ap (λ (t : Shape). t.name) is)))
-    named s (inr (inr (inr is))) = inr (inr (inr (ap (λ (t : Shape). t.name) is)))
+    named s (inr (inr (inr (inl is)))) = inr (inr (inr (inl (ap (λ (t : Shape). t.name) is))))
+    named s (inr (inr (inr (inr is)))) = inr (inr (inr (inr (ap (λ (t : Shape). t.name) is))))
 
     go : (o : Option Shape) → find (λ s. answers_to p.0 (label_of s)) a.subs ≡ o
         → is_some (option_map (λ s. rows_at s p.1) o) ≡ true
         → (found : Text × List Row) × (option_map (λ s. rows_at s p.1)
         (find (λ s. answers_to p.0 (label_of s)) a.subs) ≡ Some found)
-        × ((found.0 ≡ w.name) ⊎ (found.0 ≡ x.name) ⊎ (found.0 ≡ y.name) ⊎ (found.0 ≡ z.name))
+        × ((found.0 ≡ v.name) ⊎ (found.0 ≡ w.name) ⊎ (found.0 ≡ x.name) ⊎ (found.0 ≡ y.name) ⊎ (found.0 ≡ z.name))
     go None is h = cc
     go (Some s) is h = (
       rows_at s p.1,
       ap (option_map (λ t. rows_at t p.1)) is,
-      named s (first_of_four (λ t. answers_to p.0 (label_of t)) w x y z s (rw subs at is)),
+      named s (first_of_five (λ t. answers_to p.0 (label_of t)) v w x y z s (rw subs at is)),
     )
 
--- words that fit the form of the program name one of its four subcommands
+-- words that fit the form of the program name one of its five subcommands
 pub known_subcommand : (words : List Text) → errors_at words ≡ [] → IsKnown (subcommand_at words)
 unfolding command_line errors_at subcommand_at
 known_subcommand words fits =
     let a = built command_line in
-    entered_name a _ _ _ _ refl (stop_after a.top.rules (names_of a) (argument_words command_line words))
+    entered_name a _ _ _ _ _ refl (stop_after a.top.rules (names_of a) (argument_words command_line words))
     (needs_subcommand a (argument_words command_line words) refl fits)
 
--- where a subcommand's name is none of the four, none of the four is named
+-- where a subcommand's name is none of the five, none of the five is named
 pub unknown_name : (o : Option (Text × List Row)) (name : Text) (rows : List Row) → o ≡ Some (name, rows)
     → ¬ (name ≡ codes "audit") → ¬ (name ≡ codes "check") → ¬ (name ≡ codes "eval")
-    → ¬ (name ≡ codes "compare") → ¬ IsKnown o
-unknown_name o name rows is no_audit no_check no_eval no_compare (found, met, inl audit) =
+    → ¬ (name ≡ codes "compare") → ¬ (name ≡ codes "list") → ¬ IsKnown o
+unknown_name o name rows is no_audit no_check no_eval no_compare no_list (found, met, inl audit) =
     no_audit (ap (λ (p : Option (Text × List Row)). (unwrap_or p found).0) (sym is ∙ met) ∙ audit)
-unknown_name o name rows is no_audit no_check no_eval no_compare (found, met, inr (inl check)) =
+unknown_name o name rows is no_audit no_check no_eval no_compare no_list (found, met, inr (inl check)) =
     no_check (ap (λ (p : Option (Text × List Row)). (unwrap_or p found).0) (sym is ∙ met) ∙ check)
-unknown_name o name rows is no_audit no_check no_eval no_compare (found, met, inr (inr (inl eval))) =
+unknown_name o name rows is no_audit no_check no_eval no_compare no_list (found, met, inr (inr (inl eval))) =
     no_eval (ap (λ (p : Option (Text × List Row)). (unwrap_or p found).0) (sym is ∙ met) ∙ eval)
-unknown_name o name rows is no_audit no_check no_eval no_compare (found, met, inr (inr (inr compare))) =
+unknown_name o name rows is no_audit no_check no_eval no_compare no_list (found, met, inr (inr (inr (inl compare)))) =
     no_compare (ap (λ (p : Option (Text × List Row)). (unwrap_or p found).0) (sym is ∙ met) ∙ compare)
+unknown_name o name rows is no_audit no_check no_eval no_compare no_list (found, met, inr (inr (inr (inr list)))) =
+    no_list (ap (λ (p : Option (Text × List Row)). (unwrap_or p found).0) (sym is ∙ met) ∙ list)
 
--- where there is no name, none of the four is named
+-- where there is no name, none of the five is named
 pub no_name : {X : Type 0} (f : X → Text) (g : X → List Row) (o : Option X) → None ≡ option_map f o
     → ¬ IsKnown (option_map {U = Text × List Row} (λ x. (f x, g x)) o)
 no_name f g None none (found, met, name) = cc

@@ -73,6 +73,15 @@ compare_line = with_rule (with_rule (with_rule (with_rule (with_rule (with_rule 
     (switch_rule (codes "same")))
     (switch_rule (codes "explain-errors"))
 
+-- `list [--budget N] [--workers N] [--leaves N] [--explain-errors] FILTER..`
+abbrev pub list_line : App
+list_line = with_rule (with_rule (with_rule (with_rule (with_rule (new_app (codes "list"))
+    (number_rule (codes "budget") 1000000 (codes "100000")))
+    (number_rule (codes "workers") 64 (codes "4")))
+    (number_rule (codes "leaves") 1000000 (codes "20000")))
+    (switch_rule (codes "explain-errors")))
+    filters_rule
+
 -- The program without its subcommands: the words begin behind its name, one of them must be a subcommand, `help` is
 -- none, and there is a version.
 abbrev pub program_line : App
@@ -85,8 +94,8 @@ program_line = let new = new_app (codes "seccomp_audit") in record new {
   };
 }
 
--- the whole command line: the program with its four subcommands
+-- the whole command line: the program with its five subcommands
 unfoldable pub command_line : App
 command_line =
-    with_subcommand (with_subcommand (with_subcommand (with_subcommand program_line audit_line.top) check_line.top)
-    eval_line.top) compare_line.top
+    with_subcommand (with_subcommand (with_subcommand (with_subcommand (with_subcommand program_line audit_line.top)
+    check_line.top) eval_line.top) compare_line.top) list_line.top

@@ -6,5 +6,6 @@ pub mod Outputs
 pub mod Status
 pub mod Audits
 pub mod Comparisons
+pub mod Listings
 pub mod CommandLine
 pub mod Runs

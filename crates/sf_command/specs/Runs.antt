@@ -13,6 +13,7 @@ use Rattle.sf_compare.specs.declared.relation.Relation.TheVariants.{Looser, Diff
 use Rattle.sf_command.specs.Audits.{AuditsFiles, RefusesAudit}
 use Rattle.sf_command.specs.CommandLine.{command_line}
 use Rattle.sf_command.specs.Comparisons.{ComparesFiles, RefusesComparison}
+use Rattle.sf_command.specs.Listings.{ListsFiles, RefusesListing}
 use Rattle.sf_command.specs.Outputs.{ChecksFiles, EvaluatesFiles, RefusesCheck, RefusesEval}
 
 -- the errors that `clap` may give for the words; none where the words fit the form
@@ -98,19 +99,28 @@ module _ (holds : Text → Option Text) (rows : List Row) (status : ℕ) (old ne
     pub switched : IsAskedRelation (one_of (codes "same") rows) asked
     pub compared : ComparesFiles holds old_paths new_paths budget asked status old new
 
--- one of the four subcommands is named
+  -- the files that are named were listed
+  pub record Lists : Type 0 where
+    pub paths : List (Bor Text)
+    pub named : ArePaths (codes "filters") rows paths
+    pub budget : ℕ
+    pub counted : IsOptionNumber (one_of (codes "budget") rows) 1000000 100000 budget
+    pub listed : ListsFiles holds paths budget status old new
+
+-- one of the five subcommands is named
 abbrev pub IsKnown : Option (Text × List Row) → Type 0
 IsKnown named =
     (found : Text × List Row) × (named ≡ Some found)
     × ((found.0 ≡ codes "audit") ⊎ (found.0 ≡ codes "check") ⊎ (found.0 ≡ codes "eval")
-    ⊎ (found.0 ≡ codes "compare"))
+    ⊎ (found.0 ≡ codes "compare") ⊎ (found.0 ≡ codes "list"))
 
--- one of the four subcommands is named, and what belongs to its name holds of the values of its arguments
-abbrev pub ByName : (audit check eval compare : List Row → Type 0) → Option (Text × List Row) → Type 0
-ByName audit check eval compare named =
+-- one of the five subcommands is named, and what belongs to its name holds of the values of its arguments
+abbrev pub ByName : (audit check eval compare list : List Row → Type 0) → Option (Text × List Row) → Type 0
+ByName audit check eval compare list named =
     (found : Text × List Row) × (named ≡ Some found)
     × (((found.0 ≡ codes "audit") × audit found.1) ⊎ ((found.0 ≡ codes "check") × check found.1)
-    ⊎ ((found.0 ≡ codes "eval") × eval found.1) ⊎ ((found.0 ≡ codes "compare") × compare found.1))
+    ⊎ ((found.0 ≡ codes "eval") × eval found.1) ⊎ ((found.0 ≡ codes "compare") × compare found.1)
+    ⊎ ((found.0 ≡ codes "list") × list found.1))
 
 -- what was done is what the named subcommand asks for
 abbrev pub RunsAs : (Text → Option Text) → Option (Text × List Row) → ℕ → Option Text → Option Text → Type 0
@@ -119,6 +129,7 @@ RunsAs holds named status old new = ByName
     (λ rows. Checks holds rows status old new)
     (λ rows. Evaluates holds rows status old new)
     (λ rows. Compares holds rows status old new)
+    (λ rows. Lists holds rows status old new)
     named
 
 -- some text was written
@@ -155,6 +166,7 @@ RefusesAs holds named fault = ByName
     (λ rows. OnPaths (codes "filters") rows (λ paths. RefusesEval (text_of (codes "input") rows) holds paths fault))
     (λ rows. OnPaths (codes "old") rows (λ old. OnPaths (codes "new") rows
     (λ new. RefusesComparison holds old new fault)))
+    (λ rows. OnPaths (codes "filters") rows (λ paths. RefusesListing holds paths fault))
     named
 
 -- Why what the words ask for is refused. Memory can run out at any time, and writing can fail even for help; the other

@@ -1,5 +1,5 @@
 -- Exit statuses of the program.
-use Rattle.std.specs.Prelude.{ℕ, List, nat_lt, count_by, if◌then◌else◌}
+use Rattle.std.specs.Prelude.{ℕ, Bool, List, nat_lt, count_by, if◌then◌else◌}
 use Rattle.sf_ask.specs.declared.verdict.Reply.{Reply}
 use Rattle.sf_audit.specs.Reports.{is_allowed, is_unsettled}
 use Rattle.sf_compare.specs.declared.changes.Change.{Change}
@@ -21,3 +21,7 @@ abbrev pub change_status : Change → ℕ
 change_status Never = 0
 change_status (Allowed example) = 1
 change_status Unsettled = 2
+
+-- the status of a listing: 0 where each input lies in a row with one answer, and else 2
+abbrev pub listing_status : Bool → ℕ
+listing_status whole = if whole then 0 else 2

@@ -5,8 +5,9 @@ ghost use Rattle.sf_audit.specs.Faults.{fault_number};
 ghost use Rattle.sf_audit.specs.declared.fault.Fault.TheVariants.{Memory as MemoryFault, Write as WriteFault};
 ghost use Rattle.sf_command.specs.Audits.{RefusesAudit};
 ghost use Rattle.sf_command.specs.Comparisons.{RefusesComparison};
+ghost use Rattle.sf_command.specs.Listings.{RefusesListing};
 ghost use Rattle.sf_command.specs.Outputs.{RefusesCheck, RefusesEval};
-ghost use Rattle.sf_command.specs.Runs.{Audits, Checks, Compares, Evaluates, RunsAs, IsKnown, IsHelp, DoesAsTold, OnPaths, RefusesAs, RefusesAsTold, WritesText, errors_at, text_of};
+ghost use Rattle.sf_command.specs.Runs.{Audits, Checks, Compares, Evaluates, RunsAs, IsKnown, IsHelp, Lists, DoesAsTold, OnPaths, RefusesAs, RefusesAsTold, WritesText, errors_at, text_of};
 ghost use Rattle.sf_command.specs.Status.{fault_status};
 
 use crate::auditing::{Options, audit};
@@ -14,7 +15,8 @@ use crate::checking::{check, evaluate, print};
 use crate::comparing::{Terms, compare};
 use crate::explaining::Notes;
 use crate::files::Files;
-use crate::options::{asked_of, brief_of, budget_of, regions_of, text_of, traced_of, workers_of};
+use crate::listing::{Limits, list};
+use crate::options::{asked_of, brief_of, budget_of, leaves_of, regions_of, text_of, traced_of, workers_of};
 use crate::telling::tell;
 use crate::words;
 use clap::ArgMatches;
@@ -121,7 +123,32 @@ fn run_compare<R: Threads + Wait + Sync, F: Files, O: Write>(
     compare(rt, alloc, old, new, terms, files, notes, out)
 }
 
-/// Runs the subcommand that the command line names, and gives its exit status; 4 where it names none of the four.
+/// Lists as the matches of the subcommand say.
+fn run_list<R: Threads + Wait + Sync, F: Files, O: Write>(
+    rt: &R,
+    alloc: Global,
+    found: &ArgMatches<'_>,
+    files: &mut F,
+    notes: &mut Notes,
+    out: &mut O,
+) -> Result<u8, Fault>
+    ensures done { IfOk result (λ s. Lists (F.holds files.old) (rows_of (found_of found.now)) s
+        (O.contents out.old) (O.contents out.new)) }
+    ensures status { IfOk result (λ s. s ≤ 2) }
+    ensures quiet { IfErr result (λ e. (e ≡ WriteFault) ⊎ (out.new ≡ out.old)) }
+    ensures refused { IfErr result (λ e. OnPaths (codes "filters") (rows_of (found_of found.now))
+        (λ paths. RefusesListing (F.holds files.old) paths e)) }
+{
+    let paths = found.get_strs("filters").unwrap_or(&[]);
+    let limits = Limits {
+        budget: budget_of(found),
+        workers: workers_of(found),
+        leaves: leaves_of(found),
+    };
+    list(rt, alloc, paths, limits, files, notes, out)
+}
+
+/// Runs the subcommand that the command line names, and gives its exit status; 4 where it names none of the five.
 fn run<R: Threads + Wait + Sync, F: Files, O: Write>(
     rt: &R,
     alloc: Global,
@@ -147,6 +174,7 @@ fn run<R: Threads + Wait + Sync, F: Files, O: Write>(
         "check" => run_check(alloc, found, files, notes, out),
         "eval" => run_eval(alloc, found, files, notes, out),
         "compare" => run_compare(rt, alloc, found, files, notes, out),
+        "list" => run_list(rt, alloc, found, files, notes, out),
         _ => Ok(4),
     }
 }
@@ -219,9 +247,10 @@ fn reply<R: Threads + Wait + Sync, F: Files, O: Write, E: Write>(
 
 /// Does what the words after the program's name ask for, and gives the exit status:
 ///
-/// - 0: done; after an audit each question is never, and after a comparison the relation that is asked for is never.
+/// - 0: done; after an audit each question is never, after a comparison the relation that is asked for is never, and after a
+///   listing each row has one answer.
 /// - 1: some question of an audit, or the relation that is asked for, is allowed.
-/// - 2: none is allowed, and some is unsettled.
+/// - 2: none is allowed, and some is unsettled; after a listing some row has several answers, or the budget was spent.
 /// - 3: the filters, the policy or the input are refused. Standard output is left as it was.
 /// - 4: the command line is refused. No file was read, standard output is left as it was, and standard error has the
 ///   text of `clap`.

@@ -7,6 +7,7 @@ mod comparing;
 mod dispatch;
 mod explaining;
 mod files;
+mod listing;
 mod loaded;
 mod meanings;
 mod options;

@@ -84,3 +84,11 @@ pub fn explains_of(found: &ArgMatches<'_>) -> bool
 {
     is_on(found, "explain-errors")
 }
+
+/// The most leaves of a picture that are drawn.
+pub fn leaves_of(found: &ArgMatches<'_>) -> u32
+    ensures { IsOptionNumber (one_of (codes "leaves") (rows_of (found_of found.now)))
+        1000000 20000 result }
+{
+    found.get_one::<u32>("leaves").unwrap_or(20_000)
+}

@@ -2,7 +2,7 @@
 
 ghost use Rattle.std.specs.Prelude.{◌≡◌};
 ghost use Rattle.sf_audit.specs.Faults.{fault_number};
-ghost use Rattle.sf_command.specs.Status.{change_status, fault_status, replies_status};
+ghost use Rattle.sf_command.specs.Status.{change_status, fault_status, listing_status, replies_status};
 
 use sf_ask::Reply;
 use sf_audit::{Fault, count_allowed, count_unsettled};
@@ -40,4 +40,11 @@ pub fn status_of_change(change: Change) -> u8
         Change::Allowed(_) => 1,
         Change::Unsettled => 2,
     }
+}
+
+/// The status of a listing: 0 where each input lies in a row with one answer, and else 2.
+pub fn status_of_listing(whole: bool) -> u8
+    ensures { result ≡ listing_status whole }
+{
+    if whole { 0 } else { 2 }
 }

@@ -1,7 +1,7 @@
 //! The form of the command line: its subcommands, and the options of each.
 ghost use Rattle.std.specs.Prelude.{◌≡◌, ℕ, IfOk, codes, false};
 ghost use Rattle.clap.specs.Words.{app_of, rule_of};
-ghost use Rattle.sf_command.specs.CommandLine.{audit_line, check_line, command_line, compare_line, eval_line, files_rule, filters_rule, needed_rule, number_rule, option_rule, program_line, switch_rule};
+ghost use Rattle.sf_command.specs.CommandLine.{audit_line, check_line, command_line, compare_line, eval_line, files_rule, filters_rule, list_line, needed_rule, number_rule, option_rule, program_line, switch_rule};
 
 use clap::{Arg, ArgAction, Command, value_parser};
 use std::alloc::{AllocError, Global};
@@ -11,9 +11,9 @@ const VERSION: &str = "1.0.0";
 
 /// What stands at the end of `--help`.
 const AFTER_HELP: &str = "Exit status:
-  0  every question is never; compare: looser is never; check, eval and help: done
+  0  every question is never; compare: looser is never; list: each row has one answer; check, eval and help: done
   1  some question is allowed; compare: looser is allowed
-  2  some question is unsettled, and none allowed; compare: looser is unsettled
+  2  some question is unsettled, and none allowed; compare: looser is unsettled; list: a row has several answers
   3  a filter, the stack, the policy or the input is refused
   4  the command line is refused
   5  a file can't be read, standard output can't be written, or memory ran out
@@ -24,6 +24,7 @@ Limits:
   1 to 256 questions of a policy
   1 to 1000000 pieces that are worked on (--budget), 100000 if not given
   1 to 64 workers (--workers), 4 if not given: 1 is as fast, and answers more under a budget
+  1 to 1000000 leaves of a list (--leaves), 20000 if not given
   1048576 bytes of a file
 
 Errors:
@@ -80,6 +81,18 @@ fn workers<'a>(alloc: Global) -> Arg<'a>
         .value_parser(numbers)
         .default_value("4")
         .help("The number of workers, 1 to 64: 1 is as fast, and answers more under a budget")
+}
+
+/// `--leaves`: how many leaves of a picture are drawn at most.
+fn leaves<'a>(alloc: Global) -> Arg<'a>
+    ensures rule { rule_of result ≡ number_rule (codes "leaves") 1000000 (codes "20000") }
+    ensures own { result.global ≡ false }
+{
+    let numbers = value_parser!(u32).range(1..=1_000_000);
+    option(alloc, "leaves", "N")
+        .value_parser(numbers)
+        .default_value("20000")
+        .help("The most leaves that are drawn, 1 to 1000000")
 }
 
 /// `--regions`: whether a report lists the settled regions.
@@ -214,6 +227,19 @@ fn compare<'a>(alloc: Global) -> Result<Command<'a>, AllocError>
         .arg(explain(alloc))
 }
 
+/// What `list` takes.
+fn list<'a>(alloc: Global) -> Result<Command<'a>, AllocError>
+    ensures { IfOk result (λ c. app_of c ≡ list_line) }
+{
+    Command::new(alloc, "list")
+        .about("List for all inputs what a stack of filters answers")
+        .arg(budget(alloc))?
+        .arg(workers(alloc))?
+        .arg(leaves(alloc))?
+        .arg(explain(alloc))?
+        .arg(filters(alloc))
+}
+
 /// The program without its subcommands.
 fn program<'a>(alloc: Global) -> Result<Command<'a>, AllocError>
     ensures { IfOk result (λ c. app_of c ≡ program_line) }
@@ -240,5 +266,6 @@ pub(crate) fn form<'a>(alloc: Global) -> Result<Command<'a>, AllocError>
         .subcommand(audit(alloc)?)?
         .subcommand(check(alloc)?)?
         .subcommand(eval(alloc)?)?
-        .subcommand(compare(alloc)?)
+        .subcommand(compare(alloc)?)?
+        .subcommand(list(alloc)?)
 }

@@ -33,7 +33,7 @@ returns-in-compare-clause-done g c = IfOk-weaker c.run_compare.result _ _
     (λ s done small. (
       (_, _),
       joined _ _ _ _ _ c.in-Some.ensures.name c.in-Some.ensures.rows,
-      inr (inr (inr (c.in-compare.is, done))),
+      inr (inr (inr (inl (c.in-compare.is, done)))),
     )) c.run_compare.ensures.done
 
 pub returns-in_default-clause-usage : goal.returns-in_default-clause-usage
@@ -43,7 +43,7 @@ pub returns-in_default-name-clause-usage : goal.returns-in_default-name-clause-u
 returns-in_default-name-clause-usage g c four = (
   unknown_name _ _ _ (joined _ _ _ _ _ c.in-Some.ensures.name c.in-Some.ensures.rows)
       c.in_default-name.not-audit c.in_default-name.not-check c.in_default-name.not-eval
-      c.in_default-name.not-compare,
+      c.in_default-name.not-compare c.in_default-name.not-list,
   refl,
   refl,
 )
@@ -72,5 +72,21 @@ returns-in-compare-clause-refused g c = IfErr-weaker c.run_compare.result _ _
     (λ e why. (
       (_, _),
       joined _ _ _ _ _ c.in-Some.ensures.name c.in-Some.ensures.rows,
-      inr (inr (inr (c.in-compare.is, why))),
+      inr (inr (inr (inl (c.in-compare.is, why)))),
     )) c.run_compare.ensures.refused
+
+pub returns-in-list-clause-done : goal.returns-in-list-clause-done
+returns-in-list-clause-done g c = IfOk-weaker c.run_list.result _ _
+    (λ s done small. (
+      (_, _),
+      joined _ _ _ _ _ c.in-Some.ensures.name c.in-Some.ensures.rows,
+      inr (inr (inr (inr (c.in-list.is, done)))),
+    )) c.run_list.ensures.done
+
+pub returns-in-list-clause-refused : goal.returns-in-list-clause-refused
+returns-in-list-clause-refused g c = IfErr-weaker c.run_list.result _ _
+    (λ e why. (
+      (_, _),
+      joined _ _ _ _ _ c.in-Some.ensures.name c.in-Some.ensures.rows,
+      inr (inr (inr (inr (c.in-list.is, why)))),
+    )) c.run_list.ensures.refused

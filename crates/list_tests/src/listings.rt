@@ -1,0 +1,301 @@
+//! Listings of small stacks, worked by hand.
+use samples::{ALLOW, op, raw};
+use sf_crew::Open;
+use sf_insn::{Input, RawInsn};
+use sf_list::{list, write_listing};
+use sf_picture::{Branch, Picture};
+use sf_run::answer;
+use std::alloc::Global;
+use std::sync::Wait;
+use std::test::Fail;
+use std::thread::Threads;
+
+/// The bytes of a filter file.
+fn bytes_of(alloc: Global, insns: &[RawInsn]) -> Result<Vec<u8>, Fail> {
+    let mut bytes = Vec::new(alloc);
+    for insn in insns {
+        bytes.extend_from_slice(&insn.code.to_le_bytes())?;
+        bytes.push(insn.jt)?;
+        bytes.push(insn.jf)?;
+        bytes.extend_from_slice(&insn.k.to_le_bytes())?;
+    }
+    Ok(bytes)
+}
+
+/// The text of the listing of one filter.
+fn listed<R: Threads + Wait + Sync>(
+    rt: &R,
+    alloc: Global,
+    insns: &[RawInsn],
+    leaves: usize,
+) -> Result<String, Fail> {
+    let mut files = Vec::new(alloc);
+    files.push(bytes_of(alloc, insns)?)?;
+    let listing = match list(rt, alloc, files.as_slice(), 1000, 1, leaves, &Open) {
+        Ok(listing) => listing,
+        Err(_) => return Err("refused".into()),
+    };
+    let mut out: Vec<u8> = Vec::new(alloc);
+    match write_listing(alloc, &listing, &mut out) {
+        Ok(_) => {}
+        Err(_) => return Err("not written".into()),
+    }
+    match String::from_utf8(out) {
+        Ok(text) => Ok(text),
+        Err(_) => Err("no text".into()),
+    }
+}
+
+#[test]
+fn a_profile_of_x86_64(rt: HostRuntime) -> Result<(), Fail> {
+    let text = listed(
+        &rt,
+        rt.alloc(),
+        &[
+            op(0x20, 4),
+            raw(0x15, 1, 0, 0xC000003E),
+            op(0x06, 0x80000000),
+            op(0x20, 0),
+            raw(0x35, 0, 1, 0x40000000),
+            op(0x06, 0x80000000),
+            raw(0x15, 0, 1, 59),
+            op(0x06, 0x50001),
+            raw(0x15, 0, 3, 16),
+            op(0x20, 24),
+            raw(0x15, 0, 1, 0x5412),
+            op(0x06, 0x50001),
+            ALLOW,
+        ],
+        20000,
+    )?;
+    assert_eq!(rt;
+        text.as_str(),
+        "seccomp_audit list 1
+filters 1 path 13
+regions 6 open 0 emptied 0 splits 5 commits 11
+arch 0xC000003E nr 0..15 ALLOW 0
+arch 0xC000003E nr 16 ERRNO 1 if arg1_lo = 0x5412
+arch 0xC000003E nr 16 ALLOW 0 if arg1_lo != 0x5412
+arch 0xC000003E nr 17..58 ALLOW 0
+arch 0xC000003E nr 59 ERRNO 1
+arch 0xC000003E nr 60..0x3FFFFFFF ALLOW 0
+arch 0xC000003E nr 0x40000000..0xFFFFFFFF KILL_PROCESS 0
+arch != 0xC000003E nr any KILL_PROCESS 0
+total rows 8 undetermined 0
+"
+    );
+    Ok(())
+}
+
+#[test]
+fn bits_of_an_argument(rt: HostRuntime) -> Result<(), Fail> {
+    let text = listed(
+        &rt,
+        rt.alloc(),
+        &[
+            op(0x20, 0),
+            raw(0x15, 0, 3, 56),
+            op(0x20, 16),
+            raw(0x45, 0, 1, 0x7E020000),
+            op(0x06, 0x50001),
+            ALLOW,
+        ],
+        20000,
+    )?;
+    assert_eq!(rt;
+        text.as_str(),
+        "seccomp_audit list 1
+filters 1 path 6
+regions 3 open 0 emptied 0 splits 2 commits 5
+arch any nr 0..55 ALLOW 0
+arch any nr 56 ALLOW 0 if arg0_lo & 0x7E020000 = 0x0
+arch any nr 56 ERRNO 1 if arg0_lo & 0x7E020000 != 0x0
+arch any nr 57..0xFFFFFFFF ALLOW 0
+total rows 4 undetermined 0
+"
+    );
+    Ok(())
+}
+
+#[test]
+fn a_word_against_a_word(rt: HostRuntime) -> Result<(), Fail> {
+    let text = listed(
+        &rt,
+        rt.alloc(),
+        &[
+            op(0x20, 16),
+            op(0x07, 0),
+            op(0x20, 24),
+            raw(0x2d, 0, 1, 0),
+            op(0x06, 0x50001),
+            ALLOW,
+        ],
+        20000,
+    )?;
+    assert_eq!(rt;
+        text.as_str(),
+        "seccomp_audit list 1
+filters 1 path 6
+regions 2 open 0 emptied 0 splits 1 commits 3
+arch any nr any ERRNO 1 | ALLOW 0
+total rows 1 undetermined 1
+"
+    );
+    Ok(())
+}
+
+#[test]
+fn a_difference(rt: HostRuntime) -> Result<(), Fail> {
+    let text = listed(
+        &rt,
+        rt.alloc(),
+        &[
+            op(0x20, 0),
+            op(0x14, 59),
+            raw(0x15, 0, 1, 0),
+            op(0x06, 0x50001),
+            ALLOW,
+        ],
+        20000,
+    )?;
+    assert_eq!(rt;
+        text.as_str(),
+        "seccomp_audit list 1
+filters 1 path 5
+regions 2 open 0 emptied 0 splits 1 commits 3
+arch any nr 0..58 ALLOW 0
+arch any nr 59 ERRNO 1
+arch any nr 60..0xFFFFFFFF ALLOW 0
+total rows 3 undetermined 0
+"
+    );
+    Ok(())
+}
+
+/// The next number of a sequence that looks random.
+fn random(state: &mut u64) -> u32 {
+    *state = state
+        .wrapping_mul(6364136223846793005)
+        .wrapping_add(1442695040888963407);
+    ((*state >> 33) & 0xffffffff) as u32
+}
+
+/// A number near those that the programs below test.
+fn near(state: &mut u64) -> u32 {
+    let few = random(state) % 6;
+    match random(state) % 5 {
+        0 => few,
+        1 => 59u32.wrapping_add(few).wrapping_sub(2),
+        2 => 0x40000000u32.wrapping_add(few).wrapping_sub(2),
+        3 => random(state) & 0xf0f0,
+        _ => random(state),
+    }
+}
+
+/// A random program of tests of a few words, with masks, sums and shifts: each path ends in one of four answers.
+fn random_program(alloc: Global, state: &mut u64) -> Result<Vec<RawInsn>, Fail> {
+    let mut insns = Vec::new(alloc);
+    let tests = 2 + random(state) % 6;
+    for _ in 0..tests {
+        let word = match random(state) % 4 {
+            0 => 0,
+            1 => 4,
+            2 => 16,
+            _ => 24,
+        };
+        insns.push(op(0x20, word))?;
+        match random(state) % 8 {
+            0 => insns.push(op(0x54, near(state)))?,
+            1 => insns.push(op(0x14, random(state) % 100))?,
+            2 => insns.push(op(0x54, 1 << (random(state) % 32)))?,
+            3 => {
+                insns.push(op(0x54, near(state)))?;
+                insns.push(op(0x54, near(state)))?;
+            }
+            4 => insns.push(op(0x74, random(state) % 8))?,
+            _ => {}
+        }
+        let code = match random(state) % 4 {
+            0 => 0x15,
+            1 => 0x25,
+            2 => 0x35,
+            _ => 0x45,
+        };
+        let number = near(state);
+        let answer = match random(state) % 3 {
+            0 => 0x50001,
+            1 => 0x80000000,
+            _ => 0x50002,
+        };
+        insns.push(raw(code, 0, 1, number))?;
+        insns.push(op(0x06, answer))?;
+    }
+    insns.push(ALLOW)?;
+    Ok(insns)
+}
+
+/// The leaf of a picture to which an input is led, as its labels.
+fn labels_at<'a>(picture: &'a Picture, input: &Input) -> Option<&'a [usize]> {
+    let mut at = picture.root();
+    for _ in 0..1000 {
+        match at {
+            Branch::Leaf(place) => {
+                if place >= picture.leaf_count() {
+                    return None;
+                }
+                return Some(picture.leaf(place));
+            }
+            Branch::Fork(place) => {
+                if place >= picture.fork_count() {
+                    return None;
+                }
+                let fork = picture.fork(place);
+                let axis = fork.axis();
+                let number = *input.words.get(axis.word)? & axis.mask;
+                at = fork.runs().iter().find(|run| number <= run.last)?.next;
+            }
+        }
+    }
+    None
+}
+
+#[test]
+fn random_inputs_of_random_programs(rt: HostRuntime) -> Result<(), Fail> {
+    let alloc = rt.alloc();
+    let mut state = 20261126u64;
+    let mut undetermined = 0u64;
+    let mut inputs = 0u64;
+    for _ in 0..400 {
+        let program = random_program(alloc, &mut state)?;
+        let mut files = Vec::new(alloc);
+        files.push(bytes_of(alloc, program.as_slice())?)?;
+        let listing = match list(&rt, alloc, files.as_slice(), 10000, 1, 20000, &Open) {
+            Ok(listing) => listing,
+            Err(_) => return Err("refused".into()),
+        };
+        assert_eq!(rt; listing.settled().outstanding_count(), 0);
+        for _ in 0..200 {
+            let mut words = [0; 16];
+            for word in 0..8 {
+                words[word] = near(&mut state);
+            }
+            let input = Input { words };
+            let told = answer(listing.settled().stack(), &input);
+            let picture = listing.picture().ok_or("no picture")?;
+            let labels = labels_at(picture, &input).ok_or("no leaf")?;
+            let mut found = false;
+            for label in labels {
+                if listing.answers().get(*label).copied() == Some(told) {
+                    found = true;
+                }
+            }
+            assert!(rt; found);
+            inputs = inputs.wrapping_add(1);
+            if labels.len() > 1 {
+                undetermined = undetermined.wrapping_add(1);
+            }
+        }
+    }
+    println!(rt; "{inputs} inputs, {undetermined} undetermined")?;
+    Ok(())
+}

@@ -1,0 +1,5 @@
+//! Tests of pictures of explorations.
+#![tactic(auto)]
+
+#[cfg(test)]
+mod pictures;

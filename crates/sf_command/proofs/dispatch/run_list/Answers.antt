@@ -1,0 +1,23 @@
+use Rattle.std.proofs.Common.{codes, refl}
+use Rattle.std.proofs.lemmas.Result.{IfErr-weaker, IfOk-weaker}
+use Rattle.clap.specs.Words.{found_of}
+use Rattle.sf_command.proofs.CommandLineLemmas.{paths_found}
+use Rattle.sf_command.proofs.dispatch.run_list.Goals as goal
+
+pub returns-clause-done : goal.returns-clause-done
+returns-clause-done g c = IfOk-weaker c.list.result _ _ (λ s written. record {
+  paths = c.unwrap_or-paths.result.now;
+  named = rw c.unwrap_or-paths.ensures (paths_found (found_of c.args.found.now) (codes "filters") c.get_strs.result _
+      c.get_strs.ensures refl);
+  budget = c.budget_of.result;
+  counted = c.budget_of.ensures;
+  listed = written;
+}) c.list.ensures.written
+
+pub returns-clause-refused : goal.returns-clause-refused
+returns-clause-refused g c = IfErr-weaker c.list.result _ _ (λ e why. (
+  c.unwrap_or-paths.result.now,
+  rw c.unwrap_or-paths.ensures (paths_found (found_of c.args.found.now) (codes "filters") c.get_strs.result _
+      c.get_strs.ensures refl),
+  why,
+)) c.list.ensures.refused

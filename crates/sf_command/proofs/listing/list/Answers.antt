@@ -1,0 +1,25 @@
+use Rattle.std.proofs.Common.{map}
+use Rattle.sf_command.proofs.RefusalLemmas.{handed_on, listing_why, unlisted_why}
+use Rattle.sf_command.proofs.listing.list.Goals as goal
+
+pub returns-clause-written : goal.returns-clause-written
+returns-clause-written g c = record {
+  files = map (λ f. f.items) c.in_ok-filters.filters.items;
+  read = c.in_ok-filters.ensures.read;
+  found = c.in_ok-listing.listing;
+  listing = rw c.deref.ensures.value at c.in_ok-listing.ensures.found;
+  written = c.in_ok-whole.ensures.written;
+  told = rw c.in_ok-whole.ensures.whole at c.status_of_listing-status.ensures;
+}
+
+pub returns-in_err-filters-clause-refused : goal.returns-in_err-filters-clause-refused
+returns-in_err-filters-clause-refused g c =
+    handed_on _ c.from_residual.result c.in_err-filters.field-0.0 c.from_residual.ensures.1
+    (unlisted_why _ _ _ c.in_err-filters.ensures.refused)
+
+pub returns-in_err-listing-clause-refused : goal.returns-in_err-listing-clause-refused
+returns-in_err-listing-clause-refused g c =
+    handed_on _ c.from_residual-in_err-listing.result c.in_err-listing.field-0.0
+    c.from_residual-in_err-listing.ensures.1
+    (listing_why _ _ _ _ c.in_ok-filters.ensures.read
+    (rw c.deref.ensures.value at c.in_err-listing.ensures.refused))

@@ -1,0 +1,29 @@
+-- What `list` reads and writes.
+use Rattle.std.specs.Prelude.{◌≡◌, ◌⊎◌, ℕ, List, Option}
+use Rattle.std.specs.Borrow.{Bor}
+use Rattle.std.specs.Io.KnownBytes.{Appends}
+use Rattle.sf_audit.specs.declared.fault.Fault.{Fault}
+use Rattle.sf_audit.specs.declared.fault.Fault.TheVariants.{Memory, Read, Write}
+use Rattle.sf_audit.specs.Filters.{IsFirstRefusal}
+use Rattle.sf_list.specs.Listings.{Listed, IsListing, listing_text, is_whole_listing}
+use Rattle.sf_command.specs.Files.{AreRead, HasUnknown}
+use Rattle.sf_command.specs.Status.{listing_status}
+
+module _ (holds : List ℕ → Option (List ℕ)) (paths : List (Bor (List ℕ))) where
+  -- `list`: the files at the paths are read, the picture of their stack is drawn and its rows are written; the status
+  -- tells whether each input lies in a row with one answer
+  pub record ListsFiles (budget status : ℕ) (old new : Option (List ℕ)) : Type 0 where
+    pub files : List (List ℕ)
+    pub read : AreRead holds paths files
+    pub found : Listed
+    pub listing : IsListing files budget found
+    pub written : Appends old new (listing_text found)
+    pub told : status ≡ listing_status (is_whole_listing found.picture)
+
+  -- Why a listing is refused: a file, which isn't known, can't be read; writing or memory failed; or the files make no
+  -- lawful stack.
+  abbrev pub RefusesListing : Fault → Type 0
+  RefusesListing fault =
+      ((fault ≡ Read) × HasUnknown holds paths)
+      ⊎ (fault ≡ Write) ⊎ (fault ≡ Memory)
+      ⊎ ((files : List (List ℕ)) × AreRead holds paths files × IsFirstRefusal files fault)

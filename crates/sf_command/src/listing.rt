@@ -1,0 +1,57 @@
+//! What `list` does.
+
+ghost use Rattle.std.specs.Prelude.{◌≡◌, ◌<◌, ◌≤◌, ◌⊎◌, IfOk, IfErr};
+ghost use Rattle.sf_audit.specs.declared.fault.Fault.TheVariants.{Write as WriteFault};
+ghost use Rattle.sf_command.specs.Listings.{ListsFiles, RefusesListing};
+
+use crate::explaining::Notes;
+use crate::files::{Files, read_all};
+use crate::status::status_of_listing;
+use sf_audit::Fault;
+use sf_crew::Open;
+use sf_list::write_listing;
+use std::alloc::Global;
+use std::io::Write;
+use std::sync::Wait;
+use std::thread::Threads;
+
+/// How a listing is done.
+#[derive(Clone, Copy)]
+pub struct Limits {
+    /// The most works that are committed.
+    pub budget: u32,
+    /// How many workers there are, 1 to 64.
+    pub workers: u8,
+    /// The most leaves that are drawn.
+    pub leaves: u32,
+}
+
+/// Reads the filter files in order of installation, explores their stack, writes its rows, and gives the status: 0 where each
+/// input lies in a row with one answer, and else 2. `Read` where a file can't be read; then what `list` of the library
+/// refuses; `Write` where standard output can't be written, after a beginning of the text; `Memory` at any time. But for
+/// `Write` nothing is written.
+pub fn list<R: Threads + Wait + Sync, F: Files, O: Write>(
+    rt: &R,
+    alloc: Global,
+    paths: &[&str],
+    limits: Limits,
+    files: &mut F,
+    notes: &mut Notes,
+    out: &mut O,
+) -> Result<u8, Fault>
+    requires workers { (0 < limits.workers) × (limits.workers ≤ 64) }
+    ensures written { IfOk result (λ s. ListsFiles (F.holds files.old) paths.now limits.budget s
+        (O.contents out.old) (O.contents out.new)) }
+    ensures status { IfOk result (λ s. s ≤ 2) }
+    ensures refused { IfErr result (RefusesListing (F.holds files.old) paths.now) }
+    ensures quiet { IfErr result (λ e. (e ≡ WriteFault) ⊎ (out.new ≡ out.old)) }
+{
+    let filters = read_all(alloc, paths, files, notes)?;
+    let workers = usize::from(limits.workers);
+    let leaves = limits.leaves as usize;
+    let listing = sf_list::list(rt, alloc, &filters, limits.budget, workers, leaves, &Open)?;
+    let whole = write_listing(alloc, &listing, out)?;
+    let status = status_of_listing(whole);
+    files.take_over(listing);
+    Ok(status)
+}
