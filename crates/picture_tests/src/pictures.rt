@@ -94,7 +94,7 @@ fn a_picture_with_too_few_leaves_is_spent(rt: HostRuntime) -> Result<(), Fail> {
 }
 
 #[test]
-fn one_leaf_without_labels_where_nothing_is_settled(rt: HostRuntime) -> Result<(), Fail> {
+fn one_leaf_without_labels_where_there_is_no_region(rt: HostRuntime) -> Result<(), Fail> {
     let picture = drawn(rt.alloc(), &bit_and_bound(), 0, 100)?;
     assert!(rt; !picture.is_spent());
     assert_eq!(rt; picture.root(), Branch::Leaf(0));
