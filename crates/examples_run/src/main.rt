@@ -1,14 +1,16 @@
-//! Checks, evaluates, audits and compares real filters. Lines such as `check A.bpf B.bpf`, `eval HEX A.bpf B.bpf`,
-//! `audit POLICY A.bpf B.bpf` and `compare OLD.bpf -- NEW.bpf` come on standard input. The files stand in the folder in
-//! which the program runs.
+//! Checks, evaluates, audits, compares and lists real filters. Lines such as `check A.bpf B.bpf`, `eval HEX A.bpf B.bpf`,
+//! `audit POLICY A.bpf B.bpf`, `compare OLD.bpf -- NEW.bpf` and `list A.bpf B.bpf` come on standard input. The files
+//! stand in the folder in which the program runs.
 #![tactic(auto)]
 
 mod auditing;
 mod comparing;
+mod listing;
 mod meeting;
 
 use crate::auditing::show_audit;
 use crate::comparing::show_comparison;
+use crate::listing::show_listing;
 use hex::FromHex;
 use sf_check::{Program, Stack, check};
 use sf_insn::{decode, input_of_bytes};
@@ -52,6 +54,16 @@ fn show_answer<R: Print>(rt: &R, stack: &Stack, digits: &str) -> Result<(), Fail
     Ok(())
 }
 
+/// The bytes of the filter files.
+fn filters_in<R: Files + AllocGlobal>(rt: &R, paths: &[&str]) -> Result<Vec<Vec<u8>>, Fail> {
+    let mut filters = Vec::new(rt.alloc());
+    for path in paths {
+        let bytes = fs::read(rt, path)?;
+        filters.push(bytes)?;
+    }
+    Ok(filters)
+}
+
 /// Shows the report of an audit of the filter files by the policy file.
 fn show_audit_of<R: Files + Print + Threads + Wait + Sync + AllocGlobal>(
     rt: &R,
@@ -59,11 +71,7 @@ fn show_audit_of<R: Files + Print + Threads + Wait + Sync + AllocGlobal>(
     paths: &[&str],
 ) -> Result<(), Fail> {
     let policy = fs::read_to_string(rt, policy)?;
-    let mut filters = Vec::new(rt.alloc());
-    for path in paths {
-        let bytes = fs::read(rt, path)?;
-        filters.push(bytes)?;
-    }
+    let filters = filters_in(rt, paths)?;
     show_audit(rt, rt.alloc(), policy.as_str(), &filters)
 }
 
@@ -97,6 +105,7 @@ fn show<R: Files + Print + Threads + Wait + Sync + AllocGlobal>(
         ["eval", digits, paths @ ..] => show_answer(rt, &stack_in(rt, paths)?, digits)?,
         ["audit", policy, paths @ ..] => show_audit_of(rt, policy, paths)?,
         ["compare", paths @ ..] => show_comparison_of(rt, paths)?,
+        ["list", paths @ ..] => show_listing(rt, rt.alloc(), &filters_in(rt, paths)?)?,
         _ => println!(rt; "unknown line")?,
     }
     Ok(())

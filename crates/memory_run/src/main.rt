@@ -16,6 +16,7 @@ mod comparing;
 mod exploring;
 mod failing;
 mod filling;
+mod listing;
 mod refused;
 mod stacks;
 mod trying;
@@ -25,6 +26,7 @@ use crate::comparing::compared;
 use crate::exploring::{bench_of, explored, judged};
 use crate::failing::starve_all;
 use crate::filling::fill_bench;
+use crate::listing::listed;
 use crate::refused::{Refused, Tally};
 use crate::stacks::{DIVIDES, LOGIN, MASKS, NO_X32, TWO_BITS, stack_in};
 use std::io;
@@ -60,6 +62,7 @@ fn calls_on<R: Threads + Wait + Sync + AllocGlobal>(
     judged(alloc, &settled, &mut text)?;
     audited(rt, tally, files, page)?;
     compared(rt, tally, files, page)?;
+    listed(rt, tally, files, page)?;
     Ok(text)
 }
 

@@ -1,0 +1,45 @@
+//! Listings, and what they write.
+
+ghost use Rattle.std.specs.Prelude.{◌≤◌, ◌<◌};
+
+use crate::auditing::{Page, push_filters};
+use crate::refused::{Refused, Tally};
+use sf_crew::Open;
+use sf_list::{list, write_listing};
+use std::sync::Wait;
+use std::thread::Threads;
+
+/// Lists the stack of these filters, and writes its rows.
+fn tell<R: Threads + Wait + Sync + AllocGlobal>(
+    rt: &R,
+    filters: &[Vec<u8>],
+    workers: usize,
+    page: &mut Page,
+) -> Result<(), Refused>
+    requires { (0 < workers) × (workers ≤ 64) }
+{
+    let alloc = rt.alloc();
+    let listing = list(rt, alloc, filters, 1000, workers, 1000, &Open)?;
+    write_listing(alloc, &listing, page)?;
+    Ok(())
+}
+
+/// Writes the rows that one worker finds, of the stack of these files. Two and eight workers have to find the same.
+pub fn listed<R: Threads + Wait + Sync + AllocGlobal>(
+    rt: &R,
+    tally: &mut Tally,
+    files: &[&[u8]],
+    page: &mut Page,
+) -> Result<(), Refused> {
+    let mut filters = Vec::new(rt.alloc());
+    push_filters(rt.alloc(), &mut filters, files)?;
+    let mut alone = Page::new();
+    tell(rt, &filters, 1, &mut alone)?;
+    let mut by_two = Page::new();
+    tell(rt, &filters, 2, &mut by_two)?;
+    tally.expect(by_two.bytes() == alone.bytes());
+    let mut by_eight = Page::new();
+    tell(rt, &filters, 8, &mut by_eight)?;
+    tally.expect(by_eight.bytes() == alone.bytes());
+    tell(rt, &filters, 1, page)
+}
