@@ -2,7 +2,7 @@
 use samples::{ALLOW, op, raw};
 use sf_crew::Open;
 use sf_insn::{Input, RawInsn};
-use sf_list::{list, write_listing};
+use sf_list::{Listing, list, write_listing};
 use sf_picture::{Branch, Picture};
 use sf_run::answer;
 use std::alloc::Global;
@@ -22,6 +22,18 @@ fn bytes_of(alloc: Global, insns: &[RawInsn]) -> Result<Vec<u8>, Fail> {
     Ok(bytes)
 }
 
+/// Lists one filter, by one worker, with at most so many leaves.
+fn listing_of<R: Threads + Wait + Sync>(
+    rt: &R,
+    alloc: Global,
+    insns: &[RawInsn],
+    leaves: usize,
+) -> Result<Listing, Fail> {
+    let mut files = Vec::new(alloc);
+    files.push(bytes_of(alloc, insns)?)?;
+    Ok(list(rt, alloc, files.as_slice(), 10000, 1, leaves, &Open)?)
+}
+
 /// The text of the listing of one filter.
 fn listed<R: Threads + Wait + Sync>(
     rt: &R,
@@ -29,17 +41,9 @@ fn listed<R: Threads + Wait + Sync>(
     insns: &[RawInsn],
     leaves: usize,
 ) -> Result<String, Fail> {
-    let mut files = Vec::new(alloc);
-    files.push(bytes_of(alloc, insns)?)?;
-    let listing = match list(rt, alloc, files.as_slice(), 1000, 1, leaves, &Open) {
-        Ok(listing) => listing,
-        Err(_) => return Err("refused".into()),
-    };
+    let listing = listing_of(rt, alloc, insns, leaves)?;
     let mut out: Vec<u8> = Vec::new(alloc);
-    match write_listing(alloc, &listing, &mut out) {
-        Ok(_) => {}
-        Err(_) => return Err("not written".into()),
-    }
+    write_listing(alloc, &listing, &mut out)?;
     match String::from_utf8(out) {
         Ok(text) => Ok(text),
         Err(_) => Err("no text".into()),
@@ -259,43 +263,47 @@ fn labels_at<'a>(picture: &'a Picture, input: &Input) -> Option<&'a [usize]> {
     None
 }
 
-#[test]
-fn random_inputs_of_random_programs(rt: HostRuntime) -> Result<(), Fail> {
-    let alloc = rt.alloc();
-    let mut state = 20261126u64;
-    let mut undetermined = 0u64;
-    let mut inputs = 0u64;
-    for _ in 0..400 {
-        let program = random_program(alloc, &mut state)?;
-        let mut files = Vec::new(alloc);
-        files.push(bytes_of(alloc, program.as_slice())?)?;
-        let listing = match list(&rt, alloc, files.as_slice(), 10000, 1, 20000, &Open) {
-            Ok(listing) => listing,
-            Err(_) => return Err("refused".into()),
-        };
-        assert_eq!(rt; listing.settled().outstanding_count(), 0);
-        for _ in 0..200 {
-            let mut words = [0; 16];
-            for word in 0..8 {
-                words[word] = near(&mut state);
-            }
-            let input = Input { words };
-            let told = answer(listing.settled().stack(), &input);
-            let picture = listing.picture().ok_or("no picture")?;
-            let labels = labels_at(picture, &input).ok_or("no leaf")?;
-            let mut found = false;
-            for label in labels {
-                if listing.answers().get(*label).copied() == Some(told) {
-                    found = true;
-                }
-            }
-            assert!(rt; found);
-            inputs = inputs.wrapping_add(1);
-            if labels.len() > 1 {
-                undetermined = undetermined.wrapping_add(1);
-            }
+/// Whether the answer of the listed stack to an input is among those of the leaf at which the input lies.
+fn shows_answer(listing: &Listing, input: &Input) -> Option<bool> {
+    let told = answer(listing.settled().stack(), input);
+    for label in labels_at(listing.picture()?, input)? {
+        if *listing.answers().get(*label)? == told {
+            return Some(true);
         }
     }
-    println!(rt; "{inputs} inputs, {undetermined} undetermined")?;
+    Some(false)
+}
+
+/// An input whose first words are near the numbers that random programs test.
+fn some_input(state: &mut u64) -> Input {
+    let mut words = [0; 16];
+    for word in 0..8 {
+        words[word] = near(state);
+    }
+    Input { words }
+}
+
+/// Whether the listing of a random program shows the answers to 200 inputs.
+fn shows_random_answers<R: Threads + Wait + Sync>(
+    rt: &R,
+    alloc: Global,
+    state: &mut u64,
+) -> Result<bool, Fail> {
+    let program = random_program(alloc, state)?;
+    let listing = listing_of(rt, alloc, program.as_slice(), 20000)?;
+    for _ in 0..200 {
+        if shows_answer(&listing, &some_input(state)) != Some(true) {
+            return Ok(false);
+        }
+    }
+    Ok(true)
+}
+
+#[test]
+fn random_inputs_of_random_programs(rt: HostRuntime) -> Result<(), Fail> {
+    let mut state = 20261126u64;
+    for _ in 0..400 {
+        assert!(rt; shows_random_answers(&rt, rt.alloc(), &mut state)?);
+    }
     Ok(())
 }

@@ -20,8 +20,8 @@ module _ (holds : List ℕ → Option (List ℕ)) (paths : List (Bor (List ℕ))
     pub written : Appends old new (listing_text found)
     pub told : status ≡ listing_status (is_whole_listing found.picture)
 
-  -- Why a listing is refused: a file, which isn't known, can't be read; writing or memory failed; or the files make no
-  -- lawful stack.
+  -- Why a listing is refused: a file whose bytes aren't known can't be read; writing or memory failed; or the files
+  -- make no lawful stack.
   abbrev pub RefusesListing : Fault → Type 0
   RefusesListing fault =
       ((fault ≡ Read) × HasUnknown holds paths)

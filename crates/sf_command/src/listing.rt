@@ -1,4 +1,4 @@
-//! What `list` does.
+//! The subcommand `list`: reads the filter files of a stack, explores the stack and writes its rows.
 
 ghost use Rattle.std.specs.Prelude.{◌≡◌, ◌<◌, ◌≤◌, ◌⊎◌, IfOk, IfErr};
 ghost use Rattle.sf_audit.specs.declared.fault.Fault.TheVariants.{Write as WriteFault};
@@ -18,17 +18,19 @@ use std::thread::Threads;
 /// How a listing is done.
 #[derive(Clone, Copy)]
 pub struct Limits {
-    /// The most works that are committed.
+    /// The most works that are committed, 1 to 1,000,000.
     pub budget: u32,
-    /// How many workers there are, 1 to 64.
+    /// The number of workers, 1 to 64.
     pub workers: u8,
-    /// The most leaves that are drawn.
+    /// The most leaves that are drawn, 1 to 1,000,000.
     pub leaves: u32,
 }
 
-/// Reads the filter files in order of installation, explores their stack, writes its rows, and gives the status: 0 where each
-/// input lies in a row with one answer, and else 2. `Read` where a file can't be read; then what `list` of the library
-/// refuses; `Write` where standard output can't be written, after a beginning of the text; `Memory` at any time. But for
+/// Reads the filter files, which are named in order of installation; explores their stack, writes its rows, and gives the
+/// exit status: 0 where each input lies in a row with one answer, and else 2.
+///
+/// Refusals, tried in this order: `Read` where a file can't be read; what `list` of the library refuses; `Write` where
+/// standard output can't be written, after a beginning of the text. `Memory` can come anywhere. After any error but
 /// `Write` nothing is written.
 pub fn list<R: Threads + Wait + Sync, F: Files, O: Write>(
     rt: &R,

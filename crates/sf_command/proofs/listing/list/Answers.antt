@@ -1,11 +1,13 @@
 use Rattle.std.proofs.Common.{map}
+use Rattle.sf_command.proofs.KeptLemmas.{kept_refusal, kept_stack, second_weaker}
 use Rattle.sf_command.proofs.RefusalLemmas.{handed_on, listing_why, unlisted_why}
 use Rattle.sf_command.proofs.listing.list.Goals as goal
 
 pub returns-clause-written : goal.returns-clause-written
 returns-clause-written g c = record {
   files = map (λ f. f.items) c.in_ok-filters.filters.items;
-  read = c.in_ok-filters.ensures.read;
+  read = kept_stack _ _ _ c.in_ok-filters.ensures.read _
+      (rw c.deref.ensures.value at c.in_ok-listing.ensures.found.stack);
   found = c.in_ok-listing.listing;
   listing = rw c.deref.ensures.value at c.in_ok-listing.ensures.found;
   written = c.in_ok-whole.ensures.written;
@@ -21,5 +23,6 @@ pub returns-in_err-listing-clause-refused : goal.returns-in_err-listing-clause-r
 returns-in_err-listing-clause-refused g c =
     handed_on _ c.from_residual-in_err-listing.result c.in_err-listing.field-0.0
     c.from_residual-in_err-listing.ensures.1
-    (listing_why _ _ _ _ c.in_ok-filters.ensures.read
-    (rw c.deref.ensures.value at c.in_err-listing.ensures.refused))
+    (listing_why _ _ _ _ c.in_ok-filters.ensures.read.read
+    (second_weaker (kept_refusal _ _ _ c.in_ok-filters.ensures.read _)
+    (rw c.deref.ensures.value at c.in_err-listing.ensures.refused)))
