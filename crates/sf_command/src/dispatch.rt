@@ -16,7 +16,9 @@ use crate::comparing::{Terms, compare};
 use crate::explaining::Notes;
 use crate::files::Files;
 use crate::listing::{Limits, list};
-use crate::options::{asked_of, brief_of, budget_of, leaves_of, regions_of, text_of, traced_of, workers_of};
+use crate::options::{
+    asked_of, brief_of, budget_of, leaves_of, regions_of, text_of, traced_of, workers_of,
+};
 use crate::telling::tell;
 use crate::words;
 use clap::ArgMatches;
