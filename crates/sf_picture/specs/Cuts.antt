@@ -1,11 +1,14 @@
 -- Cuts of axes: between which numbers and inputs they lie, and which cuts of a plain piece are enough.
-use Rattle.std.specs.Prelude.{◌≡◌, ℕ, ◌<◌, ◌≤◌, ◌⊎◌, true, false, List, All, Contains, slice_index, bit_and}
+use Rattle.std.specs.Prelude.{◌≡◌, ℕ, ◌<◌, ◌≤◌, ◌⊎◌, true, false, List, length, All, Contains, Option, Some, slice_get, slice_index, bit_and}
 use Rattle.sf_insn.specs.declared.input.Input.{Input}
 use Rattle.sf_insn.specs.Inputs.{IsInput}
 use Rattle.sf_insn.specs.Words.{IsOneBit}
+use Rattle.sf_insn.specs.declared.ops.Test.TheVariants.{Equal}
 use Rattle.sf_sym.specs.declared.pool.Node.{Node}
+use Rattle.sf_sym.specs.declared.pool.Node.TheVariants.{Const}
 use Rattle.sf_sym.specs.declared.pool.Cond.{Cond}
-use Rattle.sf_sym.specs.Pool.{is_met}
+use Rattle.sf_sym.specs.declared.pool.NodeId.{NodeId}
+use Rattle.sf_sym.specs.Pool.{node_at, is_met}
 use Rattle.sf_dom.specs.Facts.{FactsView, Agrees, Covers}
 use Rattle.sf_piece.specs.Pieces.{PieceData, is_member}
 use Rattle.sf_picture.specs.declared.cuts.Cut.{Cut}
@@ -48,6 +51,33 @@ pub record IsPlainCut (c : Cut) : Type 0 where
 abbrev pub LieBetweenResults : List Node → Cond → List Cut → Type 0
 LieBetweenResults ns cond cuts = (d e : Input) → IsInput d → IsInput e → is_met ns d cond ≡ true
     → is_met ns e cond ≡ false → SomeLiesBetween cuts d e
+
+-- the condition says of its node that it is a certain number
+pub record SaysNumber (ns : List Node) (c : Cond) : Type 0 where
+  pub number : ℕ
+  pub within : c.other.0 < length ns
+  pub other : node_at ns c.other.0 ≡ Const number
+  pub test : c.test ≡ Equal
+  pub sense : c.sense ≡ true
+
+-- between each member of the piece and each input that doesn't meet the condition, one of the cuts lies
+abbrev pub LieAtCondition : PieceData → List Cut → Cond → Type 0
+LieAtCondition p cuts cond = (d e : Input) → IsInput d → IsInput e → is_member p d ≡ true
+    → is_met p.pool e cond ≡ false → SomeLiesBetween cuts d e
+
+-- A condition of the piece says of this node that it is a certain number, and cuts lie at it.
+pub record IsSingle (p : PieceData) (cuts : List Cut) (node : ℕ) : Type 0 where
+  pub place : ℕ
+  pub cond : Cond
+  pub there : slice_get p.conditions place ≡ Some cond
+  pub of_node : cond.node.0 ≡ node
+  pub says : SaysNumber p.pool cond
+  pub lie : LieAtCondition p cuts cond
+
+-- the conditions from a place on, before an end, are about the single node, each against a node of the pool
+abbrev pub NeedNoCut : PieceData → Option NodeId → ℕ → ℕ → Type 0
+NeedNoCut p single from end = (j : ℕ) (c : Cond) → from ≤ j → j < end → slice_get p.conditions j ≡ Some c
+    → (single ≡ Some c.node) × (c.other.0 < length p.pool)
 
 -- where the cut lies between an input that agrees with the facts and another input, one of the cuts does
 abbrev pub IsMovedTo : FactsView → List Cut → Cut → Type 0

@@ -1,6 +1,6 @@
 //! Where axes are cut: the numbers at which the tests of regions change their results.
 
-ghost use Rattle.std.specs.Prelude.{◌≡◌, ◌≢◌, ◌<◌, ◌≤◌, ◌-◌, ◌^◌, ◌↔◌, ℕ, true, false, length, All, Contains, IsTrue, IfOk, IfErr, IfSome, Some, min, max};
+ghost use Rattle.std.specs.Prelude.{◌≡◌, ◌≢◌, ◌<◌, ◌≤◌, ◌+◌, ◌-◌, ◌^◌, ◌↔◌, ◌⊎◌, ℕ, true, false, length, All, Contains, IsTrue, IfOk, IfErr, IfSome, MatchOption, Some, min, max};
 ghost use Rattle.sf_insn.specs.Words.{passes};
 ghost use Rattle.sf_sym.specs.declared.pool.Node.{Node as ANode};
 ghost use Rattle.sf_sym.specs.declared.pool.Node.TheVariants.{Const};
@@ -8,7 +8,7 @@ ghost use Rattle.sf_sym.specs.Pool.{IsPool, node_at};
 ghost use Rattle.sf_dom.specs.Facts.{Covers, IsWordOrConst, IsPlainTest, IsPlainCondition};
 ghost use Rattle.sf_piece.specs.PlainPieces.{IsPlainPiece};
 ghost use Rattle.sf_picture.specs.declared.cuts.Cut.{Cut as ACut};
-ghost use Rattle.sf_picture.specs.Cuts.{IsCutOfWord, IsPlainCut, SomeLiesBetweenNumbers, LieBetweenResults, IsMovedTo, AreCutsOf};
+ghost use Rattle.sf_picture.specs.Cuts.{IsCutOfWord, IsPlainCut, SomeLiesBetweenNumbers, LieBetweenResults, IsMovedTo, SaysNumber, NeedNoCut, AreCutsOf};
 ghost use Rattle.sf_picture.specs.declared.fault.Fault.TheVariants.{Memory};
 
 use crate::axis::{Axis, axis_of};
@@ -199,6 +199,47 @@ fn push_cuts_of_cond(
     Ok(())
 }
 
+/// Whether a condition needs no cut besides those beside the only number of a word: it is about that word, and no test of bits,
+/// which has an axis of its own.
+fn needs_no_cut(single: Option<NodeId>, cond: &Cond) -> bool
+    ensures { result ≡ true → single ≡ Some cond.now.node }
+{
+    single == Some(cond.node) && cond.test != Test::AnyBit
+}
+
+/// The place of the newest condition before `end` that needs a cut, where these are those beside the only number of a word:
+/// long paths are gone over here, and nothing else is done meanwhile.
+fn newest_to_cut(piece: &Piece, single: Option<NodeId>, end: usize) -> Option<usize>
+    requires { end ≤ length piece.now.conditions }
+    ensures { MatchOption result (NeedNoCut piece.now single 0 end)
+        (λ n. (n < end) × NeedNoCut piece.now single (n + 1) end) }
+{
+    for i in 0..end {
+        let place = end - 1 - i;
+        if !needs_no_cut(single, &piece.cond(place)) {
+            return Some(place);
+        }
+    }
+    None
+}
+
+/// The word of which a condition leaves only one number. Where it leaves several, the word of a newer condition.
+fn single_after(newer: Option<NodeId>, pool: &Pool, cond: &Cond) -> Option<NodeId>
+    requires { cond.now.other.0 < length pool.now }
+    ensures { IfSome result (λ n. (newer ≡ Some n)
+        ⊎ ((n ≡ cond.now.node) × SaysNumber pool.now cond.now)) }
+{
+    let is_of_word = cond.node.0 < 16;
+    if !is_of_word || cond.test != Test::Equal || !cond.sense {
+        return newer;
+    }
+    if constant_of(pool.node(cond.other)).is_some() {
+        Some(cond.node)
+    } else {
+        newer
+    }
+}
+
 /// The cut of the window that is nearest to a cut of the whole word. One under another mask stays.
 fn cut_within(window: Window, cut: Cut) -> Cut
     ensures axis { result.axis ≡ cut.axis }
@@ -274,19 +315,26 @@ fn moved_cuts(
     Ok(cuts)
 }
 
-/// The cuts of a piece, by its conditions on axes. On a plain stack some cut lies between each member and each input that is
-/// none. `Memory` where an allocation is refused.
+/// The cuts of a piece, by its conditions on axes, the newest first: once one leaves a word only one number, older ones
+/// about it cut it nowhere else. On a plain stack some cut lies between each member and each input that is none. `Memory`
+/// where an allocation is refused.
 pub(crate) fn cuts_of(alloc: Global, piece: &Piece) -> Result<Vec<Cut>, Fault>
     ensures plain { IfOk result (λ v. IsPlainPiece piece.now → AreCutsOf piece.now v.items) }
     ensures err { IfErr result (λ f. f ≡ Memory) }
 {
     // For the prover: all members agree with the piece's facts.
     let _known = piece.facts();
+    let pool = piece.pool();
     let none = FixedBits::none();
     let mut bits = [none; 16];
+    let mut single = None;
     let mut tested = Vec::new(alloc);
-    for i in 0..piece.cond_count() {
-        push_cuts_of_cond(&mut tested, &mut bits, piece.pool(), &piece.cond(i))?;
+    let mut end = piece.cond_count();
+    while let Some(place) = newest_to_cut(piece, single, end) {
+        let cond = piece.cond(place);
+        push_cuts_of_cond(&mut tested, &mut bits, pool, &cond)?;
+        single = single_after(single, pool, &cond);
+        end = place;
     }
     let cuts = moved_cuts(alloc, piece, &bits, tested.as_slice())?;
     Ok(cuts)

@@ -1,25 +1,53 @@
 use Rattle.std.proofs.Common.{arith}
-use Rattle.sf_picture.proofs.CutLemmas.{plain-condition, conditions-more, all-cut}
+use Rattle.std.proofs.lemmas.Option.{slice_get_within}
+use Rattle.sf_picture.proofs.CutLemmas.{plain-condition, lie-from, lie-all, single-after, all-cut}
 use Rattle.sf_picture.proofs.cuts.cuts_of.Goals as goal
 
-pub loop-i-preserved : goal.loop-i-preserved
-loop-i-preserved c =
-    let i = c.loop-i.invariant in
+pub loop-place-init : goal.loop-place-init
+loop-place-init c = rw c.new-tested.ensures.items (record {
+  within = omega (arith, c.cond_count-end.ensures.value);
+  between = λ plain j x le at. absurd (omega (
+    arith,
+    le,
+    c.cond_count-end.ensures.value,
+    slice_get_within c.args.piece.now.conditions j x at,
+  ));
+  single = λ plain. tt;
+  words = λ k d lt. absurd (omega arith);
+  plain = λ plain k d lt. absurd (omega arith);
+})
+
+pub loop-place-preserved : goal.loop-place-preserved
+loop-place-preserved c =
+    let i = c.loop-place.invariant in
     let p = c.in_ok-push_cuts_of_cond.ensures in
+    let found = c.in-Some.ensures in
     record {
-      between = λ plain. conditions-more c.args.piece.now c.loop-i.tested.items c.push_cuts_of_cond.new.cuts.items
-          c.loop-i.i c.cond.result c.cond.ensures.value p.keeps
-          ((rw c.pool.ensures.value at p.between)
-          (plain-condition c.args.piece.now c.loop-i.i c.cond.result plain c.cond.ensures.value)) (i.between plain);
+      within = omega (arith, found.0, i.within);
+      between = λ plain. lie-from c.args.piece.now c.loop-place.tested.items c.push_cuts_of_cond.new.cuts.items
+          c.in-Some.place c.loop-place.end c.cond-cond.result c.loop-place.single c.pool-pool.ensures.lawful plain
+          c.cond-cond.ensures.value p.keeps
+          ((rw c.pool-pool.ensures.value at p.between)
+          (plain-condition c.args.piece.now c.in-Some.place c.cond-cond.result plain c.cond-cond.ensures.value))
+          found.1 (i.single plain) (i.between plain);
+      single = λ plain. single-after c.args.piece.now c.loop-place.tested.items c.push_cuts_of_cond.new.cuts.items
+          c.in-Some.place c.cond-cond.result c.loop-place.single c.single_after-single.result
+          c.cond-cond.ensures.value p.keeps
+          ((rw c.pool-pool.ensures.value at p.between)
+          (plain-condition c.args.piece.now c.in-Some.place c.cond-cond.result plain c.cond-cond.ensures.value))
+          (rw c.pool-pool.ensures.value at c.single_after-single.ensures) (i.single plain);
       words = p.words i.words;
-      plain = λ plain. (rw c.pool.ensures.value at p.plain)
-          (plain-condition c.args.piece.now c.loop-i.i c.cond.result plain c.cond.ensures.value) (i.plain plain);
+      plain = λ plain. (rw c.pool-pool.ensures.value at p.plain)
+          (plain-condition c.args.piece.now c.in-Some.place c.cond-cond.result plain c.cond-cond.ensures.value)
+          (i.plain plain);
     }
 
 pub returns-clause-plain : goal.returns-clause-plain
 returns-clause-plain c = λ plain.
-    let i = c.loop-i.invariant in
-    all-cut c.args.piece.now c.loop-i.tested.items c.in_ok-cuts.cuts.items c.loop-i.i c.facts-known.ensures.covers
-    c.facts-known.ensures.known (omega (arith, c.cond_count-i-end.ensures.value)) (i.between plain)
+    let i = c.loop-place.invariant in
+    all-cut c.args.piece.now c.loop-place.tested.items c.in_ok-cuts.cuts.items c.facts-known.ensures.covers
+    c.facts-known.ensures.known
+    (lie-all c.args.piece.now c.loop-place.tested.items 0 c.loop-place.end c.loop-place.single
+    c.pool-pool.ensures.lawful plain c.in_default.ensures (i.single plain) (i.between plain))
     (rw c.as_slice.ensures.value at c.in_ok-cuts.ensures.moved)
     ((rw c.as_slice.ensures.value at c.in_ok-cuts.ensures.plain) (i.plain plain))

@@ -1,12 +1,18 @@
-use Rattle.std.specs.Prelude.{All}
+use Rattle.std.specs.Prelude.{◌≤◌, length, All, IfSome}
+use Rattle.sf_sym.specs.declared.pool.NodeId.{NodeId}
 use Rattle.sf_piece.specs.PlainPieces.{IsPlainPiece}
-use Rattle.sf_picture.specs.Cuts.{IsCutOfWord, IsPlainCut}
-use Rattle.sf_picture.proofs.CutLemmas.{LieBetweenBelow}
+use Rattle.sf_picture.specs.Cuts.{IsCutOfWord, IsPlainCut, IsSingle}
+use Rattle.sf_picture.proofs.CutLemmas.{LieAtConditionsFrom}
 use Rattle.sf_picture.proofs.cuts.cuts_of.Given as goal
 
-abbrev pub invariant-loop-i : goal.invariant-loop-i
-invariant-loop-i l = record {
-  between : IsPlainPiece l.piece → LieBetweenBelow l.piece l.tested.items l.i;
+abbrev pub decreases-loop-place : goal.decreases-loop-place
+decreases-loop-place l = l.end
+
+abbrev pub invariant-loop-place : goal.invariant-loop-place
+invariant-loop-place l = record {
+  within : l.end ≤ length l.piece.conditions;
+  between : IsPlainPiece l.piece → LieAtConditionsFrom l.piece l.tested.items l.end;
+  single : IsPlainPiece l.piece → IfSome l.single (λ (n : NodeId). IsSingle l.piece l.tested.items n.0);
   words : All IsCutOfWord l.tested.items;
   plain : IsPlainPiece l.piece → All IsPlainCut l.tested.items;
 }

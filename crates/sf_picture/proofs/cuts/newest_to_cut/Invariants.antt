@@ -1,0 +1,6 @@
+use Rattle.std.specs.Prelude.{◌-◌}
+use Rattle.sf_picture.specs.Cuts.{NeedNoCut}
+use Rattle.sf_picture.proofs.cuts.newest_to_cut.Given as goal
+
+abbrev pub invariant-loop-i : goal.invariant-loop-i
+invariant-loop-i l = NeedNoCut l.piece l.single (l.end - l.i) l.end
