@@ -1,9 +1,11 @@
-//! Compares real filters, and shows that the number of workers changes no byte of what is written.
+//! Compares real filters, with the rows whose answers differ, and shows that the number of workers changes no byte of what
+//! is written.
 
 ghost use Rattle.std.specs.Prelude.{◌<◌, ◌≤◌, length};
 
-use sf_compare::{compare, write_comparison};
+use sf_compare::compare;
 use sf_crew::Open;
+use sf_list::{draw_differences, write_differences};
 use std::alloc::Global;
 use std::sync::Wait;
 use std::test::Fail;
@@ -11,6 +13,9 @@ use std::thread::Threads;
 
 /// The budget of each comparison, in works: more than any two of these stacks need.
 const BUDGET: u32 = 100_000;
+
+/// How many leaves are drawn at most: more than any two of these stacks need.
+const LEAVES: usize = 20_000;
 
 /// What a comparison by this many workers writes. The first `older` filters are the old stack.
 fn text_of<R: Threads + Wait + Sync>(
@@ -25,7 +30,8 @@ fn text_of<R: Threads + Wait + Sync>(
 {
     let comparison = compare(rt, alloc, filters, older, BUDGET, workers, &Open)?;
     let mut text = Vec::new(alloc);
-    write_comparison(alloc, &comparison, &mut text)?;
+    let differences = draw_differences(alloc, &comparison, LEAVES)?;
+    write_differences(alloc, &comparison, &differences, &[], &mut text)?;
     Ok(text)
 }
 

@@ -26,7 +26,7 @@ fn text_of<R: Threads + Wait + Sync>(
 {
     let listing = list(rt, alloc, filters, BUDGET, workers, LEAVES, &Open)?;
     let mut text = Vec::new(alloc);
-    write_listing(alloc, &listing, &mut text)?;
+    write_listing(alloc, &listing, &[], &mut text)?;
     Ok(text)
 }
 

@@ -1,5 +1,11 @@
-//! Tests of listings, over filters that are worked by hand.
+//! Tests of listings and of what differs between stacks, over filters that are worked by hand.
 #![tactic(auto)]
 
 #[cfg(test)]
+mod differences;
+#[cfg(test)]
 mod listings;
+#[cfg(test)]
+mod names;
+#[cfg(test)]
+mod profiles;

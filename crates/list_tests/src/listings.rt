@@ -11,7 +11,7 @@ use std::test::Fail;
 use std::thread::Threads;
 
 /// The bytes of a filter file.
-fn bytes_of(alloc: Global, insns: &[RawInsn]) -> Result<Vec<u8>, Fail> {
+pub(crate) fn bytes_of(alloc: Global, insns: &[RawInsn]) -> Result<Vec<u8>, Fail> {
     let mut bytes = Vec::new(alloc);
     for insn in insns {
         bytes.extend_from_slice(&insn.code.to_le_bytes())?;
@@ -23,7 +23,7 @@ fn bytes_of(alloc: Global, insns: &[RawInsn]) -> Result<Vec<u8>, Fail> {
 }
 
 /// Lists one filter, by one worker, with at most so many leaves.
-fn listing_of<R: Threads + Wait + Sync>(
+pub(crate) fn listing_of<R: Threads + Wait + Sync>(
     rt: &R,
     alloc: Global,
     insns: &[RawInsn],
@@ -43,7 +43,7 @@ fn listed<R: Threads + Wait + Sync>(
 ) -> Result<String, Fail> {
     let listing = listing_of(rt, alloc, insns, leaves)?;
     let mut out: Vec<u8> = Vec::new(alloc);
-    write_listing(alloc, &listing, &mut out)?;
+    write_listing(alloc, &listing, &[], &mut out)?;
     match String::from_utf8(out) {
         Ok(text) => Ok(text),
         Err(_) => Err("no text".into()),
@@ -197,7 +197,7 @@ fn near(state: &mut u64) -> u32 {
 }
 
 /// A random program of tests of a few words, with masks, sums and shifts: each path ends in one of four answers.
-fn random_program(alloc: Global, state: &mut u64) -> Result<Vec<RawInsn>, Fail> {
+pub(crate) fn random_program(alloc: Global, state: &mut u64) -> Result<Vec<RawInsn>, Fail> {
     let mut insns = Vec::new(alloc);
     let tests = 2 + random(state) % 6;
     for _ in 0..tests {
@@ -239,7 +239,7 @@ fn random_program(alloc: Global, state: &mut u64) -> Result<Vec<RawInsn>, Fail> 
 }
 
 /// The leaf of a picture to which an input is led, as its labels.
-fn labels_at<'a>(picture: &'a Picture, input: &Input) -> Option<&'a [usize]> {
+pub(crate) fn labels_at<'a>(picture: &'a Picture, input: &Input) -> Option<&'a [usize]> {
     let mut at = picture.root();
     for _ in 0..1000 {
         match at {
@@ -275,7 +275,7 @@ fn shows_answer(listing: &Listing, input: &Input) -> Option<bool> {
 }
 
 /// An input whose first words are near the numbers that random programs test.
-fn some_input(state: &mut u64) -> Input {
+pub(crate) fn some_input(state: &mut u64) -> Input {
     let mut words = [0; 16];
     for word in 0..8 {
         words[word] = near(state);

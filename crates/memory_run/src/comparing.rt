@@ -1,11 +1,12 @@
-//! Comparisons, and what they write.
+//! Comparisons with their rows, and what they write.
 
 ghost use Rattle.std.specs.Prelude.{◌≤◌, ◌<◌, length};
 
 use crate::auditing::{Page, push_filters};
 use crate::refused::{Refused, Tally};
-use sf_compare::{compare, write_comparison};
+use sf_compare::compare;
 use sf_crew::Open;
+use sf_list::{draw_differences, write_differences};
 use std::sync::Wait;
 use std::thread::Threads;
 
@@ -22,7 +23,8 @@ fn tell<R: Threads + Wait + Sync + AllocGlobal>(
 {
     let alloc = rt.alloc();
     let comparison = compare(rt, alloc, filters, older, 1000, workers, &Open)?;
-    write_comparison(alloc, &comparison, page)?;
+    let differences = draw_differences(alloc, &comparison, 1000)?;
+    write_differences(alloc, &comparison, &differences, &[], page)?;
     Ok(())
 }
 

@@ -1,15 +1,19 @@
-//! Listings, and what they write.
+//! Listings with names of calls, and what they write.
 
 ghost use Rattle.std.specs.Prelude.{◌≤◌, ◌<◌};
 
 use crate::auditing::{Page, push_filters};
 use crate::refused::{Refused, Tally};
+use sf_audit::read_names;
 use sf_crew::Open;
 use sf_list::{list, write_listing};
 use std::sync::Wait;
 use std::thread::Threads;
 
-/// Lists the stack of these filters, and writes its rows.
+/// A file of names.
+const NAMES: &str = "arch = 0xC000003E\ncalls = { execve = 59, read = 0x40000000 }\n";
+
+/// Lists the stack of these filters, and writes its rows, with names of calls.
 fn tell<R: Threads + Wait + Sync + AllocGlobal>(
     rt: &R,
     filters: &[Vec<u8>],
@@ -19,8 +23,10 @@ fn tell<R: Threads + Wait + Sync + AllocGlobal>(
     requires { (0 < workers) × (workers ≤ 64) }
 {
     let alloc = rt.alloc();
+    let mut names = Vec::new(alloc);
+    names.push(read_names(alloc, NAMES)?)?;
     let listing = list(rt, alloc, filters, 1000, workers, 1000, &Open)?;
-    write_listing(alloc, &listing, page)?;
+    write_listing(alloc, &listing, &names, page)?;
     Ok(())
 }
 

@@ -9,3 +9,4 @@ pub mod RefusalLemmas
 pub mod OneRefusal
 pub mod Exclusive
 pub mod OneReport
+pub mod CallLemmas

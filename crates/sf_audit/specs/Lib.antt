@@ -9,4 +9,6 @@ pub mod FaultPlaces
 pub mod Filters
 pub mod Outcomes
 pub mod Reports
+pub mod Names
+pub mod NamesLaws
 pub mod Audits

@@ -65,7 +65,7 @@ pub enum Fault {
     /// There is no question, or more than 256.
     #[error("45 Count")]
     Count,
-    /// The policy is no TOML.
+    /// The policy, or the file of names, is no TOML.
     #[error("46 Syntax")]
     Syntax,
     /// The input isn't 128 hexadecimal digits.
@@ -74,6 +74,13 @@ pub enum Fault {
     /// A word of a question has a value with a bit outside its mask.
     #[error("48 Mask question {question}")]
     Mask { question: usize },
+    /// A file of names has an unknown key at its top, lacks one, has a value of a wrong kind, or a name that isn't 1 to 64
+    /// letters, digits and `_`.
+    #[error("41 Key")]
+    NamesKey,
+    /// A file of names has a number outside 32 bits.
+    #[error("42 Range")]
+    NamesRange,
     /// A file can't be read.
     #[error("50 Read")]
     Read,
@@ -111,6 +118,8 @@ impl Fault {
             Fault::Syntax => 46,
             Fault::Input => 47,
             Fault::Mask { .. } => 48,
+            Fault::NamesKey => 41,
+            Fault::NamesRange => 42,
             Fault::Read => 50,
             Fault::Write => 51,
             Fault::Memory => 60,

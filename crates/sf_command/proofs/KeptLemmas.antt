@@ -10,6 +10,7 @@ use Rattle.sf_audit.specs.declared.fault.Fault.{Fault}
 use Rattle.sf_audit.specs.declared.fault.Fault.TheVariants as faults
 use Rattle.sf_ask.specs.QuestionData.{QuestionData}
 use Rattle.sf_audit.specs.Audits.{IsAuditRefusal}
+use Rattle.sf_audit.specs.Names.{NamesData}
 use Rattle.sf_audit.specs.Filters.{SpellPrograms, SpellStack, IsFirstRefusal}
 use Rattle.sf_command.specs.Comparisons.{AreBothKept, AreBothRead}
 use Rattle.sf_command.specs.Files.{AreKept, AreKnownBytes, AreRead}
@@ -140,10 +141,11 @@ module _ (holds : List ℕ → Option (List ℕ)) (paths : List (Bor (List ℕ))
   pub kept_checks : (old new : Option (List ℕ)) → WritesCheck kept old new → ChecksFiles holds paths old new
   kept_checks old new (programs, spell, written) = (kept, kept_stack programs spell, (programs, spell, written))
 
-  pub kept_answers : (digits : List ℕ) (input : Input) (traced brief : Bool) (old new : Option (List ℕ))
-      → decode_sized digits 64 ≡ Ok (input_bytes input) → WritesAnswer kept input traced brief old new
-      → EvaluatesFiles digits traced brief holds paths old new
-  kept_answers digits input traced brief old new spelled (programs, answer, spell, answers, written) =
+  pub kept_answers : (digits : List ℕ) (input : Input) (traced brief : Bool) (names : List NamesData)
+      (old new : Option (List ℕ)) → decode_sized digits 64 ≡ Ok (input_bytes input)
+      → WritesAnswer kept input traced brief names old new
+      → EvaluatesFiles digits traced brief holds paths names old new
+  kept_answers digits input traced brief names old new spelled (programs, answer, spell, answers, written) =
       (input, kept, spelled, kept_stack programs spell, (programs, answer, spell, answers, written))
 
   pub kept_why : (e : Fault) → (e ≡ faults.Memory) ⊎ IsFirstRefusal kept e → RefusesFiles holds paths e

@@ -7,3 +7,4 @@ pub mod CommandLineLemmas
 pub mod SubcommandLemmas
 pub mod RefusalLemmas
 pub mod TraceLemmas
+pub mod NamingLemmas

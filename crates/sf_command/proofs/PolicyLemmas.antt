@@ -11,12 +11,12 @@ use Rattle.sf_audit.specs.Policies.{policy_of}
 use Rattle.sf_command.specs.Audits.{IsPolicyFile, RefusesPolicyFile}
 use Rattle.sf_command.specs.Files.{AreKnownBytes}
 
-option_cases : {X : Type 0} (o : Option X) → (o ≡ None) ⊎ ((x : X) × (o ≡ Some x))
+pub option_cases : {X : Type 0} (o : Option X) → (o ≡ None) ⊎ ((x : X) × (o ≡ Some x))
 option_cases None = inl refl
 option_cases (Some x) = inr (x, refl)
 
 -- a fault is refused memory, or the one that is due
-fails_due : {X : Type 0} (fault : Fault) (due : Result X Fault) → Fails fault due → (fault ≡ faults.Memory)
+pub fails_due : {X : Type 0} (fault : Fault) (due : Result X Fault) → Fails fault due → (fault ≡ faults.Memory)
     ⊎ (due ≡ Err fault)
 fails_due (faults.Ragged f) due h = inr h
 fails_due (faults.Empty f) due h = inr h
@@ -39,6 +39,8 @@ fails_due faults.Count due h = inr h
 fails_due faults.Syntax due h = inr h
 fails_due faults.Input due h = inr h
 fails_due (faults.Mask q) due h = inr h
+fails_due faults.NamesKey due h = inr h
+fails_due faults.NamesRange due h = inr h
 fails_due faults.Read due h = inr h
 fails_due faults.Write due h = inr h
 fails_due faults.Memory due h = inl refl

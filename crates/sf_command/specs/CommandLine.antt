@@ -40,6 +40,10 @@ files_rule name = record (needed_rule name) {
   action = Some Append;
 }
 
+-- an option `--name FILE` that may be given more than once, with one file each time
+abbrev pub repeated_rule : Text → Rule
+repeated_rule name = record (option_rule name) { action = Some Append }
+
 -- `audit --policy FILE [--budget N] [--workers N] [--regions] [--explain-errors] FILTER..`
 abbrev pub audit_line : App
 audit_line = with_rule (with_rule (with_rule (with_rule (with_rule (with_rule (new_app (codes "audit"))
@@ -54,31 +58,38 @@ audit_line = with_rule (with_rule (with_rule (with_rule (with_rule (with_rule (n
 abbrev pub check_line : App
 check_line = with_rule (with_rule (new_app (codes "check")) (switch_rule (codes "explain-errors"))) filters_rule
 
--- `eval --input HEX [--trace] [--trace-true] [--explain-errors] FILTER..`
+-- `eval --input HEX [--trace] [--trace-true] [--names FILE].. [--explain-errors] FILTER..`
 abbrev pub eval_line : App
-eval_line = with_rule (with_rule (with_rule (with_rule (with_rule (new_app (codes "eval"))
+eval_line = with_rule (with_rule (with_rule (with_rule (with_rule (with_rule (new_app (codes "eval"))
     (needed_rule (codes "input")))
     (switch_rule (codes "trace")))
     (switch_rule (codes "trace-true")))
+    (repeated_rule (codes "names")))
     (switch_rule (codes "explain-errors")))
     filters_rule
 
--- `compare --old FILE.. --new FILE.. [--budget N] [--workers N] [--same] [--explain-errors]`
+-- `compare --old FILE.. --new FILE.. [--budget N] [--workers N] [--same] [--rows] [--leaves N] [--names FILE]..
+-- [--explain-errors]`
 abbrev pub compare_line : App
-compare_line = with_rule (with_rule (with_rule (with_rule (with_rule (with_rule (new_app (codes "compare"))
+compare_line = with_rule (with_rule (with_rule (with_rule (with_rule (with_rule (with_rule (with_rule (with_rule
+    (new_app (codes "compare"))
     (files_rule (codes "old")))
     (files_rule (codes "new")))
     (number_rule (codes "budget") 1000000 (codes "100000")))
     (number_rule (codes "workers") 64 (codes "4")))
     (switch_rule (codes "same")))
+    (switch_rule (codes "rows")))
+    (number_rule (codes "leaves") 1000000 (codes "20000")))
+    (repeated_rule (codes "names")))
     (switch_rule (codes "explain-errors"))
 
--- `list [--budget N] [--workers N] [--leaves N] [--explain-errors] FILTER..`
+-- `list [--budget N] [--workers N] [--leaves N] [--names FILE].. [--explain-errors] FILTER..`
 abbrev pub list_line : App
-list_line = with_rule (with_rule (with_rule (with_rule (with_rule (new_app (codes "list"))
+list_line = with_rule (with_rule (with_rule (with_rule (with_rule (with_rule (new_app (codes "list"))
     (number_rule (codes "budget") 1000000 (codes "100000")))
     (number_rule (codes "workers") 64 (codes "4")))
     (number_rule (codes "leaves") 1000000 (codes "20000")))
+    (repeated_rule (codes "names")))
     (switch_rule (codes "explain-errors")))
     filters_rule
 

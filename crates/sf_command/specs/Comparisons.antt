@@ -1,14 +1,23 @@
 -- What `compare` reads and writes.
-use Rattle.std.specs.Prelude.{◌≡◌, ◌⊎◌, ◌++◌, ℕ, List, Option, length}
+use Rattle.std.specs.Prelude.{◌≡◌, ◌⊎◌, ◌++◌, ℕ, Bool, true, false, List, Option, length}
 use Rattle.std.specs.Borrow.{Bor}
 use Rattle.std.specs.Io.KnownBytes.{Appends}
 use Rattle.sf_audit.specs.declared.fault.Fault.{Fault}
 use Rattle.sf_audit.specs.declared.fault.Fault.TheVariants.{Memory, Read, Write}
 use Rattle.sf_audit.specs.Filters.{IsFirstRefusal}
+use Rattle.sf_audit.specs.Names.{NamesData}
 use Rattle.sf_compare.specs.declared.relation.Relation.{Relation}
 use Rattle.sf_compare.specs.Comparisons.{Compared, IsComparison, change_of, comparison_text}
+use Rattle.sf_list.specs.Differences.{AreDifferences, DifferencesData, compared_text}
 use Rattle.sf_command.specs.Files.{AreKept, AreRead, HasUnknown}
 use Rattle.sf_command.specs.Status.{change_status}
+
+-- What is written of a comparison: its text, and where it is asked for the rows in which the answers differ, with
+-- these names of calls.
+abbrev pub WritesCompared : (rows : Bool) → List NamesData → Compared → (old new : Option (List ℕ)) → Type 0
+WritesCompared false names found old new = Appends old new (comparison_text found)
+WritesCompared true names found old new =
+    (x : DifferencesData) × AreDifferences found.settled found.older x × Appends old new (compared_text names found x)
 
 module _ (holds : List ℕ → Option (List ℕ)) (old_paths new_paths : List (Bor (List ℕ))) where
   -- the files are those at the old paths, `older` of them, and then those at the new paths
@@ -31,13 +40,14 @@ module _ (holds : List ℕ → Option (List ℕ)) (old_paths new_paths : List (B
 
   -- `compare`: the files at the paths are read, their two stacks are compared, and what was found is written; the
   -- status is that of the relation that is asked for
-  pub record ComparesFiles (budget : ℕ) (asked : Relation) (status : ℕ) (old new : Option (List ℕ)) : Type 0 where
+  pub record ComparesFiles (names : List NamesData) (budget : ℕ) (asked : Relation) (rows : Bool) (status : ℕ)
+      (old new : Option (List ℕ)) : Type 0 where
     pub files : List (List ℕ)
     pub older : ℕ
     pub read : AreBothRead files older
     pub found : Compared
     pub comparison : IsComparison files older budget found
-    pub written : Appends old new (comparison_text found)
+    pub written : WritesCompared rows names found old new
     pub told : status ≡ change_status (change_of found asked)
 
   -- Why a comparison is refused: a file whose bytes aren't known can't be read; writing or memory failed; or the files

@@ -1,5 +1,6 @@
 pub mod Pairs
 pub mod Files
+pub mod Names
 pub mod Texts
 pub mod Traces
 pub mod Outputs

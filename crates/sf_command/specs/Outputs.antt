@@ -11,6 +11,7 @@ use Rattle.sf_run.specs.Answers.{Answers}
 use Rattle.sf_audit.specs.declared.fault.Fault.{Fault}
 use Rattle.sf_audit.specs.declared.fault.Fault.TheVariants.{Input as InputFault, Memory, Read, Write}
 use Rattle.sf_audit.specs.Filters.{IsFirstRefusal, SpellStack}
+use Rattle.sf_audit.specs.Names.{NamesData}
 use Rattle.sf_command.specs.Files.{AreRead, HasUnknown}
 use Rattle.sf_command.specs.Texts.{check_text}
 use Rattle.sf_command.specs.Traces.{eval_text}
@@ -21,11 +22,14 @@ WritesCheck files old new =
     (programs : List (List Insn)) × SpellStack files programs × Appends old new (check_text programs)
 
 -- The files spell a lawful stack, and the line of what it answers to the input is added to what was written, where that
--- is known. Under it stand the lines that show where the answer comes from, if they are asked for.
-abbrev pub WritesAnswer : List (List ℕ) → Input → (traced brief : Bool) → Option (List ℕ) → Option (List ℕ) → Type 0
-WritesAnswer files input traced brief old new =
+-- is known. Under it stand the lines that show where the answer comes from, if they are asked for, with
+-- these names of calls.
+abbrev pub WritesAnswer : List (List ℕ) → Input → (traced brief : Bool) → List NamesData → Option (List ℕ)
+    → Option (List ℕ)
+    → Type 0
+WritesAnswer files input traced brief names old new =
     (programs : List (List Insn)) × (answer : Answer) × SpellStack files programs
-    × Answers programs input answer × Appends old new (eval_text traced brief programs input answer)
+    × Answers programs input answer × Appends old new (eval_text traced brief names programs input answer)
 
 -- `check`: the files at the paths are read, and what they spell is written
 abbrev pub ChecksFiles : (List ℕ → Option (List ℕ)) → List (Bor (List ℕ)) → Option (List ℕ) → Option (List ℕ) → Type 0
@@ -33,10 +37,10 @@ ChecksFiles holds paths old new = (files : List (List ℕ)) × AreRead holds pat
 
 -- `eval`: the digits spell an input, the files at the paths are read, and what they answer to it is written
 abbrev pub EvaluatesFiles : List ℕ → (traced brief : Bool) → (List ℕ → Option (List ℕ)) → List (Bor (List ℕ))
-    → Option (List ℕ) → Option (List ℕ) → Type 0
-EvaluatesFiles digits traced brief holds paths old new =
+    → List NamesData → Option (List ℕ) → Option (List ℕ) → Type 0
+EvaluatesFiles digits traced brief holds paths names old new =
     (input : Input) × (files : List (List ℕ)) × (decode_sized digits 64 ≡ Ok (input_bytes input))
-    × AreRead holds paths files × WritesAnswer files input traced brief old new
+    × AreRead holds paths files × WritesAnswer files input traced brief names old new
 
 -- Why the files at the paths are refused: one whose bytes aren't known can't be read; memory ran out, which can come at
 -- any time; or all were read and make no lawful stack.

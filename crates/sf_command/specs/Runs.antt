@@ -6,6 +6,7 @@ use Rattle.std.specs.Str.Parse.{IsNumeral, digits_value, without_leading_plus}
 use Rattle.clap.specs.Words.{IsAmong, Kinds, Row, Text, all_of, fault_of, first_of, one_of, subcommand_of}
 use Rattle.clap.specs.declared.error.kind.ErrorKind.{ErrorKind}
 use Rattle.clap.specs.declared.error.kind.ErrorKind.TheVariants.{DisplayHelp, DisplayVersion}
+use Rattle.sf_audit.specs.Names.{NamesData}
 use Rattle.sf_audit.specs.declared.fault.Fault.{Fault}
 use Rattle.sf_audit.specs.declared.fault.Fault.TheVariants.{Memory, Write}
 use Rattle.sf_compare.specs.declared.relation.Relation.{Relation}
@@ -14,6 +15,7 @@ use Rattle.sf_command.specs.Audits.{AuditsFiles, RefusesAudit}
 use Rattle.sf_command.specs.CommandLine.{command_line}
 use Rattle.sf_command.specs.Comparisons.{ComparesFiles, RefusesComparison}
 use Rattle.sf_command.specs.Listings.{ListsFiles, RefusesListing}
+use Rattle.sf_command.specs.Names.{AreNamesRead, RefusesNaming}
 use Rattle.sf_command.specs.Outputs.{ChecksFiles, EvaluatesFiles, RefusesCheck, RefusesEval}
 
 -- the errors that `clap` may give for the words; none where the words fit the form
@@ -58,6 +60,12 @@ IsUnasked named =
 abbrev pub ArePaths : Text → List Row → List (Bor Text) → Type 0
 ArePaths name rows paths = map (λ p. p.now) paths ≡ paths_of name rows
 
+-- the files of names that are named have these names
+pub record AreNamed (holds : Text → Option Text) (rows : List Row) (names : List NamesData) : Type 0 where
+  pub paths : List (Bor Text)
+  pub named : ArePaths (codes "names") rows paths
+  pub read : AreNamesRead holds paths names
+
 module _ (holds : Text → Option Text) (rows : List Row) (status : ℕ) (old new : Option Text) where
   -- the files that are named were audited by the policy file that is named
   pub record Audits : Type 0 where
@@ -84,7 +92,9 @@ module _ (holds : Text → Option Text) (rows : List Row) (status : ℕ) (old ne
     pub in_full : IsSwitch (one_of (codes "trace") rows) traced
     pub brief : Bool
     pub in_brief : IsSwitch (one_of (codes "trace-true") rows) brief
-    pub evaluated : EvaluatesFiles (text_of (codes "input") rows) traced brief holds paths old new
+    pub names : List NamesData
+    pub called : AreNamed holds rows names
+    pub evaluated : EvaluatesFiles (text_of (codes "input") rows) traced brief holds paths names old new
     pub told : status ≡ 0
 
   -- the old and the new files that are named were compared
@@ -97,7 +107,11 @@ module _ (holds : Text → Option Text) (rows : List Row) (status : ℕ) (old ne
     pub counted : IsOptionNumber (one_of (codes "budget") rows) 1000000 100000 budget
     pub asked : Relation
     pub switched : IsAskedRelation (one_of (codes "same") rows) asked
-    pub compared : ComparesFiles holds old_paths new_paths budget asked status old new
+    pub with_rows : Bool
+    pub listed : IsSwitch (one_of (codes "rows") rows) with_rows
+    pub names : List NamesData
+    pub called : AreNamed holds rows names
+    pub compared : ComparesFiles holds old_paths new_paths names budget asked with_rows status old new
 
   -- the files that are named were listed
   pub record Lists : Type 0 where
@@ -105,7 +119,9 @@ module _ (holds : Text → Option Text) (rows : List Row) (status : ℕ) (old ne
     pub named : ArePaths (codes "filters") rows paths
     pub budget : ℕ
     pub counted : IsOptionNumber (one_of (codes "budget") rows) 1000000 100000 budget
-    pub listed : ListsFiles holds paths budget status old new
+    pub names : List NamesData
+    pub called : AreNamed holds rows names
+    pub listed : ListsFiles holds paths names budget status old new
 
 -- one of the five subcommands is named
 abbrev pub IsKnown : Option (Text × List Row) → Type 0
@@ -158,15 +174,20 @@ DoesAsTold holds words status old new =
 abbrev pub OnPaths : Text → List Row → (List (Bor Text) → Type 0) → Type 0
 OnPaths name rows P = (paths : List (Bor Text)) × ArePaths name rows paths × P paths
 
+-- a file of names is refused, or else this is so
+abbrev pub OnNames : (Text → Option Text) → List Row → Fault → Type 0 → Type 0
+OnNames holds rows fault P = OnPaths (codes "names") rows (λ paths. RefusesNaming holds paths fault) ⊎ P
+
 -- why what the named subcommand asks for is refused
 abbrev pub RefusesAs : (Text → Option Text) → Option (Text × List Row) → Fault → Type 0
 RefusesAs holds named fault = ByName
     (λ rows. OnPaths (codes "filters") rows (λ paths. RefusesAudit holds (text_of (codes "policy") rows) paths fault))
     (λ rows. OnPaths (codes "filters") rows (λ paths. RefusesCheck holds paths fault))
-    (λ rows. OnPaths (codes "filters") rows (λ paths. RefusesEval (text_of (codes "input") rows) holds paths fault))
-    (λ rows. OnPaths (codes "old") rows (λ old. OnPaths (codes "new") rows
-    (λ new. RefusesComparison holds old new fault)))
-    (λ rows. OnPaths (codes "filters") rows (λ paths. RefusesListing holds paths fault))
+    (λ rows. OnNames holds rows fault (OnPaths (codes "filters") rows
+    (λ paths. RefusesEval (text_of (codes "input") rows) holds paths fault)))
+    (λ rows. OnNames holds rows fault (OnPaths (codes "old") rows (λ old. OnPaths (codes "new") rows
+    (λ new. RefusesComparison holds old new fault))))
+    (λ rows. OnNames holds rows fault (OnPaths (codes "filters") rows (λ paths. RefusesListing holds paths fault)))
     named
 
 -- Why what the words ask for is refused. Memory can run out at any time, and writing can fail even for help; the other

@@ -15,6 +15,7 @@ use Rattle.sf_run.specs.declared.walking.Met.TheVariants.{Tested, Divided, Retur
 use Rattle.sf_run.specs.Answers.{action_bits, action_of, data_bits, action_number}
 use Rattle.sf_run.specs.Walks.{CourseData, walk_of}
 use Rattle.sf_audit.specs.Keys.{word_keys}
+use Rattle.sf_audit.specs.Names.{NamesData, names_between, names_words}
 use Rattle.sf_audit.specs.Reports.{action_text, line}
 use Rattle.sf_command.specs.Texts.{answer_text}
 
@@ -32,11 +33,15 @@ word_text n = codes "0x" ++ word_digits n
 abbrev pub field_line : List ℕ → ℕ → ℕ → List ℕ
 field_line name low high = name ++ (codes " 0x" ++ (word_digits high ++ (word_digits low ++ 10 ∷ [])))
 
--- the lines of the call's number, in both ways in which a policy may write it, the architecture, and the instruction
--- pointer
-abbrev pub call_text : Input → List ℕ
-call_text d =
-    line (codes "nr" ∷ word_text (slice_index d.words 0) ∷ decimal (slice_index d.words 0) ∷ [])
+-- the line of the call's number, in both ways in which a policy may write it, with its names on its architecture
+abbrev pub nr_line : List NamesData → ℕ → ℕ → List ℕ
+nr_line names arch nr = codes "nr " ++ (word_text nr ++ 32 ∷ (decimal nr
+    ++ (names_words 0 (names_between names arch nr nr) ++ 10 ∷ [])))
+
+-- the lines of the call's number, the architecture, and the instruction pointer
+abbrev pub call_text : List NamesData → Input → List ℕ
+call_text names d =
+    nr_line names (slice_index d.words 1) (slice_index d.words 0)
     ++ (line (codes "arch" ∷ word_text (slice_index d.words 1) ∷ [])
     ++ field_line (codes "ip") (slice_index d.words 2) (slice_index d.words 3))
 
@@ -55,8 +60,8 @@ last_arguments d =
     ++ field_line (codes "arg5") (slice_index d.words 14) (slice_index d.words 15))
 
 -- the lines of all fields of the input
-abbrev pub input_text : Input → List ℕ
-input_text d = call_text d ++ (first_arguments d ++ last_arguments d)
+abbrev pub input_text : List NamesData → Input → List ℕ
+input_text names d = call_text names d ++ (first_arguments d ++ last_arguments d)
 
 -- ---- which word A is
 
@@ -198,12 +203,12 @@ filters_text brief zero action programs d stood = []
 filters_text brief (suc n) action programs d stood =
     next_text brief (n + 1) action stood (filters_text brief n action programs d) (walk_at programs d n)
 
--- the lines of the input and of all filters of the stack, for the stack's answer
-abbrev pub trace_text : Bool → List (List Insn) → Input → Answer → List ℕ
-trace_text brief programs d answer =
-    input_text d ++ filters_text brief (length programs) (action_number answer.action) programs d false
+-- the lines of the input, with these names of calls, and of all filters of the stack, for the stack's answer
+abbrev pub trace_text : Bool → List NamesData → List (List Insn) → Input → Answer → List ℕ
+trace_text brief names programs d answer =
+    input_text names d ++ filters_text brief (length programs) (action_number answer.action) programs d false
 
 -- the line of the answer; under it where the answer comes from, if that is asked for, in full or in brief
-abbrev pub eval_text : (traced brief : Bool) → List (List Insn) → Input → Answer → List ℕ
-eval_text false false programs d answer = answer_text answer
-eval_text traced brief programs d answer = answer_text answer ++ trace_text brief programs d answer
+abbrev pub eval_text : (traced brief : Bool) → List NamesData → List (List Insn) → Input → Answer → List ℕ
+eval_text false false names programs d answer = answer_text answer
+eval_text traced brief names programs d answer = answer_text answer ++ trace_text brief names programs d answer

@@ -16,7 +16,7 @@ use crate::files::{Files, read_all};
 use crate::texts::{answer_text, check_text};
 use crate::tracing::push_trace;
 use hex::FromHex;
-use sf_audit::{Fault, stack_of, write_bytes};
+use sf_audit::{Fault, Names, stack_of, write_bytes};
 use sf_check::Stack;
 use sf_insn::{Input, input_of_bytes};
 use sf_run::answer;
@@ -63,9 +63,10 @@ fn eval_text(
     input: &Input,
     traced: bool,
     brief: bool,
+    names: &[Names],
 ) -> Result<String, Fault>
     ensures told { IfOk result (λ text. (a : Answer) × Answers stack.now input.now a
-        × (string_bytes text ≡ eval_text traced brief stack.now input.now a)) }
+        × (string_bytes text ≡ eval_text traced brief names.now stack.now input.now a)) }
     ensures refused { IfErr result (λ e. e ≡ MemoryFault) }
 {
     let answer = answer(stack, input);
@@ -73,7 +74,7 @@ fn eval_text(
     if !traced && !brief {
         return Ok(text);
     }
-    push_trace(alloc, &mut text, stack, input, answer, brief)?;
+    push_trace(alloc, &mut text, stack, input, answer, brief, names)?;
     Ok(text)
 }
 
@@ -84,17 +85,18 @@ fn evaluate_filters<O: Write>(
     input: &Input,
     traced: bool,
     brief: bool,
+    names: &[Names],
     filters: &[Vec<u8>],
     out: &mut O,
 ) -> Result<(), Fault>
     ensures written { OnOk result (WritesAnswer (map (λ f. f.items) filters.now) input.now traced
-        brief (O.contents out.old) (O.contents out.new)) }
+        brief names.now (O.contents out.old) (O.contents out.new)) }
     ensures refused { IfErr result (λ e. (e ≡ WriteFault)
         ⊎ (((e ≡ MemoryFault) ⊎ IsFirstRefusal (map (λ f. f.items) filters.now) e)
         × (out.new ≡ out.old))) }
 {
     let stack = stack_of(alloc, filters)?;
-    let text = eval_text(alloc, &stack, input, traced, brief)?;
+    let text = eval_text(alloc, &stack, input, traced, brief, names)?;
     print(&text, out)
 }
 
@@ -130,13 +132,14 @@ pub fn evaluate<F: Files, O: Write>(
     digits: &str,
     traced: bool,
     brief: bool,
+    names: &[Names],
     paths: &[&str],
     files: &mut F,
     notes: &mut Notes,
     out: &mut O,
 ) -> Result<(), Fault>
     ensures written { OnOk result (EvaluatesFiles digits.now traced brief
-        (F.holds files.old) paths.now (O.contents out.old) (O.contents out.new)) }
+        (F.holds files.old) paths.now names.now (O.contents out.old) (O.contents out.new)) }
     ensures unspelled { (IsOk (decode_sized digits.now 64) → ⊥) → (result ≡ Err InputFault)
         × (files.new ≡ files.old) × (out.new ≡ out.old) }
     ensures refused { IsOk (decode_sized digits.now 64)
@@ -146,5 +149,5 @@ pub fn evaluate<F: Files, O: Write>(
 {
     let input = input_of(digits)?;
     let filters = read_all(alloc, paths, files, notes)?;
-    evaluate_filters(alloc, &input, traced, brief, &filters, out)
+    evaluate_filters(alloc, &input, traced, brief, names, &filters, out)
 }

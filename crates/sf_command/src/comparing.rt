@@ -1,22 +1,23 @@
 //! The subcommand `compare`: reads the filter files of two stacks, compares the stacks and writes what is found.
 
-ghost use Rattle.std.specs.Prelude.{◌≡◌, ◌<◌, ◌≤◌, ◌⊎◌, length, map, IfOk, IfErr};
+ghost use Rattle.std.specs.Prelude.{◌≡◌, ◌<◌, ◌≤◌, ◌⊎◌, length, map, IfOk, IfErr, OnOk};
 ghost use Rattle.sf_audit.specs.declared.fault.Fault.TheVariants.{Memory as MemoryFault, Read as ReadFault, Write as WriteFault};
-ghost use Rattle.sf_command.specs.Comparisons.{AreBothKept, ComparesFiles, RefusesComparison};
+ghost use Rattle.sf_command.specs.Comparisons.{AreBothKept, ComparesFiles, RefusesComparison, WritesCompared};
 ghost use Rattle.sf_command.specs.Files.{HasUnknown};
 
 use crate::explaining::Notes;
 use crate::files::{Files, read_all};
 use crate::status::status_of_change;
-use sf_audit::Fault;
-use sf_compare::{Relation, write_comparison};
+use sf_audit::{Fault, Names};
+use sf_compare::{Comparison, Relation, write_comparison};
 use sf_crew::Open;
+use sf_list::{draw_differences, write_differences};
 use std::alloc::Global;
 use std::io::Write;
 use std::sync::Wait;
 use std::thread::Threads;
 
-/// How a comparison is done, and which relation its exit status is about.
+/// How a comparison is done, what is written of it, and which relation its exit status is about.
 #[derive(Clone, Copy)]
 pub struct Terms {
     /// The most works that are committed, 1 to 1,000,000.
@@ -25,6 +26,10 @@ pub struct Terms {
     pub workers: u8,
     /// The relation that the exit status is about.
     pub asked: Relation,
+    /// Whether the rows in which the answers differ are written too.
+    pub rows: bool,
+    /// The most leaves of these rows that are drawn, 1 to 1,000,000.
+    pub leaves: u32,
 }
 
 /// The bytes of the old filter files and then those of the new ones, of each as many as `read_all` keeps; and how many
@@ -50,6 +55,28 @@ fn read_both<F: Files>(
     Ok((filters, older))
 }
 
+/// Writes what is found of two stacks, and where it is asked for the rows in which their answers differ, with these names of
+/// calls. `Write` where that fails, after a beginning of the text; `Memory` where an allocation is refused: nothing was
+/// written then.
+fn write_compared<O: Write>(
+    alloc: Global,
+    comparison: &Comparison,
+    names: &[Names],
+    terms: Terms,
+    out: &mut O,
+) -> Result<(), Fault>
+    ensures written { OnOk result (WritesCompared terms.rows names.now comparison.now
+        (O.contents out.old) (O.contents out.new)) }
+    ensures refused { IfErr result (λ e. (e ≡ WriteFault)
+        ⊎ ((e ≡ MemoryFault) × (out.new ≡ out.old))) }
+{
+    if !terms.rows {
+        return write_comparison(alloc, comparison, out);
+    }
+    let differences = draw_differences(alloc, comparison, terms.leaves as usize)?;
+    write_differences(alloc, comparison, &differences, names, out)
+}
+
 /// Reads the old filter files and then the new ones, each named in order of installation; compares their stacks, writes
 /// what is found, and gives the exit status of the relation that is asked for.
 ///
@@ -61,6 +88,7 @@ pub fn compare<R: Threads + Wait + Sync, F: Files, O: Write>(
     alloc: Global,
     old: &[&str],
     new: &[&str],
+    names: &[Names],
     terms: Terms,
     files: &mut F,
     notes: &mut Notes,
@@ -68,7 +96,7 @@ pub fn compare<R: Threads + Wait + Sync, F: Files, O: Write>(
 ) -> Result<u8, Fault>
     requires workers { (0 < terms.workers) × (terms.workers ≤ 64) }
     ensures written { IfOk result (λ s. ComparesFiles (F.holds files.old) old.now new.now
-        terms.budget terms.asked s (O.contents out.old) (O.contents out.new)) }
+        names.now terms.budget terms.asked terms.rows s (O.contents out.old) (O.contents out.new)) }
     ensures status { IfOk result (λ s. s ≤ 2) }
     ensures refused { IfErr result (RefusesComparison (F.holds files.old) old.now new.now) }
     ensures quiet { IfErr result (λ e. (e ≡ WriteFault) ⊎ (out.new ≡ out.old)) }
@@ -76,7 +104,7 @@ pub fn compare<R: Threads + Wait + Sync, F: Files, O: Write>(
     let (filters, older) = read_both(alloc, old, new, files, notes)?;
     let workers = usize::from(terms.workers);
     let comparison = sf_compare::compare(rt, alloc, &filters, older, terms.budget, workers, &Open)?;
-    write_comparison(alloc, &comparison, out)?;
+    write_compared(alloc, &comparison, names, terms, out)?;
     let status = status_of_change(comparison.change(terms.asked));
     files.take_over(comparison);
     Ok(status)

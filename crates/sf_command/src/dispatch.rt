@@ -1,29 +1,32 @@
 //! What the program does, from the words of its command line to its exit status.
-ghost use Rattle.std.specs.Prelude.{◌≡◌, ◌≢◌, ◌≤◌, ◌⊎◌, [], codes, map, string_bytes, IfOk, IfErr};
+ghost use Rattle.std.specs.Prelude.{◌≡◌, ◌≢◌, ◌≤◌, ◌⊎◌, ℕ, List, [], codes, map, string_bytes, IfOk, IfErr};
 ghost use Rattle.clap.specs.Words.{found_of, kind_of, rows_of, subcommand_rows_of};
 ghost use Rattle.sf_audit.specs.Faults.{fault_number};
 ghost use Rattle.sf_audit.specs.declared.fault.Fault.TheVariants.{Memory as MemoryFault, Write as WriteFault};
 ghost use Rattle.sf_command.specs.Audits.{RefusesAudit};
 ghost use Rattle.sf_command.specs.Comparisons.{RefusesComparison};
 ghost use Rattle.sf_command.specs.Listings.{RefusesListing};
+ghost use Rattle.sf_command.specs.Names.{RefusesNaming};
 ghost use Rattle.sf_command.specs.Outputs.{RefusesCheck, RefusesEval};
-ghost use Rattle.sf_command.specs.Runs.{Audits, Checks, Compares, Evaluates, RunsAs, IsKnown, IsHelp, Lists, DoesAsTold, OnPaths, RefusesAs, RefusesAsTold, WritesText, errors_at, text_of};
+ghost use Rattle.sf_command.specs.Runs.{AreNamed, Audits, Checks, Compares, Evaluates, RunsAs, IsKnown, IsHelp, Lists, DoesAsTold, OnNames, OnPaths, RefusesAs, RefusesAsTold, WritesText, errors_at, text_of};
 ghost use Rattle.sf_command.specs.Status.{fault_status};
 
 use crate::auditing::{Options, audit};
-use crate::checking::{check, evaluate, print};
+use crate::checking::{check, evaluate, input_of, print};
 use crate::comparing::{Terms, compare};
 use crate::explaining::Notes;
 use crate::files::Files;
 use crate::listing::{Limits, list};
+use crate::naming::read_all_names;
 use crate::options::{
-    asked_of, brief_of, budget_of, leaves_of, regions_of, text_of, traced_of, workers_of,
+    asked_of, brief_of, budget_of, leaves_of, regions_of, text_of, traced_of, with_rows_of,
+    workers_of,
 };
 use crate::telling::tell;
 use crate::words;
 use clap::ArgMatches;
 use clap::error::ErrorKind;
-use sf_audit::Fault;
+use sf_audit::{Fault, Names};
 use std::alloc::Global;
 use std::io::Write;
 use std::sync::Wait;
@@ -75,7 +78,25 @@ fn run_check<F: Files, O: Write>(
     Ok(0)
 }
 
-/// Runs `eval` on the input and the filter files that the matches of the subcommand name.
+/// The names of the files of names that the matches of a subcommand name. The refusals are those of `read_all_names`.
+fn names_of<F: Files>(
+    alloc: Global,
+    found: &ArgMatches<'_>,
+    files: &mut F,
+    notes: &mut Notes,
+) -> Result<Vec<Names>, Fault>
+    ensures called { IfOk result (λ v. AreNamed (F.holds files.old)
+        (rows_of (found_of found.now)) v.items) }
+    ensures refused { IfErr result (λ e. OnPaths (codes "names") (rows_of (found_of found.now))
+        (λ paths. RefusesNaming (F.holds files.old) paths e)) }
+    ensures same { (p : List ℕ) → F.holds files.new p ≡ F.holds files.old p }
+{
+    let paths = found.get_strs("names").unwrap_or(&[]);
+    read_all_names(alloc, paths, files, notes)
+}
+
+/// Runs `eval` on the input and the filter files that the matches of the subcommand name. An input that isn't spelled is
+/// refused first, before any file is read.
 fn run_eval<F: Files, O: Write>(
     alloc: Global,
     found: &ArgMatches<'_>,
@@ -86,15 +107,21 @@ fn run_eval<F: Files, O: Write>(
     ensures done { IfOk result (λ s. Evaluates (F.holds files.old)
         (rows_of (found_of found.now)) s (O.contents out.old) (O.contents out.new)) }
     ensures quiet { IfErr result (λ e. (e ≡ WriteFault) ⊎ (out.new ≡ out.old)) }
-    ensures refused { IfErr result (λ e. OnPaths (codes "filters") (rows_of (found_of found.now))
+    ensures refused { IfErr result (λ e. OnNames (F.holds files.old)
+        (rows_of (found_of found.now)) e
+        (OnPaths (codes "filters") (rows_of (found_of found.now))
         (λ paths. RefusesEval (text_of (codes "input") (rows_of (found_of found.now)))
-        (F.holds files.old) paths e)) }
+        (F.holds files.old) paths e))) }
 {
     let paths = found.get_strs("filters").unwrap_or(&[]);
     let digits = text_of(found, "input");
+    let _input = input_of(digits)?;
+    let names = names_of(alloc, found, files, notes)?;
     let traced = traced_of(found);
     let brief = brief_of(found);
-    evaluate(alloc, digits, traced, brief, paths, files, notes, out)?;
+    evaluate(
+        alloc, digits, traced, brief, &names, paths, files, notes, out,
+    )?;
     Ok(0)
 }
 
@@ -111,18 +138,23 @@ fn run_compare<R: Threads + Wait + Sync, F: Files, O: Write>(
         (O.contents out.old) (O.contents out.new)) }
     ensures status { IfOk result (λ s. s ≤ 2) }
     ensures quiet { IfErr result (λ e. (e ≡ WriteFault) ⊎ (out.new ≡ out.old)) }
-    ensures refused { IfErr result (λ e. OnPaths (codes "old") (rows_of (found_of found.now))
+    ensures refused { IfErr result (λ e. OnNames (F.holds files.old)
+        (rows_of (found_of found.now)) e
+        (OnPaths (codes "old") (rows_of (found_of found.now))
         (λ old. OnPaths (codes "new") (rows_of (found_of found.now))
-        (λ new. RefusesComparison (F.holds files.old) old new e))) }
+        (λ new. RefusesComparison (F.holds files.old) old new e)))) }
 {
+    let names = names_of(alloc, found, files, notes)?;
     let old = found.get_strs("old").unwrap_or(&[]);
     let new = found.get_strs("new").unwrap_or(&[]);
     let terms = Terms {
         budget: budget_of(found),
         workers: workers_of(found),
         asked: asked_of(found),
+        rows: with_rows_of(found),
+        leaves: leaves_of(found),
     };
-    compare(rt, alloc, old, new, terms, files, notes, out)
+    compare(rt, alloc, old, new, &names, terms, files, notes, out)
 }
 
 /// Lists as the matches of the subcommand say.
@@ -138,16 +170,19 @@ fn run_list<R: Threads + Wait + Sync, F: Files, O: Write>(
         (O.contents out.old) (O.contents out.new)) }
     ensures status { IfOk result (λ s. s ≤ 2) }
     ensures quiet { IfErr result (λ e. (e ≡ WriteFault) ⊎ (out.new ≡ out.old)) }
-    ensures refused { IfErr result (λ e. OnPaths (codes "filters") (rows_of (found_of found.now))
-        (λ paths. RefusesListing (F.holds files.old) paths e)) }
+    ensures refused { IfErr result (λ e. OnNames (F.holds files.old)
+        (rows_of (found_of found.now)) e
+        (OnPaths (codes "filters") (rows_of (found_of found.now))
+        (λ paths. RefusesListing (F.holds files.old) paths e))) }
 {
+    let names = names_of(alloc, found, files, notes)?;
     let paths = found.get_strs("filters").unwrap_or(&[]);
     let limits = Limits {
         budget: budget_of(found),
         workers: workers_of(found),
         leaves: leaves_of(found),
     };
-    list(rt, alloc, paths, limits, files, notes, out)
+    list(rt, alloc, paths, &names, limits, files, notes, out)
 }
 
 /// Runs the subcommand that the command line names, and gives its exit status; 4 where it names none of the five.

@@ -22,7 +22,7 @@ pub struct Notes {
     pub policy: Vec<u8>,
     /// Why the policy is refused, if `read_policy` refuses it.
     pub refusal: Option<Refusal>,
-    /// How many files were read, the policy file among them.
+    /// How many files were read, the policy file and files of names among them.
     pub files: usize,
     /// The lines that explain the fault, where they are asked for and there is memory for them.
     pub explanation: Option<String>,
@@ -85,13 +85,39 @@ fn filter_path<'a>(found: &ArgMatches<'a>, place: usize) -> &'a str {
     ""
 }
 
-/// The path of the first file that wasn't read, where `read` files were. The policy file is read before the filter
-/// files.
-fn unread_path<'a>(found: &ArgMatches<'a>, read: usize) -> &'a str {
-    match (found.get_str("policy"), read.checked_sub(1)) {
-        (Some(policy), None) => policy,
-        (Some(_), Some(place)) => filter_path(found, place),
-        (None, _) => filter_path(found, read),
+/// The path of the file at a place among all that are read, counted from 0. The policy file, or the files of names, are
+/// read before the filter files.
+fn path_at<'a>(found: &ArgMatches<'a>, place: usize) -> &'a str {
+    if let Some(policy) = found.get_str("policy") {
+        return match place.checked_sub(1) {
+            Some(place) => filter_path(found, place),
+            None => policy,
+        };
+    }
+    let names = found.get_strs("names").unwrap_or(&[]);
+    match names.get(place) {
+        Some(path) => *path,
+        None => filter_path(found, place.saturating_sub(names.len())),
+    }
+}
+
+/// Adds the line of the file of names that was read last, which is refused.
+fn push_names(text: &mut String, found: &ArgMatches<'_>, notes: &Notes) -> Result<(), AllocError> {
+    let path = path_at(found, notes.files.saturating_sub(1));
+    write!(text, "names {path:?}\n")
+}
+
+/// Adds the line of the policy file, and where the policy is refused, as far as that is known; or of the file of names,
+/// where there is no policy.
+fn push_asked(
+    alloc: Global,
+    text: &mut String,
+    found: &ArgMatches<'_>,
+    notes: &Notes,
+) -> Result<(), AllocError> {
+    match found.get_str("policy") {
+        Some(path) => push_policy(alloc, text, path, notes),
+        None => push_names(text, found, notes),
     }
 }
 
@@ -172,7 +198,7 @@ fn told(
             write!(text, "filter {filter} {path:?}\n")?;
         }
         Fault::Input => push_input(&mut text, found.get_str("input").unwrap_or(""))?,
-        Fault::Read => push_unread(&mut text, unread_path(found, notes.files), reason)?,
+        Fault::Read => push_unread(&mut text, path_at(found, notes.files), reason)?,
         Fault::Version
         | Fault::TopKey
         | Fault::Count
@@ -181,13 +207,15 @@ fn told(
         | Fault::Range { .. }
         | Fault::Actions { .. }
         | Fault::Name { .. }
-        | Fault::Mask { .. } => {
-            let path = found.get_str("policy").unwrap_or("");
-            push_policy(alloc, &mut text, path, notes)?;
-        }
+        | Fault::Mask { .. }
+        | Fault::NamesKey
+        | Fault::NamesRange => push_asked(alloc, &mut text, found, notes)?,
         _ => {}
     }
-    let meaning = meaning_of(fault);
+    let meaning = match (fault, found.get_str("policy")) {
+        (Fault::Syntax, None) => "the file of names is no UTF-8 or no TOML",
+        _ => meaning_of(fault),
+    };
     write!(text, "{meaning}\n")?;
     Ok(text)
 }

@@ -10,6 +10,7 @@ mod files;
 mod listing;
 mod loaded;
 mod meanings;
+mod naming;
 mod options;
 mod places;
 mod policies;

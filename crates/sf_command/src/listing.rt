@@ -7,7 +7,7 @@ ghost use Rattle.sf_command.specs.Listings.{ListsFiles, RefusesListing};
 use crate::explaining::Notes;
 use crate::files::{Files, read_all};
 use crate::status::status_of_listing;
-use sf_audit::Fault;
+use sf_audit::{Fault, Names};
 use sf_crew::Open;
 use sf_list::write_listing;
 use std::alloc::Global;
@@ -26,8 +26,8 @@ pub struct Limits {
     pub leaves: u32,
 }
 
-/// Reads the filter files, which are named in order of installation; explores their stack, writes its rows, and gives the
-/// exit status: 0 where each input lies in a row with one answer, and else 2.
+/// Reads the filter files, which are named in order of installation; explores their stack, writes its rows, with these names
+/// of calls, and gives the exit status: 0 where each input lies in a row with one answer, and else 2.
 ///
 /// Refusals, tried in this order: `Read` where a file can't be read; what `list` of the library refuses; `Write` where
 /// standard output can't be written, after a beginning of the text. `Memory` can come anywhere. After any error but
@@ -36,13 +36,15 @@ pub fn list<R: Threads + Wait + Sync, F: Files, O: Write>(
     rt: &R,
     alloc: Global,
     paths: &[&str],
+    names: &[Names],
     limits: Limits,
     files: &mut F,
     notes: &mut Notes,
     out: &mut O,
 ) -> Result<u8, Fault>
     requires workers { (0 < limits.workers) × (limits.workers ≤ 64) }
-    ensures written { IfOk result (λ s. ListsFiles (F.holds files.old) paths.now limits.budget s
+    ensures written { IfOk result (λ s. ListsFiles (F.holds files.old) paths.now names.now
+        limits.budget s
         (O.contents out.old) (O.contents out.new)) }
     ensures status { IfOk result (λ s. s ≤ 2) }
     ensures refused { IfErr result (RefusesListing (F.holds files.old) paths.now) }
@@ -52,7 +54,7 @@ pub fn list<R: Threads + Wait + Sync, F: Files, O: Write>(
     let workers = usize::from(limits.workers);
     let leaves = limits.leaves as usize;
     let listing = sf_list::list(rt, alloc, &filters, limits.budget, workers, leaves, &Open)?;
-    let whole = write_listing(alloc, &listing, out)?;
+    let whole = write_listing(alloc, &listing, names, out)?;
     let status = status_of_listing(whole);
     files.take_over(listing);
     Ok(status)

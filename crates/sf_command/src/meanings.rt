@@ -29,6 +29,10 @@ pub(crate) fn meaning_of(fault: &Fault) -> &'static str {
         Fault::Syntax => "the policy is no UTF-8 or no TOML",
         Fault::Input => "the input isn't 128 hexadecimal digits",
         Fault::Mask { .. } => "a value with a bit outside its mask",
+        Fault::NamesKey => {
+            "an unknown key, a missing one, a value of another kind, or a name with other signs than letters, digits and _"
+        }
+        Fault::NamesRange => "a number outside 0 to 4294967295",
         Fault::Read => "a file can't be read, or has more than 1 MiB",
         Fault::Write => "standard output can't be written, or a signal interrupted that",
         Fault::Memory => "memory ran out",

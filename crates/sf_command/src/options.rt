@@ -78,6 +78,13 @@ pub fn asked_of(found: &ArgMatches<'_>) -> Relation
     }
 }
 
+/// Whether a comparison lists the rows in which the answers differ.
+pub fn with_rows_of(found: &ArgMatches<'_>) -> bool
+    ensures { IsSwitch (one_of (codes "rows") (rows_of (found_of found.now))) result }
+{
+    is_on(found, "rows")
+}
+
 /// Whether a fault is explained under its line.
 pub fn explains_of(found: &ArgMatches<'_>) -> bool
     ensures { IsSwitch (one_of (codes "explain-errors") (rows_of (found_of found.now))) result }

@@ -2,10 +2,10 @@
 ghost use Rattle.std.specs.Prelude.{◌≡◌, ◌<◌, ◌++◌, ◌==◌, ◌&&◌, ◌||◌, not, false, OnOk, IfOk, Some, length, string_bytes};
 ghost use Rattle.sf_run.specs.Answers.{action_bits, action_number};
 ghost use Rattle.sf_run.specs.Walks.{CourseData, walk_of};
-ghost use Rattle.sf_command.specs.Traces.{call_text, compared_text, field_line, filters_text, first_arguments, input_text, is_false, last_arguments, stands_text, meeting_line, meeting_lines, returned_line, shown_line, sign_text, test_line, trace_text, truth_text, walk_text, word_text};
+ghost use Rattle.sf_command.specs.Traces.{call_text, compared_text, field_line, filters_text, first_arguments, input_text, is_false, last_arguments, stands_text, meeting_line, meeting_lines, nr_line, returned_line, shown_line, sign_text, test_line, trace_text, truth_text, walk_text, word_text};
 
 use crate::loaded::{push_name, words_at};
-use sf_audit::push_action;
+use sf_audit::{Names, push_action, push_names_between};
 use sf_check::{Program, Stack};
 use sf_insn::{Input, Test};
 use sf_run::{Action, Answer, Course, Fault, Meeting, Met, walk};
@@ -28,13 +28,24 @@ fn push_field(text: &mut String, name: &str, low: u32, high: u32) -> Result<(), 
     write!(text, "{low:08X}\n")
 }
 
-/// Adds the lines of the call's number, the architecture and the instruction pointer.
-fn push_call(text: &mut String, input: &Input) -> Result<(), AllocError>
-    ensures { OnOk result (string_bytes text.new ≡ string_bytes text.old ++ call_text input.now) }
+/// Adds the line of the call's number, with its names on its architecture.
+fn push_nr(text: &mut String, names: &[Names], arch: u32, nr: u32) -> Result<(), AllocError>
+    ensures { OnOk result (string_bytes text.new ≡ string_bytes text.old
+        ++ nr_line names.now arch nr) }
 {
-    let nr = input.words[0];
-    write!(text, "nr 0x{nr:08X} {nr}\n")?;
+    write!(text, "nr 0x{nr:08X} {nr}")?;
+    push_names_between(text, 0, names, arch, nr, nr)?;
+    text.push_str("\n")?;
+    Ok(())
+}
+
+/// Adds the lines of the call's number, with its names, the architecture and the instruction pointer.
+fn push_call(text: &mut String, names: &[Names], input: &Input) -> Result<(), AllocError>
+    ensures { OnOk result (string_bytes text.new ≡ string_bytes text.old
+        ++ call_text names.now input.now) }
+{
     let arch = input.words[1];
+    push_nr(text, names, arch, input.words[0])?;
     write!(text, "arch 0x{arch:08X}\n")?;
     push_field(text, "ip", input.words[2], input.words[3])
 }
@@ -60,11 +71,11 @@ fn push_last_arguments(text: &mut String, input: &Input) -> Result<(), AllocErro
 }
 
 /// Adds the lines of all fields of an input.
-fn push_input(text: &mut String, input: &Input) -> Result<(), AllocError>
+fn push_input(text: &mut String, names: &[Names], input: &Input) -> Result<(), AllocError>
     ensures { OnOk result (string_bytes text.new ≡ string_bytes text.old
-        ++ input_text input.now) }
+        ++ input_text names.now input.now) }
 {
-    push_call(text, input)?;
+    push_call(text, names, input)?;
     push_first_arguments(text, input)?;
     push_last_arguments(text, input)
 }
@@ -275,7 +286,7 @@ fn push_filters(
     Ok(())
 }
 
-/// Adds the lines of `eval --trace`. First come the fields of the input. Then comes each filter, newest first: what it
+/// Adds the lines of `eval --trace`. First come the fields of the input, with these names of calls. Then comes each filter, newest first: what it
 /// returns and at which instruction, whether its answer is the stack's, and under it all that it met, in order; in
 /// brief without what is false. `Memory` where an allocation is refused.
 pub fn push_trace(
@@ -285,11 +296,12 @@ pub fn push_trace(
     input: &Input,
     answer: Answer,
     brief: bool,
+    names: &[Names],
 ) -> Result<(), Fault>
     ensures { OnOk result (string_bytes text.new ≡ string_bytes text.old
-        ++ trace_text brief stack.now input.now answer) }
+        ++ trace_text brief names.now stack.now input.now answer) }
 {
-    push_input(text, input)?;
+    push_input(text, names, input)?;
     let action = answer.action.number();
     push_filters(alloc, text, brief, stack.programs(), input, action)
 }

@@ -1,7 +1,7 @@
 //! The form of the command line: its subcommands, and the options of each.
 ghost use Rattle.std.specs.Prelude.{◌≡◌, ℕ, IfOk, codes, false};
 ghost use Rattle.clap.specs.Words.{app_of, rule_of};
-ghost use Rattle.sf_command.specs.CommandLine.{audit_line, check_line, command_line, compare_line, eval_line, files_rule, filters_rule, list_line, needed_rule, number_rule, option_rule, program_line, switch_rule};
+ghost use Rattle.sf_command.specs.CommandLine.{audit_line, check_line, command_line, compare_line, eval_line, files_rule, filters_rule, list_line, needed_rule, number_rule, option_rule, program_line, repeated_rule, switch_rule};
 
 use clap::{Arg, ArgAction, Command, value_parser};
 use std::alloc::{AllocError, Global};
@@ -172,6 +172,24 @@ fn same<'a>(alloc: Global) -> Arg<'a>
     switch(alloc, "same").help("Let the exit status tell of different, not of looser")
 }
 
+/// `--rows`: whether a comparison lists the rows in which the answers differ.
+fn rows<'a>(alloc: Global) -> Arg<'a>
+    ensures rule { rule_of result ≡ switch_rule (codes "rows") }
+    ensures own { result.global ≡ false }
+{
+    switch(alloc, "rows").help("List the rows whose answers differ too")
+}
+
+/// `--names`: the path of a file of names of calls; it may be given more than once.
+fn names<'a>(alloc: Global) -> Arg<'a>
+    ensures rule { rule_of result ≡ repeated_rule (codes "names") }
+    ensures own { result.global ≡ false }
+{
+    option(alloc, "names", "FILE")
+        .action(ArgAction::Append)
+        .help("A file of names of calls, which rows and traces show; once for each file")
+}
+
 /// The subcommand `audit` and what it takes.
 fn audit<'a>(alloc: Global) -> Result<Command<'a>, AllocError>
     ensures { IfOk result (λ c. app_of c ≡ audit_line) }
@@ -205,6 +223,7 @@ fn eval<'a>(alloc: Global) -> Result<Command<'a>, AllocError>
         .arg(input(alloc))?
         .arg(trace(alloc))?
         .arg(trace_true(alloc))?
+        .arg(names(alloc))?
         .arg(explain(alloc))?
         .arg(filters(alloc))
 }
@@ -224,6 +243,9 @@ fn compare<'a>(alloc: Global) -> Result<Command<'a>, AllocError>
         .arg(budget(alloc))?
         .arg(workers(alloc))?
         .arg(same(alloc))?
+        .arg(rows(alloc))?
+        .arg(leaves(alloc))?
+        .arg(names(alloc))?
         .arg(explain(alloc))
 }
 
@@ -236,6 +258,7 @@ fn list<'a>(alloc: Global) -> Result<Command<'a>, AllocError>
         .arg(budget(alloc))?
         .arg(workers(alloc))?
         .arg(leaves(alloc))?
+        .arg(names(alloc))?
         .arg(explain(alloc))?
         .arg(filters(alloc))
 }

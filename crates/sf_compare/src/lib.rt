@@ -11,4 +11,4 @@ mod text;
 pub use changes::{Change, Example, answers_of_regions, find_change};
 pub use comparison::{Comparison, compare};
 pub use relation::Relation;
-pub use text::write_comparison;
+pub use text::{text_of_comparison, write_comparison};

@@ -88,8 +88,8 @@ fn push_sizes(text: &mut String, settled: &Settled, older: usize) -> Result<(), 
     push_counts(text, settled.counts())
 }
 
-/// The whole text of a comparison.
-fn text_of(alloc: Global, comparison: &Comparison) -> Result<String, AllocError>
+/// The whole text of a comparison. An error where an allocation is refused.
+pub fn text_of_comparison(alloc: Global, comparison: &Comparison) -> Result<String, AllocError>
     ensures { IfOk result (λ text. string_bytes text ≡ comparison_text comparison.now) }
 {
     let mut text = String::new(alloc);
@@ -119,6 +119,6 @@ pub fn write_comparison<W: Write>(
     ensures refused { IfErr result (λ e. (e ≡ WriteFault)
         ⊎ ((e ≡ MemoryFault) × (out.new ≡ out.old))) }
 {
-    let text = text_of(alloc, comparison)?;
+    let text = text_of_comparison(alloc, comparison)?;
     write_bytes(text.as_bytes(), out)
 }

@@ -3,3 +3,4 @@ pub mod PartLemmas
 pub mod SpanLemmas
 pub mod ForkLemmas
 pub mod RowLemmas
+pub mod DifferenceLemmas

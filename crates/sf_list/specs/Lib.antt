@@ -3,3 +3,4 @@ pub mod Rows
 pub mod Answers
 pub mod Lines
 pub mod Listings
+pub mod Differences

@@ -1,8 +1,10 @@
 -- The line of a row.
 use Rattle.std.specs.Prelude.{ℕ, ◌^◌, ◌-◌, ◌==◌, Bool, true, false, List, [], ◌∷◌, ◌++◌, codes, length, slice_index_or, Option, Some, None, nat_lt, if◌then◌else◌}
+use Rattle.std.specs.List.{flat_map}
 use Rattle.std.specs.Fmt.{decimal, digits, padded_integral, format_spec}
 use Rattle.sf_run.specs.declared.action.Answer.{Answer}
 use Rattle.sf_audit.specs.Keys.{word_keys}
+use Rattle.sf_audit.specs.Names.{NamesData, names_between, names_words}
 use Rattle.sf_audit.specs.Reports.{action_text}
 use Rattle.sf_picture.specs.declared.axis.Axis.{Axis}
 use Rattle.sf_list.specs.declared.parts.Span.{Span}
@@ -93,10 +95,43 @@ labels_words words (l ∷ m ∷ ls) = slice_index_or words l [] ++ (codes " | " 
 abbrev pub place_words : ScopeData → List ℕ
 place_words s = codes "arch " ++ (arch_words s.arch ++ (codes " nr " ++ (nr_words s.nr ++ 32 ∷ [])))
 
--- the line of a row, by the words of labels
-abbrev pub row_line : List (List ℕ) → RowData → List ℕ
-row_line words r = place_words r.scope ++ (labels_words words r.labels
-    ++ (conditions_words (codes " if ") r.scope.conditions ++ 10 ∷ []))
+-- the number of spans that are one number
+abbrev pub number_of : List Span → Option ℕ
+number_of (s ∷ []) = if s.first == s.last then Some s.first else None
+number_of _ = None
+
+-- the architecture that is meant, where it is only one
+abbrev pub only_arch : Option PartData → Option ℕ
+only_arch None = None
+only_arch (Some p) = if p.is_rest then None else number_of p.spans
+
+-- the names of the calls of an architecture whose numbers are in a span
+abbrev pub names_in_span : List NamesData → ℕ → Span → List (List ℕ)
+names_in_span names arch s = names_between names arch s.first s.last
+
+-- the names of the calls of an architecture whose numbers are in these spans
+abbrev pub names_in_spans : List NamesData → ℕ → List Span → List (List ℕ)
+names_in_spans names arch spans = flat_map (names_in_span names arch) spans
+
+-- the names of the calls of an architecture whose numbers are in a part; none where all numbers are meant
+abbrev pub names_in_part : List NamesData → ℕ → Option PartData → List (List ℕ)
+names_in_part names arch None = []
+names_in_part names arch (Some p) = if p.is_rest then [] else names_in_spans names arch p.spans
+
+-- the names of the calls of an architecture whose numbers are in a part; none where several architectures are meant
+abbrev pub names_at : List NamesData → Option ℕ → Option PartData → List (List ℕ)
+names_at names None nr = []
+names_at names (Some arch) nr = names_in_part names arch nr
+
+-- The names of the calls that a row is about. There are none where it is about several architectures, since one number
+-- stands for different calls there; and none where it is about all numbers.
+abbrev pub row_names : List NamesData → ScopeData → List (List ℕ)
+row_names names s = names_at names (only_arch s.arch) s.nr
+
+-- the line of a row, by the names of calls and the words of labels
+abbrev pub row_line : List NamesData → List (List ℕ) → RowData → List ℕ
+row_line names words r = place_words r.scope ++ (labels_words words r.labels
+    ++ (conditions_words (codes " if ") r.scope.conditions ++ (names_words 0 (row_names names r.scope) ++ 10 ∷ [])))
 
 -- a row with several answers
 abbrev pub is_undetermined : RowData → Bool

@@ -12,6 +12,7 @@ use Rattle.sf_picture.specs.PictureData.{PictureData}
 use Rattle.sf_picture.specs.Pictures.{IsAttainedEverywhere, IsDetermined, IsPicture, ShowsLabels}
 use Rattle.sf_picture.specs.Answering.{TellAnswers}
 use Rattle.sf_audit.specs.Filters.{SpellStack}
+use Rattle.sf_audit.specs.Names.{NamesData}
 use Rattle.sf_audit.specs.Reports.{counts_line, line}
 use Rattle.sf_list.specs.Answers.{AreFirstPlaces, answer_order}
 use Rattle.sf_list.specs.Rows.{RowData, rows_of}
@@ -67,9 +68,10 @@ total_line rows = line (codes "total" ∷ codes "rows" ∷ decimal (length rows)
 abbrev pub head_text : BookData → List ℕ
 head_text b = listing_title ++ (stack_line b.stack ++ counts_line (counts_of b))
 
--- the whole text
-abbrev pub listing_text : Listed → List ℕ
-listing_text l = head_text l.settled ++ (flat_map (row_line (map answer_words l.answers)) (listed_rows l.picture)
+-- the whole text, with these names of calls
+abbrev pub listing_text : List NamesData → Listed → List ℕ
+listing_text names l = head_text l.settled
+    ++ (flat_map (row_line names (map answer_words l.answers)) (listed_rows l.picture)
     ++ total_line (listed_rows l.picture))
 
 -- whether each input lies in a row with one answer

@@ -1,6 +1,6 @@
 //! The answers of a stack, by their labels.
 
-ghost use Rattle.std.specs.Prelude.{◌≡◌, ◌≢◌, ◌<◌, ℕ, All, Contains, IfOk, IsTrue, ◌↔◌, Some, length, map, slice_get, string_bytes};
+ghost use Rattle.std.specs.Prelude.{◌≡◌, ◌≢◌, ◌<◌, ◌^◌, ◌++◌, ℕ, All, Contains, IfOk, IsTrue, ◌↔◌, OnOk, Some, length, map, slice_get, string_bytes};
 ghost use Rattle.std.specs.List.Sorted.{IsNonDecreasingBy, IsPermutation};
 ghost use Rattle.sf_run.specs.declared.action.Answer.{Answer as AnAnswer};
 ghost use Rattle.sf_book.specs.Books.{RegionData};
@@ -14,8 +14,9 @@ use sf_run::Answer;
 use std::alloc::{AllocError, Global};
 
 /// A number by which answers are put in order: by the precedence of their actions, and then by their data.
-fn order_of(answer: Answer) -> u64
-    ensures { result ≡ answer_order answer }
+pub(crate) fn order_of(answer: Answer) -> u64
+    ensures order { result ≡ answer_order answer }
+    ensures few { result < 2 ^ 48 }
 {
     let rank = answer.action.number().wrapping_add(0x80000000);
     rank as u64 * 65536 + answer.info as u64
@@ -97,14 +98,21 @@ pub(crate) fn labels_of(
     Ok(labels)
 }
 
-/// The words of an answer: its action and its data.
+/// Adds an answer: its action and its data.
+pub(crate) fn push_answer(text: &mut String, answer: Answer) -> Result<(), AllocError>
+    ensures { OnOk result (string_bytes text.new ≡ string_bytes text.old ++ answer_words answer) }
+{
+    push_action(text, answer.action)?;
+    let info = answer.info;
+    write!(text, " {info}")
+}
+
+/// The words of an answer.
 fn words_of(alloc: Global, answer: Answer) -> Result<String, AllocError>
     ensures { IfOk result (λ text. string_bytes text ≡ answer_words answer) }
 {
     let mut text = String::new(alloc);
-    push_action(&mut text, answer.action)?;
-    let info = answer.info;
-    write!(&mut text, " {info}")?;
+    push_answer(&mut text, answer)?;
     Ok(text)
 }
 

@@ -1,14 +1,20 @@
 //! Laws of listings, each the contract of a function that does nothing.
 
-ghost use Rattle.std.specs.Prelude.{◌≡◌, ℕ, true, List, Some, Contains, count_by, slice_get};
+ghost use Rattle.std.specs.Prelude.{◌≡◌, ℕ, true, false, List, [], ◌∷◌, Some, Contains, count_by, slice_get};
 ghost use Rattle.sf_insn.specs.declared.input.Input.{Input};
 ghost use Rattle.sf_insn.specs.Inputs.{IsInput};
+ghost use Rattle.sf_check.specs.Stacks.{IsPlain};
 ghost use Rattle.sf_run.specs.declared.action.Answer.{Answer};
+ghost use Rattle.sf_run.specs.declared.replaying.PartAnswers.{PartAnswers};
 ghost use Rattle.sf_run.specs.Answers.{Answers};
+ghost use Rattle.sf_book.specs.Books.{BookData, IsSettled};
 ghost use Rattle.sf_picture.specs.PictureData.{PictureData};
 ghost use Rattle.sf_picture.specs.Pictures.{IsPicture, labels_at};
 ghost use Rattle.sf_list.specs.Rows.{RowData, rows_of, is_in_scope};
 ghost use Rattle.sf_list.specs.Listings.{Listed, IsListing};
+ghost use Rattle.sf_list.specs.Differences.{AreDifferences, Differ, DifferencesData, IsLabelOf, changed_rows};
+ghost use Rattle.sf_compare.specs.declared.relation.Relation.TheVariants.{Different};
+ghost use Rattle.sf_compare.specs.Changes.{IsChange, new_of, old_of};
 
 use sf_picture::laws::each_input_is_shown_its_answer;
 
@@ -32,3 +38,36 @@ pub fn each_row_has_its_answers()
 {
     each_input_is_shown_its_answer();
 }
+
+/// An input that two stacks answer differently lies in a row that is shown.
+pub fn each_changed_input_is_shown()
+    ensures { (s : BookData) (older : ℕ) (x : DifferencesData) (p : PictureData) (d : Input)
+        (before after : Answer) → IsSettled s → AreDifferences s older x
+        → x.picture ≡ Some p
+        → IsChange (old_of s older) (new_of s older) Different d before after
+        → (r : RowData) × Contains (changed_rows x) r × (is_in_scope r.scope d ≡ true) }
+{}
+
+/// What two stacks answer to an input is among the pairs of answers of the row in which the input lies, or it is the same, and
+/// then the row has the label that says so.
+pub fn each_row_has_its_differences()
+    ensures { (s : BookData) (older : ℕ) (x : DifferencesData) (p : PictureData) (d : Input)
+        (r : RowData) → IsSettled s → AreDifferences s older x
+        → x.picture ≡ Some p → IsInput d
+        → Contains (rows_of p) r → is_in_scope r.scope d ≡ true
+        → (label : ℕ) × (both : PartAnswers)
+        × Contains r.labels label × IsLabelOf x.pairs both label
+        × Answers (old_of s older) d both.older × Answers (new_of s older) d both.newer }
+{}
+
+/// On plain stacks, where leaves weren't spent, a row that is shown has one pair of answers. They differ, and the two stacks
+/// give them to each input of the row.
+pub fn each_plain_row_has_one_difference()
+    ensures { (s : BookData) (older : ℕ) (x : DifferencesData) (p : PictureData) (d : Input)
+        (r : RowData) → IsSettled s → AreDifferences s older x → x.picture ≡ Some p
+        → IsPlain s.stack → p.spent ≡ false → IsInput d
+        → Contains (changed_rows x) r → is_in_scope r.scope d ≡ true
+        → (label : ℕ) × (both : PartAnswers)
+        × (r.labels ≡ label ∷ []) × (slice_get x.pairs label ≡ Some both) × Differ both
+        × Answers (old_of s older) d both.older × Answers (new_of s older) d both.newer }
+{}

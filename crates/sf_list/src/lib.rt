@@ -1,15 +1,21 @@
 //! The whole picture of a stack of filter files, as rows: for each architecture and each run of call numbers what the stack
-//! answers, and on which words that depends.
+//! answers, and on which words that depends. Also the rows in which the answers of two stacks differ.
 #![tactic(auto)]
 
 mod answers;
+mod changed;
 mod conditions;
+mod differences;
 pub mod laws;
 mod lines;
 mod listing;
+mod named;
+mod pairs;
 mod parts;
 mod rows;
 mod text;
 
+pub use changed::write_differences;
+pub use differences::{Differences, draw_differences};
 pub use listing::{Listing, list};
 pub use text::write_listing;

@@ -5,7 +5,9 @@ ghost use Rattle.std.specs.List.{flat_map};
 ghost use Rattle.sf_list.specs.Lines.{labels_words, place_words, row_line};
 
 use crate::conditions::{push_arch, push_conditions, push_nr};
+use crate::named::push_row_names;
 use crate::rows::{Row, Scope};
+use sf_audit::Names;
 use std::alloc::AllocError;
 
 /// The words of a label, or none where it has none.
@@ -45,25 +47,36 @@ fn push_place(text: &mut String, scope: &Scope) -> Result<(), AllocError>
     Ok(())
 }
 
-/// Adds the line of a row, by the words of labels.
-fn push_row(text: &mut String, words: &[String], row: &Row) -> Result<(), AllocError>
+/// Adds the line of a row, by the names of calls and the words of labels.
+fn push_row(
+    text: &mut String,
+    names: &[Names],
+    words: &[String],
+    row: &Row,
+) -> Result<(), AllocError>
     ensures { OnOk result (string_bytes text.new ≡ string_bytes text.old
-        ++ row_line (map string_bytes words.now) row.now) }
+        ++ row_line names.now (map string_bytes words.now) row.now) }
 {
     push_place(text, row.scope())?;
     push_labels(text, words, row.labels())?;
     push_conditions(text, row.scope().conditions())?;
+    push_row_names(text, names, row.scope())?;
     text.push_str("\n")?;
     Ok(())
 }
 
-/// Adds a line for each row, by the words of labels.
-pub(crate) fn push_rows(text: &mut String, words: &[String], rows: &[Row]) -> Result<(), AllocError>
+/// Adds a line for each row, by the names of calls and the words of labels.
+pub(crate) fn push_rows(
+    text: &mut String,
+    names: &[Names],
+    words: &[String],
+    rows: &[Row],
+) -> Result<(), AllocError>
     ensures { OnOk result (string_bytes text.new ≡ string_bytes text.old
-        ++ flat_map (row_line (map string_bytes words.now)) rows.now) }
+        ++ flat_map (row_line names.now (map string_bytes words.now)) rows.now) }
 {
     for row in rows {
-        push_row(text, words, row)?;
+        push_row(text, names, words, row)?;
     }
     Ok(())
 }

@@ -1,8 +1,10 @@
 //! The rows of a picture.
 
-ghost use Rattle.std.specs.Prelude.{◌≡◌, ◌++◌, ◌∷◌, ◌≤◌, [], length, IfErr, IfOk};
+ghost use Rattle.std.specs.Prelude.{◌≡◌, ◌++◌, ◌∷◌, ◌≤◌, [], count_by, length, option_map, IfErr, IfOk};
 ghost use Rattle.sf_audit.specs.declared.fault.Fault.TheVariants.{Memory as MemoryFault};
 ghost use Rattle.sf_picture.specs.Pictures.{IsBelow, RiseFrom};
+ghost use Rattle.sf_list.specs.Lines.{is_undetermined};
+ghost use Rattle.sf_list.specs.Listings.{listed_rows};
 ghost use Rattle.sf_list.specs.Rows.{is_whole, scope_within, whole_scope, rows_along, rows_of, parts_at};
 
 use crate::parts::{Part, parts_of, runs_apart};
@@ -283,4 +285,23 @@ pub(crate) fn all_rows(alloc: Global, picture: &Picture) -> Result<Vec<Row>, Fau
     let most = picture.fork_count();
     push_rows(alloc, &mut rows, picture, most, picture.root(), &scope)?;
     Ok(rows)
+}
+
+/// The rows that are listed: all rows of a picture, if there is one. `Memory` where an allocation is refused.
+pub(crate) fn rows_in(alloc: Global, picture: Option<&Picture>) -> Result<Vec<Row>, Fault>
+    ensures all { IfOk result (λ v. v.items ≡ listed_rows
+        (option_map (λ p. p.now) picture.entry)) }
+    ensures refused { IfErr result (λ e. e ≡ MemoryFault) }
+{
+    match picture {
+        Some(picture) => all_rows(alloc, picture),
+        None => Ok(Vec::new(alloc)),
+    }
+}
+
+/// How many rows have several labels.
+pub(crate) fn count_undetermined(rows: &[Row]) -> usize
+    ensures { result ≡ count_by is_undetermined rows.now }
+{
+    rows.iter().filter(|row| row.labels().len() > 1).count()
 }

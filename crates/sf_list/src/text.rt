@@ -1,39 +1,20 @@
 //! The text of a listing.
 
-ghost use Rattle.std.specs.Prelude.{◌≡◌, ◌⊎◌, ◌++◌, ◌≤◌, IfOk, IfErr, OnOk, OnErr, length, string_bytes, count_by};
+ghost use Rattle.std.specs.Prelude.{◌≡◌, ◌⊎◌, ◌++◌, ◌≤◌, IfOk, IfErr, OnOk, OnErr, length, string_bytes};
 ghost use Rattle.std.specs.Io.KnownBytes.{Appends};
 ghost use Rattle.sf_audit.specs.Reports.{AppendsFront};
 ghost use Rattle.sf_audit.specs.declared.fault.Fault.TheVariants.{Memory as MemoryFault, Write as WriteFault};
-ghost use Rattle.sf_list.specs.Lines.{is_undetermined};
 ghost use Rattle.sf_list.specs.Listings.{stack_line, head_text, listed_rows, total_line, listing_text, is_whole_listing};
 
 use crate::answers::all_words;
 use crate::lines::push_rows;
 use crate::listing::Listing;
-use crate::rows::{Row, all_rows};
-use sf_audit::{Fault, push_counts, write_bytes};
+use crate::rows::{Row, count_undetermined, rows_in};
+use sf_audit::{Fault, Names, push_counts, write_bytes};
 use sf_book::Settled;
 use sf_check::{Program, path_length};
 use std::alloc::{AllocError, Global};
 use std::io::Write;
-
-/// The rows that are listed: all rows of the picture, if there is one. `Memory` where an allocation is refused.
-fn rows_in(alloc: Global, listing: &Listing) -> Result<Vec<Row>, Fault>
-    ensures all { IfOk result (λ v. v.items ≡ listed_rows listing.now.picture) }
-    ensures refused { IfErr result (λ e. e ≡ MemoryFault) }
-{
-    match listing.picture() {
-        Some(picture) => all_rows(alloc, picture),
-        None => Ok(Vec::new(alloc)),
-    }
-}
-
-/// How many rows have several answers.
-fn count_undetermined(rows: &[Row]) -> usize
-    ensures { result ≡ count_by is_undetermined rows.now }
-{
-    rows.iter().filter(|row| row.labels().len() > 1).count()
-}
 
 /// Adds the line that tells the size of the stack.
 fn push_stack(text: &mut String, programs: &[Program]) -> Result<(), AllocError>
@@ -65,15 +46,20 @@ fn push_total(text: &mut String, rows: &[Row]) -> Result<(), AllocError>
     write!(text, "total rows {count} undetermined {undetermined}\n")
 }
 
-/// The whole text.
-fn text_of(alloc: Global, listing: &Listing, rows: &[Row]) -> Result<String, AllocError>
+/// The whole text, with these names of calls.
+fn text_of(
+    alloc: Global,
+    listing: &Listing,
+    names: &[Names],
+    rows: &[Row],
+) -> Result<String, AllocError>
     requires { rows.now ≡ listed_rows listing.now.picture }
-    ensures { IfOk result (λ text. string_bytes text ≡ listing_text listing.now) }
+    ensures { IfOk result (λ text. string_bytes text ≡ listing_text names.now listing.now) }
 {
     let words = all_words(alloc, listing.answers())?;
     let mut text = String::new(alloc);
     push_head(&mut text, listing.settled())?;
-    push_rows(&mut text, words.as_slice(), rows)?;
+    push_rows(&mut text, names, words.as_slice(), rows)?;
     push_total(&mut text, rows)?;
     Ok(text)
 }
@@ -86,22 +72,27 @@ fn is_whole(listing: &Listing, rows: &[Row]) -> bool
     listing.picture().is_some() && count_undetermined(rows) == 0
 }
 
-/// Writes the text of a listing, and answers whether each input lies in a row with one answer: no piece is outstanding, and no
-/// row has several.
+/// Writes the text of a listing, with these names of calls, and answers whether each input lies in a row with one answer: no
+/// piece is outstanding, and no row has several.
 ///
 /// `Write` where a write fails or takes no byte, `Memory` where the text can't be built. After either a beginning of the text
 /// was written, after `Memory` nothing.
-pub fn write_listing<W: Write>(alloc: Global, listing: &Listing, out: &mut W) -> Result<bool, Fault>
+pub fn write_listing<W: Write>(
+    alloc: Global,
+    listing: &Listing,
+    names: &[Names],
+    out: &mut W,
+) -> Result<bool, Fault>
     ensures written { OnOk result (Appends (W.contents out.old) (W.contents out.new)
-        (listing_text listing.now)) }
+        (listing_text names.now listing.now)) }
     ensures whole { IfOk result (λ b. b ≡ is_whole_listing listing.now.picture) }
     ensures begun { OnErr result (AppendsFront (W.contents out.old) (W.contents out.new)
-        (listing_text listing.now)) }
+        (listing_text names.now listing.now)) }
     ensures refused { IfErr result (λ e. (e ≡ WriteFault)
         ⊎ ((e ≡ MemoryFault) × (out.new ≡ out.old))) }
 {
-    let rows = rows_in(alloc, listing)?;
-    let text = text_of(alloc, listing, rows.as_slice())?;
+    let rows = rows_in(alloc, listing.picture())?;
+    let text = text_of(alloc, listing, names, rows.as_slice())?;
     write_bytes(text.as_bytes(), out)?;
     Ok(is_whole(listing, rows.as_slice()))
 }

@@ -4,7 +4,7 @@ use Rattle.sf_command.proofs.checking.evaluate.Goals as goal
 
 pub returns-clause-written : goal.returns-clause-written
 returns-clause-written g c = on_ok_weaker c.evaluate_filters.result
-    (λ w. kept_answers _ _ _ c.in_ok-filters.ensures.read c.args.digits.now _ _ _ _ _
+    (λ w. kept_answers _ _ _ c.in_ok-filters.ensures.read c.args.digits.now _ _ _ _ _ _
     c.in_ok-input.ensures.spelled w)
     (rw c.deref.ensures.value at c.evaluate_filters.ensures.written)
 

@@ -11,7 +11,7 @@ returns-clause-written g c = record {
       (rw c.deref.ensures.value at c.in_ok-comparison.ensures.found.stack);
   found = c.in_ok-comparison.comparison;
   comparison = rw c.deref.ensures.value at c.in_ok-comparison.ensures.found;
-  written = c.in_ok-write_comparison.ensures.written;
+  written = c.in_ok-write_compared.ensures.written;
   told = rw c.change.ensures at c.status_of_change-status.ensures;
 }
 

@@ -1,7 +1,9 @@
-use Rattle.std.proofs.Common.{codes, refl}
+use Rattle.std.proofs.Common.{codes, refl, inl, inr}
 use Rattle.std.proofs.lemmas.Result.{IfErr-weaker, IfOk-weaker}
 use Rattle.clap.specs.Words.{found_of}
 use Rattle.sf_command.proofs.CommandLineLemmas.{paths_found}
+use Rattle.sf_command.proofs.NamingLemmas.{compared_same, uncompared_same}
+use Rattle.sf_command.proofs.RefusalLemmas.{handed_on}
 use Rattle.sf_command.proofs.dispatch.run_compare.Goals as goal
 
 pub returns-clause-done : goal.returns-clause-done
@@ -16,11 +18,20 @@ returns-clause-done g c = IfOk-weaker c.compare.result _ _ (λ s written. record
   counted = c.budget_of.ensures;
   asked = c.asked_of.result;
   switched = c.asked_of.ensures;
-  compared = written;
+  with_rows = c.with_rows_of.result;
+  listed = c.with_rows_of.ensures;
+  names = c.in_ok-names.names.items;
+  called = c.in_ok-names.ensures.called;
+  compared = compared_same _ _ c.names_of.ensures.same _ _ _ _ _ _ _ _ _ (rw c.deref.ensures.value at written);
 }) c.compare.ensures.written
 
+pub returns-in_err-names-clause-refused : goal.returns-in_err-names-clause-refused
+returns-in_err-names-clause-refused g c =
+    handed_on _ c.from_residual.result c.in_err-names.field-0.0 c.from_residual.ensures.1
+    (inl c.in_err-names.ensures.refused)
+
 pub returns-clause-refused : goal.returns-clause-refused
-returns-clause-refused g c = IfErr-weaker c.compare.result _ _ (λ e why. (
+returns-clause-refused g c = IfErr-weaker c.compare.result _ _ (λ e why. inr (
   c.unwrap_or-old.result.now,
   rw c.unwrap_or-old.ensures (paths_found (found_of c.args.found.now) (codes "old") c.get_strs.result _
       c.get_strs.ensures refl),
@@ -28,6 +39,6 @@ returns-clause-refused g c = IfErr-weaker c.compare.result _ _ (λ e why. (
     c.unwrap_or-new.result.now,
     rw c.unwrap_or-new.ensures (paths_found (found_of c.args.found.now) (codes "new") c.get_strs-2.result _
         c.get_strs-2.ensures refl),
-    why,
+    uncompared_same _ _ c.names_of.ensures.same _ _ _ why,
   ),
 )) c.compare.ensures.refused

@@ -1,6 +1,8 @@
-use Rattle.std.proofs.Common.{codes, refl}
-use Rattle.clap.specs.Words.{found_of}
+use Rattle.std.proofs.Common.{codes, refl, inl, inr}
+use Rattle.clap.specs.Words.{found_of, rows_of}
+use Rattle.sf_command.specs.Runs.{text_of}
 use Rattle.sf_command.proofs.CommandLineLemmas.{paths_found}
+use Rattle.sf_command.proofs.NamingLemmas.{evaluated_same, unevaluated_same}
 use Rattle.sf_command.proofs.RefusalLemmas.{handed_on}
 use Rattle.sf_command.proofs.dispatch.run_eval.Goals as goal
 
@@ -13,15 +15,35 @@ returns-clause-done g c = record {
   in_full = c.traced_of-traced.ensures;
   brief = c.brief_of-brief.result;
   in_brief = c.brief_of-brief.ensures;
-  evaluated = rw c.text_of-digits.ensures at c.in_ok-evaluate.ensures.written;
+  names = c.in_ok-names.names.items;
+  called = c.in_ok-names.ensures.called;
+  evaluated = evaluated_same _ _ c.names_of.ensures.same (text_of (codes "input") (rows_of (found_of c.args.found.now)))
+      _ _ _ _ _ _ (rw (c.deref.ensures.value, c.text_of-digits.ensures) at c.in_ok-evaluate.ensures.written);
   told = refl;
 }
 
-pub returns-in_err-evaluate-clause-refused : goal.returns-in_err-evaluate-clause-refused
-returns-in_err-evaluate-clause-refused g c =
-    handed_on _ c.from_residual.result c.in_err-evaluate.field-0.0 c.from_residual.ensures.1 (
+pub returns-in_err-_input-clause-refused : goal.returns-in_err-_input-clause-refused
+returns-in_err-_input-clause-refused g c =
+    handed_on _ c.from_residual.result c.in_err-_input.field-0.0 c.from_residual.ensures.1 (inr (
       c.unwrap_or-paths.result.now,
       rw c.unwrap_or-paths.ensures (paths_found (found_of c.args.found.now) (codes "filters") c.get_strs.result _
           c.get_strs.ensures refl),
-      rw c.text_of-digits.ensures at c.in_err-evaluate.ensures.explained,
-    )
+      inl (rw c.text_of-digits.ensures at c.in_err-_input.ensures.refused),
+    ))
+
+pub returns-in_err-names-clause-refused : goal.returns-in_err-names-clause-refused
+returns-in_err-names-clause-refused g c =
+    handed_on _ c.from_residual-in_err-names.result c.in_err-names.field-0.0 c.from_residual-in_err-names.ensures.1
+    (inl c.in_err-names.ensures.refused)
+
+pub returns-in_err-evaluate-clause-refused : goal.returns-in_err-evaluate-clause-refused
+returns-in_err-evaluate-clause-refused g c =
+    handed_on _ c.from_residual-in_err-evaluate.result c.in_err-evaluate.field-0.0
+    c.from_residual-in_err-evaluate.ensures.1 (inr (
+      c.unwrap_or-paths.result.now,
+      rw c.unwrap_or-paths.ensures (paths_found (found_of c.args.found.now) (codes "filters") c.get_strs.result _
+          c.get_strs.ensures refl),
+      unevaluated_same _ _ c.names_of.ensures.same
+          (text_of (codes "input") (rows_of (found_of c.args.found.now))) _ _
+          (rw c.text_of-digits.ensures at c.in_err-evaluate.ensures.explained),
+    ))

@@ -16,6 +16,11 @@ returns c =
     let with_workers = c.in_ok-arg-4.ensures.shape c.workers.ensures.own
     ∙ ap₂ with_rule with_budget c.workers.ensures.rule in
     let with_same = c.in_ok-arg-5.ensures.shape c.same.ensures.own ∙ ap₂ with_rule with_workers c.same.ensures.rule in
-    IfOk-weaker c.arg-6.result _ _ (λ r h. h.shape c.explain.ensures.own
-    ∙ ap₂ with_rule with_same c.explain.ensures.rule)
-    c.arg-6.ensures
+    let with_rows = c.in_ok-arg-6.ensures.shape c.rows.ensures.own ∙ ap₂ with_rule with_same c.rows.ensures.rule in
+    let with_leaves = c.in_ok-arg-7.ensures.shape c.leaves.ensures.own
+    ∙ ap₂ with_rule with_rows c.leaves.ensures.rule in
+    let with_names = c.in_ok-arg-8.ensures.shape c.names.ensures.own
+    ∙ ap₂ with_rule with_leaves c.names.ensures.rule in
+    IfOk-weaker c.arg-9.result _ _ (λ r h. h.shape c.explain.ensures.own
+    ∙ ap₂ with_rule with_names c.explain.ensures.rule)
+    c.arg-9.ensures

@@ -11,8 +11,10 @@ returns c =
     let with_trace = c.in_ok-arg-2.ensures.shape c.trace.ensures.own ∙ ap₂ with_rule with_input c.trace.ensures.rule in
     let with_trace_true = c.in_ok-arg-3.ensures.shape c.trace_true.ensures.own
     ∙ ap₂ with_rule with_trace c.trace_true.ensures.rule in
-    let with_explain = c.in_ok-arg-4.ensures.shape c.explain.ensures.own
-    ∙ ap₂ with_rule with_trace_true c.explain.ensures.rule in
-    IfOk-weaker c.arg-5.result _ _ (λ r h. h.shape c.filters.ensures.own
+    let with_names = c.in_ok-arg-4.ensures.shape c.names.ensures.own
+    ∙ ap₂ with_rule with_trace_true c.names.ensures.rule in
+    let with_explain = c.in_ok-arg-5.ensures.shape c.explain.ensures.own
+    ∙ ap₂ with_rule with_names c.explain.ensures.rule in
+    IfOk-weaker c.arg-6.result _ _ (λ r h. h.shape c.filters.ensures.own
     ∙ ap₂ with_rule with_explain c.filters.ensures.rule)
-    c.arg-5.ensures
+    c.arg-6.ensures

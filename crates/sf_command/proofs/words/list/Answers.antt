@@ -12,8 +12,10 @@ returns c =
     ∙ ap₂ with_rule with_budget c.workers.ensures.rule in
     let with_leaves = c.in_ok-arg-3.ensures.shape c.leaves.ensures.own
     ∙ ap₂ with_rule with_workers c.leaves.ensures.rule in
-    let with_explain = c.in_ok-arg-4.ensures.shape c.explain.ensures.own
-    ∙ ap₂ with_rule with_leaves c.explain.ensures.rule in
-    IfOk-weaker c.arg-5.result _ _ (λ r h. h.shape c.filters.ensures.own
+    let with_names = c.in_ok-arg-4.ensures.shape c.names.ensures.own
+    ∙ ap₂ with_rule with_leaves c.names.ensures.rule in
+    let with_explain = c.in_ok-arg-5.ensures.shape c.explain.ensures.own
+    ∙ ap₂ with_rule with_names c.explain.ensures.rule in
+    IfOk-weaker c.arg-6.result _ _ (λ r h. h.shape c.filters.ensures.own
     ∙ ap₂ with_rule with_explain c.filters.ensures.rule)
-    c.arg-5.ensures
+    c.arg-6.ensures

@@ -5,4 +5,4 @@ use Rattle.sf_list.proofs.lines.push_rows.Given as goal
 
 abbrev pub invariant-loop-row : goal.invariant-loop-row
 invariant-loop-row l = string_bytes l.text
-    ≡ string_bytes l.initial.text ++ flat_map (row_line (map string_bytes l.words)) (take l.row-index l.rows)
+    ≡ string_bytes l.initial.text ++ flat_map (row_line l.names (map string_bytes l.words)) (take l.row-index l.rows)

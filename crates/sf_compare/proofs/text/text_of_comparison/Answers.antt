@@ -1,5 +1,5 @@
 use Rattle.sf_audit.proofs.JoinedLemmas.{made_of_two}
-use Rattle.sf_compare.proofs.text.text_of.Goals as goal
+use Rattle.sf_compare.proofs.text.text_of_comparison.Goals as goal
 
 pub returns : goal.returns
 returns c = made_of_two _ _ _ _ _ c.new-text.ensures.bytes

@@ -1,0 +1,217 @@
+//! What differs between two stacks, worked by hand.
+use crate::listings::{bytes_of, labels_at, random_program, some_input};
+use crate::names::names_of;
+use crate::profiles::{bits, forgetful, profile, words};
+use samples::ALLOW;
+use sf_audit::stack_of;
+use sf_check::Stack;
+use sf_compare::{Comparison, compare};
+use sf_crew::Open;
+use sf_insn::{Input, RawInsn};
+use sf_list::{Differences, draw_differences, write_differences};
+use sf_run::{PartAnswers, answer};
+use std::alloc::Global;
+use std::sync::Wait;
+use std::test::Fail;
+use std::thread::Threads;
+
+/// Compares two filters, by one worker and at most so many works.
+fn comparison_of<R: Threads + Wait + Sync>(
+    rt: &R,
+    alloc: Global,
+    old: &[RawInsn],
+    new: &[RawInsn],
+    budget: u32,
+) -> Result<Comparison, Fail> {
+    let mut files = Vec::new(alloc);
+    files.push(bytes_of(alloc, old)?)?;
+    files.push(bytes_of(alloc, new)?)?;
+    Ok(compare(rt, alloc, files.as_slice(), 1, budget, 1, &Open)?)
+}
+
+/// The rows in which two filters differ, with the names of files.
+fn changed_with<R: Threads + Wait + Sync>(
+    rt: &R,
+    alloc: Global,
+    old: &[RawInsn],
+    new: &[RawInsn],
+    budget: u32,
+    texts: &[&str],
+) -> Result<String, Fail> {
+    let names = names_of(alloc, texts)?;
+    let comparison = comparison_of(rt, alloc, old, new, budget)?;
+    let differences = draw_differences(alloc, &comparison, 20000)?;
+    let mut out: Vec<u8> = Vec::new(alloc);
+    write_differences(alloc, &comparison, &differences, names.as_slice(), &mut out)?;
+    match String::from_utf8(out) {
+        Ok(text) => rows_in(alloc, text.as_str()),
+        Err(_) => Err("no text".into()),
+    }
+}
+
+/// The lines of a text behind its line of the relation `different`.
+fn rows_in(alloc: Global, text: &str) -> Result<String, Fail> {
+    let mut rows = String::new(alloc);
+    let mut behind = false;
+    for line in text.lines() {
+        if behind {
+            rows.push_str(line)?;
+            rows.push_str("\n")?;
+        }
+        behind = behind || line.starts_with("different ");
+    }
+    Ok(rows)
+}
+
+/// The rows in which two filters differ.
+fn changed<R: Threads + Wait + Sync>(
+    rt: &R,
+    alloc: Global,
+    old: &[RawInsn],
+    new: &[RawInsn],
+) -> Result<String, Fail> {
+    changed_with(rt, alloc, old, new, 10000, &[])
+}
+
+#[test]
+fn x32_numbers_are_forgotten(rt: HostRuntime) -> Result<(), Fail> {
+    let text = changed(&rt, rt.alloc(), &profile(), &forgetful())?;
+    assert_eq!(rt;
+        text.as_str(),
+        "arch 0xC000003E nr 0x40000000..0xFFFFFFFF KILL_PROCESS 0 -> ALLOW 0
+total changed 1 undetermined 0
+"
+    );
+    Ok(())
+}
+
+#[test]
+fn x32_numbers_are_remembered(rt: HostRuntime) -> Result<(), Fail> {
+    let text = changed(&rt, rt.alloc(), &forgetful(), &profile())?;
+    assert_eq!(rt;
+        text.as_str(),
+        "arch 0xC000003E nr 0x40000000..0xFFFFFFFF ALLOW 0 -> KILL_PROCESS 0
+total changed 1 undetermined 0
+"
+    );
+    Ok(())
+}
+
+#[test]
+fn names_in_changed_rows(rt: HostRuntime) -> Result<(), Fail> {
+    let names = "arch = 0xC000003E\ncalls = { x_read = 0x40000000, read = 0 }";
+    let text = changed_with(&rt, rt.alloc(), &profile(), &forgetful(), 10000, &[names])?;
+    assert_eq!(rt;
+        text.as_str(),
+        "arch 0xC000003E nr 0x40000000..0xFFFFFFFF KILL_PROCESS 0 -> ALLOW 0 # x_read
+total changed 1 undetermined 0
+"
+    );
+    Ok(())
+}
+
+#[test]
+fn nothing_differs(rt: HostRuntime) -> Result<(), Fail> {
+    let text = changed(&rt, rt.alloc(), &profile(), &profile())?;
+    assert_eq!(rt; text.as_str(), "total changed 0 undetermined 0\n");
+    Ok(())
+}
+
+#[test]
+fn another_profile(rt: HostRuntime) -> Result<(), Fail> {
+    let text = changed(&rt, rt.alloc(), &profile(), &bits())?;
+    assert_eq!(rt;
+        text.as_str(),
+        "arch 0xC000003E nr 16 ERRNO 1 -> ALLOW 0 if arg1_lo = 0x5412
+arch 0xC000003E nr 56 ALLOW 0 -> ERRNO 1 if arg0_lo & 0x7E020000 != 0x0
+arch 0xC000003E nr 59 ERRNO 1 -> ALLOW 0
+arch 0xC000003E nr 0x40000000..0xFFFFFFFF KILL_PROCESS 0 -> ALLOW 0
+arch != 0xC000003E nr 0..55 KILL_PROCESS 0 -> ALLOW 0
+arch != 0xC000003E nr 56 KILL_PROCESS 0 -> ALLOW 0 if arg0_lo & 0x7E020000 = 0x0
+arch != 0xC000003E nr 56 KILL_PROCESS 0 -> ERRNO 1 if arg0_lo & 0x7E020000 != 0x0
+arch != 0xC000003E nr 57..0xFFFFFFFF KILL_PROCESS 0 -> ALLOW 0
+total changed 8 undetermined 0
+"
+    );
+    Ok(())
+}
+
+#[test]
+fn a_word_against_a_word_no_more(rt: HostRuntime) -> Result<(), Fail> {
+    let text = changed(&rt, rt.alloc(), &words(), &[ALLOW])?;
+    assert_eq!(rt;
+        text.as_str(),
+        "arch any nr any ERRNO 1 -> ALLOW 0 | unchanged
+total changed 1 undetermined 1
+"
+    );
+    Ok(())
+}
+
+#[test]
+fn no_rows_while_a_piece_is_left(rt: HostRuntime) -> Result<(), Fail> {
+    let text = changed_with(&rt, rt.alloc(), &profile(), &forgetful(), 3, &[])?;
+    assert_eq!(rt; text.as_str(), "total changed 0 undetermined 0\n");
+    Ok(())
+}
+
+/// The answers of an old and of a new stack to an input.
+fn both_answers(old: &Stack, new: &Stack, input: &Input) -> PartAnswers {
+    PartAnswers {
+        older: answer(old, input),
+        newer: answer(new, input),
+    }
+}
+
+/// Whether two answers are among those of the leaf at which an input lies.
+fn shows_pair(differences: &Differences, input: &Input, both: PartAnswers) -> Option<bool> {
+    let pairs = differences.pairs();
+    for label in labels_at(differences.picture()?, input)? {
+        let shown = match pairs.get(*label) {
+            Some(pair) => *pair == both,
+            None => both.older == both.newer,
+        };
+        if shown {
+            return Some(true);
+        }
+    }
+    Some(false)
+}
+
+/// The stack of one filter.
+fn stack_of_one(alloc: Global, insns: &[RawInsn]) -> Result<Stack, Fail> {
+    let mut files = Vec::new(alloc);
+    files.push(bytes_of(alloc, insns)?)?;
+    Ok(stack_of(alloc, files.as_slice())?)
+}
+
+/// Whether the picture of two random programs shows the answers to 100 inputs.
+fn shows_random_pairs<R: Threads + Wait + Sync>(
+    rt: &R,
+    alloc: Global,
+    state: &mut u64,
+) -> Result<bool, Fail> {
+    let old = random_program(alloc, state)?;
+    let new = random_program(alloc, state)?;
+    let comparison = comparison_of(rt, alloc, old.as_slice(), new.as_slice(), 10000)?;
+    let differences = draw_differences(alloc, &comparison, 20000)?;
+    let before = stack_of_one(alloc, old.as_slice())?;
+    let after = stack_of_one(alloc, new.as_slice())?;
+    for _ in 0..100 {
+        let input = some_input(state);
+        let both = both_answers(&before, &after, &input);
+        if shows_pair(&differences, &input, both) != Some(true) {
+            return Ok(false);
+        }
+    }
+    Ok(true)
+}
+
+#[test]
+fn random_inputs_of_two_random_programs(rt: HostRuntime) -> Result<(), Fail> {
+    let mut state = 20261127u64;
+    for _ in 0..100 {
+        assert!(rt; shows_random_pairs(&rt, rt.alloc(), &mut state)?);
+    }
+    Ok(())
+}

@@ -1,0 +1,5 @@
+use Rattle.sf_list.proofs.DifferenceLemmas.{plain-difference}
+use Rattle.sf_list.proofs.laws.each_plain_row_has_one_difference.Goals as goal
+
+pub returns : goal.returns
+returns c = plain-difference

@@ -1,0 +1,5 @@
+use Rattle.sf_list.proofs.DifferenceLemmas.{row-differences}
+use Rattle.sf_list.proofs.laws.each_row_has_its_differences.Goals as goal
+
+pub returns : goal.returns
+returns c = row-differences

@@ -1,0 +1,136 @@
+//! What differs between the answers of two stacks, drawn.
+
+ghost use Rattle.std.specs.Prelude.{◌≡◌, ◌<◌, ◌≤◌, All, Contains, IfErr, IfOk, length, option_map};
+ghost use Rattle.std.specs.List.Sorted.{IsNonDecreasingBy};
+ghost use Rattle.sf_run.specs.declared.replaying.PartAnswers.{PartAnswers as APair};
+ghost use Rattle.sf_compare.specs.Changes.{AreAnswersOfRegions};
+ghost use Rattle.sf_list.specs.Differences.{AreDifferences, ArePictured, Differ, pair_order};
+
+use crate::pairs::{labels_of, pairs_of};
+use sf_audit::Fault;
+use sf_book::Settled;
+use sf_compare::{Comparison, answers_of_regions};
+use sf_picture::{Picture, picture_of};
+use sf_run::PartAnswers;
+use std::alloc::Global;
+use std::marker::Model;
+
+/// What differs between the answers of two stacks: the pairs of answers that do, and where no piece is outstanding a picture,
+/// whose labels are places of the pairs and, where nothing differs, the number behind all places.
+#[derive(Drop)]
+pub struct Differences {
+    pairs: Vec<PartAnswers>,
+    picture: Option<Picture>,
+}
+
+impl Model for Differences {
+    ghost use Rattle.sf_list.specs.Differences.{DifferencesData};
+
+    ghost Value = { DifferencesData };
+
+    ghost view = { λ x. record { pairs = x.pairs.items; picture = x.picture } };
+}
+
+impl Differences {
+    /// The pairs of answers that differ, the old stack's answer first: by the precedence and the data of the old stack's
+    /// answers, and then of the new one's.
+    pub fn pairs(&self) -> &[PartAnswers]
+        ensures { result.now ≡ self.now.pairs }
+    {
+        self.pairs.as_slice()
+    }
+
+    /// The picture, where no piece is outstanding.
+    pub fn picture(&self) -> Option<&Picture>
+        ensures { option_map (λ p. p.now) result ≡ self.now.picture }
+    {
+        self.picture.as_ref()
+    }
+}
+
+/// The answers of both stacks to the members of each region. `Memory` where an allocation is refused.
+fn answers_of(alloc: Global, settled: &Settled, older: usize) -> Result<Vec<PartAnswers>, Fault>
+    requires { older ≤ length settled.now.stack }
+    ensures ok { IfOk result (λ all. AreAnswersOfRegions settled.now older all.items) }
+    ensures err { IfErr result (λ e. e ≡ Fault.Memory) }
+{
+    match answers_of_regions(alloc, settled, older) {
+        Ok(answers) => Ok(answers),
+        Err(_) => Err(Fault::Memory),
+    }
+}
+
+/// The picture of an exploration by the places of pairs. `Memory` where an allocation is refused.
+fn picture_by(
+    alloc: Global,
+    settled: &Settled,
+    older: usize,
+    answers: &[PartAnswers],
+    pairs: &[PartAnswers],
+    leaves: usize,
+) -> Result<Picture, Fault>
+    requires answers { AreAnswersOfRegions settled.now older answers.now }
+    requires each { All (λ (p : APair). Differ p → Contains pairs.now p) answers.now }
+    requires differ { All Differ pairs.now }
+    requires order { IsNonDecreasingBy pair_order pairs.now }
+    requires none_left { length settled.now.outstanding ≡ 0 }
+    ensures picture { IfOk result (ArePictured settled.now older pairs.now) }
+    ensures refused { IfErr result (λ e. e ≡ Fault.Memory) }
+{
+    // For the prover: only clauses speak of it.
+    let _of = older;
+    let labels = labels_of(alloc, answers, pairs)?;
+    match picture_of(alloc, settled, labels.as_slice(), leaves) {
+        Ok(picture) => Ok(picture),
+        Err(_) => Err(Fault::Memory),
+    }
+}
+
+/// What differs between the answers of two stacks, by those to each region. `Memory` where an allocation is refused.
+fn differences_by(
+    alloc: Global,
+    settled: &Settled,
+    older: usize,
+    answers: &[PartAnswers],
+    leaves: usize,
+) -> Result<Differences, Fault>
+    requires answers { AreAnswersOfRegions settled.now older answers.now }
+    ensures drawn { IfOk result (AreDifferences settled.now older) }
+    ensures refused { IfErr result (λ e. e ≡ Fault.Memory) }
+{
+    let pairs = pairs_of(alloc, answers)?;
+    if settled.outstanding_count() > 0 {
+        return Ok(Differences {
+            pairs,
+            picture: None,
+        });
+    }
+    let picture = picture_by(alloc, settled, older, answers, pairs.as_slice(), leaves)?;
+    Ok(Differences {
+        pairs,
+        picture: Some(picture),
+    })
+}
+
+/// Draws what differs between the answers of the two stacks of a comparison, with at most so many leaves, unless a piece is
+/// outstanding. `Memory` where an allocation is refused.
+pub fn draw_differences(
+    alloc: Global,
+    comparison: &Comparison,
+    leaves: usize,
+) -> Result<Differences, Fault>
+    // The rows' answers are right, on the two stacks.
+    ensures drawn { IfOk result (AreDifferences comparison.now.settled comparison.now.older) }
+
+    ensures refused { IfErr result (λ e. e ≡ Fault.Memory) }
+{
+    let older = comparison.older();
+    let answers = answers_of(alloc, comparison.settled(), older)?;
+    differences_by(
+        alloc,
+        comparison.settled(),
+        older,
+        answers.as_slice(),
+        leaves,
+    )
+}
