@@ -1,11 +1,13 @@
 -- What a piece's conditions, learnt once more, tell of its members.
 use Rattle.std.proofs.Common.{◌≡◌, ℕ, ◌<◌, ◌≤◌, Bool, true, false, true≢false, Some, refl, sym, ◌∙◌}
+use Rattle.std.proofs.lemmas.Bool.{false_from_ne_true}
 use Rattle.std.specs.Prelude.{slice_get, slice_index}
 use Rattle.sf_insn.specs.declared.input.Input.{Input}
 use Rattle.sf_insn.specs.Inputs.{IsInput}
 use Rattle.sf_sym.specs.declared.pool.Cond.{Cond}
 use Rattle.sf_sym.specs.Pool.{is_met}
-use Rattle.sf_dom.specs.Facts.{FactsView, Agrees, Covers, KeepsInputs, NoInput}
+use Rattle.sf_dom.specs.Facts.{FactsView, Covers, NoInput}
+use Rattle.sf_dom.specs.Propagation.{Meets, Learns}
 use Rattle.sf_piece.specs.Pieces.{PieceData, is_member, HasNoMember}
 use Rattle.sf_piece.specs.PlainPieces.{IsPlainPiece}
 use Rattle.sf_ask.specs.Trying.{IsLeastInput}
@@ -15,13 +17,14 @@ use Rattle.sf_ask.proofs.Searching.{not-met}
 
 -- a condition of the piece that no agreeing input meets leaves it without a member
 pub no-member : (p : PieceData) (f : FactsView) (i : ℕ) (c : Cond) → CoverMembers p f
-    → slice_get p.conditions i ≡ Some c → NoInput f p.pool (λ d. is_met p.pool d c) → HasNoMember p
+    → slice_get p.conditions i ≡ Some c → NoInput f p.pool (Meets p.pool c) → HasNoMember p
 unfolding is_member
 no-member p f i c cover there none = record { none = λ d is. by d is (is_member p d) refl }
   where
     by : (d : Input) → IsInput d → (b : Bool) → is_member p d ≡ b → is_member p d ≡ false
     by d is false e = e
-    by d is true e = not-met (is_met p.pool d) p.conditions i c there (none d is (cover.agree d is e))
+    by d is true e = not-met (is_met p.pool d) p.conditions i c there 
+        (false_from_ne_true _ (none d is (cover.agree d is e)))
 
 -- a member meets each condition
 meets : (p : PieceData) (i : ℕ) (c : Cond) (d : Input) → slice_get p.conditions i ≡ Some c → is_member p d ≡ true
@@ -35,11 +38,10 @@ meets p i c d there member = by (is_met p.pool d c) refl
 
 -- the members still agree with the facts after one of the piece's conditions is learnt
 pub still-covered : (p : PieceData) (f g : FactsView) (i : ℕ) (c : Cond) → CoverMembers p f
-    → slice_get p.conditions i ≡ Some c → Covers g p.pool → KeepsInputs f g p.pool (λ d. is_met p.pool d c)
-    → CoverMembers p g
-still-covered p f g i c cover there covers keeps = record {
-  covers = covers;
-  agree = λ d is m. keeps d is (cover.agree d is m) (meets p i c d there m);
+    → slice_get p.conditions i ≡ Some c → Learns f g p.pool c → CoverMembers p g
+still-covered p f g i c cover there learns = record {
+  covers = learns.covers;
+  agree = λ d is m. learns.keeps d is (cover.agree d is m) (meets p i c d there m);
 }
 
 -- the least input that the facts of a piece leave is its least member, if it is one

@@ -9,7 +9,7 @@ use Rattle.sf_insn.specs.declared.input.Input.{Input}
 use Rattle.sf_insn.specs.Inputs.{IsInput}
 use Rattle.sf_sym.specs.declared.pool.Node.{Node}
 use Rattle.sf_sym.specs.declared.pool.Cond.{Cond}
-use Rattle.sf_dom.specs.Facts.{FactsView, Agrees}
+use Rattle.sf_dom.specs.Facts.{FactsView, Agrees, AreConfined, NoInput}
 use Rattle.sf_run.specs.declared.action.Answer.{Answer}
 use Rattle.sf_run.specs.Machine.{returns_of}
 use Rattle.sf_run.specs.AnswerLaws.{one}
@@ -24,8 +24,8 @@ use Rattle.sf_ask.specs.QuestionData.{QuestionData}
 use Rattle.sf_ask.specs.Breaking.{IsInQuestion}
 use Rattle.sf_ask.specs.Verdicts.{IsLowInput, IsMemberAt, IsBreakAt, IsRightVerdict, TellsTriedAt}
 use Rattle.sf_ask.proofs.Leasts.{least-admitted, least-below, least-agrees}
-use Rattle.sf_ask.specs.Trying.{AreConfined, IsNumberBefore, IsLeastInput}
-use Rattle.sf_ask.specs.Searches.{NonePasses, IsRightSearch, TellsTried}
+use Rattle.sf_ask.specs.Trying.{IsNumberBefore, IsLeastInput}
+use Rattle.sf_ask.specs.Searches.{IsRightSearch, TellsTried}
 
 -- ---- conditions, one after the other
 
@@ -73,7 +73,7 @@ low-is-least p q f g ns d low known a h input is member =
 -- ---- what the steps of a search tell
 
 pub ruled-out : (p : PieceData) (q : QuestionData) (f : FactsView) (ns : List Node) → MembersAgree p f ns
-    → NonePasses f ns (IsInQuestion q)
+    → NoInput f ns (IsInQuestion q)
     → (d : Input) → IsInput d → is_member p d ≡ true → ¬ IsInQuestion q d
 ruled-out p q f ns known none = λ d input member. none d input (known d input member)
 

@@ -4,12 +4,11 @@ use Rattle.std.specs.List.Sorted.{IsNonDecreasingBy}
 use Rattle.sf_run.specs.declared.action.Action.{Action}
 use Rattle.sf_run.specs.declared.action.Action.TheVariants.{KillProcess, KillThread, Trap, Errno, UserNotif, Trace, Log, Allow, Other}
 use Rattle.sf_sym.specs.declared.pool.Node.{Node}
-use Rattle.sf_dom.specs.Facts.{FactsView, Covers}
+use Rattle.sf_dom.specs.Facts.{FactsView, Covers, NoInput}
 use Rattle.sf_ask.specs.Actions.{has_action}
 use Rattle.sf_ask.specs.Breaking.{IsInQuestion}
 use Rattle.sf_ask.specs.QuestionBits.{has_bit}
 use Rattle.sf_ask.specs.QuestionData.{QuestionData, range_at}
-use Rattle.sf_ask.specs.Searches.{NonePasses}
 use Rattle.sf_ask.specs.declared.probe.Probe.{Probe}
 use Rattle.sf_ask.specs.declared.probe.Askers.{Askers}
 use Rattle.sf_ask.specs.declared.probe.Probes.{Probes}
@@ -71,7 +70,7 @@ pub record AreProbesOf (questions : List QuestionData) (probes : Probes) : Type 
 
 -- no input that agrees with facts is in the question
 abbrev pub IsRuledOut : FactsView → QuestionData → Type 0
-IsRuledOut f question = (pool : List Node) → Covers f pool → NonePasses f pool (IsInQuestion question)
+IsRuledOut f question = (pool : List Node) → Covers f pool → NoInput f pool (IsInQuestion question)
 
 -- where the question's bit is set, it is ruled out
 abbrev pub IsRuledOutIfAsked : FactsView → List QuestionData → List ℕ → ℕ → Type 0

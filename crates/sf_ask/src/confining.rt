@@ -1,34 +1,28 @@
 //! Facts, confined to the numbers that a question leaves for the words.
 
-ghost use Rattle.std.specs.Prelude.{◌≡◌, ◌<◌, ◌≤◌, ℕ, true, false, Ok, List, length, IfOk, IfErr, MatchBool, MatchOption, slice_index, bit_and};
-ghost use Rattle.sf_insn.specs.Inputs.{IsInput};
-ghost use Rattle.sf_insn.specs.declared.input.Input.{Input as AnInput};
+ghost use Rattle.std.specs.Prelude.{◌≡◌, ◌<◌, ◌≤◌, true, false, Ok, List, length, IfOk, IfErr, MatchBool, MatchOption};
 ghost use Rattle.sf_sym.specs.declared.pool.Node.{Node as ANode};
-ghost use Rattle.sf_dom.specs.Known.{Admits};
-ghost use Rattle.sf_dom.specs.Facts.{known_at, Agrees, Covers, lies_in, has_masked};
-ghost use Rattle.sf_ask.specs.QuestionData.{range_at, mask_at};
+ghost use Rattle.sf_dom.specs.Facts.{Covers, AreConfined, ConfinesWord, NoInput, HasIn, LiesIn};
 ghost use Rattle.sf_ask.specs.Breaking.{IsNumberOf, IsInQuestion};
-ghost use Rattle.sf_ask.specs.Searches.{NonePasses, WordIsInRange, WordHasBits, WordHasNumber, IsRangeNumber, IsMaskNumber, IsWordNumber};
-ghost use Rattle.sf_ask.specs.Trying.{AreConfined, IsNumberBefore};
+ghost use Rattle.sf_ask.specs.Probing.{IsRuledOut};
+ghost use Rattle.sf_ask.specs.Searches.{IsInRange, HasMaskBits};
+ghost use Rattle.sf_ask.specs.Trying.{IsNumberBefore};
 ghost use Rattle.sf_ask.specs.declared.fault.Fault.TheVariants.{Memory};
 
 use crate::fault::Fault;
+use crate::probe::is_whole;
 use crate::question::Question;
 use sf_dom::Facts;
 use sf_sym::{NodeId, Pool};
 use std::alloc::Global;
 
-/// Whether what is known of a word leaves no number of the question's range for it.
-fn misses(facts: &Facts, question: &Question, word: usize) -> bool
+/// Whether what is known of a word leaves no number from `low` to `high` for it.
+pub(crate) fn misses(facts: &Facts, word: usize, low: u32, high: u32) -> bool
     requires word { word < 16 }
     requires known { 16 ≤ length facts.now.known }
     ensures { result ≡ true → (pool : List ANode) → Covers facts.now pool
-        → NonePasses facts.now pool (IsInQuestion question.now) }
+        → NoInput facts.now pool (HasIn word (LiesIn low high)) }
 {
-    let (low, high) = question.range(word);
-    if low == 0 && high == u32::MAX {
-        return false;
-    }
     let known = facts.known(NodeId(word as u32));
     known.high < low || high < known.low
 }
@@ -37,11 +31,11 @@ fn misses(facts: &Facts, question: &Question, word: usize) -> bool
 /// asked before the facts are confined.
 pub(crate) fn rules_out(facts: &Facts, question: &Question) -> bool
     requires { 16 ≤ length facts.now.known }
-    ensures { result ≡ true → (pool : List ANode) → Covers facts.now pool
-        → NonePasses facts.now pool (IsInQuestion question.now) }
+    ensures { result ≡ true → IsRuledOut facts.now question.now }
 {
     for word in 0..16 {
-        if misses(facts, question, word) {
+        let (low, high) = question.range(word);
+        if !is_whole((low, high)) && misses(facts, word, low, high) {
             return true;
         }
     }
@@ -59,13 +53,12 @@ fn confine_range(
     requires covers { Covers facts.old pool.now }
     requires word { word < 16 }
     ensures confined { IfOk result (λ b. MatchBool b
-        (AreConfined facts.old facts.new pool.now (WordIsInRange question.now word)
-        (IsRangeNumber question.now word))
-        (NonePasses facts.old pool.now (WordIsInRange question.now word))) }
+        (ConfinesWord facts.old facts.new pool.now word (IsInRange question.now word))
+        (NoInput facts.old pool.now (HasIn word (IsInRange question.now word)))) }
     ensures err { IfErr result (λ f. f ≡ Memory) }
 {
     let (low, high) = question.range(word);
-    if low == 0 && high == u32::MAX {
+    if is_whole((low, high)) {
         return Ok(true);
     }
     Ok(facts.confine(alloc, pool, word, low, high)?)
@@ -82,9 +75,8 @@ fn confine_mask(
     requires covers { Covers facts.old pool.now }
     requires word { word < 16 }
     ensures confined { IfOk result (λ b. MatchBool b
-        (AreConfined facts.old facts.new pool.now (WordHasBits question.now word)
-        (IsMaskNumber question.now word))
-        (NonePasses facts.old pool.now (WordHasBits question.now word))) }
+        (ConfinesWord facts.old facts.new pool.now word (HasMaskBits question.now word))
+        (NoInput facts.old pool.now (HasIn word (HasMaskBits question.now word)))) }
     ensures err { IfErr result (λ f. f ≡ Memory) }
 {
     let (mask, value) = question.mask(word);
@@ -106,9 +98,8 @@ fn confine_word(
     requires covers { Covers facts.old pool.now }
     requires word { word < 16 }
     ensures confined { IfOk result (λ b. MatchBool b
-        (AreConfined facts.old facts.new pool.now (WordHasNumber question.now word)
-        (IsWordNumber question.now word))
-        (NonePasses facts.old pool.now (WordHasNumber question.now word))) }
+        (ConfinesWord facts.old facts.new pool.now word (IsNumberOf question.now word))
+        (NoInput facts.old pool.now (HasIn word (IsNumberOf question.now word)))) }
     ensures err { IfErr result (λ f. f ≡ Memory) }
 {
     if !confine_range(alloc, facts, pool, question, word)? {
@@ -127,7 +118,7 @@ pub(crate) fn confined(
 ) -> Result<Option<Facts>, Fault>
     requires { Covers facts.now pool.now }
     ensures confined { IfOk result (λ o. MatchOption o
-        (NonePasses facts.now pool.now (IsInQuestion question.now))
+        (NoInput facts.now pool.now (IsInQuestion question.now))
         (λ f. AreConfined facts.now f pool.now (IsInQuestion question.now)
         (IsNumberBefore question.now 16))) }
     ensures err { IfErr result (λ f. f ≡ Memory) }

@@ -25,7 +25,7 @@ pub(crate) struct Probe {
 }
 
 /// Whether the range leaves no number out.
-fn is_whole(range: (u32, u32)) -> bool
+pub(crate) fn is_whole(range: (u32, u32)) -> bool
     ensures { result ≡ is_whole range }
 {
     range.0 == 0 && range.1 == u32::MAX

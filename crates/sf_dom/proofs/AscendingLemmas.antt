@@ -1,10 +1,10 @@
 -- A number looked for in an ascending list, and put into it.
-use Rattle.std.proofs.Common.{◌≡◌, ℕ, zero, suc, ◌+◌, ◌-◌, ◌<◌, ◌≤◌, ◌↔◌, ◌⊎◌, List, [], ◌∷◌, ◌++◌, length, length-append, get_or, IsTrue, arith, refl, sym, ap, ◌∙◌, inl, inr}
+use Rattle.std.proofs.Common.{◌≡◌, ℕ, zero, suc, ◌+◌, ◌-◌, ◌<◌, ◌≤◌, ◌↔◌, ◌⊎◌, List, [], ◌∷◌, ◌++◌, length, get_or, IsTrue, arith, refl, sym, ap, ◌∙◌, inl, inr}
 use Rattle.std.proofs.lemmas.Bool.{cases_lt, cases_order, false≢true}
-use Rattle.std.proofs.lemmas.List.{get_or_default, get_or_append_left, get_or-append-add}
+use Rattle.std.proofs.lemmas.List.{get_or_default}
 use Rattle.std.proofs.lemmas.List.Elements.{Contains-append_left, Contains-append_right, Contains-append_cases, Contains-push}
 use Rattle.std.proofs.lemmas.List.Edits.{length-insert, get_or-insert_below, get_or-insert_at, get_or-insert_above}
-use Rattle.std.proofs.lemmas.List.Sorted.{searched, IsNonDecreasingBy-insert, IsNonDecreasingBy-from_default}
+use Rattle.std.proofs.lemmas.List.Sorted.{searched, IsNonDecreasingBy-insert, IsNonDecreasingBy-push, IsNonDecreasingBy-from_default}
 use Rattle.std.specs.List.{insert}
 use Rattle.std.specs.List.Sorted.{IsBinarySearchResult}
 use Rattle.std.specs.Ordering.{nat_cmp}
@@ -43,26 +43,10 @@ between-ends xs n rising w =
 -- a number above all of an ascending list may come last
 pub rising-pushed : (xs : List ℕ) (n : ℕ) → AreAscending xs → ((k : ℕ) → k < length xs → get_or xs k 0 < n)
     → AreAscending (xs ++ n ∷ [])
-rising-pushed xs n rising above i j le l = elim (cases_lt j (length xs)) [
-  | inl b ↦ rw (get_or_append_left xs (n ∷ []) 0 i (omega (arith, le, b)), get_or_append_left xs (n ∷ []) 0 j b)
-      (rising i j le b)
-  | inr g ↦ elim (cases_lt i (length xs)) [
-    | inl b ↦
-        let low = above i b in
-        let same = get_or_append_left xs (n ∷ []) 0 i b in
-        omega (arith, last g, low, same)
-    | inr h ↦
-        let long = length-append xs (n ∷ []) in
-        let same : i ≡ j = omega (arith, le, l, long, h) in
-        rw same (omega arith)
-  ]
-]
-  where
-    last : length xs ≤ j → get_or (xs ++ n ∷ []) j 0 ≡ n
-    last g =
-        let long = length-append xs (n ∷ []) in
-        let here : j ≡ length xs + 0 = omega (arith, l, long, g) in
-        ap (λ k. get_or (xs ++ n ∷ []) k 0) here ∙ get_or-append-add xs (n ∷ []) 0 0
+rising-pushed xs n rising above i j le l =
+    IsNonDecreasingBy-push (λ x. x) xs n (IsNonDecreasingBy-from_default (λ x. x) xs 0 rising)
+    (λ d some. omega (arith, above (length xs - 1) (omega (arith, some)),
+    get_or_default xs (length xs - 1) 0 d (omega (arith, some)))) i j 0 le l
 
 -- the numbers of a list with one more at its end
 pub pushed-numbers : (xs : List ℕ) (n m : ℕ) → Contains (xs ++ n ∷ []) m ↔ (Contains xs m ⊎ (m ≡ n))

@@ -1,8 +1,8 @@
 -- What facts are after forward propagation and after new nodes are taken in, and where a condition or a range is kept
 -- exactly.
-use Rattle.std.proofs.Common.{◌≡◌, ◌≢◌, ℕ, zero, suc, ◌<◌, ◌≤◌, ◌^◌, ◌↔◌, List, [], length, get_or, take, Bool, true, false, IsTrue, arith, refl, sym, ap, subst, ◌∙◌, inl, inr}
-use Rattle.std.proofs.lemmas.Bool.{cases_lt, eq-eqb, ne_eqb, false≢true}
-use Rattle.std.proofs.lemmas.List.{get_or-take, get_or_append_left}
+use Rattle.std.proofs.Common.{◌≡◌, ◌≢◌, ℕ, zero, suc, ◌<◌, ◌≤◌, ◌^◌, List, [], ◌∷◌, ◌++◌, length, get_or, take, Bool, true, false, arith, refl, sym, ap, subst, ◌∙◌, inl, inr}
+use Rattle.std.proofs.lemmas.Bool.{cases_lt, eq-eqb, ne_eqb}
+use Rattle.std.proofs.lemmas.List.{get_or-take, get_or_append_left, length-append, append-nil}
 use Rattle.std.specs.Prelude.{◌==◌, if◌then◌else◌, slice_index, Contains, Option, Some, None, MatchOption, replicate}
 use Rattle.sf_insn.specs.Inputs.{IsInput}
 use Rattle.sf_insn.specs.declared.input.Input.{Input}
@@ -15,20 +15,11 @@ use Rattle.sf_sym.specs.declared.pool.Node.{Node}
 use Rattle.sf_sym.specs.declared.pool.Node.TheVariants.{Const, Word, Bin, Neg}
 use Rattle.sf_dom.specs.declared.known.Known.{Known}
 use Rattle.sf_dom.specs.Known.{Admits, Leaves, IsConsistent, IsDecided, IsNarrower}
-use Rattle.sf_dom.specs.Facts.{FactsView, known_at, numbers_at, excluded_of, AgreesWith, AreFacts, Covers, KeepsOnly, NoInput, SomeInput, IsPlainCondition, IsPlainTest, IsWordOrConst}
+use Rattle.sf_dom.specs.Facts.{FactsView, known_at, numbers_at, excluded_of, AgreesWith, AreFacts, Agrees, Covers, TakesIn, NoneAgrees, IsPlainCondition, IsPlainTest, IsWordOrConst}
 use Rattle.sf_dom.specs.FactsLaws.{narrower-admits, sampled, words-agree, value-word, decided-admits}
 use Rattle.sf_dom.specs.Propagation.{IsPropagatedAt, AllNarrower, IsGrown, NoneAgreesWith, IsAssumed, AreBothExcluded, IsSharp, TestGives, Holds}
 use Rattle.sf_dom.proofs.GuardLemmas.{differs-gives}
 use Rattle.sf_dom.proofs.Propagations.{AreDecidedOperands-same, operands-below, word-below}
-
--- an answer is true exactly where `met` is true on some input that agreed
-pub exact-none : (old : FactsView) (ns : List Node) (met : Input → Bool) → NoInput old ns met → IsTrue false
-    ↔ SomeInput old ns met
-exact-none old ns met none = ((λ t. absurd (false≢true t)), (λ s. absurd (false≢true (sym (none s.0 s.1 s.2) ∙ s.3))))
-
-pub exact-some : (old new : FactsView) (ns : List Node) (met : Input → Bool) → SomeInput new ns (λ d. true)
-    → KeepsOnly old new ns met → IsTrue true ↔ SomeInput old ns met
-exact-some old new ns met s only = let k = only s.0 s.1 s.2 in ((λ _. (s.0, s.1, k.0, k.1)), (λ _. refl))
 
 -- The number of a node where only one is left: where there is one, where there is none, and how the ends say which.
 pub decided-some : (o : Option ℕ) (k : Known) (n : ℕ) → MatchOption o (¬ IsDecided k) (λ m. IsDecided k × (m ≡ k.low))
@@ -127,23 +118,6 @@ agrees-kept old new ex ns d kept le a i l =
     ∙ get_or-take (length old) new i (record { low = 0; high = 0; zeros = 0; ones = 0 }) l in
     rw same (a i (omega arith))
 
--- Where the new nodes of a longer pool are taken in, the inputs that agreed on its beginning agree, and no others;
--- where no input agrees on the longer pool, none did on its beginning.
-module _ (old : List Known) (ex : List (List ℕ)) (before ns : List Node) (count : length old ≡ length before)
-    (more : Extends before ns) where
-  pub grown-takes_in : (new : List Known) → IsGrown old new ex ns → (d : Input) → IsInput d → AgreesWith old ex before d
-      → AgreesWith new ex ns d
-  grown-takes_in new g d p a = g.keeps d p (agrees-after old ex before ns d count more a)
-
-  pub grown-took_in : (new : List Known) → IsGrown old new ex ns → length old ≤ length ns → (d : Input)
-      → AgreesWith new ex ns d → AgreesWith old ex before d
-  grown-took_in new g le d a =
-      let covers = g.covers in
-      agrees-before old ex before ns d count more (agrees-kept old new ex ns d g.kept (omega arith) a)
-
-  pub none-agreed : NoneAgreesWith old ex ns → (d : Input) → IsInput d → ¬ AgreesWith old ex before d
-  none-agreed none d p a = none d p (agrees-after old ex before ns d count more a)
-
 -- what is known after new nodes are taken in
 pub grown-facts : (old new : List Known) (ex : List (List ℕ)) (ns : List Node) → IsPool ns
     → AreFacts (record { known = old; excluded = ex })
@@ -193,6 +167,39 @@ grown-of old new ex before ns p h more le g =
         | inr o ↦ (g.passed h.lawful.consistent i o (omega arith)).decided d
       ];
     }
+
+-- Where the new nodes of a longer pool are taken in, the inputs that agreed on its beginning agree, and no others;
+-- where no input agrees on the longer pool, none did on its beginning.
+module _ (old : List Known) (ex : List (List ℕ)) (before ns : List Node)
+    (h : Covers (record { known = old; excluded = ex }) before) (more : Extends before ns) where
+  pub grown-takes-in : (new : List Known) → IsPool ns → length old ≤ length ns → IsGrown old new ex ns
+      → TakesIn (record { known = old; excluded = ex }) (record { known = new; excluded = ex }) before ns
+  unfolding Agrees
+  grown-takes-in new p le g =
+      let covers = g.covers in
+      record {
+        covers = grown-of old new ex before ns p h more le g;
+        keeps = λ d i a. g.keeps d i (agrees-after old ex before ns d h.count more a);
+        only = λ d i a. agrees-before old ex before ns d h.count more
+            (agrees-kept old new ex ns d g.kept (omega arith) a);
+      }
+
+  pub none-agreed : NoneAgreesWith old ex ns → NoneAgrees (record { known = old; excluded = ex }) before
+  unfolding Agrees
+  none-agreed none d p a = none d p (agrees-after old ex before ns d h.count more a)
+
+-- a pool that has gained no node
+pub takes-nothing : (f : FactsView) (before ns : List Node) → Covers f before → Extends before ns
+    → length ns ≤ length f.known → TakesIn f f before ns
+takes-nothing f before ns h more le =
+    let count = h.count in
+    let same : ns ≡ before = more.1 ∙ nothing more.0
+    (omega (arith, ap (λ (xs : List Node). length xs) more.1, length-append before more.0)) in
+    rw same (record { covers = h; keeps = λ d p a. a; only = λ d p a. a })
+  where
+    nothing : (added : List Node) → length added ≡ 0 → before ++ added ≡ before
+    nothing [] e = append-nil before
+    nothing (n ∷ added) e = absurd (omega arith)
 
 -- an excluded number is not agreed with any more
 pub agrees-with-fewer : (ks : List Known) (ex ex' : List (List ℕ)) (ns : List Node) (d : Input) → IsPool ns

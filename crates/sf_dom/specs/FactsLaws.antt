@@ -1,6 +1,6 @@
 -- What facts say of the inputs that agree with them; and where a pool has only words and constants, that some input
 -- agrees.
-use Rattle.std.proofs.Common.{◌≡◌, ℕ, ◌<◌, ◌≤◌, ◌-◌, ◌+◌, ◌^◌, List, length, get_or, set, map, take, true, arith, refl, ap, ◌∙◌, inl, inr}
+use Rattle.std.proofs.Common.{◌≡◌, ℕ, ◌<◌, ◌≤◌, ◌-◌, ◌+◌, ◌^◌, List, length, get_or, set, map, take, arith, ap, ◌∙◌, inl, inr}
 use Rattle.std.proofs.lemmas.Bool.{cases_eq, cases_lt}
 use Rattle.std.proofs.lemmas.List.{get_or-set_same, get_or-set_other, length-set, length-map, get_or-map, get_or_past, get_or-take, length-take-le}
 use Rattle.std.proofs.lemmas.Nat.Bits.{bit_at_not, bit_at-lt, bit_at_above}
@@ -14,7 +14,7 @@ use Rattle.sf_sym.specs.declared.pool.Node.{Node}
 use Rattle.sf_dom.specs.declared.known.Known.{Known}
 use Rattle.sf_dom.specs.Known.{Admits, Leaves, IsNarrower, IsConsistent}
 use Rattle.sf_dom.specs.WordFacts.{AgreesOnWords}
-use Rattle.sf_dom.specs.Facts.{FactsView, known_at, numbers_at, AgreesWith, Agrees, AreFacts, Covers, SomeInput}
+use Rattle.sf_dom.specs.Facts.{FactsView, known_at, numbers_at, AgreesWith, Agrees, AreFacts, Covers, KeepsOnly, SomeInput}
 
 -- no bit is in a number and in its complement
 pub bit_at-complement : (c i : ℕ) → c < 2 ^ 32 → bit_at (4294967295 - c) i + bit_at c i ≤ 1
@@ -102,11 +102,21 @@ words-agree f ns d h plain a i l =
     ]
 
 -- Where a pool has only words and constants, some input agrees.
-pub some-input : (f : FactsView) (ns : List Node) → Covers f ns → ArePlainNodes ns → SomeInput f ns (λ d. true)
+pub some-input : (f : FactsView) (ns : List Node) → Covers f ns → ArePlainNodes ns
+    → (d : Input) × IsInput d × Agrees f ns d
 unfolding Agrees
 some-input f ns h plain =
     let s = sampled f 0 (known_at f.known 0).low (omega arith) h.lawful (h.lawful.tight 0 (omega arith)).low in
-    (s.0, s.1, words-agree f ns s.0 h plain s.2, refl)
+    (s.0, s.1, words-agree f ns s.0 h plain s.2)
+
+-- Where a pool has only words and constants, and only inputs that agreed and have a property agree afterwards, some
+-- input agreed and has it.
+pub some-such : (old new : FactsView) (ns : List Node) (has : Input → Type 0) → Covers new ns
+    → KeepsOnly old new ns has → ArePlainNodes ns → SomeInput old ns has
+some-such old new ns has h only plain =
+    let s = some-input new ns h plain in
+    let k = only s.0 s.1 s.2 in
+    (s.0, s.1, k.0, k.1)
 
 -- The number that a word has on an input that agrees is left for it.
 pub agreeing-word : (f : FactsView) (ns : List Node) (d : Input) (w : ℕ) → Covers f ns → w < 16 → Agrees f ns d

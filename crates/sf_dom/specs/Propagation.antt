@@ -3,7 +3,7 @@
 use Rattle.std.specs.Prelude.{◌≡◌, ◌≢◌, ℕ, ◌-◌, ◌<◌, ◌≤◌, ◌↔◌, ◌⊎◌, List, length, take, slice_index, Contains, Bool, true, false, All}
 use Rattle.sf_insn.specs.Inputs.{IsInput}
 use Rattle.sf_insn.specs.Words.{IsOneBit, passes}
-use Rattle.sf_sym.specs.Pool.{node_at, value_of, is_met}
+use Rattle.sf_sym.specs.Pool.{node_at, value_of, is_met, ArePlainNodes}
 use Rattle.sf_insn.specs.declared.input.Input.{Input}
 use Rattle.sf_sym.specs.declared.pool.Node.{Node}
 use Rattle.sf_sym.specs.declared.pool.Node.TheVariants.{Const, Word, Bin, Neg}
@@ -13,7 +13,7 @@ use Rattle.sf_insn.specs.declared.ops.Test.TheVariants.{Equal, Greater, GreaterO
 use Rattle.sf_dom.specs.declared.known.Known.{Known}
 use Rattle.sf_dom.specs.Known.{AreBitsOf, Admits, Leaves, IsNarrower, IsConsistent, IsTight, IsDecided}
 use Rattle.sf_dom.specs.Backward.{IsPropagatedBack}
-use Rattle.sf_dom.specs.Facts.{known_at, numbers_at, excluded_of, AgreesWith, AreDecidedOperands, FactsView, Covers, AreNarrower}
+use Rattle.sf_dom.specs.Facts.{known_at, numbers_at, excluded_of, AgreesWith, AreDecidedOperands, FactsView, Agrees, Covers, AreNarrower, KeepsInputs, KeepsOnly, SomeInput, IsPlainCondition, DecidesTest}
 
 -- every input that agreed agrees still
 abbrev pub KeepsAgreeing : List Known → List Known → List (List ℕ) → List Node → Type 0
@@ -236,20 +236,30 @@ pub record IsRestricted (old new : List Known) (ex : List (List ℕ)) (ns : List
   pub word : IsNarrower more (known_at new w)
   pub passed : (i : ℕ) → i < length ns → IsPropagatedAt new ex ns i
 
+-- a condition is met on an input
+abbrev pub Meets : List Node → Cond → Input → Type 0
+Meets ns cond d = is_met ns d cond ≡ true
+
 -- every condition is met on an input
 abbrev pub AllMet : List Node → List Cond → Input → Type 0
 AllMet ns conds d = All (λ c. is_met ns d c ≡ true) conds
 
--- no input that agrees has in a word a number that `more` admits
-abbrev pub NoneHas : FactsView → List Node → ℕ → Known → Type 0
-NoneHas f ns w more = NoneAgreesOn f.known f.excluded ns (λ d. Admits more (slice_index d.words w))
+-- Facts of conditions: each input that meets them agrees. Where they are plain, no other input does, and where the pool
+-- has only words and constants, there is one then.
+pub record AreFactsOf (f : FactsView) (ns : List Node) (conds : List Cond) : Type 0 where
+  pub covers : Covers f ns
+  pub keeps : (d : Input) → IsInput d → AllMet ns conds d → Agrees f ns d
+  pub only : All (IsPlainCondition ns) conds → (d : Input) → IsInput d → Agrees f ns d → AllMet ns conds d
+  pub some : All (IsPlainCondition ns) conds → ArePlainNodes ns → (d : Input) × IsInput d × AllMet ns conds d
 
--- `more` is taken into the facts of a word: exactly the inputs that agreed and have such a number there agree
-pub record RestrictsWord (old new : FactsView) (ns : List Node) (w : ℕ) (more : Known) : Type 0 where
+-- Facts learn a condition. Of the inputs that agreed, those that meet it agree still. Where the condition is plain, no
+-- others do, and where the pool has only words and constants, there is one then. Nothing that was known is lost, and
+-- what the condition tells is known.
+pub record Learns (old new : FactsView) (ns : List Node) (cond : Cond) : Type 0 where
   pub covers : Covers new ns
-  pub keeps : (d : Input) → IsInput d → AgreesWith old.known old.excluded ns d → Admits more (slice_index d.words w)
-      → AgreesWith new.known new.excluded ns d
-  pub only : (d : Input) → IsInput d → AgreesWith new.known new.excluded ns d → AgreesWith old.known old.excluded ns d
-      × Admits more (slice_index d.words w)
   pub narrower : AreNarrower old new
-  pub word : IsNarrower more (known_at new.known w)
+  pub keeps : KeepsInputs old new ns (Meets ns cond)
+  pub only : IsPlainCondition ns cond → KeepsOnly old new ns (Meets ns cond)
+  pub some : IsPlainCondition ns cond → ArePlainNodes ns → SomeInput old ns (Meets ns cond)
+  pub told : IsTold old new ns cond
+  pub decided : DecidesTest old cond

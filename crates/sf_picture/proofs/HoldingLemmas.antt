@@ -16,7 +16,8 @@ use Rattle.sf_sym.specs.declared.pool.Node.{Node}
 use Rattle.sf_sym.specs.Pool.{is_met}
 use Rattle.sf_dom.specs.declared.known.Known.{Known}
 use Rattle.sf_dom.specs.Known.{Admits}
-use Rattle.sf_dom.specs.Facts.{FactsView, Agrees, Covers, KeepsInputs, NoInput, known_at}
+use Rattle.sf_dom.specs.Facts.{FactsView, Agrees, Covers, NoInput, known_at}
+use Rattle.sf_dom.specs.Propagation.{Meets, Learns}
 use Rattle.sf_dom.specs.FactsLaws.{agreeing-word}
 use Rattle.sf_piece.specs.Pieces.{PieceData, is_member}
 use Rattle.sf_book.specs.Books.{RegionData, BookData}
@@ -43,17 +44,16 @@ meets p i c d there member = by (is_met p.pool d c) refl
 
 -- one of its conditions that no input meets leaves no member
 pub none-agrees : (p : PieceData) (f g : FactsView) (i : ℕ) (c : Cond) → KeepsMembers p f g
-    → slice_get p.conditions i ≡ Some c → NoInput g p.pool (λ d. is_met p.pool d c) → NoMemberAgrees p f
+    → slice_get p.conditions i ≡ Some c → NoInput g p.pool (Meets p.pool c) → NoMemberAgrees p f
 none-agrees p f g i c keeps there none d is member agrees =
-    true≢false (sym (meets p i c d there member) ∙ none d is (keeps.keeps d is member agrees))
+    none d is (keeps.keeps d is member agrees) (meets p i c d there member)
 
 -- where one is learnt, members agree still
 pub keeps-more : (p : PieceData) (f g h : FactsView) (i : ℕ) (c : Cond) → KeepsMembers p f g
-    → slice_get p.conditions i ≡ Some c → Covers h p.pool → KeepsInputs g h p.pool (λ d. is_met p.pool d c)
-    → KeepsMembers p f h
-keeps-more p f g h i c keeps there covers more = record {
-  covers = covers;
-  keeps = λ d is member agrees. more d is (keeps.keeps d is member agrees) (meets p i c d there member);
+    → slice_get p.conditions i ≡ Some c → Learns g h p.pool c → KeepsMembers p f h
+keeps-more p f g h i c keeps there learns = record {
+  covers = learns.covers;
+  keeps = λ d is member agrees. learns.keeps d is (keeps.keeps d is member agrees) (meets p i c d there member);
 }
 
 -- what was kept is kept among more

@@ -1,8 +1,8 @@
 -- Numbers under masks, and spans of them.
-use Rattle.std.proofs.Common.{◌≡◌, ℕ, ◌<◌, ◌≤◌, ◌^◌, ◌-◌, ◌+◌, ◌*◌, min, List, Bool, true, false, Result, Ok, arith, sym, ap, subst, ◌∙◌, inl, inr, eq-eqb, true≢false}
-use Rattle.std.specs.Prelude.{MatchBool, bit_and, slice_index, nat_le}
+use Rattle.std.proofs.Common.{◌≡◌, ℕ, ◌<◌, ◌≤◌, ◌^◌, ◌-◌, ◌+◌, ◌*◌, min, List, Bool, true, false, Result, Ok, arith, sym, ap, subst, ◌∙◌, inl, inr}
+use Rattle.std.specs.Prelude.{MatchBool, bit_and, slice_index}
 use Rattle.std.specs.Int.{bit_at, w32}
-use Rattle.std.proofs.lemmas.Bool.{cases_lt, and_from, and_parts, le-leb, leb-true, eqb-true}
+use Rattle.std.proofs.lemmas.Bool.{cases_lt}
 use Rattle.std.proofs.lemmas.Nat.{and_le_l, and_mask}
 use Rattle.std.proofs.lemmas.Nat.Bits.{bit_at_and, bit_at_not, bit_at-lt, bit_at_above, same_from_bits, and_pow}
 use Rattle.sf_insn.specs.declared.input.Input.{Input}
@@ -10,7 +10,7 @@ use Rattle.sf_insn.specs.Inputs.{IsInput}
 use Rattle.sf_insn.specs.Words.{IsOneBit}
 use Rattle.sf_sym.specs.declared.pool.Node.{Node}
 use Rattle.sf_dom.specs.Known.{HasBits}
-use Rattle.sf_dom.specs.Facts.{FactsView, KeepsInputs, KeepsOnly, NoInput, lies_in, has_masked}
+use Rattle.sf_dom.specs.Facts.{FactsView, ConfinesWord, NoInput, HasIn, LiesIn, HasMasked}
 use Rattle.sf_picture.specs.declared.axis.Axis.{Axis}
 use Rattle.sf_picture.specs.Pictures.{number_on}
 use Rattle.sf_picture.specs.Spans.{IsInSpan, NoneInSpan, KeepsSpan, KeepsOnlySpan, IsSpanOfBit, IsExactSpan}
@@ -65,87 +65,76 @@ one-bit-number m n first (i, lt, e) some le =
     times-one : (k : ℕ) → 1 * k ≡ k
     times-one k = omega arith
 
--- a whole word in a span lies in the range
+-- a whole word has a number of the span where it lies in the range, and only there
+whole-same : (axis : Axis) (d : Input) → axis.mask ≡ 4294967295 → IsInput d
+    → number_on axis d ≡ slice_index d.words axis.word
+whole-same axis d whole is =
+    ap (bit_and (slice_index d.words axis.word)) whole
+    ∙ whole-number (slice_index d.words axis.word) (is.each axis.word)
+
 whole-lies : (axis : Axis) (first last : ℕ) (d : Input) → axis.mask ≡ 4294967295 → IsInput d
-    → IsInSpan axis first last d → lies_in axis.word first last d ≡ true
+    → IsInSpan axis first last d → HasIn axis.word (LiesIn first last) d
 whole-lies axis first last d whole is span =
-    let n = slice_index d.words axis.word in
-    let same : number_on axis d ≡ n = ap (bit_and n) whole ∙ whole-number n (is.each axis.word) in
-    let above : first ≤ n = subst (λ (k : ℕ). first ≤ k) same span.above in
-    let below : n ≤ last = subst (λ (k : ℕ). k ≤ last) same span.below in
-    and_from (nat_le first n) (nat_le n last) (le-leb first n above) (le-leb n last below)
+    let same = whole-same axis d whole is in (
+      subst (λ (k : ℕ). first ≤ k) same span.above,
+      subst (λ (k : ℕ). k ≤ last) same span.below,
+    )
 
-pub whole-keeps : (f g : FactsView) (ns : List Node) (axis : Axis) (first last : ℕ) → axis.mask ≡ 4294967295
-    → KeepsInputs f g ns (lies_in axis.word first last) → KeepsSpan f ns axis first last g
-whole-keeps f g ns axis first last whole keeps d is agrees span =
-    keeps d is agrees (whole-lies axis first last d whole is span)
-
-pub whole-none : (f : FactsView) (ns : List Node) (axis : Axis) (first last : ℕ) → axis.mask ≡ 4294967295
-    → NoInput f ns (lies_in axis.word first last) → NoneInSpan f ns axis first last
-whole-none f ns axis first last whole none d is agrees span =
-    true≢false (sym (whole-lies axis first last d whole is span) ∙ none d is agrees)
+pub whole-confines : (b : Bool) (f g : FactsView) (ns : List Node) (axis : Axis) (first last : ℕ)
+    → axis.mask ≡ 4294967295
+    → MatchBool b (ConfinesWord f g ns axis.word (LiesIn first last))
+    (NoInput f ns (HasIn axis.word (LiesIn first last)))
+    → MatchBool b (KeepsSpan f ns axis first last g) (NoneInSpan f ns axis first last)
+whole-confines true f g ns axis first last whole confines =
+    λ d is agrees span. confines.keeps d is agrees (whole-lies axis first last d whole is span)
+whole-confines false f g ns axis first last whole none =
+    λ d is agrees span. none d is agrees (whole-lies axis first last d whole is span)
 
 -- one number under a mask
 abbrev pub OneNumberIn : Axis → ℕ → ℕ → ℕ → Type 0
 OneNumberIn axis first last v = (n : ℕ) → first ≤ bit_and n axis.mask → bit_and n axis.mask ≤ last
     → bit_and n axis.mask ≡ v
 
-one-has : (axis : Axis) (first last v : ℕ) (d : Input) → OneNumberIn axis first last v → IsInSpan axis first last d
-    → has_masked axis.word axis.mask v d ≡ true
-one-has axis first last v d one span = eq-eqb (number_on axis d) v
-    (one (slice_index d.words axis.word) span.above span.below)
-
-pub one-keeps : (f g : FactsView) (ns : List Node) (axis : Axis) (first last v : ℕ) → OneNumberIn axis first last v
-    → KeepsInputs f g ns (has_masked axis.word axis.mask v) → KeepsSpan f ns axis first last g
-one-keeps f g ns axis first last v one keeps d is agrees span = keeps d is agrees (one-has axis first last v d one span)
-
-pub one-none : (f : FactsView) (ns : List Node) (axis : Axis) (first last v : ℕ) → OneNumberIn axis first last v
-    → NoInput f ns (has_masked axis.word axis.mask v) → NoneInSpan f ns axis first last
-one-none f ns axis first last v one none d is agrees span =
-    true≢false (sym (one-has axis first last v d one span) ∙ none d is agrees)
-
-pub whole-confines : (b : Bool) (f g : FactsView) (ns : List Node) (axis : Axis) (first last : ℕ)
-    → axis.mask ≡ 4294967295
-    → MatchBool b (KeepsInputs f g ns (lies_in axis.word first last)) (NoInput f ns (lies_in axis.word first last))
-    → MatchBool b (KeepsSpan f ns axis first last g) (NoneInSpan f ns axis first last)
-whole-confines true f g ns axis first last whole keeps = whole-keeps f g ns axis first last whole keeps
-whole-confines false f g ns axis first last whole none = whole-none f ns axis first last whole none
-
 pub one-confines : (b : Bool) (f g : FactsView) (ns : List Node) (axis : Axis) (first last v : ℕ)
     → OneNumberIn axis first last v
-    → MatchBool b (KeepsInputs f g ns (has_masked axis.word axis.mask v))
-    (NoInput f ns (has_masked axis.word axis.mask v))
+    → MatchBool b (ConfinesWord f g ns axis.word (HasMasked axis.mask v))
+    (NoInput f ns (HasIn axis.word (HasMasked axis.mask v)))
     → MatchBool b (KeepsSpan f ns axis first last g) (NoneInSpan f ns axis first last)
-one-confines true f g ns axis first last v one keeps = one-keeps f g ns axis first last v one keeps
-one-confines false f g ns axis first last v one none = one-none f ns axis first last v one none
+one-confines true f g ns axis first last v one confines =
+    λ d is agrees span. confines.keeps d is agrees (one (slice_index d.words axis.word) span.above span.below)
+one-confines false f g ns axis first last v one none =
+    λ d is agrees span. none d is agrees (one (slice_index d.words axis.word) span.above span.below)
 
 -- ---- spans to which facts are confined exactly
 
-pub whole-only : (f g : FactsView) (ns : List Node) (axis : Axis) (first last : ℕ) → axis.mask ≡ 4294967295
-    → KeepsOnly f g ns (lies_in axis.word first last) → KeepsOnlySpan f ns axis first last g
-whole-only f g ns axis first last whole only d is agrees =
-    let n = slice_index d.words axis.word in
-    let same : number_on axis d ≡ n = ap (bit_and n) whole ∙ whole-number n (is.each axis.word) in
-    let r = only d is agrees in
-    let both = and_parts (nat_le first n) (nat_le n last) r.1 in (
+pub whole-only : (b : Bool) (f g : FactsView) (ns : List Node) (axis : Axis) (first last : ℕ) → axis.mask ≡ 4294967295
+    → MatchBool b (ConfinesWord f g ns axis.word (LiesIn first last))
+    (NoInput f ns (HasIn axis.word (LiesIn first last)))
+    → b ≡ true → KeepsOnlySpan f ns axis first last g
+whole-only true f g ns axis first last whole confines _ d is agrees =
+    let same = whole-same axis d whole is in
+    let r = confines.only d is agrees in (
       r.0,
       record {
-        above = subst (λ (k : ℕ). first ≤ k) (sym same) (leb-true first n both.0);
-        below = subst (λ (k : ℕ). k ≤ last) (sym same) (leb-true n last both.1);
+        above = subst (λ (k : ℕ). first ≤ k) (sym same) r.1.0;
+        below = subst (λ (k : ℕ). k ≤ last) (sym same) r.1.1;
       },
     )
+whole-only false f g ns axis first last whole none e d is agrees = cc
 
-pub one-only : (f g : FactsView) (ns : List Node) (axis : Axis) (first last v : ℕ) → first ≤ v → v ≤ last
-    → KeepsOnly f g ns (has_masked axis.word axis.mask v) → KeepsOnlySpan f ns axis first last g
-one-only f g ns axis first last v above below only d is agrees =
-    let r = only d is agrees in
-    let same : number_on axis d ≡ v = eqb-true (number_on axis d) v r.1 in (
+pub one-only : (b : Bool) (f g : FactsView) (ns : List Node) (axis : Axis) (first last v : ℕ) → first ≤ v → v ≤ last
+    → MatchBool b (ConfinesWord f g ns axis.word (HasMasked axis.mask v))
+    (NoInput f ns (HasIn axis.word (HasMasked axis.mask v)))
+    → b ≡ true → KeepsOnlySpan f ns axis first last g
+one-only true f g ns axis first last v above below confines _ d is agrees =
+    let r = confines.only d is agrees in (
       r.0,
       record {
-        above = subst (λ (k : ℕ). first ≤ k) (sym same) above;
-        below = subst (λ (k : ℕ). k ≤ last) (sym same) below;
+        above = subst (λ (k : ℕ). first ≤ k) (sym r.1) above;
+        below = subst (λ (k : ℕ). k ≤ last) (sym r.1) below;
       },
     )
+one-only false f g ns axis first last v above below none e d is agrees = cc
 
 -- a number under itself as a mask
 pub and-self : (m : ℕ) → bit_and m m ≡ m

@@ -11,7 +11,7 @@ use Rattle.sf_sym.specs.declared.pool.Cond.{Cond}
 use Rattle.sf_sym.specs.declared.pool.Node.TheVariants.{Const}
 use Rattle.sf_sym.specs.Pool.{node_at, IsPool, value_of, values_of, node_value, IsCondBelow}
 use Rattle.sf_sym.specs.ValueLaws.{value-older}
-use Rattle.sf_dom.specs.Facts.{FactsView, Covers, TakesIn, NoneAgrees}
+use Rattle.sf_dom.specs.Facts.{FactsView, TakesIn, NoneAgrees}
 use Rattle.sf_piece.specs.declared.machine.SymbolicMachine.{SymbolicMachine}
 use Rattle.sf_piece.specs.Pieces.{PieceData, is_member, HasNoMember}
 use Rattle.sf_piece.specs.SymbolicRun.{concrete_state, InProgram, HasTaken, RunsOn, AreNodesBelow, StandsAt, IsPiece, IsLawfulPiece}
@@ -74,15 +74,15 @@ length_le : (p : PieceData) (added : List Node) → length p.pool ≤ length (p.
 length_le p added = omega (arith, length-append p.pool added)
 
 pub grown_piece : (p : PieceData) (added : List Node) (fs : FactsView) → IsPiece p → IsPool (p.pool ++ added)
-    → Covers fs (p.pool ++ added) → TakesIn p.facts fs p.pool (p.pool ++ added) → IsPiece (grown p added fs)
-grown_piece p added fs h pool covers takes = record {
+    → TakesIn p.facts fs p.pool (p.pool ++ added) → IsPiece (grown p added fs)
+grown_piece p added fs h pool takes = record {
   lawful = h.lawful;
   pool = pool;
   bounded = below_le (length p.pool) (length (p.pool ++ added)) p.conditions (length_le p added) h.bounded;
   nodes = nodes_le (length p.pool) (length (p.pool ++ added)) p.machine (length_le p added) h.nodes;
   zero = λ d. value-older p.pool added d p.machine.zero.0 h.nodes.zero ∙ h.zero d;
-  covers = covers;
-  known = λ d inp member. takes d inp (h.known d inp (sym (members_grown p added fs d h.bounded) ∙ member));
+  covers = takes.covers;
+  known = λ d inp member. takes.keeps d inp (h.known d inp (sym (members_grown p added fs d h.bounded) ∙ member));
   members = λ d inp. members_grown p added fs d h.bounded ∙ h.members d inp;
   rest = h.rest;
   base = h.base;

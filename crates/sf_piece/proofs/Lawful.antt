@@ -1,6 +1,7 @@
 -- Pieces stay lawful: the symbolic run stands where it should, and on a plain stack nothing is lost.
 use Rattle.std.proofs.Common.{◌≡◌, ℕ, zero, suc, ◌^◌, ◌<◌, Bool, List, [], ◌∷◌, ◌++◌, length, replicate, refl, ap, ◌∙◌, arith}
 use Rattle.std.specs.Prelude.{slice_index, Option, Some, None, IfSome, MatchOption}
+use Rattle.std.proofs.lemmas.Bool.{false_from_ne_true}
 use Rattle.std.proofs.lemmas.List.Elements.{All-nil}
 use Rattle.sf_insn.specs.declared.input.Input.{Input}
 use Rattle.sf_insn.specs.Inputs.{IsInput}
@@ -14,17 +15,17 @@ use Rattle.sf_check.specs.Stacks.{IsLawfulStack, IsPlain}
 use Rattle.sf_sym.specs.declared.pool.Node.{Node}
 use Rattle.sf_sym.specs.declared.pool.NodeId.{NodeId}
 use Rattle.sf_sym.specs.declared.pool.Cond.{Cond}
-use Rattle.sf_sym.specs.Pool.{IsPool, ArePlainNodes, value_of, is_met}
+use Rattle.sf_sym.specs.Pool.{IsPool, ArePlainNodes, value_of}
 use Rattle.sf_dom.specs.declared.known.Known.{Known}
 use Rattle.sf_dom.specs.Known.{Admits}
-use Rattle.sf_dom.specs.Facts.{FactsView, known_at, Covers, Agrees, AreNarrower, DecidesTest, KeepsInputs, KeepsOnly, NoInput, TakesIn}
-use Rattle.sf_dom.specs.Propagation.{IsTold}
+use Rattle.sf_dom.specs.Facts.{FactsView, known_at, Covers, Agrees, NoInput, TakesIn}
+use Rattle.sf_dom.specs.Propagation.{Meets, Learns}
 use Rattle.sf_dom.specs.Facts.{IsPlainCondition as IsPlainCond}
 use Rattle.sf_piece.specs.declared.machine.SymbolicMachine.{SymbolicMachine}
 use Rattle.sf_piece.specs.Pieces.{PieceData, is_member}
 use Rattle.sf_piece.specs.PlainPieces.{IsPlainPiece}
 use Rattle.sf_piece.specs.SymbolicRun.{IsPiece, IsLawfulPiece, concrete_state}
-use Rattle.sf_piece.specs.Works.{HasAtHand, GoesTo, ReturnsNow, IsQuery, IsForeseen, PassesAlways, AfterTruthValue, AreChildFacts, IsChild, IsNever, with_sense}
+use Rattle.sf_piece.specs.Works.{HasAtHand, GoesTo, ReturnsNow, IsQuery, IsForeseen, PassesAlways, IsOperandNumber, AfterTruthValue, AreChildFacts, IsChild, IsNever, with_sense}
 use Rattle.sf_piece.specs.Machines.{after_return}
 use Rattle.sf_piece.proofs.Kept.{gone, go_piece, return_piece}
 use Rattle.sf_piece.proofs.Children.{taken_on, take_piece, child_of, child_piece, child_is, piece_named}
@@ -57,52 +58,42 @@ lawful_child p i cond b m fs h s e facts after =
     lawful (child_of p cond b m fs) (child_piece p i cond b m fs h.run s e facts after)
     (λ is. plain_child p cond b m fs (h.plain is) (e.plain is) facts (facts.plain is))
 
--- where a test of A has one result on every input that agrees with the facts, it has that result on every member
-told_by_facts : (p : PieceData) (test : Test) (other : Operand) (n : ℕ) (b : Bool) → IsPiece p → other ≡ Constant n
-    → ((d : Input) → IsInput d → Agrees p.facts p.pool d → passes test (value_of p.pool d p.machine.a.0) n ≡ b)
-    → PassesAlways p test other b
-told_by_facts p test other n b h e told = λ d inp member.
-    ap (λ (r : Operand). passes test (value_of p.pool d p.machine.a.0)
-    (operand_of (concrete_state p.pool p.machine d) r)) e
-    ∙ told d inp (h.known d inp member)
-
 -- the answer of the facts on a test of A is right: one result on every member, or nothing said
 pub foretold : (p : PieceData) (test : Test) (other : Operand) (n : ℕ) (o : Option Bool) → IsPiece p
-    → other ≡ Constant n
+    → IsOperandNumber p other n
     → IfSome o (λ b. (d : Input) → IsInput d → Agrees p.facts p.pool d
     → passes test (value_of p.pool d p.machine.a.0) n ≡ b)
     → IfSome o (λ b. PassesAlways p test other b)
-foretold p test other n None h e told = told
-foretold p test other n (Some b) h e told = told_by_facts p test other n b h e told
+foretold p test other n None h is told = told
+foretold p test other n (Some b) h is told = λ d inp member.
+    let agrees = h.known d inp member in
+    ap (passes test (value_of p.pool d p.machine.a.0)) (is d inp agrees) ∙ told d inp agrees
 
 -- where what is known of A tells a test of it against a number, the test has that result on every member
 pub told_of_known : (p : PieceData) (test : Test) (other : Operand) (n : ℕ) (known : Known) (b : Bool) → IsPiece p
     → other ≡ Constant n → known ≡ known_at p.facts.known p.machine.a.0
     → ((x : ℕ) → Admits known x → passes test x n ≡ b) → PassesAlways p test other b
 unfolding Agrees
-told_of_known p test other n known b h e is told = told_by_facts p test other n b h e (λ d inp agrees.
+told_of_known p test other n known b h e is told = foretold p test other n (Some b) h
+    (λ d inp agrees. ap (operand_of (concrete_state p.pool p.machine d)) e) (λ d inp agrees.
     told (value_of p.pool d p.machine.a.0)
     (rw is (agrees p.machine.a.0 (omega (arith, h.nodes.a, h.covers.count))).admitted))
 
 -- what is learnt from the piece's facts
 pub learnt_child : (p : PieceData) (cond : Cond) (b : Bool) (o : Option FactsView) → IsPiece p
-    → (IsPlain p.stack → IsPlainCond p.pool cond) → IfSome o (λ fs. Covers fs p.pool)
-    → MatchOption o (NoInput p.facts p.pool (λ d. is_met p.pool d (with_sense cond b)))
-    (λ fs. KeepsInputs p.facts fs p.pool (λ d. is_met p.pool d (with_sense cond b)))
-    → IfSome o (λ fs. AreNarrower p.facts fs) → IfSome o (λ fs. IsTold p.facts fs p.pool (with_sense cond b))
-    → IfSome o (λ fs. DecidesTest p.facts (with_sense cond b))
-    → (IsPlainCond p.pool (with_sense cond b) → IfSome o
-    (λ fs. KeepsOnly p.facts fs p.pool (λ d. is_met p.pool d (with_sense cond b))))
+    → (IsPlain p.stack → IsPlainCond p.pool cond)
+    → MatchOption o (NoInput p.facts p.pool (Meets p.pool (with_sense cond b)))
+    (λ fs. Learns p.facts fs p.pool (with_sense cond b))
     → MatchOption o (IsNever p cond b) (λ fs. AreChildFacts p cond b fs)
-learnt_child p cond b None h plain covers sound narrower told decided only =
-    λ d inp member. sound d inp (h.known d inp member)
-learnt_child p cond b (Some fs) h plain covers sound narrower told decided only = record {
-  covers = covers;
-  known = λ d inp member. sound d inp (h.known d inp member);
-  narrower = narrower;
-  told = told;
-  decided = decided;
-  plain = λ is. only (sensed_plain p.pool cond b (plain is));
+learnt_child p cond b None h plain none =
+    λ d inp member. false_from_ne_true _ (none d inp (h.known d inp member))
+learnt_child p cond b (Some fs) h plain learns = record {
+  covers = learns.covers;
+  known = λ d inp member. learns.keeps d inp (h.known d inp member);
+  narrower = learns.narrower;
+  told = learns.told;
+  decided = learns.decided;
+  plain = λ is. learns.only (sensed_plain p.pool cond b (plain is));
 }
 
 pub right_child : (p : PieceData) (i : Insn) (cond : Cond) (b : Bool) (m : SymbolicMachine) (fs : FactsView)
@@ -113,12 +104,11 @@ right_child p i cond b m fs h s e facts after =
     child_is p cond b m fs facts (lawful_child p i cond b m fs h s e facts after)
 
 pub lawful_grown : (p : PieceData) (added : List Node) (fs : FactsView) → IsLawfulPiece p → IsPool (p.pool ++ added)
-    → Covers fs (p.pool ++ added) → TakesIn p.facts fs p.pool (p.pool ++ added)
-    → (IsPlain p.stack → ArePlainNodes (p.pool ++ added)) → TakesIn fs p.facts (p.pool ++ added) p.pool
-    → IsLawfulPiece (grown p added fs)
-lawful_grown p added fs h pool covers takes nodes only =
-    lawful (grown p added fs) (grown_piece p added fs h.run pool covers takes)
-    (λ is. plain_grown p added fs h.run (h.plain is) (nodes is) only)
+    → TakesIn p.facts fs p.pool (p.pool ++ added)
+    → (IsPlain p.stack → ArePlainNodes (p.pool ++ added)) → IsLawfulPiece (grown p added fs)
+lawful_grown p added fs h pool takes nodes =
+    lawful (grown p added fs) (grown_piece p added fs h.run pool takes)
+    (λ is. plain_grown p added fs h.run (h.plain is) (nodes is) takes)
 
 -- ---- the first piece
 

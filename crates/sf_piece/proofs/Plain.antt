@@ -23,6 +23,7 @@ use Rattle.sf_sym.specs.declared.pool.NodeId.{NodeId}
 use Rattle.sf_sym.specs.declared.pool.Cond.{Cond}
 use Rattle.sf_sym.specs.Pool.{IsPool, ArePlainNodes, OperandsBelow, folded_node, node_at, is_met, IsCondBelow}
 use Rattle.sf_dom.specs.Facts.{FactsView, Agrees, KeepsOnly, TakesIn, IsWordOrConst, IsPlainTest}
+use Rattle.sf_dom.specs.Propagation.{Meets}
 use Rattle.sf_dom.specs.FactsLaws.{some-input}
 use Rattle.sf_dom.specs.Facts.{IsPlainCondition as IsPlainCond}
 use Rattle.sf_piece.specs.declared.machine.SymbolicMachine.{SymbolicMachine}
@@ -107,11 +108,11 @@ unfolding is_member
 plain_kept p name m h = record { nodes = h.nodes; conditions = h.conditions; exact = h.exact; some = h.some }
 
 pub plain_grown : (p : PieceData) (added : List Node) (fs : FactsView) → IsPiece p → IsPlainPiece p
-    → ArePlainNodes (p.pool ++ added) → TakesIn fs p.facts (p.pool ++ added) p.pool → IsPlainPiece (grown p added fs)
-plain_grown p added fs k h nodes only = record {
+    → ArePlainNodes (p.pool ++ added) → TakesIn p.facts fs p.pool (p.pool ++ added) → IsPlainPiece (grown p added fs)
+plain_grown p added fs k h nodes takes = record {
   nodes = nodes;
   conditions = conds_grown p.pool added p.conditions k.bounded h.conditions;
-  exact = λ d inp agrees. members_grown p added fs d k.bounded ∙ h.exact d inp (only d inp agrees);
+  exact = λ d inp agrees. members_grown p added fs d k.bounded ∙ h.exact d inp (takes.only d inp agrees);
   some = (h.some.0, h.some.1, members_grown p added fs h.some.0 k.bounded ∙ h.some.2);
 }
 
@@ -124,7 +125,7 @@ and_is a b e f = rw (e, f) refl
 -- the piece of the members that have this truth value is plain, where the facts learnt are exact and some input agrees
 pub plain_child : (p : PieceData) (cond : Cond) (b : Bool) (m : SymbolicMachine) (fs : FactsView) → IsPlainPiece p
     → IsPlainCond p.pool cond → AreChildFacts p cond b fs
-    → KeepsOnly p.facts fs p.pool (λ d. is_met p.pool d (with_sense cond b)) → IsPlainPiece (child_of p cond b m fs)
+    → KeepsOnly p.facts fs p.pool (Meets p.pool (with_sense cond b)) → IsPlainPiece (child_of p cond b m fs)
 plain_child p cond b m fs h plain f only =
     let some = some-input fs p.pool f.covers h.nodes in
     let member : (d : Input) → IsInput d → Agrees fs p.pool d → is_member (child_of p cond b m fs) d ≡ true

@@ -1,10 +1,10 @@
 -- The parts of a step of the symbolic run, for contracts between the functions that work a piece. Nothing above this
 -- crate speaks of these.
-use Rattle.std.specs.Prelude.{◌≡◌, ℕ, zero, suc, ◌+◌, ◌-◌, ◌*◌, ◌&&◌, not, ◌<◌, ◌≤◌, ◌^◌, ◌⊎◌, Bool, true, false, List, [], ◌∷◌, ◌++◌, length, get_or, replicate, Option, Some, None, slice_get, if◌then◌else◌, ◌==◌}
+use Rattle.std.specs.Prelude.{◌≡◌, ℕ, zero, suc, ◌+◌, ◌-◌, ◌*◌, ◌&&◌, not, ◌<◌, ◌≤◌, ◌^◌, ◌⊎◌, Bool, true, false, List, [], ◌∷◌, ◌++◌, length, get_or, replicate, Some, slice_get, if◌then◌else◌, ◌==◌}
 use Rattle.sf_insn.specs.declared.input.Input.{Input}
 use Rattle.sf_insn.specs.Inputs.{IsInput}
 use Rattle.sf_insn.specs.declared.ops.BinOp.{BinOp}
-use Rattle.sf_insn.specs.declared.ops.BinOp.TheVariants.{Div, And, Or, Xor}
+use Rattle.sf_insn.specs.declared.ops.BinOp.TheVariants.{Div}
 use Rattle.sf_insn.specs.declared.ops.Test.{Test}
 use Rattle.sf_insn.specs.declared.ops.Test.TheVariants.{Equal}
 use Rattle.sf_check.specs.declared.insn.Insn.{Insn}
@@ -17,14 +17,15 @@ use Rattle.sf_check.specs.Stacks.{IsLawfulStack, IsPlain}
 use Rattle.sf_run.specs.Machine.{Progress, goes, operand_of, with_a, with_x, insn_progress}
 use Rattle.sf_sym.specs.declared.pool.Node.{Node}
 use Rattle.sf_sym.specs.declared.pool.NodeId.{NodeId}
-use Rattle.sf_sym.specs.declared.pool.Node.TheVariants.{Const, Bin}
-use Rattle.sf_sym.specs.Pool.{node_at, constant_number, value_of, values_of, node_value, is_met, IsCondBelow}
+use Rattle.sf_sym.specs.declared.pool.Node.TheVariants.{Const}
+use Rattle.sf_sym.specs.Pool.{node_at, value_of, values_of, node_value, is_met, IsCondBelow}
 use Rattle.sf_sym.specs.declared.pool.Cond.{Cond}
 use Rattle.sf_insn.specs.Words.{apply, passes}
 use Rattle.sf_dom.specs.declared.known.Known.{Known}
 use Rattle.sf_dom.specs.Known.{Admits}
-use Rattle.sf_dom.specs.Facts.{FactsView, Covers, Agrees, AreNarrower, DecidesTest, KeepsOnly, known_at}
-use Rattle.sf_dom.specs.Propagation.{IsTold}
+use Rattle.sf_dom.specs.Facts.{FactsView, Covers, Agrees, AreNarrower, DecidesTest, KeepsOnly}
+use Rattle.sf_dom.specs.Propagation.{IsTold, Meets}
+use Rattle.sf_dom.specs.Backward.{IsPropagatedBack}
 use Rattle.sf_dom.specs.Facts.{IsPlainCondition as IsPlainCond}
 use Rattle.sf_piece.specs.declared.machine.SymbolicMachine.{SymbolicMachine}
 use Rattle.sf_piece.specs.Machines.{after_return}
@@ -204,6 +205,15 @@ abbrev pub PassesAlways : PieceData → Test → Operand → Bool → Type 0
 PassesAlways p test other b = (d : Input) → IsInput d → is_member p d ≡ true
     → passes test (value_of p.pool d p.machine.a.0) (operand_of (concrete_state p.pool p.machine d) other) ≡ b
 
+-- an operand has this value on every input that agrees with the facts
+abbrev pub IsOperandNumber : PieceData → Operand → ℕ → Type 0
+IsOperandNumber p other n = (d : Input) → IsInput d → Agrees p.facts p.pool d
+    → operand_of (concrete_state p.pool p.machine d) other ≡ n
+
+-- no known bits would go back from a node
+abbrev pub NothingGoesBack : PieceData → NodeId → Type 0
+NothingGoesBack p node = (n : ℕ) → IsPropagatedBack n p.facts.known p.pool node.0
+
 -- the next truth value is this on every member
 pub record IsForeseen (p : PieceData) (i : Insn) (b : Bool) : Type 0 where
   pub asks : Asks p i
@@ -234,48 +244,6 @@ IsNever p cond b = (d : Input) → IsInput d → is_member p d ≡ true → is_m
 abbrev pub IsImplied : PieceData → Cond → Bool → Type 0
 IsImplied p cond b = (d : Input) → IsInput d → is_member p d ≡ true → is_met p.pool d (with_sense cond b) ≡ true
 
--- the facts leave one number for a node
-abbrev pub has_one_number : PieceData → NodeId → Bool
-has_one_number p n = (known_at p.facts.known n.0).low == (known_at p.facts.known n.0).high
-
--- a node has this value on every input that agrees with the facts
-abbrev pub HasOneValue : PieceData → NodeId → ℕ → Type 0
-HasOneValue p node n = (d : Input) → IsInput d → Agrees p.facts p.pool d → value_of p.pool d node.0 ≡ n
-
--- exactly one of two operands is a constant
-abbrev pub is_one_constant : Option ℕ → Option ℕ → Bool
-is_one_constant (Some x) None = true
-is_one_constant None (Some y) = true
-is_one_constant _ _ = false
-
--- known bits go back from a node to an operand: it is an AND, an OR or an XOR, and exactly one of its operands is a
--- constant
-abbrev pub is_propagated_back : List Node → Node → Bool
-is_propagated_back ns (Bin And a b) = is_one_constant (constant_number (node_at ns a.0))
-    (constant_number (node_at ns b.0))
-is_propagated_back ns (Bin Or a b) = is_one_constant (constant_number (node_at ns a.0))
-    (constant_number (node_at ns b.0))
-is_propagated_back ns (Bin Xor a b) = is_one_constant (constant_number (node_at ns a.0))
-    (constant_number (node_at ns b.0))
-is_propagated_back ns _ = false
-
--- the number of a node, where the facts leave one and a condition on it would tell nothing of another node
-abbrev pub decided_number_of : PieceData → NodeId → Option ℕ
-decided_number_of p n =
-    if has_one_number p n && not (is_propagated_back p.pool (node_at p.pool n.0))
-    then Some (known_at p.facts.known n.0).low
-    else None
-
--- the truth value of a test of two numbers, where both are there
-abbrev pub test_result : Test → Option ℕ → Option ℕ → Option Bool
-test_result test None n = None
-test_result test (Some m) None = None
-test_result test (Some m) (Some n) = Some (passes test m n)
-
--- the truth value of a condition, where each of its two nodes has one number and no known bits go back from either
-abbrev pub told_by_numbers : PieceData → Cond → Option Bool
-told_by_numbers p cond = test_result cond.test (decided_number_of p cond.node) (decided_number_of p cond.other)
-
 -- Facts of the members on which the condition has this truth value: nothing that was known is lost, and what the truth
 -- value tells is known. On a plain stack these are exact: an input that agrees with them agreed before, and the
 -- condition has this truth value on it.
@@ -286,7 +254,7 @@ pub record AreChildFacts (p : PieceData) (cond : Cond) (b : Bool) (facts : Facts
   pub narrower : AreNarrower p.facts facts
   pub told : IsTold p.facts facts p.pool (with_sense cond b)
   pub decided : DecidesTest p.facts (with_sense cond b)
-  pub plain : IsPlain p.stack → KeepsOnly p.facts facts p.pool (λ d. is_met p.pool d (with_sense cond b))
+  pub plain : IsPlain p.stack → KeepsOnly p.facts facts p.pool (Meets p.pool (with_sense cond b))
 
 -- the piece of the members on which the condition has this truth value: it has one condition more, and its facts are of
 -- just these members

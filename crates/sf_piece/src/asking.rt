@@ -2,7 +2,7 @@
 
 ghost use Rattle.std.specs.Prelude.{◌≡◌, ℕ, IfOk, IfSome};
 ghost use Rattle.sf_piece.specs.SymbolicRun.{IsLawfulPiece};
-ghost use Rattle.sf_piece.specs.Works.{HasAtHand, PassesAlways, divides_at};
+ghost use Rattle.sf_piece.specs.Works.{HasAtHand, IsOperandNumber, NothingGoesBack, PassesAlways, divides_at};
 ghost use Rattle.sf_piece.specs.SmallSteps.{IsSmallStep};
 
 use crate::chains::take_told;
@@ -26,16 +26,33 @@ fn asks_zero(op: BinOp, other: Operand, taken: usize) -> bool
     }
 }
 
-/// What the facts tell of a test of A against a number: the truth value that it has on every member, where nothing can
-/// be learnt from it. None where the facts leave it open, and for a test against X.
-fn foreseen(run: &Run, test: Test, other: Operand) -> Option<bool>
+/// The number that A is tested against: a constant, or the number of X, where it has only one and no known bits would
+/// go back from it.
+fn number_against(run: &Run, other: Operand) -> Option<u32>
     requires { IsLawfulPiece run.now }
-    ensures { IfSome result (λ b. PassesAlways run.now test other b) }
+    ensures value { IfSome result (IsOperandNumber run.now other) }
+    ensures back { IfSome result (λ n. other ≡ Operand.X
+        → NothingGoesBack run.now run.now.machine.x) }
 {
     match other {
-        Operand::Constant(number) => run.facts.told(&run.pool, run.machine.a, test, number),
-        Operand::X => None,
+        Operand::Constant(number) => Some(number),
+        Operand::X => {
+            let number = run.facts.decided(&run.pool, run.machine.x)?;
+            run.facts.told(&run.pool, run.machine.x, Test::Equal, number)?;
+            Some(number)
+        }
     }
+}
+
+/// What the facts tell of a test of A: the truth value that it has on every member, where nothing can be learnt from
+/// it. None where the facts leave it open.
+fn foreseen(run: &Run, test: Test, other: Operand) -> Option<bool>
+    requires { IsLawfulPiece run.now }
+    ensures value { IfSome result (λ b. PassesAlways run.now test other b) }
+    ensures back { IfSome result (λ b. NothingGoesBack run.now run.now.machine.a) }
+{
+    let number = number_against(run, other)?;
+    run.facts.told(&run.pool, run.machine.a, test, number)
 }
 
 /// An operation on A, whose result is put in A as a node. A division by X first asks whether X is 0, unless the name
@@ -59,6 +76,10 @@ pub(crate) fn alu(
             other: run.machine.zero,
             sense: true,
         };
+        if let Some(sense) = run.facts.told(&run.pool, cond.node, cond.test, 0) {
+            take(run, insn, sense)?;
+            return Ok(SmallStep::On);
+        }
         return decide(alloc, run, insn, cond);
     }
     match operand(alloc, run, other)? {

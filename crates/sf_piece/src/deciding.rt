@@ -1,12 +1,12 @@
 //! A truth value of the trace, taken as true, as false or as both.
 
-ghost use Rattle.std.specs.Prelude.{◌≡◌, ◌<◌, if◌then◌else◌, IfOk, IfSome, length, MatchOption, true, false};
+ghost use Rattle.std.specs.Prelude.{◌≡◌, ◌<◌, if◌then◌else◌, IfOk, length, MatchOption, true, false};
 ghost use Rattle.std.specs.Arc.{arc_value};
 ghost use Rattle.sf_check.specs.Stacks.{IsPlain};
-ghost use Rattle.sf_sym.specs.Pool.{IsCondBelow, node_at};
+ghost use Rattle.sf_sym.specs.Pool.{IsCondBelow};
 ghost use Rattle.sf_dom.specs.Facts.{IsPlainCondition as IsPlainCond};
 ghost use Rattle.sf_piece.specs.SymbolicRun.{IsLawfulPiece};
-ghost use Rattle.sf_piece.specs.Works.{HasAtHand, IsQuery, AfterTruthValue, HasAdvanced, IsChild, IsForeseen, Asks, IsImplied, AreChildFacts, IsNever, HasOneValue, is_propagated_back, decided_number_of, told_by_numbers};
+ghost use Rattle.sf_piece.specs.Works.{HasAtHand, IsQuery, AfterTruthValue, HasAdvanced, IsChild, IsForeseen, Asks, AreChildFacts, IsNever};
 ghost use Rattle.sf_piece.specs.SmallSteps.{IsSmallStep};
 
 use crate::chains::take_test;
@@ -16,8 +16,7 @@ use crate::piece::Piece;
 use crate::run::Run;
 use sf_check::Insn;
 use sf_dom::Facts;
-use sf_insn::BinOp;
-use sf_sym::{Cond, Node, NodeId, Pool, constant_of};
+use sf_sym::Cond;
 use std::alloc::Global;
 use std::sync::Arc;
 
@@ -152,54 +151,8 @@ fn learnt(alloc: Global, run: &Run, cond: Cond, sense: bool) -> Result<Option<Fa
     Ok(learnt)
 }
 
-/// Whether known bits go back from a node to an operand: it is an AND, an OR or an XOR, and exactly one of its operands
-/// is a constant.
-fn propagates_back(pool: &Pool, node: NodeId) -> bool
-    requires { node.0 < length pool.now }
-    ensures { result ≡ is_propagated_back pool.now (node_at pool.now node.0) }
-{
-    match pool.node(node) {
-        Node::Bin(BinOp::And | BinOp::Or | BinOp::Xor, a, b) => {
-            constant_of(pool.node(a)).is_some() != constant_of(pool.node(b)).is_some()
-        }
-        _ => false,
-    }
-}
-
-/// The number of a word, where it has the same one on every member and a condition on it would tell nothing of another
-/// word.
-fn decided_number(run: &Run, node: NodeId) -> Option<u32>
-    requires lawful { IsLawfulPiece run.now }
-    requires below { node.0 < length run.now.pool }
-    ensures told { result ≡ decided_number_of run.now node }
-    ensures value { IfSome result (λ n. HasOneValue run.now node n) }
-{
-    let number = run.facts.decided(&run.pool, node)?;
-    if propagates_back(&run.pool, node) {
-        return None;
-    }
-    Some(number)
-}
-
-/// The truth value of a condition, where both words have numbers that decide it and there is nothing to learn from it.
-fn decided(run: &Run, cond: Cond) -> Option<bool>
-    requires lawful { IsLawfulPiece run.now }
-    requires below { IsCondBelow (length run.now.pool) cond }
-    ensures told { result ≡ told_by_numbers run.now cond }
-    ensures implied { IfSome result (IsImplied run.now cond) }
-{
-    let left = decided_number(run, cond.node)?;
-    let right = decided_number(run, cond.other)?;
-    Some(cond.test.passes(left, right))
-}
-
 /// Takes the next truth value, or splits the piece by it. It is learnt as false and as true, each from the same facts:
 /// where one of the two contradicts, the other is taken; where both do, the piece has no member.
-///
-/// Where numbers decide it, it is taken without that, since one truth value would contradict and the other change no
-/// fact: a word that has one number has all its bits known, the test moves no bound past it, and no bits go back from
-/// it. An AND, an OR or an XOR with a constant is different: its bits may go back to an operand that lacks them, and
-/// contradict there. So it is learnt from even where it has one number.
 pub(crate) fn decide(
     alloc: Global,
     run: &mut Run,
@@ -211,10 +164,6 @@ pub(crate) fn decide(
     requires query { IsQuery run.old insn cond }
     ensures { IfOk result (IsSmallStep run.old run.new) }
 {
-    if let Some(sense) = decided(run, cond) {
-        take(run, insn, sense)?;
-        return Ok(SmallStep::On);
-    }
     let Some(on_false) = learnt(alloc, run, cond, false)? else {
         let Some(_on_true) = learnt(alloc, run, cond, true)? else {
             return Ok(SmallStep::Empty);

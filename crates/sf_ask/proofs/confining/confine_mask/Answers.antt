@@ -1,10 +1,13 @@
-use Rattle.std.proofs.Common.{ap, Ok}
-use Rattle.sf_ask.proofs.Words.{mask-confines}
+use Rattle.std.proofs.Common.{arith}
+use Rattle.std.proofs.lemmas.Bool.{eqb-true}
+use Rattle.sf_ask.proofs.Words.{mask-stays}
 use Rattle.sf_ask.proofs.confining.confine_mask.Goals as goal
 
+pub returns-then-mask-eq0-clause-confined : goal.returns-then-mask-eq0-clause-confined
+returns-then-mask-eq0-clause-confined c =
+    mask-stays c.args.question.now c.args.word c.mask-mask.result c.args.facts.now c.args.pool.now
+    c.mask-mask.ensures.value (omega (arith, c.if-mask-eq0.true))
+    (eqb-true _ _ c.mask-mask.ensures.inside) c.requires.covers
+
 pub returns-clause-confined : goal.returns-clause-confined
-returns-clause-confined c =
-    let e = c.in_ok-confine_bits.ensures in
-    mask-confines c.args.question.now c.args.word c.mask-mask.result c.in_ok-confine_bits.field-0 c.args.facts.now
-    c.confine_bits.new.self c.args.pool.now c.mask-mask.ensures.value
-    e.sound (λ t. e.narrower (ap Ok t)) e.covers (λ t. e.only (ap Ok t)) (λ t. e.masked (ap Ok t))
+returns-clause-confined c = rw c.mask-mask.ensures.value at c.in_ok-confine_bits.ensures.confined

@@ -1,6 +1,10 @@
 use Rattle.std.proofs.Common.{arith}
-use Rattle.sf_ask.proofs.Words.{of-true, before-more, before-all}
+use Rattle.sf_ask.proofs.Words.{of-true, before-none, before-more, before-all}
 use Rattle.sf_ask.proofs.confining.confined.Goals as goal
+
+pub loop-word-init : goal.loop-word-init
+loop-word-init c =
+    rw c.in_ok-confined.ensures (before-none c.args.question.now c.args.facts.now c.args.pool.now c.requires)
 
 pub loop-word-preserved : goal.loop-word-preserved
 loop-word-preserved c =

@@ -1,5 +1,6 @@
+use Rattle.sf_dom.specs.Facts.{AreConfined}
 use Rattle.sf_ask.specs.Searches.{IsInBefore}
-use Rattle.sf_ask.specs.Trying.{AreConfined, IsNumberBefore}
+use Rattle.sf_ask.specs.Trying.{IsNumberBefore}
 use Rattle.sf_ask.proofs.confining.confined.Given as goal
 
 abbrev pub invariant-loop-word : goal.invariant-loop-word

@@ -1,6 +1,7 @@
 use Rattle.std.proofs.Common.{sym, ◌∙◌}
 use Rattle.sf_ask.specs.Breaking.{IsInQuestion}
-use Rattle.sf_ask.specs.Trying.{AreConfined, IsNumberBefore}
+use Rattle.sf_dom.specs.Facts.{AreConfined}
+use Rattle.sf_ask.specs.Trying.{IsNumberBefore}
 use Rattle.sf_ask.proofs.Searching.{doubtful, least-hit, exact-hit}
 use Rattle.sf_ask.proofs.judging.try_least.Goals as goal
 

@@ -1,11 +1,11 @@
-use Rattle.std.proofs.Common.{Ok, true, ap}
+use Rattle.std.proofs.Common.{true}
 use Rattle.sf_picture.proofs.SpanLemmas.{one-confines, one-only, ok-holds}
 use Rattle.sf_picture.proofs.confining.confine_masked.Goals as goal
 
 pub returns-clause-confined : goal.returns-clause-confined
 returns-clause-confined c =
     one-confines c.in_ok-confine_bits.field-0 c.args.facts.now c.confine_bits.new.self c.args.pool.now c.args.axis
-    c.args.first c.args.last c.in-Some.number c.in-Some.ensures.one c.in_ok-confine_bits.ensures.sound
+    c.args.first c.args.last c.in-Some.number c.in-Some.ensures.one c.in_ok-confine_bits.ensures.confined
 
 pub returns-in_default-clause-only : goal.returns-in_default-clause-only
 returns-in_default-clause-only c = λ e bit. absurd (c.in_default.ensures.bit bit)
@@ -13,6 +13,6 @@ returns-in_default-clause-only c = λ e bit. absurd (c.in_default.ensures.bit bi
 pub returns-clause-only : goal.returns-clause-only
 returns-clause-only c = λ e bit.
     let v = c.in-Some.ensures.bit bit in
-    one-only c.args.facts.now c.confine_bits.new.self c.args.pool.now c.args.axis c.args.first c.args.last
-    c.in-Some.number v.0 v.1
-    (c.in_ok-confine_bits.ensures.only (ap Ok (ok-holds c.in_ok-confine_bits.field-0 true e)))
+    one-only c.in_ok-confine_bits.field-0 c.args.facts.now c.confine_bits.new.self c.args.pool.now c.args.axis
+    c.args.first c.args.last c.in-Some.number v.0 v.1 c.in_ok-confine_bits.ensures.confined
+    (ok-holds c.in_ok-confine_bits.field-0 true e)

@@ -7,10 +7,12 @@ loop-i-init c = rw c.in_ok-learnt.ensures (record { covers = c.requires; keeps =
 pub returns-then-not-branch-clause-none : goal.returns-then-not-branch-clause-none
 returns-then-not-branch-clause-none c = λ _.
     none-agrees c.args.piece.now c.args.facts.now c.loop-i.learnt c.loop-i.i c.cond.result c.loop-i.invariant
-    c.cond.ensures.value (rw (c.if-not-branch.true, c.pool.ensures.value) at c.in_ok-learn.ensures.sound)
+    c.cond.ensures.value (rw (c.if-not-branch.true, c.pool.ensures.value) at c.in_ok-learn.ensures.learnt)
 
 pub loop-i-preserved : goal.loop-i-preserved
 loop-i-preserved c =
     keeps-more c.args.piece.now c.args.facts.now c.loop-i.learnt c.learn.new.self c.loop-i.i c.cond.result
-    c.loop-i.invariant c.cond.ensures.value (rw c.pool.ensures.value at c.learn.ensures.covers)
-    (rw (c.if-not-branch.false, c.pool.ensures.value) at c.in_ok-learn.ensures.sound)
+    c.loop-i.invariant c.cond.ensures.value (rw (
+      c.if-not-branch.false,
+      c.pool.ensures.value,
+    ) at c.in_ok-learn.ensures.learnt)

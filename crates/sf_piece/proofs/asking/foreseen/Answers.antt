@@ -1,8 +1,8 @@
 use Rattle.sf_piece.proofs.Lawful.{foretold}
 use Rattle.sf_piece.proofs.asking.foreseen.Goals as goal
 
-pub returns-in-Constant : goal.returns-in-Constant
-returns-in-Constant c =
+pub returns-clause-value : goal.returns-clause-value
+returns-clause-value c =
     let lawful = rw (← c.run.view_is) at c.requires in
-    rw (← c.run.view_is) (foretold _ c.args.test c.args.other c.in-Constant.number c.told.result lawful.run
-    c.in-Constant.is c.told.ensures.told)
+    rw (← c.run.view_is) (foretold _ c.args.test c.args.other c.in_ok-number.number c.told.result lawful.run
+    (rw (← c.run.view_is) at c.in_ok-number.ensures.value) c.told.ensures.told)

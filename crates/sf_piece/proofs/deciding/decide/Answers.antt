@@ -3,15 +3,15 @@ use Rattle.sf_piece.proofs.Children.{entry_foreseen, never_implies}
 use Rattle.sf_piece.proofs.Joined.{split_right}
 use Rattle.sf_piece.proofs.deciding.decide.Goals as goal
 
-pub take-requires-in_default-2-clause-foreseen : goal.take-requires-in_default-2-clause-foreseen
-take-requires-in_default-2-clause-foreseen c =
-    let never = rw c.in_default-2.is at c.in_ok-on_false.ensures in
+pub take-requires-clause-foreseen : goal.take-requires-clause-foreseen
+take-requires-clause-foreseen c =
+    let never = rw c.in_default.is at c.in_ok-on_false.ensures in
     entry_foreseen c.args.run.now c.args.insn c.args.cond true c.requires.query
     (never_implies c.args.run.now c.args.cond true never)
 
-pub take-requires-in_default-4-clause-foreseen : goal.take-requires-in_default-4-clause-foreseen
-take-requires-in_default-4-clause-foreseen c =
-    let never = rw c.in_default-4.is at c.in_ok-on_true.ensures in
+pub take-requires-in_default-3-clause-foreseen : goal.take-requires-in_default-3-clause-foreseen
+take-requires-in_default-3-clause-foreseen c =
+    let never = rw c.in_default-3.is at c.in_ok-on_true.ensures in
     entry_foreseen c.args.run.now c.args.insn c.args.cond false c.requires.query
     (never_implies c.args.run.now c.args.cond false never)
 

@@ -5,6 +5,4 @@ pub returns : goal.returns
 returns c =
     let plain = rw (← c.run.view_is) at c.requires.plain in
     rw (← c.run.view_is) (learnt_child _ c.args.cond c.args.sense c.in_ok-learnt.learnt
-    (rw (← c.run.view_is) at c.requires.lawful).run plain c.in_ok-learnt.ensures.covers c.in_ok-learnt.ensures.sound
-    c.in_ok-learnt.ensures.narrower c.in_ok-learnt.ensures.told c.in_ok-learnt.ensures.decided
-    c.in_ok-learnt.ensures.only)
+    (rw (← c.run.view_is) at c.requires.lawful).run plain c.in_ok-learnt.ensures)

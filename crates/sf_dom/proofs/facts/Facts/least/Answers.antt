@@ -1,4 +1,3 @@
-use Rattle.std.proofs.Common.{eq-eqb}
 use Rattle.sf_dom.specs.Facts.{Agrees}
 use Rattle.sf_dom.specs.FactsLaws.{agreeing-word, sampled, words-agree}
 use Rattle.sf_dom.proofs.facts.Facts.least.Goals as goal
@@ -13,4 +12,4 @@ returns-clause-attained c = λ ns h plain.
     let w = c.args.word in
     let f = c.args.self.now in
     let s = sampled f w _ c.requires h.lawful (h.lawful.tight w c.requires).low in
-    (s.0, s.1, words-agree f ns s.0 h plain s.2, eq-eqb _ _ s.3)
+    (s.0, s.1, words-agree f ns s.0 h plain s.2, s.3)
