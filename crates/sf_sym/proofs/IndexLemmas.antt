@@ -50,14 +50,14 @@ IsLastWithHash-this ns n hash this = record {
 }
 
 pub IsIndexed-push : (es : List Interned) (heads : List ℕ) (e : Interned) → IsIndexed es heads
-    → e.link ≡ get_or heads (hash_of e.node) 0 → hash_of e.node < 251
+    → e.link ≡ get_or heads (hash_of e.node) 0 → hash_of e.node < 2039
     → IsIndexed (es ++ e ∷ []) (set heads (hash_of e.node) (length es + 1))
 IsIndexed-push es heads e old last small =
     let ns = nodes_of es in
     let m = hash_of e.node in
     let count = length_push es e in
     let nodes = nodes-push es e in
-    let buckets : length heads ≡ 251 = old.buckets in
+    let buckets : length heads ≡ 2048 = old.buckets in
     let same : (i : ℕ) → i < length es → node_at (ns ++ e.node ∷ []) i ≡ node_at ns i
     = λ i h. get_or_append_left ns (e.node ∷ []) (Const 0) i (omega (arith, length-nodes es)) in
     let this : node_at (ns ++ e.node ∷ []) (length es) ≡ e.node =
@@ -89,7 +89,7 @@ IsIndexed-push es heads e old last small =
     }
 
 -- an index of no nodes
-pub IsIndexed-empty : (heads : List ℕ) → length heads ≡ 251 → ((i : ℕ) → i < 251 → get_or heads i 0 ≡ 0)
+pub IsIndexed-empty : (heads : List ℕ) → length heads ≡ 2048 → ((i : ℕ) → i < 2039 → get_or heads i 0 ≡ 0)
     → IsIndexed [] heads
 IsIndexed-empty heads buckets zeros = record {
   buckets = buckets;

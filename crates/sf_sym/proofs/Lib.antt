@@ -1,2 +1,3 @@
-pub mod IndexLemmas
 pub mod Folds
+pub mod HeadLemmas
+pub mod IndexLemmas

@@ -2,3 +2,4 @@ pub mod Pool
 pub mod Index
 pub mod ValueLaws
 pub mod SizeLaws
+pub mod Heads

@@ -5,6 +5,7 @@ ghost use Rattle.std.specs.Arc.{arc_value};
 ghost use Rattle.sf_sym.specs.Pool.{node_at};
 ghost use Rattle.sf_sym.specs.Index.{hash_of, nodes_of, IsIndexed};
 
+use crate::heads::Heads;
 use crate::pool::Node;
 use sf_blocks::shared::SharedList;
 use std::alloc::{AllocError, Global};
@@ -12,7 +13,7 @@ use std::marker::Model;
 use std::sync::Arc;
 
 /// How many buckets the index has. A hash is the number of a bucket.
-const BUCKETS: usize = 251;
+const BUCKETS: usize = 2039;
 
 /// A node, and where to look next for a node of its hash.
 #[derive(Clone, Copy)]
@@ -33,12 +34,12 @@ impl Default for Interned {
 }
 
 /// The nodes of a pool with their links, oldest first.
-type InternedNodes = SharedList<Interned, 1>;
+pub type InternedNodes = SharedList<Interned, 1>;
 
 /// The hash of a node: equal nodes have the same one.
 fn hash(node: Node) -> usize
     ensures value { result ≡ hash_of node }
-    ensures within { result < 251 }
+    ensures within { result < 2039 }
 {
     match node {
         Node::Const(c) => c as usize % BUCKETS,
@@ -57,14 +58,14 @@ fn is_same(a: Node, b: Node) -> bool
 }
 
 /// The place of a node that is equal to this one, if there is one: its bucket is gone through, the newest first.
-fn place_of(interned_nodes: &InternedNodes, heads: &[u32], node: Node) -> Option<usize>
+fn place_of(interned_nodes: &InternedNodes, heads: &Heads, node: Node) -> Option<usize>
     requires { IsIndexed interned_nodes.now heads.now }
     ensures found { (i : ℕ) → result ≡ Some i → (i < length (nodes_of interned_nodes.now))
         × (node_at (nodes_of interned_nodes.now) i ≡ node) }
     ensures absent { result ≡ None → (i : ℕ) → i < length (nodes_of interned_nodes.now)
         → node_at (nodes_of interned_nodes.now) i ≢ node }
 {
-    let mut next = heads[hash(node)] as usize;
+    let mut next = heads.get(hash(node)) as usize;
     while next > 0 {
         let interned = interned_nodes.get(next - 1);
         if is_same(interned.node, node) {
@@ -78,11 +79,11 @@ fn place_of(interned_nodes: &InternedNodes, heads: &[u32], node: Node) -> Option
 /// Adds a node, and gives its place. `AllocError` where an allocation is refused; no node is added then.
 fn add(
     interned_nodes: &mut InternedNodes,
-    heads: &mut Vec<u32>,
+    heads: &mut Heads,
     node: Node,
 ) -> Result<usize, AllocError>
-    requires { IsIndexed interned_nodes.old heads.old.items }
-    ensures indexed { IsIndexed interned_nodes.new heads.new.items }
+    requires { IsIndexed interned_nodes.old heads.old }
+    ensures indexed { IsIndexed interned_nodes.new heads.new }
     ensures place { IfOk result (λ at. at ≡ length (nodes_of interned_nodes.old)) }
     ensures ok { OnOk result (nodes_of interned_nodes.new
         ≡ nodes_of interned_nodes.old ++ node ∷ []) }
@@ -90,9 +91,8 @@ fn add(
 {
     let hash = hash(node);
     let at = interned_nodes.len();
-    let link = heads[hash];
-    interned_nodes.push(Interned { node, link })?;
-    heads[hash] = at as u32 + 1;
+    let link = heads.get(hash);
+    heads.add(hash, interned_nodes, Interned { node, link })?;
     Ok(at)
 }
 
@@ -101,8 +101,7 @@ fn add(
 #[derive(Drop)]
 pub struct Indexed {
     interned_nodes: InternedNodes,
-    /// The head of each bucket: one more than the place of its newest node, or 0.
-    heads: Vec<u32>,
+    heads: Heads,
 }
 
 impl Model for Indexed {
@@ -115,7 +114,7 @@ impl Model for Indexed {
 
     ghost view = { λ n. nodes_of n.interned_nodes };
 
-    ghost invariant = { λ n. IsIndexed n.interned_nodes n.heads.items };
+    ghost invariant = { λ n. IsIndexed n.interned_nodes n.heads };
 }
 
 impl Indexed {
@@ -124,7 +123,7 @@ impl Indexed {
         ensures { IfOk result (λ n. n ≡ []) }
     {
         let interned_nodes = SharedList::new(alloc)?;
-        let heads = vec![in alloc; 0u32; BUCKETS]?;
+        let heads = Heads::new(alloc)?;
         Ok(Indexed {
             interned_nodes,
             heads,
@@ -154,7 +153,7 @@ impl Indexed {
         ensures absent { result ≡ None → (i : ℕ) → i < length self.now
             → node_at self.now i ≢ node }
     {
-        place_of(&self.interned_nodes, self.heads.as_slice(), node)
+        place_of(&self.interned_nodes, &self.heads, node)
     }
 
     /// Adds a node, and gives its place. `AllocError` where an allocation is refused; nothing is added then.
@@ -171,10 +170,10 @@ impl Indexed {
         ensures { IfOk result (λ r. (arc_value r.0 ≡ self.now ++ node ∷ [])
             × (r.1 ≡ length self.now)) }
     {
-        let alloc = *self.heads.allocator();
+        let alloc = self.heads.allocator();
         let mut copy = Indexed {
             interned_nodes: self.interned_nodes.fork()?,
-            heads: Vec::from_slice(alloc, self.heads.as_slice())?,
+            heads: self.heads.fork()?,
         };
         let at = copy.add(node)?;
         Ok((Arc::new(alloc, copy)?, at))

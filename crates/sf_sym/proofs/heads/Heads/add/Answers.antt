@@ -1,0 +1,29 @@
+use Rattle.std.proofs.Common.{◌≡◌, ◌+◌, ◌*◌, ◌/◌, ◌%◌, length, map, get_or, set, arith, ap, sym, ◌∙◌}
+use Rattle.std.proofs.Math.Seq.{map-set_same}
+use Rattle.std.proofs.lemmas.Result.{on_ok_weaker, on_err_weaker}
+use Rattle.sf_blocks.specs.Blocks.{joined_blocks}
+use Rattle.sf_sym.specs.Heads.{block_heads}
+use Rattle.sf_sym.proofs.HeadLemmas.{joined-set}
+use Rattle.sf_sym.proofs.heads.Heads.add.Goals as goal
+
+pub returns-clause-head : goal.returns-clause-head
+returns-clause-head c =
+    let bs = c.self.inside.blocks.items in
+    let hash = c.args.hash in
+    let b = c.index_mut.result.now in
+    let new = c.add_in.new.block in
+    let head = length c.args.nodes.now + 1 in
+    let parts : 128 * (hash / 128) + hash % 128 ≡ hash = omega arith in
+    on_ok_weaker c.add_in.result (λ e.
+    let written = e ∙ ap (λ x. set (block_heads x) (hash % 128) head) c.index_mut.ensures.value in
+    let at = joined-set block_heads bs (hash / 128) (hash % 128) head b new c.self.invariant.0
+    (omega (arith, c.requires, c.self.invariant.1)) (omega arith) written in
+    rw parts at at ∙ ap (λ xs. set xs hash head) c.self.view_is) c.add_in.ensures.head
+
+pub returns-clause-err_heads : goal.returns-clause-err_heads
+returns-clause-err_heads c =
+    let bs = c.self.inside.blocks.items in
+    let b = c.index_mut.result.now in
+    on_err_weaker c.add_in.result (λ e.
+    ap joined_blocks (map-set_same block_heads bs (c.args.hash / 128) c.add_in.new.block b
+    (e ∙ ap block_heads c.index_mut.ensures.value)) ∙ c.self.view_is) c.add_in.ensures.err_heads
