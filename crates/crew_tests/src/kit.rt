@@ -1,6 +1,7 @@
 //! What an exploration finds, as text, and questions.
 use sf_ask::{ActionSet, Question};
 use sf_book::{Counts, Settled};
+use sf_piece::Name;
 use std::alloc::Global;
 use std::test::Fail;
 
@@ -15,9 +16,9 @@ pub fn counts(left: usize, settled: usize, emptied: usize, splits: u32, commits:
 }
 
 /// Adds a name, `T` for true and `F` for false.
-pub fn write_name(text: &mut String, name: &[bool]) -> Result<(), Fail> {
-    for entry in name {
-        text.push_str(if *entry { "T" } else { "F" })?;
+pub fn write_name(alloc: Global, text: &mut String, name: &Name) -> Result<(), Fail> {
+    for value in &name.values(alloc)? {
+        text.push_str(if *value { "T" } else { "F" })?;
     }
     Ok(())
 }
@@ -34,7 +35,7 @@ pub fn found(alloc: Global, settled: &Settled) -> Result<String, Fail> {
         let answer = region.answer();
         let (action, info) = (answer.action.number(), answer.info);
         text.push_str(" ")?;
-        write_name(&mut text, region.name())?;
+        write_name(alloc, &mut text, region.name())?;
         write!(&mut text, " {action:08x} {info};")?;
     }
     Ok(text)

@@ -44,7 +44,7 @@ fn times(outcomes: &[u16], wanted: u16) -> usize {
 }
 
 /// Adds what is free, and leases it: each piece with its id, its name, and how many conditions and nodes it has.
-fn write_leases(text: &mut String, book: &mut Book) -> Result<(), Fail> {
+fn write_leases(alloc: Global, text: &mut String, book: &mut Book) -> Result<(), Fail> {
     for _ in 0..100 {
         let Some(lease) = book.lease()? else {
             return Ok(());
@@ -52,7 +52,7 @@ fn write_leases(text: &mut String, book: &mut Book) -> Result<(), Fail> {
         let (id, piece) = (lease.id, lease.piece);
         let (conds, nodes) = (piece.cond_count(), piece.pool().len());
         write!(&mut *text, " {id} {conds} {nodes} ")?;
-        write_name(&mut *text, piece.name())?;
+        write_name(alloc, &mut *text, piece.name())?;
     }
     Ok(())
 }
@@ -62,10 +62,10 @@ fn told(alloc: Global, mut book: Book, stack: &Stack) -> Result<String, Fail> {
     let mut text = String::new(alloc);
     let budget = book.budget();
     write!(&mut text, "{budget}, free")?;
-    write_leases(&mut text, &mut book)?;
+    write_leases(alloc, &mut text, &mut book)?;
     book.recall();
     text.push_str(", all")?;
-    write_leases(&mut text, &mut book)?;
+    write_leases(alloc, &mut text, &mut book)?;
     let ended = found(alloc, &book.finish(stack)?)?;
     write!(&mut text, ", at the end {ended}")?;
     Ok(text)

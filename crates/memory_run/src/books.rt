@@ -43,7 +43,7 @@ fn have_same_conds(left: &Piece, right: &Piece) -> bool {
 
 /// Whether two pieces have the same name, words, conditions and facts.
 pub fn are_same_pieces(left: &Piece, right: &Piece) -> bool {
-    left.name() == right.name()
+    left.name().order(right.name()).is_eq()
         && are_same(left.pool(), right.pool())
         && have_same_conds(left, right)
         && left.facts().equals(right.facts())
@@ -84,7 +84,7 @@ fn have_same_regions(left: &Settled, right: &Settled) -> bool {
             return false;
         }
         let (one, other) = (left.region(i), right.region(i));
-        if one.name() != other.name()
+        if one.name().order(other.name()).is_ne()
             || one.answer() != other.answer()
             || !are_same_pieces(one.piece(), other.piece())
         {
@@ -109,7 +109,7 @@ fn have_same_pieces(left: &Settled, right: &Settled) -> bool {
 /// Whether two explorations emptied the same pieces.
 fn have_same_emptied(left: &Settled, right: &Settled) -> bool {
     for i in 0..left.emptied_count() {
-        if i >= right.emptied_count() || left.emptied(i) != right.emptied(i) {
+        if i >= right.emptied_count() || left.emptied(i).order(right.emptied(i)).is_ne() {
             return false;
         }
     }

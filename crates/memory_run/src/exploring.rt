@@ -61,7 +61,7 @@ fn work_off(alloc: Global, tally: &mut Tally, mut book: Book) -> Result<(Book, u
         let Some(Lease { id, piece }) = lease(tally, &mut book)? else {
             break;
         };
-        if piece.name().is_empty() {
+        if piece.cond_count() == 0 {
             grow_pools(tally, &piece)?;
         }
         if try_facts(alloc, tally, &piece)? {

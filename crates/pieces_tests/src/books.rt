@@ -1,7 +1,7 @@
 //! Tests of books, whose pieces are worked one by one.
 use samples::{echo_stack, emptied_late, execve_stack, op, other_text, stack_of};
 use sf_book::{Book, Counts, Fault, Settled};
-use sf_piece::{Piece, Work, advance, root};
+use sf_piece::{Name, Piece, Work, advance, root};
 use sf_run::{Action, Answer};
 use std::alloc::Global;
 use std::sync::Arc;
@@ -38,7 +38,7 @@ fn a_new_book_has_the_root_outstanding(rt: HostRuntime) -> Result<(), Fail> {
     assert_eq!(rt; book.budget(), 7);
     assert_eq!(rt; book.counts(), counts(1, 0, 0, 0, 0));
     let lease = book.lease()?.ok_or("nothing to lease")?;
-    assert_eq!(rt; lease.piece.name().len(), 0);
+    assert_eq!(rt; lease.piece.name().values(alloc)?.len(), 0);
     assert!(rt; book.lease()?.is_none());
     Ok(())
 }
@@ -105,7 +105,7 @@ fn a_child_given_back_is_leased_again(rt: HostRuntime) -> Result<(), Fail> {
     book.give_back(t);
     let (id, work) = worked(alloc, &mut book)?;
     assert_eq!(rt; id, t);
-    assert_eq!(rt; work.piece().name(), [true].as_slice());
+    assert!(rt; is_named(alloc, work.piece().name(), &[true])?);
     assert!(rt; book.commit(id, work)?.is_some());
     assert_eq!(rt; book.counts(), counts(3, 0, 0, 2, 2));
     Ok(())
@@ -136,13 +136,24 @@ fn work_off(alloc: Global, book: &mut Book) -> Result<(), Fail> {
     Ok(())
 }
 
+/// Whether a name has these truth values.
+fn is_named(alloc: Global, name: &Name, values: &[bool]) -> Result<bool, Fail> {
+    Ok(name.values(alloc)?.as_slice() == values)
+}
+
 /// Whether the region at a place has this name and this answer.
-fn is_region(settled: &Settled, i: usize, name: &[bool], action: Action, info: u16) -> bool {
+fn is_region(
+    alloc: Global,
+    settled: &Settled,
+    i: usize,
+    name: &[bool],
+    answer: Answer,
+) -> Result<bool, Fail> {
     if i >= settled.region_count() {
-        return false;
+        return Ok(false);
     }
     let region = settled.region(i);
-    region.name() == name && region.answer() == Answer { action, info }
+    Ok(is_named(alloc, region.name(), name)? && region.answer() == answer)
 }
 
 #[test]
@@ -154,9 +165,13 @@ fn a_book_worked_off_has_its_regions_in_name_order(rt: HostRuntime) -> Result<()
     let settled = book.finish(&stack)?;
     assert_eq!(rt; settled.counts(), counts(0, 3, 0, 2, 5));
     assert!(rt; settled.stack().is_same(&stack));
-    assert!(rt; is_region(&settled, 0, &[false], Action::KillProcess, 0));
-    assert!(rt; is_region(&settled, 1, &[true, false], Action::Allow, 0));
-    assert!(rt; is_region(&settled, 2, &[true, true], Action::Errno, 1));
+    for (i, name, action, info) in [
+        (0, [false].as_slice(), Action::KillProcess, 0),
+        (1, [true, false].as_slice(), Action::Allow, 0),
+        (2, [true, true].as_slice(), Action::Errno, 1),
+    ] {
+        assert!(rt; is_region(alloc, &settled, i, name, Answer { action, info })?);
+    }
     Ok(())
 }
 
@@ -169,7 +184,7 @@ fn a_piece_without_a_member_leaves_its_name(rt: HostRuntime) -> Result<(), Fail>
     let settled = book.finish(&stack)?;
     assert_eq!(rt; settled.counts(), counts(0, 3, 1, 3, 7));
     assert_eq!(rt; settled.emptied_count(), 1);
-    assert_eq!(rt; settled.emptied(0), [false, true].as_slice());
+    assert!(rt; is_named(alloc, settled.emptied(0), &[false, true])?);
     Ok(())
 }
 
@@ -183,8 +198,8 @@ fn an_ended_book_shows_what_is_left(rt: HostRuntime) -> Result<(), Fail> {
     assert_eq!(rt; settled.region_count(), 0);
     assert_eq!(rt; settled.emptied_count(), 0);
     assert_eq!(rt; settled.outstanding_count(), 2);
-    assert_eq!(rt; settled.outstanding(0).name(), [false].as_slice());
-    assert_eq!(rt; settled.outstanding(1).name(), [true].as_slice());
+    assert!(rt; is_named(alloc, settled.outstanding(0).name(), &[false])?);
+    assert!(rt; is_named(alloc, settled.outstanding(1).name(), &[true])?);
     Ok(())
 }
 
@@ -222,7 +237,7 @@ fn leases_in_name_order(book: &mut Book, n: usize) -> Result<bool, Fail> {
             return Ok(false);
         };
         if let Some(before) = &last {
-            if before.name() >= lease.piece.name() {
+            if before.name().order(lease.piece.name()).is_ge() {
                 return Ok(false);
             }
         }

@@ -8,6 +8,8 @@ mod chains;
 #[cfg(test)]
 mod facts;
 #[cfg(test)]
+mod names;
+#[cfg(test)]
 mod questions;
 #[cfg(test)]
 mod regions;

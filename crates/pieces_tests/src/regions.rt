@@ -34,8 +34,8 @@ pub(crate) fn explored(
             }
             Step::Settled(answer) => {
                 let name = match longer {
-                    Some(name) => name,
-                    None => Vec::from_slice(alloc, piece.name())?,
+                    Some(name) => name.values(alloc)?,
+                    None => piece.name().values(alloc)?,
                 };
                 regions.push((name, answer))?;
             }
@@ -92,19 +92,17 @@ fn readers_tell_a_piece_and_a_work(rt: HostRuntime) -> Result<(), Fail> {
     let alloc = rt.alloc();
     let stack = stack_of(alloc, &[&execve_refused()])?;
     let first = root(alloc, &stack)?;
-    assert_eq!(rt; first.name().len(), 0);
+    assert_eq!(rt; first.name().values(alloc)?.len(), 0);
     assert_eq!(rt; first.cond_count(), 0);
     assert!(rt; first.stack().is_same(&stack));
     let work = advance(alloc, &first)?;
-    assert_eq!(rt; work.name().len(), 0);
-    assert_eq!(rt; work.piece().name().len(), 0);
+    assert_eq!(rt; work.name().values(alloc)?.len(), 0);
+    assert_eq!(rt; work.piece().name().values(alloc)?.len(), 0);
     assert!(rt; matches!(work.step(), Step::Split(_, _)));
     assert!(rt; work.children().is_some());
     if let Some((on_false, on_true)) = work.children() {
-        assert!(rt; on_false.name() == [false].as_slice());
-        assert!(rt; on_true.name() == [true].as_slice());
-        assert_eq!(rt; on_false.name_number(), 1);
-        assert_eq!(rt; on_true.name_number(), 0x8000_0000_0000_0001);
+        assert!(rt; on_false.name().values(alloc)?.as_slice() == [false].as_slice());
+        assert!(rt; on_true.name().values(alloc)?.as_slice() == [true].as_slice());
         assert_eq!(rt; first_sense(on_false), Some(false));
         assert_eq!(rt; first_sense(on_true), Some(true));
         assert_eq!(rt; on_true.facts().least(1), Some(0xC000003E));
@@ -112,7 +110,7 @@ fn readers_tell_a_piece_and_a_work(rt: HostRuntime) -> Result<(), Fail> {
         assert_eq!(rt; on_true.pool().len(), 19);
         let settled = advance(alloc, on_false)?;
         assert!(rt; settled.children().is_none());
-        assert!(rt; settled.name() == [false].as_slice());
+        assert!(rt; settled.name().values(alloc)?.as_slice() == [false].as_slice());
     }
     Ok(())
 }

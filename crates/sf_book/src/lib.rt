@@ -6,7 +6,6 @@ mod book;
 mod fault;
 pub mod laws;
 mod name_key;
-mod name_number;
 mod outstanding;
 mod regions;
 mod settled;

@@ -11,7 +11,6 @@ ghost use Rattle.sf_book.specs.OutstandingMaps.{name_cmp, name_total, name_ties}
 ghost use Rattle.sf_book.specs.declared.fault.Fault.TheVariants.{Memory};
 
 use crate::fault::Fault;
-use crate::name_number::{order_of_numbers, order_of_runs};
 use sf_piece::Piece;
 use std::cmp::Ordering;
 use std::marker::Model;
@@ -20,27 +19,15 @@ use std::sync::Arc;
 /// A piece as a key by its name: two pieces with the same name are the same key.
 #[derive(Drop)]
 pub(crate) struct NameKey {
-    // Two numbers of the name. By them a map compares most keys in its own memory, without looking at the pieces, which
-    // lie elsewhere: the first number differs for names that differ early, the second one for names that differ behind
-    // long runs of false.
-    number: u64,
-    runs: u64,
     piece: Arc<Piece>,
 }
 
 impl Model for NameKey {
-    ghost use Rattle.std.specs.Prelude.{◌≡◌, ◌≤◌, length};
     ghost use Rattle.sf_piece.specs.Pieces.{PieceData};
-    ghost use Rattle.sf_piece.specs.Names.{runs_number};
-    ghost use Rattle.sf_piece.specs.NameNumbers.{name_number};
 
     ghost Value = { PieceData };
 
     ghost view = { λ n. n.piece.value };
-
-    ghost invariant = { λ n. (n.number ≡ name_number n.piece.value.name)
-        × (n.runs ≡ runs_number n.piece.value.name)
-        × (length n.piece.value.name ≤ 4294967295) };
 }
 
 impl NameKey {
@@ -48,21 +35,15 @@ impl NameKey {
     pub(crate) fn of(piece: Arc<Piece>) -> NameKey
         ensures { result ≡ arc_value piece }
     {
-        NameKey {
-            number: piece.name_number(),
-            runs: piece.name_runs(),
-            piece,
-        }
+        NameKey { piece }
     }
 
-    /// Another key of the same piece, with the same numbers. `Memory` where the piece can't be shared once more.
+    /// Another key of the same piece. `Memory` where the piece can't be shared once more.
     pub(crate) fn twin(&self) -> Result<NameKey, Fault>
         ensures ok { IfOk result (λ k. k ≡ self.now) }
         ensures err { IfErr result (λ f. f ≡ Memory) }
     {
         Ok(NameKey {
-            number: self.number,
-            runs: self.runs,
             piece: Arc::try_clone(&self.piece)?,
         })
     }
@@ -110,12 +91,6 @@ impl Ord for NameKey {
     ghost matches_eq = { λ x y. name_ties x y };
 
     fn cmp(&self, other: &NameKey) -> Ordering {
-        if let Some(order) = order_of_numbers(self.number, other.number) {
-            return order;
-        }
-        match order_of_runs(self.runs, other.runs) {
-            Some(order) => order,
-            None => self.piece.name_order(&other.piece),
-        }
+        self.piece.name().order(other.piece.name())
     }
 }

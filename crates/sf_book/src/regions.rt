@@ -1,6 +1,6 @@
 //! What a book keeps of pieces that are no longer outstanding, and the test whether a work is of a piece and a stack.
 
-ghost use Rattle.std.specs.Prelude.{◌≡◌, ◌↔◌, ◌∷◌, [], ◌++◌, IsTrue, IfErr, OnOk, IsPermutation, option_map, unwrap_or};
+ghost use Rattle.std.specs.Prelude.{◌≡◌, ◌↔◌, ◌∷◌, [], ◌++◌, IsTrue, IfErr, OnOk, IsPermutation, unwrap_or};
 ghost use Rattle.std.specs.Ordering.{bool_cmp};
 ghost use Rattle.std.specs.Cmp.Lexicographic.{slice_cmp};
 ghost use Rattle.std.specs.Arc.{arc_value};
@@ -8,9 +8,8 @@ ghost use Rattle.sf_book.specs.Books.{IsInNameOrder};
 ghost use Rattle.sf_book.specs.declared.fault.Fault.TheVariants.{Memory};
 
 use crate::fault::Fault;
-use crate::name_number::{number_of, order_of_numbers};
 use sf_check::Stack;
-use sf_piece::{Piece, Work};
+use sf_piece::{Name, Piece, Work};
 use sf_run::Answer;
 use std::cmp::Ordering;
 use std::marker::Model;
@@ -19,46 +18,35 @@ use std::sync::Arc;
 /// A settled piece: each member has this whole name as its trace, and this answer.
 #[derive(Drop)]
 pub struct Region {
-    // The number of the name, by which most regions are put in order.
-    number: u64,
     piece: Arc<Piece>,
-    // The whole name where it is longer than the piece's, and none where it is the piece's own.
-    longer: Option<Vec<bool>>,
+    // The whole name where a run made it of the piece's, and none where it is the piece's own.
+    longer: Option<Name>,
     answer: Answer,
 }
 
 impl Model for Region {
-    ghost use Rattle.std.specs.Prelude.{◌≡◌, option_map, unwrap_or};
+    ghost use Rattle.std.specs.Prelude.{unwrap_or};
     ghost use Rattle.sf_book.specs.Books.{RegionData};
-    ghost use Rattle.sf_piece.specs.NameNumbers.{name_number};
 
     ghost Value = { RegionData };
 
     ghost view = { λ r. record {
       piece = r.piece.value;
-      name = unwrap_or (option_map (λ l. l.items) r.longer) r.piece.value.name;
+      name = unwrap_or r.longer r.piece.value.name;
       answer = r.answer;
     } };
-
-    ghost invariant = { λ r. r.number
-        ≡ name_number (unwrap_or (option_map (λ l. l.items) r.longer) r.piece.value.name) };
 }
 
 impl Region {
-    /// The region of a piece that settled, with its whole name where that is longer than the piece's.
-    pub(crate) fn of(piece: Arc<Piece>, longer: Option<Vec<bool>>, answer: Answer) -> Region
+    /// The region of a piece that settled, with its whole name where that isn't the piece's own.
+    pub(crate) fn of(piece: Arc<Piece>, longer: Option<Name>, answer: Answer) -> Region
         ensures { result ≡ record {
           piece = arc_value piece;
-          name = unwrap_or (option_map (λ l. l.items) longer) (arc_value piece).name;
+          name = unwrap_or longer (arc_value piece).name;
           answer = answer;
         } }
     {
-        let number = match &longer {
-            Some(name) => number_of(name),
-            None => piece.name_number(),
-        };
         Region {
-            number,
             piece,
             longer,
             answer,
@@ -73,11 +61,11 @@ impl Region {
     }
 
     /// The trace that all members have.
-    pub fn name(&self) -> &[bool]
+    pub fn name(&self) -> &Name
         ensures { result.now ≡ self.now.name }
     {
         match &self.longer {
-            Some(name) => name.as_slice(),
+            Some(name) => name,
             None => self.piece.name(),
         }
     }
@@ -106,7 +94,7 @@ impl Model for Emptied {
 
 impl Emptied {
     /// The piece's name.
-    pub(crate) fn name(&self) -> &[bool]
+    pub(crate) fn name(&self) -> &Name
         ensures { result.now ≡ self.now }
     {
         self.piece.name()
@@ -126,7 +114,7 @@ pub(crate) fn add<T: Drop>(v: &mut Vec<T>, x: T) -> Result<(), Fault>
 pub(crate) fn has_name(piece: &Arc<Piece>, work: &Work) -> bool
     ensures { IsTrue result ↔ ((arc_value piece.now).name ≡ work.now.piece.name) }
 {
-    piece.name_order(work.piece()).is_eq()
+    piece.name().order(work.piece().name()).is_eq()
 }
 
 /// Whether the work is of the stack.
@@ -136,16 +124,11 @@ pub(crate) fn is_of(work: &Work, stack: &Arc<Stack>) -> bool
     work.piece().stack().is_same(stack)
 }
 
-/// How the names of two regions compare. Most regions have their piece's own name, whose long runs of false are
-/// compared in one step.
+/// How the names of two regions compare.
 fn by_name(a: &Region, b: &Region) -> Ordering
     ensures { result ≡ slice_cmp bool_cmp a.now.name b.now.name }
 {
-    match order_of_numbers(a.number, b.number) {
-        Some(order) => order,
-        None if a.longer.is_none() && b.longer.is_none() => a.piece.name_order(&b.piece),
-        None => a.name().cmp(b.name()),
-    }
+    a.name().order(b.name())
 }
 
 /// Puts regions in name order, in place.

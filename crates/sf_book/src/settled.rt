@@ -14,7 +14,7 @@ use crate::book::Counts;
 use crate::outstanding::OutstandingPieces;
 use crate::regions::{Emptied, Region};
 use sf_check::Stack;
-use sf_piece::Piece;
+use sf_piece::{Name, Piece};
 use std::marker::Model;
 use std::sync::Arc;
 
@@ -113,7 +113,7 @@ impl Settled {
     }
 
     /// The name of a piece that turned out to have no member, in the order in which they did.
-    pub fn emptied(&self, i: usize) -> &[bool]
+    pub fn emptied(&self, i: usize) -> &Name
         requires { i < length self.now.emptied }
         ensures value { slice_get self.now.emptied i ≡ Some result.now }
         ensures lawful { IsSettled self.now }

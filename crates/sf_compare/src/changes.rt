@@ -34,16 +34,22 @@ pub enum Change {
     Unsettled,
 }
 
-/// The answers of both stacks to the members of the region at a place.
-fn answers_at(settled: &Settled, older: usize, place: usize) -> PartAnswers
+/// The answers of both stacks to the members of the region at a place. `Memory` where an allocation is refused.
+fn answers_at(
+    alloc: Global,
+    settled: &Settled,
+    older: usize,
+    place: usize,
+) -> Result<PartAnswers, Fault>
     requires older { older ≤ length settled.now.stack }
     requires place { place < length settled.now.regions }
-    ensures { AreAnswersAt settled.now older place result }
+    ensures ok { IfOk result (AreAnswersAt settled.now older place) }
+    ensures err { IfErr result (λ f. f ≡ Memory) }
 {
     let programs = settled.stack().programs();
-    let route = settled.region(place).name();
-    match replay(&programs[..older], &programs[older..], route) {
-        Some(both) => both,
+    let route = settled.region(place).name().values(alloc)?;
+    match replay(&programs[..older], &programs[older..], &route) {
+        Some(both) => Ok(both),
         None => unreachable!(),
     }
 }
@@ -62,7 +68,8 @@ pub fn answers_of_regions(
 {
     let mut answers = Vec::with_capacity(alloc, settled.region_count())?;
     for place in 0..settled.region_count() {
-        answers.push(answers_at(settled, older, place))?;
+        let both = answers_at(alloc, settled, older, place)?;
+        answers.push(both)?;
     }
     Ok(answers)
 }

@@ -1,5 +1,4 @@
 -- What one instruction, or one truth value, makes of a piece: the first piece becomes the second.
-use Rattle.std.specs.Prelude.{◌≡◌}
 use Rattle.sf_piece.specs.declared.deciding.SmallStep.{SmallStep}
 use Rattle.sf_piece.specs.declared.deciding.SmallStep.TheVariants.{On, Split, Settled, Empty}
 use Rattle.sf_piece.specs.Pieces.{PieceData, IsRightSplit, IsRightAnswer, HasNoMember}

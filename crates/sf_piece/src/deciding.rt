@@ -110,7 +110,7 @@ fn child(
     })?;
     let next = Run {
         stack: Arc::try_clone(&run.stack)?,
-        name: run.name.with(alloc, false)?,
+        name: run.name.with(false)?,
         pool: run.pool.fork()?,
         conditions,
         machine: to,

@@ -19,6 +19,7 @@ mod work;
 
 pub use fault::Fault;
 pub use machine::SymbolicMachine;
+pub use name::Name;
 pub use piece::Piece;
 pub use root_piece::root;
 pub use work::{Step, Work, advance};

@@ -1,215 +1,153 @@
-//! Names, kept in a form that is fast to compare.
+//! Names: lists of truth values, which are kept as their runs of false.
 
-ghost use Rattle.std.specs.Prelude.{◌≡◌, ◌<◌, ◌≤◌, ◌+◌, [], ◌∷◌, ◌++◌, length, slice_index, replicate, true, false, List, Bool, IfOk, OnOk, OnErr};
-ghost use Rattle.std.specs.Ordering.{bool_cmp};
+ghost use Rattle.std.specs.Prelude.{◌≡◌, [], ◌∷◌, ◌++◌, ℕ, replicate, true, false, IfOk, OnOk, OnErr};
+ghost use Rattle.std.specs.Ordering.{bool_cmp, nat_cmp, ordering_then};
 ghost use Rattle.std.specs.Cmp.Lexicographic.{slice_cmp};
-ghost use Rattle.sf_piece.specs.Names.{runs_number};
-ghost use Rattle.sf_piece.specs.NameNumbers.{name_number};
+ghost use Rattle.sf_piece.specs.Names.{spelled};
 
-use smallvec::SmallVec;
+use sf_blocks::shared::SharedList;
 use std::alloc::{AllocError, Global};
 use std::cmp::Ordering;
 use std::marker::Model;
 
-/// The most truth values that a name may have: the length of a run of them fits in a `u32`.
-const LONGEST: u32 = 0xFFFF_FFFF;
+/// For each true of a name, the first one first, how many falses are right before it. Full blocks of 16 are shared by all
+/// names that go on from one name.
+type Runs = SharedList<u32, 2>;
 
-/// How many truth values at the start of a name its number holds.
-const LEADING: usize = 58;
-
-/// Room in a fork for more truth values: it gets at least one, and without room for it all would be copied once more.
-const SPARE: usize = 16;
-
-/// A name, with the lengths of its runs of false, by which names are compared. A path meets false far more often than
-/// true, so the runs are few, and one comparison of lengths goes over a whole run that two names share.
+/// A list of truth values. A path meets false far more often than true, so a run of falses is kept as its length.
 #[derive(Drop)]
-pub(crate) struct Name {
-    entries: Vec<bool>,
-    // For each true how many falses are right before it, counted down from `LONGEST`: a name with more of them comes
-    // first.
-    runs: SmallVec<u32, 8>,
+pub struct Name {
+    runs: Runs,
     // How many falses are at the end.
     rest: u32,
-    // The first 58 truth values as bits, the first one highest, and in the lowest six bits how many of them there are.
-    number: u64,
 }
 
 impl Model for Name {
-    ghost use Rattle.std.specs.Prelude.{◌≡◌, List, Bool};
-    ghost use Rattle.sf_piece.specs.Names.{AreRuns};
-    ghost use Rattle.sf_piece.specs.NameNumbers.{name_number};
+    ghost use Rattle.std.specs.Prelude.{List, Bool};
+    ghost use Rattle.sf_piece.specs.Names.{spelled};
 
     ghost Value = { List Bool };
 
-    ghost view = { λ n. n.entries.items };
-
-    ghost invariant = { λ n. AreRuns n.entries.items n.runs.items n.rest
-        × (n.number ≡ name_number n.entries.items) };
+    ghost view = { λ n. spelled n.runs n.rest };
 }
 
 impl Name {
-    /// The name of no truth values.
-    pub(crate) fn new(alloc: Global) -> Name
-        ensures { result ≡ [] }
+    /// The name of no truth values. `AllocError` where an allocation is refused.
+    pub(crate) fn new(alloc: Global) -> Result<Name, AllocError>
+        ensures { IfOk result (λ n. n ≡ []) }
     {
-        Name {
-            entries: Vec::new(alloc),
-            runs: SmallVec::new(alloc),
-            rest: 0,
-            number: 0,
-        }
+        let runs = Runs::new(alloc)?;
+        Ok(Name { runs, rest: 0 })
     }
 
-    /// The truth values, the first one first.
-    pub(crate) fn as_slice(&self) -> &[bool]
-        ensures { result.now ≡ self.now }
+    /// The truth values, the first one first. `AllocError` where an allocation is refused.
+    pub fn values(&self, alloc: Global) -> Result<Vec<bool>, AllocError>
+        ensures { IfOk result (λ values. values.items ≡ self.now) }
     {
-        self.entries.as_slice()
+        let mut values = Vec::new(alloc);
+        add_runs(&mut values, &self.runs)?;
+        add_falses(&mut values, self.rest)?;
+        Ok(values)
     }
 
-    /// The number of the name's first truth values. Of two names whose numbers differ, the one with the smaller number
-    /// is before the other; most names differ in it.
-    pub(crate) fn number(&self) -> u64
-        ensures { result ≡ name_number self.now }
+    /// How two names compare: false is before true, and a name before what goes on from it. Runs that two names share
+    /// are compared as numbers, one by one.
+    pub fn order(&self, other: &Name) -> Ordering
+        ensures { result ≡ slice_cmp bool_cmp self.now other.now }
     {
-        self.number
+        order_of_runs(&self.runs, &other.runs).then(self.rest.cmp(&other.rest))
     }
 
-    /// The first two runs as one number, the first run in its high half; a run that the name lacks counts as 0. Of two
-    /// names for which these numbers differ, the one with the smaller number is before the other.
-    pub(crate) fn runs_number(&self) -> u64
-        ensures value { result ≡ runs_number self.now }
-        ensures short { length self.now ≤ 4294967295 }
-    {
-        let runs = self.runs.as_slice();
-        0x1_0000_0000 * run_at(runs, 0) as u64 + run_at(runs, 1) as u64
-    }
-
-    /// The truth values, without their runs and number.
-    pub(crate) fn into_entries(self) -> Vec<bool>
-        ensures { result.items ≡ self }
-    {
-        let Name {
-            entries,
-            runs: _,
-            rest: _,
-            number: _,
-        } = self;
-        entries
-    }
-
-    /// A copy of the name, with room for some more truth values. `AllocError` where an allocation is refused.
-    pub(crate) fn fork(&self, alloc: Global) -> Result<Name, AllocError>
+    /// The same name again, which shares the full blocks of runs. `AllocError` where an allocation is refused.
+    pub(crate) fn fork(&self) -> Result<Name, AllocError>
         ensures { IfOk result (λ n. n ≡ self.now) }
     {
-        let mut entries = Vec::with_capacity(alloc, self.entries.len() + SPARE)?;
-        entries.extend_from_slice(self.entries.as_slice())?;
-        let runs = SmallVec::from_slice(alloc, self.runs.as_slice())?;
         Ok(Name {
-            entries,
-            runs,
+            runs: self.runs.fork()?,
             rest: self.rest,
-            number: self.number,
         })
     }
 
-    /// The name with one truth value more. `AllocError` where an allocation is refused, or at 2^32 - 1 truth values.
-    pub(crate) fn with(&self, alloc: Global, entry: bool) -> Result<Name, AllocError>
-        ensures { IfOk result (λ n. n ≡ self.now ++ entry ∷ []) }
+    /// The name with one truth value more. `AllocError` where an allocation is refused, or where 2^32 falses would stand
+    /// in a run.
+    pub(crate) fn with(&self, value: bool) -> Result<Name, AllocError>
+        ensures { IfOk result (λ n. n ≡ self.now ++ value ∷ []) }
     {
-        let mut longer = self.fork(alloc)?;
-        longer.push(entry)?;
+        let mut longer = self.fork()?;
+        longer.push(value)?;
         Ok(longer)
     }
 
-    /// How two names compare: false is before true, and a name before what goes on from it.
-    pub(crate) fn order(&self, other: &Name) -> Ordering
-        ensures { result ≡ slice_cmp bool_cmp self.now other.now }
-    {
-        let runs = self.runs.as_slice().cmp(other.runs.as_slice());
-        runs.then(self.rest.cmp(&other.rest))
-    }
-
-    /// Adds a truth value at the end. `AllocError` where an allocation is refused, or at 2^32 - 1 truth values: the name
-    /// is as it was then.
-    pub(crate) fn push(&mut self, entry: bool) -> Result<(), AllocError>
-        ensures ok { OnOk result (self.new ≡ self.old ++ entry ∷ []) }
+    /// Adds a truth value at the end. `AllocError` where an allocation is refused, or where 2^32 falses would stand in a
+    /// run: the name is as it was then.
+    pub(crate) fn push(&mut self, value: bool) -> Result<(), AllocError>
+        ensures ok { OnOk result (self.new ≡ self.old ++ value ∷ []) }
         ensures err { OnErr result (self.new ≡ self.old) }
     {
-        if self.entries.len() >= LONGEST as usize {
-            return Err(AllocError);
-        }
-        if entry {
+        if value {
             self.push_true()
         } else {
-            self.push_false()
+            self.push_falses(1)
         }
     }
 
-    /// Adds this many falses at the end. `AllocError` where an allocation is refused, or where there would be more than
-    /// 2^32 - 1 truth values: the name is as it was then.
+    /// Adds a true at the end, which ends the last run.
+    fn push_true(&mut self) -> Result<(), AllocError>
+        ensures ok { OnOk result (self.new ≡ self.old ++ true ∷ []) }
+        ensures err { OnErr result (self.new ≡ self.old) }
+    {
+        self.runs.push(self.rest)?;
+        self.rest = 0;
+        Ok(())
+    }
+
+    /// Adds this many falses at the end. `AllocError` where 2^32 falses would stand in a run: the name is as it was then.
     pub(crate) fn push_falses(&mut self, count: usize) -> Result<(), AllocError>
         ensures ok { OnOk result (self.new ≡ self.old ++ replicate count false) }
         ensures err { OnErr result (self.new ≡ self.old) }
     {
-        let before = self.entries.len();
-        let room = LONGEST as usize - before;
-        if room < count {
+        if count > (u32::MAX - self.rest) as usize {
             return Err(AllocError);
         }
-        let more = LEADING.min(before + count) - LEADING.min(before);
-        self.entries.resize(before + count, false)?;
         self.rest += count as u32;
-        self.number += more as u64;
-        Ok(())
-    }
-
-    /// Adds a false, which makes the last run longer.
-    fn push_false(&mut self) -> Result<(), AllocError>
-        requires { length self.old < 4294967295 }
-        ensures ok { OnOk result (self.new ≡ self.old ++ false ∷ []) }
-        ensures err { OnErr result (self.new ≡ self.old) }
-    {
-        let gain = gain_by(self.entries.len(), false);
-        self.entries.push(false)?;
-        self.rest += 1;
-        self.number += gain;
-        Ok(())
-    }
-
-    /// Adds a true, which ends the last run.
-    fn push_true(&mut self) -> Result<(), AllocError>
-        requires { length self.old < 4294967295 }
-        ensures ok { OnOk result (self.new ≡ self.old ++ true ∷ []) }
-        ensures err { OnErr result (self.new ≡ self.old) }
-    {
-        let gain = gain_by(self.entries.len(), true);
-        self.entries.reserve(1)?;
-        self.runs.push(LONGEST - self.rest)?;
-        self.rest = 0;
-        self.number += gain;
-        self.entries.push_reserved(true);
         Ok(())
     }
 }
 
-/// The run at a place, and 0 behind the last one.
-fn run_at(runs: &[u32], place: usize) -> u32
-    ensures { result ≡ slice_index runs.now place }
+/// Adds this many falses.
+fn add_falses(values: &mut Vec<bool>, count: u32) -> Result<(), AllocError>
+    ensures { OnOk result (values.new.items ≡ values.old.items ++ replicate count false) }
 {
-    if place < runs.len() { runs[place] } else { 0 }
+    let before = values.len();
+    values.resize(before + count as usize, false)?;
+    Ok(())
 }
 
-/// By how much the number of a name that has this many truth values grows when this one is added.
-fn gain_by(before: usize, entry: bool) -> u64
-    ensures { (name : List Bool) → length name ≡ before → name_number (name ++ entry ∷ [])
-        ≡ name_number name + result }
+/// Adds the falses of each run, and the true that ends it.
+fn add_runs(values: &mut Vec<bool>, runs: &Runs) -> Result<(), AllocError>
+    ensures { OnOk result (values.new.items ≡ values.old.items ++ spelled runs.now 0) }
 {
-    if before >= LEADING {
-        0
-    } else if entry {
-        (64 << (LEADING - 1 - before)) + 1
-    } else {
-        1
+    for place in 0..runs.len() {
+        add_falses(values, runs.get(place))?;
+        values.push(true)?;
     }
+    Ok(())
+}
+
+/// How names with these runs compare, where it doesn't depend on the falses behind the last run. The first difference
+/// decides: there, the name with more falses has a false where the other has a true, and so it comes first. Where one
+/// has all runs of the other and more, it goes on from the other, or has a true where the other has a false.
+fn order_of_runs(left: &Runs, right: &Runs) -> Ordering
+    ensures { (m n : ℕ) → slice_cmp bool_cmp (spelled left.now m) (spelled right.now n)
+        ≡ ordering_then result (nat_cmp m n) }
+{
+    let mine = left.len();
+    let others = right.len();
+    for place in 0..mine.min(others) {
+        let order = right.get(place).cmp(&left.get(place));
+        if order.is_ne() {
+            return order;
+        }
+    }
+    mine.cmp(&others)
 }

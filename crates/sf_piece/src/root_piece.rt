@@ -44,7 +44,7 @@ pub fn root(alloc: Global, stack: &Arc<Stack>) -> Result<Arc<Piece>, Fault>
     };
     let run = Run {
         stack: Arc::try_clone(stack)?,
-        name: Name::new(alloc),
+        name: Name::new(alloc)?,
         pool,
         conditions,
         machine,

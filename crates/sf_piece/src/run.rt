@@ -55,7 +55,7 @@ impl Run {
     {
         Ok(Run {
             stack: Arc::try_clone(&self.stack)?,
-            name: self.name.fork(alloc)?,
+            name: self.name.fork()?,
             pool: self.pool.fork()?,
             conditions: self.conditions.fork()?,
             machine: self.machine,
@@ -108,8 +108,8 @@ impl Run {
     }
 
     /// The name, and the answer of the programs that have returned.
-    pub(crate) fn ended(self) -> (Vec<bool>, Answer)
-        ensures name { result.0.items ≡ self.name }
+    pub(crate) fn ended(self) -> (Name, Answer)
+        ensures name { result.0 ≡ self.name }
         ensures answer { result.1 ≡ self.machine.so_far }
     {
         let Run {
@@ -120,6 +120,6 @@ impl Run {
             machine,
             facts: _,
         } = self;
-        (name.into_entries(), machine.so_far)
+        (name, machine.so_far)
     }
 }

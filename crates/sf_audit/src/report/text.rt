@@ -26,12 +26,18 @@ fn push_trace(text: &mut String, name: &[bool]) -> Result<(), AllocError>
 }
 
 /// The line of a region: its number, its name and its answer.
-fn push_region(text: &mut String, number: usize, region: &Region) -> Result<(), AllocError>
+fn push_region(
+    alloc: Global,
+    text: &mut String,
+    number: usize,
+    region: &Region,
+) -> Result<(), AllocError>
     ensures { OnOk result (string_bytes text.new ≡ string_bytes text.old
         ++ region_line number region.now) }
 {
     write!(text, "region {number} ")?;
-    push_trace(text, region.name())?;
+    let name = region.name().values(alloc)?;
+    push_trace(text, &name)?;
     text.push_str(" ")?;
     let answer = region.answer();
     push_action(text, answer.action)?;
@@ -40,23 +46,28 @@ fn push_region(text: &mut String, number: usize, region: &Region) -> Result<(), 
 }
 
 /// The lines of all regions, in the order of their names.
-fn push_regions(text: &mut String, settled: &Settled) -> Result<(), AllocError>
+fn push_regions(alloc: Global, text: &mut String, settled: &Settled) -> Result<(), AllocError>
     ensures { OnOk result (string_bytes text.new ≡ string_bytes text.old
         ++ region_lines 1 settled.now.regions) }
 {
     for i in 0..settled.region_count() {
-        push_region(text, i + 1, settled.region(i))?;
+        push_region(alloc, text, i + 1, settled.region(i))?;
     }
     Ok(())
 }
 
 /// The lines of all regions where they are asked for, else nothing.
-fn push_shown_regions(text: &mut String, shown: bool, settled: &Settled) -> Result<(), AllocError>
+fn push_shown_regions(
+    alloc: Global,
+    text: &mut String,
+    shown: bool,
+    settled: &Settled,
+) -> Result<(), AllocError>
     ensures { OnOk result (string_bytes text.new ≡ string_bytes text.old
         ++ shown_lines shown settled.now.regions) }
 {
     if shown {
-        push_regions(text, settled)?;
+        push_regions(alloc, text, settled)?;
     }
     Ok(())
 }
@@ -197,7 +208,7 @@ pub(super) fn report_of(
     let mut text = String::new(alloc);
     push_head(&mut text, outcome.settled(), outcome.questions().len())?;
     push_questions(alloc, &mut text, outcome.questions(), outcome.replies())?;
-    push_shown_regions(&mut text, regions, outcome.settled())?;
+    push_shown_regions(alloc, &mut text, regions, outcome.settled())?;
     push_totals(&mut text, outcome.replies())?;
     Ok(text)
 }

@@ -4,8 +4,8 @@ use Rattle.sf_compare.specs.Changes.{AreAnswersOf}
 use Rattle.sf_compare.proofs.ChangeLemmas.{last_part, region_answers}
 use Rattle.sf_compare.proofs.changes.answers_at.Goals as goal
 
-pub returns : goal.returns
-returns c = λ region there.
+pub returns-clause-ok : goal.returns-clause-ok
+returns-clause-ok c = λ region there.
     let s = c.args.settled.now in
     let programs = c.programs-programs.result.now in
     let all : programs ≡ s.stack = cc (c.programs-programs.ensures.same, c.deref.ensures, c.stack.ensures.value) in
@@ -14,5 +14,5 @@ returns c = λ region there.
     (region_answers s c.args.older c.region.result.now c.in-Some.both c.region.ensures.lawful.lawful.stack
     c.region.ensures.right (λ d lawful traced.
     let h = rw (last_part c.args.older programs, all) at (c.in-Some.ensures.right d) in
-    let answers = h lawful (traced ∙ sym c.name-route.ensures) in
+    let answers = h lawful (traced ∙ sym (c.deref-2.ensures.value ∙ c.in_ok-route.ensures ∙ c.name.ensures)) in
     (answers.of_older, answers.of_newer)))

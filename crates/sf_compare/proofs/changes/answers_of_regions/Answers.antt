@@ -9,12 +9,12 @@ pub loop-place-preserved : goal.loop-place-preserved
 loop-place-preserved c =
     let s = c.args.settled.now in
     let all = c.loop-place.answers.items in
-    let both = c.answers_at.result in
+    let both = c.in_ok-both.both in
     let so_far = c.loop-place.invariant in
     let pushed = c.in_ok-push.ensures.items in
     record {
       count = rw pushed (length_push all both ∙ ap (λ (n : ℕ). n + 1) so_far.count);
       each = λ place told there. one_pushed (AreAnswersAt s c.args.older) all both so_far.each
-          (subst (λ (n : ℕ). AreAnswersAt s c.args.older n both) (sym so_far.count) c.answers_at.ensures) place told
+          (subst (λ (n : ℕ). AreAnswersAt s c.args.older n both) (sym so_far.count) c.in_ok-both.ensures.ok) place told
           (subst (λ (l : List PartAnswers). slice_get l place ≡ Some told) pushed there);
     }

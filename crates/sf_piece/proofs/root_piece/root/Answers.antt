@@ -5,7 +5,7 @@ use Rattle.sf_piece.proofs.root_piece.root.Goals as goal
 
 pub invariant_of-new : goal.invariant_of-new
 invariant_of-new c =
-    rw (c.in_ok-try_clone.ensures, c.new-4.ensures, c.in_ok-conditions.ensures)
+    rw (c.in_ok-try_clone.ensures, c.in_ok-new.ensures, c.in_ok-conditions.ensures)
     (lawful_first _ c.push.new.self c.in_ok-zero.zero c.in_ok-facts.facts
     (rw c.deref.ensures at c.programs-programs.ensures.lawful) c.in_ok-zero.ensures.lawful
     c.in_ok-zero.ensures.within c.in_ok-zero.ensures.value c.in_ok-facts.ensures.covers c.in_ok-facts.ensures.sound
@@ -13,7 +13,7 @@ invariant_of-new c =
 
 pub returns : goal.returns
 returns c =
-    rw (c.in_ok-new.ensures.ok, c.in_ok-try_clone.ensures, c.new-4.ensures, c.in_ok-conditions.ensures)
+    rw (c.in_ok-new-2.ensures.ok, c.in_ok-try_clone.ensures, c.in_ok-new.ensures, c.in_ok-conditions.ensures)
     (first_root _ c.push.new.self c.in_ok-zero.zero c.in_ok-facts.facts
     (lawful_first _ c.push.new.self c.in_ok-zero.zero c.in_ok-facts.facts
     (rw c.deref.ensures at c.programs-programs.ensures.lawful) c.in_ok-zero.ensures.lawful

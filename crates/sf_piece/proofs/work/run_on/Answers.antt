@@ -23,9 +23,7 @@ invariant_of-result-in-Settled c =
     let h = rw c.in-Settled.is at c.in_ok-execute.ensures in
     let work = settled_work _ _ _ _ (rw c.deref.ensures at c.name-name.ensures.named)
     (rw c.deref.ensures at c.name-name.ensures.plain) c.loop-run.invariant.is_on h in
-    let begins = work.right.1.begins in
-    let whole = rw (c.deref-in-Settled.ensures, c.ended-name.ensures.name) at c.beyond-longer.ensures in
-    rw (c.in_ok-mine.ensures, whole begins.0 begins.1, c.ended-name.ensures.answer) work
+    rw (c.in_ok-mine.ensures, c.ended-name.ensures.name, c.ended-name.ensures.answer) work
 
 pub invariant_of-result-in-Empty : goal.invariant_of-result-in-Empty
 invariant_of-result-in-Empty c =

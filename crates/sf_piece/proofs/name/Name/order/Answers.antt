@@ -1,14 +1,7 @@
-use Rattle.sf_piece.specs.NameRunLaws.{ordered_by_runs}
+use Rattle.std.proofs.Common.{sym}
 use Rattle.sf_piece.proofs.name.Name.order.Goals as goal
 
 pub returns : goal.returns
 returns c =
-    rw (
-      ← c.self.view_is,
-      ← c.other.view_is,
-      c.then.ensures,
-      c.cmp-runs.ensures,
-      c.as_slice.ensures,
-      c.as_slice-2.ensures,
-      c.cmp.ensures,
-    ) (ordered_by_runs _ _ _ _ _ _ c.self.invariant.0 c.other.invariant.0)
+    rw (c.then.ensures, c.cmp.ensures, ← c.self.view_is, ← c.other.view_is)
+    (sym (c.order_of_runs.ensures c.self.inside.rest c.other.inside.rest))

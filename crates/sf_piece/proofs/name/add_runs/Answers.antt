@@ -1,0 +1,8 @@
+use Rattle.std.proofs.Common.{arith}
+use Rattle.sf_piece.proofs.Spelled.{with_run}
+use Rattle.sf_piece.proofs.name.add_runs.Goals as goal
+
+pub loop-place-preserved : goal.loop-place-preserved
+loop-place-preserved c =
+    rw (c.in_ok-push.ensures.items, c.in_ok-add_falses.ensures, c.get.ensures 0)
+    (with_run c.args.runs.now c.loop-place.place _ _ (omega arith) c.loop-place.invariant)
