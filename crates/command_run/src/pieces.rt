@@ -51,7 +51,7 @@ pub fn push_digits(text: &mut String, piece: &str) -> Result<(), AllocError> {
 }
 
 /// What pieces stand for that are separated by commas, as one text.
-fn joined(alloc: Global, pieces: &str) -> Result<String, AllocError> {
+fn join(alloc: Global, pieces: &str) -> Result<String, AllocError> {
     let mut text = String::new(alloc);
     for piece in pieces.split(',') {
         push_piece(&mut text, piece)?;
@@ -62,7 +62,7 @@ fn joined(alloc: Global, pieces: &str) -> Result<String, AllocError> {
 /// Adds the words that a word of a script stands for: `allow*64` is sixty-four words, and `@00*63,02` is one.
 fn push_words(alloc: Global, words: &mut Vec<String>, word: &str) -> Result<(), AllocError> {
     if let Some(pieces) = word.strip_prefix('@') {
-        let text = joined(alloc, pieces)?;
+        let text = join(alloc, pieces)?;
         words.push(text)?;
         return Ok(());
     }

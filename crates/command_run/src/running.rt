@@ -94,7 +94,7 @@ pub fn count<R: Print + Threads + Wait + Sync + AllocGlobal>(
 }
 
 /// Whether two runs wrote the same bytes and ended with the same exit status.
-fn ended_alike(left: &Ended, right: &Ended) -> bool {
+fn end_alike(left: &Ended, right: &Ended) -> bool {
     left.status == right.status
         && left.out.held.as_slice() == right.out.held.as_slice()
         && left.err.held.as_slice() == right.err.held.as_slice()
@@ -115,7 +115,7 @@ fn run_limited<R: Print + Threads + Wait + Sync + AllocGlobal>(
     show_end(rt, &ended.err, ended.status)?;
     for most in [5, 7] {
         let other = run_over(rt, shelf, words, most, limit, full);
-        if !ended_alike(&ended, &other) {
+        if !end_alike(&ended, &other) {
             println!(rt; "by {most} bytes a call it ends otherwise")?;
         }
     }

@@ -1,6 +1,6 @@
 //! One worker, with no thread.
 use crate::kit::anything;
-use samples::{ALLOW, execve_stack, op, other_text, stack_of, telling_apart};
+use samples::{ALLOW, equality_tests, execve_stack, op, other_text, stack_of};
 use sf_check::Stack;
 use sf_crew::{Fault, Gate, Open, explore, sweep};
 use std::alloc::Global;
@@ -25,7 +25,7 @@ impl Counting {
     }
 
     /// The calls, and the strays among them.
-    fn seen(&self) -> (usize, usize) {
+    fn counts(&self) -> (usize, usize) {
         let calls = self.calls.load(Ordering::SeqCst);
         (calls, self.strays.load(Ordering::SeqCst))
     }
@@ -49,7 +49,7 @@ fn calls_and_commits<R: Threads + Wait + Sync>(
 ) -> Result<(usize, usize, u32), Fail> {
     let gate = Counting::new();
     let settled = explore(rt, alloc, stack, budget, 1, &gate)?;
-    let (calls, strays) = gate.seen();
+    let (calls, strays) = gate.counts();
     Ok((calls, strays, settled.counts().commits))
 }
 
@@ -61,7 +61,7 @@ fn the_gate_sees_each_commit(rt: HostRuntime) -> Result<(), Fail> {
     assert_eq!(rt; ample, (5, 0, 5));
     let spent = calls_and_commits(&rt, alloc, stack, 3)?;
     assert_eq!(rt; spent, (3, 0, 3));
-    let hundred = stack_of(alloc, &[&telling_apart(alloc, 100)?])?;
+    let hundred = stack_of(alloc, &[&equality_tests(alloc, 100)?])?;
     let many = calls_and_commits(&rt, alloc, hundred, 1000)?;
     assert_eq!(rt; many, (201, 0, 201));
     Ok(())
@@ -71,12 +71,12 @@ fn the_gate_sees_each_commit(rt: HostRuntime) -> Result<(), Fail> {
 #[test]
 fn the_gate_sees_each_sheet(rt: HostRuntime) -> Result<(), Fail> {
     let alloc = rt.alloc();
-    let stack = stack_of(alloc, &[&telling_apart(alloc, 100)?])?;
+    let stack = stack_of(alloc, &[&equality_tests(alloc, 100)?])?;
     let settled = explore(&rt, alloc, stack, 201, 1, &Open)?;
     let gate = Counting::new();
     let replies = sweep(&rt, alloc, &settled, &[anything(alloc)?], 1, &gate)?;
     assert_eq!(rt; replies.len(), 1);
-    assert_eq!(rt; gate.seen(), (101, 0));
+    assert_eq!(rt; gate.counts(), (101, 0));
     Ok(())
 }
 
@@ -84,7 +84,7 @@ fn the_gate_sees_each_sheet(rt: HostRuntime) -> Result<(), Fail> {
 #[test]
 fn a_word_has_none_of_many_numbers(rt: HostRuntime) -> Result<(), Fail> {
     let alloc = rt.alloc();
-    let stack = stack_of(alloc, &[&telling_apart(alloc, 1500)?])?;
+    let stack = stack_of(alloc, &[&equality_tests(alloc, 1500)?])?;
     let settled = explore(&rt, alloc, stack, 3001, 1, &Open)?;
     let counts = settled.counts();
     assert_eq!(rt; counts.settled, 1501);

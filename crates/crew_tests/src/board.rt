@@ -119,7 +119,7 @@ struct Joined {
 
 /// The second seat enters first, and then the first seat looks. It enters its last sheet without the question for which it
 /// has seen a place.
-fn worked(
+fn work_both(
     alloc: Global,
     board: &Board,
     mut first: Seat,
@@ -201,7 +201,7 @@ fn two_seats_share_three_regions(rt: HostRuntime) -> Result<(), Fail> {
     let questions = two_questions(alloc)?;
     let (board, seats) = Board::new(alloc, &settled, &questions, 2)?;
     let (first, second) = two_of(&board, seats).ok_or("no two seats")?;
-    let Joined { all, jobs, seen } = worked(
+    let Joined { all, jobs, seen } = work_both(
         alloc, &board, first, second, &settled, &questions,
     ).ok_or("another answer")?;
     assert_eq!(rt; (jobs, seen), ([0, 1, 2], [Some(1), None]));
@@ -212,7 +212,7 @@ fn two_seats_share_three_regions(rt: HostRuntime) -> Result<(), Fail> {
 }
 
 /// Two seats draw and enter a region each, and are joined.
-fn one_each(
+fn enter_one_each(
     alloc: Global,
     board: &Board,
     mut first: Seat,
@@ -249,7 +249,9 @@ fn doubts_have_a_bit_for_each_question(rt: HostRuntime) -> Result<(), Fail> {
     }
     let (board, seats) = Board::new(alloc, &settled, &questions, 2)?;
     let (first, second) = two_of(&board, seats).ok_or("no two seats")?;
-    let all = one_each(alloc, &board, first, second, &settled, &questions).ok_or("another answer")?;
+    let all = enter_one_each(alloc, &board, first, second, &settled, &questions).ok_or(
+        "another answer",
+    )?;
     let found = board.close(all);
     assert_eq!(rt; (found.doubts, found.entered), ([u64::MAX, 1, 0, 0], 2));
     for workers in [1, 2, 8] {

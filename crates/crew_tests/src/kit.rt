@@ -24,7 +24,7 @@ pub fn write_name(alloc: Global, text: &mut String, name: &Name) -> Result<(), F
 }
 
 /// The counts, and `NAME ACTION DATA;` for each region in the order of names.
-pub fn found(alloc: Global, settled: &Settled) -> Result<String, Fail> {
+pub fn settled_text(alloc: Global, settled: &Settled) -> Result<String, Fail> {
     let mut text = String::new(alloc);
     let c = settled.counts();
     let (left, regions, emptied) = (c.left, c.settled, c.emptied);

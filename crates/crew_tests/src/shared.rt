@@ -1,5 +1,5 @@
 //! One locked book, and threads that call it.
-use crate::kit::{counts, found, write_name};
+use crate::kit::{counts, settled_text, write_name};
 use samples::{execve_stack, op, stack_of};
 use sf_book::{Book, Fault};
 use sf_check::Stack;
@@ -58,7 +58,7 @@ fn write_leases(alloc: Global, text: &mut String, book: &mut Book) -> Result<(),
 }
 
 /// All that a book shows: its budget, the pieces that are free, all its pieces, and what it ends with.
-fn told(alloc: Global, mut book: Book, stack: &Stack) -> Result<String, Fail> {
+fn show_book(alloc: Global, mut book: Book, stack: &Stack) -> Result<String, Fail> {
     let mut text = String::new(alloc);
     let budget = book.budget();
     write!(&mut text, "{budget}, free")?;
@@ -66,17 +66,17 @@ fn told(alloc: Global, mut book: Book, stack: &Stack) -> Result<String, Fail> {
     book.recall();
     text.push_str(", all")?;
     write_leases(alloc, &mut text, &mut book)?;
-    let ended = found(alloc, &book.finish(stack)?)?;
+    let ended = settled_text(alloc, &book.finish(stack)?)?;
     write!(&mut text, ", at the end {ended}")?;
     Ok(text)
 }
 
 /// What a book shows in which one work was committed, that of the root.
-fn told_of_one(alloc: Global, stack: &Arc<Stack>) -> Result<String, Fail> {
+fn show_book_of_one(alloc: Global, stack: &Arc<Stack>) -> Result<String, Fail> {
     let mut book = Book::open(alloc, Arc::try_clone(stack)?, 100)?;
     let lease = book.lease()?.ok_or("nothing to lease")?;
     let _ids = book.commit(lease.id, advance(alloc, &lease.piece)?)?;
-    told(alloc, book, stack)
+    show_book(alloc, book, stack)
 }
 
 #[test]
@@ -96,7 +96,10 @@ fn of_eight_threads_with_the_same_work_one_commits(rt: HostRuntime) -> Result<()
     assert_eq!(rt; (times(&outcomes, 2), times(&outcomes, 31)), (1, 7));
     let book = book.into_inner();
     assert_eq!(rt; book.counts(), counts(2, 0, 0, 1, 1));
-    assert_eq!(rt; told(alloc, book, &stack)?, told_of_one(alloc, &stack)?);
+    assert_eq!(rt;
+        show_book(alloc, book, &stack)?,
+        show_book_of_one(alloc, &stack)?
+    );
     Ok(())
 }
 
@@ -117,7 +120,10 @@ fn works_of_another_stack_leave_the_book_as_it_was(rt: HostRuntime) -> Result<()
     assert_eq!(rt; times(&outcomes, 30), 8);
     let book = book.into_inner();
     assert_eq!(rt; book.counts(), counts(1, 0, 0, 0, 0));
-    assert_eq!(rt; told(alloc, book, &stack)?, told(alloc, untouched, &stack)?);
+    assert_eq!(rt;
+        show_book(alloc, book, &stack)?,
+        show_book(alloc, untouched, &stack)?
+    );
     Ok(())
 }
 

@@ -28,7 +28,7 @@ fn the_gate_sees_each_sheet_of_all_workers(rt: HostRuntime) -> Result<(), Fail> 
         let gate = Counting::new();
         let replies = sweep(&rt, alloc, &settled, &[anything(alloc)?], workers, &gate)?;
         assert_eq!(rt; replies.first(), Some(&Reply::Never));
-        assert_eq!(rt; gate.seen(), 256);
+        assert_eq!(rt; gate.counts(), 256);
     }
     Ok(())
 }

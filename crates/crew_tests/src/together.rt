@@ -1,5 +1,5 @@
 //! Several workers on one book.
-use samples::{ALLOW, execve_stack, four_tests, low_bits, nested, stack_of};
+use samples::{ALLOW, execve_stack, four_tests, low_bits, nested_tests, stack_of};
 use sf_check::Stack;
 use sf_crew::{Gate, explore};
 use std::alloc::Global;
@@ -22,7 +22,7 @@ impl Counting {
         }
     }
 
-    pub fn seen(&self) -> usize {
+    pub fn counts(&self) -> usize {
         self.calls.load(Ordering::SeqCst)
     }
 }
@@ -43,7 +43,7 @@ fn calls_and_commits<R: Threads + Wait + Sync>(
     let gate = Counting::new();
     let workers = workers.clamp(1, 64);
     let settled = explore(rt, alloc, Arc::try_clone(stack)?, 1000, workers, &gate)?;
-    Ok((gate.seen(), settled.counts().commits))
+    Ok((gate.counts(), settled.counts().commits))
 }
 
 #[test]
@@ -51,7 +51,7 @@ fn the_gate_sees_each_commit_of_all_workers(rt: HostRuntime) -> Result<(), Fail>
     let alloc = rt.alloc();
     for (stack, commits) in [
         (execve_stack(alloc)?, 5),
-        (stack_of(alloc, &[&nested()])?, 3),
+        (stack_of(alloc, &[&nested_tests()])?, 3),
         (stack_of(alloc, &[&four_tests()])?, 7),
         (stack_of(alloc, &[&low_bits(0xff)])?, 511),
     ] {

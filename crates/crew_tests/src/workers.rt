@@ -44,7 +44,7 @@ struct Pairs {
 }
 
 impl Pairs {
-    fn after(free: usize, most: usize) -> Pairs {
+    fn new(free: usize, most: usize) -> Pairs {
         Pairs {
             free,
             most,
@@ -75,7 +75,7 @@ impl Pairs {
     }
 
     /// The held calls of each worker, the strays, and the lonely ones.
-    fn seen(&self) -> [usize; 4] {
+    fn counts(&self) -> [usize; 4] {
         [
             self.paired[0].load(Ordering::SeqCst),
             self.paired[1].load(Ordering::SeqCst),
@@ -122,10 +122,10 @@ fn sixteen<R: Threads + Wait + Sync, G: Gate>(
 #[test]
 fn two_workers_work_in_pairs_to_the_end(rt: HostRuntime) -> Result<(), Fail> {
     let alloc = rt.alloc();
-    let gate = Pairs::after(1, 15);
+    let gate = Pairs::new(1, 15);
     let settled = sixteen(&rt, alloc, 31, 2, &gate)?;
     assert_eq!(rt; settled.counts(), counts(0, 16, 0, 15, 31));
-    assert_eq!(rt; gate.seen(), [15, 15, 0, 0]);
+    assert_eq!(rt; gate.counts(), [15, 15, 0, 0]);
     Ok(())
 }
 
@@ -134,10 +134,10 @@ fn two_workers_work_in_pairs_to_the_end(rt: HostRuntime) -> Result<(), Fail> {
 #[test]
 fn two_works_are_ready_where_one_may_be_committed(rt: HostRuntime) -> Result<(), Fail> {
     let alloc = rt.alloc();
-    let gate = Pairs::after(1, 1);
+    let gate = Pairs::new(1, 1);
     let settled = sixteen(&rt, alloc, 2, 2, &gate)?;
     assert_eq!(rt; settled.counts(), counts(3, 0, 0, 2, 2));
-    assert_eq!(rt; gate.seen(), [1, 1, 0, 0]);
+    assert_eq!(rt; gate.counts(), [1, 1, 0, 0]);
     Ok(())
 }
 
@@ -145,10 +145,10 @@ fn two_works_are_ready_where_one_may_be_committed(rt: HostRuntime) -> Result<(),
 fn two_workers_judge_in_pairs_to_the_end(rt: HostRuntime) -> Result<(), Fail> {
     let alloc = rt.alloc();
     let settled = sixteen(&rt, alloc, 31, 1, &Open)?;
-    let gate = Pairs::after(0, 8);
+    let gate = Pairs::new(0, 8);
     let replies = sweep(&rt, alloc, &settled, &[anything(alloc)?], 2, &gate)?;
     assert_eq!(rt; replies.first(), Some(&Reply::Never));
-    assert_eq!(rt; gate.seen(), [8, 8, 0, 0]);
+    assert_eq!(rt; gate.counts(), [8, 8, 0, 0]);
     Ok(())
 }
 
@@ -162,7 +162,7 @@ struct Held {
 }
 
 impl Held {
-    fn at(place: usize, until: usize) -> Held {
+    fn new(place: usize, until: usize) -> Held {
         Held {
             place,
             until,
@@ -172,7 +172,7 @@ impl Held {
     }
 
     /// All calls, and whether the held one was let go too early.
-    fn seen(&self) -> [usize; 2] {
+    fn counts(&self) -> [usize; 2] {
         [
             self.begun.load(Ordering::SeqCst),
             self.failed.load(Ordering::SeqCst),
@@ -191,14 +191,14 @@ impl Gate for Held {
 #[test]
 fn a_held_worker_stops_no_other(rt: HostRuntime) -> Result<(), Fail> {
     let alloc = rt.alloc();
-    let gate = Held::at(2, 17);
+    let gate = Held::new(2, 17);
     let settled = sixteen(&rt, alloc, 31, 2, &gate)?;
     assert_eq!(rt; settled.counts().commits, 31);
-    assert_eq!(rt; gate.seen(), [31, 0]);
-    let gate = Held::at(1, 16);
+    assert_eq!(rt; gate.counts(), [31, 0]);
+    let gate = Held::new(1, 16);
     let replies = sweep(&rt, alloc, &settled, &[anything(alloc)?], 2, &gate)?;
     assert_eq!(rt; replies.first(), Some(&Reply::Never));
-    assert_eq!(rt; gate.seen(), [16, 0]);
+    assert_eq!(rt; gate.counts(), [16, 0]);
     Ok(())
 }
 
@@ -268,7 +268,7 @@ struct Gathering {
 }
 
 impl Gathering {
-    fn after(free: usize) -> Gathering {
+    fn new(free: usize) -> Gathering {
         Gathering {
             free,
             begun: AtomicUsize::new(0),
@@ -292,7 +292,7 @@ impl Gathering {
     }
 
     /// The strays, and the lonely ones.
-    fn seen(&self) -> [usize; 2] {
+    fn counts(&self) -> [usize; 2] {
         [
             self.strays.load(Ordering::SeqCst),
             self.lonely.load(Ordering::SeqCst),
@@ -317,14 +317,14 @@ impl Gate for Gathering {
 #[test]
 fn four_workers_have_a_piece_and_then_a_region_each_at_once(rt: HostRuntime) -> Result<(), Fail> {
     let alloc = rt.alloc();
-    let gate = Gathering::after(7);
+    let gate = Gathering::new(7);
     let settled = sixteen(&rt, alloc, 31, 4, &gate)?;
     assert_eq!(rt; settled.counts(), counts(0, 16, 0, 15, 31));
-    assert_eq!(rt; gate.seen(), [0, 0]);
-    let gate = Gathering::after(0);
+    assert_eq!(rt; gate.counts(), [0, 0]);
+    let gate = Gathering::new(0);
     let replies = sweep(&rt, alloc, &settled, &[anything(alloc)?], 4, &gate)?;
     assert_eq!(rt; replies.first(), Some(&Reply::Never));
-    assert_eq!(rt; gate.seen(), [0, 0]);
+    assert_eq!(rt; gate.counts(), [0, 0]);
     Ok(())
 }
 

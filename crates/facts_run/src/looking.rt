@@ -58,10 +58,10 @@ fn learn(
         other: NodeId(other as u32),
         sense,
     };
-    let copy = facts.learnt(alloc, pool, &cond)?;
+    let copy = facts.with_cond(alloc, pool, &cond)?;
     let taken = facts.learn(alloc, pool, &cond)?;
     match copy {
-        Some(left) if taken && left.equals(facts) => Ok(true),
+        Some(left) if taken && left.is_same(facts) => Ok(true),
         None if !taken => Ok(false),
         _ => Err(Fail::from("a copy learns something else")),
     }
@@ -112,17 +112,23 @@ fn facts_of(alloc: Global, pool: &Pool) -> Result<Facts, Fail>
     let facts = Facts::new(alloc, pool)?;
     let words = Pool::new(alloc)?;
     let mut grown = Facts::new(alloc, &words)?;
-    if !grown.grow(alloc, pool)? || !facts.equals(&grown) {
+    if !grown.grow(alloc, pool)? || !facts.is_same(&grown) {
         return Err(Fail::from("grown facts are others"));
     }
-    if !facts.equals(&facts.fork()?) {
+    if !facts.is_same(&facts.fork()?) {
         return Err(Fail::from("a fork has other facts"));
     }
     Ok(facts)
 }
 
 /// What is known of the node at the place, as text.
-fn told(alloc: Global, facts: &Facts, pool: &Pool, at: usize, taken: bool) -> Result<String, Fail>
+fn node_text(
+    alloc: Global,
+    facts: &Facts,
+    pool: &Pool,
+    at: usize,
+    taken: bool,
+) -> Result<String, Fail>
     requires { Covers facts.now pool.now }
 {
     if at >= pool.len() {
@@ -147,5 +153,5 @@ pub fn look(alloc: Global, case: &Case) -> Result<String, Fail> {
     let pool = pool_of(alloc, &case.nodes)?;
     let mut facts = facts_of(alloc, &pool)?;
     let taken = take_all(alloc, &mut facts, &pool, &case.steps)?;
-    told(alloc, &facts, &pool, case.at, taken)
+    node_text(alloc, &facts, &pool, case.at, taken)
 }

@@ -1,4 +1,4 @@
-//! Tests of `Program::behind_others`: which tests for other numbers than the one that A has are skipped.
+//! Tests of `Program::skip_others`: which tests for other numbers than the one that A has are skipped.
 use samples::{op, raw, wrong_case};
 use sf_check::{Passed, Program, check};
 use sf_insn::RawInsn;
@@ -17,9 +17,9 @@ fn program_of(alloc: Global, mut code: Vec<RawInsn>) -> Result<Program, Fail> {
 }
 
 /// How many tests are skipped from a place on, and up to which place; `None` where the program has no such place.
-fn passed(program: &Program, place: usize, number: u32) -> Option<Passed> {
+fn skip_others(program: &Program, place: usize, number: u32) -> Option<Passed> {
     if place < program.insns().len() {
-        Some(program.behind_others(place, number))
+        Some(program.skip_others(place, number))
     } else {
         None
     }
@@ -30,7 +30,7 @@ fn passed(program: &Program, place: usize, number: u32) -> Option<Passed> {
 fn wrong_chain(program: &Program, cases: &[(usize, u32, usize, usize)]) -> Option<(usize, u32)> {
     for (place, number, count, behind) in cases {
         let (count, behind) = (*count, *behind);
-        if passed(program, *place, *number) != Some(Passed { count, behind }) {
+        if skip_others(program, *place, *number) != Some(Passed { count, behind }) {
             return Some((*place, *number));
         }
     }
@@ -38,7 +38,7 @@ fn wrong_chain(program: &Program, cases: &[(usize, u32, usize, usize)]) -> Optio
 }
 
 /// Twenty tests for 10 to 29, from place 1 on, each with a return of its own behind it, and a return at 41.
-fn over_returns(alloc: Global) -> Result<Program, Fail> {
+fn tests_over_returns(alloc: Global) -> Result<Program, Fail> {
     let mut code = vec![in alloc; op(0x20, 0); 1]?;
     for number in 10..30 {
         code.push(ask(number, 1))?;
@@ -50,7 +50,7 @@ fn over_returns(alloc: Global) -> Result<Program, Fail> {
 /// The test at place 0 asks for 100 and skips twelve. Those at the places 1 to 25 ask for the number of their place,
 /// and a return is at 26. So the tests at 0 and at 12 both lead to 13 where they fail. That place is in the chain of 0,
 /// and the other chain ends in the midst of it.
-fn meeting(alloc: Global) -> Result<Program, Fail> {
+fn meeting_chains(alloc: Global) -> Result<Program, Fail> {
     let mut code = vec![in alloc; ask(100, 12); 1]?;
     for number in 1..26 {
         code.push(ask(number, 0))?;
@@ -59,7 +59,7 @@ fn meeting(alloc: Global) -> Result<Program, Fail> {
 }
 
 /// Tests for 10 to 19 at the places 1 to 10, for 15 again at 11, for 20 to 29 from 12 on, and a return at 22.
-fn twice(alloc: Global) -> Result<Program, Fail> {
+fn number_twice(alloc: Global) -> Result<Program, Fail> {
     let mut code = vec![in alloc; op(0x20, 0); 1]?;
     for number in 10..20 {
         code.push(ask(number, 0))?;
@@ -72,7 +72,7 @@ fn twice(alloc: Global) -> Result<Program, Fail> {
 }
 
 /// Tests for 1, 2 and 3 at the places 0, 201 and 457, and returns at all others up to 458.
-fn far(alloc: Global) -> Result<Program, Fail> {
+fn far_tests(alloc: Global) -> Result<Program, Fail> {
     let mut code = vec![in alloc; op(0x06, 0); 458]?;
     code[0] = ask(1, 200);
     code[201] = ask(2, 255);
@@ -97,7 +97,7 @@ fn tests_fail_over_returns(rt: HostRuntime) -> Result<(), Fail> {
         (2, 9, 0, 2),
         (41, 9, 0, 41),
     ];
-    assert_eq!(rt; wrong_chain(&over_returns(rt.alloc())?, &cases), None);
+    assert_eq!(rt; wrong_chain(&tests_over_returns(rt.alloc())?, &cases), None);
     Ok(())
 }
 
@@ -117,7 +117,7 @@ fn a_chain_ends_in_the_midst_of_another(rt: HostRuntime) -> Result<(), Fail> {
         (12, 5, 14, 26),
         (20, 19, 6, 26),
     ];
-    assert_eq!(rt; wrong_chain(&meeting(rt.alloc())?, &cases), None);
+    assert_eq!(rt; wrong_chain(&meeting_chains(rt.alloc())?, &cases), None);
     Ok(())
 }
 
@@ -130,7 +130,7 @@ fn a_chain_asks_for_a_number_twice(rt: HostRuntime) -> Result<(), Fail> {
         (12, 15, 10, 22),
         (1, 25, 16, 17),
     ];
-    assert_eq!(rt; wrong_chain(&twice(rt.alloc())?, &cases), None);
+    assert_eq!(rt; wrong_chain(&number_twice(rt.alloc())?, &cases), None);
     Ok(())
 }
 
@@ -144,7 +144,7 @@ fn tests_fail_far(rt: HostRuntime) -> Result<(), Fail> {
         (201, 1, 2, 458),
         (457, 3, 0, 457),
     ];
-    assert_eq!(rt; wrong_chain(&far(rt.alloc())?, &cases), None);
+    assert_eq!(rt; wrong_chain(&far_tests(rt.alloc())?, &cases), None);
     Ok(())
 }
 

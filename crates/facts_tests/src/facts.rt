@@ -15,7 +15,7 @@ use std::test::Fail;
 const FIRST: NodeId = NodeId(0);
 
 /// A pool with the number 9, and the condition that the test of the first word against it has this sense.
-fn against_nine(alloc: Global, test: Test, sense: bool) -> Option<(Pool, Cond)>
+fn cond_against_nine(alloc: Global, test: Test, sense: bool) -> Option<(Pool, Cond)>
     ensures { IfSome result (λ p. IsCondBelow (length p.0) p.1) }
 {
     let mut pool = Pool::new(alloc).ok()?;
@@ -44,11 +44,11 @@ fn facts_of(alloc: Global, pool: &Pool, conds: &[Cond]) -> Result<Option<Facts>,
 }
 
 /// The facts with a condition taken in, as a copy.
-fn learnt(alloc: Global, facts: &Facts, pool: &Pool, cond: &Cond) -> Option<Facts>
+fn learn_copy(alloc: Global, facts: &Facts, pool: &Pool, cond: &Cond) -> Option<Facts>
     requires covers { Covers facts.now pool.now }
     requires below { IsCondBelow (length pool.now) cond.now }
 {
-    facts.learnt(alloc, pool, cond).ok()?
+    facts.with_cond(alloc, pool, cond).ok()?
 }
 
 /// Whether facts take a condition in.
@@ -70,24 +70,24 @@ fn least_first(facts: &Facts) -> Option<u32> {
 }
 
 /// The facts where the first word is above 9: made from the condition, and learnt.
-fn above_nine(alloc: Global) -> Option<(Facts, Facts)> {
-    let (pool, above) = against_nine(alloc, Test::Greater, true)?;
+fn facts_above_nine(alloc: Global) -> Option<(Facts, Facts)> {
+    let (pool, above) = cond_against_nine(alloc, Test::Greater, true)?;
     let of_one = facts_of(alloc, &pool, &[above]).ok()??;
-    let learnt = learnt(alloc, &new_facts(alloc, &pool)?, &pool, &above)?;
+    let learnt = learn_copy(alloc, &new_facts(alloc, &pool)?, &pool, &above)?;
     Some((of_one, learnt))
 }
 
 #[test]
 fn facts_of_conditions_are_those_learnt(rt: HostRuntime) -> Result<(), Fail> {
-    let (facts, learnt) = above_nine(rt.alloc()).ok_or("no facts")?;
+    let (facts, learnt) = facts_above_nine(rt.alloc()).ok_or("no facts")?;
     assert_eq!(rt; least_first(&facts), Some(10));
-    assert!(rt; facts.equals(&learnt));
+    assert!(rt; facts.is_same(&learnt));
     Ok(())
 }
 
 /// Whether there are facts where the first word is above 9 and equal to 9.
 fn has_both(alloc: Global) -> Option<bool> {
-    let (pool, above) = against_nine(alloc, Test::Greater, true)?;
+    let (pool, above) = cond_against_nine(alloc, Test::Greater, true)?;
     let equal = Cond {
         test: Test::Equal,
         ..above
@@ -103,18 +103,18 @@ fn conditions_that_no_input_meets_have_no_facts(rt: HostRuntime) {
 
 /// Whether facts are equal to a fork, whether they take in that the first word isn't 9, and whether they are equal to
 /// the fork afterwards.
-fn told_of_fork(alloc: Global) -> Option<[bool; 3]> {
-    let (pool, other_than_nine) = against_nine(alloc, Test::Equal, false)?;
+fn compare_fork(alloc: Global) -> Option<[bool; 3]> {
+    let (pool, other_than_nine) = cond_against_nine(alloc, Test::Equal, false)?;
     let mut facts = new_facts(alloc, &pool)?;
     let before = fork(&facts)?;
-    let is_equal = facts.equals(&before);
+    let is_equal = facts.is_same(&before);
     let is_taken = learn(alloc, &mut facts, &pool, &other_than_nine)?;
-    Some([is_equal, is_taken, facts.equals(&before)])
+    Some([is_equal, is_taken, facts.is_same(&before)])
 }
 
 #[test]
 fn forks_are_equal_until_one_learns(rt: HostRuntime) {
-    assert_eq!(rt; told_of_fork(rt.alloc()), Some([true, true, false]));
+    assert_eq!(rt; compare_fork(rt.alloc()), Some([true, true, false]));
 }
 
 /// Whether facts take in the nodes that a pool has gained.
@@ -123,7 +123,7 @@ fn grow(alloc: Global, facts: &mut Facts, pool: &Pool) -> Option<bool> {
 }
 
 /// The number of a node of a pool, where its interval has only one.
-fn decided(facts: &Facts, pool: &Pool, node: NodeId) -> Option<u32>
+fn decided_number(facts: &Facts, pool: &Pool, node: NodeId) -> Option<u32>
     requires { Covers facts.now pool.now }
 {
     if (node.0 as usize) < pool.len() {
@@ -135,20 +135,20 @@ fn decided(facts: &Facts, pool: &Pool, node: NodeId) -> Option<u32>
 
 /// Facts of only the words take in a word AND 0, and then nothing more. The result says of each time whether they do,
 /// and whether they are then the facts of the pool; and which number the AND has.
-fn grown_twice(alloc: Global) -> Option<([bool; 4], Option<u32>)> {
+fn grow_twice(alloc: Global) -> Option<([bool; 4], Option<u32>)> {
     let mut pool = new_pool(alloc)?;
     let mut facts = new_facts(alloc, &pool)?;
     let zero = push(&mut pool, Node::Const(0))?;
     let nothing = push(&mut pool, Node::Bin(BinOp::And, FIRST, zero))?;
     let grows = grow(alloc, &mut facts, &pool)?;
     let afresh = new_facts(alloc, &pool)?;
-    let is_equal = facts.equals(&afresh);
+    let is_equal = facts.is_same(&afresh);
     let grows_again = grow(alloc, &mut facts, &pool)?;
-    let seen = [grows, is_equal, grows_again, facts.equals(&afresh)];
-    Some((seen, decided(&afresh, &pool, nothing)))
+    let seen = [grows, is_equal, grows_again, facts.is_same(&afresh)];
+    Some((seen, decided_number(&afresh, &pool, nothing)))
 }
 
 #[test]
 fn grown_facts_grow_no_more_with_the_same_pool(rt: HostRuntime) {
-    assert_eq!(rt; grown_twice(rt.alloc()), Some(([true; 4], Some(0))));
+    assert_eq!(rt; grow_twice(rt.alloc()), Some(([true; 4], Some(0))));
 }

@@ -12,18 +12,18 @@ const NO_EXECVE: [u8; 56] = [
 ];
 
 /// The instructions of a file.
-fn decoded(alloc: Global, bytes: &[u8]) -> Result<Vec<RawInsn>, Fault> {
+fn decode_file(alloc: Global, bytes: &[u8]) -> Result<Vec<RawInsn>, Fault> {
     decode(alloc, bytes)
 }
 
 /// How many instructions are read from this many bytes 0.
 fn read_of_zeros(alloc: Global, length: usize) -> Result<usize, Fault> {
     let zeros = vec![in alloc; 0u8; length]?;
-    Ok(decoded(alloc, &zeros)?.len())
+    Ok(decode_file(alloc, &zeros)?.len())
 }
 
 /// How many bytes this many instructions are written as.
-fn written_of(alloc: Global, count: usize) -> Result<usize, Fault> {
+fn written_length(alloc: Global, count: usize) -> Result<usize, Fault> {
     let test = RawInsn {
         code: 0x15,
         jt: 1,
@@ -36,7 +36,7 @@ fn written_of(alloc: Global, count: usize) -> Result<usize, Fault> {
 
 #[test]
 fn reads_a_file_and_writes_it_again(rt: HostRuntime) -> Result<(), Fail> {
-    let insns = decoded(rt.alloc(), &NO_EXECVE)?;
+    let insns = decode_file(rt.alloc(), &NO_EXECVE)?;
     assert!(rt; insns.as_slice() == execve_refused().as_slice());
     let again = encode(rt.alloc(), &insns)?;
     assert!(rt; again.as_slice() == NO_EXECVE.as_slice());
@@ -56,8 +56,8 @@ fn reads_1_to_4096_instructions_and_writes_more(rt: HostRuntime) {
         ),
         ("the most", read_of_zeros(alloc, 8 * 4096), Ok(4096)),
         ("one less", read_of_zeros(alloc, 8 * 4095), Ok(4095)),
-        ("as many written", written_of(alloc, 4096), Ok(32768)),
-        ("one more written", written_of(alloc, 4097), Ok(32776)),
+        ("as many written", written_length(alloc, 4096), Ok(32768)),
+        ("one more written", written_length(alloc, 4097), Ok(32776)),
     ];
     assert_eq!(rt; wrong_case(&cases), None);
 }

@@ -4,7 +4,7 @@ use std::alloc::{AllocError, Global};
 use std::test::Fail;
 
 /// The list of the numbers below n.
-fn counted(alloc: Global, n: u32) -> Result<SharedList<u32, 4>, AllocError> {
+fn numbers_below(alloc: Global, n: u32) -> Result<SharedList<u32, 4>, AllocError> {
     let mut list = SharedList::new(alloc)?;
     for i in 0..n {
         list.push(i)?;
@@ -24,7 +24,7 @@ fn counts_up(list: &SharedList<u32, 4>, n: u32) -> bool {
 
 /// Whether a fork that gets one more element leaves the list as it was, and both keep what they had.
 fn forks_at(alloc: Global, n: u32) -> Result<bool, AllocError> {
-    let list = counted(alloc, n)?;
+    let list = numbers_below(alloc, n)?;
     let mut copy = list.fork()?;
     copy.push(7)?;
     let lengths = (list.len() as u64, copy.len() as u64);

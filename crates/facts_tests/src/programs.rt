@@ -1,18 +1,18 @@
 //! Tests of which programs and stacks are lawful, plain and the same.
-use samples::{ALLOW, negating, op, raw, unset_scratch, wrong_case};
+use samples::{ALLOW, negation_filter, op, raw, unset_scratch, wrong_case};
 use sf_check::{Fault, Insn, Program, Stack, check};
 use sf_insn::RawInsn;
 use std::alloc::Global;
 use std::test::Fail;
 
 /// The program of these instructions.
-fn checked(alloc: Global, raws: &[RawInsn]) -> Result<Program, Fault> {
+fn check_program(alloc: Global, raws: &[RawInsn]) -> Result<Program, Fault> {
     check(alloc, raws)
 }
 
 /// The fault of a program.
 fn fault(alloc: Global, raws: &[RawInsn]) -> Option<Fault> {
-    checked(alloc, raws).err()
+    check_program(alloc, raws).err()
 }
 
 #[test]
@@ -61,7 +61,7 @@ fn refuses_loads_that_a_path_has_not_set_and_targets_outside(rt: HostRuntime) {
 /// How many instructions a program of this many returns has.
 fn returns(alloc: Global, count: usize) -> Result<usize, Fault> {
     let raws = vec![in alloc; op(0x06, 0); count]?;
-    Ok(checked(alloc, &raws)?.insns().len())
+    Ok(check_program(alloc, &raws)?.insns().len())
 }
 
 #[test]
@@ -79,7 +79,7 @@ fn programs_have_1_to_4096_instructions(rt: HostRuntime) {
 fn accepts_code_that_no_path_reaches(rt: HostRuntime) -> Result<(), Fail> {
     // ja 1; ld M[0]; ret 0x7fff0000, with a field that a return doesn't use
     let skipped = [op(0x05, 1), op(0x60, 0), raw(0x06, 9, 0, 0x7fff0000)];
-    let program = checked(rt.alloc(), &skipped)?;
+    let program = check_program(rt.alloc(), &skipped)?;
     let last = program.insns().last();
     assert_eq!(rt; last, Some(&Insn::ReturnConstant(0x7fff0000)));
     Ok(())
@@ -87,8 +87,8 @@ fn accepts_code_that_no_path_reaches(rt: HostRuntime) -> Result<(), Fail> {
 
 /// Whether `ld [0]; ret 0x7fff0000` and these instructions are the same program.
 fn is_allowing(alloc: Global, raws: &[RawInsn]) -> Result<bool, Fault> {
-    let allowing = checked(alloc, &[op(0x20, 0), ALLOW])?;
-    Ok(allowing.is_same(&checked(alloc, raws)?))
+    let allowing = check_program(alloc, &[op(0x20, 0), ALLOW])?;
+    Ok(allowing.is_same(&check_program(alloc, raws)?))
 }
 
 #[test]
@@ -126,9 +126,9 @@ fn stack_with(
 ) -> Result<Stack, Fault> {
     let mut programs = Vec::new(alloc);
     for _i in 0..count {
-        programs.push(checked(alloc, &negating(alloc, negations)?)?)?;
+        programs.push(check_program(alloc, &negation_filter(alloc, negations)?)?)?;
     }
-    programs.push(checked(alloc, &negating(alloc, newest)?)?)?;
+    programs.push(check_program(alloc, &negation_filter(alloc, newest)?)?)?;
     Stack::of(programs)
 }
 
@@ -185,7 +185,7 @@ fn stacks_are_the_same_where_all_their_programs_are(rt: HostRuntime) {
 /// Whether the stack of this instruction and a return is plain.
 fn is_plain(alloc: Global, insn: RawInsn) -> Result<bool, Fault> {
     let mut programs = Vec::new(alloc);
-    programs.push(checked(alloc, &[insn, op(0x06, 0)])?)?;
+    programs.push(check_program(alloc, &[insn, op(0x06, 0)])?)?;
     Ok(Stack::of(programs)?.is_plain())
 }
 

@@ -1,5 +1,7 @@
 //! Tests of what a program returns, and of what a stack meets and answers.
-use samples::{eight_divided, execve_refused, op, shifted, stack_of, telling_apart, wrong_case};
+use samples::{
+    eight_divided, equality_tests, execve_refused, op, shift_filter, stack_of, wrong_case,
+};
 use sf_check::{Program, Stack, check};
 use sf_insn::{Input, RawInsn};
 use sf_run::{Action, Answer, answer, fold, run, trace, walk};
@@ -26,7 +28,7 @@ fn value(alloc: Global, raws: &[RawInsn], argument: u32) -> Option<u32> {
 }
 
 /// The value that `ld #a; op #b; ret a` returns.
-fn computed(alloc: Global, a: u32, code: u16, b: u32) -> Option<u32> {
+fn result_of(alloc: Global, a: u32, code: u16, b: u32) -> Option<u32> {
     value(alloc, &[op(0x00, a), op(code, b), op(0x16, 0)], 0)
 }
 
@@ -34,13 +36,13 @@ fn computed(alloc: Global, a: u32, code: u16, b: u32) -> Option<u32> {
 fn arithmetic_is_modulo_2_to_the_32(rt: HostRuntime) {
     let alloc = rt.alloc();
     let cases = [
-        ("sub", computed(alloc, 7, 0x14, 9), Some(0xfffffffe)),
-        ("mul", computed(alloc, 0x80000000, 0x24, 2), Some(0)),
-        ("div", computed(alloc, 17, 0x34, 5), Some(3)),
-        ("neg", computed(alloc, 1, 0x84, 0), Some(0xffffffff)),
-        ("add", computed(alloc, 0xffffffff, 0x04, 1), Some(0)),
-        ("xor", computed(alloc, 0x0c, 0xa4, 0x0a), Some(0x06)),
-        ("rsh", computed(alloc, 0x80000000, 0x74, 31), Some(1)),
+        ("sub", result_of(alloc, 7, 0x14, 9), Some(0xfffffffe)),
+        ("mul", result_of(alloc, 0x80000000, 0x24, 2), Some(0)),
+        ("div", result_of(alloc, 17, 0x34, 5), Some(3)),
+        ("neg", result_of(alloc, 1, 0x84, 0), Some(0xffffffff)),
+        ("add", result_of(alloc, 0xffffffff, 0x04, 1), Some(0)),
+        ("xor", result_of(alloc, 0x0c, 0xa4, 0x0a), Some(0x06)),
+        ("rsh", result_of(alloc, 0x80000000, 0x74, 31), Some(1)),
     ];
     assert_eq!(rt; wrong_case(&cases), None);
 }
@@ -59,7 +61,7 @@ fn words_move_between_a_x_and_scratch(rt: HostRuntime) {
 }
 
 /// What a stack meets on an input.
-fn met(alloc: Global, stack: &Stack, input: &Input) -> Option<Vec<bool>> {
+fn trace_of(alloc: Global, stack: &Stack, input: &Input) -> Option<Vec<bool>> {
     trace(alloc, stack, input).ok()
 }
 
@@ -73,9 +75,9 @@ fn as_number(met: &[bool]) -> (usize, u64) {
 }
 
 /// What the stack of one program meets on an input, as a number.
-fn met_of(alloc: Global, raws: &[RawInsn], input: &Input) -> Option<(usize, u64)> {
+fn trace_number(alloc: Global, raws: &[RawInsn], input: &Input) -> Option<(usize, u64)> {
     let stack = stack_of(alloc, &[raws]).ok()?;
-    Some(as_number(&met(alloc, &stack, input)?))
+    Some(as_number(&trace_of(alloc, &stack, input)?))
 }
 
 #[test]
@@ -86,18 +88,21 @@ fn a_division_by_an_x_of_0_returns_0(rt: HostRuntime) {
         ("by 2", value(alloc, &divided, 2), Some(4)),
     ];
     assert_eq!(rt; wrong_case(&cases), None);
-    assert_eq!(rt; met_of(alloc, &divided, &ZEROS), Some((1, 1)));
+    assert_eq!(rt; trace_number(alloc, &divided, &ZEROS), Some((1, 1)));
 }
 
 /// The bits of a returned A are met from the highest one on.
 #[test]
 fn a_shift_by_x_is_modulo_32(rt: HostRuntime) {
-    assert_eq!(rt; value(rt.alloc(), &shifted(), 0), Some(256));
-    assert_eq!(rt; met_of(rt.alloc(), &shifted(), &ZEROS), Some((32, 1 << 8)));
+    assert_eq!(rt; value(rt.alloc(), &shift_filter(), 0), Some(256));
+    assert_eq!(rt;
+        trace_number(rt.alloc(), &shift_filter(), &ZEROS),
+        Some((32, 1 << 8))
+    );
 }
 
 /// The answer of a stack.
-fn answered(stack: &Stack, input: &Input) -> Answer {
+fn answer_of(stack: &Stack, input: &Input) -> Answer {
     answer(stack, input)
 }
 
@@ -116,9 +121,9 @@ fn a_trace_has_each_test_in_order(rt: HostRuntime) -> Result<(), Fail> {
         ((2, 3), Action::Errno, 1),
     ];
     for (input, (number, action, info)) in inputs.iter().zip(wanted.iter()) {
-        assert!(rt; met_of(alloc, &refused, input) == Some(*number));
+        assert!(rt; trace_number(alloc, &refused, input) == Some(*number));
         let (action, info) = (*action, *info);
-        assert!(rt; answered(&stack, input) == Answer { action, info });
+        assert!(rt; answer_of(&stack, input) == Answer { action, info });
     }
     Ok(())
 }
@@ -126,7 +131,7 @@ fn a_trace_has_each_test_in_order(rt: HostRuntime) -> Result<(), Fail> {
 /// The answer of a stack of programs `ret older`, `ret newer` to the input of zeros.
 fn pair(alloc: Global, older: u32, newer: u32) -> Option<Answer> {
     let stack = stack_of(alloc, &[&[op(0x06, older)], &[op(0x06, newer)]]).ok()?;
-    Some(answered(&stack, &ZEROS))
+    Some(answer_of(&stack, &ZEROS))
 }
 
 #[test]
@@ -181,7 +186,7 @@ fn actions_and_numbers_agree(rt: HostRuntime) {
     ];
     for (action, number) in cases {
         assert!(rt;
-            action.number() == number && Action::named(number) == action,
+            action.number() == number && Action::of_number(number) == action,
             "{number:x}"
         );
     }
@@ -195,22 +200,22 @@ fn course_of(alloc: Global, raws: &[RawInsn]) -> Option<(usize, usize)> {
 
 #[test]
 fn the_longest_program_meets_each_of_its_tests(rt: HostRuntime) -> Result<(), Fail> {
-    let raws = telling_apart(rt.alloc(), 4094)?;
+    let raws = equality_tests(rt.alloc(), 4094)?;
     assert_eq!(rt; course_of(rt.alloc(), &raws), Some((4094, 4095)));
     Ok(())
 }
 
 /// What a stack of seven programs like this one meets on the number 4000.
-fn met_by_several(alloc: Global, raws: &[RawInsn]) -> Option<Vec<bool>> {
+fn trace_of_seven(alloc: Global, raws: &[RawInsn]) -> Option<Vec<bool>> {
     let stack = stack_of(alloc, &[raws; 7]).ok()?;
-    met(alloc, &stack, &input_of(4000, 0, 0))
+    trace_of(alloc, &stack, &input_of(4000, 0, 0))
 }
 
 /// A path has room for seven of the longest programs.
 #[test]
 fn a_trace_has_the_tests_of_seven_of_the_longest_programs(rt: HostRuntime) -> Result<(), Fail> {
-    let raws = telling_apart(rt.alloc(), 4094)?;
-    let met = met_by_several(rt.alloc(), &raws).ok_or("no trace")?;
+    let raws = equality_tests(rt.alloc(), 4094)?;
+    let met = trace_of_seven(rt.alloc(), &raws).ok_or("no trace")?;
     assert_eq!(rt; met.len(), 28658);
     let cases = [
         ("the number's test", met.get(4000), Some(&true)),

@@ -50,7 +50,7 @@ fn constant_at(pool: &Pool, id: NodeId) -> Option<u32> {
 }
 
 /// The constant that an operation on two numbers becomes.
-fn folded(alloc: Global, op: BinOp, a: u32, b: u32) -> Option<u32> {
+fn fold_constants(alloc: Global, op: BinOp, a: u32, b: u32) -> Option<u32> {
     let mut pool = new_pool(alloc)?;
     let left = push(&mut pool, Node::Const(a))?;
     let right = push(&mut pool, Node::Const(b))?;
@@ -59,7 +59,7 @@ fn folded(alloc: Global, op: BinOp, a: u32, b: u32) -> Option<u32> {
 }
 
 /// The constant that minus a number becomes.
-fn negated(alloc: Global, number: u32) -> Option<u32> {
+fn negate_constant(alloc: Global, number: u32) -> Option<u32> {
     let mut pool = new_pool(alloc)?;
     let id = push(&mut pool, Node::Const(number))?;
     let minus = push(&mut pool, Node::Neg(id))?;
@@ -70,13 +70,17 @@ fn negated(alloc: Global, number: u32) -> Option<u32> {
 fn an_operation_on_constants_is_the_constant_of_its_value(rt: HostRuntime) {
     let alloc = rt.alloc();
     let cases = [
-        ("add", folded(alloc, BinOp::Add, 1, 2), Some(3)),
-        ("sub", folded(alloc, BinOp::Sub, 1, 2), Some(u32::MAX)),
-        ("div by 0", folded(alloc, BinOp::Div, 7, 0), Some(0)),
-        ("div", folded(alloc, BinOp::Div, 7, 2), Some(3)),
-        ("lsh", folded(alloc, BinOp::Lsh, 1, 40), Some(0x100)),
-        ("rsh", folded(alloc, BinOp::Rsh, 0x100, 40), Some(1)),
-        ("neg", negated(alloc, 1), Some(u32::MAX)),
+        ("add", fold_constants(alloc, BinOp::Add, 1, 2), Some(3)),
+        (
+            "sub",
+            fold_constants(alloc, BinOp::Sub, 1, 2),
+            Some(u32::MAX),
+        ),
+        ("div by 0", fold_constants(alloc, BinOp::Div, 7, 0), Some(0)),
+        ("div", fold_constants(alloc, BinOp::Div, 7, 2), Some(3)),
+        ("lsh", fold_constants(alloc, BinOp::Lsh, 1, 40), Some(0x100)),
+        ("rsh", fold_constants(alloc, BinOp::Rsh, 0x100, 40), Some(1)),
+        ("neg", negate_constant(alloc, 1), Some(u32::MAX)),
     ];
     assert_eq!(rt; wrong_case(&cases), None);
 }
@@ -106,7 +110,7 @@ fn push_constants(pool: &mut Pool, count: u32) -> Option<()> {
 }
 
 /// How many nodes there are once the constants below a number are pushed twice.
-fn pushed_twice(alloc: Global, count: u32) -> Option<usize> {
+fn push_twice(alloc: Global, count: u32) -> Option<usize> {
     let mut pool = new_pool(alloc)?;
     push_constants(&mut pool, count)?;
     push_constants(&mut pool, count)?;
@@ -115,7 +119,7 @@ fn pushed_twice(alloc: Global, count: u32) -> Option<usize> {
 
 #[test]
 fn constants_are_found_among_many(rt: HostRuntime) {
-    assert_eq!(rt; pushed_twice(rt.alloc(), 600), Some(616));
+    assert_eq!(rt; push_twice(rt.alloc(), 600), Some(616));
 }
 
 /// A copy of a pool.
@@ -125,7 +129,7 @@ fn fork(pool: &Pool) -> Option<Pool> {
 
 /// A pool has the constants below a number, and a fork of it gets one more. Gives the place of that one, and how many
 /// nodes the pool has then.
-fn grown_fork(alloc: Global, count: u32, further: u32) -> Option<(NodeId, usize)> {
+fn grow_fork(alloc: Global, count: u32, further: u32) -> Option<(NodeId, usize)> {
     let mut pool = new_pool(alloc)?;
     push_constants(&mut pool, count)?;
     let mut copy = fork(&pool)?;
@@ -139,12 +143,12 @@ fn a_fork_grows_alone(rt: HostRuntime) {
     let cases = [
         (
             "short",
-            grown_fork(alloc, 100, 1000),
+            grow_fork(alloc, 100, 1000),
             Some((NodeId(116), 116)),
         ),
         (
             "long",
-            grown_fork(alloc, 5000, 9000),
+            grow_fork(alloc, 5000, 9000),
             Some((NodeId(5016), 5016)),
         ),
     ];

@@ -89,7 +89,7 @@ pub fn push_filters(
 
 /// Writes the report of an audit by one worker to the page. The audits by two and by eight workers have to write the
 /// same.
-pub fn audited<R: Threads + Wait + Sync + AllocGlobal>(
+pub fn audit_files<R: Threads + Wait + Sync + AllocGlobal>(
     rt: &R,
     tally: &mut Tally,
     files: &[&[u8]],

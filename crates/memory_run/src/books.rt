@@ -13,7 +13,7 @@ pub const BUDGET: u32 = 1000;
 
 /// A book of the stack that took this many works, each that of its first piece. The first piece that is left is on
 /// lease.
-pub fn worked(alloc: Global, stack: &Arc<Stack>, commits: u32) -> Result<Book, Refused> {
+pub fn book_after(alloc: Global, stack: &Arc<Stack>, commits: u32) -> Result<Book, Refused> {
     let mut book = Book::open(alloc, Arc::try_clone(stack)?, BUDGET)?;
     for _ in 0..commits {
         let Some(Lease { id, piece }) = book.lease()? else {
@@ -46,7 +46,7 @@ pub fn are_same_pieces(left: &Piece, right: &Piece) -> bool {
     left.name().order(right.name()).is_eq()
         && are_same(left.pool(), right.pool())
         && have_same_conds(left, right)
-        && left.facts().equals(right.facts())
+        && left.facts().is_same(right.facts())
 }
 
 /// Leases all pieces that are free in both books. False where these aren't the same pieces under the same ids.
@@ -117,7 +117,7 @@ fn have_same_emptied(left: &Settled, right: &Settled) -> bool {
 }
 
 /// Whether two explorations ended in the same way.
-fn ended_alike(left: &Settled, right: &Settled) -> bool {
+fn end_alike(left: &Settled, right: &Settled) -> bool {
     left.stack().is_same(right.stack())
         && left.counts() == right.counts()
         && have_same_regions(left, right)
@@ -150,5 +150,5 @@ pub fn are_alike(
     }
     let left = one.finish(piece.stack())?;
     let right = other.finish(piece.stack())?;
-    Ok(ended_alike(&left, &right))
+    Ok(end_alike(&left, &right))
 }

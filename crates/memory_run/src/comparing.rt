@@ -30,7 +30,7 @@ fn tell<R: Threads + Wait + Sync + AllocGlobal>(
 
 /// Writes what a comparison by one worker finds, of the stack of these files with itself. Comparisons by two and by
 /// eight workers have to write the same bytes.
-pub fn compared<R: Threads + Wait + Sync + AllocGlobal>(
+pub fn compare_files<R: Threads + Wait + Sync + AllocGlobal>(
     rt: &R,
     tally: &mut Tally,
     files: &[&[u8]],

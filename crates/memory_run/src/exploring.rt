@@ -1,6 +1,6 @@
 //! Books, benches and sheets, and what becomes of them where an allocation is refused.
 
-use crate::books::{BUDGET, are_alike, are_same_pieces, worked};
+use crate::books::{BUDGET, are_alike, are_same_pieces, book_after};
 use crate::refused::{MEMORY, Refused, Tally};
 use crate::stacks::POLICY;
 use crate::trying::{grow_pools, try_facts};
@@ -45,7 +45,7 @@ fn commit(
             Ok(book)
         }
         Err(fault) => {
-            let twin = worked(alloc, piece.stack(), commits)?;
+            let twin = book_after(alloc, piece.stack(), commits)?;
             let is_as_before = are_alike(alloc, book, twin, id, piece)?;
             tally.expect(is_as_before);
             Err(fault.into())
@@ -73,7 +73,7 @@ fn work_off(alloc: Global, tally: &mut Tally, mut book: Book) -> Result<(Book, u
 }
 
 /// All regions of a stack. Adds the line of what the book counted and of what was tried.
-pub fn explored(
+pub fn settle_stack(
     alloc: Global,
     tally: &mut Tally,
     stack: &Arc<Stack>,
@@ -108,7 +108,7 @@ fn push_verdicts(text: &mut String, sheet: &Sheet) -> Result<(), AllocError> {
 
 /// Adds the line of the verdicts on each region, in the order of names: on all questions, and on only the second and
 /// the fourth.
-pub fn judged(alloc: Global, settled: &Settled, text: &mut String) -> Result<(), Refused> {
+pub fn write_verdicts(alloc: Global, settled: &Settled, text: &mut String) -> Result<(), Refused> {
     let questions = read_policy(alloc, POLICY)?;
     text.push_str("verdicts")?;
     for job in 0..settled.region_count() {

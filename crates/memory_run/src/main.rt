@@ -21,9 +21,9 @@ mod refused;
 mod stacks;
 mod trying;
 
-use crate::auditing::{Page, audited, refusals};
-use crate::comparing::compared;
-use crate::exploring::{bench_of, explored, judged};
+use crate::auditing::{Page, audit_files, refusals};
+use crate::comparing::compare_files;
+use crate::exploring::{bench_of, settle_stack, write_verdicts};
 use crate::failing::starve_all;
 use crate::filling::fill_bench;
 use crate::listing::listed;
@@ -58,10 +58,10 @@ fn calls_on<R: Threads + Wait + Sync + AllocGlobal>(
     let mut text = String::new(alloc);
     let stack = Arc::new(alloc, stack_in(alloc, files, &mut text)?)?;
     bench_of(alloc, tally, &stack)?;
-    let settled = explored(alloc, tally, &stack, &mut text)?;
-    judged(alloc, &settled, &mut text)?;
-    audited(rt, tally, files, page)?;
-    compared(rt, tally, files, page)?;
+    let settled = settle_stack(alloc, tally, &stack, &mut text)?;
+    write_verdicts(alloc, &settled, &mut text)?;
+    audit_files(rt, tally, files, page)?;
+    compare_files(rt, tally, files, page)?;
     listed(rt, tally, files, page)?;
     Ok(text)
 }

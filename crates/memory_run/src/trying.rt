@@ -75,11 +75,11 @@ fn learn(
     let before = facts.fork()?;
     match facts.learn(alloc, pool, cond) {
         Ok(taken) => {
-            tally.expect(taken || facts.equals(&before));
+            tally.expect(taken || facts.is_same(&before));
             Ok(taken)
         }
         Err(fault) => {
-            tally.refuse(fault.into(), facts.equals(&before));
+            tally.refuse(fault.into(), facts.is_same(&before));
             Ok(facts.learn(alloc, pool, cond)?)
         }
     }
@@ -125,11 +125,11 @@ fn confine(
     let before = facts.fork()?;
     match confine_once(alloc, facts, pool, limit) {
         Ok(taken) => {
-            tally.expect(taken || facts.equals(&before));
+            tally.expect(taken || facts.is_same(&before));
             Ok(taken)
         }
         Err(fault) => {
-            tally.refuse(fault.into(), facts.equals(&before));
+            tally.refuse(fault.into(), facts.is_same(&before));
             Ok(confine_once(alloc, facts, pool, limit)?)
         }
     }
@@ -144,11 +144,11 @@ fn grow(alloc: Global, tally: &mut Tally, piece: &Piece) -> Result<(), Refused> 
     let grown = match facts.grow(alloc, &pool) {
         Ok(grown) => grown,
         Err(fault) => {
-            tally.refuse(fault.into(), facts.equals(piece.facts()));
+            tally.refuse(fault.into(), facts.is_same(piece.facts()));
             facts.grow(alloc, &pool)?
         }
     };
-    tally.expect(grown && !facts.equals(piece.facts()));
+    tally.expect(grown && !facts.is_same(piece.facts()));
     Ok(())
 }
 

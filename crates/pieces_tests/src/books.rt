@@ -1,5 +1,5 @@
 //! Tests of books, whose pieces are worked one by one.
-use samples::{echo_stack, emptied_late, execve_stack, op, other_text, stack_of};
+use samples::{echo_stack, execve_stack, late_contradiction, op, other_text, stack_of};
 use sf_book::{Book, Counts, Fault, Settled};
 use sf_piece::{Name, Piece, Work, advance, root};
 use sf_run::{Action, Answer};
@@ -8,14 +8,14 @@ use std::sync::Arc;
 use std::test::Fail;
 
 /// Leases the first piece that isn't leased, and works it: the lease's id, and the work.
-fn worked(alloc: Global, book: &mut Book) -> Result<(u64, Work), Fail> {
+fn work_next(alloc: Global, book: &mut Book) -> Result<(u64, Work), Fail> {
     let lease = book.lease()?.ok_or("nothing to lease")?;
     Ok((lease.id, advance(alloc, &lease.piece)?))
 }
 
 /// Commits the work of the first piece that isn't leased, which splits it: the ids of its children.
 fn split_first(alloc: Global, book: &mut Book) -> Result<(u64, u64), Fail> {
-    let (id, work) = worked(alloc, book)?;
+    let (id, work) = work_next(alloc, book)?;
     let ids = book.commit(id, work)?.ok_or("no split")?;
     Ok(ids)
 }
@@ -62,7 +62,7 @@ fn a_work_under_the_id_of_another_piece_is_stale(rt: HostRuntime) -> Result<(), 
     let mut book = Book::open(alloc, execve_stack(alloc)?, 9)?;
     let (f, t) = split_first(alloc, &mut book)?;
     book.give_back(f);
-    let (id, work) = worked(alloc, &mut book)?;
+    let (id, work) = work_next(alloc, &mut book)?;
     assert_eq!(rt; id, f);
     assert_eq!(rt; book.commit(t, work).err(), Some(Fault::Stale));
     assert_eq!(rt; book.counts(), counts(2, 0, 0, 1, 1));
@@ -87,7 +87,7 @@ fn a_work_after_the_budget_is_spent(rt: HostRuntime) -> Result<(), Fail> {
     let mut book = Book::open(alloc, execve_stack(alloc)?, 1)?;
     let (f, t) = split_first(alloc, &mut book)?;
     book.give_back(t);
-    let (id, work) = worked(alloc, &mut book)?;
+    let (id, work) = work_next(alloc, &mut book)?;
     assert_eq!(rt; id, t);
     assert_eq!(rt; book.commit(id, work).err(), Some(Fault::Spent));
     assert_eq!(rt; book.counts(), counts(2, 0, 0, 1, 1));
@@ -103,7 +103,7 @@ fn a_child_given_back_is_leased_again(rt: HostRuntime) -> Result<(), Fail> {
     let (_f, t) = split_first(alloc, &mut book)?;
     assert!(rt; book.lease()?.is_none());
     book.give_back(t);
-    let (id, work) = worked(alloc, &mut book)?;
+    let (id, work) = work_next(alloc, &mut book)?;
     assert_eq!(rt; id, t);
     assert!(rt; is_named(alloc, work.piece().name(), &[true])?);
     assert!(rt; book.commit(id, work)?.is_some());
@@ -178,7 +178,7 @@ fn a_book_worked_off_has_its_regions_in_name_order(rt: HostRuntime) -> Result<()
 #[test]
 fn a_piece_without_a_member_leaves_its_name(rt: HostRuntime) -> Result<(), Fail> {
     let alloc = rt.alloc();
-    let stack = stack_of(alloc, &[&emptied_late()])?;
+    let stack = stack_of(alloc, &[&late_contradiction()])?;
     let mut book = Book::open(alloc, Arc::try_clone(&stack)?, 9)?;
     work_off(alloc, &mut book)?;
     let settled = book.finish(&stack)?;

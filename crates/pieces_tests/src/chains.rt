@@ -1,12 +1,12 @@
 //! Tests of filters that compare A with one number after the other, where A has only one number.
-use crate::regions::explored;
+use crate::regions::explore_stack;
 use samples::{op, raw, stack_of};
 use sf_insn::RawInsn;
 use std::alloc::Global;
 use std::test::Fail;
 
 /// The beginning of a filter: it loads this number.
-fn loading(alloc: Global, number: u32) -> Result<Vec<RawInsn>, Fail> {
+fn load_number(alloc: Global, number: u32) -> Result<Vec<RawInsn>, Fail> {
     let mut code = Vec::new(alloc);
     code.push(op(0x00, number))?;
     Ok(code)
@@ -26,7 +26,7 @@ fn names(alloc: Global, mut code: Vec<RawInsn>) -> Result<String, Fail> {
     code.push(op(0x06, 0))?;
     let stack = stack_of(alloc, &[&code])?;
     let mut text = String::new(alloc);
-    for (name, _answer) in &explored(alloc, &stack, 100)? {
+    for (name, _answer) in &explore_stack(alloc, &stack, 100)? {
         for entry in name {
             text.push(if *entry { 'T' } else { 'F' })?;
         }
@@ -47,7 +47,7 @@ fn a_number_stands_anywhere_in_a_chain(rt: HostRuntime) -> Result<(), Fail> {
         (22, "FFFFFFFFFFFF."),
         (0xFFFFFFFF, "FFFFFFFFFFFF."),
     ] {
-        let mut code = loading(alloc, number)?;
+        let mut code = load_number(alloc, number)?;
         ask(&mut code, 10, 22)?;
         assert_eq!(rt; names(alloc, code)?.as_str(), name);
     }
@@ -62,7 +62,7 @@ fn a_number_stands_in_a_chain_twice(rt: HostRuntime) -> Result<(), Fail> {
         (12, "FFTFFFFFFFFFFFFFFFFFF."),
         (25, "FFFFFFFFFFFFFFFFTFFFF."),
     ] {
-        let mut code = loading(alloc, number)?;
+        let mut code = load_number(alloc, number)?;
         ask(&mut code, 10, 20)?;
         ask(&mut code, 15, 16)?;
         ask(&mut code, 20, 30)?;
@@ -79,7 +79,7 @@ fn a_true_test_leads_past_others_of_its_chain(rt: HostRuntime) -> Result<(), Fai
         (17, "FFFFFFFFTFFFFFFFFFFF."),
         (40, "FFFFFFFFFFFFFFFFFFFF."),
     ] {
-        let mut code = loading(alloc, number)?;
+        let mut code = load_number(alloc, number)?;
         ask(&mut code, 10, 15)?;
         code.push(raw(0x15, 3, 0, 15))?;
         ask(&mut code, 15, 18)?;
@@ -98,7 +98,7 @@ fn a_false_test_leads_past_a_return(rt: HostRuntime) -> Result<(), Fail> {
         (25, "FFFFFFFFFFFFFFFFTFFFFFF."),
         (30, "FFFFFFFFFFT."),
     ] {
-        let mut code = loading(alloc, number)?;
+        let mut code = load_number(alloc, number)?;
         ask(&mut code, 10, 20)?;
         code.push(raw(0x15, 0, 1, 30))?;
         code.push(op(0x06, 1))?;
@@ -119,7 +119,7 @@ fn each_test_has_a_return_behind_it(rt: HostRuntime) -> Result<(), Fail> {
         (22, "FFFFFFFFFFFF."),
         (9, "FFFFFFFFFFFF."),
     ] {
-        let mut code = loading(alloc, number)?;
+        let mut code = load_number(alloc, number)?;
         for asked in 10..22 {
             code.push(raw(0x15, 0, 1, asked))?;
             code.push(op(0x06, asked))?;
@@ -138,7 +138,7 @@ fn a_chain_ends_in_the_midst_of_another(rt: HostRuntime) -> Result<(), Fail> {
         (5, "FFFFFFFFFFFF."),
         (14, "FFFFFTFFFFFF."),
     ] {
-        let mut code = loading(alloc, number)?;
+        let mut code = load_number(alloc, number)?;
         code.push(raw(0x15, 0, 9, 50))?;
         ask(&mut code, 1, 10)?;
         ask(&mut code, 10, 21)?;
@@ -155,7 +155,7 @@ fn another_test_stands_between_two_chains(rt: HostRuntime) -> Result<(), Fail> {
         (12, "FFTFFFFFFFFFFFFFFFFFFF."),
         (200, "FFFFFFFFFFTFFFFFFFFFFF."),
     ] {
-        let mut code = loading(alloc, number)?;
+        let mut code = load_number(alloc, number)?;
         ask(&mut code, 10, 20)?;
         code.push(raw(0x25, 0, 0, 100))?;
         ask(&mut code, 20, 31)?;
@@ -171,7 +171,7 @@ fn a_jump_stands_between_two_chains(rt: HostRuntime) -> Result<(), Fail> {
         (27, "FFFFFFFFFFFFFFFFFTFFFFF."),
         (12, "FFTFFFFFFFFFFFFFFFFFFFT."),
     ] {
-        let mut code = loading(alloc, number)?;
+        let mut code = load_number(alloc, number)?;
         ask(&mut code, 10, 20)?;
         code.push(op(0x05, 0))?;
         ask(&mut code, 20, 32)?;
@@ -190,7 +190,7 @@ fn chains_are_short(rt: HostRuntime) -> Result<(), Fail> {
         (15, "FFFTFF."),
         (17, "FFFFFT."),
     ] {
-        let mut code = loading(alloc, number)?;
+        let mut code = load_number(alloc, number)?;
         ask(&mut code, 10, 13)?;
         code.push(op(0x05, 0))?;
         ask(&mut code, 15, 18)?;

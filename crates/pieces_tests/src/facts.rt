@@ -4,7 +4,8 @@ ghost use Rattle.std.specs.Prelude.{length, IfOk, All};
 ghost use Rattle.sf_sym.specs.Pool.{IsCondBelow};
 
 use samples::{
-    any_bit, eight_divided, execve_refused, four_tests, low_bits, nested, stack_of, x32_refused,
+    any_bit, eight_divided, execve_refused, four_tests, low_bits, nested_tests, stack_of,
+    x32_refused,
 };
 use sf_check::Stack;
 use sf_dom::Facts;
@@ -29,7 +30,7 @@ fn conds_of(alloc: Global, piece: &Piece) -> Result<Vec<Cond>, Fail>
 fn carries_its_facts(alloc: Global, piece: &Piece) -> Result<bool, Fail> {
     let conds = conds_of(alloc, piece)?;
     match Facts::of(alloc, piece.pool(), conds.as_slice())? {
-        Some(afresh) => Ok(afresh.equals(piece.facts())),
+        Some(afresh) => Ok(afresh.is_same(piece.facts())),
         None => Ok(false),
     }
 }
@@ -62,7 +63,7 @@ fn carried_facts_are_those_built_afresh(rt: HostRuntime) -> Result<(), Fail> {
     assert_eq!(rt; strays(alloc, &both)?, 0);
     let divided = stack_of(alloc, &[&eight_divided()])?;
     assert_eq!(rt; strays(alloc, &divided)?, 0);
-    assert_eq!(rt; strays(alloc, &stack_of(alloc, &[&nested()])?)?, 0);
+    assert_eq!(rt; strays(alloc, &stack_of(alloc, &[&nested_tests()])?)?, 0);
     assert_eq!(rt; strays(alloc, &stack_of(alloc, &[&four_tests()])?)?, 0);
     assert_eq!(rt; strays(alloc, &stack_of(alloc, &[&low_bits(3)])?)?, 0);
     assert_eq!(rt; strays(alloc, &stack_of(alloc, &[&any_bit(5)])?)?, 0);

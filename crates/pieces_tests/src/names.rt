@@ -1,5 +1,5 @@
 //! Names with a long run of falses, and with more runs than two shared blocks hold.
-use samples::{ALLOW, op, stack_of, telling_apart};
+use samples::{ALLOW, equality_tests, op, stack_of};
 use sf_book::{Book, Settled};
 use sf_insn::RawInsn;
 use sf_piece::advance;
@@ -23,7 +23,7 @@ fn falling(alloc: Global) -> Result<Vec<RawInsn>, Fail> {
 }
 
 /// The regions of a filter.
-fn explored(alloc: Global, filter: &[RawInsn]) -> Result<Settled, Fail> {
+fn explore_stack(alloc: Global, filter: &[RawInsn]) -> Result<Settled, Fail> {
     let stack = stack_of(alloc, &[filter])?;
     let mut book = Book::open(alloc, Arc::try_clone(&stack)?, 1000)?;
     for _ in 0..1000 {
@@ -60,7 +60,7 @@ fn in_order(alloc: Global, settled: &Settled, length: usize) -> Result<u32, Fail
 #[test]
 fn names_with_a_long_run_are_in_order(rt: HostRuntime) -> Result<(), Fail> {
     let alloc = rt.alloc();
-    let settled = explored(alloc, &telling_apart(alloc, TESTS)?)?;
+    let settled = explore_stack(alloc, &equality_tests(alloc, TESTS)?)?;
     assert_eq!(rt; settled.region_count(), 71);
     assert_eq!(rt; in_order(alloc, &settled, 70)?, 70);
     Ok(())
@@ -69,7 +69,7 @@ fn names_with_a_long_run_are_in_order(rt: HostRuntime) -> Result<(), Fail> {
 #[test]
 fn names_with_many_runs_are_in_order(rt: HostRuntime) -> Result<(), Fail> {
     let alloc = rt.alloc();
-    let settled = explored(alloc, &falling(alloc)?)?;
+    let settled = explore_stack(alloc, &falling(alloc)?)?;
     assert_eq!(rt; settled.region_count(), 71);
     assert_eq!(rt; in_order(alloc, &settled, 70)?, 70);
     Ok(())

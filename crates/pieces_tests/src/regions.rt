@@ -1,6 +1,6 @@
 //! Tests of pieces and works of small stacks. What audits of such stacks find is tried by the command lines of
 //! `command_run`.
-use samples::{eight_divided, emptied_late, execve_refused, stack_of, x32_refused};
+use samples::{eight_divided, execve_refused, late_contradiction, stack_of, x32_refused};
 use sf_check::Stack;
 use sf_insn::Input;
 use sf_piece::{Piece, Step, advance, root};
@@ -11,7 +11,7 @@ use std::test::Fail;
 
 /// The whole names and the answers of the regions, in name order. It works piece after piece, the first name first,
 /// until none is left or `most` were worked. A work that doesn't settle has to give no name.
-pub(crate) fn explored(
+pub(crate) fn explore_stack(
     alloc: Global,
     stack: &Arc<Stack>,
     most: usize,
@@ -50,9 +50,9 @@ fn a_trace_is_the_name_of_one_region_with_the_answer(rt: HostRuntime) -> Result<
     let alloc = rt.alloc();
     let login = stack_of(alloc, &[&execve_refused(), &x32_refused()])?;
     let divided = stack_of(alloc, &[&eight_divided()])?;
-    let late = stack_of(alloc, &[&emptied_late()])?;
+    let late = stack_of(alloc, &[&late_contradiction()])?;
     for stack in [login, divided, late] {
-        let regions = explored(alloc, &stack, 1000)?;
+        let regions = explore_stack(alloc, &stack, 1000)?;
         for (nr, arch, arg) in [
             (59, 0xC000003E, 0),
             (60, 0xC000003E, 2),

@@ -39,7 +39,7 @@ pub fn eight_divided() -> [RawInsn; 5] {
 }
 
 /// Returns 1 shifted by 40, which shifts by 40 modulo 32, so by 8: `ld #1; ldx #40; lsh x; ret a`.
-pub fn shifted() -> [RawInsn; 4] {
+pub fn shift_filter() -> [RawInsn; 4] {
     [op(0x00, 1), op(0x01, 40), op(0x6c, 0), op(0x16, 0)]
 }
 
@@ -67,7 +67,7 @@ pub fn any_bit(bits: u32) -> [RawInsn; 4] {
 
 /// After the first test only one result of the second is possible: `ld [0]; jge 100 0 3; jge 50 1 0; ret 0; ret
 /// 0x7fff0000; ret 0x00050001`.
-pub fn nested() -> [RawInsn; 6] {
+pub fn nested_tests() -> [RawInsn; 6] {
     [
         op(0x20, 0),
         raw(0x35, 0, 3, 100),
@@ -94,7 +94,7 @@ pub fn four_tests() -> [RawInsn; 7] {
 
 /// One combination of results of its tests belongs to no input: a word that is not above 101, but at least 102. The `or
 /// #0` hides that at first: `ld [12]; jgt 101 0 0; or #0; jge 102 0 1; jgt 104 0 0; ret 0x80010000`.
-pub fn emptied_late() -> [RawInsn; 6] {
+pub fn late_contradiction() -> [RawInsn; 6] {
     [
         op(0x20, 12),
         raw(0x25, 0, 0, 101),

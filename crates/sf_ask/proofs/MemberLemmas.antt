@@ -23,7 +23,7 @@ no-member p f i c cover there none = record { none = λ d is. by d is (is_member
   where
     by : (d : Input) → IsInput d → (b : Bool) → is_member p d ≡ b → is_member p d ≡ false
     by d is false e = e
-    by d is true e = not-met (is_met p.pool d) p.conditions i c there 
+    by d is true e = not-met (is_met p.pool d) p.conditions i c there
         (false_from_ne_true _ (none d is (cover.agree d is e)))
 
 -- a member meets each condition

@@ -110,7 +110,7 @@ fn confine_word(
 }
 
 /// The facts, confined to the question; none where no input that agrees with them is in it.
-pub(crate) fn confined(
+pub(crate) fn facts_in(
     alloc: Global,
     facts: &Facts,
     pool: &Pool,

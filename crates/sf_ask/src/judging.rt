@@ -13,7 +13,7 @@ ghost use Rattle.sf_ask.specs.Verdicts.{IsRightVerdict, TellsTriedAt, IsDecisive
 ghost use Rattle.sf_ask.specs.Searches.{IsRightSearch, TellsTried};
 ghost use Rattle.sf_ask.specs.Trying.{IsLeastInput};
 
-use crate::confining::{confined, rules_out};
+use crate::confining::{facts_in, rules_out};
 use crate::fault::Fault;
 use crate::question::Question;
 use crate::verdict::Verdict;
@@ -94,7 +94,7 @@ fn try_least(alloc: Global, piece: &Piece, question: &Question) -> Result<Verdic
     ensures err { IfErr result (λ f. f ≡ Memory) }
 {
     let known = piece.facts();
-    let Some(facts) = confined(alloc, known, piece.pool(), question)? else {
+    let Some(facts) = facts_in(alloc, known, piece.pool(), question)? else {
         return Ok(Verdict::Clear);
     };
     let Some(input) = least_input(&facts) else {

@@ -121,7 +121,7 @@ impl Askers {
     }
 
     /// The questions that ask about this action, as bits.
-    pub(crate) fn about(&self, action: Action) -> &[u64; 4]
+    pub(crate) fn questions_about(&self, action: Action) -> &[u64; 4]
         ensures { result.now ≡ asked_about self.now action }
     {
         match action {
@@ -193,7 +193,7 @@ impl Probes {
     }
 
     /// The probes of the questions about one call whose number is in this range, both ends included.
-    pub(crate) fn by_calls(&self, low: u32, high: u32) -> &[Probe]
+    pub(crate) fn probes_of_calls(&self, low: u32, high: u32) -> &[Probe]
         requires { IsNonDecreasingBy (λ (p : AProbe). p.low) self.now.by_call.items }
         ensures all { (p : AProbe) → Contains self.now.by_call.items p → low ≤ p.low
             → p.low ≤ high → Contains result.now p }

@@ -26,7 +26,7 @@ fn probe_misses(facts: &Facts, _question: &Question, probe: &Probe) -> bool
 
 /// Whether the bit of the probe's question is set in `asked`, and the facts don't rule the question out at once. The
 /// probe is looked at first, since it rules out most questions; the few others are held against all words.
-fn is_left(facts: &Facts, questions: &[Question], asked: &[u64; 4], probe: &Probe) -> bool
+fn is_left_to_judge(facts: &Facts, questions: &[Question], asked: &[u64; 4], probe: &Probe) -> bool
     requires known { 16 ≤ length facts.now.known }
     requires questions { length questions.now ≤ 256 }
     requires probe { IsProbeIn questions.now probe.now }
@@ -59,14 +59,19 @@ fn mark_left(
     ensures kept { (q : ℕ) → has_bit left.new q ≡ false → has_bit left.old q ≡ false }
 {
     for probe in probes {
-        if is_left(facts, questions, asked, probe) {
+        if is_left_to_judge(facts, questions, asked, probe) {
             set_bit(left, probe.question);
         }
     }
 }
 
 /// Of the questions whose bit is set in `asked`, those that the facts don't rule out at once.
-fn left_of(facts: &Facts, questions: &[Question], probes: &Probes, asked: &[u64; 4]) -> [u64; 4]
+fn questions_left(
+    facts: &Facts,
+    questions: &[Question],
+    probes: &Probes,
+    asked: &[u64; 4],
+) -> [u64; 4]
     requires known { 16 ≤ length facts.now.known }
     requires questions { length questions.now ≤ 256 }
     requires probes { AreProbesOf questions.now probes.now }
@@ -76,7 +81,7 @@ fn left_of(facts: &Facts, questions: &[Question], probes: &Probes, asked: &[u64;
     let mut left = [0u64; 4];
     let others = probes.others.as_slice();
     mark_left(facts, questions, asked, others, &mut left);
-    let by_call = probes.by_calls(call.low, call.high);
+    let by_call = probes.probes_of_calls(call.low, call.high);
     mark_left(facts, questions, asked, by_call, &mut left);
     left
 }
@@ -96,10 +101,10 @@ pub fn questions_to_judge(
     ensures { AreClearBut settled.now questions.now job result }
 {
     let region = settled.region(job);
-    let asked = probes.askers.about(region.answer().action);
+    let asked = probes.askers.questions_about(region.answer().action);
     if has_none(asked) {
         return [0; 4];
     }
     let piece = region.piece();
-    left_of(piece.facts(), questions, probes, asked)
+    questions_left(piece.facts(), questions, probes, asked)
 }

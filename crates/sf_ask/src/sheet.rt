@@ -169,13 +169,13 @@ impl Sheet {
         ensures wanted { IfOk result (HasWanted wanted) }
         ensures err { IfErr result (λ f. f ≡ Memory) }
     {
-        Sheet::judging(alloc, settled, job, questions, &[u64::MAX; 4], wanted)
+        Sheet::judge(alloc, settled, job, questions, &[u64::MAX; 4], wanted)
     }
 
     /// The sheet that `of` makes, for a caller who has looked before which questions are to be judged. The caller's
     /// conditions: those of `of`, and the verdict is clear on each question that is not to be judged. `Memory` where an
     /// allocation is refused.
-    pub fn judging(
+    pub fn judge(
         alloc: Global,
         settled: &Settled,
         job: usize,

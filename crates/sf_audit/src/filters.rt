@@ -11,7 +11,7 @@ use sf_insn::decode;
 use std::alloc::Global;
 
 /// A fault of the bytes of a filter, with the filter's number, from 1.
-fn undecodable(filter: usize, fault: sf_insn::Fault) -> Fault
+fn fault_of_decoding(filter: usize, fault: sf_insn::Fault) -> Fault
     ensures { result ≡ decode_fault filter fault }
 {
     match fault {
@@ -23,7 +23,7 @@ fn undecodable(filter: usize, fault: sf_insn::Fault) -> Fault
 }
 
 /// A fault of the program of a filter, with the filter's number, from 1; or of the stack whose last filter it is.
-fn unlawful(filter: usize, fault: sf_check::Fault) -> Fault
+fn fault_of_checking(filter: usize, fault: sf_check::Fault) -> Fault
     ensures { result ≡ check_fault filter fault }
 {
     match fault {
@@ -58,8 +58,8 @@ fn program_of(alloc: Global, filter: usize, bytes: &[u8]) -> Result<Program, Fau
     ensures accepted { IfOk result (SpellsProgram bytes.now) }
     ensures refused { IfErr result (λ e. (e ≡ Fault.Memory) ⊎ IsRefusalOf filter bytes.now e) }
 {
-    let raws = decode(alloc, bytes).map_err(|fault| undecodable(filter, fault))?;
-    check(alloc, &raws).map_err(|fault| unlawful(filter, fault))
+    let raws = decode(alloc, bytes).map_err(|fault| fault_of_decoding(filter, fault))?;
+    check(alloc, &raws).map_err(|fault| fault_of_checking(filter, fault))
 }
 
 /// The programs that the filter files spell, in the same order.
@@ -94,5 +94,5 @@ pub fn stack_of(alloc: Global, filters: &[Vec<u8>]) -> Result<Stack, Fault>
         return Err(Fault::TooMany);
     }
     let programs = programs_of(alloc, filters)?;
-    Stack::of(programs).map_err(|fault| unlawful(filters.len(), fault))
+    Stack::of(programs).map_err(|fault| fault_of_checking(filters.len(), fault))
 }

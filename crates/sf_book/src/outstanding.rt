@@ -96,7 +96,7 @@ impl OutstandingPieces {
         ensures { slice_get (map (λ (e : OutstandingData). e.piece) self.now) i
             ≡ Some (arc_value result.now) }
     {
-        named_at(&self.by_id, i).piece()
+        key_at(&self.by_id, i).piece()
     }
 
     /// Leases out, of the pieces that aren't on lease, the one with the first name; `None` where all are on lease.
@@ -199,7 +199,7 @@ impl OutstandingPieces {
 }
 
 /// The piece at this place in the order of ids.
-fn named_at(by_id: &BTreeMap<u64, NameKey>, i: usize) -> &NameKey
+fn key_at(by_id: &BTreeMap<u64, NameKey>, i: usize) -> &NameKey
     requires { i < length (values by_id.now) }
     ensures { slice_get (values by_id.now) i ≡ Some result.now }
 {

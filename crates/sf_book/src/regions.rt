@@ -125,7 +125,7 @@ pub(crate) fn is_of(work: &Work, stack: &Arc<Stack>) -> bool
 }
 
 /// How the names of two regions compare.
-fn by_name(a: &Region, b: &Region) -> Ordering
+fn compare_names(a: &Region, b: &Region) -> Ordering
     ensures { result ≡ slice_cmp bool_cmp a.now.name b.now.name }
 {
     a.name().order(b.name())
@@ -136,5 +136,5 @@ pub(crate) fn put_in_order(regions: &mut Vec<Region>)
     ensures permutation { IsPermutation regions.old.items regions.new.items }
     ensures sorted { IsInNameOrder regions.new.items }
 {
-    regions.sort_unstable_by(|a, b| by_name(a, b));
+    regions.sort_unstable_by(|a, b| compare_names(a, b));
 }

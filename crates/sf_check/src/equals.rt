@@ -148,7 +148,7 @@ fn count_below(keys: &[u64], key: u64) -> usize
 
 /// The first place of a chain, from this one on, whose test asks for the number; where none does, the last place of the
 /// chain.
-fn searched(
+fn find_behind(
     insns: &[Insn],
     keys: &[u64],
     chains: &[u16],
@@ -216,7 +216,7 @@ impl EqualTests {
 
     /// Skips tests for other numbers in the chain of a place, by a look-up; none where the chain has only few places to
     /// go.
-    fn passed_in_chain(&self, insns: &[Insn], place: usize, number: u32) -> Passed
+    fn skip_in_chain(&self, insns: &[Insn], place: usize, number: u32) -> Passed
         requires tables { AreEqualTests insns.now self.now.keys.items self.now.chains.items
             self.now.steps.items self.now.lasts.items }
         requires inside { place < length insns.now }
@@ -231,7 +231,7 @@ impl EqualTests {
                 behind: place,
             };
         }
-        let behind = searched(insns, &self.keys, &self.chains, place, last, number);
+        let behind = find_behind(insns, &self.keys, &self.chains, place, last, number);
         Passed {
             count: self.steps_between(place, behind),
             behind,
@@ -240,7 +240,7 @@ impl EqualTests {
 
     /// Skips all tests for other numbers from a place on, each where the one before leads, whether or not they are in
     /// one chain.
-    pub(crate) fn behind_others(&self, insns: &[Insn], place: usize, number: u32) -> Passed
+    pub(crate) fn skip_others(&self, insns: &[Insn], place: usize, number: u32) -> Passed
         requires tables { AreEqualTests insns.now self.now.keys.items self.now.chains.items
             self.now.steps.items self.now.lasts.items }
         requires inside { place < length insns.now }
@@ -249,9 +249,9 @@ impl EqualTests {
         let Passed {
             mut count,
             mut behind,
-        } = self.passed_in_chain(insns, place, number);
+        } = self.skip_in_chain(insns, place, number);
         while let Some(next) = next_of_other(insns, behind, number) {
-            let more = self.passed_in_chain(insns, next, number);
+            let more = self.skip_in_chain(insns, next, number);
             count += 1 + more.count;
             behind = more.behind;
         }

@@ -19,7 +19,7 @@ use crate::files::Files;
 use crate::listing::{Limits, list};
 use crate::naming::read_all_names;
 use crate::options::{
-    asked_of, brief_of, budget_of, leaves_of, regions_of, text_of, traced_of, with_rows_of,
+    brief_of, budget_of, leaves_of, regions_of, relation_of, text_of, wants_trace, with_rows_of,
     workers_of,
 };
 use crate::telling::tell;
@@ -117,7 +117,7 @@ fn run_eval<F: Files, O: Write>(
     let digits = text_of(found, "input");
     let _input = input_of(digits)?;
     let names = names_of(alloc, found, files, notes)?;
-    let traced = traced_of(found);
+    let traced = wants_trace(found);
     let brief = brief_of(found);
     evaluate(
         alloc, digits, traced, brief, &names, paths, files, notes, out,
@@ -150,7 +150,7 @@ fn run_compare<R: Threads + Wait + Sync, F: Files, O: Write>(
     let terms = Terms {
         budget: budget_of(found),
         workers: workers_of(found),
-        asked: asked_of(found),
+        asked: relation_of(found),
         rows: with_rows_of(found),
         leaves: leaves_of(found),
     };

@@ -144,7 +144,7 @@ fn push_input(text: &mut String, input: &str) -> Result<(), AllocError> {
 }
 
 /// A policy's bytes without a byte order mark at their front, which belongs to no line.
-fn unmarked(policy: &[u8]) -> &[u8] {
+fn bytes_of_text(policy: &[u8]) -> &[u8] {
     match policy {
         [0xEF, 0xBB, 0xBF, rest @ ..] => rest,
         _ => policy,
@@ -159,7 +159,7 @@ fn push_policy(
     notes: &Notes,
 ) -> Result<(), AllocError> {
     write!(text, "policy {path:?}\n")?;
-    let bytes = unmarked(&notes.policy);
+    let bytes = bytes_of_text(&notes.policy);
     let hidden = notes.policy.len().saturating_sub(bytes.len());
     match (std::str::from_utf8(bytes), &notes.refusal) {
         (Ok(policy), Some(refusal)) => Page {
@@ -177,7 +177,7 @@ fn push_policy(
 }
 
 /// The lines that explain a fault: where it lies, and what its number means.
-fn told(
+fn fault_text(
     alloc: Global,
     found: &ArgMatches<'_>,
     fault: &Fault,
@@ -234,5 +234,5 @@ fn explanation(
     if !explains_of(found) {
         return None;
     }
-    told(alloc, found, fault, notes, reason).ok()
+    fault_text(alloc, found, fault, notes, reason).ok()
 }

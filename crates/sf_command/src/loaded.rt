@@ -35,7 +35,7 @@ fn word_after(word: Option<u8>, insn: &Insn) -> Option<u8>
 }
 
 /// How many instructions a run skips after this one. If this one is a test, `truth` is its result.
-fn skipped_after(insn: &Insn, truth: bool) -> usize
+fn skip_after(insn: &Insn, truth: bool) -> usize
     ensures { result ≡ skipped_after insn.now truth }
 {
     match insn {
@@ -86,7 +86,7 @@ pub fn words_at(
         if 0 < skips {
             skips -= 1;
         } else {
-            skips = skipped_after(insn, is_true_at(place, met));
+            skips = skip_after(insn, is_true_at(place, met));
             word = word_after(word, insn);
         }
     }

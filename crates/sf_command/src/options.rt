@@ -54,7 +54,7 @@ pub fn regions_of(found: &ArgMatches<'_>) -> bool
 }
 
 /// Whether an evaluation shows where its answer comes from.
-pub fn traced_of(found: &ArgMatches<'_>) -> bool
+pub fn wants_trace(found: &ArgMatches<'_>) -> bool
     ensures { IsSwitch (one_of (codes "trace") (rows_of (found_of found.now))) result }
 {
     is_on(found, "trace")
@@ -68,7 +68,7 @@ pub fn brief_of(found: &ArgMatches<'_>) -> bool
 }
 
 /// The relation that the exit status of a comparison is about: `Different` where `--same` is given, and else `Looser`.
-pub fn asked_of(found: &ArgMatches<'_>) -> Relation
+pub fn relation_of(found: &ArgMatches<'_>) -> Relation
     ensures { IsAskedRelation (one_of (codes "same") (rows_of (found_of found.now))) result }
 {
     if is_on(found, "same") {

@@ -243,7 +243,7 @@ fn push_filter(
 {
     let run = walk(alloc, program, input)?;
     let stands = !stood && run.value & 0xffff0000 == action;
-    let action_met = Action::named(run.value & 0xffff0000);
+    let action_met = Action::of_number(run.value & 0xffff0000);
     push_return(
         text,
         number,
@@ -258,7 +258,7 @@ fn push_filter(
 }
 
 /// Whether one of the two is true. For the prover: its contract is the step of a loop.
-fn either(one: bool, other: bool) -> bool
+fn is_any_true(one: bool, other: bool) -> bool
     ensures { result ≡ (one || other) }
 {
     one || other
@@ -281,7 +281,7 @@ fn push_filters(
         let number = programs.len() - i;
         let program = &programs[number - 1];
         let stands = push_filter(alloc, text, brief, number, program, input, action, stood)?;
-        stood = either(stood, stands);
+        stood = is_any_true(stood, stands);
     }
     Ok(())
 }

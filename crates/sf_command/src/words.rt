@@ -165,7 +165,7 @@ fn files<'a>(alloc: Global, name: &'a str, help: &'a str) -> Arg<'a>
 }
 
 /// `--same`: whether the exit status of a comparison is about `Different`, and not about `Looser`.
-fn same<'a>(alloc: Global) -> Arg<'a>
+fn same_switch<'a>(alloc: Global) -> Arg<'a>
     ensures rule { rule_of result ≡ switch_rule (codes "same") }
     ensures own { result.global ≡ false }
 {
@@ -242,7 +242,7 @@ fn compare<'a>(alloc: Global) -> Result<Command<'a>, AllocError>
         .arg(files(alloc, "new", "The filter files after the change"))?
         .arg(budget(alloc))?
         .arg(workers(alloc))?
-        .arg(same(alloc))?
+        .arg(same_switch(alloc))?
         .arg(rows(alloc))?
         .arg(leaves(alloc))?
         .arg(names(alloc))?

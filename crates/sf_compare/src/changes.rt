@@ -76,7 +76,7 @@ pub fn answers_of_regions(
 
 /// What is found of a relation in the region at a place: `Never` where no member is changed so, `Allowed` with a member
 /// that is, and else `Unsettled`. `Memory` where an allocation is refused.
-fn looked_at(
+fn look_at(
     alloc: Global,
     settled: &Settled,
     older: usize,
@@ -107,7 +107,12 @@ fn looked_at(
 
 /// What is found where no region is known to have a member that is changed so: `Unsettled` where a region is in doubt
 /// or a piece is outstanding, and else `Never`.
-fn without_example(settled: &Settled, older: usize, relation: Relation, doubt: bool) -> Change
+fn change_without_example(
+    settled: &Settled,
+    older: usize,
+    relation: Relation,
+    doubt: bool,
+) -> Change
     requires passed { doubt ≡ false → (r : ℕ) → r < length settled.now.regions
         → IsUnchangedAt settled.now older relation r }
     requires doubtful { doubt ≡ true → (r : ℕ) × IsDoubtfulAt settled.now older relation r }
@@ -145,11 +150,11 @@ pub fn find_change(
 {
     let mut doubt = false;
     for place in 0..answers.len() {
-        match looked_at(alloc, settled, older, relation, place, answers[place])? {
+        match look_at(alloc, settled, older, relation, place, answers[place])? {
             Change::Allowed(example) => return Ok(Change::Allowed(example)),
             Change::Unsettled => doubt = true,
             Change::Never => {}
         }
     }
-    Ok(without_example(settled, older, relation, doubt))
+    Ok(change_without_example(settled, older, relation, doubt))
 }

@@ -78,7 +78,7 @@ impl Comparison {
 }
 
 /// What is found of a relation. `Memory` where an allocation is refused.
-fn told_of(
+fn find_change_of(
     alloc: Global,
     settled: &Settled,
     older: usize,
@@ -125,15 +125,15 @@ fn compare_parts<R: Threads + Wait + Sync, G: Gate>(
     let stack = Arc::new(alloc, stack)?;
     let settled = explore(rt, alloc, stack, budget, workers, gate)?;
     let answers = answers_of(alloc, &settled, older)?;
-    let looser = told_of(alloc, &settled, older, answers.as_slice(), Relation::Looser)?;
-    let tighter = told_of(
+    let looser = find_change_of(alloc, &settled, older, answers.as_slice(), Relation::Looser)?;
+    let tighter = find_change_of(
         alloc,
         &settled,
         older,
         answers.as_slice(),
         Relation::Tighter,
     )?;
-    let different = told_of(
+    let different = find_change_of(
         alloc,
         &settled,
         older,

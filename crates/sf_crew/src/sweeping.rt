@@ -106,7 +106,7 @@ pub(crate) fn enter_job<G: Gate>(
 {
     let to_judge = questions_to_judge(settled, job, questions, probes);
     let wanted = look_at(board, seat, job, &to_judge);
-    let sheet = Sheet::judging(alloc, settled, job, questions, &to_judge, wanted)?;
+    let sheet = Sheet::judge(alloc, settled, job, questions, &to_judge, wanted)?;
     gate.pass(pass.0, pass.1);
     board.enter(seat, sheet);
     Ok(())
@@ -173,7 +173,11 @@ pub(crate) struct NumberedSeat {
 }
 
 /// The seats, numbered from 0.
-fn numbered(alloc: Global, board: &Board, mut seats: Vec<Seat>) -> Result<Vec<NumberedSeat>, Fault>
+fn number_seats(
+    alloc: Global,
+    board: &Board,
+    mut seats: Vec<Seat>,
+) -> Result<Vec<NumberedSeat>, Fault>
     requires { All (λ s. IsNewSeat board.now s) seats.items }
     ensures ok { IfOk result (λ v. (vec_len v ≡ vec_len seats)
         × All (λ p. IsNewSeat board.now p.seat) v.items) }
@@ -212,7 +216,7 @@ pub(crate) fn tally<R: Threads + Sync, G: Gate>(
         unreachable!()
     };
     let shared = &board;
-    let numbered_seats = numbered(alloc, shared, seats)?;
+    let numbered_seats = number_seats(alloc, shared, seats)?;
     let worked = thread::map_vec(
         rt,
         numbered_seats,

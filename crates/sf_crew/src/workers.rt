@@ -20,7 +20,7 @@ ghost use Rattle.sf_check.specs.Stacks.{IsPlain};
 use crate::benches::Owner;
 use crate::fault::Fault;
 use crate::gate::Gate;
-use exploring::{explore_alone, finished, work_off};
+use exploring::{explore_alone, finish_book, work_off};
 use hands::{Bench, Held, Made, NewBench, SharedBook, Thieves};
 use naming::{NamedLease, Naming};
 use setup::workers_of;
@@ -55,7 +55,7 @@ const LOOKS: usize = 400;
 
 /// The book, once its lock is got. The worker that has the book needs it for a moment only, while a thread that sleeps
 /// is woken late. So this one looks a while whether the lock is free, and only then waits.
-fn locked<'a, N: Naming, R: Wait>(
+fn lock_book<'a, N: Naming, R: Wait>(
     rt: &R,
     book: &'a Mutex<SharedBook<N>>,
 ) -> MutexGuard<'a, SharedBook<N>> {
@@ -96,7 +96,7 @@ impl<N: Naming> Worker<N> {
         if let Some(held) = self.others.steal() {
             return Ok(Some(held));
         }
-        locked(rt, book).lease()
+        lock_book(rt, book).lease()
     }
 
     /// The work of a piece with its children, made and seen by the gate.
@@ -138,11 +138,11 @@ impl<N: Naming> Worker<N> {
         let made = match self.make(alloc, gate, held.piece(), call) {
             Ok(made) => made,
             Err(fault) => {
-                locked(rt, book).give_back(held);
+                lock_book(rt, book).give_back(held);
                 return Err(fault);
             }
         };
-        let Some((f, t)) = locked(rt, book).hand_in(held, made)? else {
+        let Some((f, t)) = lock_book(rt, book).hand_in(held, made)? else {
             return Ok(());
         };
         self.put(rt, book, f);
@@ -156,7 +156,7 @@ impl<N: Naming> Worker<N> {
         ensures put { PutsOrNot (own_view self.old) held (own_view self.new) }
     {
         if let Err(held) = self.own.put(held) {
-            locked(rt, book).give_back(held);
+            lock_book(rt, book).give_back(held);
         }
     }
 
@@ -168,7 +168,7 @@ impl<N: Naming> Worker<N> {
             let Some(held) = self.own.take() else {
                 return;
             };
-            locked(rt, book).give_back(held);
+            lock_book(rt, book).give_back(held);
         }
         unreachable!()
     }
@@ -278,7 +278,7 @@ pub fn explore<R: Threads + Wait + Sync, G: Gate>(
     let mut book = run_all::<Brand, R, G>(rt, alloc, opened, workers, gate)?;
     book.recall();
     work_off(alloc, &mut book, gate, workers)?;
-    Ok(finished(book, &stack, budget))
+    Ok(finish_book(book, &stack, budget))
 }
 
 /// Runs a closure on a book that others share, while the lock is held. All that the closure may rely on is that the

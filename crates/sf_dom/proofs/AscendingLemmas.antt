@@ -45,8 +45,11 @@ pub rising-pushed : (xs : List ℕ) (n : ℕ) → AreAscending xs → ((k : ℕ)
     → AreAscending (xs ++ n ∷ [])
 rising-pushed xs n rising above i j le l =
     IsNonDecreasingBy-push (λ x. x) xs n (IsNonDecreasingBy-from_default (λ x. x) xs 0 rising)
-    (λ d some. omega (arith, above (length xs - 1) (omega (arith, some)),
-    get_or_default xs (length xs - 1) 0 d (omega (arith, some)))) i j 0 le l
+    (λ d some. omega (
+      arith,
+      above (length xs - 1) (omega (arith, some)),
+      get_or_default xs (length xs - 1) 0 d (omega (arith, some)),
+    )) i j 0 le l
 
 -- the numbers of a list with one more at its end
 pub pushed-numbers : (xs : List ℕ) (n m : ℕ) → Contains (xs ++ n ∷ []) m ↔ (Contains xs m ⊎ (m ≡ n))

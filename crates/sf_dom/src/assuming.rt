@@ -16,7 +16,7 @@ use crate::fault::Fault;
 use crate::guards::{Pair, at_least, common_bit, differs, equal, greater, no_common_bit};
 use crate::known::{Known, is_same};
 use crate::nodes::Nodes;
-use crate::propagation::{is_tight_at, propagate, reduced, tighten};
+use crate::propagation::{is_tight_at, propagate, reduce_node, tighten};
 use crate::telling::are_propagated_back;
 use sf_insn::{BinOp, Test};
 use sf_sym::{Cond, Node, NodeId, Pool, constant_of};
@@ -96,7 +96,7 @@ fn propagate_back(nodes: &mut Nodes, excluded: &Excluded, pool: &Pool, from: usi
         let node = pool.node_at(x);
         match backward(op, nodes.get(at), c, nodes.get(x)) {
             None => return true,
-            Some(gained) => match reduced(gained, node, excluded) {
+            Some(gained) => match reduce_node(gained, node, excluded) {
                 None => return false,
                 Some(next) => nodes.set(x, next),
             },
@@ -127,7 +127,7 @@ fn is_ruled_out_back(
             return false;
         };
         let node = pool.node_at(x);
-        match reduced(gained, node, excluded) {
+        match reduce_node(gained, node, excluded) {
             None => return true,
             Some(next) => left = next,
         }
@@ -193,7 +193,7 @@ fn assume_test(v: Known, w: Known, test: Test, sense: bool) -> Option<Pair>
 }
 
 /// What is left of a node where `more` is known of it; `None` where no input that agrees has such a number there.
-pub(crate) fn left_of(
+pub(crate) fn known_left(
     nodes: &Nodes,
     excluded: &Excluded,
     pool: &Pool,
@@ -208,7 +208,7 @@ pub(crate) fn left_of(
         (λ next. IsLeft nodes.now.known excluded.now pool.now at more next) }
 {
     let node = pool.node_at(at);
-    reduced(nodes.get(at).meet(more), node, excluded)
+    reduce_node(nodes.get(at).meet(more), node, excluded)
 }
 
 /// Adds `more` to what is known of a node. `false`: no input that agrees has such a number there.
@@ -227,7 +227,7 @@ fn meet_node(nodes: &mut Nodes, excluded: &Excluded, pool: &Pool, at: usize, mor
 {
     // For the prover: the pool is lawful.
     let _count = pool.len();
-    match left_of(nodes, excluded, pool, at, more) {
+    match known_left(nodes, excluded, pool, at, more) {
         None => false,
         Some(next) => {
             nodes.set(at, next);
@@ -238,7 +238,7 @@ fn meet_node(nodes: &mut Nodes, excluded: &Excluded, pool: &Pool, at: usize, mor
 
 /// What a condition leaves of its two nodes, each by itself; `None` where it leaves one no number. This is asked before
 /// facts are copied.
-pub(crate) fn left_alone(
+pub(crate) fn pair_left(
     nodes: &Nodes,
     excluded: &Excluded,
     pool: &Pool,
@@ -254,8 +254,8 @@ pub(crate) fn left_alone(
     let v = cond.node.0 as usize;
     let w = cond.other.0 as usize;
     let pair = assume_test(nodes.get(v), nodes.get(w), cond.test, cond.sense)?;
-    let node = left_of(nodes, excluded, pool, v, pair.node)?;
-    let other = left_of(nodes, excluded, pool, w, pair.other)?;
+    let node = known_left(nodes, excluded, pool, v, pair.node)?;
+    let other = known_left(nodes, excluded, pool, w, pair.other)?;
     Some(Pair { node, other })
 }
 

@@ -8,7 +8,7 @@ ghost use Rattle.sf_dom.specs.Facts.{KnowDecided};
 ghost use Rattle.sf_dom.specs.Propagation.{NoneAgreesOn, Holds, IsReady, IsRestricted, IsLearnt, AreBothExcluded, AreTightWords};
 
 use crate::assuming::{
-    assume_cond, changes_nothing, contradicts_back, exclude_both, left_alone, left_of,
+    assume_cond, changes_nothing, contradicts_back, exclude_both, known_left, pair_left,
 };
 use crate::exclusions::Excluded;
 use crate::fault::Fault;
@@ -54,7 +54,7 @@ fn with_told(
 ///
 /// Nodes are copied only where something that is known changes. To see that, the condition is first tried without a
 /// copy: on its two nodes, and on the bits that go back from them.
-pub(crate) fn assumed(
+pub(crate) fn learn_cond(
     alloc: Global,
     nodes: &Nodes,
     excluded: &Excluded,
@@ -72,7 +72,7 @@ pub(crate) fn assumed(
 {
     // For the prover: the pool is lawful.
     let _count = pool.len();
-    let Some(alone) = left_alone(nodes, excluded, pool, cond) else {
+    let Some(alone) = pair_left(nodes, excluded, pool, cond) else {
         return Ok(None);
     };
     if contradicts_back(nodes, excluded, pool, cond, alone) {
@@ -92,7 +92,7 @@ pub(crate) fn assumed(
 /// What is left of the nodes where `more` is known of a word; `None` where no input that agrees has such a number
 /// there. `Memory` where an allocation is refused. Nodes are copied only where something that is known of the word
 /// changes.
-pub(crate) fn restricted(
+pub(crate) fn restrict(
     alloc: Global,
     nodes: &Nodes,
     excluded: &Excluded,
@@ -113,7 +113,7 @@ pub(crate) fn restricted(
     // For the prover: the pool has all words.
     let count = pool.len();
     prove!(word < count);
-    let Some(left) = left_of(nodes, excluded, pool, word, more) else {
+    let Some(left) = known_left(nodes, excluded, pool, word, more) else {
         return Ok(None);
     };
     if is_same(left, nodes.get(word)) {

@@ -58,7 +58,7 @@ fn with_number(alloc: Global, numbers: &Option<Arc<Numbers>>, number: u32) -> Re
         ↔ (Contains (shared_numbers numbers.now) n ⊎ (n ≡ number))) }
 {
     match numbers {
-        Some(list) => list.with(alloc, number),
+        Some(list) => list.with_number(alloc, number),
         None => Numbers::of(alloc, number),
     }
 }
@@ -87,7 +87,7 @@ impl Exclusions {
     }
 
     /// The numbers with one more; `None` where it is among them already. `Memory` where an allocation is refused.
-    fn with(&self, alloc: Global, number: u32) -> Result<Option<Exclusions>, Fault>
+    fn with_number(&self, alloc: Global, number: u32) -> Result<Option<Exclusions>, Fault>
         ensures { IfOk result (λ o. MatchOption o
             (Contains self.now number)
             (λ e. (n : ℕ) → Contains e n ↔ (Contains self.now n ⊎ (n ≡ number)))) }
@@ -112,7 +112,7 @@ impl Exclusions {
     }
 
     /// Whether both have the same numbers.
-    pub(crate) fn has_same(&self, other: &Exclusions) -> bool
+    pub(crate) fn is_same(&self, other: &Exclusions) -> bool
         ensures { IsTrue result ↔ AreSameNumbers self.now other.now }
     {
         self.is_among(other) && other.is_among(self)
@@ -210,7 +210,7 @@ impl Excluded {
         ensures ok { IfOk result (λ _. AddsNumber self.old self.new word number) }
         ensures err { OnErr result (self.new ≡ self.old) }
     {
-        if let Some(list) = self.of_word(word).with(alloc, number)? {
+        if let Some(list) = self.of_word(word).with_number(alloc, number)? {
             let mut lists = no_exclusions();
             copy_all(self.lists(), &mut lists)?;
             lists[word] = list;
@@ -220,12 +220,12 @@ impl Excluded {
     }
 
     /// Whether each word has the same numbers in both.
-    pub(crate) fn has_same(&self, other: &Excluded) -> bool
+    pub(crate) fn is_same(&self, other: &Excluded) -> bool
         ensures { IsTrue result ↔ ((w : ℕ) → w < 16
             → AreSameNumbers (numbers_at self.now w) (numbers_at other.now w)) }
     {
         for w in 0..WORDS {
-            if !self.of_word(w).has_same(other.of_word(w)) {
+            if !self.of_word(w).is_same(other.of_word(w)) {
                 return false;
             }
         }

@@ -19,9 +19,9 @@ fn add(a: Known, b: Known) -> Known
     let fits = a.high <= u32::MAX - b.high;
     let wraps = a.low > u32::MAX - b.low;
     if fits {
-        Known::between(a.low.wrapping_add(b.low), a.high.wrapping_add(b.high))
+        Known::interval(a.low.wrapping_add(b.low), a.high.wrapping_add(b.high))
     } else if wraps {
-        Known::between(a.low.wrapping_add(b.low), a.high.wrapping_add(b.high))
+        Known::interval(a.low.wrapping_add(b.low), a.high.wrapping_add(b.high))
     } else {
         Known::top()
     }
@@ -35,9 +35,9 @@ fn sub(a: Known, b: Known) -> Known
         → IsForced result }
 {
     if a.low >= b.high {
-        Known::between(a.low.wrapping_sub(b.high), a.high.wrapping_sub(b.low))
+        Known::interval(a.low.wrapping_sub(b.high), a.high.wrapping_sub(b.low))
     } else if a.high < b.low {
-        Known::between(a.low.wrapping_sub(b.high), a.high.wrapping_sub(b.low))
+        Known::interval(a.low.wrapping_sub(b.high), a.high.wrapping_sub(b.low))
     } else {
         Known::top()
     }
@@ -48,7 +48,7 @@ fn mul(a: Known, b: Known) -> Known
     ensures { (x y : ℕ) → Admits a x → Admits b y → Admits result ((x * y) % 2 ^ 32) }
 {
     match a.high.checked_mul(b.high) {
-        Some(high) => Known::between(a.low.wrapping_mul(b.low), high),
+        Some(high) => Known::interval(a.low.wrapping_mul(b.low), high),
         None => Known::top(),
     }
 }
@@ -60,9 +60,9 @@ fn div(a: Known, b: Known) -> Known
         → Admits result (if y == 0 then 0 else x / y) }
 {
     if b.low >= 1 && b.high >= 1 {
-        Known::between(a.low / b.high, a.high / b.low)
+        Known::interval(a.low / b.high, a.high / b.low)
     } else {
-        Known::between(0, a.high)
+        Known::interval(0, a.high)
     }
 }
 
@@ -109,7 +109,7 @@ fn xor(a: Known, b: Known) -> Known
 }
 
 /// Moved to the left by `s` bits: the low bits are 0, and where the high end fits, the ends move along.
-fn shifted_left(a: Known, s: u32) -> Known
+fn shift_left_by(a: Known, s: u32) -> Known
     requires { s < 32 }
     ensures { (x : ℕ) → Admits a x → Admits result ((x * 2 ^ s) % 2 ^ 32) }
 {
@@ -133,7 +133,7 @@ fn shifted_left(a: Known, s: u32) -> Known
 }
 
 /// Moved to the right by `s` bits: the high bits are 0, and the ends move along.
-fn shifted_right(a: Known, s: u32) -> Known
+fn shift_right_by(a: Known, s: u32) -> Known
     requires { s < 32 }
     ensures { (x : ℕ) → Admits a x → Admits result (x / 2 ^ s) }
 {
@@ -151,7 +151,7 @@ fn shift_left(a: Known, b: Known) -> Known
         → Admits result ((x * 2 ^ (y % 32)) % 2 ^ 32) }
 {
     match b.decided() {
-        Some(bits) => shifted_left(a, bits % 32),
+        Some(bits) => shift_left_by(a, bits % 32),
         None => Known::top(),
     }
 }
@@ -162,8 +162,8 @@ fn shift_right(a: Known, b: Known) -> Known
     ensures { (x y : ℕ) → Admits a x → Admits b y → Admits result (x / 2 ^ (y % 32)) }
 {
     match b.decided() {
-        Some(bits) => shifted_right(a, bits % 32),
-        None => Known::between(0, a.high),
+        Some(bits) => shift_right_by(a, bits % 32),
+        None => Known::interval(0, a.high),
     }
 }
 
@@ -188,14 +188,14 @@ pub(crate) fn forward(op: BinOp, a: Known, b: Known) -> Known
 }
 
 /// What is known of the negation of a word.
-pub(crate) fn negated(a: Known) -> Known
+pub(crate) fn negate(a: Known) -> Known
     ensures admits { (x : ℕ) → Admits a x → Admits result ((2 ^ 32 - x) % 2 ^ 32) }
     ensures forced { IsConsistent a → IsDecided a → IsForced result }
 {
     if a.low >= 1 && a.high >= 1 {
-        Known::between(a.high.wrapping_neg(), a.low.wrapping_neg())
+        Known::interval(a.high.wrapping_neg(), a.low.wrapping_neg())
     } else if a.high == 0 {
-        Known::between(0, 0)
+        Known::interval(0, 0)
     } else {
         Known::top()
     }

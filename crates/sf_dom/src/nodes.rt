@@ -71,7 +71,7 @@ fn is_number(known: Known) -> bool
     ensures { IsTrue result → known ≡ known_of known.low known.low
         (4294967295 - known.low) known.low }
 {
-    known == Known::exact(known.low)
+    known == Known::of_number(known.low)
 }
 
 /// The slot at a place.
@@ -130,7 +130,7 @@ impl Nodes {
         ensures { result ≡ known_at self.now.known i }
     {
         match slot_of(&self.slots, i) {
-            Slot::Number(c) => Known::exact(c),
+            Slot::Number(c) => Known::of_number(c),
             Slot::Variable(rank) => self.variables[rank as usize].known,
         }
     }

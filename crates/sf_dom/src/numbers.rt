@@ -164,7 +164,7 @@ fn is_between_ends(list: &[u32], number: u32) -> bool
 }
 
 /// A list with one more number at a place. `Memory` where an allocation is refused.
-fn inserted(alloc: Global, list: &[u32], at: usize, number: u32) -> Result<Others, Fault>
+fn insert_number(alloc: Global, list: &[u32], at: usize, number: u32) -> Result<Others, Fault>
     requires { at ≤ length list.now }
     ensures { IfOk result (λ v. v.items ≡ insert list.now at number) }
 {
@@ -184,7 +184,7 @@ fn with_number(alloc: Global, list: &[u32], number: u32) -> Result<Others, Fault
 {
     match list.binary_search(&number) {
         Ok(_) => Ok(SmallVec::from_slice(alloc, list)?),
-        Err(at) => Ok(inserted(alloc, list, at, number)?),
+        Err(at) => Ok(insert_number(alloc, list, at, number)?),
     }
 }
 
@@ -209,7 +209,7 @@ impl Numbers {
     }
 
     /// These numbers and one more, which may be among them already. `Memory` where an allocation is refused.
-    pub(crate) fn with(&self, alloc: Global, number: u32) -> Result<Numbers, Fault>
+    pub(crate) fn with_number(&self, alloc: Global, number: u32) -> Result<Numbers, Fault>
         ensures { IfOk result (λ v. (n : ℕ) → Contains v n
             ↔ (Contains self.now n ⊎ (n ≡ number))) }
     {

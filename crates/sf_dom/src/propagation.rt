@@ -13,7 +13,7 @@ ghost use Rattle.sf_dom.specs.Reduction.{IsForced};
 use crate::exclusions::Excluded;
 use crate::fault::Fault;
 use crate::fitting::is_tight;
-use crate::forward::{forward, negated};
+use crate::forward::{forward, negate};
 use crate::known::{Known, reduce_known, reduce_word};
 use crate::nodes::{Nodes, WORDS};
 use sf_sym::{Node, NodeId, Pool};
@@ -21,7 +21,7 @@ use std::alloc::Global;
 use std::sync::Arc;
 
 /// What is known of a node, reduced; `None` where no number is left.
-pub(crate) fn reduced(known: Known, node: Node, excluded: &Excluded) -> Option<Known>
+pub(crate) fn reduce_node(known: Known, node: Node, excluded: &Excluded) -> Option<Known>
     requires word { (i : ℕ) → node ≡ Node.Word i → i < 16 }
     ensures { MatchOption result
         ((n : ℕ) → ¬ Leaves known (excluded_of excluded.now node) n)
@@ -46,10 +46,10 @@ pub(crate) fn transfer(nodes: &Nodes, node: Node) -> Known
         × (result.high ≡ c) }
 {
     match node {
-        Node::Const(c) => Known::exact(c),
+        Node::Const(c) => Known::of_number(c),
         Node::Word(_) => Known::top(),
         Node::Bin(op, a, b) => forward(op, nodes.get(a.0 as usize), nodes.get(b.0 as usize)),
-        Node::Neg(a) => negated(nodes.get(a.0 as usize)),
+        Node::Neg(a) => negate(nodes.get(a.0 as usize)),
     }
 }
 
@@ -88,7 +88,7 @@ pub(crate) fn tighten(nodes: &mut Nodes, excluded: &Excluded, pool: &Pool, at: N
     if is_tight(known, excluded.of_word(i as usize)) {
         return true;
     }
-    match reduced(known, Node::Word(i), excluded) {
+    match reduce_node(known, Node::Word(i), excluded) {
         None => false,
         Some(next) => {
             nodes.set(i as usize, next);
@@ -114,7 +114,7 @@ pub(crate) fn propagate(nodes: &mut Nodes, excluded: &Excluded, pool: &Pool) -> 
         let before = nodes.variable_known(rank);
         let node = pool.node_at(i);
         let known = before.meet(transfer(nodes, node));
-        match reduced(known, node, excluded) {
+        match reduce_node(known, node, excluded) {
             None => return false,
             Some(next) => nodes.set(i, next),
         }
@@ -139,7 +139,7 @@ pub(crate) fn append(nodes: &mut Nodes, excluded: &Excluded, pool: &Pool) -> Res
     for i in nodes.len()..pool.len() {
         let node = pool.node_at(i);
         let known = transfer(nodes, node);
-        match reduced(known, node, excluded) {
+        match reduce_node(known, node, excluded) {
             None => return Ok(false),
             Some(next) => nodes.push(next)?,
         }

@@ -21,7 +21,7 @@ use sf_insn::Test;
 use sf_sym::{Node, Pool};
 
 /// Whether a word equals a number, where its interval tells it.
-fn told_equal(known: Known, number: u32) -> Option<bool>
+fn tell_equal(known: Known, number: u32) -> Option<bool>
     ensures { MatchOption result (IsOpen Test.Equal known number)
         (λ b. (x : ℕ) → Admits known x → TestGives Test.Equal x number b) }
 {
@@ -35,7 +35,7 @@ fn told_equal(known: Known, number: u32) -> Option<bool>
 }
 
 /// Whether a word is greater than a number, where its interval tells it.
-fn told_greater(known: Known, number: u32) -> Option<bool>
+fn tell_greater(known: Known, number: u32) -> Option<bool>
     ensures { MatchOption result (IsOpen Test.Greater known number)
         (λ b. (x : ℕ) → Admits known x → TestGives Test.Greater x number b) }
 {
@@ -49,7 +49,7 @@ fn told_greater(known: Known, number: u32) -> Option<bool>
 }
 
 /// Whether a word is at least a number, where its interval tells it.
-fn told_at_least(known: Known, number: u32) -> Option<bool>
+fn tell_at_least(known: Known, number: u32) -> Option<bool>
     ensures { MatchOption result (IsOpen Test.GreaterOrEqual known number)
         (λ b. (x : ℕ) → Admits known x → TestGives Test.GreaterOrEqual x number b) }
 {
@@ -63,7 +63,7 @@ fn told_at_least(known: Known, number: u32) -> Option<bool>
 }
 
 /// Whether a word has a common bit with a number, where its known bits tell it.
-fn told_common(known: Known, number: u32) -> Option<bool>
+fn tell_common(known: Known, number: u32) -> Option<bool>
     ensures { MatchOption result (IsOpen Test.AnyBit known number)
         (λ b. (x : ℕ) → Admits known x → TestGives Test.AnyBit x number b) }
 {
@@ -82,15 +82,15 @@ impl Known {
     ///
     /// In facts, both ends of an interval of a word are numbers that are left for it. So to learn a result that they
     /// tell moves no end and adds no bit, and the other result leaves no number.
-    pub fn told(&self, test: Test, number: u32) -> Option<bool>
+    pub fn tell(&self, test: Test, number: u32) -> Option<bool>
         ensures { MatchOption result (IsOpen test self.now number)
             (λ b. (x : ℕ) → Admits self.now x → passes test x number ≡ b) }
     {
         match test {
-            Test::Equal => told_equal(*self, number),
-            Test::Greater => told_greater(*self, number),
-            Test::GreaterOrEqual => told_at_least(*self, number),
-            Test::AnyBit => told_common(*self, number),
+            Test::Equal => tell_equal(*self, number),
+            Test::Greater => tell_greater(*self, number),
+            Test::GreaterOrEqual => tell_at_least(*self, number),
+            Test::AnyBit => tell_common(*self, number),
         }
     }
 }
@@ -131,7 +131,7 @@ pub(crate) fn are_propagated_back(nodes: &Nodes, pool: &Pool, from: usize) -> bo
 
 /// Whether a node passes a test against a number on every input that agrees, where its own interval, known bits and
 /// excluded numbers tell it.
-fn told_at(
+fn tell_at(
     nodes: &Nodes,
     excluded: &Excluded,
     pool: &Pool,
@@ -146,7 +146,7 @@ fn told_at(
         (λ b. (d : Input) → IsInput d → AgreesWith nodes.now.known excluded.now pool.now d
         → TestGives test (value_of pool.now d at) number b) }
 {
-    if let Some(sense) = nodes.get(at).told(test, number) {
+    if let Some(sense) = nodes.get(at).tell(test, number) {
         return Some(sense);
     }
     match test {
@@ -163,7 +163,7 @@ fn told_at(
 
 /// The result of a test of a node against a number, where it is told: every input that agrees has it, the other result
 /// leaves the node no number, and this one changes nothing that is known.
-pub(crate) fn told_of(
+pub(crate) fn tell_node(
     nodes: &Nodes,
     excluded: &Excluded,
     pool: &Pool,
@@ -181,7 +181,7 @@ pub(crate) fn told_of(
     ensures none { IfNone result (IsOpenAt nodes.now.known excluded.now pool.now at test number
         ⊎ ¬ ((n : ℕ) → IsPropagatedBack n nodes.now.known pool.now at)) }
 {
-    let sense = told_at(nodes, excluded, pool, at, test, number)?;
+    let sense = tell_at(nodes, excluded, pool, at, test, number)?;
     if !are_propagated_back(nodes, pool, at) {
         return None;
     }

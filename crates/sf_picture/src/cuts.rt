@@ -120,7 +120,7 @@ fn push_cuts_of(cuts: &mut Vec<Cut>, axis: Axis, test: Test, number: u32) -> Res
 }
 
 /// The same test of the other operand, where the node is a sum or a difference with a constant.
-fn without_constant(pool: &Pool, tested: NumberTest) -> NumberTest
+fn drop_constant(pool: &Pool, tested: NumberTest) -> NumberTest
     requires { tested.node.0 < length pool.now }
     ensures node { result.node.0 < length pool.now }
     ensures same { IsWordOrConst (node_at pool.now tested.node.0) → result ≡ tested }
@@ -162,7 +162,7 @@ fn number_test(pool: &Pool, cond: &Cond) -> Option<NumberTest>
         number,
     };
     if cond.test == Test::Equal {
-        return Some(without_constant(pool, tested));
+        return Some(drop_constant(pool, tested));
     }
     Some(tested)
 }

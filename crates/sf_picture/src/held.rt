@@ -195,7 +195,7 @@ pub(crate) fn is_ruled_out(alloc: Global, one: &Held) -> Result<bool, Fault>
 
 /// The same region, confined to a span of an axis, or none where no member that is held has a number of it. `Memory` where a
 /// allocation is refused.
-fn confined(
+fn confine_held(
     alloc: Global,
     one: &Held,
     axis: Axis,
@@ -239,7 +239,7 @@ fn push_within(
         → All (IsFromSome held axis first last) inside.new.items) }
     ensures err { IfErr result (λ f. f ≡ Memory) }
 {
-    let Some(next) = confined(alloc, one, axis, first, last)? else {
+    let Some(next) = confine_held(alloc, one, axis, first, last)? else {
         return Ok(());
     };
     inside.push(next)?;

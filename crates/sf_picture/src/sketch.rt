@@ -37,7 +37,7 @@ impl Model for Sketch {
 }
 
 /// Whether two lists of labels are the same.
-fn same_labels(a: &[usize], b: &[usize]) -> bool
+fn are_same_labels(a: &[usize], b: &[usize]) -> bool
     ensures { IsTrue result ↔ (a.now ≡ b.now) }
 {
     if a.len() != b.len() {
@@ -52,7 +52,7 @@ fn same_labels(a: &[usize], b: &[usize]) -> bool
 }
 
 /// Whether two lists of runs are the same.
-fn same_runs(a: &[Run], b: &[Run]) -> bool
+fn are_same_runs(a: &[Run], b: &[Run]) -> bool
     ensures { IsTrue result ↔ (a.now ≡ b.now) }
 {
     if a.len() != b.len() {
@@ -102,7 +102,7 @@ impl Sketch {
             × (slice_index_or self.now.leaves i [] ≡ labels.now)) }
     {
         for (i, leaf) in self.leaves.iter().enumerate() {
-            if same_labels(leaf.numbers.as_slice(), labels) {
+            if are_same_labels(leaf.numbers.as_slice(), labels) {
                 return Some(i);
             }
         }
@@ -133,7 +133,7 @@ impl Sketch {
             × (fork_at self.now.forks i ≡ record { axis = axis; runs = runs.now })) }
     {
         for (i, fork) in self.forks.iter().enumerate() {
-            if fork.axis() == axis && same_runs(fork.runs(), runs) {
+            if fork.axis() == axis && are_same_runs(fork.runs(), runs) {
                 return Some(i);
             }
         }

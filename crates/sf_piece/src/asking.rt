@@ -38,7 +38,8 @@ fn number_against(run: &Run, other: Operand) -> Option<u32>
         Operand::Constant(number) => Some(number),
         Operand::X => {
             let number = run.facts.decided(&run.pool, run.machine.x)?;
-            run.facts.told(&run.pool, run.machine.x, Test::Equal, number)?;
+            run.facts
+                .tell(&run.pool, run.machine.x, Test::Equal, number)?;
             Some(number)
         }
     }
@@ -46,13 +47,13 @@ fn number_against(run: &Run, other: Operand) -> Option<u32>
 
 /// What the facts tell of a test of A: the truth value that it has on every member, where nothing can be learnt from
 /// it. None where the facts leave it open.
-fn foreseen(run: &Run, test: Test, other: Operand) -> Option<bool>
+fn foresee(run: &Run, test: Test, other: Operand) -> Option<bool>
     requires { IsLawfulPiece run.now }
     ensures value { IfSome result (λ b. PassesAlways run.now test other b) }
     ensures back { IfSome result (λ b. NothingGoesBack run.now run.now.machine.a) }
 {
     let number = number_against(run, other)?;
-    run.facts.told(&run.pool, run.machine.a, test, number)
+    run.facts.tell(&run.pool, run.machine.a, test, number)
 }
 
 /// An operation on A, whose result is put in A as a node. A division by X first asks whether X is 0, unless the name
@@ -76,7 +77,7 @@ pub(crate) fn alu(
             other: run.machine.zero,
             sense: true,
         };
-        if let Some(sense) = run.facts.told(&run.pool, cond.node, cond.test, 0) {
+        if let Some(sense) = run.facts.tell(&run.pool, cond.node, cond.test, 0) {
             take(run, insn, sense)?;
             return Ok(SmallStep::On);
         }
@@ -105,7 +106,7 @@ pub(crate) fn branch(
     requires is { (t : ℕ) × (f : ℕ) × (insn ≡ Insn.Branch test other t f) }
     ensures { IfOk result (IsSmallStep run.old run.new) }
 {
-    if let Some(sense) = foreseen(run, test, other) {
+    if let Some(sense) = foresee(run, test, other) {
         take(run, insn, sense)?;
         take_told(run)?;
         return Ok(SmallStep::On);
@@ -136,7 +137,7 @@ pub(crate) fn return_a(alloc: Global, run: &mut Run) -> Result<SmallStep, Fault>
         return Ok(SmallStep::On);
     }
     let number = 1 << (31 - taken as u32);
-    if let Some(sense) = foreseen(run, Test::AnyBit, Operand::Constant(number)) {
+    if let Some(sense) = foresee(run, Test::AnyBit, Operand::Constant(number)) {
         take(run, Insn::ReturnA, sense)?;
         return Ok(SmallStep::On);
     }

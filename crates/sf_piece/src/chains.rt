@@ -8,7 +8,7 @@ ghost use Rattle.sf_check.specs.declared.insn.Operand.{Operand as AnOperand};
 ghost use Rattle.sf_piece.specs.SymbolicRun.{IsLawfulPiece};
 ghost use Rattle.sf_piece.specs.Works.{HasAtHand, HasAdvanced, HasGoneOn, IsForeseen, IsFailing, AreFailing, behind_chain};
 
-use crate::deciding::skipped;
+use crate::deciding::skip_count;
 use crate::fault::Fault;
 use crate::run::Run;
 use sf_check::{Insn, Operand, Passed, Program};
@@ -34,7 +34,7 @@ pub(crate) fn take_test(
 {
     // For the prover: only clauses speak of it.
     let _insn = insn;
-    let next = skipped(on_true, on_false, sense);
+    let next = skip_count(on_true, on_false, sense);
     run.name.push(sense)?;
     run.machine.place = run.machine.place + 1 + next as usize;
     Ok(())
@@ -42,11 +42,11 @@ pub(crate) fn take_test(
 
 /// How many instructions an instruction skips, if it tests whether A equals a number and what is known of A tells that
 /// it doesn't. None for any other instruction.
-fn skipped_by_failing(insn: Insn, known: Known) -> Option<u8>
+fn failing_skips(insn: Insn, known: Known) -> Option<u8>
     ensures { IfSome result (λ n. IsFailing insn known n) }
 {
     let test = insn.equal_test()?;
-    match known.told(Test::Equal, test.number) {
+    match known.tell(Test::Equal, test.number) {
         Some(false) => Some(test.skips),
         _ => None,
     }
@@ -66,12 +66,12 @@ fn only_number(known: Known) -> Option<u32>
 /// How many tests in a row are told to fail from this place on, each where the one before leads, and the place behind
 /// them; each tests whether A equals a number. They are looked up where A has only one number. Where it may have more,
 /// the answer is no test: the caller looks at each instruction.
-fn behind_others(program: &Program, place: usize, known: Known) -> Passed
+fn skip_others(program: &Program, place: usize, known: Known) -> Passed
     requires { place < length program.now }
     ensures { AreFailing program.now known result.count place result.behind }
 {
     match only_number(known) {
-        Some(number) => program.behind_others(place, number),
+        Some(number) => program.skip_others(place, number),
         None => Passed {
             count: 0,
             behind: place,
@@ -96,8 +96,8 @@ fn failing_chain(run: &Run, known: Known) -> Passed
     let Passed {
         mut count,
         mut behind,
-    } = behind_others(program, first, known);
-    while let Some(skips) = skipped_by_failing(code[behind], known) {
+    } = skip_others(program, first, known);
+    while let Some(skips) = failing_skips(code[behind], known) {
         count += 1;
         behind += 1 + skips as usize;
     }
@@ -135,7 +135,7 @@ pub(crate) fn take_told(run: &mut Run) -> Result<(), Fault>
         let Operand::Constant(number) = other else {
             return Ok(());
         };
-        let Some(sense) = known.told(test, number) else {
+        let Some(sense) = known.tell(test, number) else {
             return Ok(());
         };
         take_test(run, insn, on_true, on_false, sense)?;

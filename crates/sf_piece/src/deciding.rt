@@ -35,14 +35,14 @@ pub(crate) enum SmallStep {
 }
 
 /// How many instructions a test skips.
-pub(crate) fn skipped(on_true: u8, on_false: u8, sense: bool) -> u8
+pub(crate) fn skip_count(on_true: u8, on_false: u8, sense: bool) -> u8
     ensures { result ≡ (if sense then on_true else on_false) }
 {
     if sense { on_true } else { on_false }
 }
 
 /// Where the machine stands after the truth value.
-fn after(run: &Run, insn: Insn, sense: bool) -> SymbolicMachine
+fn machine_after(run: &Run, insn: Insn, sense: bool) -> SymbolicMachine
     requires standing { HasAtHand run.now insn }
     requires asks { Asks run.now insn }
     ensures { AfterTruthValue run.now insn sense result }
@@ -50,7 +50,7 @@ fn after(run: &Run, insn: Insn, sense: bool) -> SymbolicMachine
     let m = run.machine;
     match insn {
         Insn::Branch(_, _, on_true, on_false) => {
-            let next = skipped(on_true, on_false, sense);
+            let next = skip_count(on_true, on_false, sense);
             SymbolicMachine {
                 place: m.place + 1 + next as usize,
                 ..m
@@ -63,7 +63,7 @@ fn after(run: &Run, insn: Insn, sense: bool) -> SymbolicMachine
         },
         _ => {
             if sense {
-                m.returned(0)
+                m.start_next(0)
             } else {
                 SymbolicMachine { taken: 1, ..m }
             }
@@ -82,7 +82,7 @@ pub(crate) fn take(run: &mut Run, insn: Insn, sense: bool) -> Result<(), Fault>
     if let Insn::Branch(_, _, on_true, on_false) = insn {
         return take_test(run, insn, on_true, on_false, sense);
     }
-    let to = after(run, insn, sense);
+    let to = machine_after(run, insn, sense);
     run.name.push(sense)?;
     run.machine = to;
     Ok(())
@@ -102,7 +102,7 @@ fn child(
     requires facts { AreChildFacts run.now cond false facts }
     ensures { IfOk result (λ c. IsChild run.now cond false (arc_value c)) }
 {
-    let to = after(run, insn, false);
+    let to = machine_after(run, insn, false);
     let mut conditions = run.conditions.fork()?;
     conditions.push(Cond {
         sense: false,
@@ -110,7 +110,7 @@ fn child(
     })?;
     let next = Run {
         stack: Arc::try_clone(&run.stack)?,
-        name: run.name.with(false)?,
+        name: run.name.with_truth(false)?,
         pool: run.pool.fork()?,
         conditions,
         machine: to,
@@ -128,7 +128,7 @@ fn become_child(run: &mut Run, insn: Insn, cond: Cond, facts: Facts) -> Result<(
     ensures child { IfOk result (λ _. IsChild run.old cond true run.new) }
     ensures lawful { IfOk result (λ _. IsLawfulPiece run.new) }
 {
-    let to = after(run, insn, true);
+    let to = machine_after(run, insn, true);
     run.name.push(true)?;
     run.conditions.push(Cond {
         sense: true,
@@ -140,14 +140,16 @@ fn become_child(run: &mut Run, insn: Insn, cond: Cond, facts: Facts) -> Result<(
 }
 
 /// The piece's facts, with what this truth value of the condition tells; none where that contradicts them.
-fn learnt(alloc: Global, run: &Run, cond: Cond, sense: bool) -> Result<Option<Facts>, Fault>
+fn child_facts(alloc: Global, run: &Run, cond: Cond, sense: bool) -> Result<Option<Facts>, Fault>
     requires lawful { IsLawfulPiece run.now }
     requires below { IsCondBelow (length run.now.pool) cond }
     requires plain { IsPlain run.now.stack → IsPlainCond run.now.pool cond }
     ensures { IfOk result (λ o. MatchOption o (IsNever run.now cond sense)
         (λ fs. AreChildFacts run.now cond sense fs)) }
 {
-    let learnt = run.facts.learnt(alloc, &run.pool, &Cond { sense, ..cond })?;
+    let learnt = run
+        .facts
+        .with_cond(alloc, &run.pool, &Cond { sense, ..cond })?;
     Ok(learnt)
 }
 
@@ -164,14 +166,14 @@ pub(crate) fn decide(
     requires query { IsQuery run.old insn cond }
     ensures { IfOk result (IsSmallStep run.old run.new) }
 {
-    let Some(on_false) = learnt(alloc, run, cond, false)? else {
-        let Some(_on_true) = learnt(alloc, run, cond, true)? else {
+    let Some(on_false) = child_facts(alloc, run, cond, false)? else {
+        let Some(_on_true) = child_facts(alloc, run, cond, true)? else {
             return Ok(SmallStep::Empty);
         };
         take(run, insn, true)?;
         return Ok(SmallStep::On);
     };
-    let Some(on_true) = learnt(alloc, run, cond, true)? else {
+    let Some(on_true) = child_facts(alloc, run, cond, true)? else {
         take(run, insn, false)?;
         return Ok(SmallStep::On);
     };

@@ -134,8 +134,8 @@ fn move_on(run: &mut Run, insn: Insn)
             let w = scratch(&m, k);
             go(run, insn, SymbolicMachine { x: w, ..to });
         }
-        Insn::StoreA(k) => go(run, insn, stored(&to, k, m.a)),
-        Insn::StoreX(k) => go(run, insn, stored(&to, k, m.x)),
+        Insn::StoreA(k) => go(run, insn, with_scratch(&to, k, m.a)),
+        Insn::StoreX(k) => go(run, insn, with_scratch(&to, k, m.x)),
         Insn::Tax => go(run, insn, SymbolicMachine { x: m.a, ..to }),
         Insn::Txa => go(run, insn, SymbolicMachine { a: m.x, ..to }),
         Insn::Jump(k) => {
@@ -150,7 +150,7 @@ fn move_on(run: &mut Run, insn: Insn)
 }
 
 /// The machine with a scratch word set.
-fn stored(m: &SymbolicMachine, k: u8, w: NodeId) -> SymbolicMachine
+fn with_scratch(m: &SymbolicMachine, k: u8, w: NodeId) -> SymbolicMachine
     requires { k < length m.now.scratch }
     ensures { result ≡ record m.now { scratch = slice_set m.now.scratch k (Some w) } }
 {
@@ -193,5 +193,5 @@ pub(crate) fn leave_program(run: &mut Run, insn: Insn, value: u32)
 {
     // For the prover: only clauses speak of it.
     let _insn = insn;
-    run.machine = run.machine.returned(value);
+    run.machine = run.machine.start_next(value);
 }

@@ -70,7 +70,7 @@ impl Name {
 
     /// The name with one truth value more. `AllocError` where an allocation is refused, or where 2^32 falses would stand
     /// in a run.
-    pub(crate) fn with(&self, value: bool) -> Result<Name, AllocError>
+    pub(crate) fn with_truth(&self, value: bool) -> Result<Name, AllocError>
         ensures { IfOk result (λ n. n ≡ self.now ++ value ∷ []) }
     {
         let mut longer = self.fork()?;

@@ -108,7 +108,7 @@ impl Run {
     }
 
     /// The name, and the answer of the programs that have returned.
-    pub(crate) fn ended(self) -> (Name, Answer)
+    pub(crate) fn into_parts(self) -> (Name, Answer)
         ensures name { result.0 ≡ self.name }
         ensures answer { result.1 ≡ self.machine.so_far }
     {

@@ -16,7 +16,7 @@ use std::alloc::Global;
 use toml::{Table, Value};
 
 /// A fault of a question, with the question's number, from 1.
-fn numbered(question: usize, fault: sf_ask::Fault) -> Fault
+fn fault_of_question(question: usize, fault: sf_ask::Fault) -> Fault
     ensures { result ≡ numbered_fault question fault }
 {
     match fault {
@@ -29,7 +29,7 @@ fn numbered(question: usize, fault: sf_ask::Fault) -> Fault
 }
 
 /// The fault of a question that has a number outside 32 bits: `Name` where its name is wrong too, and else `Range`.
-fn outside(number: usize, name: &str) -> Fault
+fn fault_outside(number: usize, name: &str) -> Fault
     ensures { result ≡ fault_outside number name.now }
 {
     if Question::is_name(name) {
@@ -52,12 +52,12 @@ fn question_of_parts(
         (ranges_and_masks entries.now) actions) }
 {
     let Some(words) = words_of(entries) else {
-        return Err(outside(number, name));
+        return Err(fault_outside(number, name));
     };
     let ranges = words.0;
     let masks = words.1;
     let question = Question::of_masked(alloc, name, ranges, masks, actions);
-    question.map_err(|fault| numbered(number, fault))
+    question.map_err(|fault| fault_of_question(number, fault))
 }
 
 /// The question of a table. `Key` where a key is unknown, the name is missing, or a value is of a wrong kind; then what

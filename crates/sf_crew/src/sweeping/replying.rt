@@ -17,7 +17,7 @@ use std::thread::Threads;
 
 /// The reply where no region is known to break the question: unsettled where a region is in doubt or a piece is
 /// outstanding, and else never. `_question` is there for the contract only.
-fn unbroken(settled: &Settled, _question: &Question, doubt: bool) -> Reply
+fn reply_without_hit(settled: &Settled, _question: &Question, doubt: bool) -> Reply
     requires unbroken { (r : ℕ) → r < length settled.now.regions
         → IsUnbroken settled.now _question.now doubt r }
     requires doubtful { doubt ≡ true → HasDoubt settled.now _question.now }
@@ -48,7 +48,7 @@ fn reply_in_turn(alloc: Global, settled: &Settled, question: &Question) -> Resul
             Verdict::Clear => {}
         }
     }
-    Ok(unbroken(settled, question, doubt))
+    Ok(reply_without_hit(settled, question, doubt))
 }
 
 /// The reply to one question. The region at its least place is judged again, for the example. If that gave no example,
@@ -68,7 +68,7 @@ fn reply_of(
     let question = &questions[q];
     let Some(place) = tally.least[q] else {
         let doubt = has_bit(&tally.doubts, q);
-        return Ok(unbroken(settled, question, doubt));
+        return Ok(reply_without_hit(settled, question, doubt));
     };
     if let Verdict::Hit(input) = judge(alloc, settled, place, question)? {
         return Ok(Reply::Allowed(input));

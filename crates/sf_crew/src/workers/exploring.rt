@@ -104,7 +104,7 @@ pub(crate) fn work_off<G: Gate>(
 
 /// The end of an exploration: closes a book of this stack and budget that was worked off. `_budget` is there for the
 /// contract only.
-pub(crate) fn finished(book: Book, stack: &Arc<Stack>, _budget: u32) -> Settled
+pub(crate) fn finish_book(book: Book, stack: &Arc<Stack>, _budget: u32) -> Settled
     requires end { IsExhausted book }
     requires stack { book.stack ≡ arc_value stack.now }
     requires budget { book.budget ≡ _budget }
@@ -134,5 +134,5 @@ pub(crate) fn explore_alone<G: Gate>(
 {
     let mut book = Book::open(alloc, Arc::try_clone(&stack)?, budget)?;
     work_off(alloc, &mut book, gate, 0)?;
-    Ok(finished(book, &stack, budget))
+    Ok(finish_book(book, &stack, budget))
 }

@@ -4,7 +4,7 @@ use Rattle.std.proofs.lemmas.List.{take_all}
 use Rattle.sf_ask.specs.Probing.{IsRuledOutIfAsked}
 use Rattle.sf_ask.proofs.BitLemmas.{set-here, unset-before}
 use Rattle.sf_ask.proofs.ProbeLemmas.{marked-more}
-use Rattle.sf_ask.proofs.probing.mark_left.Goals.{then-is_left, else-is_left}
+use Rattle.sf_ask.proofs.probing.mark_left.Goals.{then-is_left_to_judge, else-is_left_to_judge}
 use Rattle.sf_ask.proofs.probing.mark_left.Goals as goal
 
 pub loop-probe-preserved : goal.loop-probe-preserved
@@ -12,8 +12,8 @@ loop-probe-preserved c =
     let i = c.loop-probe.invariant in
     let before = c.loop-probe.left in
     let P = IsRuledOutIfAsked c.args.facts.now c.args.questions.now c.args.asked.now in
-    elim c.if-is_left.branch [
-      | then-is_left w ↦ rw w.left-is (
+    elim c.if-is_left_to_judge.branch [
+      | then-is_left_to_judge w ↦ rw w.left-is (
           let less = unset-before _ before w.set_bit.new.bits w.set_bit.ensures in
           record {
             marked = marked-more P before w.set_bit.new.bits c.args.probes.now c.loop-probe.probe-index _
@@ -21,9 +21,9 @@ loop-probe-preserved c =
                 (λ none. absurd (true≢false (sym (set-here _ before w.set_bit.new.bits w.set_bit.ensures) ∙ none)));
             kept = λ q none. i.kept q (less q none);
           })
-      | else-is_left w ↦ rw w.left-is (record {
+      | else-is_left_to_judge w ↦ rw w.left-is (record {
         marked = marked-more P before before c.args.probes.now c.loop-probe.probe-index _ c.loop-probe-test.true
-            (λ q none. none) i.marked (λ none. c.is_left.ensures w.if-is_left.false);
+            (λ q none. none) i.marked (λ none. c.is_left_to_judge.ensures w.if-is_left_to_judge.false);
         kept = i.kept;
       })
     ]

@@ -16,8 +16,8 @@ returns-clause-done g c = IfOk-weaker c.compare.result _ _ (λ s written. record
       c.get_strs-2.ensures refl);
   budget = c.budget_of.result;
   counted = c.budget_of.ensures;
-  asked = c.asked_of.result;
-  switched = c.asked_of.ensures;
+  asked = c.relation_of.result;
+  switched = c.relation_of.ensures;
   with_rows = c.with_rows_of.result;
   listed = c.with_rows_of.ensures;
   names = c.in_ok-names.names.items;

@@ -11,8 +11,8 @@ returns-clause-done g c = record {
   paths = c.unwrap_or-paths.result.now;
   named = rw c.unwrap_or-paths.ensures (paths_found (found_of c.args.found.now) (codes "filters") c.get_strs.result _
       c.get_strs.ensures refl);
-  traced = c.traced_of-traced.result;
-  in_full = c.traced_of-traced.ensures;
+  traced = c.wants_trace-traced.result;
+  in_full = c.wants_trace-traced.ensures;
   brief = c.brief_of-brief.result;
   in_brief = c.brief_of-brief.ensures;
   names = c.in_ok-names.names.items;

@@ -11,6 +11,6 @@ loop-place-preserved c =
       | else-skips-gt0 w ↦
           let none : c.loop-place.skips ≡ 0 = omega (arith, w.if-skips-gt0.false) in
           rw (w.skips-is, w.word-is) (word_taken _ _ _ c.loop-place.place _ _ _ _ c.args.code.now _ _ _
-          c.loop-place-test.true none c.in_ok-push.ensures.items w.is_true_at.ensures w.skipped_after-skips.ensures
+          c.loop-place-test.true none c.in_ok-push.ensures.items w.is_true_at.ensures w.skip_after-skips.ensures
           w.word_after-word.ensures c.loop-place.invariant)
     ]

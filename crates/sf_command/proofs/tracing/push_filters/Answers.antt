@@ -12,5 +12,5 @@ loop-i-preserved c =
     let at = program_at programs n _ _ c.index-programs-number.is (omega (arith, c.loop-i-test.true))
     (omega (arith, c.loop-i-test.true)) in
     let (w, ran, stands, pushed) = c.in_ok-stands.ensures in
-    rw c.either-stood.ensures (one_more_filter _ n _ _ _ programs _ _ w _ _ _ at ran stands
+    rw c.is_any_true-stood.ensures (one_more_filter _ n _ _ _ programs _ _ w _ _ _ at ran stands
     (rw number at pushed) (rw one_less at c.loop-i.invariant))

@@ -15,7 +15,8 @@ returns c =
     ∙ ap₂ with_rule with_files_2 c.budget.ensures.rule in
     let with_workers = c.in_ok-arg-4.ensures.shape c.workers.ensures.own
     ∙ ap₂ with_rule with_budget c.workers.ensures.rule in
-    let with_same = c.in_ok-arg-5.ensures.shape c.same.ensures.own ∙ ap₂ with_rule with_workers c.same.ensures.rule in
+    let with_same = c.in_ok-arg-5.ensures.shape c.same_switch.ensures.own
+    ∙ ap₂ with_rule with_workers c.same_switch.ensures.rule in
     let with_rows = c.in_ok-arg-6.ensures.shape c.rows.ensures.own ∙ ap₂ with_rule with_same c.rows.ensures.rule in
     let with_leaves = c.in_ok-arg-7.ensures.shape c.leaves.ensures.own
     ∙ ap₂ with_rule with_rows c.leaves.ensures.rule in

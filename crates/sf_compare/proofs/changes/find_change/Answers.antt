@@ -27,6 +27,6 @@ loop-place-preserved c =
       }))
     ]
 
-pub without_example-requires-clause-passed : goal.without_example-requires-clause-passed
-without_example-requires-clause-passed c = λ certain r lt.
+pub change_without_example-requires-clause-passed : goal.change_without_example-requires-clause-passed
+change_without_example-requires-clause-passed c = λ certain r lt.
     c.loop-place.invariant.passed certain r (omega (arith, c.requires.count))

@@ -17,8 +17,8 @@ loop-op-init c = record {
   carries = λ last same narrower more. more;
 }
 
-pub returns-in-None-reduced-clause-kept : goal.returns-in-None-reduced-clause-kept
-returns-in-None-reduced-clause-kept c = λ d p a.
+pub returns-in-None-reduce_node-clause-kept : goal.returns-in-None-reduce_node-clause-kept
+returns-in-None-reduce_node-clause-kept c = λ d p a.
     let ks = c.loop-op.nodes.known in
     let ns = c.args.pool.now in
     let ex = c.args.excluded.now in
@@ -31,7 +31,7 @@ returns-in-None-reduced-clause-kept c = λ d p a.
     let left = walked ks ex ns d c.loop-op.at o.x o.c o.op (known_at ks c.loop-op.at) c.in-Some-backward.gained
     (omega (arith, o.ensures.smaller)) agrees (o.ensures.value d p c.in-Some-backward.ensures.swappable) bits
     (agrees c.loop-op.at (omega arith)).admitted in
-    rw c.node_at-node.ensures.node at c.in-None-reduced.ensures (value_of ns d o.x) left
+    rw c.node_at-node.ensures.node at c.in-None-reduce_node.ensures (value_of ns d o.x) left
 
 pub loop-op-preserved : goal.loop-op-preserved
 loop-op-preserved c =
@@ -42,8 +42,8 @@ loop-op-preserved c =
     let inv = c.loop-op.invariant in
     let within = inv.within in
     let count = inv.ready.count in
-    let next = c.in-Some-reduced.next in
-    let t = rw c.node_at-node.ensures.node at c.in-Some-reduced.ensures in
+    let next = c.in-Some-reduce_node.next in
+    let t = rw c.node_at-node.ensures.node at c.in-Some-reduce_node.ensures in
     let bits = rw (c.get.ensures, c.get-in-Some.ensures) at c.in-Some-backward.ensures.bits in
     let gained = rw c.get-in-Some.ensures at c.in-Some-backward.ensures.narrower in
     let narrower = IsNarrower-trans (known_at ks o.x) c.in-Some-backward.gained next gained t.narrower in

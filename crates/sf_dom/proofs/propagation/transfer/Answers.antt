@@ -4,7 +4,7 @@ use Rattle.sf_dom.specs.FactsLaws.{constant-admits}
 use Rattle.sf_dom.proofs.propagation.transfer.Goals as goal
 
 pub returns-in-Const-clause-value : goal.returns-in-Const-clause-value
-returns-in-Const-clause-value c = λ d older p h. rw (c.in-Const.is, c.exact.ensures)
+returns-in-Const-clause-value c = λ d older p h. rw (c.in-Const.is, c.of_number.ensures)
     (constant-admits c.in-Const.c (rw c.in-Const.is at c.requires))
 
 pub returns-in-Word-clause-value : goal.returns-in-Word-clause-value

@@ -9,14 +9,14 @@ returns-in_default c = rw (← c.run.view_is) (over_none _ (rw (← c.run.view_i
 
 pub loop-skips-init : goal.loop-skips-init
 loop-skips-init c =
-    let passed = c.behind_others-count.result in
+    let passed = c.skip_others-count.result in
     record {
       gone = rw (← c.run.view_is) (over_failing _ c.in-Some.program.now c.args.known passed.count passed.behind
           (rw (← c.run.view_is) at c.requires.lawful) (rw (← c.run.view_is) at c.in-Some.ensures)
-          (rw (← c.run.view_is) at c.requires.known) c.behind_others-count.ensures);
+          (rw (← c.run.view_is) at c.requires.known) c.skip_others-count.ensures);
       few = omega (
         arith,
-        few_failing c.in-Some.program.now c.args.known passed.count _ passed.behind c.behind_others-count.ensures,
+        few_failing c.in-Some.program.now c.args.known passed.count _ passed.behind c.skip_others-count.ensures,
       );
     }
 
@@ -38,7 +38,7 @@ loop-skips-preserved c =
     c.in-Some.ensures in
     record {
       gone = over_one_more c.args.run.now c.insns-code.result.now c.args.known c.loop-skips.count c.loop-skips.behind
-          c.in-Some-skipped_by_failing.skips _ at c.requires.known c.loop-skips.invariant.gone
-          c.in-Some-skipped_by_failing.ensures (omega arith);
+          c.in-Some-failing_skips.skips _ at c.requires.known c.loop-skips.invariant.gone
+          c.in-Some-failing_skips.ensures (omega arith);
       few = omega (arith, c.loop-skips.invariant.few);
     }

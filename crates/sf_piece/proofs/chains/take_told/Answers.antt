@@ -20,9 +20,9 @@ take_test-requires-clause-foreseen c =
     let inv = c.loop-insn.invariant in
     let to = c.in-Branch in
     let number = c.in-Constant in
-    rw to.is at (branch_foreseen p c.in-Some.insn to.test to.other to.on_true to.on_false c.in-Some-told.sense to.is
-    c.in-Some.ensures (told_of_known p to.test to.other number.number c.known-known.result c.in-Some-told.sense
-    inv.gone.lawful.run number.is inv.known c.in-Some-told.ensures))
+    rw to.is at (branch_foreseen p c.in-Some.insn to.test to.other to.on_true to.on_false c.in-Some-tell.sense to.is
+    c.in-Some.ensures (told_of_known p to.test to.other number.number c.known-known.result c.in-Some-tell.sense
+    inv.gone.lawful.run number.is inv.known c.in-Some-tell.ensures))
 
 pub take_failing-requires-in-Some-clause-known : goal.take_failing-requires-in-Some-clause-known
 take_failing-requires-in-Some-clause-known c =

@@ -8,10 +8,10 @@ returns c =
     let standing = rw (← c.run.view_is) at c.requires.standing in
     let query = rw (← c.run.view_is) at c.requires.query in
     let facts = rw (← c.run.view_is) at c.requires.facts in
-    let after = rw (← c.run.view_is) at c.after-to.ensures in
+    let after = rw (← c.run.view_is) at c.machine_after-to.ensures in
     rw (← c.run.view_is, c.in_ok-push.ensures.ok, c.in_ok-push-2.ensures.ok) (record {
-      child = right_child _ c.args.insn c.args.cond true c.after-to.result c.args.facts lawful standing
+      child = right_child _ c.args.insn c.args.cond true c.machine_after-to.result c.args.facts lawful standing
           query facts after;
-      lawful = lawful_child _ c.args.insn c.args.cond true c.after-to.result c.args.facts lawful standing
+      lawful = lawful_child _ c.args.insn c.args.cond true c.machine_after-to.result c.args.facts lawful standing
           query facts after;
     })

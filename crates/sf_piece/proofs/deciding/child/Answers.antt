@@ -6,15 +6,15 @@ pub invariant_of-new : goal.invariant_of-new
 invariant_of-new c =
     rw (
       c.in_ok-try_clone.ensures,
-      c.in_ok-with.ensures,
+      c.in_ok-with_truth.ensures,
       c.in_ok-fork.ensures,
       c.in_ok-push.ensures.ok,
       c.in_ok-conditions.ensures,
     )
-    (lawful_child _ c.args.insn c.args.cond false c.after-to.result c.args.facts
+    (lawful_child _ c.args.insn c.args.cond false c.machine_after-to.result c.args.facts
     (rw (← c.run.view_is) at c.requires.lawful) (rw (← c.run.view_is) at c.requires.standing)
     (rw (← c.run.view_is) at c.requires.query) (rw (← c.run.view_is) at c.requires.facts)
-    (rw (← c.run.view_is) at c.after-to.ensures))
+    (rw (← c.run.view_is) at c.machine_after-to.ensures))
 
 pub returns : goal.returns
 returns c =
@@ -22,12 +22,12 @@ returns c =
       c.in_ok-new.ensures.ok,
       ← c.run.view_is,
       c.in_ok-try_clone.ensures,
-      c.in_ok-with.ensures,
+      c.in_ok-with_truth.ensures,
       c.in_ok-fork.ensures,
       c.in_ok-push.ensures.ok,
       c.in_ok-conditions.ensures,
     )
-    (right_child _ c.args.insn c.args.cond false c.after-to.result c.args.facts
+    (right_child _ c.args.insn c.args.cond false c.machine_after-to.result c.args.facts
     (rw (← c.run.view_is) at c.requires.lawful) (rw (← c.run.view_is) at c.requires.standing)
     (rw (← c.run.view_is) at c.requires.query) (rw (← c.run.view_is) at c.requires.facts)
-    (rw (← c.run.view_is) at c.after-to.ensures))
+    (rw (← c.run.view_is) at c.machine_after-to.ensures))

@@ -7,8 +7,8 @@ returns c =
     let lawful = rw (← c.run.view_is) at c.requires.lawful in
     let standing = rw (← c.run.view_is) at c.requires.standing in
     let foreseen = rw (← c.run.view_is) at c.requires.foreseen in
-    let after = rw (← c.run.view_is) at c.after-to.ensures in
+    let after = rw (← c.run.view_is) at c.machine_after-to.ensures in
     rw (← c.run.view_is, c.in_ok-push.ensures.ok) (record {
-      gone = take_gone _ c.args.insn c.args.sense c.after-to.result lawful.run standing foreseen after;
-      lawful = lawful_taken _ c.args.insn c.args.sense c.after-to.result lawful standing foreseen after;
+      gone = take_gone _ c.args.insn c.args.sense c.machine_after-to.result lawful.run standing foreseen after;
+      lawful = lawful_taken _ c.args.insn c.args.sense c.machine_after-to.result lawful standing foreseen after;
     })

@@ -26,12 +26,12 @@ go-requires-in-LoadXScratch-clause-goes c =
 pub go-requires-in-StoreA-clause-goes : goal.go-requires-in-StoreA-clause-goes
 go-requires-in-StoreA-clause-goes c =
     let s = rw (← c.run.view_is) at c.requires.standing in
-    rw (← c.run.view_is, c.stored.ensures) (store_goes _ c.in-StoreA.k s.nodes)
+    rw (← c.run.view_is, c.with_scratch.ensures) (store_goes _ c.in-StoreA.k s.nodes)
 
 pub go-requires-in-StoreX-clause-goes : goal.go-requires-in-StoreX-clause-goes
 go-requires-in-StoreX-clause-goes c =
     let s = rw (← c.run.view_is) at c.requires.standing in
-    rw (← c.run.view_is, c.stored-in-StoreX.ensures) (store_x_goes _ c.in-StoreX.k s.nodes)
+    rw (← c.run.view_is, c.with_scratch-in-StoreX.ensures) (store_x_goes _ c.in-StoreX.k s.nodes)
 
 pub go-requires-in-Tax-clause-goes : goal.go-requires-in-Tax-clause-goes
 go-requires-in-Tax-clause-goes c =
@@ -48,12 +48,12 @@ go-requires-in-Jump-clause-goes c =
     let s = rw (← c.run.view_is) at c.requires.standing in
     rw (← c.run.view_is) (jump_goes _ c.in-Jump.k s.nodes)
 
-pub stored-requires : goal.stored-requires
-stored-requires c =
+pub with_scratch-requires : goal.with_scratch-requires
+with_scratch-requires c =
     let s = rw (← c.run.view_is, c.in-StoreA.is) at c.requires.standing in
     omega (arith, sixteen_scratch_words _ _ s, s.in_range)
 
-pub stored-requires-in-StoreX : goal.stored-requires-in-StoreX
-stored-requires-in-StoreX c =
+pub with_scratch-requires-in-StoreX : goal.with_scratch-requires-in-StoreX
+with_scratch-requires-in-StoreX c =
     let s = rw (← c.run.view_is, c.in-StoreX.is) at c.requires.standing in
     omega (arith, sixteen_scratch_words _ _ s, s.in_range)

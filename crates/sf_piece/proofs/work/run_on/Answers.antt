@@ -23,7 +23,7 @@ invariant_of-result-in-Settled c =
     let h = rw c.in-Settled.is at c.in_ok-execute.ensures in
     let work = settled_work _ _ _ _ (rw c.deref.ensures at c.name-name.ensures.named)
     (rw c.deref.ensures at c.name-name.ensures.plain) c.loop-run.invariant.is_on h in
-    rw (c.in_ok-mine.ensures, c.ended-name.ensures.name, c.ended-name.ensures.answer) work
+    rw (c.in_ok-mine.ensures, c.into_parts-name.ensures.name, c.into_parts-name.ensures.answer) work
 
 pub invariant_of-result-in-Empty : goal.invariant_of-result-in-Empty
 invariant_of-result-in-Empty c =

@@ -1,17 +1,18 @@
 use Rattle.sf_crew.proofs.Replies.{reply_allowed, tally_unbroken, tally_certain, tally_doubtful, tally_first, tally_passed, question_there, place_there, ok_replies}
 use Rattle.sf_crew.proofs.sweeping.replying.reply_of.Goals as goal
 
-pub unbroken-requires-clause-unbroken : goal.unbroken-requires-clause-unbroken
-unbroken-requires-clause-unbroken c = tally_unbroken _ _ c.args.tally.now c.args.q _ _ c.requires.tally
+pub reply_without_hit-requires-clause-unbroken : goal.reply_without_hit-requires-clause-unbroken
+reply_without_hit-requires-clause-unbroken c = tally_unbroken _ _ c.args.tally.now c.args.q _ _ c.requires.tally
     c.requires.question.0 (question_there _ c.args.q _ c.requires.question.0 c.index-questions-q.is) c.in_default.is
     c.has_bit-doubt.ensures
 
-pub unbroken-requires-clause-plain : goal.unbroken-requires-clause-plain
-unbroken-requires-clause-plain c = tally_certain _ _ c.args.tally.now c.args.q _ c.requires.tally c.requires.question.0
+pub reply_without_hit-requires-clause-plain : goal.reply_without_hit-requires-clause-plain
+reply_without_hit-requires-clause-plain c =
+    tally_certain _ _ c.args.tally.now c.args.q _ c.requires.tally c.requires.question.0
     c.has_bit-doubt.ensures
 
-pub unbroken-requires-clause-doubtful : goal.unbroken-requires-clause-doubtful
-unbroken-requires-clause-doubtful c =
+pub reply_without_hit-requires-clause-doubtful : goal.reply_without_hit-requires-clause-doubtful
+reply_without_hit-requires-clause-doubtful c =
     tally_doubtful _ _ c.args.tally.now c.args.q _ _ c.requires.tally c.requires.question.0
     (question_there _ c.args.q _ c.requires.question.0 c.index-questions-q.is) c.has_bit-doubt.ensures
 
@@ -19,7 +20,7 @@ pub returns-in_default-clause-ok : goal.returns-in_default-clause-ok
 returns-in_default-clause-ok c = record {
   question = c.index-questions-q.result;
   asked = question_there _ c.args.q _ c.requires.question.0 c.index-questions-q.is;
-  replies = c.unbroken.ensures;
+  replies = c.reply_without_hit.ensures;
 }
 
 pub judge-requires : goal.judge-requires

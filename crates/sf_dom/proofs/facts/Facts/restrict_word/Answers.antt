@@ -5,11 +5,11 @@ use Rattle.sf_dom.proofs.facts.Facts.restrict_word.Goals as goal
 pub returns-in-None-clause-confined : goal.returns-in-None-clause-confined
 unfolding Agrees
 returns-in-None-clause-confined c =
-    rw (← c.self.view_is) (rw (c.in-None.is, c.deref.ensures) at c.in_ok-restricted.ensures)
+    rw (← c.self.view_is) (rw (c.in-None.is, c.deref.ensures) at c.in_ok-restrict.ensures)
 
 pub returns-in_ok-excluded-in-Some-clause-confined : goal.returns-in_ok-excluded-in-Some-clause-confined
 returns-in_ok-excluded-in-Some-clause-confined c =
-    let told = rw (c.in-Some.is, c.deref.ensures) at c.in_ok-restricted.ensures in
+    let told = rw (c.in-Some.is, c.deref.ensures) at c.in_ok-restrict.ensures in
     rw (← c.self.view_is, c.in_ok-excluded-in-Some.ensures.same, c.in_ok-nodes-in-Some.ensures)
     (restricted-word _ _ _ c.args.pool.now c.args.word c.args.more
     (rw (← c.self.view_is) at c.requires.covers) c.requires.word told)

@@ -25,7 +25,7 @@ returns-in-Number c =
     let os = c.self.inside.variables.items in
     let within = rw (← c.self.view_is) at c.requires in
     let below : c.args.i < length slots = omega (arith, within, known-length slots os) in
-    rw (← c.self.view_is) (c.exact.ensures ∙ sym (known-slot slots os c.args.i below
+    rw (← c.self.view_is) (c.of_number.ensures ∙ sym (known-slot slots os c.args.i below
     ∙ ap (slot_known os) (sym found ∙ c.in-Number.is)))
 
 pub returns-in-Variable : goal.returns-in-Variable

@@ -1,0 +1,25 @@
+use Rattle.sf_check.proofs.EqualLemmas.{passed_to}
+use Rattle.sf_check.proofs.equals.EqualTests.skip_in_chain.Goals as goal
+
+pub steps_between-requires-clause-forward : goal.steps_between-requires-clause-forward
+steps_between-requires-clause-forward c =
+    let t = c.args.self.now in
+    (passed_to c.args.insns.now t.chains.items t.steps.items t.lasts.items c.args.place c.args.number
+    c.find_behind-behind.result c.requires.tables.chains_are
+    (rw c.deref-2.ensures.value at c.find_behind-behind.ensures)).forward
+
+pub returns-clause-passed : goal.returns-clause-passed
+returns-clause-passed c =
+    let t = c.args.self.now in
+    rw c.steps_between.ensures (passed_to c.args.insns.now t.chains.items t.steps.items t.lasts.items
+    c.args.place c.args.number
+    c.find_behind-behind.result c.requires.tables.chains_are
+    (rw c.deref-2.ensures.value at c.find_behind-behind.ensures)).passed
+
+pub returns-clause-on : goal.returns-clause-on
+returns-clause-on c =
+    let t = c.args.self.now in
+    rw c.steps_between.ensures (passed_to c.args.insns.now t.chains.items t.steps.items t.lasts.items
+    c.args.place c.args.number
+    c.find_behind-behind.result c.requires.tables.chains_are
+    (rw c.deref-2.ensures.value at c.find_behind-behind.ensures)).on

@@ -1,0 +1,8 @@
+use Rattle.std.proofs.Common.{rules}
+use Rattle.sf_crew.specs.Explorations.{IsExplorationOf}
+use Rattle.sf_crew.proofs.ExactExplorations.{exact_end}
+use Rattle.sf_crew.proofs.workers.exploring.finish_book.Goals as goal
+
+pub returns-clause-plain : goal.returns-clause-plain
+returns-clause-plain c = let end : IsExplorationOf c.args.stack.now.value c.args._budget c.in-Ok.settled =
+    search rules in exact_end _ _ _ end c.counts-counts.ensures.plain

@@ -1,0 +1,36 @@
+use Rattle.std.proofs.Common.{refl}
+use Rattle.sf_dom.proofs.Assumed.{alone-with-more, others-tight}
+use Rattle.sf_dom.proofs.changes.learn_cond.Goals as goal
+
+pub assume_cond-requires-clause-left : goal.assume_cond-requires-clause-left
+assume_cond-requires-clause-left c = rw c.in_ok-left.ensures (alone-with-more c.args.nodes.now.known
+    c.args.excluded.now c.in_ok-lists.lists c.args.pool.now c.args.cond.now _ _ c.len-count.ensures.lawful
+    c.requires.ready.count c.in_ok-lists.ensures.told c.in-Some.ensures)
+
+pub assume_cond-requires-clause-tight : goal.assume_cond-requires-clause-tight
+assume_cond-requires-clause-tight c = rw c.in_ok-left.ensures (others-tight c.args.nodes.now.known
+    c.args.excluded.now c.in_ok-lists.lists c.args.pool.now c.args.cond.now c.requires.tight
+    c.in_ok-lists.ensures.told)
+
+pub returns-then-not-assume_cond : goal.returns-then-not-assume_cond
+returns-then-not-assume_cond c =
+    let both = c.in_ok-lists.ensures.told in
+    let told = rw c.in_ok-left.ensures at c.if-not-assume_cond.ensures in
+    λ d p a h. told d p (both.keeps d p a h) h
+
+pub changes_nothing-requires-clause-left : goal.changes_nothing-requires-clause-left
+changes_nothing-requires-clause-left c = alone-with-more c.args.nodes.now.known
+    c.args.excluded.now c.in_ok-lists.lists c.args.pool.now c.args.cond.now _ _ c.len-count.ensures.lawful
+    c.requires.ready.count c.in_ok-lists.ensures.told c.in-Some.ensures
+
+pub changes_nothing-requires-clause-tight : goal.changes_nothing-requires-clause-tight
+changes_nothing-requires-clause-tight c = others-tight c.args.nodes.now.known
+    c.args.excluded.now c.in_ok-lists.lists c.args.pool.now c.args.cond.now c.requires.tight
+    c.in_ok-lists.ensures.told
+
+pub returns-then-changes_nothing : goal.returns-then-changes_nothing
+returns-then-changes_nothing c = record {
+  words = c.in_ok-lists.ensures.words;
+  both = c.in_ok-lists.ensures.told;
+  consistent = c.if-changes_nothing.ensures refl;
+}
