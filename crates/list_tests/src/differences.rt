@@ -1,5 +1,5 @@
 //! What differs between two stacks, worked by hand.
-use crate::listings::{bytes_of, labels_at, random_program, some_input};
+use crate::listings::{bytes_of, labels_at, random_program, some_input, text_of};
 use crate::names::names_of;
 use crate::profiles::{bits, forgetful, profile, words};
 use samples::ALLOW;
@@ -30,7 +30,7 @@ fn comparison_of<R: Threads + Wait + Sync>(
 }
 
 /// The rows in which two filters differ, with the names of files.
-fn changed_with<R: Threads + Wait + Sync>(
+fn changed_rows_with<R: Threads + Wait + Sync>(
     rt: &R,
     alloc: Global,
     old: &[RawInsn],
@@ -43,14 +43,12 @@ fn changed_with<R: Threads + Wait + Sync>(
     let differences = draw_differences(alloc, &comparison, 20000)?;
     let mut out: Vec<u8> = Vec::new(alloc);
     write_differences(alloc, &comparison, &differences, names.as_slice(), &mut out)?;
-    match String::from_utf8(out) {
-        Ok(text) => rows_in(alloc, text.as_str()),
-        Err(_) => Err("no text".into()),
-    }
+    let text = text_of(out)?;
+    rows_behind(alloc, text.as_str())
 }
 
 /// The lines of a text behind its line of the relation `different`.
-fn rows_in(alloc: Global, text: &str) -> Result<String, Fail> {
+fn rows_behind(alloc: Global, text: &str) -> Result<String, Fail> {
     let mut rows = String::new(alloc);
     let mut behind = false;
     for line in text.lines() {
@@ -64,18 +62,18 @@ fn rows_in(alloc: Global, text: &str) -> Result<String, Fail> {
 }
 
 /// The rows in which two filters differ.
-fn changed<R: Threads + Wait + Sync>(
+fn changed_rows<R: Threads + Wait + Sync>(
     rt: &R,
     alloc: Global,
     old: &[RawInsn],
     new: &[RawInsn],
 ) -> Result<String, Fail> {
-    changed_with(rt, alloc, old, new, 10000, &[])
+    changed_rows_with(rt, alloc, old, new, 10000, &[])
 }
 
 #[test]
 fn x32_numbers_are_forgotten(rt: HostRuntime) -> Result<(), Fail> {
-    let text = changed(&rt, rt.alloc(), &profile(), &forgetful())?;
+    let text = changed_rows(&rt, rt.alloc(), &profile(), &forgetful())?;
     assert_eq!(rt;
         text.as_str(),
         "arch 0xC000003E nr 0x40000000..0xFFFFFFFF KILL_PROCESS 0 -> ALLOW 0
@@ -87,7 +85,7 @@ total changed 1 undetermined 0
 
 #[test]
 fn x32_numbers_are_remembered(rt: HostRuntime) -> Result<(), Fail> {
-    let text = changed(&rt, rt.alloc(), &forgetful(), &profile())?;
+    let text = changed_rows(&rt, rt.alloc(), &forgetful(), &profile())?;
     assert_eq!(rt;
         text.as_str(),
         "arch 0xC000003E nr 0x40000000..0xFFFFFFFF ALLOW 0 -> KILL_PROCESS 0
@@ -100,7 +98,7 @@ total changed 1 undetermined 0
 #[test]
 fn names_in_changed_rows(rt: HostRuntime) -> Result<(), Fail> {
     let names = "arch = 0xC000003E\ncalls = { x_read = 0x40000000, read = 0 }";
-    let text = changed_with(&rt, rt.alloc(), &profile(), &forgetful(), 10000, &[names])?;
+    let text = changed_rows_with(&rt, rt.alloc(), &profile(), &forgetful(), 10000, &[names])?;
     assert_eq!(rt;
         text.as_str(),
         "arch 0xC000003E nr 0x40000000..0xFFFFFFFF KILL_PROCESS 0 -> ALLOW 0 # x_read
@@ -112,14 +110,14 @@ total changed 1 undetermined 0
 
 #[test]
 fn nothing_differs(rt: HostRuntime) -> Result<(), Fail> {
-    let text = changed(&rt, rt.alloc(), &profile(), &profile())?;
+    let text = changed_rows(&rt, rt.alloc(), &profile(), &profile())?;
     assert_eq!(rt; text.as_str(), "total changed 0 undetermined 0\n");
     Ok(())
 }
 
 #[test]
 fn another_profile(rt: HostRuntime) -> Result<(), Fail> {
-    let text = changed(&rt, rt.alloc(), &profile(), &bits())?;
+    let text = changed_rows(&rt, rt.alloc(), &profile(), &bits())?;
     assert_eq!(rt;
         text.as_str(),
         "arch 0xC000003E nr 16 ERRNO 1 -> ALLOW 0 if arg1_lo = 0x5412
@@ -138,7 +136,7 @@ total changed 8 undetermined 0
 
 #[test]
 fn a_word_against_a_word_no_more(rt: HostRuntime) -> Result<(), Fail> {
-    let text = changed(&rt, rt.alloc(), &words(), &[ALLOW])?;
+    let text = changed_rows(&rt, rt.alloc(), &words(), &[ALLOW])?;
     assert_eq!(rt;
         text.as_str(),
         "arch any nr any ERRNO 1 -> ALLOW 0 | unchanged
@@ -150,7 +148,7 @@ total changed 1 undetermined 1
 
 #[test]
 fn no_rows_while_a_piece_is_left(rt: HostRuntime) -> Result<(), Fail> {
-    let text = changed_with(&rt, rt.alloc(), &profile(), &forgetful(), 3, &[])?;
+    let text = changed_rows_with(&rt, rt.alloc(), &profile(), &forgetful(), 3, &[])?;
     assert_eq!(rt; text.as_str(), "total changed 0 undetermined 0\n");
     Ok(())
 }

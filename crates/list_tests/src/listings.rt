@@ -1,4 +1,5 @@
 //! Listings of small stacks, worked by hand.
+use crate::profiles::{bits, profile, words};
 use samples::{ALLOW, op, raw};
 use sf_crew::Open;
 use sf_insn::{Input, RawInsn};
@@ -22,6 +23,14 @@ pub(crate) fn bytes_of(alloc: Global, insns: &[RawInsn]) -> Result<Vec<u8>, Fail
     Ok(bytes)
 }
 
+/// The text that these bytes are.
+pub(crate) fn text_of(bytes: Vec<u8>) -> Result<String, Fail> {
+    match String::from_utf8(bytes) {
+        Ok(text) => Ok(text),
+        Err(_) => Err("no text".into()),
+    }
+}
+
 /// Lists one filter, by one worker, with at most so many leaves.
 pub(crate) fn listing_of<R: Threads + Wait + Sync>(
     rt: &R,
@@ -35,7 +44,7 @@ pub(crate) fn listing_of<R: Threads + Wait + Sync>(
 }
 
 /// The text of the listing of one filter.
-fn listed<R: Threads + Wait + Sync>(
+fn listing_text<R: Threads + Wait + Sync>(
     rt: &R,
     alloc: Global,
     insns: &[RawInsn],
@@ -44,34 +53,12 @@ fn listed<R: Threads + Wait + Sync>(
     let listing = listing_of(rt, alloc, insns, leaves)?;
     let mut out: Vec<u8> = Vec::new(alloc);
     write_listing(alloc, &listing, &[], &mut out)?;
-    match String::from_utf8(out) {
-        Ok(text) => Ok(text),
-        Err(_) => Err("no text".into()),
-    }
+    text_of(out)
 }
 
 #[test]
 fn a_profile_of_x86_64(rt: HostRuntime) -> Result<(), Fail> {
-    let text = listed(
-        &rt,
-        rt.alloc(),
-        &[
-            op(0x20, 4),
-            raw(0x15, 1, 0, 0xC000003E),
-            op(0x06, 0x80000000),
-            op(0x20, 0),
-            raw(0x35, 0, 1, 0x40000000),
-            op(0x06, 0x80000000),
-            raw(0x15, 0, 1, 59),
-            op(0x06, 0x50001),
-            raw(0x15, 0, 3, 16),
-            op(0x20, 24),
-            raw(0x15, 0, 1, 0x5412),
-            op(0x06, 0x50001),
-            ALLOW,
-        ],
-        20000,
-    )?;
+    let text = listing_text(&rt, rt.alloc(), &profile(), 20000)?;
     assert_eq!(rt;
         text.as_str(),
         "seccomp_audit list 1
@@ -93,19 +80,7 @@ total rows 8 undetermined 0
 
 #[test]
 fn bits_of_an_argument(rt: HostRuntime) -> Result<(), Fail> {
-    let text = listed(
-        &rt,
-        rt.alloc(),
-        &[
-            op(0x20, 0),
-            raw(0x15, 0, 3, 56),
-            op(0x20, 16),
-            raw(0x45, 0, 1, 0x7E020000),
-            op(0x06, 0x50001),
-            ALLOW,
-        ],
-        20000,
-    )?;
+    let text = listing_text(&rt, rt.alloc(), &bits(), 20000)?;
     assert_eq!(rt;
         text.as_str(),
         "seccomp_audit list 1
@@ -123,19 +98,7 @@ total rows 4 undetermined 0
 
 #[test]
 fn a_word_against_a_word(rt: HostRuntime) -> Result<(), Fail> {
-    let text = listed(
-        &rt,
-        rt.alloc(),
-        &[
-            op(0x20, 16),
-            op(0x07, 0),
-            op(0x20, 24),
-            raw(0x2d, 0, 1, 0),
-            op(0x06, 0x50001),
-            ALLOW,
-        ],
-        20000,
-    )?;
+    let text = listing_text(&rt, rt.alloc(), &words(), 20000)?;
     assert_eq!(rt;
         text.as_str(),
         "seccomp_audit list 1
@@ -150,7 +113,7 @@ total rows 1 undetermined 1
 
 #[test]
 fn a_difference(rt: HostRuntime) -> Result<(), Fail> {
-    let text = listed(
+    let text = listing_text(
         &rt,
         rt.alloc(),
         &[

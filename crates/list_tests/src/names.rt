@@ -1,5 +1,5 @@
 //! Names of calls, read from files and written in rows.
-use crate::listings::listing_of;
+use crate::listings::{listing_of, text_of};
 use crate::profiles::{bits, profile, two};
 use sf_audit::{Names, read_names};
 use sf_insn::RawInsn;
@@ -43,10 +43,8 @@ fn rows_with<R: Threads + Wait + Sync>(
     let listing = listing_of(rt, alloc, insns, 20000)?;
     let mut out: Vec<u8> = Vec::new(alloc);
     write_listing(alloc, &listing, names.as_slice(), &mut out)?;
-    match String::from_utf8(out) {
-        Ok(text) => rows_in(alloc, text.as_str()),
-        Err(_) => Err("no text".into()),
-    }
+    let text = text_of(out)?;
+    rows_in(alloc, text.as_str())
 }
 
 /// The lines of a text that are rows.

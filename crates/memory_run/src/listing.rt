@@ -31,7 +31,7 @@ fn tell<R: Threads + Wait + Sync + AllocGlobal>(
 }
 
 /// Writes the rows that one worker finds, of the stack of these files. Two and eight workers have to find the same.
-pub fn listed<R: Threads + Wait + Sync + AllocGlobal>(
+pub fn list_files<R: Threads + Wait + Sync + AllocGlobal>(
     rt: &R,
     tally: &mut Tally,
     files: &[&[u8]],

@@ -26,7 +26,7 @@ use crate::comparing::compare_files;
 use crate::exploring::{bench_of, settle_stack, write_verdicts};
 use crate::failing::starve_all;
 use crate::filling::fill_bench;
-use crate::listing::listed;
+use crate::listing::list_files;
 use crate::refused::{Refused, Tally};
 use crate::stacks::{DIVIDES, LOGIN, MASKS, NO_X32, TWO_BITS, stack_in};
 use std::io;
@@ -62,7 +62,7 @@ fn calls_on<R: Threads + Wait + Sync + AllocGlobal>(
     write_verdicts(alloc, &settled, &mut text)?;
     audit_files(rt, tally, files, page)?;
     compare_files(rt, tally, files, page)?;
-    listed(rt, tally, files, page)?;
+    list_files(rt, tally, files, page)?;
     Ok(text)
 }
 

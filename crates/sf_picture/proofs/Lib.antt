@@ -3,6 +3,7 @@ pub mod SketchLemmas
 pub mod SpanLemmas
 pub mod HoldingLemmas
 pub mod CutLemmas
+pub mod ConditionLemmas
 pub mod LastLemmas
 pub mod DrawLemmas
 pub mod PlainLemmas

@@ -1,33 +1,33 @@
 -- Names by their runs of false: what is added to one, and how two compare.
-use Rattle.std.proofs.Common.{◌≡◌, ℕ, zero, suc, ◌+◌, ◌<◌, ◌≤◌, ◌⊎◌, inl, inr, Bool, true, false, List, [], ◌∷◌, ◌++◌, length, replicate, refl, sym, ap, ◌∙◌, arith, min, append_assoc, take, take_all, drop, get_or, ◌-◌}
+use Rattle.std.proofs.Common.{◌≡◌, ℕ, zero, suc, ◌+◌, ◌<◌, Bool, true, false, List, [], ◌∷◌, ◌++◌, length, replicate, refl, sym, ap, ◌∙◌, arith, append_assoc, take, take_all, get_or, ◌-◌}
 use Rattle.std.specs.declared.cmp.Ordering.{Ordering}
+use Rattle.std.specs.declared.cmp.Reverse.{Reverse}
 use Rattle.std.specs.declared.cmp.Ordering.TheVariants.{Less, Equal, Greater}
-use Rattle.std.specs.Ordering.{bool_cmp, nat_cmp, ordering_then, is_ne}
+use Rattle.std.specs.Ordering.{bool_cmp, nat_cmp, ordering_then}
 use Rattle.std.specs.Cmp.Lexicographic.{slice_cmp}
-use Rattle.std.proofs.lemmas.Bool.{cases_lt}
 use Rattle.std.proofs.lemmas.Bool.Decides.{nat_tests}
-use Rattle.std.proofs.lemmas.List.{drop_more, take_more, replicate-append-replicate}
-use Rattle.std.proofs.Math.ListN.{drop_of_length-le}
+use Rattle.std.proofs.lemmas.List.{take_more, replicate-append-replicate}
 use Rattle.sf_piece.specs.Names.{spelled}
 
 -- ---- what is added
 
 -- one run more
-pub run_more : (runs : List ℕ) (n : ℕ) → spelled (runs ++ n ∷ []) 0 ≡ spelled runs n ++ true ∷ []
-run_more [] n = refl
-run_more (m ∷ runs) n =
-    ap (λ l. replicate m false ++ true ∷ l) (run_more runs n)
-    ∙ sym (append_assoc (replicate m false) (true ∷ spelled runs n) (true ∷ []))
+pub run_more : (runs : List (Reverse ℕ)) (run : Reverse ℕ) → spelled (runs ++ run ∷ []) 0
+    ≡ spelled runs run.0 ++ true ∷ []
+run_more [] run = refl
+run_more (m ∷ runs) run =
+    ap (λ l. replicate m.0 false ++ true ∷ l) (run_more runs run)
+    ∙ sym (append_assoc (replicate m.0 false) (true ∷ spelled runs run.0) (true ∷ []))
 
 -- so many falses more
-pub falses_more : (runs : List ℕ) (m n : ℕ) → spelled runs (m + n) ≡ spelled runs m ++ replicate n false
+pub falses_more : (runs : List (Reverse ℕ)) (m n : ℕ) → spelled runs (m + n) ≡ spelled runs m ++ replicate n false
 falses_more [] m n = sym (replicate-append-replicate m n false)
 falses_more (k ∷ runs) m n =
-    ap (λ l. replicate k false ++ true ∷ l) (falses_more runs m n)
-    ∙ sym (append_assoc (replicate k false) (true ∷ spelled runs m) (replicate n false))
+    ap (λ l. replicate k.0 false ++ true ∷ l) (falses_more runs m n)
+    ∙ sym (append_assoc (replicate k.0 false) (true ∷ spelled runs m) (replicate n false))
 
 -- a name's runs, and then the falses at its end
-pub with_rest : (runs : List ℕ) (n : ℕ) → spelled runs n ≡ spelled runs 0 ++ replicate n false
+pub with_rest : (runs : List (Reverse ℕ)) (n : ℕ) → spelled runs n ≡ spelled runs 0 ++ replicate n false
 with_rest runs n = let e : n ≡ 0 + n = omega arith in ap (λ k. spelled runs k) e ∙ falses_more runs 0 n
 
 -- so many values, made more by falses
@@ -39,13 +39,14 @@ made_longer xs m n h =
     rw (all, more) refl
 
 -- values with the run at a place more
-pub with_run : (runs : List ℕ) (i : ℕ) (xs ys : List Bool) → i < length runs → ys ≡ xs ++ spelled (take i runs) 0
-    → (ys ++ replicate (get_or runs i 0) false) ++ true ∷ [] ≡ xs ++ spelled (take (i + 1) runs) 0
-with_run runs i xs ys l so_far =
+pub with_run : (runs : List (Reverse ℕ)) (i : ℕ) (run : Reverse ℕ) (xs ys : List Bool) → i < length runs
+    → ys ≡ xs ++ spelled (take i runs) 0
+    → (ys ++ replicate (get_or runs i run).0 false) ++ true ∷ [] ≡ xs ++ spelled (take (i + 1) runs) 0
+with_run runs i run xs ys l so_far =
     let before = spelled (take i runs) 0 in
-    let n = get_or runs i 0 in
+    let n = (get_or runs i run).0 in
     let next : spelled (take (i + 1) runs) 0 ≡ (before ++ replicate n false) ++ true ∷ [] =
-    ap (λ rs. spelled rs 0) (take_more runs i 0 l) ∙ run_more (take i runs) n
+    ap (λ rs. spelled rs 0) (take_more runs i run l) ∙ run_more (take i runs) (get_or runs i run)
     ∙ ap (λ l. l ++ true ∷ []) (with_rest (take i runs) n) in
     ap (λ l. (l ++ replicate n false) ++ true ∷ []) so_far
     ∙ ap (λ l. l ++ true ∷ []) (append_assoc xs before (replicate n false))
@@ -96,51 +97,19 @@ falses_both (suc m) (suc n) =
     let same : nat_cmp (suc m) (suc n) ≡ nat_cmp m n = grind (arith, nat_tests) in
     rw same (falses_both m n)
 
--- names from a run on
-abbrev from : List ℕ → List ℕ → ℕ → ℕ → ℕ → Ordering
-from ls rs i m n = cmp (spelled (drop i ls) m) (spelled (drop i rs) n)
-
-step_over : (ls rs : List ℕ) (i m n : ℕ) → i < length ls → i < length rs
-    → from ls rs i m n ≡ ordering_then (nat_cmp (get_or rs i 0) (get_or ls i 0)) (from ls rs (i + 1) m n)
-step_over ls rs i m n l r =
-    rw (drop_more ls i 0 l, drop_more rs i 0 r) (by_falses (get_or ls i 0) (get_or rs i 0) _ _)
-
--- two runs of one length
-pub goes_on : (ls rs : List ℕ) (i m n : ℕ) (order : Ordering) → i < length ls → i < length rs
-    → order ≡ nat_cmp (get_or rs i 0) (get_or ls i 0) → is_ne order ≡ false
-    → from ls rs i m n ≡ from ls rs (i + 1) m n
-goes_on ls rs i m n order l r is same = (rw (← is) at (step_over ls rs i m n l r)) ∙ by order same
+-- the first run that differs decides, and else what is behind the runs of one of them
+pub by_runs : (ls rs : List (Reverse ℕ)) (m n : ℕ)
+    → cmp (spelled ls m) (spelled rs n)
+    ≡ ordering_then (slice_cmp (λ l r. nat_cmp r.0 l.0) ls rs) (nat_cmp m n)
+by_runs [] [] m n = falses_both m n
+by_runs [] (r ∷ rs) m n = falses_before m r.0 (spelled rs n)
+by_runs (l ∷ ls) [] m n = falses_behind l.0 n (spelled ls m)
+by_runs (l ∷ ls) (r ∷ rs) m n =
+    by_falses l.0 r.0 (spelled ls m) (spelled rs n)
+    ∙ ap (λ o. ordering_then (nat_cmp r.0 l.0) o) (by_runs ls rs m n)
+    ∙ then_twice (nat_cmp r.0 l.0) (slice_cmp (λ l r. nat_cmp r.0 l.0) ls rs) (nat_cmp m n)
   where
-    by : (o : Ordering) → is_ne o ≡ false → ordering_then o (from ls rs (i + 1) m n) ≡ from ls rs (i + 1) m n
-    by Less e = absurd cc
-    by Equal e = refl
-    by Greater e = absurd cc
-
--- two runs that differ
-pub differs : (ls rs : List ℕ) (i m n : ℕ) (order : Ordering) → i < length ls → i < length rs
-    → order ≡ nat_cmp (get_or rs i 0) (get_or ls i 0) → is_ne order ≡ true
-    → from ls rs i m n ≡ ordering_then order (nat_cmp m n)
-differs ls rs i m n order l r is other = (rw (← is) at (step_over ls rs i m n l r)) ∙ by order other
-  where
-    by : (o : Ordering) → is_ne o ≡ true → ordering_then o (from ls rs (i + 1) m n) ≡ ordering_then o (nat_cmp m n)
-    by Less e = refl
-    by Equal e = absurd cc
-    by Greater e = refl
-
--- behind the last run of one of them
-pub at_end : (ls rs : List ℕ) (i m n : ℕ) → i ≤ length ls → i ≤ length rs → min (length ls) (length rs) ≤ i
-    → from ls rs i m n ≡ ordering_then (nat_cmp (length ls) (length rs)) (nat_cmp m n)
-at_end ls rs i m n l r end = by (cases_lt i (length ls)) (cases_lt i (length rs))
-  where
-    by : (i < length ls) ⊎ (length ls ≤ i) → (i < length rs) ⊎ (length rs ≤ i)
-        → from ls rs i m n ≡ ordering_then (nat_cmp (length ls) (length rs)) (nat_cmp m n)
-    by (inl p) (inl q) = absurd (omega arith)
-    by (inl p) (inr q) =
-        rw (drop_more ls i 0 p, drop_of_length-le rs q, at_greater (length ls) (length rs) (omega arith))
-        (falses_behind (get_or ls i 0) n _)
-    by (inr p) (inl q) =
-        rw (drop_of_length-le ls p, drop_more rs i 0 q, at_less (length ls) (length rs) (omega arith))
-        (falses_before m (get_or rs i 0) _)
-    by (inr p) (inr q) =
-        rw (drop_of_length-le ls p, drop_of_length-le rs q, at_equal (length ls) (length rs) (omega arith))
-        (falses_both m n)
+    then_twice : (a b c : Ordering) → ordering_then a (ordering_then b c) ≡ ordering_then (ordering_then a b) c
+    then_twice Less b c = refl
+    then_twice Equal b c = refl
+    then_twice Greater b c = refl

@@ -1,7 +1,8 @@
 -- Names by the runs of false in them.
+use Rattle.std.specs.declared.cmp.Reverse.{Reverse}
 use Rattle.std.specs.Prelude.{ℕ, false, true, Bool, List, [], ◌∷◌, ◌++◌, replicate}
 
 -- the name with these runs: for each so many falses and a true, and at the end so many falses
-abbrev pub spelled : List ℕ → ℕ → List Bool
+abbrev pub spelled : List (Reverse ℕ) → ℕ → List Bool
 spelled [] rest = replicate rest false
-spelled (n ∷ runs) rest = replicate n false ++ true ∷ spelled runs rest
+spelled (run ∷ runs) rest = replicate run.0 false ++ true ∷ spelled runs rest

@@ -1,18 +1,18 @@
 //! Names: lists of truth values, which are kept as their runs of false.
 
 ghost use Rattle.std.specs.Prelude.{◌≡◌, [], ◌∷◌, ◌++◌, ℕ, replicate, true, false, IfOk, OnOk, OnErr};
-ghost use Rattle.std.specs.Ordering.{bool_cmp, nat_cmp, ordering_then};
+ghost use Rattle.std.specs.Ordering.{bool_cmp};
 ghost use Rattle.std.specs.Cmp.Lexicographic.{slice_cmp};
 ghost use Rattle.sf_piece.specs.Names.{spelled};
 
 use sf_blocks::shared::SharedList;
 use std::alloc::{AllocError, Global};
-use std::cmp::Ordering;
+use std::cmp::{Ordering, Reverse};
 use std::marker::Model;
 
-/// For each true of a name, the first one first, how many falses are right before it. Full blocks of 16 are shared by all
-/// names that go on from one name.
-type Runs = SharedList<u32, 2>;
+/// For each true of a name, the first one first, how many falses are right before it: false is before true, so the
+/// longer run is first. Full blocks of 16 are shared by all names that go on from one name.
+type Runs = SharedList<Reverse<u32>, 2>;
 
 /// A list of truth values. A path meets false far more often than true, so a run of falses is kept as its length.
 #[derive(Drop)]
@@ -50,12 +50,14 @@ impl Name {
         Ok(values)
     }
 
-    /// How two names compare: false is before true, and a name before what goes on from it. Runs that two names share
-    /// are compared as numbers, one by one.
+    /// How two names compare: false is before true, and a name before what goes on from it. The first run that differs
+    /// decides: the name where it is longer has a false where the other has a true.
     pub fn order(&self, other: &Name) -> Ordering
         ensures { result ≡ slice_cmp bool_cmp self.now other.now }
     {
-        order_of_runs(&self.runs, &other.runs).then(self.rest.cmp(&other.rest))
+        self.runs
+            .order(&other.runs)
+            .then(self.rest.cmp(&other.rest))
     }
 
     /// The same name again, which shares the full blocks of runs. `AllocError` where an allocation is refused.
@@ -96,7 +98,7 @@ impl Name {
         ensures ok { OnOk result (self.new ≡ self.old ++ true ∷ []) }
         ensures err { OnErr result (self.new ≡ self.old) }
     {
-        self.runs.push(self.rest)?;
+        self.runs.push(Reverse(self.rest))?;
         self.rest = 0;
         Ok(())
     }
@@ -128,26 +130,8 @@ fn add_runs(values: &mut Vec<bool>, runs: &Runs) -> Result<(), AllocError>
     ensures { OnOk result (values.new.items ≡ values.old.items ++ spelled runs.now 0) }
 {
     for place in 0..runs.len() {
-        add_falses(values, runs.get(place))?;
+        add_falses(values, runs.get(place).0)?;
         values.push(true)?;
     }
     Ok(())
-}
-
-/// How names with these runs compare, where it doesn't depend on the falses behind the last run. The first difference
-/// decides: there, the name with more falses has a false where the other has a true, and so it comes first. Where one
-/// has all runs of the other and more, it goes on from the other, or has a true where the other has a false.
-fn order_of_runs(left: &Runs, right: &Runs) -> Ordering
-    ensures { (m n : ℕ) → slice_cmp bool_cmp (spelled left.now m) (spelled right.now n)
-        ≡ ordering_then result (nat_cmp m n) }
-{
-    let mine = left.len();
-    let others = right.len();
-    for place in 0..mine.min(others) {
-        let order = right.get(place).cmp(&left.get(place));
-        if order.is_ne() {
-            return order;
-        }
-    }
-    mine.cmp(&others)
 }

@@ -4,7 +4,7 @@ use Rattle.sf_ask.proofs.confining.facts_in.Goals as goal
 
 pub loop-word-init : goal.loop-word-init
 loop-word-init c =
-    rw c.in_ok-facts_in.ensures (before-none c.args.question.now c.args.facts.now c.args.pool.now c.requires)
+    rw c.in_ok-confined.ensures (before-none c.args.question.now c.args.facts.now c.args.pool.now c.requires)
 
 pub loop-word-preserved : goal.loop-word-preserved
 loop-word-preserved c =

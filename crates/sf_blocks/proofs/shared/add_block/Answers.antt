@@ -1,5 +1,5 @@
-use Rattle.std.proofs.Common.{map, ap, ◌∙◌, refl, length, sym}
-use Rattle.std.specs.Arc.{arc_slice_items, arc_value}
+use Rattle.std.proofs.Common.{map, ap, ◌∙◌, refl, length}
+use Rattle.std.specs.Arc.{arc_slice_items}
 use Rattle.sf_blocks.proofs.BlockLemmas.{joined_blocks-push, AllFull-push, map-push_of}
 use Rattle.sf_blocks.proofs.shared.add_block.Goals as goal
 

@@ -1,6 +1,6 @@
 use Rattle.std.proofs.Common.{arith}
 use Rattle.std.proofs.lemmas.Option.{slice_get_within}
-use Rattle.sf_picture.proofs.CutLemmas.{plain-condition, lie-from, lie-all, single-after, all-cut}
+use Rattle.sf_picture.proofs.ConditionLemmas.{plain-condition, lie-from, lie-all, single-after, all-cut}
 use Rattle.sf_picture.proofs.cuts.cuts_of.Goals as goal
 
 pub loop-place-init : goal.loop-place-init

@@ -2,7 +2,7 @@ use Rattle.std.specs.Prelude.{◌≤◌, length, All, IfSome}
 use Rattle.sf_sym.specs.declared.pool.NodeId.{NodeId}
 use Rattle.sf_piece.specs.PlainPieces.{IsPlainPiece}
 use Rattle.sf_picture.specs.Cuts.{IsCutOfWord, IsPlainCut, IsSingle}
-use Rattle.sf_picture.proofs.CutLemmas.{LieAtConditionsFrom}
+use Rattle.sf_picture.proofs.ConditionLemmas.{LieAtConditionsFrom}
 use Rattle.sf_picture.proofs.cuts.cuts_of.Given as goal
 
 abbrev pub decreases-loop-place : goal.decreases-loop-place

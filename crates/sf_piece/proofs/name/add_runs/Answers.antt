@@ -4,5 +4,5 @@ use Rattle.sf_piece.proofs.name.add_runs.Goals as goal
 
 pub loop-place-preserved : goal.loop-place-preserved
 loop-place-preserved c =
-    rw (c.in_ok-push.ensures.items, c.in_ok-add_falses.ensures, c.get.ensures 0)
-    (with_run c.args.runs.now c.loop-place.place _ _ (omega arith) c.loop-place.invariant)
+    rw (c.in_ok-push.ensures.items, c.in_ok-add_falses.ensures, c.get.ensures c.get.result)
+    (with_run c.args.runs.now c.loop-place.place c.get.result _ _ (omega arith) c.loop-place.invariant)

@@ -1,0 +1,71 @@
+use Rattle.std.proofs.Common.{◌≡◌, ◌+◌, ◌<◌, length, map, sym, ◌∙◌, arith, []}
+use Rattle.std.specs.Arc.{arc_slice_items}
+use Rattle.std.specs.Cmp.Lexicographic.{slice_cmp}
+use Rattle.std.specs.Ordering.{ordering_then}
+use Rattle.sf_blocks.specs.Blocks.{AllFull}
+use Rattle.sf_blocks.proofs.BlockLemmas.{get_or-map_at, length-map_of}
+use Rattle.sf_blocks.proofs.OrderLemmas.{from, by_blocks, decided, undecided, at_end}
+use Rattle.sf_blocks.proofs.shared.SharedList.order.Given.{Over}
+use Rattle.sf_blocks.proofs.shared.SharedList.order.Goals.{After-is_ne}
+use Rattle.sf_blocks.proofs.shared.SharedList.order.Goals as goal
+
+-- two blocks at one place, as the code compares them
+step : (g : Over) (c : After-is_ne g)
+    → slice_cmp g.T.Ord.cmp c.args.self.now c.args.other.now
+    ≡ ordering_then c.cmp-order.result
+    (slice_cmp g.T.Ord.cmp
+    (from (map arc_slice_items c.blocks_of-left.result.now) c.self.inside.tail.items (c.loop-place.place + 1))
+    (from (map arc_slice_items c.blocks_of-right.result.now) c.other.inside.tail.items (c.loop-place.place + 1)))
+step g c =
+    let k = c.loop-place.place in
+    let ls = c.blocks_of-left.result.now in
+    let rs = c.blocks_of-right.result.now in
+    let full_left : AllFull (map arc_slice_items ls) = rw c.blocks_of-left.ensures c.self.invariant.0 in
+    let full_right : AllFull (map arc_slice_items rs) = rw c.blocks_of-right.ensures c.other.invariant.0 in
+    let in_left : k < length ls = omega arith in
+    let in_right : k < length rs = omega arith in
+    let left = get_or-map_at arc_slice_items ls k c.index-left-place.result [] in_left c.index-left-place.is in
+    let right = get_or-map_at arc_slice_items rs k c.index-right-place.result [] in_right c.index-right-place.is in
+    let blocks = by_blocks g.T.Ord.cmp (map arc_slice_items ls) (map arc_slice_items rs) c.self.inside.tail.items
+    c.other.inside.tail.items full_left full_right k (omega (arith, in_left, length-map_of arc_slice_items ls))
+    (omega (arith, in_right, length-map_of arc_slice_items rs)) in
+    let order = rw (
+      c.as_slice.ensures.value,
+      c.as_slice-in-loop-place.ensures.value,
+      ← left,
+      ← right,
+    ) at c.cmp-order.ensures in
+    c.loop-place.invariant ∙ rw (← order) at blocks
+
+pub returns-then-is_ne : goal.returns-then-is_ne
+returns-then-is_ne g c =
+    sym (step g c.before ∙ decided c.cmp-order.result _ (rw c.is_ne.ensures at c.if-is_ne.true))
+
+pub loop-place-preserved : goal.loop-place-preserved
+loop-place-preserved g c =
+    step g c.before ∙ undecided c.cmp-order.result _ (rw c.is_ne.ensures at c.if-is_ne.false)
+
+pub returns : goal.returns
+returns g c =
+    let ls = c.blocks_of-left.result.now in
+    let rs = c.blocks_of-right.result.now in
+    let full_left : AllFull (map arc_slice_items ls) = rw c.blocks_of-left.ensures c.self.invariant.0 in
+    let full_right : AllFull (map arc_slice_items rs) = rw c.blocks_of-right.ensures c.other.invariant.0 in
+    let lefts = length-map_of arc_slice_items ls in
+    let rights = length-map_of arc_slice_items rs in
+    let end = at_end g.T.Ord.cmp (map arc_slice_items ls) (map arc_slice_items rs) c.self.inside.tail.items
+    c.other.inside.tail.items full_left full_right c.min-both.result
+    c.block_or_tail-mine.result.now c.block_or_tail-others.result.now
+    (omega (arith, lefts, rights, c.min-both.ensures))
+    c.self.invariant.2 c.other.invariant.2
+    (λ l. c.block_or_tail-mine.ensures.block (omega (arith, l, lefts)))
+    (λ l. c.block_or_tail-mine.ensures.tail (omega (arith, l, lefts)) ∙ c.as_slice-2.ensures)
+    (λ l. c.block_or_tail-others.ensures.block (omega (arith, l, rights)))
+    (λ l. c.block_or_tail-others.ensures.tail (omega (arith, l, rights)) ∙ c.as_slice-3.ensures) in
+    let left : c.args.self.now ≡ from (map arc_slice_items ls) c.self.inside.tail.items 0 =
+    rw c.blocks_of-left.ensures (sym c.self.view_is) in
+    let right : c.args.other.now ≡ from (map arc_slice_items rs) c.other.inside.tail.items 0 =
+    rw c.blocks_of-right.ensures (sym c.other.view_is) in
+    let last : c.loop-place.place ≡ c.min-both.result = omega arith in
+    rw (c.then.ensures, c.cmp.ensures, c.cmp-2.ensures, c.len.ensures.value, c.len-2.ensures.value)
+    (sym (rw last at c.loop-place.invariant ∙ rw (← left, ← right) at end))

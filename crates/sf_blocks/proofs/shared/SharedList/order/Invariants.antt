@@ -1,0 +1,11 @@
+use Rattle.std.proofs.Common.{◌≡◌, map}
+use Rattle.std.specs.Arc.{arc_slice_items}
+use Rattle.std.specs.Cmp.Lexicographic.{slice_cmp}
+use Rattle.sf_blocks.proofs.OrderLemmas.{from}
+use Rattle.sf_blocks.proofs.shared.SharedList.order.Given as goal
+
+abbrev pub invariant-loop-place : goal.invariant-loop-place
+invariant-loop-place g l =
+    slice_cmp g.T.Ord.cmp l.self l.other
+    ≡ slice_cmp g.T.Ord.cmp (from (map arc_slice_items l.left) l.self-inside.tail.items l.place)
+    (from (map arc_slice_items l.right) l.other-inside.tail.items l.place)
