@@ -1,5 +1,5 @@
 -- How two lists in full blocks compare, block by block.
-use Rattle.std.proofs.Common.{◌≡◌, ℕ, zero, suc, ◌+◌, ◌*◌, ◌<◌, ◌≤◌, ◌⊎◌, inl, inr, List, [], ◌∷◌, ◌++◌, length, get_or, refl, sym, ap, ◌∙◌, arith, length-append, append_assoc, drop, min, false, true}
+use Rattle.std.proofs.Common.{◌≡◌, ℕ, zero, suc, ◌+◌, ◌*◌, ◌<◌, ◌≤◌, ◌⊎◌, inl, inr, List, [], ◌∷◌, ◌++◌, length, get_or, refl, sym, ap, ◌∙◌, arith, length-append, length-drop, append_assoc, drop, min, false, true}
 use Rattle.std.specs.declared.cmp.Ordering.{Ordering}
 use Rattle.std.specs.declared.cmp.Ordering.TheVariants.{Less, Equal, Greater}
 use Rattle.std.specs.Ordering.{nat_cmp, ordering_then, is_ne}
@@ -36,6 +36,42 @@ one_longer : (m n : ℕ) → nat_cmp m n ≡ nat_cmp (suc m) (suc n)
 one_longer m n = grind (arith, nat_tests)
 
 module _ {T : Type 0} (R : T → T → Ordering) where
+  -- two elements at one place, and what is behind them
+  pub by_elements : (xs ys : List T) (k : ℕ) (x y : T) → k < length xs → k < length ys
+      → x ≡ get_or xs k x → y ≡ get_or ys k y
+      → slice_cmp R (drop k xs) (drop k ys) ≡ ordering_then (R x y) (slice_cmp R (drop (k + 1) xs) (drop (k + 1) ys))
+  by_elements xs ys k x y l m ex ey = rw (drop_more xs k x l, drop_more ys k y m, ← ex, ← ey) refl
+
+  -- one list is empty
+  empty_first : (xs ys : List T) → length xs ≡ 0 → slice_cmp R xs ys ≡ nat_cmp (length xs) (length ys)
+  empty_first [] [] e = refl
+  empty_first [] (y ∷ ys) e = sym (grind (arith, nat_tests))
+  empty_first (x ∷ xs) ys e = absurd (omega (arith, e))
+
+  empty_second : (xs ys : List T) → length ys ≡ 0 → slice_cmp R xs ys ≡ nat_cmp (length xs) (length ys)
+  empty_second [] [] e = refl
+  empty_second (x ∷ xs) [] e = sym (grind (arith, nat_tests))
+  empty_second xs (y ∷ ys) e = absurd (omega (arith, e))
+
+  -- no place is left in one of the lists
+  pub by_lengths : (xs ys : List T) (k : ℕ) → k ≡ min (length xs) (length ys)
+      → slice_cmp R (drop k xs) (drop k ys) ≡ nat_cmp (length xs) (length ys)
+  by_lengths xs ys k e = by (cases_lt k (length xs))
+    where
+      left : length xs ≡ k + length (drop k xs)
+      left = omega (arith, e, length-drop k xs)
+
+      right : length ys ≡ k + length (drop k ys)
+      right = omega (arith, e, length-drop k ys)
+
+      by : (k < length xs) ⊎ (length xs ≤ k) → slice_cmp R (drop k xs) (drop k ys) ≡ nat_cmp (length xs) (length ys)
+      by (inl p) =
+          empty_second (drop k xs) (drop k ys) (omega (arith, e, right))
+          ∙ sym (both_longer k (length (drop k xs)) (length (drop k ys))) ∙ rw (← left, ← right) refl
+      by (inr p) =
+          empty_first (drop k xs) (drop k ys) (omega (arith, e, left))
+          ∙ sym (both_longer k (length (drop k xs)) (length (drop k ys))) ∙ rw (← left, ← right) refl
+
   -- parts of one length, and what is behind them
   pub by_parts : (xs ys us vs : List T) → length xs ≡ length ys
       → slice_cmp R (xs ++ us) (ys ++ vs) ≡ ordering_then (slice_cmp R xs ys) (slice_cmp R us vs)

@@ -12,7 +12,7 @@ use Rattle.sf_blocks.proofs.shared.SharedList.order.Goals as goal
 -- two blocks at one place, as the code compares them
 step : (g : Over) (c : After-is_ne g)
     → slice_cmp g.T.Ord.cmp c.args.self.now c.args.other.now
-    ≡ ordering_then c.cmp-order.result
+    ≡ ordering_then c.order_of-order.result
     (slice_cmp g.T.Ord.cmp
     (from (map arc_slice_items c.blocks_of-left.result.now) c.self.inside.tail.items (c.loop-place.place + 1))
     (from (map arc_slice_items c.blocks_of-right.result.now) c.other.inside.tail.items (c.loop-place.place + 1)))
@@ -34,16 +34,16 @@ step g c =
       c.as_slice-in-loop-place.ensures.value,
       ← left,
       ← right,
-    ) at c.cmp-order.ensures in
+    ) at c.order_of-order.ensures in
     c.loop-place.invariant ∙ rw (← order) at blocks
 
 pub returns-then-is_ne : goal.returns-then-is_ne
 returns-then-is_ne g c =
-    sym (step g c.before ∙ decided c.cmp-order.result _ (rw c.is_ne.ensures at c.if-is_ne.true))
+    sym (step g c.before ∙ decided c.order_of-order.result _ (rw c.is_ne.ensures at c.if-is_ne.true))
 
 pub loop-place-preserved : goal.loop-place-preserved
 loop-place-preserved g c =
-    step g c.before ∙ undecided c.cmp-order.result _ (rw c.is_ne.ensures at c.if-is_ne.false)
+    step g c.before ∙ undecided c.order_of-order.result _ (rw c.is_ne.ensures at c.if-is_ne.false)
 
 pub returns : goal.returns
 returns g c =
@@ -67,5 +67,5 @@ returns g c =
     let right : c.args.other.now ≡ from (map arc_slice_items rs) c.other.inside.tail.items 0 =
     rw c.blocks_of-right.ensures (sym c.other.view_is) in
     let last : c.loop-place.place ≡ c.min-both.result = omega arith in
-    rw (c.then.ensures, c.cmp.ensures, c.cmp-2.ensures, c.len.ensures.value, c.len-2.ensures.value)
+    rw (c.then.ensures, c.order_of.ensures, c.cmp.ensures, c.len.ensures.value, c.len-2.ensures.value)
     (sym (rw last at c.loop-place.invariant ∙ rw (← left, ← right) at end))

@@ -1,0 +1,7 @@
+use Rattle.std.proofs.Common.{◌≡◌, drop}
+use Rattle.std.specs.Cmp.Lexicographic.{slice_cmp}
+use Rattle.sf_blocks.proofs.shared.order_of.Given as goal
+
+abbrev pub invariant-loop-place : goal.invariant-loop-place
+invariant-loop-place g l =
+    slice_cmp g.T.Ord.cmp l.left l.right ≡ slice_cmp g.T.Ord.cmp (drop l.place l.left) (drop l.place l.right)
