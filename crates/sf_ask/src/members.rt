@@ -11,9 +11,9 @@ ghost use Rattle.sf_ask.specs.declared.fault.Fault.TheVariants.{Memory};
 use crate::fault::Fault;
 use crate::judging::{first_unmet, is_member_of, least_input};
 use sf_dom::{Facts, Known};
-use sf_insn::{BinOp, Input, Test};
+use sf_insn::{Input, Test};
 use sf_piece::Piece;
-use sf_sym::{Cond, Node, NodeId, Pool, constant_of};
+use sf_sym::{Cond, MaskedWord, NodeId, Pool, constant_of, masked_word};
 use std::alloc::Global;
 
 /// What a search for a member of a piece ends with.
@@ -30,13 +30,6 @@ pub enum Membership {
 /// How many times an input is mended at most.
 const MOST_MENDINGS: usize = 64;
 
-/// A word of the input under a mask.
-#[derive(Clone, Copy)]
-struct MaskedWord {
-    word: usize,
-    mask: u32,
-}
-
 /// The piece's facts, with each of its conditions learnt once more; none where one of them contradicts.
 fn facts_learnt_again(alloc: Global, piece: &Piece) -> Result<Option<Facts>, Fault>
     ensures facts { IfOk result (λ o. MatchOption o (HasNoMember piece.now)
@@ -50,41 +43,6 @@ fn facts_learnt_again(alloc: Global, piece: &Piece) -> Result<Option<Facts>, Fau
         }
     }
     Ok(Some(facts))
-}
-
-/// The word and the mask that a node is made of, where it is a word of the input, or ANDs of one with constants.
-fn masked_word(pool: &Pool, id: NodeId) -> Option<MaskedWord>
-    requires { id.0 < length pool.now }
-    ensures { IfSome result (λ m. m.word < 16) }
-{
-    let mut at = id;
-    let mut mask = u32::MAX;
-    for _ in 0..pool.len() {
-        match pool.node(at) {
-            Node::Word(word) => {
-                return Some(MaskedWord {
-                    word: word as usize,
-                    mask,
-                });
-            }
-            Node::Bin(BinOp::And, a, b) => match (
-                constant_of(pool.node(a)),
-                constant_of(pool.node(b)),
-            ) {
-                (None, Some(bits)) => {
-                    at = a;
-                    mask &= bits;
-                }
-                (Some(bits), None) => {
-                    at = b;
-                    mask &= bits;
-                }
-                _ => return None,
-            },
-            _ => return None,
-        }
-    }
-    None
 }
 
 /// The number that has only the lowest of these bits; none where there is no bit.

@@ -4,8 +4,7 @@ ghost use Rattle.std.specs.Prelude.{◌≡◌, ℕ, ◌<◌, length, IfSome, Som
 ghost use Rattle.sf_sym.specs.declared.pool.Node.TheVariants.{Const, Word};
 ghost use Rattle.sf_sym.specs.Pool.{node_at};
 
-use sf_insn::BinOp;
-use sf_sym::{Node, NodeId, Pool, constant_of};
+use sf_sym::{MaskedWord, NodeId, Pool, masked_word};
 
 /// A word of the input under a mask. The whole word has the mask 0xffffffff.
 #[derive(Clone, Copy, Debug, PartialEq, Eq)]
@@ -31,41 +30,6 @@ impl Axis {
     }
 }
 
-/// The axis that ANDs of a word with constants stand for.
-fn masked_axis_of(pool: &Pool, id: NodeId) -> Option<Axis>
-    requires { id.0 < length pool.now }
-    ensures { IfSome result (λ a. a.word < 16) }
-{
-    let mut at = id;
-    let mut mask = u32::MAX;
-    for _ in 0..pool.len() {
-        match pool.node(at) {
-            Node::Word(word) => {
-                return Some(Axis {
-                    word: word as usize,
-                    mask,
-                });
-            }
-            Node::Bin(BinOp::And, a, b) => match (
-                constant_of(pool.node(a)),
-                constant_of(pool.node(b)),
-            ) {
-                (None, Some(bits)) => {
-                    at = a;
-                    mask &= bits;
-                }
-                (Some(bits), None) => {
-                    at = b;
-                    mask &= bits;
-                }
-                _ => return None,
-            },
-            _ => return None,
-        }
-    }
-    None
-}
-
 /// The axis that a node stands for: it is a word, or ANDs of a word with constants.
 pub(crate) fn axis_of(pool: &Pool, id: NodeId) -> Option<Axis>
     requires { id.0 < length pool.now }
@@ -74,12 +38,6 @@ pub(crate) fn axis_of(pool: &Pool, id: NodeId) -> Option<Axis>
         → result ≡ Some (record { word = w; mask = 4294967295 }) }
     ensures constant { (c : ℕ) → node_at pool.now id.0 ≡ Const c → result ≡ None }
 {
-    match pool.node(id) {
-        Node::Word(word) => Some(Axis {
-            word: word as usize,
-            mask: u32::MAX,
-        }),
-        Node::Const(_) => None,
-        _ => masked_axis_of(pool, id),
-    }
+    let MaskedWord { word, mask } = masked_word(pool, id)?;
+    Some(Axis { word, mask })
 }

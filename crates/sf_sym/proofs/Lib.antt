@@ -1,3 +1,4 @@
 pub mod Folds
 pub mod HeadLemmas
 pub mod IndexLemmas
+pub mod MaskLemmas
