@@ -1,5 +1,5 @@
 -- Walks: one step longer, and beside the machine's run.
-use Rattle.std.proofs.Common.{◌≡◌, ℕ, zero, suc, ◌-◌, ◌<◌, List, [], ◌∷◌, ◌++◌, length, Bool, Option, Some, None, slice_get, refl, sym, subst, arith, ◌∙◌, append_assoc}
+use Rattle.std.proofs.Common.{◌≡◌, ℕ, zero, suc, ◌-◌, ◌<◌, List, [], ◌∷◌, ◌++◌, length, Bool, Option, Some, None, slice_get, refl, sym, ap, subst, arith, ◌∙◌, append_assoc}
 use Rattle.std.specs.Prelude.{option_map}
 use Rattle.std.specs.List.{flat_map}
 use Rattle.std.proofs.lemmas.List.{append-nil}
@@ -78,6 +78,11 @@ met_there s (Alu op other) = alu op other
     alu _ other = refl
 met_there s ReturnA = append-nil (bits 32 s.a)
 met_there s _ = refl
+
+-- so the machine meets the truth values of what is known to be met there
+pub met_by_meeting : (s : State) (i : Insn) (here : List Meeting) → meeting_at s i ≡ here
+    → met_at s i ≡ flat_map truths here
+met_by_meeting s i here is = sym (met_there s i) ∙ ap (λ y. flat_map truths y) is
 
 -- the end of a run, by what is met before it and by the walk of the rest
 longer : (met : List Bool) (here : List Meeting) (t w : CourseData) (o : Outcome) → met ≡ flat_map truths here

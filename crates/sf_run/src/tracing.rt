@@ -5,9 +5,10 @@ ghost use Rattle.sf_run.specs.Machine.{bits, met_by, trace_of};
 ghost use Rattle.sf_run.specs.Code.{met_at, state_of};
 
 use crate::fault::Fault;
-use crate::machine::{Machine, Next, execute, operand};
-use sf_check::{Insn, Operand, Program, Stack};
-use sf_insn::{BinOp, Input};
+use crate::machine::{Machine, Next, execute};
+use crate::walking::{Met, what_is_met};
+use sf_check::{Insn, Program, Stack};
+use sf_insn::Input;
 use std::alloc::Global;
 
 /// Adds the bits of a word, the highest first.
@@ -25,27 +26,11 @@ fn push_met(met: &mut Vec<bool>, machine: &Machine, insn: &Insn) -> Result<(), F
     ensures pushed { OnOk result (met.new.items ≡ met.old.items
         ++ met_at (state_of 0 machine.now) insn.now) }
 {
-    match insn {
-        Insn::Branch(test, other, _, _) => {
-            met.push(test.passes(machine.a, operand(machine, *other)))?;
-        }
-        Insn::Alu(BinOp::Div, Operand::X) => met.push(machine.x == 0)?,
-        Insn::ReturnA => push_bits(met, machine.a)?,
-        Insn::LoadWord(_)
-        | Insn::LoadConstant(_)
-        | Insn::LoadScratch(_)
-        | Insn::LoadLength
-        | Insn::LoadXConstant(_)
-        | Insn::LoadXScratch(_)
-        | Insn::LoadXLength
-        | Insn::StoreA(_)
-        | Insn::StoreX(_)
-        | Insn::Alu(_, _)
-        | Insn::Negate
-        | Insn::Jump(_)
-        | Insn::ReturnConstant(_)
-        | Insn::Tax
-        | Insn::Txa => {}
+    match what_is_met(machine, insn) {
+        Some(Met::Tested(_, _, _, passed)) => met.push(passed)?,
+        Some(Met::Divided(x)) => met.push(x == 0)?,
+        Some(Met::Returned(a)) => push_bits(met, a)?,
+        None => {}
     }
     Ok(())
 }

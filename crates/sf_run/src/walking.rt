@@ -1,10 +1,10 @@
 //! The run of a program on one input, with all that it meets and the words that it compares.
 
-ghost use Rattle.std.specs.Prelude.{◌≡◌, ◌++◌, Some, IfOk, OnOk};
+ghost use Rattle.std.specs.Prelude.{◌≡◌, ◌++◌, ℕ, [], Some, IfOk, OnOk, MatchOption};
 ghost use Rattle.sf_run.specs.Code.{state_of};
 ghost use Rattle.std.specs.List.{flat_map};
 ghost use Rattle.sf_run.specs.Machine.{met_by, return_of};
-ghost use Rattle.sf_run.specs.Walks.{course, meeting_at, truths, walk_of};
+ghost use Rattle.sf_run.specs.Walks.{at_place, course, meeting_at, truths, walk_of};
 
 use crate::fault::Fault;
 use crate::machine::{Machine, Next, execute, operand};
@@ -43,23 +43,20 @@ pub struct Course {
     pub value: u32,
 }
 
-/// Adds what the instruction meets.
-fn push_meeting(
-    met: &mut Vec<Meeting>,
-    machine: &Machine,
-    place: usize,
-    insn: &Insn,
-) -> Result<(), Fault>
-    ensures pushed { OnOk result (met.new.items ≡ met.old.items
-        ++ meeting_at (state_of place machine.now) insn.now) }
+/// What the instruction meets, if anything.
+pub(crate) fn what_is_met(machine: &Machine, insn: &Insn) -> Option<Met>
+    ensures { (place : ℕ) → MatchOption result
+        (meeting_at (state_of place machine.now) insn.now ≡ [])
+        (λ m. meeting_at (state_of place machine.now) insn.now ≡ at_place place m) }
 {
-    let here = match insn {
+    match insn {
         Insn::Branch(test, other, _, _) => {
             let word = operand(machine, *other);
-            Met::Tested(*test, machine.a, word, test.passes(machine.a, word))
+            let passed = test.passes(machine.a, word);
+            Some(Met::Tested(*test, machine.a, word, passed))
         }
-        Insn::Alu(BinOp::Div, Operand::X) => Met::Divided(machine.x),
-        Insn::ReturnA => Met::Returned(machine.a),
+        Insn::Alu(BinOp::Div, Operand::X) => Some(Met::Divided(machine.x)),
+        Insn::ReturnA => Some(Met::Returned(machine.a)),
         Insn::LoadWord(_)
         | Insn::LoadConstant(_)
         | Insn::LoadScratch(_)
@@ -74,9 +71,23 @@ fn push_meeting(
         | Insn::Jump(_)
         | Insn::ReturnConstant(_)
         | Insn::Tax
-        | Insn::Txa => return Ok(()),
-    };
-    met.push(Meeting { place, met: here })?;
+        | Insn::Txa => None,
+    }
+}
+
+/// Adds what the instruction meets.
+fn push_meeting(
+    met: &mut Vec<Meeting>,
+    machine: &Machine,
+    place: usize,
+    insn: &Insn,
+) -> Result<(), Fault>
+    ensures pushed { OnOk result (met.new.items ≡ met.old.items
+        ++ meeting_at (state_of place machine.now) insn.now) }
+{
+    if let Some(here) = what_is_met(machine, insn) {
+        met.push(Meeting { place, met: here })?;
+    }
     Ok(())
 }
 
