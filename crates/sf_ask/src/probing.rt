@@ -1,28 +1,18 @@
 //! Which questions a region is to be judged on.
 
-ghost use Rattle.std.specs.Prelude.{◌≡◌, ◌<◌, ◌≤◌, ℕ, true, false, List, length, All};
-ghost use Rattle.sf_ask.specs.Probing.{IsProbeOf, IsProbeIn, AreProbesOf, IsRuledOut, IsRuledOutIfAsked, AreRuledOutBut};
+ghost use Rattle.std.specs.Prelude.{◌≡◌, ◌<◌, ◌≤◌, ℕ, false, length, All};
+ghost use Rattle.sf_ask.specs.Probing.{IsProbeIn, AreProbesOf, IsRuledOutIfAsked, AreRuledOutBut};
 ghost use Rattle.sf_ask.specs.QuestionBits.{has_bit};
 ghost use Rattle.sf_ask.specs.declared.probe.Probe.{Probe as AProbe};
 ghost use Rattle.sf_ask.specs.Sheets.{AreClearBut};
 
 use crate::bits::{has_bit, has_none, set_bit};
-use crate::confining::rules_out;
+use crate::confining::{misses, rules_out};
 use crate::probe::{Probe, Probes};
 use crate::question::Question;
 use sf_book::Settled;
 use sf_dom::Facts;
 use sf_sym::NodeId;
-
-/// Whether what is known of the probe's word leaves no number of the probe's range.
-fn probe_misses(facts: &Facts, _question: &Question, probe: &Probe) -> bool
-    requires known { 16 ≤ length facts.now.known }
-    requires probe { IsProbeOf _question.now probe.now }
-    ensures { result ≡ true → IsRuledOut facts.now _question.now }
-{
-    let known = facts.known(NodeId(probe.word as u32));
-    known.high < probe.low || probe.high < known.low
-}
 
 /// Whether the bit of the probe's question is set in `asked`, and the facts don't rule the question out at once. The
 /// probe is looked at first, since it rules out most questions; the few others are held against all words.
@@ -37,7 +27,7 @@ fn is_left_to_judge(facts: &Facts, questions: &[Question], asked: &[u64; 4], pro
         return false;
     }
     let question = &questions[probe.question];
-    if probe_misses(facts, question, probe) {
+    if misses(facts, probe.word, probe.low, probe.high) {
         return false;
     }
     !rules_out(facts, question)
