@@ -21,5 +21,5 @@ pub use members::{Membership, find_member};
 pub use probe::Probes;
 pub use probing::questions_to_judge;
 pub use question::Question;
-pub use sheet::Sheet;
+pub use sheet::{Sheet, snapshots};
 pub use verdict::{Reply, Verdict};

@@ -55,8 +55,9 @@ impl Model for Sheet {
         (option_map (λ v. v.items) s.verdicts))) × (length s.questions.items ≤ 256) };
 }
 
-/// For the prover: a snapshot of each question, by which contracts see what a sheet is about. Snapshots take no bytes.
-fn snapshots(alloc: Global, questions: &[Question]) -> Result<Vec<Snapshot<Question>>, Fault>
+/// For the prover: a snapshot of each question, by which contracts see what a sheet or a board is about. Snapshots take
+/// no bytes. `Memory` where an allocation is refused.
+pub fn snapshots(alloc: Global, questions: &[Question]) -> Result<Vec<Snapshot<Question>>, Fault>
     ensures each { IfOk result (λ v. map (λ q. q.value) v.items ≡ questions.now) }
     ensures err { IfErr result (λ f. f ≡ Memory) }
 {

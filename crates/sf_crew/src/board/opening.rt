@@ -1,5 +1,5 @@
 //! How a board is made, with its seats.
-ghost use Rattle.std.specs.Prelude.{◌≡◌, ◌+◌, ◌<◌, ◌≤◌, length, map, All, IfOk, IfErr, Some, None, [], ◌∷◌, ◌++◌, replicate, vec_len};
+ghost use Rattle.std.specs.Prelude.{◌≡◌, ◌+◌, ◌<◌, ◌≤◌, length, All, IfOk, IfErr, Some, None, [], ◌∷◌, ◌++◌, replicate, vec_len};
 ghost use Rattle.sf_crew.specs.Views.{questions_of, regions_of};
 ghost use Rattle.sf_crew.specs.BoardSteps.{view_of};
 ghost use Rattle.sf_crew.specs.Boards.{about, board_id, IsNewSeat};
@@ -9,22 +9,10 @@ use crate::board::steps::{Deal, LEAST};
 use crate::board::view::{BoardKey, View};
 use crate::board::{Board, Seat, Words};
 use crate::fault::Fault;
-use sf_ask::Question;
+use sf_ask::{Question, snapshots};
 use sf_book::Settled;
 use std::alloc::Global;
 use std::snapshot::Snapshot;
-
-/// For the prover: a snapshot of each question, by which contracts see what a board is about. Snapshots take no bytes.
-fn snapshots(alloc: Global, questions: &[Question]) -> Result<Vec<Snapshot<Question>>, Fault>
-    ensures ok { IfOk result (λ v. map (λ q. q.value) v.items ≡ questions.now) }
-    ensures err { IfErr result (λ f. f ≡ Memory) }
-{
-    let mut all = Vec::new(alloc);
-    for question in questions {
-        all.push(Snapshot::of(question))?;
-    }
-    Ok(all)
-}
 
 /// The words of a new board: no job drawn, no sheet entered, no doubt, and no least place.
 fn first_words(alloc: Global, regions: usize, questions: usize) -> Result<Vec<u64>, Fault>
