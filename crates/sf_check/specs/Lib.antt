@@ -1,7 +1,6 @@
 pub mod Codes
 pub mod Insns
 pub mod Programs
-pub mod Packing
 pub mod EqualTests
 pub mod Joining
 pub mod Refusals

@@ -5,7 +5,6 @@ ghost use Rattle.sf_insn.specs.declared.raw.RawInsn.{RawInsn};
 ghost use Rattle.sf_check.specs.declared.insn.Insn.{Insn};
 ghost use Rattle.sf_check.specs.declared.fault.Fault.{Fault};
 ghost use Rattle.sf_check.specs.Programs.{IsLawfulProgram, Spells, SpellsProgram};
-ghost use Rattle.sf_check.specs.Packing.{ArePacked};
 ghost use Rattle.sf_check.specs.Refusals.{IsFirstFault};
 
 use sf_insn::laws::one_spelling;
@@ -23,12 +22,6 @@ pub fn one_program_of_a_file()
 {
     one_spelling();
 }
-
-/// Instructions, each as one number, spell at most one lawful program.
-pub(crate) fn one_program_of_packed()
-    ensures { (packed : List ℕ) (a b : List Insn) → ArePacked a packed
-        → ArePacked b packed → a ≡ b }
-{}
 
 /// Instructions with a first fault spell no lawful program, so `check` accepts exactly those that spell one.
 pub fn a_fault_spells_no_lawful_program()

@@ -7,7 +7,6 @@ use Rattle.sf_check.specs.declared.read.Unreadable.TheVariants.{UnknownCode, Bad
 use Rattle.sf_check.specs.Codes.{insn_of}
 use Rattle.sf_check.specs.Insns.{successors}
 use Rattle.sf_check.specs.Programs.{AllBelow, IsAt, EndsInReturn, IsSetAt, IsUnsetAt}
-use Rattle.sf_check.specs.Packing.{ArePacked}
 use Rattle.sf_check.specs.ProgramLaws.{successors_inside}
 use Rattle.sf_check.proofs.Reading.{read_more, all_spelled, all_fine, lawful, size_is}
 use Rattle.sf_check.specs.EqualTests.{LeadInside}
@@ -130,15 +129,10 @@ invariant_of-result c =
     (c.ends_in_return.ensures.0 c.if-not-ends_in_return.false) in
     let none : (at : ℕ) → IsSetAt c.deref-2.result.now at = rw c.in_default.is at c.in_ok-place.ensures.none in
     let set : (at : ℕ) → IsSetAt code at = subst (λ (p : List Insn). (at : ℕ)
-    → IsSetAt p at) c.deref-2.ensures.value none in
-    let packed : ArePacked code c.in_ok-packed.packed.items = record {
-      raws = raws;
-      fields = c.in_ok-packed.ensures.fields;
-      numbered = c.in_ok-packed.ensures.packed;
-      read = all_spelled raws code place c.loop-place.invariant (omega arith) (omega arith);
-      lawful = lawful raws code place c.loop-place.invariant (omega arith) (omega arith) some (omega arith) ends set;
-    } in
-    (packed, rw c.deref-3.ensures.value at c.in_ok-equals.ensures.tables)
+    → IsSetAt p at) c.deref-2.ensures.value none in (
+      lawful raws code place c.loop-place.invariant (omega arith) (omega arith) some (omega arith) ends set,
+      rw c.deref-3.ensures.value at c.in_ok-equals.ensures.tables,
+    )
 
 pub returns-clause-accepted : goal.returns-clause-accepted
 returns-clause-accepted c =
