@@ -1,5 +1,5 @@
 -- The bits of questions.
-use Rattle.std.proofs.Common.{◌≡◌, ◌≢◌, ℕ, ◌+◌, ◌*◌, ◌/◌, ◌%◌, ◌^◌, ◌<◌, ◌==◌, if◌then◌else◌, min, bit_and, bit_or, Bool, true, false, List, slice_index, set, length, w64, refl, sym, ap, ◌∙◌, subst, arith}
+use Rattle.std.proofs.Common.{◌≡◌, ◌≢◌, ℕ, ◌*◌, ◌/◌, ◌%◌, ◌^◌, ◌<◌, ◌==◌, if◌then◌else◌, min, bit_and, bit_or, true, false, List, slice_index, set, length, w64, sym, ap, ◌∙◌, subst, arith}
 use Rattle.std.specs.Int.{bit_at}
 use Rattle.std.proofs.lemmas.Bool.{true≢false}
 use Rattle.std.proofs.lemmas.Bool.Decides.{nat_tests}
@@ -59,17 +59,3 @@ pub apart : (first second : List ℕ) (q : ℕ)
     → has_bit first q ≡ false
 apart first second q none set =
     apart-at (slice_index first (q / 64)) (slice_index second (q / 64)) (q % 64) none set
-
--- a truth value that is false where it is true is false
-pub never-set : (b : Bool) → (b ≡ true → b ≡ false) → b ≡ false
-never-set true h = h refl
-never-set false h = refl
-
--- what holds of the questions below n whose bit isn't set, with the question n
-pub clear-more : (P : ℕ → Type 0) (n : ℕ) (before after : List ℕ)
-    → ((q : ℕ) → q < n → has_bit before q ≡ false → P q) → (has_bit after n ≡ false → P n)
-    → ((q : ℕ) → q ≢ n → has_bit after q ≡ has_bit before q)
-    → (q : ℕ) → q < n + 1 → has_bit after q ≡ false → P q
-clear-more P n before after all this same q lt none = dite (ℕ_discrete q n)
-    (λ e. subst P (sym e) (this (subst (λ x. has_bit after x ≡ false) e none)))
-    (λ ne. all q (omega arith) (sym (same q ne) ∙ none))

@@ -1,34 +1,22 @@
 -- Probes of questions, and the questions that ask about an action.
-use Rattle.std.proofs.Common.{◌≡◌, ◌≢◌, ℕ, zero, suc, ◌+◌, ◌-◌, ◌/◌, ◌%◌, ◌<◌, ◌≤◌, ◌==◌, ◌&&◌, ltb, leb, min, ◌⊎◌, inl, inr, Bool, not, true, false, List, [], ◌∷◌, ◌++◌, length, take, drop, get_or, Some, refl, sym, ap, subst, ◌∙◌, arith}
-use Rattle.std.specs.Prelude.{slice_get, slice_index, slice_range, All, Contains, IsPermutation}
+use Rattle.std.proofs.Common.{◌≡◌, ℕ, zero, suc, ◌+◌, ◌-◌, ◌<◌, ◌≤◌, ltb, leb, min, ◌⊎◌, inl, inr, true, false, List, [], ◌∷◌, ◌++◌, length, take, drop, get_or, Some, refl, sym, ap, ◌∙◌, arith}
+use Rattle.std.specs.Prelude.{slice_get, slice_range, All, Contains, IsPermutation}
 use Rattle.std.specs.List.Sorted.{IsPartitionPoint}
-use Rattle.std.specs.Int.{bit_at}
 use Rattle.std.proofs.lemmas.Bool.{ltb-true, leb-false, eqb-true, cases_lt}
-use Rattle.std.proofs.lemmas.List.{length-take, length-take-le, length-drop, get_or-take, get_or-drop}
+use Rattle.std.proofs.lemmas.List.{length-take-le, length-drop, get_or-take, get_or-drop}
 use Rattle.std.proofs.lemmas.List.Elements.{All-push, All-more, All-weaker, Contains-push, Contains-append_left}
 use Rattle.std.proofs.lemmas.List.Sorted.{All-permutation, Contains-permutation}
-use Rattle.std.proofs.lemmas.Nat.Bits.{bit_at-zero}
 use mathlib.Core.Logic.{dite}
 use native.Mathlib.Decide.{ℕ_discrete}
 use Rattle.sf_run.specs.declared.action.Action.{Action}
 use Rattle.sf_dom.specs.Facts.{FactsView, known_at}
-use Rattle.sf_ask.specs.Actions.{has_action}
-use Rattle.sf_ask.specs.Probing.{IsRuledOut, IsRuledOutIfAsked, IsProbeIn, has_one_call, HasProbe, AreProbes}
+use Rattle.sf_ask.specs.Probing.{IsRuledOutIfAsked, IsProbeIn, has_one_call, HasProbe, AreProbes}
 use Rattle.sf_ask.specs.QuestionBits.{has_bit}
 use Rattle.sf_ask.specs.QuestionData.{QuestionData}
 use Rattle.sf_ask.specs.declared.probe.Probe.{Probe}
 use Rattle.sf_ask.proofs.Words.{below-range, above-range}
 
 -- ---- one place after the other
-
--- what holds at each place below n, and at n, holds at each place below n + 1
-pub below-more : (P : ℕ → Type 0) (n : ℕ) → ((i : ℕ) → i < n → P i) → P n → (i : ℕ) → i < n + 1 → P i
-below-more P n before here i l = dite (ℕ_discrete i n) (λ e. subst P (sym e) here) (λ ne. before i (omega arith))
-
--- what is read twice at one place is the same
-pub same-place : {X : Type 0} (xs : List X) (i : ℕ) (x y : X) → slice_get xs i ≡ Some x
-    → slice_get xs i ≡ Some y → x ≡ y
-same-place xs i x y one two = cc (one, two)
 
 -- a place below the length has an element
 pub there-is : {X : Type 0} (xs : List X) (i : ℕ) → i < length xs → (x : X) × (slice_get xs i ≡ Some x)
@@ -120,57 +108,7 @@ found-between probes low high from to starts ends inside p there above below =
           ∙ ap (λ x. get_or probes x p) back ∙ there.2,
     )
 
--- between the places where two searches end stand only probes that stood there before
-pub stood-before : (probes : List Probe) (m to : ℕ) → to ≤ length probes → (p : Probe)
-    → Contains (slice_range probes m to) p → Contains probes p
-stood-before probes m to inside p there =
-    let long = length-take (to - m) (drop m probes) in let d = length-drop m probes in (
-      m + there.0,
-      omega (arith, there.1),
-      sym (get_or-take (to - m) (drop m probes) there.0 p (omega (arith, there.1))
-          ∙ get_or-drop m probes there.0 p) ∙ there.2,
-    )
-
--- ---- who asks
-
--- each word of four is 0
-none-in : (w : ℕ) → slice_index (0 ∷ 0 ∷ 0 ∷ 0 ∷ []) w ≡ 0
-none-in zero = refl
-none-in (suc zero) = refl
-none-in (suc (suc zero)) = refl
-none-in (suc (suc (suc zero))) = refl
-none-in (suc (suc (suc (suc w)))) = refl
-
--- where no bit is set, no question has one
-pub none-set : (q : ℕ) → has_bit (0 ∷ 0 ∷ 0 ∷ 0 ∷ []) q ≡ false
-none-set q = ap (λ x. x == 1) (ap (λ x. bit_at x (q % 64)) (none-in (q / 64)) ∙ bit_at-zero (q % 64))
-
--- the bits of the questions below n that ask about an action
-abbrev pub AreAskersBelow : List QuestionData → Action → ℕ → List ℕ → Type 0
-AreAskersBelow questions action n bits = (q : ℕ) → q < n → (question : QuestionData)
-    → slice_get questions q ≡ Some question → has_bit bits q ≡ has_action question.actions action
-
--- the bits of the questions that ask about an action, with one question more
-pub askers-more : (questions : List QuestionData) (action : Action) (n : ℕ) (x : QuestionData) (before after : List ℕ)
-    → slice_get questions n ≡ Some x → has_bit after n ≡ has_action x.actions action
-    → ((q : ℕ) → q ≢ n → has_bit after q ≡ has_bit before q) → AreAskersBelow questions action n before
-    → AreAskersBelow questions action (n + 1) after
-askers-more questions action n x before after there here same all q l question asked = dite (ℕ_discrete q n)
-    (λ e. ap (has_bit after) e ∙ here
-    ∙ ap (λ (y : QuestionData). has_action y.actions action)
-    (same-place questions n x question there (subst (λ i. slice_get questions i ≡ Some question) e asked)))
-    (λ ne. same q ne ∙ all q (omega arith) question asked)
-
--- no bit is set from the next place on
-pub rest-unset : (n : ℕ) (before after : List ℕ) → ((q : ℕ) → n ≤ q → has_bit before q ≡ false)
-    → ((q : ℕ) → q ≢ n → has_bit after q ≡ has_bit before q) → (q : ℕ) → n + 1 ≤ q → has_bit after q ≡ false
-rest-unset n before after none same q l = same q (λ e. omega arith) ∙ none q (omega arith)
-
 -- ---- what is ruled out
-
-both-of : (a b : Bool) → (a && b) ≡ true → (a ≡ true) × (b ≡ true)
-both-of true b e = (refl, e)
-both-of false b e = absurd (cc (e))
 
 -- what holds of each question whose bit isn't set, with one probe more
 pub marked-more : (P : ℕ → Type 0) (before after : List ℕ) (probes : List Probe) (i : ℕ) (d : Probe) → i < length probes
@@ -185,26 +123,15 @@ marked-more P before after probes i d l less all here =
     here
 
 -- a question about one call is ruled out where what is known of the first word leaves out the call's number
-pub call-misses : (f : FactsView) (questions : List QuestionData) (asked : List ℕ) (p : Probe) → IsProbeIn questions p
+pub call-misses : (f : FactsView) (questions : List QuestionData) (action : Action) (p : Probe) → IsProbeIn questions p
     → has_one_call p ≡ true → (p.low < (known_at f.known 0).low) ⊎ ((known_at f.known 0).high < p.low)
-    → IsRuledOutIfAsked f questions asked p.question
-call-misses f questions asked p is one outside = λ question there asks pool covers.
+    → IsRuledOutIfAsked f questions action p.question
+call-misses f questions action p is one outside = λ question there asks pool covers.
     let of = is.of question there in
-    let one = both-of _ _ one in
-    let word : p.word ≡ 0 = eqb-true _ _ one.0 in
-    let same : p.low ≡ p.high = eqb-true _ _ one.1 in
-    let low = rw word at of.low in
-    let high = rw word at of.high in
+    let same : p.low ≡ p.high = eqb-true _ _ one in
+    let low = ap (λ r. r.0) of in
+    let high = ap (λ r. r.1) of in
     elim outside [
       | inl l ↦ above-range question 0 f pool (omega arith) (omega (arith, high, same, l)) covers
       | inr r ↦ below-range question 0 f pool (omega arith) (omega (arith, low, r)) covers
     ]
-
-pub ruled-here : (f : FactsView) (questions : List QuestionData) (asked : List ℕ) (q : ℕ) (x : QuestionData)
-    → slice_get questions q ≡ Some x → IsRuledOut f x → IsRuledOutIfAsked f questions asked q
-ruled-here f questions asked q x there out =
-    λ question same set. subst (IsRuledOut f) (same-place questions q x question there same) out
-
-pub of-not : (b : Bool) → not b ≡ false → b ≡ true
-of-not true e = refl
-of-not false e = absurd (cc)

@@ -1,5 +1,5 @@
 -- The verdicts on questions that are clear at once.
-use Rattle.std.proofs.Common.{◌≡◌, ℕ, zero, suc, ◌<◌, ◌≤◌, not, Bool, true, false, List, [], ◌∷◌, length, Some, None, refl, sym, ap, subst, ◌∙◌, inl, inr, ◌⊎◌, arith, length-append}
+use Rattle.std.proofs.Common.{◌≡◌, ℕ, zero, suc, ◌<◌, ◌≤◌, not, Bool, true, false, List, [], ◌∷◌, length, Some, None, refl, ap, subst, ◌∙◌, inl, inr, ◌⊎◌, arith, length-append}
 use Rattle.std.specs.Prelude.{slice_get, if◌then◌else◌}
 use Rattle.std.specs.List.{list_all}
 use Rattle.std.proofs.lemmas.List.{get_or_append_left, get_or_push}
@@ -11,7 +11,7 @@ use Rattle.sf_dom.specs.Facts.{Agrees, Covers}
 use Rattle.sf_piece.specs.Pieces.{PieceData, is_member}
 use Rattle.sf_book.specs.Books.{BookData, RegionData, IsRightRegion}
 use Rattle.sf_ask.specs.Actions.{has_action}
-use Rattle.sf_ask.specs.Probing.{AreAskers, IsRuledOutIfAsked}
+use Rattle.sf_ask.specs.Probing.{IsRuledOutIfAsked}
 use Rattle.sf_ask.specs.Searches.{IsRightSearch}
 use Rattle.sf_ask.proofs.ProbeLemmas.{there-is}
 use Rattle.sf_ask.proofs.Searching.{not-asked, ruled-out, region-right}
@@ -91,26 +91,18 @@ clear-ruled-out : (s : BookData) (questions : List QuestionData) (job q : ℕ) (
 clear-ruled-out s questions job q r x there right asking asked none =
     clear-is-right s questions job q x asking (region-right s job x r Clear there right asked none)
 
--- a question that doesn't ask about the region's action is clear
-pub clear-not-asked : (s : BookData) (questions : List QuestionData) (job q : ℕ) (r : RegionData) (asked : List ℕ)
-    → slice_get s.regions job ≡ Some r → IsRightRegion s.stack r → q < length questions
-    → AreAskers questions r.answer.action asked → has_bit asked q ≡ false → IsRightOn s questions job q Clear
-clear-not-asked s questions job q r asked there right l askers none =
-    let x = there-is questions q l in
-    clear-unasked s questions job q r x.0 there right x.1 (sym (askers q x.0 x.1) ∙ none)
-
 -- a question that is ruled out if it asks about the region's action is clear
 pub clear-if-asked : (s : BookData) (questions : List QuestionData) (job q : ℕ) (r : RegionData) (p : PieceData)
-    (asked : List ℕ) → slice_get s.regions job ≡ Some r → IsRightRegion s.stack r → q < length questions
-    → AreAskers questions r.answer.action asked → p ≡ r.piece
+    → slice_get s.regions job ≡ Some r → IsRightRegion s.stack r → q < length questions → p ≡ r.piece
     → ((d : Input) → IsInput d → is_member p d ≡ true → Agrees p.facts p.pool d) → Covers p.facts p.pool
-    → IsRuledOutIfAsked p.facts questions asked q → IsRightOn s questions job q Clear
-clear-if-asked s questions job q r p asked there right l askers same known covers out = by (has_bit asked q) refl
+    → IsRuledOutIfAsked p.facts questions r.answer.action q → IsRightOn s questions job q Clear
+clear-if-asked s questions job q r p there right l same known covers out =
+    let x = there-is questions q l in by x.0 x.1 (has_action x.0.actions r.answer.action) refl
   where
-    by : (b : Bool) → has_bit asked q ≡ b → IsRightOn s questions job q Clear
-    by false none = clear-not-asked s questions job q r asked there right l askers none
-    by true set =
-        let x = there-is questions q l in
-        clear-ruled-out s questions job q r x.0 there right x.1 (sym (askers q x.0 x.1) ∙ set)
-        (subst (λ (y : PieceData). IsRightSearch y x.0 Clear) same
-        (ruled-out p x.0 p.facts p.pool known (out x.0 x.1 set p.pool covers)))
+    by : (x : QuestionData) → slice_get questions q ≡ Some x → (b : Bool) → has_action x.actions r.answer.action ≡ b
+        → IsRightOn s questions job q Clear
+    by x asking false none = clear-unasked s questions job q r x there right asking none
+    by x asking true asks =
+        clear-ruled-out s questions job q r x there right asking asks
+        (subst (λ (y : PieceData). IsRightSearch y x Clear) same
+        (ruled-out p x p.facts p.pool known (out x asking asks p.pool covers)))

@@ -122,10 +122,6 @@ word-confines false q at f g h ns of a none = none-again f g ns (HasIn at (IsInR
     (HasIn at (HasMaskBits q at)) (HasIn at (IsNumberOf q at)) (λ word n. word ≡ at → IsInRange q at n) a none
     (λ d n. (n.above, n.below)) (λ d n. n.masked)
 
-pub word-missed : (q : QuestionData) (at : ℕ) (f : FactsView) (ns : List Node)
-    → NoInput f ns (HasIn at (IsInRange q at)) → NoInput f ns (HasIn at (IsNumberOf q at))
-word-missed q at f ns none = λ d i agrees n. none d i agrees (n.above, n.below)
-
 -- where all numbers that a word may have are below a range, or all are above it, no input has one of the range there
 pub below-misses : (at low high : ℕ) (f : FactsView) (ns : List Node) → at < 16 → (known_at f.known at).high < low
     → Covers f ns → NoInput f ns (HasIn at (LiesIn low high))
@@ -140,16 +136,6 @@ above-misses at low high f ns l over covers = λ d i agrees inside.
     let left = (agreeing-word f ns d at covers l agrees).admitted.above in
     let below = inside.1 in
     omega arith
-
--- then no input is in a question that has this range for the word
-pub rules-out : (q : QuestionData) (at low high : ℕ) (f : FactsView) (ns : List Node) → at < 16
-    → low ≡ (range_at q at).0 → high ≡ (range_at q at).1 → NoInput f ns (HasIn at (LiesIn low high))
-    → NoInput f ns (IsInQuestion q)
-rules-out q at low high f ns l el eh none = λ d i agrees inside.
-    let n = inside at l in
-    let above = n.above in
-    let below = n.below in
-    none d i agrees (omega arith, omega arith)
 
 -- where all numbers that a word may have are below its range, the question is ruled out
 pub below-range : (q : QuestionData) (at : ℕ) (f : FactsView) (ns : List Node) → at < 16
@@ -189,12 +175,6 @@ before-more q at f g h ns of a b = again f g h ns (IsInBefore q at) (HasIn at (I
       | inl same ↦ subst (λ (i : ℕ). IsNumberOf q i n) (sym same) (here same)
       | inr other ↦ early (omega arith)
     ])
-
-pub before-missed : (q : QuestionData) (at : ℕ) (f g : FactsView) (ns : List Node) → at < 16
-    → AreConfined f g ns (IsInBefore q at) (IsNumberBefore q at) → NoInput g ns (HasIn at (IsNumberOf q at))
-    → NoInput f ns (IsInQuestion q)
-before-missed q at f g ns l a none = none-again f g ns (IsInBefore q at) (HasIn at (IsNumberOf q at)) (IsInQuestion q)
-    (IsNumberBefore q at) a none (λ d inside word early. inside word (omega arith)) (λ d inside. inside at l)
 
 -- when the last word is confined, the facts are confined to the question
 pub before-all : (q : QuestionData) (at : ℕ) (f g : FactsView) (ns : List Node) → at ≡ 16

@@ -31,10 +31,3 @@ pub(crate) fn share_none(first: &[u64; 4], second: &[u64; 4]) -> bool
     }
     true
 }
-
-/// Whether no question has its bit.
-pub(crate) fn has_none(bits: &[u64; 4]) -> bool
-    ensures { IsTrue result → (q : ℕ) → q < 256 → has_bit bits.now q ≡ false }
-{
-    share_none(bits, bits)
-}

@@ -4,20 +4,26 @@ ghost use Rattle.std.specs.Prelude.{◌≡◌, ◌<◌, ◌≤◌, true, false, 
 ghost use Rattle.sf_sym.specs.declared.pool.Node.{Node as ANode};
 ghost use Rattle.sf_dom.specs.Facts.{Covers, AreConfined, ConfinesWord, NoInput, HasIn, LiesIn};
 ghost use Rattle.sf_ask.specs.Breaking.{IsNumberOf, IsInQuestion};
-ghost use Rattle.sf_ask.specs.Probing.{IsRuledOut};
+ghost use Rattle.sf_ask.specs.Probing.{is_whole, IsRuledOut};
 ghost use Rattle.sf_ask.specs.Searches.{IsInRange, HasMaskBits};
 ghost use Rattle.sf_ask.specs.Trying.{IsNumberBefore};
 ghost use Rattle.sf_ask.specs.declared.fault.Fault.TheVariants.{Memory};
 
 use crate::fault::Fault;
-use crate::probe::is_whole;
 use crate::question::Question;
 use sf_dom::Facts;
 use sf_sym::{NodeId, Pool};
 use std::alloc::Global;
 
+/// Whether the range leaves no number out.
+fn is_whole(range: (u32, u32)) -> bool
+    ensures { result ≡ is_whole range }
+{
+    range.0 == 0 && range.1 == u32::MAX
+}
+
 /// Whether what is known of a word leaves no number from `low` to `high` for it.
-pub(crate) fn misses(facts: &Facts, word: usize, low: u32, high: u32) -> bool
+fn misses(facts: &Facts, word: usize, low: u32, high: u32) -> bool
     requires word { word < 16 }
     requires known { 16 ≤ length facts.now.known }
     ensures { result ≡ true → (pool : List ANode) → Covers facts.now pool

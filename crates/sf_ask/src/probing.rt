@@ -6,38 +6,31 @@ ghost use Rattle.sf_ask.specs.QuestionBits.{has_bit};
 ghost use Rattle.sf_ask.specs.declared.probe.Probe.{Probe as AProbe};
 ghost use Rattle.sf_ask.specs.Sheets.{AreClearBut};
 
-use crate::bits::{has_bit, has_none, set_bit};
-use crate::confining::{misses, rules_out};
+use crate::bits::set_bit;
+use crate::confining::rules_out;
 use crate::probe::{Probe, Probes};
 use crate::question::Question;
 use sf_book::Settled;
 use sf_dom::Facts;
+use sf_run::Action;
 use sf_sym::NodeId;
 
-/// Whether the bit of the probe's question is set in `asked`, and the facts don't rule the question out at once. The
-/// probe is looked at first, since it rules out most questions; the few others are held against all words.
-fn is_left_to_judge(facts: &Facts, questions: &[Question], asked: &[u64; 4], probe: &Probe) -> bool
+/// Whether the probe's question asks about the action, and the facts don't rule it out at once.
+fn is_left_to_judge(facts: &Facts, questions: &[Question], action: Action, probe: &Probe) -> bool
     requires known { 16 ≤ length facts.now.known }
-    requires questions { length questions.now ≤ 256 }
     requires probe { IsProbeIn questions.now probe.now }
     ensures { result ≡ false
-        → IsRuledOutIfAsked facts.now questions.now asked.now probe.now.question }
+        → IsRuledOutIfAsked facts.now questions.now action probe.now.question }
 {
-    if !has_bit(asked, probe.question) {
-        return false;
-    }
     let question = &questions[probe.question];
-    if misses(facts, probe.word, probe.low, probe.high) {
-        return false;
-    }
-    !rules_out(facts, question)
+    question.actions().has(action) && !rules_out(facts, question)
 }
 
 /// Sets in `left` the bits of the probes' questions that are left.
 fn mark_left(
     facts: &Facts,
     questions: &[Question],
-    asked: &[u64; 4],
+    action: Action,
     probes: &[Probe],
     left: &mut [u64; 4],
 )
@@ -45,34 +38,34 @@ fn mark_left(
     requires questions { length questions.now ≤ 256 }
     requires probes { All (IsProbeIn questions.now) probes.now }
     ensures marked { All (λ (p : AProbe). has_bit left.new p.question ≡ false
-        → IsRuledOutIfAsked facts.now questions.now asked.now p.question) probes.now }
+        → IsRuledOutIfAsked facts.now questions.now action p.question) probes.now }
     ensures kept { (q : ℕ) → has_bit left.new q ≡ false → has_bit left.old q ≡ false }
 {
     for probe in probes {
-        if is_left_to_judge(facts, questions, asked, probe) {
+        if is_left_to_judge(facts, questions, action, probe) {
             set_bit(left, probe.question);
         }
     }
 }
 
-/// Of the questions whose bit is set in `asked`, those that the facts don't rule out at once.
+/// Of the questions that ask about the action, those that the facts don't rule out at once.
 fn questions_left(
     facts: &Facts,
     questions: &[Question],
     probes: &Probes,
-    asked: &[u64; 4],
+    action: Action,
 ) -> [u64; 4]
     requires known { 16 ≤ length facts.now.known }
     requires questions { length questions.now ≤ 256 }
     requires probes { AreProbesOf questions.now probes.now }
-    ensures { AreRuledOutBut facts.now questions.now asked.now result }
+    ensures { AreRuledOutBut facts.now questions.now action result }
 {
     let call = facts.known(NodeId(0));
     let mut left = [0u64; 4];
     let others = probes.others.as_slice();
-    mark_left(facts, questions, asked, others, &mut left);
+    mark_left(facts, questions, action, others, &mut left);
     let by_call = probes.probes_of_calls(call.low, call.high);
-    mark_left(facts, questions, asked, by_call, &mut left);
+    mark_left(facts, questions, action, by_call, &mut left);
     left
 }
 
@@ -91,10 +84,7 @@ pub fn questions_to_judge(
     ensures { AreClearBut settled.now questions.now job result }
 {
     let region = settled.region(job);
-    let asked = probes.askers.questions_about(region.answer().action);
-    if has_none(asked) {
-        return [0; 4];
-    }
     let piece = region.piece();
-    questions_left(piece.facts(), questions, probes, asked)
+    let action = region.answer().action;
+    questions_left(piece.facts(), questions, probes, action)
 }

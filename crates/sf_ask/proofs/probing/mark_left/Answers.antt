@@ -11,7 +11,7 @@ pub loop-probe-preserved : goal.loop-probe-preserved
 loop-probe-preserved c =
     let i = c.loop-probe.invariant in
     let before = c.loop-probe.left in
-    let P = IsRuledOutIfAsked c.args.facts.now c.args.questions.now c.args.asked.now in
+    let P = IsRuledOutIfAsked c.args.facts.now c.args.questions.now c.args.action in
     elim c.if-is_left_to_judge.branch [
       | then-is_left_to_judge w ↦ rw w.left-is (
           let less = unset-before _ before w.set_bit.new.bits w.set_bit.ensures in

@@ -8,6 +8,6 @@ use Rattle.sf_ask.proofs.probing.mark_left.Given as goal
 abbrev pub invariant-loop-probe : goal.invariant-loop-probe
 invariant-loop-probe l = record {
   marked : All (λ (p : Probe). has_bit l.left p.question ≡ false
-      → IsRuledOutIfAsked l.facts l.questions l.asked p.question) (take l.probe-index l.probes);
+      → IsRuledOutIfAsked l.facts l.questions l.action p.question) (take l.probe-index l.probes);
   kept : (q : ℕ) → has_bit l.left q ≡ false → has_bit l.initial.left q ≡ false;
 }

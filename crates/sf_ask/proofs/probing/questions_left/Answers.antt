@@ -17,9 +17,9 @@ pub returns : goal.returns
 returns c = λ q l none.
     let f = c.args.facts.now in
     let questions = c.args.questions.now in
-    let asked = c.args.asked.now in
+    let action = c.args.action in
     let probes = c.requires.probes.each in
-    let P = IsRuledOutIfAsked f questions asked in
+    let P = IsRuledOutIfAsked f questions action in
     let left : Probe → Type 0 = λ p. has_bit c.mark_left-2.new.left p.question ≡ false → P p.question in
     let word = c.known-call.ensures in
     elim (probes.each q l) [
@@ -28,9 +28,9 @@ returns c = λ q l none.
           let is = All-contains (IsProbeIn questions) c.args.probes.now.by_call.items p probes.right_calls has.1 in
           let one = All-contains (λ x. has_one_call x ≡ true) c.args.probes.now.by_call.items p probes.one_call has.1 in
           subst P has.2 (elim (cases_lt p.low (known_at f.known 0).low) [
-            | inl below ↦ call-misses f questions asked p is one (inl below)
+            | inl below ↦ call-misses f questions action p is one (inl below)
             | inr from ↦ elim (cases_lt (known_at f.known 0).high p.low) [
-              | inl above ↦ call-misses f questions asked p is one (inr above)
+              | inl above ↦ call-misses f questions action p is one (inr above)
               | inr to ↦ All-contains left c.probes_of_calls-by_call.result.now p c.mark_left-2.ensures.marked
                   (c.probes_of_calls-by_call.ensures.all p has.1 (rw word from) (rw word to))
                   (subst (λ x. has_bit c.mark_left-2.new.left x ≡ false) (sym has.2) none)
