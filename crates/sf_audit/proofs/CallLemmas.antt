@@ -1,5 +1,5 @@
 -- The calls of a file of names, one more at a time; and no tree is refused as `Syntax`.
-use Rattle.std.proofs.Common.{◌≡◌, ℕ, Bool, true, false, List, [], ◌∷◌, ◌++◌, codes, append_assoc, append-nil, Option, Some, None, Result, Ok, Err, refl, ap, sym, subst, ◌∙◌, String, string_bytes, Global, if◌then◌else◌}
+use Rattle.std.proofs.Common.{◌≡◌, ℕ, Bool, true, false, List, [], ◌∷◌, ◌++◌, codes, append_assoc, Option, Some, None, Result, Ok, Err, refl, ap, sym, subst, ◌∙◌, String, string_bytes, Global, if◌then◌else◌}
 use Rattle.std.specs.Prelude.{IfErr, IfOk}
 use Rattle.std.proofs.lemmas.Bool.{false≢true}
 use Rattle.toml.specs.Data.{Data, string, integer, float, boolean, datetime, array, table, Members, no_members, member, get_member}
@@ -32,23 +32,6 @@ one_more_call whole front s t name value c is found before =
     let opened = rw is at before in
     let read = rw found at opened in
     read ∙ with_calls_cons front c (calls_of (members_view t))
-
--- a call that is refused
-pub refused_call : (whole : Result (List CallData) Fault) (front : List CallData) (s t : List (String Global × Value))
-    (name : String Global) (value : Value) (fault : Fault) → s ≡ (name, value) ∷ t
-    → call_of (string_bytes name) (view value) ≡ Err fault
-    → whole ≡ with_calls front (calls_of (members_view s))
-    → whole ≡ Err fault
-refused_call whole front s t name value fault is found before =
-    let opened = rw is at before in
-    rw found at opened
-
--- all calls were read
-pub all_calls : (whole : Result (List CallData) Fault) (front : List CallData) (s : List (String Global × Value))
-    → s ≡ [] → whole ≡ with_calls front (calls_of (members_view s)) → whole ≡ Ok front
-all_calls whole front s is before =
-    let opened = rw is at before in
-    opened ∙ ap Ok (append-nil front)
 
 -- ---- no tree is refused as `Syntax`
 

@@ -9,12 +9,6 @@ pub added_two : (before middle after a b : List ℕ) → middle ≡ before ++ a 
     → after ≡ before ++ (a ++ b)
 added_two before middle after a b p q = q ∙ ap (λ l. l ++ b) p ∙ append_assoc before a b
 
--- two texts, added where nothing stood before
-pub made_of_two : (before middle after a b : List ℕ) → before ≡ [] → middle ≡ before ++ a → after ≡ middle ++ b
-    → after ≡ a ++ b
-made_of_two before middle after a b none p q =
-    added_two before middle after a b p q ∙ ap (λ l. l ++ (a ++ b)) none
-
 pub added_three : (before first second after a b c : List ℕ) → first ≡ before ++ a → second ≡ first ++ b
     → after ≡ second ++ c → after ≡ before ++ (a ++ (b ++ c))
 added_three before first second after a b c p q r =

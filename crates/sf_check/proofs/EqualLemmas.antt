@@ -1,18 +1,18 @@
 -- The tables of the tests by which a program compares A with one number after the other: how they are made, and what a
 -- look-up in them finds.
-use Rattle.std.proofs.Common.{◌≡◌, ◌≢◌, ℕ, zero, suc, ◌+◌, ◌-◌, ◌*◌, ◌<◌, ◌≤◌, ◌⊎◌, List, [], ◌∷◌, ◌++◌, length, set, replicate, refl, sym, ap, subst, ◌∙◌, inl, inr, arith, length-set}
+use Rattle.std.proofs.Common.{◌≡◌, ◌≢◌, ℕ, zero, suc, ◌+◌, ◌-◌, ◌*◌, ◌<◌, ◌≤◌, ◌⊎◌, List, [], ◌∷◌, ◌++◌, length, set, refl, sym, ap, subst, ◌∙◌, inl, inr, arith, length-set}
 use Rattle.std.specs.Prelude.{All, Contains, slice_index}
 use Rattle.std.specs.List.Sorted.{IsNonDecreasing, IsPermutation, IsPartitionPoint}
 use Rattle.std.proofs.lemmas.Bool.{cases_lt, cases_eq}
 use Rattle.std.proofs.lemmas.Option.{same_Some, slice_get_within}
-use Rattle.std.proofs.lemmas.List.{get_or_default, get_or-set_same, get_or-set_other, get_or-replicate, length-replicate}
-use Rattle.std.proofs.lemmas.List.Elements.{All-nil, All-push, Contains-push, Contains-append_left}
+use Rattle.std.proofs.lemmas.List.{get_or_default, get_or-set_same, get_or-set_other}
+use Rattle.std.proofs.lemmas.List.Elements.{All-push, Contains-push, Contains-append_left}
 use Rattle.std.proofs.lemmas.List.Sorted.{All-permutation, Contains-permutation}
 use Rattle.sf_check.specs.declared.insn.Insn.{Insn}
 use Rattle.sf_check.specs.Insns.{targets}
 use Rattle.sf_check.specs.Programs.{AllBelow, IsAt}
 use Rattle.sf_check.specs.EqualTests.{AsksFor, IsEqualTest, ArePassed, LeadsOn, IsInChain, AreChains, test_key, IsTestKey, AreTestKeys, LeadInside}
-use Rattle.sf_check.specs.Joining.{AreJoined, AreOwn, IsReached}
+use Rattle.sf_check.specs.Joining.{AreJoined, IsReached}
 
 -- an instruction asks for one number at most
 same_number : (i : Insn) (j k r s : ℕ) → AsksFor i j r → AsksFor i k s → j ≡ k
@@ -186,44 +186,6 @@ found_by_key code chains keys found place last number keys_are short cut end sma
     })
 
 -- ---- making the chains
-
--- each place is a chain of its own
-pub none_joined : (code : List Insn) (chains steps lasts : List ℕ) → AreOwn chains (length code)
-    → AreOwn lasts (length code) → steps ≡ replicate (length code) 0 → AreJoined code chains steps lasts 0
-none_joined code chains steps lasts own ends none = record {
-  are = record {
-    each_chain = own.each;
-    each_step = rw none (length-replicate (length code) 0);
-    each_last = ends.each;
-    member = λ p within.
-        let chain = own.own p within in
-        let last = ends.own p within in
-        let step : slice_index steps p ≡ 0 = rw none (get_or-replicate (length code) p 0 0 within) in
-        record {
-          begins = omega (arith, chain);
-          few = omega (arith, step);
-          before_last = rw chain (omega (arith, last));
-          inside = rw chain (omega (arith, last, within));
-          same = rw (chain, last, chain) refl;
-        };
-    on = λ p q before within same. absurd (apart p q before within same);
-  };
-  front = λ p q before within same. absurd (apart p q before within same);
-}
-  where
-    apart : (p q : ℕ) → p < q → q < length code → slice_index chains p ≡ slice_index chains q → ⊥
-    apart p q before within same =
-        let this = own.own p (omega (arith, before, within)) in
-        let that = own.own q within in
-        omega (arith, before, same, this, that)
-
--- one place further, where nothing is joined
-pub not_joined : (code : List Insn) (chains steps lasts : List ℕ) (place : ℕ) → AreJoined code chains steps lasts place
-    → AreJoined code chains steps lasts (place + 1)
-not_joined code chains steps lasts place joined = record {
-  are = joined.are;
-  front = λ p q before within same. let less = joined.front p q before within same in omega (arith, less);
-}
 
 -- what is written where the place to which a test leads joins the test's chain
 record IsWritten (chains steps lasts chains' steps' lasts' : List ℕ) (place next chain : ℕ) : Type 0 where
@@ -428,12 +390,6 @@ pub record Gathered (code : List Insn) (chains keys : List ℕ) (place : ℕ) : 
   pub keys_are : All (IsTestKey code chains) keys
   pub keyed : (at k next : ℕ) → at < place → IsEqualTest code at k next
       → Contains keys (test_key (slice_index chains at) k at)
-
-pub gathered_none : (code : List Insn) (chains : List ℕ) → Gathered code chains [] 0
-gathered_none code chains = record {
-  keys_are = All-nil (IsTestKey code chains);
-  keyed = λ at k next less t. absurd (omega arith);
-}
 
 -- the next instruction is an equal test: its key is added
 pub gathered_test : (code : List Insn) (chains keys : List ℕ) (place number next : ℕ)

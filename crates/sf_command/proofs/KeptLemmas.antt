@@ -66,15 +66,6 @@ pub record KeptSoFar (before after : List ℕ → Option (List ℕ)) (paths : Li
   pub first : kept ≡ take 65 all
   pub same : (p : List ℕ) → after p ≡ before p
 
--- before any file is read
-pub none_kept : (before : List ℕ → Option (List ℕ)) (paths : List (Bor (List ℕ))) → KeptSoFar before before paths 0 []
-none_kept before paths = record {
-  all = [];
-  paired = record { count = refl; each = λ n path below h. absurd (omega (arith, below)) };
-  first = refl;
-  same = λ p. refl;
-}
-
 module _ (before after next : List ℕ → Option (List ℕ)) (paths : List (Bor (List ℕ))) (place : ℕ)
     (kept : List (List ℕ)) (path : Bor (List ℕ)) (file : List ℕ) (so_far : KeptSoFar before after paths place kept)
     (here : slice_get paths place ≡ Some path) (agrees : AreKnownBytes (after path.now) file)

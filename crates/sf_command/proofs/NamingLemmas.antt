@@ -1,5 +1,5 @@
 -- What the answers of `read_names` say of files of names; and files that are read after these.
-use Rattle.std.proofs.Common.{◌≡◌, ◌⊎◌, inl, inr, ℕ, ◌+◌, ◌<◌, ◌≤◌, ◌∙◌, Bool, true, false, List, [], ◌∷◌, ◌++◌, Option, Some, None, Result, Ok, Err, Bor, length, slice_get, refl, sym, subst, arith}
+use Rattle.std.proofs.Common.{◌≡◌, ◌⊎◌, inl, inr, ℕ, ◌+◌, ◌≤◌, ◌∙◌, Bool, List, [], ◌∷◌, ◌++◌, Option, Some, None, Result, Ok, Err, Bor, length, slice_get, sym, subst}
 use Rattle.std.specs.Prelude.{IfOk, IfErr}
 use Rattle.toml.specs.Data.{Members}
 use Rattle.toml.specs.Parse.{parse_document}
@@ -8,9 +8,9 @@ use Rattle.sf_audit.specs.declared.fault.Fault.TheVariants as faults
 use Rattle.sf_audit.specs.Names.{GivesNames, NamesData, names_of}
 use Rattle.sf_compare.specs.declared.relation.Relation.{Relation}
 use Rattle.sf_command.specs.Comparisons.{AreBothRead, ComparesFiles, RefusesComparison}
-use Rattle.sf_command.specs.Files.{AreKnownBytes, HasUnknown}
+use Rattle.sf_command.specs.Files.{AreKnownBytes}
 use Rattle.sf_command.specs.Listings.{ListsFiles, RefusesListing}
-use Rattle.sf_command.specs.Names.{AreNames, AreNamesRead, HasNoNames, IsNamesFile, RefusesNames, RefusesNamesFile, RefusesNaming}
+use Rattle.sf_command.specs.Names.{AreNamesRead, IsNamesFile, RefusesNamesFile, RefusesNaming}
 use Rattle.sf_command.specs.Outputs.{EvaluatesFiles, RefusesEval, RefusesFiles}
 use Rattle.sf_command.proofs.Pairing.{PairedSoFar, paired_all, paired_more}
 use Rattle.sf_command.proofs.PolicyLemmas.{fails_due, option_cases}
@@ -50,13 +50,6 @@ pub record NamedSoFar (before after : List ℕ → Option (List ℕ)) (paths : L
     (names : List NamesData) : Type 0 where
   pub paired : PairedSoFar (λ path n. IsNamesFile (before path.now) n) paths names place
   pub same : (p : List ℕ) → after p ≡ before p
-
--- before any file is read
-pub none_named : (before : List ℕ → Option (List ℕ)) (paths : List (Bor (List ℕ))) → NamedSoFar before before paths 0 []
-none_named before paths = record {
-  paired = record { count = refl; each = λ n path below h. absurd (omega (arith, below)) };
-  same = λ p. refl;
-}
 
 -- one more file was read
 pub one_named : (before after next : List ℕ → Option (List ℕ)) (paths : List (Bor (List ℕ))) (place : ℕ)

@@ -1,8 +1,8 @@
 -- Two lists that belong together, place by place, where the second one grows.
-use Rattle.std.proofs.Common.{◌≡◌, ℕ, zero, suc, ◌+◌, ◌<◌, ◌≤◌, List, [], ◌∷◌, ◌++◌, length, map, Some, slice_get, refl, sym, ◌∙◌, ap, inl, inr, arith}
+use Rattle.std.proofs.Common.{◌≡◌, ℕ, zero, suc, ◌+◌, ◌<◌, ◌≤◌, List, [], ◌∷◌, ◌++◌, length, Some, slice_get, refl, sym, ◌∙◌, ap, inl, inr, arith}
 use Rattle.std.proofs.lemmas.Bool.{cases_eq}
-use Rattle.std.proofs.lemmas.Option.{same_Some, slice_get_within, slice_get-map}
-use Rattle.std.proofs.lemmas.List.{length_push, length-map}
+use Rattle.std.proofs.lemmas.Option.{same_Some, slice_get_within}
+use Rattle.std.proofs.lemmas.List.{length_push}
 use Rattle.sf_command.specs.Pairs.{Pairwise}
 
 get_front : {X : Type 0} (xs ys : List X) (n : ℕ) (x : X) → slice_get xs n ≡ Some x → slice_get (xs ++ ys) n ≡ Some x
@@ -47,14 +47,4 @@ paired_all Holds Weaker xs ys place weaker so_far over under = record {
       let within = slice_get_within xs n x h in
       let (y, at, holds) = so_far.each n x (omega arith) h in
       (y, at, weaker x y holds);
-}
-
--- two lists that belong together through a function on the second one's elements
-pub paired_mapped : {X Y Z : Type 0} (Holds : X → Z → Type 0) (view : Y → Z) (xs : List X) (ys : List Y)
-    → Pairwise (λ x y. Holds x (view y)) xs ys → Pairwise Holds xs (map view ys)
-paired_mapped {X} {Y} {Z} Holds view xs ys paired = record {
-  same = length-map ys view ∙ paired.same;
-  each = λ n x h.
-      let (y, at, holds) = paired.each n x h in
-      (view y, rw (slice_get-map view ys n, at) refl, holds);
 }

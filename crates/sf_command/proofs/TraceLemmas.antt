@@ -59,10 +59,3 @@ return_parts old head acted new number action info place mark marked p q same r 
 -- a text to which three parts were added
 pub three_added : (old t u new a b c : List ℕ) → t ≡ old ++ a → u ≡ t ++ b → new ≡ u ++ c → new ≡ old ++ (a ++ (b ++ c))
 three_added old t u new a b c p q r = rw (r, q, p) (simp append_assoc)
-
--- the line of the call's number, whose parts were added one after the other
-pub nr_parts : (old head named new word number names : List ℕ)
-    → head ≡ old ++ (codes "nr " ++ (word ++ 32 ∷ number))
-    → named ≡ head ++ names → new ≡ named ++ 10 ∷ []
-    → new ≡ old ++ (codes "nr " ++ (word ++ 32 ∷ (number ++ (names ++ 10 ∷ []))))
-nr_parts old head named new word number names p q r = rw (r, q, p) (simp append_assoc)

@@ -1,5 +1,5 @@
 -- Why what is found of two stacks is right.
-use Rattle.std.proofs.Common.{◌≡◌, ℕ, zero, suc, ◌+◌, ◌-◌, ◌<◌, ◌++◌, true, true≢false, List, [], ◌∷◌, length, take, drop, Some, slice_get, refl, sym, ap, subst, ◌∙◌, inl, inr, arith, length-drop}
+use Rattle.std.proofs.Common.{◌≡◌, ℕ, zero, suc, ◌+◌, ◌-◌, ◌<◌, ◌++◌, true, List, [], ◌∷◌, length, take, drop, Some, slice_get, refl, sym, ap, subst, ◌∙◌, inl, inr, arith, length-drop}
 use Rattle.std.proofs.lemmas.Bool.{cases_eq}
 use Rattle.std.proofs.lemmas.Option.{same_Some}
 use Rattle.std.proofs.lemmas.List.{take-append-drop, take_all}
@@ -12,10 +12,9 @@ use Rattle.sf_run.specs.declared.replaying.PartAnswers.{PartAnswers}
 use Rattle.sf_run.specs.Machine.{trace_of, returns_of}
 use Rattle.sf_run.specs.Answers.{Answers}
 use Rattle.sf_run.specs.AnswerLaws.{one}
-use Rattle.sf_piece.specs.Pieces.{is_member, HasNoMember}
+use Rattle.sf_piece.specs.Pieces.{is_member}
 use Rattle.sf_book.specs.Books.{RegionData, BookData, IsRightRegion, IsSettled}
 use Rattle.sf_book.specs.ExactLaws.{member_trace}
-use Rattle.sf_ask.specs.Verdicts.{IsMemberAt}
 use Rattle.sf_ask.specs.MemberLaws.{in_some_region}
 use Rattle.sf_compare.specs.declared.relation.Relation.{Relation}
 use Rattle.sf_compare.specs.declared.changes.Change.{Change}
@@ -57,13 +56,6 @@ region_answers s older r both lawful right along = record {
         (ap (λ (k : List (List Insn)). trace_of k d) (both_parts s older)
         ∙ sym (member_trace s.stack r d lawful right is m))
 
--- a member of the region at a place is one of its piece
-in_piece : (s : BookData) (place : ℕ) (r : RegionData) (d : Input) → slice_get s.regions place ≡ Some r
-    → (m : IsMemberAt s place d) → is_member r.piece d ≡ true
-in_piece s place r d there m =
-    let same : m.region ≡ r = cc (m.there, there) in
-    subst (λ (x : RegionData). is_member x.piece d ≡ true) same m.member
-
 -- where the two answers aren't so related, no member is changed so
 pub unrelated : (s : BookData) (older : ℕ) (relation : Relation) (place : ℕ) (both : PartAnswers)
     → AreAnswersAt s older place both → (AreRelated relation both.older both.newer → ⊥)
@@ -76,12 +68,6 @@ unrelated s older relation place both told none = λ d before after m change.
     (answers.after d m.input m.member) in
     none (subst (λ (x : Answer). AreRelated relation both.older x) a
     (subst (λ (x : Answer). AreRelated relation x after) b change.related))
-
--- where a piece has no member, no member of its region is changed so
-pub memberless : (s : BookData) (older : ℕ) (relation : Relation) (place : ℕ) (r : RegionData)
-    → slice_get s.regions place ≡ Some r → HasNoMember r.piece → IsUnchangedAt s older relation place
-memberless s older relation place r there none = λ d before after m change.
-    absurd (true≢false (sym (in_piece s place r d there m) ∙ none.none d m.input))
 
 -- a member is changed so where the two answers are so related
 pub changed : (s : BookData) (older : ℕ) (relation : Relation) (r : RegionData) (both : PartAnswers) (d : Input)

@@ -10,12 +10,8 @@ use Rattle.sf_dom.specs.Known.{Admits}
 use Rattle.sf_dom.specs.Facts.{FactsView, known_at, Agrees, Covers, KeepsOnly, NoInput, HasIn, ConfinesWord, IsPlainCondition}
 use Rattle.sf_dom.specs.FactsLaws.{narrower-admits, some-such}
 use Rattle.sf_dom.specs.Conditions.{AreLeftAlone}
-use Rattle.sf_dom.specs.Propagation.{IsReady, AreTightWords, AreOthersTight, AreBothExcluded, IsLearnt, IsRestricted, Meets, Learns}
+use Rattle.sf_dom.specs.Propagation.{AreTightWords, AreOthersTight, AreBothExcluded, IsLearnt, IsRestricted, Meets, Learns}
 use Rattle.sf_dom.proofs.Sampled.{propagate-facts, agrees-back, agrees-with-fewer, admits-word, decides-test, plain-gives}
-
--- facts of a pool's nodes are ready for a condition
-pub covers-ready : (f : FactsView) (ns : List Node) → Covers f ns → IsReady f.known ns
-covers-ready f ns h = record { count = h.count; consistent = h.lawful.consistent; constants = h.constants }
 
 -- the words that are no nodes of a condition are as tight as they were, since it excludes no number for them
 pub others-tight : (ks : List Known) (ex ex' : List (List ℕ)) (ns : List Node) (cond : Cond) → AreTightWords ks ex

@@ -194,9 +194,6 @@ AreApart-and z o e i =
     both : (x y : ℕ) → min x y ≡ 0 → x < 2 → y < 2 → x + y ≤ 1
     both x y h l m = omega arith
 
-pub AreApart-swap : (z o : ℕ) → AreApart z o → AreApart o z
-AreApart-swap z o h i = omega (arith, h i)
-
 -- the known bits of a number's complement are those of the number with zeros and ones changed about
 pub HasBits-complement : (n z o : ℕ) → n < 2 ^ 32 → z < 2 ^ 32 → o < 2 ^ 32 → HasBits n z o
     → HasBits (4294967295 - n) o z

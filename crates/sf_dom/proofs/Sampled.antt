@@ -1,8 +1,8 @@
 -- What facts are after forward propagation and after new nodes are taken in, and where a condition or a range is kept
 -- exactly.
-use Rattle.std.proofs.Common.{◌≡◌, ◌≢◌, ℕ, zero, suc, ◌<◌, ◌≤◌, ◌^◌, List, [], ◌∷◌, ◌++◌, length, get_or, take, Bool, true, false, arith, refl, sym, ap, subst, ◌∙◌, inl, inr}
+use Rattle.std.proofs.Common.{◌≡◌, ◌≢◌, ℕ, zero, suc, ◌<◌, ◌≤◌, ◌^◌, List, length, get_or, take, Bool, true, false, arith, refl, sym, ap, subst, ◌∙◌, inl, inr}
 use Rattle.std.proofs.lemmas.Bool.{cases_lt, eq-eqb, ne_eqb}
-use Rattle.std.proofs.lemmas.List.{get_or-take, get_or_append_left, length-append, append-nil}
+use Rattle.std.proofs.lemmas.List.{get_or-take, get_or_append_left}
 use Rattle.std.specs.Prelude.{◌==◌, if◌then◌else◌, slice_index, Contains, Option, Some, None, MatchOption, replicate}
 use Rattle.sf_insn.specs.Inputs.{IsInput}
 use Rattle.sf_insn.specs.declared.input.Input.{Input}
@@ -188,19 +188,6 @@ module _ (old : List Known) (ex : List (List ℕ)) (before ns : List Node)
   unfolding Agrees
   none-agreed none d p a = none d p (agrees-after old ex before ns d h.count more a)
 
--- a pool that has gained no node
-pub takes-nothing : (f : FactsView) (before ns : List Node) → Covers f before → Extends before ns
-    → length ns ≤ length f.known → TakesIn f f before ns
-takes-nothing f before ns h more le =
-    let count = h.count in
-    let same : ns ≡ before = more.1 ∙ nothing more.0
-    (omega (arith, ap (λ (xs : List Node). length xs) more.1, length-append before more.0)) in
-    rw same (record { covers = h; keeps = λ d p a. a; only = λ d p a. a })
-  where
-    nothing : (added : List Node) → length added ≡ 0 → before ++ added ≡ before
-    nothing [] e = append-nil before
-    nothing (n ∷ added) e = absurd (omega arith)
-
 -- an excluded number is not agreed with any more
 pub agrees-with-fewer : (ks : List Known) (ex ex' : List (List ℕ)) (ns : List Node) (d : Input) → IsPool ns
     → length ks ≡ length ns
@@ -288,12 +275,6 @@ plain-gives old new ex ex' ns cond d p lo ln lv lw s h b plain know a =
         h.decided s dv dw x leaves.admitted
     by_node (Bin op y z) e k dw wl leaves = elim k [ ]
     by_node (Neg y) e k dw wl leaves = elim k [ ]
-
-pub first-facts : (new : List Known) (ex : List (List ℕ)) (ns : List Node) → IsPool ns → length ex ≡ 16
-    → IsGrown [] new ex ns
-    → Covers (record { known = new; excluded = ex }) ns
-first-facts new ex ns p len g = propagate-facts new ex ns p g.covers len
-    (λ i l. g.passed (λ k b. absurd (omega arith)) i (omega arith) l)
 
 -- an input
 pub no-input : (d : Input) × IsInput d

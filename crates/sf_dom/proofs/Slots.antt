@@ -163,10 +163,6 @@ kept-number slots os c past k = record {
   ];
 }
 
-pub known-number : (slots : List Slot) (os : List Variable) (c : ℕ)
-    → known_by os (slots ++ Number c ∷ []) ≡ known_by os slots ++ known_of c c (4294967295 - c) c ∷ []
-known-number slots os c = map-append (slot_known os) slots (Number c ∷ [])
-
 -- one more slot, of a variable
 pub known-variable : (slots : List Slot) (os : List Variable) (x : Known) → AreKept slots os
     → known_by (os ++ variable_of (length slots) x ∷ []) (slots ++ VariableAt (length os) ∷ [])

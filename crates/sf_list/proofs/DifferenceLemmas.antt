@@ -1,7 +1,7 @@
 -- Which rows show that two stacks answer differently.
 use Rattle.std.proofs.Common.{◌≡◌, ◌≢◌, ℕ, zero, suc, ◌<◌, ◌≤◌, ◌+◌, ◌==◌, not, Bool, true, false, true≢false, List, [], ◌∷◌, ◌++◌, length, get_or, Option, Some, slice_get, refl, sym, ap, subst, ◌∙◌, arith, inl, inr}
 use Rattle.std.specs.Prelude.{Contains, MatchOption, count_by, slice_index}
-use Rattle.std.specs.List.{All, filter}
+use Rattle.std.specs.List.{filter}
 use Rattle.std.proofs.lemmas.Bool.Decides.{nat_tests}
 use Rattle.std.proofs.lemmas.List.Elements.{All-contains, All-contains_itself, All-filter, filter_passes}
 use Rattle.std.proofs.Math.ListN.{get_or-append}
@@ -19,8 +19,8 @@ use Rattle.sf_run.specs.AnswerLaws.{one}
 use Rattle.sf_book.specs.Books.{BookData, IsSettled}
 use Rattle.sf_ask.specs.MemberLaws.{in_some_region}
 use Rattle.sf_picture.specs.PictureData.{PictureData}
-use Rattle.sf_picture.specs.Pictures.{labels_at, IsDetermined, IsPicture}
-use Rattle.sf_picture.specs.PictureLaws.{one-along, same-one}
+use Rattle.sf_picture.specs.Pictures.{labels_at, IsPicture}
+use Rattle.sf_picture.specs.PictureLaws.{one-along}
 use Rattle.sf_compare.specs.declared.relation.Relation.TheVariants.{Different}
 use Rattle.sf_compare.specs.Changes.{AreAnswersOfRegions, IsChange, new_of, old_of}
 use Rattle.sf_list.specs.Rows.{RowData, rows_of, is_in_scope}

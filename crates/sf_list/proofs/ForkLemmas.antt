@@ -1,6 +1,6 @@
 -- In how many parts of a fork a number lies: in one.
-use Rattle.std.proofs.Common.{◌≡◌, ◌≢◌, ℕ, zero, suc, ◌<◌, ◌≤◌, ◌+◌, ◌==◌, ◌&&◌, not, Bool, true, false, List, [], ◌∷◌, ◌++◌, length, Option, Some, None, refl, sym, ap, subst, ◌∙◌, arith, inl, inr, true≢false}
-use Rattle.std.specs.Prelude.{count_by, nat_le, if◌then◌else◌}
+use Rattle.std.proofs.Common.{◌≡◌, ◌≢◌, ℕ, ◌<◌, ◌≤◌, ◌+◌, Bool, true, false, List, [], ◌∷◌, ◌++◌, length, Some, refl, sym, ap, subst, ◌∙◌, arith, inl, inr, true≢false}
+use Rattle.std.specs.Prelude.{count_by, if◌then◌else◌}
 use Rattle.std.proofs.lemmas.Bool.{cases_lt, le-leb, lt-leb}
 use Rattle.std.proofs.lemmas.Bool.Decides.{nat_tests}
 use Rattle.std.proofs.lemmas.List.Sums.{sum_by-cons}
@@ -8,7 +8,6 @@ use Rattle.sf_picture.specs.declared.picture.Branch.{Branch}
 use Rattle.sf_picture.specs.declared.picture.Run.{Run}
 use Rattle.sf_picture.specs.PictureData.{ForkData}
 use Rattle.sf_picture.specs.Pictures.{next_of, RiseFrom, end_of, IsBelow, LeadBelow}
-use Rattle.sf_list.specs.declared.parts.Span.{Span}
 use Rattle.sf_list.specs.Parts.{PartData, same_branch, span_of, has_branch, branches_after, largest_of, part_to, parts_but, parts_to, fork_parts, run_parts}
 use Rattle.sf_list.specs.Rows.{is_in_spans, is_in_part, is_whole, parts_at}
 use Rattle.sf_list.proofs.SpanLemmas.{in-part, same-is, same-self}

@@ -1,5 +1,5 @@
 -- Spans, runs and branches, one more at a time.
-use Rattle.std.proofs.Common.{◌≡◌, ◌≢◌, ℕ, zero, suc, ◌<◌, ◌≤◌, ◌+◌, ◌-◌, ◌==◌, Bool, true, false, List, [], ◌∷◌, ◌++◌, length, drop, get_or, set, refl, sym, ap, subst, ◌∙◌, arith, eq-eqb}
+use Rattle.std.proofs.Common.{◌≡◌, ℕ, zero, suc, ◌<◌, ◌≤◌, ◌+◌, ◌-◌, ◌==◌, Bool, true, false, List, [], ◌∷◌, ◌++◌, length, drop, get_or, set, refl, sym, ap, subst, arith, eq-eqb}
 use Rattle.std.specs.Prelude.{if◌then◌else◌, nat_lt}
 use Rattle.std.specs.List.{flat_map}
 use Rattle.std.proofs.lemmas.List.{drop_more}
@@ -8,21 +8,12 @@ use Rattle.sf_picture.specs.declared.picture.Branch.{Branch}
 use Rattle.sf_picture.specs.declared.picture.Run.{Run}
 use Rattle.sf_picture.specs.declared.picture.Branch.TheVariants.{Leaf, Fork}
 use Rattle.sf_picture.specs.PictureData.{ForkData, PictureData}
-use Rattle.sf_picture.specs.Pictures.{IsBelow, LeadBelow, RiseFrom, fork_at}
+use Rattle.sf_picture.specs.Pictures.{IsBelow, LeadBelow, fork_at}
 use Rattle.sf_list.specs.declared.parts.Span.{Span}
-use Rattle.sf_list.specs.Parts.{EndsApart, PartData, same_branch, span_of, with_span, spans_after, names_part, count_after, has_branch, branches_after, largest_of, part_to, parts_but, parts_to, fork_parts, run_parts}
+use Rattle.sf_list.specs.Parts.{EndsApart, PartData, same_branch, span_of, with_span, spans_after, count_after, has_branch, branches_after, largest_of, part_to, parts_but, parts_to, fork_parts, run_parts}
 use Rattle.sf_list.specs.Rows.{ScopeData, is_whole, parts_at, rows_along, scope_within}
 
 -- ---- runs that rise
-
--- the next of runs that rise ends no lower than the number that they begin with
-pub rise_first : (low : ℕ) (rs : List Run) (i : ℕ) (d : Run) → i < length rs → RiseFrom low (drop i rs)
-    → low ≤ (get_or rs i d).last
-rise_first low rs i d lt h = (rw (drop_more rs i d lt) at h).0
-
-pub rise_next : (low : ℕ) (rs : List Run) (i : ℕ) (d : Run) → i < length rs → RiseFrom low (drop i rs)
-    → RiseFrom ((get_or rs i d).last + 1) (drop (i + 1) rs)
-rise_next low rs i d lt h = (rw (drop_more rs i d lt) at h).1
 
 -- ---- a span more
 
@@ -59,24 +50,6 @@ pub spans_more : (w : Branch → Bool) (before : List Span) (first : ℕ) (rs : 
     ≡ spans_after w (if w (get_or rs i d).next then with_span before (span_of first (get_or rs i d).last) else before)
     ((get_or rs i d).last + 1) (drop (i + 1) rs)
 spans_more w before first rs i d lt = rw (drop_more rs i d lt) refl
-
-pub count_more : (b : Branch) (first : ℕ) (rs : List Run) (i : ℕ) (d : Run) → i < length rs
-    → count_after b first (drop i rs)
-    ≡ (if same_branch (get_or rs i d).next b then (get_or rs i d).last + 1 - first else 0)
-    + count_after b ((get_or rs i d).last + 1) (drop (i + 1) rs)
-count_more b first rs i d lt = rw (drop_more rs i d lt) refl
-
-pub branches_more : (before : List Branch) (rs : List Run) (i : ℕ) (d : Run) → i < length rs
-    → branches_after before (drop i rs)
-    ≡ branches_after (if has_branch before (get_or rs i d).next then before else before ++ (get_or rs i d).next ∷ [])
-    (drop (i + 1) rs)
-branches_more before rs i d lt = rw (drop_more rs i d lt) refl
-
-pub runs_more : (first : ℕ) (rs : List Run) (i : ℕ) (d : Run) → i < length rs
-    → run_parts first (drop i rs)
-    ≡ record { next = (get_or rs i d).next; is_rest = false; spans = span_of first (get_or rs i d).last ∷ [] }
-    ∷ run_parts ((get_or rs i d).last + 1) (drop (i + 1) rs)
-runs_more first rs i d lt = rw (drop_more rs i d lt) refl
 
 -- ---- where parts lead
 

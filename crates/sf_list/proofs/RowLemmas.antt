@@ -1,6 +1,6 @@
 -- Each input lies in one row of a picture.
-use Rattle.std.proofs.Common.{◌≡◌, ◌≢◌, ℕ, zero, suc, ◌<◌, ◌≤◌, ◌+◌, ◌^◌, ◌==◌, ◌&&◌, not, Bool, true, false, List, [], ◌∷◌, ◌++◌, length, get_or, Option, Some, None, refl, sym, ap, subst, ◌∙◌, arith, inl, inr, true≢false}
-use Rattle.std.specs.Prelude.{bit_and, count_by, nat_le, slice_index, slice_index_or, if◌then◌else◌}
+use Rattle.std.proofs.Common.{◌≡◌, ◌≢◌, ℕ, zero, suc, ◌<◌, ◌≤◌, ◌+◌, ◌^◌, ◌==◌, ◌&&◌, Bool, true, false, List, [], ◌∷◌, ◌++◌, length, get_or, Option, Some, None, refl, sym, ap, subst, ◌∙◌, arith, true≢false}
+use Rattle.std.specs.Prelude.{bit_and, count_by, slice_index, if◌then◌else◌}
 use Rattle.std.specs.List.{flat_map}
 use Rattle.std.proofs.lemmas.Bool.Decides.{nat_tests}
 use Rattle.std.proofs.lemmas.Nat.{and_le_r, and_mask}
@@ -9,10 +9,10 @@ use Rattle.sf_insn.specs.Inputs.{IsInput}
 use Rattle.sf_picture.specs.declared.axis.Axis.{Axis}
 use Rattle.sf_picture.specs.declared.picture.Branch.{Branch}
 use Rattle.sf_picture.specs.declared.picture.Branch.TheVariants.{Leaf, Fork}
-use Rattle.sf_picture.specs.PictureData.{ForkData, PictureData}
-use Rattle.sf_picture.specs.Pictures.{fork_at, labels_along, labels_at, next_of, number_on, IsBelow, IsPicture, IsRightFork}
+use Rattle.sf_picture.specs.PictureData.{PictureData}
+use Rattle.sf_picture.specs.Pictures.{fork_at, labels_along, number_on, IsBelow, IsPicture, IsRightFork}
 use Rattle.sf_list.specs.Parts.{PartData}
-use Rattle.sf_list.specs.Rows.{ConditionData, ScopeData, RowData, whole_scope, is_whole, is_any, scope_within, parts_at, rows_along, rows_of, is_in_part, meets_part, meets_all, is_in_scope}
+use Rattle.sf_list.specs.Rows.{ConditionData, ScopeData, RowData, whole_scope, is_whole, is_any, scope_within, parts_at, rows_along, is_in_part, meets_part, meets_all, is_in_scope}
 use Rattle.sf_list.proofs.ForkLemmas.{LeadTo, count-cons, one-if, fork-leads, fork-one, leads-below, leads-on}
 
 -- ---- a scope that is narrowed

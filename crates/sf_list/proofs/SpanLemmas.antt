@@ -1,14 +1,14 @@
 -- Which numbers spans have, and which parts of a fork.
-use Rattle.std.proofs.Common.{◌≡◌, ◌≢◌, ℕ, zero, suc, ◌<◌, ◌≤◌, ◌+◌, ◌==◌, ◌&&◌, ◌||◌, not, Bool, true, false, List, [], ◌∷◌, ◌++◌, length, Option, Some, None, refl, sym, ap, subst, ◌∙◌, arith, inl, inr}
-use Rattle.std.specs.Prelude.{count_by, nat_le, if◌then◌else◌}
+use Rattle.std.proofs.Common.{◌≡◌, ℕ, ◌<◌, ◌≤◌, ◌+◌, ◌==◌, ◌&&◌, ◌||◌, not, Bool, true, false, List, [], ◌∷◌, Some, refl, sym, ap, ◌∙◌, arith, inl, inr}
+use Rattle.std.specs.Prelude.{nat_le, if◌then◌else◌}
 use Rattle.std.proofs.lemmas.Bool.{cases_lt, le-leb, lt-leb}
 use Rattle.std.proofs.lemmas.Bool.Decides.{nat_tests}
 use Rattle.sf_picture.specs.declared.picture.Branch.{Branch}
 use Rattle.sf_picture.specs.declared.picture.Branch.TheVariants.{Leaf, Fork}
 use Rattle.sf_picture.specs.declared.picture.Run.{Run}
-use Rattle.sf_picture.specs.Pictures.{next_of, RiseFrom, end_of}
+use Rattle.sf_picture.specs.Pictures.{next_of, RiseFrom}
 use Rattle.sf_list.specs.declared.parts.Span.{Span}
-use Rattle.sf_list.specs.Parts.{PartData, same_branch, span_of, with_span, spans_after, names_part, part_to, run_parts}
+use Rattle.sf_list.specs.Parts.{same_branch, span_of, with_span, spans_after, names_part, part_to}
 use Rattle.sf_list.specs.Rows.{is_in_spans, is_in_part}
 
 -- ---- truth values

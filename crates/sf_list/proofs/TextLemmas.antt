@@ -27,12 +27,6 @@ pub added_five : (before first second third fourth after a b c d e : List ℕ) �
 added_five before first second third fourth after a b c d e p q r s t =
     added_two before first after a (b ++ (c ++ (d ++ e))) p (added_four first second third fourth after b c d e q r s t)
 
--- three texts, added where nothing stood before
-pub made_of_three : (before first second after a b c : List ℕ) → before ≡ [] → first ≡ before ++ a
-    → second ≡ first ++ b → after ≡ second ++ c → after ≡ a ++ (b ++ c)
-made_of_three before first second after a b c none p q r =
-    added_three before first second after a b c p q r ∙ ap (λ l. l ++ (a ++ (b ++ c))) none
-
 -- ---- words with something between them
 
 -- spans after these words, if there are any
@@ -44,10 +38,6 @@ spans_first : (style : Style) (s : Span) (ss : List Span)
     → spans_words style (s ∷ ss) ≡ span_words style s ++ spans_after_words style (codes ",") ss
 spans_first style s [] = sym (append-nil (span_words style s))
 spans_first style s (t ∷ ss) = refl
-
-pub spans_whole : (style : Style) (ss : List Span) → spans_after_words style [] ss ≡ spans_words style ss
-spans_whole style [] = refl
-spans_whole style (s ∷ ss) = refl
 
 -- one more span was added
 pub spans_more : (style : Style) (text before middle after whole : List ℕ) (ss : List Span) (i : ℕ) (d : Span)
@@ -71,10 +61,6 @@ labels_first : (words : List (List ℕ)) (l : ℕ) (ls : List ℕ)
     → labels_words words (l ∷ ls) ≡ get_or words l [] ++ labels_after_words words (codes " | ") ls
 labels_first words l [] = sym (append-nil (get_or words l []))
 labels_first words l (m ∷ ls) = refl
-
-pub labels_whole : (words : List (List ℕ)) (ls : List ℕ) → labels_after_words words [] ls ≡ labels_words words ls
-labels_whole words [] = refl
-labels_whole words (l ∷ ls) = refl
 
 -- the words of one more label were added
 pub labels_more : (words : List (List ℕ)) (text before middle after whole : List ℕ) (ls : List ℕ) (i d : ℕ)

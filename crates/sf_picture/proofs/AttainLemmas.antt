@@ -1,5 +1,5 @@
 -- On plain stacks some member that is held is shown the labels of each leaf that is drawn, and no leaf has two labels.
-use Rattle.std.proofs.Common.{◌≡◌, ℕ, ◌<◌, ◌≤◌, ◌+◌, true, true≢false, List, [], ◌∷◌, length, Option, Some, None, sym, ap, subst, ◌∙◌, inl, inr, arith}
+use Rattle.std.proofs.Common.{◌≡◌, ℕ, ◌<◌, ◌≤◌, ◌+◌, List, [], ◌∷◌, length, Option, Some, None, sym, ap, subst, ◌∙◌, inl, inr, arith}
 use Rattle.std.specs.Prelude.{MatchOption, Contains, All, slice_index_or}
 use Rattle.std.proofs.lemmas.Bool.{cases_lt}
 use Rattle.std.proofs.lemmas.List.{get_or_append_left, length_push}
@@ -36,13 +36,6 @@ pub short-same : (s t : SketchData) → t.leaves ≡ s.leaves → t.spent ≡ s.
 short-same s t leaves spent = record {
   spent = λ e. sym spent ∙ e;
   short = λ e all. subst (All IsShort) (sym leaves) all;
-}
-
--- a picture that is spent
-pub short-spent : (s t : SketchData) → t.spent ≡ true → KeepsShort s t
-short-spent s t spent = record {
-  spent = λ e. absurd (true≢false (sym spent ∙ e));
-  short = λ e. absurd (true≢false (sym spent ∙ e));
 }
 
 -- a leaf with at most one label
@@ -216,11 +209,6 @@ attained-fork (Some b) from s t axis runs first held grows right same leads befo
       shown = leads.shows a.input a.next a.found
           ∙ (grows-shown s t a.next a.input grows right a.below ∙ (a.shown ∙ sym (leaf-grows s t place grows older)));
     }
-
--- no leaf was added yet
-pub attained-init : (s : SketchData) (axis : Axis) (runs : List Run) (held : List HeldData) (first : ℕ)
-    → AreAttainedBelow (length s.leaves) s axis runs first held
-attained-init s axis runs held first place above lt = absurd (omega arith)
 
 -- what is attained in the sketch is attained in the picture
 pub picture-attained : (s : SketchData) (root : Branch) (p : PictureData) (book : BookData) (labels : List ℕ)

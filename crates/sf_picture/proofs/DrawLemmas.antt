@@ -17,11 +17,6 @@ use Rattle.sf_picture.specs.Holding.{HeldData, IsHeldBy, IsKeptIn, IsHeldAt}
 use Rattle.sf_picture.specs.Drawing.{SketchData, Grows, shown_at, IsShownAt, NoneIsHeld, AreRuns, AddsRun, IsLeafOf, LeadsAs, IsFoundBelow, IsRightSketch, EndBelow, DrawsTo}
 use Rattle.sf_picture.proofs.SketchLemmas.{grows-none, grows-below, grows-shown, grows-lead}
 
--- nothing is held below 0
-pub found-none : (s : SketchData) (axis : Axis) (runs : List Run) (held : List HeldData)
-    → All (IsFoundBelow s axis runs 0) held
-found-none s axis runs held k x lt d is below = absurd (omega arith)
-
 -- what was found is found while the sketch grows
 found-grows : (s t : SketchData) (axis : Axis) (runs : List Run) (first : ℕ) (h : HeldData) → Grows s t
     → AreRightForks (length s.leaves) s.forks → IsFoundBelow s axis runs first h → IsFoundBelow t axis runs first h

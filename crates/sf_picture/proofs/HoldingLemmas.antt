@@ -7,7 +7,7 @@ use Rattle.std.specs.List.Sorted.{IsPermutation}
 use Rattle.std.proofs.lemmas.List.{take_all, get_or_push, get_or_append_left, get_or_default}
 use Rattle.std.proofs.lemmas.List.Sorted.{Contains-permutation}
 use Rattle.std.proofs.lemmas.List.Folds.{list_all_at}
-use Rattle.std.proofs.lemmas.List.Elements.{All-weaker, All-more, All-push, All-contains, Contains-append_left, Contains-push, Contains-get_or}
+use Rattle.std.proofs.lemmas.List.Elements.{All-weaker, All-more, All-push, Contains-append_left, Contains-push, Contains-get_or}
 use Rattle.std.proofs.lemmas.Option.{get_or_from_slice_get, slice_get_within}
 use Rattle.sf_insn.specs.declared.input.Input.{Input}
 use Rattle.sf_insn.specs.Inputs.{IsInput}
@@ -252,13 +252,6 @@ there-at held i h lt is = subst (Contains held) (sym is) (Contains-get_or held i
 
 -- ---- one label
 
--- a label that isn't there yet
-pub once-push : (labels : List ℕ) (label : ℕ) → (Contains labels label → ⊥) → AreAtMost label labels
-    → AreAtMost label (labels ++ label ∷ [])
-once-push labels label new (inl none) = inr (ap (λ (l : List ℕ). l ++ label ∷ []) none)
-once-push labels label new (inr one) =
-    absurd (new (subst (λ (l : List ℕ). Contains l label) (sym one) (Contains-push [] label)))
-
 -- all that is held has the label of each one
 pub one-each : (held : List HeldData) (i : ℕ) (h : HeldData) (labels more : List ℕ) → AreOneLabel held
     → i < length held → h ≡ get_or held i h → (AreAtMost h.label labels → AreAtMost h.label more)
@@ -272,12 +265,6 @@ one-each held i h labels more one lt is once before k there =
 pub at-most-short : (label : ℕ) (labels : List ℕ) → AreAtMost label labels → length labels ≤ 1
 at-most-short label labels (inl none) = let e : length labels ≡ 0 = ap length none in omega arith
 at-most-short label labels (inr one) = let e : length labels ≡ 1 = ap length one in omega arith
-
--- all that is held has one label where each has the same
-pub have-one : (held : List HeldData) (label : ℕ) → All (λ (h : HeldData). h.label ≡ label) held → AreOneLabel held
-have-one held label all h k ih ik =
-    All-contains (λ (x : HeldData). x.label ≡ label) held h all ih
-    ∙ sym (All-contains (λ (x : HeldData). x.label ≡ label) held k all ik)
 
 -- labels of what is held, where that has one
 pub one-short : (held : List HeldData) (labels sorted : List ℕ) (n : ℕ) → length sorted ≡ length labels

@@ -7,7 +7,7 @@ use Rattle.std.proofs.lemmas.Bool.{cases_eq}
 use Rattle.std.proofs.lemmas.List.{take_all, get_or_push}
 use Rattle.std.proofs.lemmas.List.Kept.{AllPairs-from_increasing, Contains-dedup_nat, Contains-from_dedup}
 use Rattle.std.proofs.lemmas.List.Sorted.{IsNonDecreasingBy-push, IsPermutation-sym, Contains-permutation}
-use Rattle.std.proofs.lemmas.List.Elements.{All-more, All-weaker, All-push, All-contains, All-from_get_or, Contains-get_or}
+use Rattle.std.proofs.lemmas.List.Elements.{All-more, All-weaker, All-contains, All-from_get_or, Contains-get_or}
 use Rattle.sf_picture.specs.declared.axis.Axis.{Axis}
 use Rattle.sf_picture.specs.declared.cuts.Cut.{Cut}
 use Rattle.sf_picture.specs.Holding.{HeldData}
@@ -23,21 +23,6 @@ rising-ascends xs rising i j d le lt = elim (cases_eq i j) [
   | inl same ↦ (let e : get_or xs i d ≡ get_or xs j d = ap (λ (k : ℕ). get_or xs k d) same in omega arith)
   | inr other ↦ (let before = AllPairs-from_increasing xs rising i j d (omega arith) lt in omega arith)
 ]
-
--- the last number below a cut that something held has
-pub last-push : (held : List HeldData) (h : HeldData) (cut : Cut) (axis : Axis) (lasts : List ℕ) → Contains held h
-    → Contains h.cuts cut → cut.axis ≡ axis → cut.last < axis.mask → All (IsLastOfCut held axis) lasts
-    → All (IsLastOfCut held axis) (lasts ++ cut.last ∷ [])
-last-push held h cut axis lasts there of axis_is below all =
-    All-push (IsLastOfCut held axis) lasts cut.last all (record {
-      below = below;
-      held_one = h;
-      there = there;
-      cut = cut;
-      of = of;
-      axis_is = axis_is;
-      last_is = refl;
-    })
 
 -- the last number of a cut is among some, if the cut is of the axis
 abbrev pub HasLast : Axis → List ℕ → Cut → Type 0

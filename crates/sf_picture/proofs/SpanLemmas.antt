@@ -13,7 +13,7 @@ use Rattle.sf_dom.specs.Known.{HasBits}
 use Rattle.sf_dom.specs.Facts.{FactsView, ConfinesWord, NoInput, HasIn, LiesIn, HasMasked}
 use Rattle.sf_picture.specs.declared.axis.Axis.{Axis}
 use Rattle.sf_picture.specs.Pictures.{number_on}
-use Rattle.sf_picture.specs.Spans.{IsInSpan, NoneInSpan, KeepsSpan, KeepsOnlySpan, IsSpanOfBit, IsExactSpan}
+use Rattle.sf_picture.specs.Spans.{IsInSpan, NoneInSpan, KeepsSpan, KeepsOnlySpan, IsSpanOfBit}
 
 -- bits of a number are no greater
 bits-le : (a b : ℕ) → ((i : ℕ) → bit_at a i ≤ bit_at b i) → a ≤ b
@@ -142,12 +142,6 @@ and-self m = same_from_bits (bit_and m m) m (λ i. bit_at_and m m i ∙ min-self
   where
     min-self : (x : ℕ) → min x x ≡ x
     min-self x = omega arith
-
--- a span of a bit that isn't the whole word
-pub exact-of-bit : (axis : Axis) (first last : ℕ) → (axis.mask ≡ 4294967295 → ⊥) → IsExactSpan axis first last
-    → IsSpanOfBit axis.mask first last
-exact-of-bit axis first last part (inl whole) = absurd (part whole)
-exact-of-bit axis first last part (inr bit) = bit
 
 -- the one number of a span of a bit: its first one, where that is its last one, and else the bit
 pub span-first : (mask first last : ℕ) → first ≡ last → IsSpanOfBit mask first last

@@ -1,5 +1,5 @@
 -- A machine's concrete states while its pool grows.
-use Rattle.std.proofs.Common.{◌≡◌, ℕ, zero, suc, ◌<◌, ◌&&◌, Bool, List, [], ◌∷◌, ◌++◌, length, map, Option, Some, None, refl, ap, subst, ◌∙◌, arith}
+use Rattle.std.proofs.Common.{◌≡◌, ℕ, zero, suc, ◌&&◌, Bool, List, [], ◌∷◌, ◌++◌, length, map, Option, Some, None, refl, ap, subst, ◌∙◌}
 use Rattle.std.specs.Prelude.{option_map, slice_get}
 use Rattle.std.proofs.lemmas.Option.{same_Some}
 use Rattle.std.specs.List.{list_all, AllByRecursion}
@@ -51,11 +51,6 @@ all_grown pool added d (c ∷ cs) b =
     let here : is_met (pool ++ added) d c ≡ is_met pool d c = met_grown pool added d c b.0 in
     let rest : list_all (is_met (pool ++ added) d) cs ≡ list_all (is_met pool d) cs = all_grown pool added d cs b.1 in
     ap (λ (x : Bool). x && list_all (is_met (pool ++ added) d) cs) here ∙ ap (λ (x : Bool). is_met pool d c && x) rest
-
-pub below_grown : (n m : ℕ) (cs : List Cond) → n < m → AllByRecursion (IsCondBelow n) cs
-    → AllByRecursion (IsCondBelow m) cs
-below_grown n m [] h b = tt
-below_grown n m (c ∷ cs) h b = ((omega (arith, b.0.0), omega (arith, b.0.1)), below_grown n m cs h b.1)
 
 pub below_at : (n : ℕ) (cs : List Cond) (k : ℕ) (c : Cond) → AllByRecursion (IsCondBelow n) cs → slice_get cs k ≡ Some c
     → IsCondBelow n c

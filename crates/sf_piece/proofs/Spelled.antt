@@ -63,9 +63,6 @@ at_less m n h = grind (arith, nat_tests)
 at_greater : (m n : ℕ) → n < m → nat_cmp m n ≡ Greater
 at_greater m n h = grind (arith, nat_tests)
 
-at_equal : (m n : ℕ) → m ≡ n → nat_cmp m n ≡ Equal
-at_equal m n h = grind (arith, nat_tests)
-
 -- the one whose true comes first is behind the other
 by_falses : (m n : ℕ) (xs ys : List Bool)
     → cmp (replicate m false ++ true ∷ xs) (replicate n false ++ true ∷ ys) ≡ ordering_then (nat_cmp n m) (cmp xs ys)

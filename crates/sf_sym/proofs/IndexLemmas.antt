@@ -88,32 +88,11 @@ IsIndexed-push es heads e old last small =
       ]);
     }
 
--- an index of no nodes
-pub IsIndexed-empty : (heads : List ℕ) → length heads ≡ 2048 → ((i : ℕ) → i < 2039 → get_or heads i 0 ≡ 0)
-    → IsIndexed [] heads
-IsIndexed-empty heads buckets zeros = record {
-  buckets = buckets;
-  linked = λ i h. absurd (omega arith);
-  last = λ hash h. rw (zeros hash h) (record {
-    within = omega arith;
-    here = λ i e. absurd (omega arith);
-    after = λ i a b. absurd (omega arith);
-  });
-}
-
 -- a node is looked for below place c: it isn't from there on, and what is there has its hash
 pub record IsSearched (ns : List Node) (node : Node) (c : ℕ) : Type 0 where
   pub within : c ≤ length ns
   pub here : (i : ℕ) → c ≡ suc i → hash_of (node_at ns i) ≡ hash_of node
   pub absent : (i : ℕ) → c ≤ i → i < length ns → node_at ns i ≢ node
-
-pub IsSearched-start : (ns : List Node) (node : Node) (c : ℕ) → IsLastWithHash ns (length ns) (hash_of node) c
-    → IsSearched ns node c
-IsSearched-start ns node c l = record {
-  within = l.within;
-  here = l.here;
-  absent = λ i a b e. l.after i a b (ap hash_of e);
-}
 
 pub IsSearched-step : (ns : List Node) (node : Node) (p link : ℕ) → IsSearched ns node (p + 1) → node_at ns p ≢ node
     → IsLastWithHash ns p (hash_of (node_at ns p)) link → IsSearched ns node link
