@@ -57,7 +57,7 @@ impl<R: FileSystem + AllocGlobal> Files for Disk<'_, R> {
     }
 
     /// Gives no memory back: the process ends next, and the system takes all of it at once. To free each allocation
-    /// would take a sixteenth of an audit's time.
+    /// would take 5 to 10 % more instructions.
     fn take_over<T: Drop>(&self, found: T) {
         mem::forget(found);
     }
