@@ -1,12 +1,12 @@
 -- A number looked for in an ascending list, and put into it.
-use Rattle.std.proofs.Common.{◌≡◌, ℕ, zero, suc, ◌+◌, ◌-◌, ◌<◌, ◌≤◌, ◌↔◌, ◌⊎◌, List, [], ◌∷◌, ◌++◌, length, get_or, IsTrue, arith, refl, sym, ap, ◌∙◌, inl, inr}
+use Rattle.std.proofs.Common.{◌≡◌, ℕ, zero, suc, ◌+◌, ◌-◌, ◌<◌, ◌≤◌, ◌↔◌, ◌⊎◌, List, [], ◌∷◌, ◌++◌, length, get_or, IsTrue, Bool, arith, refl, sym, ap, ◌∙◌, inl, inr}
 use Rattle.std.proofs.lemmas.Bool.{cases_lt, cases_order, false≢true}
 use Rattle.std.proofs.lemmas.List.{get_or_default}
-use Rattle.std.proofs.lemmas.List.Elements.{Contains-append_left, Contains-append_right, Contains-append_cases, Contains-push}
+use Rattle.std.proofs.lemmas.List.Elements.{Contains-append_left, Contains-append_right, Contains-append_cases}
 use Rattle.std.proofs.lemmas.List.Edits.{length-insert, get_or-insert_below, get_or-insert_at, get_or-insert_above}
-use Rattle.std.proofs.lemmas.List.Sorted.{searched, IsNonDecreasingBy-insert, IsNonDecreasingBy-push, IsNonDecreasingBy-from_default}
+use Rattle.std.proofs.lemmas.List.Sorted.{searched, IsNonDecreasingBy-insert, IsNonDecreasingBy-from_default, IsNonDecreasingBy-from_sort}
 use Rattle.std.specs.List.{insert}
-use Rattle.std.specs.List.Sorted.{IsBinarySearchResult}
+use Rattle.std.specs.List.Sorted.{IsBinarySearchResult, IsSorted}
 use Rattle.std.specs.Ordering.{nat_cmp}
 use Rattle.std.specs.Prelude.{Contains, Result, Ok, Err}
 use Rattle.std.specs.Result.{is_ok}
@@ -40,56 +40,7 @@ between-ends xs n rising w =
     let below = rising w.0 (length xs - 1) (omega (arith, within)) (omega (arith, within)) in
     (omega (arith, within), omega (arith, above, here), omega (arith, below, here))
 
--- a number above all of an ascending list may come last
-pub rising-pushed : (xs : List ℕ) (n : ℕ) → AreAscending xs → ((k : ℕ) → k < length xs → get_or xs k 0 < n)
-    → AreAscending (xs ++ n ∷ [])
-rising-pushed xs n rising above i j le l =
-    IsNonDecreasingBy-push (λ x. x) xs n (IsNonDecreasingBy-from_default (λ x. x) xs 0 rising)
-    (λ d some. omega (
-      arith,
-      above (length xs - 1) (omega (arith, some)),
-      get_or_default xs (length xs - 1) 0 d (omega (arith, some)),
-    )) i j 0 le l
-
--- the numbers of a list with one more at its end
-pub pushed-numbers : (xs : List ℕ) (n m : ℕ) → Contains (xs ++ n ∷ []) m ↔ (Contains xs m ⊎ (m ≡ n))
-pushed-numbers xs n m = (there, back)
-  where
-    there : Contains (xs ++ n ∷ []) m → Contains xs m ⊎ (m ≡ n)
-    there w = elim (Contains-append_cases xs (n ∷ []) m w) [
-      | inl h ↦ inl h
-      | inr h ↦ inr (only h)
-    ]
-      where
-        only : Contains (n ∷ []) m → m ≡ n
-        only (zero, l, is) = sym is
-        only (suc k, l, is) = absurd (omega (arith, l))
-
-    back : Contains xs m ⊎ (m ≡ n) → Contains (xs ++ n ∷ []) m
-    back (inl h) = Contains-append_left xs (n ∷ []) m h
-    back (inr e) = rw e (Contains-push xs n)
-
--- the numbers of two lists, one behind the other, where one of the two gets one more
-pub more-before : (xs xs' ys : List ℕ) (n : ℕ) → ((m : ℕ) → Contains xs' m ↔ (Contains xs m ⊎ (m ≡ n)))
-    → (m : ℕ) → Contains (xs' ++ ys) m ↔ (Contains (xs ++ ys) m ⊎ (m ≡ n))
-more-before xs xs' ys n more m = (there, back)
-  where
-    there : Contains (xs' ++ ys) m → Contains (xs ++ ys) m ⊎ (m ≡ n)
-    there w = elim (Contains-append_cases xs' ys m w) [
-      | inl h ↦ elim ((more m).0 h) [
-        | inl old ↦ inl (Contains-append_left xs ys m old)
-        | inr e ↦ inr e
-      ]
-      | inr h ↦ inl (Contains-append_right xs ys m h)
-    ]
-
-    back : Contains (xs ++ ys) m ⊎ (m ≡ n) → Contains (xs' ++ ys) m
-    back (inl w) = elim (Contains-append_cases xs ys m w) [
-      | inl h ↦ Contains-append_left xs' ys m ((more m).1 (inl h))
-      | inr h ↦ Contains-append_right xs' ys m h
-    ]
-    back (inr e) = Contains-append_left xs' ys m ((more m).1 (inr e))
-
+-- two lists, one behind the other, where the second gets one more number
 pub more-behind : (xs ys ys' : List ℕ) (n : ℕ) → ((m : ℕ) → Contains ys' m ↔ (Contains ys m ⊎ (m ≡ n)))
     → (m : ℕ) → Contains (xs ++ ys') m ↔ (Contains (xs ++ ys) m ⊎ (m ≡ n))
 more-behind xs ys ys' n more m = (there, back)
@@ -150,3 +101,18 @@ inserted-numbers xs n at m le = (there, back)
       ]
       | inr e ↦ (at, omega (arith, long), get_or-insert_at xs at n m le ∙ sym e)
     ]
+
+-- a list that was sorted is ascending
+pub sorted-rising : (xs : List ℕ) → IsSorted nat_cmp xs → AreAscending xs
+sorted-rising xs sorted i j le l = IsNonDecreasingBy-from_sort (λ x. x) xs sorted i j 0 le l
+
+-- what isn't in the first of two lists is in both together where it is in the second
+pub in-second : (xs ys : List ℕ) (n : ℕ) (b : Bool) → ¬ Contains xs n → (IsTrue b ↔ Contains ys n)
+    → IsTrue b ↔ Contains (xs ++ ys) n
+in-second xs ys n b absent there = (
+  (λ t. Contains-append_right xs ys n (there.0 t)),
+  (λ w. elim (Contains-append_cases xs ys n w) [
+    | inl h ↦ absurd (absent h)
+    | inr h ↦ there.1 h
+  ]),
+)

@@ -1,7 +1,8 @@
 -- Numbers in ascending order, and numbers that are shared.
 use Rattle.std.specs.Prelude.{ℕ, ◌-◌, ◌<◌, ◌≤◌, List, [], length, slice_index, Option, Some, None}
-use Rattle.std.specs.Arc.{arc_value}
+use Rattle.std.specs.Arc.{arc_value, arc_slice_items}
 use Rattle.std.specs.declared.sync.Arc.{Arc}
+use Rattle.std.specs.declared.sync.ArcSlice.{ArcSlice}
 
 -- none is less than one before it
 abbrev pub AreAscending : List ℕ → Type 0
@@ -15,3 +16,8 @@ IsBetweenEnds xs n = (0 < length xs) × (slice_index xs 0 ≤ n) × (n ≤ slice
 abbrev pub shared_numbers : {Z : Type 0} → Option (Arc (List ℕ) Z) → List ℕ
 shared_numbers None = []
 shared_numbers (Some numbers) = arc_value numbers
+
+-- the items of a list that is shared, and none where there is no list
+abbrev pub shared_items : {Z : Type 0} → Option (ArcSlice ℕ Z) → List ℕ
+shared_items None = []
+shared_items (Some list) = arc_slice_items list

@@ -9,7 +9,7 @@ ghost use Rattle.sf_dom.specs.Ascending.{shared_numbers};
 
 use crate::fault::Fault;
 use crate::nodes::WORDS;
-use crate::numbers::Numbers;
+use crate::numbers::{Near, Numbers};
 use std::alloc::Global;
 use std::marker::Model;
 use std::sync::Arc;
@@ -70,6 +70,16 @@ impl Exclusions {
     {
         match &self.numbers {
             Some(numbers) => numbers.has(number),
+            None => false,
+        }
+    }
+
+    /// Whether a number is there, where others were looked up before.
+    pub(crate) fn has_near(&self, near: &mut Near, number: u32) -> bool
+        ensures { IsTrue result ↔ Contains self.now number }
+    {
+        match &self.numbers {
+            Some(numbers) => numbers.has_near(near, number),
             None => false,
         }
     }

@@ -1,148 +1,68 @@
 //! Lists of numbers that a word does not have. Copies share most of a list.
 
-ghost use Rattle.std.specs.Prelude.{◌≡◌, ℕ, ◌<◌, ◌≤◌, ◌↔◌, ◌⊎◌, ◌*◌, ◌^◌, ◌-◌, ◌∷◌, ◌++◌, [], length, slice_index, unwrap_or, IfOk, IsTrue, MatchBool, Contains};
+ghost use Rattle.std.specs.Prelude.{◌≡◌, ℕ, ◌<◌, ◌≤◌, ◌↔◌, ◌⊎◌, ◌∷◌, ◌++◌, [], length, slice_index, IfOk, IsTrue, Contains};
+ghost use Rattle.std.specs.Arc.{arc_slice_items};
 ghost use Rattle.std.specs.List.{insert};
-ghost use Rattle.std.specs.List.Sorted.{IsPartitionPoint};
-ghost use Rattle.sf_dom.specs.Ascending.{AreAscending, IsBetweenEnds};
+ghost use Rattle.sf_dom.specs.Ascending.{AreAscending, IsBetweenEnds, shared_items};
 
 use crate::fault::Fault;
-use sf_blocks::shared::SharedList;
 use smallvec::SmallVec;
 use std::alloc::Global;
 use std::marker::Model;
+use std::sync::ArcSlice;
 
-/// Numbers that came in rising order, as most filters test them. Copies share all blocks but the last.
-type Rising = SharedList<u32, 1>;
+/// When there are this many newer numbers, they are merged into the older ones.
+const MERGED: usize = 64;
 
-/// The other numbers, ascending. Up to two lie in the list itself; more take an allocation of their own.
-type Others = SmallVec<u32, 2>;
+/// The newer numbers, ascending. Up to two lie in the list itself; more take an allocation of their own.
+type Newer = SmallVec<u32, 2>;
 
-/// Some numbers. The first one is put among the others: many lists have only one number, and then take no rising ones.
+/// Some numbers. A copy with one more number shares the older ones, and copies only the newer ones, which are few.
 #[derive(Drop)]
 pub(crate) struct Numbers {
-    rising: Option<Rising>,
-    others: Others,
+    older: Option<ArcSlice<u32>>,
+    newer: Newer,
 }
 
 impl Model for Numbers {
-    ghost use Rattle.std.specs.Prelude.{List, ℕ, [], ◌++◌, unwrap_or};
-    ghost use Rattle.sf_dom.specs.Ascending.{AreAscending};
+    ghost use Rattle.std.specs.Prelude.{List, ℕ, ◌++◌};
+    ghost use Rattle.sf_dom.specs.Ascending.{AreAscending, shared_items};
 
     ghost Value = { List ℕ };
 
-    ghost view = { λ n. unwrap_or n.rising [] ++ n.others.items };
+    ghost view = { λ n. shared_items n.older ++ n.newer.items };
 
-    ghost invariant = { λ n. AreAscending (unwrap_or n.rising []) × AreAscending n.others.items };
+    ghost invariant = { λ n. AreAscending (shared_items n.older) × AreAscending n.newer.items };
 }
 
-/// How many numbers of an ascending list are less than this one.
-fn count_below(list: &Rising, number: u32) -> usize
-    requires { AreAscending list.now }
-    ensures { IsPartitionPoint (λ m. m < number) (λ m. number ≤ m) list.now result }
-{
-    let mut low = 0;
-    let mut high = list.len();
-    while low < high {
-        let middle = low + (high - low) / 2;
-        if list.get(middle) < number {
-            low = middle + 1;
-        } else {
-            high = middle;
-        }
+/// Where the last number stood that was looked up and found, and how far it was from the one before. Numbers that are
+/// looked up one after the other often stand equally far apart.
+#[derive(Clone, Copy, Default)]
+pub(crate) struct Near {
+    place: usize,
+    step: usize,
+}
+
+impl Near {
+    /// Where the next number may stand. This is only a guess.
+    fn next(self) -> usize {
+        self.place.wrapping_add(self.step)
     }
-    low
-}
 
-/// Whether a number is above all numbers of an ascending list.
-fn is_behind(list: &Rising, number: u32) -> bool
-    requires { AreAscending list.now }
-    ensures { MatchBool result ((k : ℕ) → k < length list.now
-        → slice_index list.now k < number)
-        ((0 < length list.now) × (number ≤ slice_index list.now (length list.now - 1))) }
-{
-    let count = list.len();
-    count == 0 || list.get(count - 1) < number
-}
-
-/// Whether a number stands in an ascending list. Most that are looked for are below its first number or above its last,
-/// so these are compared first.
-fn is_in_blocks(list: &Rising, number: u32) -> bool
-    requires { AreAscending list.now }
-    ensures { IsTrue result ↔ Contains list.now number }
-{
-    if is_behind(list, number) || number < list.get(0) {
-        return false;
-    }
-    let at = count_below(list, number);
-    at < list.len() && list.get(at) == number
-}
-
-/// Whether a number is one of the rising ones.
-fn is_rising(rising: &Option<Rising>, number: u32) -> bool
-    requires { AreAscending (unwrap_or rising.now []) }
-    ensures { IsTrue result ↔ Contains (unwrap_or rising.now []) number }
-{
-    match rising {
-        Some(list) => is_in_blocks(list, number),
-        None => false,
+    /// The number stood here.
+    fn found(&mut self, place: usize) {
+        self.step = place.wrapping_sub(self.place);
+        self.place = place;
     }
 }
 
-/// Whether a number is above all rising ones.
-fn comes_last(rising: &Option<Rising>, number: u32) -> bool
-    requires { AreAscending (unwrap_or rising.now []) }
-    ensures { MatchBool result ((k : ℕ) → k < length (unwrap_or rising.now [])
-        → slice_index (unwrap_or rising.now []) k < number)
-        ((0 < length (unwrap_or rising.now [])) × (number ≤ slice_index
-        (unwrap_or rising.now []) (length (unwrap_or rising.now []) - 1))) }
+/// The items of a list that is shared; none where there is no list.
+fn items_of(list: &Option<ArcSlice<u32>>) -> &[u32]
+    ensures { result.now ≡ shared_items list.now }
 {
-    match rising {
-        Some(list) => is_behind(list, number),
-        None => true,
-    }
-}
-
-/// The rising numbers, and one more behind them. `Memory` where an allocation is refused.
-fn with_last(alloc: Global, rising: &Option<Rising>, number: u32) -> Result<Rising, Fault>
-    ensures { IfOk result (λ r. r ≡ unwrap_or rising.now [] ++ number ∷ []) }
-{
-    let mut more = match rising {
-        Some(list) => list.fork()?,
-        None => SharedList::new(alloc)?,
-    };
-    more.push(number)?;
-    Ok(more)
-}
-
-/// A copy of the rising numbers, which shares their full blocks. `Memory` where an allocation is refused.
-fn fork_of(rising: &Option<Rising>) -> Result<Option<Rising>, Fault>
-    ensures { IfOk result (λ r. r ≡ rising.now) }
-{
-    match rising {
-        Some(list) => Ok(Some(list.fork()?)),
-        None => Ok(None),
-    }
-}
-
-/// How many rising numbers there are.
-fn count_of(rising: &Option<Rising>) -> usize
-    ensures value { result ≡ length (unwrap_or rising.now []) }
-    ensures small { result < 3 * 2 ^ 30 }
-{
-    match rising {
-        Some(list) => list.len(),
-        None => 0,
-    }
-}
-
-/// The rising number at a place.
-fn rising_at(rising: &Option<Rising>, place: usize) -> u32
-    requires { place < length (unwrap_or rising.now []) }
-    ensures { result ≡ slice_index (unwrap_or rising.now []) place }
-{
-    match rising {
-        Some(list) => list.get(place),
-        None => unreachable!(),
+    match list {
+        Some(items) => items.as_slice(),
+        None => &[],
     }
 }
 
@@ -164,7 +84,7 @@ fn is_between_ends(list: &[u32], number: u32) -> bool
 }
 
 /// A list with one more number at a place. `Memory` where an allocation is refused.
-fn insert_number(alloc: Global, list: &[u32], at: usize, number: u32) -> Result<Others, Fault>
+fn insert_number(alloc: Global, list: &[u32], at: usize, number: u32) -> Result<Newer, Fault>
     requires { at ≤ length list.now }
     ensures { IfOk result (λ v. v.items ≡ insert list.now at number) }
 {
@@ -176,7 +96,7 @@ fn insert_number(alloc: Global, list: &[u32], at: usize, number: u32) -> Result<
 }
 
 /// An ascending list with one more number, unless it is there already. `Memory` where an allocation is refused.
-fn with_number(alloc: Global, list: &[u32], number: u32) -> Result<Others, Fault>
+fn with_number(alloc: Global, list: &[u32], number: u32) -> Result<Newer, Fault>
     requires { AreAscending list.now }
     ensures rising { IfOk result (λ v. AreAscending v.items) }
     ensures numbers { IfOk result (λ v. (n : ℕ) → Contains v.items n
@@ -188,24 +108,72 @@ fn with_number(alloc: Global, list: &[u32], number: u32) -> Result<Others, Fault
     }
 }
 
+/// Whether a number stands in an ascending list. Where the guess is right, no search is needed.
+fn stands_near(list: &[u32], near: &mut Near, number: u32) -> bool
+    requires { AreAscending list.now }
+    ensures { IsTrue result ↔ Contains list.now number }
+{
+    let guess = near.next();
+    if guess < list.len() && list[guess] == number {
+        near.found(guess);
+        return true;
+    }
+    if !is_between_ends(list, number) {
+        return false;
+    }
+    match list.binary_search(&number) {
+        Ok(place) => {
+            near.found(place);
+            true
+        }
+        Err(_) => false,
+    }
+}
+
+/// Two ascending lists as one. `Memory` where an allocation is refused.
+fn merge(alloc: Global, older: &[u32], newer: &[u32]) -> Result<ArcSlice<u32>, Fault>
+    ensures rising { IfOk result (λ m. AreAscending (arc_slice_items m)) }
+    ensures numbers { IfOk result (λ m. (n : ℕ) → Contains (arc_slice_items m) n
+        ↔ Contains (older.now ++ newer.now) n) }
+{
+    let mut all = Vec::from_slice(alloc, older)?;
+    all.extend_from_slice(newer)?;
+    all.sort()?;
+    Ok(ArcSlice::from_vec(all)?)
+}
+
+/// A list that shares the items of another. `Memory` only where no more lists can share them.
+fn share(list: &Option<ArcSlice<u32>>) -> Result<Option<ArcSlice<u32>>, Fault>
+    ensures { IfOk result (λ copy. shared_items copy ≡ shared_items list.now) }
+{
+    match list {
+        Some(items) => Ok(Some(items.clone()?)),
+        None => Ok(None),
+    }
+}
+
 impl Numbers {
     /// A list of one number. `Memory` where an allocation is refused.
     pub(crate) fn of(alloc: Global, number: u32) -> Result<Numbers, Fault>
         ensures { IfOk result (λ v. v ≡ number ∷ []) }
     {
-        let mut others = SmallVec::new(alloc);
-        others.push(number)?;
-        Ok(Numbers {
-            rising: None,
-            others,
-        })
+        let mut newer = SmallVec::new(alloc);
+        newer.push(number)?;
+        Ok(Numbers { older: None, newer })
     }
 
     /// Whether a number is one of them.
     pub(crate) fn has(&self, number: u32) -> bool
         ensures { IsTrue result ↔ Contains self.now number }
     {
-        is_rising(&self.rising, number) || stands_in(self.others.as_slice(), number)
+        stands_in(items_of(&self.older), number) || stands_in(self.newer.as_slice(), number)
+    }
+
+    /// Whether a number is one of them, where others were looked up before.
+    pub(crate) fn has_near(&self, near: &mut Near, number: u32) -> bool
+        ensures { IsTrue result ↔ Contains self.now number }
+    {
+        stands_near(items_of(&self.older), near, number) || stands_in(self.newer.as_slice(), number)
     }
 
     /// These numbers and one more, which may be among them already. `Memory` where an allocation is refused.
@@ -213,24 +181,23 @@ impl Numbers {
         ensures { IfOk result (λ v. (n : ℕ) → Contains v n
             ↔ (Contains self.now n ⊎ (n ≡ number))) }
     {
-        if comes_last(&self.rising, number) {
-            let more = with_last(alloc, &self.rising, number)?;
-            let others = SmallVec::from_slice(alloc, self.others.as_slice())?;
-            return Ok(Numbers {
-                rising: Some(more),
-                others,
-            });
+        let newer = with_number(alloc, self.newer.as_slice(), number)?;
+        if newer.as_slice().len() < MERGED {
+            let older = share(&self.older)?;
+            return Ok(Numbers { older, newer });
         }
-        let rising = fork_of(&self.rising)?;
-        let others = with_number(alloc, self.others.as_slice(), number)?;
-        Ok(Numbers { rising, others })
+        let older = merge(alloc, items_of(&self.older), newer.as_slice())?;
+        Ok(Numbers {
+            older: Some(older),
+            newer: SmallVec::new(alloc),
+        })
     }
 
     /// How many numbers there are.
     pub(crate) fn len(&self) -> usize
         ensures { result ≡ length self.now }
     {
-        count_of(&self.rising) + self.others.as_slice().len()
+        items_of(&self.older).len() + self.newer.as_slice().len()
     }
 
     /// The number at a place.
@@ -238,11 +205,11 @@ impl Numbers {
         requires { place < length self.now }
         ensures { result ≡ slice_index self.now place }
     {
-        let count = count_of(&self.rising);
-        if place < count {
-            rising_at(&self.rising, place)
+        let older = items_of(&self.older);
+        if place < older.len() {
+            older[place]
         } else {
-            self.others.as_slice()[place - count]
+            self.newer.as_slice()[place - older.len()]
         }
     }
 }

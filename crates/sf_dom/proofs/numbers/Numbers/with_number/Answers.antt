@@ -1,26 +1,27 @@
-use Rattle.std.proofs.Common.{[], ◌∷◌, ◌++◌}
-use Rattle.std.specs.Prelude.{unwrap_or}
-use Rattle.sf_dom.proofs.AscendingLemmas.{rising-pushed, pushed-numbers, more-before, more-behind}
+use Rattle.std.proofs.Common.{◌++◌}
+use Rattle.std.proofs.lemmas.List.{append-nil}
+use Rattle.std.specs.Arc.{arc_slice_items}
+use Rattle.sf_dom.specs.Ascending.{shared_items}
+use Rattle.sf_dom.proofs.AscendingLemmas.{more-behind}
 use Rattle.sf_dom.proofs.numbers.Numbers.with_number.Goals as goal
 
 pub invariant_of-result : goal.invariant_of-result
-invariant_of-result c = (
-  rw c.in_ok-more.ensures
-      (rising-pushed (unwrap_or c.self.inside.rising []) c.args.number c.self.invariant.0
-      c.if-comes_last.ensures),
-  rw (c.in_ok-others.ensures.ok, c.as_slice.ensures) c.self.invariant.1,
-)
+invariant_of-result c = (rw c.in_ok-older.ensures c.self.invariant.0, c.in_ok-newer.ensures.rising)
 
-pub returns-then-comes_last : goal.returns-then-comes_last
-returns-then-comes_last c =
-    let xs = unwrap_or c.self.inside.rising [] in
-    let n = c.args.number in
-    rw (c.in_ok-more.ensures, c.in_ok-others.ensures.ok, c.as_slice.ensures, ← c.self.view_is)
-    (more-before xs (xs ++ n ∷ []) c.self.inside.others.items n (pushed-numbers xs n))
+pub returns-then-as_slice-lt-MERGED : goal.returns-then-as_slice-lt-MERGED
+returns-then-as_slice-lt-MERGED c =
+    let newer = rw c.as_slice.ensures at c.in_ok-newer.ensures.numbers in
+    rw (c.in_ok-older.ensures, ← c.self.view_is) (more-behind (shared_items c.self.inside.older)
+    c.self.inside.newer.items c.in_ok-newer.newer.items c.args.number newer)
 
 pub returns : goal.returns
 returns c =
-    let more = rw c.as_slice-2.ensures at c.in_ok-others-2.ensures.numbers in
-    rw (c.in_ok-rising.ensures, ← c.self.view_is)
-    (more-behind (unwrap_or c.self.inside.rising []) c.self.inside.others.items c.in_ok-others-2.others.items
-    c.args.number more)
+    let older = shared_items c.self.inside.older in
+    let newer = c.self.inside.newer.items in
+    let number = rw c.as_slice.ensures at c.in_ok-newer.ensures.numbers in
+    let more = more-behind older newer c.in_ok-newer.newer.items c.args.number number in
+    let all = rw (c.items_of.ensures, c.as_slice-3.ensures) at c.in_ok-older-2.ensures.numbers in
+    rw (c.new.ensures.items, append-nil (arc_slice_items c.in_ok-older-2.older), ← c.self.view_is) (λ n. (
+      (λ w. (more n).0 ((all n).0 w)),
+      (λ s. (all n).1 ((more n).1 s)),
+    ))
