@@ -149,15 +149,17 @@ or-same a b h = same_from_bits (bit_or a b) a (λ i. bit_at_or a b i ∙ max_of 
     max_of : (a b : ℕ) → b ≤ a → max a b ≡ a
     max_of a b l = omega arith
 
--- a number leaves room for its known zeros
-pub zeros-le : (n z o : ℕ) → n < 2 ^ 32 → z < 2 ^ 32 → HasBits n z o → n ≤ 4294967295 - z
-zeros-le n z o ln lz h =
-    let none : bit_and n z ≡ 0 = same_from_bits (bit_and n z) 0
-    (λ i. bit_at_and n z i ∙ min_none _ _ (h.zero i) ∙ sym (bit_at-zero i)) in
-    omega (arith, or_disjoint n z none, or_lt 32 n z ln lz)
+-- none of the known zeros is a bit of the number
+pub no-zeros : (n z o : ℕ) → HasBits n z o → bit_and n z ≡ 0
+no-zeros n z o h = same_from_bits (bit_and n z) 0
+    (λ i. bit_at_and n z i ∙ min_none _ _ (h.zero i) ∙ sym (bit_at-zero i))
   where
     min_none : (b a : ℕ) → a + b ≤ 1 → min b a ≡ 0
     min_none b a l = omega arith
+
+-- a number leaves room for its known zeros
+pub zeros-le : (n z o : ℕ) → n < 2 ^ 32 → z < 2 ^ 32 → HasBits n z o → n ≤ 4294967295 - z
+zeros-le n z o ln lz h = omega (arith, or_disjoint n z (no-zeros n z o h), or_lt 32 n z ln lz)
 
 -- a bit of a remainder, and of a shifted number
 pub bit_at-mod : (n k i : ℕ) → i < k → bit_at (n % 2 ^ k) i ≡ bit_at n i

@@ -4,6 +4,7 @@ pub mod ForwardLemmas
 pub mod Slots
 pub mod Propagations
 pub mod Halves
+pub mod NextFitting
 pub mod CommonBits
 pub mod Backs
 pub mod AssumeLemmas
