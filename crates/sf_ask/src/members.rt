@@ -54,10 +54,10 @@ fn lowest_bit(bits: u32) -> Option<u32> {
 }
 
 /// A number in place of `number`, with which the masked word may meet the condition against `wanted`; none where no way
-/// is tried. It is only a guess: the caller looks at the input again.
+/// is tried. It is only a guess: the caller looks at the input again. A word that equals `wanted` under the mask, or has
+/// none of its bits, needs no mending: its bits are known, and each number that is tried has them.
 fn mended_number(number: u32, mask: u32, known: Known, cond: &Cond, wanted: u32) -> Option<u32> {
     match (cond.test, cond.sense) {
-        (Test::Equal, true) => Some((number & !mask) | (wanted & mask)),
         (Test::Equal, false) => {
             let bit = lowest_bit(mask & !(known.zeros | known.ones))?;
             Some(number ^ bit)
@@ -66,7 +66,6 @@ fn mended_number(number: u32, mask: u32, known: Known, cond: &Cond, wanted: u32)
             let bit = lowest_bit(mask & wanted & !known.zeros)?;
             Some(number | bit)
         }
-        (Test::AnyBit, false) => Some(number & !(mask & wanted)),
         _ => None,
     }
 }
