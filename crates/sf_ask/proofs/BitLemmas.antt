@@ -1,7 +1,6 @@
 -- The bits of questions.
-use Rattle.std.proofs.Common.{◌≡◌, ◌≢◌, ℕ, ◌*◌, ◌/◌, ◌%◌, ◌^◌, ◌<◌, ◌==◌, if◌then◌else◌, min, bit_and, bit_or, true, false, List, slice_index, set, length, w64, sym, ap, ◌∙◌, subst, arith}
+use Rattle.std.proofs.Common.{◌≡◌, ℕ, ◌*◌, ◌/◌, ◌%◌, ◌^◌, ◌<◌, ◌==◌, min, bit_and, bit_or, true, false, List, slice_index, set, length, w64, sym, ap, ◌∙◌, subst, arith, if◌then◌else◌}
 use Rattle.std.specs.Int.{bit_at}
-use Rattle.std.proofs.lemmas.Bool.{true≢false}
 use Rattle.std.proofs.lemmas.Bool.Decides.{nat_tests}
 use Rattle.std.proofs.lemmas.Nat.Bits.{bit_at-zero, bit_at_and, bit_at_set_same, bit_at_set_other}
 use Rattle.std.proofs.lemmas.List.{get_or-set_same, get_or-set_other}
@@ -27,26 +26,6 @@ bits-more words p q long low =
     ∙ bit_at_set_other w64 (slice_index words w) (q % 64) (omega arith) (p % 64) (λ e. ne (omega arith))
     ∙ ap (λ x. bit_at (slice_index words x) (p % 64)) (sym same) ∙ sym t)
     (λ other. ap (λ x. bit_at x (p % 64)) (get_or-set_other words w (p / 64) m 0 other) ∙ sym t)))
-
--- a question has its bit after it was set
-pub set-here : (n : ℕ) (before after : List ℕ) → ((p : ℕ) → bit_of after p ≡ (if p == n then 1 else bit_of before p))
-    → has_bit after n ≡ true
-set-here n before after h = let t : (if n == n then 1 else bit_of before n) ≡ 1 = grind (arith, nat_tests) in
-    ap (λ x. x == 1) (h n ∙ t)
-
--- the other questions keep their bits
-pub set-else : (n : ℕ) (before after : List ℕ) → ((p : ℕ) → bit_of after p ≡ (if p == n then 1 else bit_of before p))
-    → (q : ℕ) → q ≢ n → has_bit after q ≡ has_bit before q
-set-else n before after h q ne = let t : (if q == n then 1 else bit_of before q) ≡ bit_of before q =
-    grind (arith, nat_tests) in ap (λ x. x == 1) (h q ∙ t)
-
--- a question that lacks its bit lacked it before another one was set
-pub unset-before : (n : ℕ) (before after : List ℕ)
-    → ((p : ℕ) → bit_of after p ≡ (if p == n then 1 else bit_of before p))
-    → (q : ℕ) → has_bit after q ≡ false → has_bit before q ≡ false
-unset-before n before after h q none = dite (ℕ_discrete q n)
-    (λ e. absurd (true≢false (sym (set-here n before after h) ∙ ap (has_bit after) (sym e) ∙ none)))
-    (λ ne. sym (set-else n before after h q ne) ∙ none)
 
 -- two words without a common bit: where one has a bit, the other hasn't
 apart-at : (a b i : ℕ) → bit_and a b ≡ 0 → (bit_at b i == 1) ≡ true → (bit_at a i == 1) ≡ false

@@ -1,17 +1,16 @@
 -- Probes of questions, and the questions that ask about an action.
-use Rattle.std.proofs.Common.{◌≡◌, ℕ, zero, suc, ◌+◌, ◌-◌, ◌<◌, ◌≤◌, ltb, leb, min, ◌⊎◌, inl, inr, true, false, List, [], ◌∷◌, ◌++◌, length, take, drop, get_or, Some, refl, sym, ap, ◌∙◌, arith}
-use Rattle.std.specs.Prelude.{slice_get, slice_range, All, Contains, IsPermutation}
+use Rattle.std.proofs.Common.{◌≡◌, ℕ, zero, suc, ◌+◌, ◌-◌, ◌<◌, ◌≤◌, ltb, leb, min, ◌⊎◌, inl, inr, true, false, List, [], ◌∷◌, ◌++◌, length, drop, get_or, Some, refl, sym, ap, ◌∙◌, arith}
+use Rattle.std.specs.Prelude.{slice_get, slice_range, Contains, IsPermutation}
 use Rattle.std.specs.List.Sorted.{IsPartitionPoint}
 use Rattle.std.proofs.lemmas.Bool.{ltb-true, leb-false, eqb-true, cases_lt}
 use Rattle.std.proofs.lemmas.List.{length-take-le, length-drop, get_or-take, get_or-drop}
-use Rattle.std.proofs.lemmas.List.Elements.{All-push, All-more, All-weaker, Contains-push, Contains-append_left}
+use Rattle.std.proofs.lemmas.List.Elements.{All-push, Contains-push, Contains-append_left}
 use Rattle.std.proofs.lemmas.List.Sorted.{All-permutation, Contains-permutation}
 use mathlib.Core.Logic.{dite}
 use native.Mathlib.Decide.{ℕ_discrete}
 use Rattle.sf_run.specs.declared.action.Action.{Action}
 use Rattle.sf_dom.specs.Facts.{FactsView, known_at}
 use Rattle.sf_ask.specs.Probing.{IsRuledOutIfAsked, IsProbeIn, has_one_call, HasProbe, AreProbes}
-use Rattle.sf_ask.specs.QuestionBits.{has_bit}
 use Rattle.sf_ask.specs.QuestionData.{QuestionData}
 use Rattle.sf_ask.specs.declared.probe.Probe.{Probe}
 use Rattle.sf_ask.proofs.Words.{below-range, above-range}
@@ -109,18 +108,6 @@ found-between probes low high from to starts ends inside p there above below =
     )
 
 -- ---- what is ruled out
-
--- what holds of each question whose bit isn't set, with one probe more
-pub marked-more : (P : ℕ → Type 0) (before after : List ℕ) (probes : List Probe) (i : ℕ) (d : Probe) → i < length probes
-    → ((q : ℕ) → has_bit after q ≡ false → has_bit before q ≡ false)
-    → All (λ (p : Probe). has_bit before p.question ≡ false → P p.question) (take i probes)
-    → (has_bit after (get_or probes i d).question ≡ false → P (get_or probes i d).question)
-    → All (λ (p : Probe). has_bit after p.question ≡ false → P p.question) (take (i + 1) probes)
-marked-more P before after probes i d l less all here =
-    All-more (λ (p : Probe). has_bit after p.question ≡ false → P p.question) probes i d l
-    (All-weaker (λ (p : Probe). has_bit before p.question ≡ false → P p.question)
-    (λ p. has_bit after p.question ≡ false → P p.question) (λ p h none. h (less p.question none)) (take i probes) all)
-    here
 
 -- a question about one call is ruled out where what is known of the first word leaves out the call's number
 pub call-misses : (f : FactsView) (questions : List QuestionData) (action : Action) (p : Probe) → IsProbeIn questions p

@@ -1,6 +1,6 @@
 -- What a search for a member in a question tells.
 use Rattle.std.proofs.Common.{◌≡◌, ℕ, ◌+◌, ◌<◌, ◌≤◌, Bool, true, false, List, length, get_or, take, arith, refl, sym, ap, subst, ◌∙◌, Some}
-use Rattle.std.specs.Prelude.{slice_index, slice_get, Result, Ok, Err, IfOk}
+use Rattle.std.specs.Prelude.{slice_index, slice_get}
 use Rattle.std.specs.List.{list_all}
 use Rattle.std.proofs.lemmas.List.{ext_get_or}
 use Rattle.std.proofs.lemmas.List.Folds.{list_all_more, list_all_at}
@@ -14,7 +14,6 @@ use Rattle.sf_run.specs.declared.action.Answer.{Answer}
 use Rattle.sf_run.specs.Machine.{returns_of}
 use Rattle.sf_run.specs.AnswerLaws.{one}
 use Rattle.sf_book.specs.Books.{BookData, RegionData, IsRightRegion}
-use Rattle.sf_ask.specs.declared.fault.Fault.{Fault}
 use Rattle.sf_ask.specs.declared.verdict.Verdict.{Verdict}
 use Rattle.sf_ask.specs.declared.verdict.Verdict.TheVariants.{Clear, Hit, Doubt}
 use Rattle.sf_ask.specs.Actions.{has_action}
@@ -22,10 +21,10 @@ use Rattle.sf_piece.specs.Pieces.{PieceData, is_member}
 use Rattle.sf_piece.specs.PlainPieces.{IsPlainPiece}
 use Rattle.sf_ask.specs.QuestionData.{QuestionData}
 use Rattle.sf_ask.specs.Breaking.{IsInQuestion}
-use Rattle.sf_ask.specs.Verdicts.{IsLowInput, IsMemberAt, IsBreakAt, IsRightVerdict, TellsTriedAt}
+use Rattle.sf_ask.specs.Verdicts.{IsLowInput, IsMemberAt, IsBreakAt, IsRightVerdict}
 use Rattle.sf_ask.proofs.Leasts.{least-admitted, least-below, least-agrees}
 use Rattle.sf_ask.specs.Trying.{IsNumberBefore, IsLeastInput}
-use Rattle.sf_ask.specs.Searches.{IsRightSearch, TellsTried}
+use Rattle.sf_ask.specs.Searches.{IsRightSearch}
 
 -- ---- conditions, one after the other
 
@@ -128,24 +127,3 @@ region-right s place q r (Hit d) there right asked found = record {
 }
 region-right s place q r Doubt there right asked found =
     λ d low h. found d h.member.input low (in-piece s place r d there h.member)
-
-pub region-tried : (s : BookData) (place : ℕ) (q : QuestionData) (r : RegionData) (v : Verdict)
-    → slice_get s.regions place ≡ Some r → has_action q.actions r.answer.action ≡ true → IsRightVerdict s place q v
-    → TellsTried r.piece q v → TellsTriedAt s place q v
-region-tried s place q r Clear there asked right least = tt
-region-tried s place q r (Hit d) there asked right least = record {
-  breaks = right;
-  least = λ other member inside. least other member.input (in-piece s place r other there member) inside;
-}
-region-tried s place q r Doubt there asked right doubt =
-    record { region = r; there = there; asked = asked; tried = doubt.0; is = doubt.1; outside = doubt.2 }
-
-pub if-ok : (P Q : Verdict → Type 0) (result : Result Verdict Fault) → ((v : Verdict) → P v → Q v)
-    → IfOk result P → IfOk result Q
-if-ok P Q (Ok v) f h = f v h
-if-ok P Q (Err e) f h = tt
-
-pub if-both-ok : (P Q R : Verdict → Type 0) (result : Result Verdict Fault) → ((v : Verdict) → P v → Q v → R v)
-    → IfOk result P → IfOk result Q → IfOk result R
-if-both-ok P Q R (Ok v) f h k = f v h k
-if-both-ok P Q R (Err e) f h k = tt

@@ -1,37 +1,18 @@
 -- The calls of a file of names, one more at a time; and no tree is refused as `Syntax`.
-use Rattle.std.proofs.Common.{◌≡◌, ℕ, Bool, true, false, List, [], ◌∷◌, ◌++◌, codes, append_assoc, Option, Some, None, Result, Ok, Err, refl, ap, sym, subst, ◌∙◌, String, string_bytes, Global, if◌then◌else◌}
-use Rattle.std.specs.Prelude.{IfErr, IfOk}
+use Rattle.std.proofs.Common.{◌≡◌, ℕ, Bool, true, false, List, ◌++◌, codes, Option, Some, None, Result, Ok, Err, refl, ap, sym, ◌∙◌, if◌then◌else◌}
 use Rattle.std.proofs.lemmas.Bool.{false≢true}
 use Rattle.toml.specs.Data.{Data, string, integer, float, boolean, datetime, array, table, Members, no_members, member, get_member}
-use Rattle.toml.specs.View.{members_view, view}
-use Rattle.toml.specs.declared.value.Value.{Value}
 use Rattle.sf_audit.specs.declared.fault.Fault.{Fault}
 use Rattle.sf_audit.specs.declared.fault.Fault.TheVariants as faults
 use Rattle.sf_audit.specs.Keys.{has_only}
 use Rattle.sf_audit.specs.Encoding.{word_in}
-use Rattle.sf_audit.specs.Names.{AreOrdered, CallData, GivesNames, NamesData, arch_at, arch_of_value, arch_where_word, call_cons, call_of, call_of_value, call_where_word, calls_at, calls_of, calls_of_value, is_call_name, names_keys, names_of, names_of_parts}
+use Rattle.sf_audit.specs.Names.{CallData, GivesNames, NamesData, arch_at, arch_of_value, arch_where_word, call_cons, call_of_value, call_where_word, calls_at, calls_of, calls_of_value, is_call_name, names_keys, names_of, names_of_parts}
 use Rattle.sf_audit.proofs.NeverSyntax.{is_syntax}
 
 -- the calls that were read, in front of those that are left
 abbrev pub with_calls : List CallData → Result (List CallData) Fault → Result (List CallData) Fault
 with_calls front (Ok rest) = Ok (front ++ rest)
 with_calls front (Err fault) = Err fault
-
-with_calls_cons : (front : List CallData) (c : CallData) (rest : Result (List CallData) Fault)
-    → with_calls front (call_cons (Ok c) rest) ≡ with_calls (front ++ c ∷ []) rest
-with_calls_cons front c (Ok rest) = ap Ok (sym (append_assoc front (c ∷ []) rest))
-with_calls_cons front c (Err fault) = refl
-
--- one more call was read
-pub one_more_call : (whole : Result (List CallData) Fault) (front : List CallData) (s t : List (String Global × Value))
-    (name : String Global) (value : Value) (c : CallData) → s ≡ (name, value) ∷ t
-    → call_of (string_bytes name) (view value) ≡ Ok c
-    → whole ≡ with_calls front (calls_of (members_view s))
-    → whole ≡ with_calls (front ++ c ∷ []) (calls_of (members_view t))
-one_more_call whole front s t name value c is found before =
-    let opened = rw is at before in
-    let read = rw found at opened in
-    read ∙ with_calls_cons front c (calls_of (members_view t))
 
 -- ---- no tree is refused as `Syntax`
 
@@ -106,9 +87,3 @@ of_tree ms = choice (has_only names_keys ms) _ _
 -- a function that gives the names of a tree never answers `Syntax`
 pub no_syntax : (r : Result NamesData Fault) (ms : Members) → GivesNames r (names_of ms) → r ≡ Err faults.Syntax → ⊥
 no_syntax r ms gives e = false≢true (sym (of_tree ms) ∙ ap (λ l. is_syntax l) (rw e at gives))
-
--- names that were put in order are due where they were
-pub ordered_due : (r : Result NamesData Fault) (file : NamesData) (due : Result NamesData Fault) → due ≡ Ok file
-    → IfOk r (AreOrdered file) → IfErr r (λ e. e ≡ faults.Memory) → GivesNames r due
-ordered_due (Ok names) file due is ok err = (file, is, ok)
-ordered_due (Err e) file due is ok err = subst (λ (f : Fault). GivesNames (Err f) due) (sym err) tt

@@ -1,5 +1,5 @@
 -- What `Question::of_masked` gives for the parts of an entry is what is due for the entry.
-use Rattle.std.proofs.Common.{◌≡◌, ℕ, ◌+◌, ◌++◌, Bool, true, false, not, ◌&&◌, ◌||◌, length, List, [], ◌∷◌, map, refl, ap, sym, ◌∙◌, if◌then◌else◌, Option, Some, None, Result, Ok, Err, ◌⊎◌, append_assoc, ◌<◌, drop, get_or, codes, option_map}
+use Rattle.std.proofs.Common.{◌≡◌, ℕ, ◌+◌, ◌++◌, Bool, true, false, not, ◌&&◌, ◌||◌, List, [], ◌∷◌, map, refl, ap, Option, Some, None, Result, Ok, Err, ◌⊎◌, codes, option_map, if◌then◌else◌}
 use Rattle.std.proofs.Common.{inl, inr}
 use Rattle.std.specs.List.{list_all}
 use Rattle.sf_ask.specs.declared.fault.Fault.{Fault as AskFault}
@@ -10,20 +10,16 @@ use Rattle.sf_ask.specs.declared.fault.Fault.TheVariants as ask
 use Rattle.sf_audit.specs.declared.fault.Fault.{Fault}
 use Rattle.sf_audit.specs.declared.fault.Fault.TheVariants as faults
 use Rattle.sf_audit.specs.declared.policy.words.WordEntry.{WordEntry}
-use Rattle.sf_audit.specs.Faults.{Gives}
 use Rattle.sf_audit.specs.Words.{has_words, has_range, has_mask, range_of, mask_of, entry_at}
 use Rattle.std.specs.Str.{bytes_eq}
-use Rattle.std.proofs.lemmas.List.{drop_more}
 use Rattle.toml.specs.Data.{Members, get_member}
-use Rattle.toml.specs.View.{view}
-use Rattle.toml.specs.declared.value.Value.{Value}
 use Rattle.sf_ask.specs.declared.actions.ActionSet.{ActionSet}
 use Rattle.sf_audit.specs.declared.policy.Version.{Version}
 use Rattle.sf_audit.specs.Keys.{has_only, question_keys, word_keys}
 use Rattle.sf_audit.specs.Trees.{each_of, text_at}
 use Rattle.sf_audit.specs.Actions.{is_action, are_actions, is_named, set_of, names_at}
-use Rattle.sf_audit.specs.Encoding.{no_actions, ranges_and_masks, encoded_set, numbered_fault, with_number, question_of_parts, table_or_empty}
-use Rattle.sf_audit.specs.Policies.{Entry, question_entry_of_parts, question_of_entry, question_where_read, question_of_table, question_cons, questions_from}
+use Rattle.sf_audit.specs.Encoding.{no_actions, ranges_and_masks, encoded_set, numbered_fault, with_number, question_of_parts}
+use Rattle.sf_audit.specs.Policies.{Entry, question_entry_of_parts, question_of_entry, question_where_read, question_of_table}
 
 both_true : (a b : Bool) → (a && b) ≡ true → (a ≡ true) × (b ≡ true)
 both_true true true h = (refl, refl)
@@ -144,15 +140,6 @@ entry_due : (number : ℕ) (e : Entry)
     → question_of_parts number e.name (ranges_and_masks e.words) (encoded_set e.actions) ≡ question_of_entry number e
 entry_due number e = entry_due_where number (list_all has_words e.words) e refl
 
--- what is wrong with a question that has a number outside 32 bits is due
-pub outside_fails : (number : ℕ) (named : Bool) (fault : Fault)
-    → fault ≡ (if named then faults.Range number else faults.Name number)
-    → let given : Result QuestionData Fault = Err fault in
-    let due : Result QuestionData Fault = Err (if named then faults.Range number else faults.Name number) in
-    Gives {X = QuestionData} {Y = QuestionData} (λ q. q) given due
-outside_fails number true fault e = rw e refl
-outside_fails number false fault e = rw e refl
-
 parts_due : (number : ℕ) (only : Bool) (name' : Option (List ℕ)) (words' : Option (List WordEntry))
     (texts' : Option (List (List ℕ))) (name : List ℕ) (words : List WordEntry) (set : ActionSet)
     → only ≡ true → Some name ≡ name' → Some words ≡ words' → Some set ≡ option_map encoded_set texts'
@@ -182,21 +169,3 @@ table_due version number ms name words set h k l m = parts_due number _ _ _ _ na
 abbrev pub with_questions : List QuestionData → Result (List QuestionData) Fault → Result (List QuestionData) Fault
 with_questions front (Ok rest) = Ok (front ++ rest)
 with_questions front (Err fault) = Err fault
-
-with_questions_cons : (front : List QuestionData) (q : QuestionData) (rest : Result (List QuestionData) Fault)
-    → with_questions front (question_cons (Ok q) rest) ≡ with_questions (front ++ q ∷ []) rest
-with_questions_cons front q (Ok rest) = ap Ok (sym (append_assoc front (q ∷ []) rest))
-with_questions_cons front q (Err fault) = refl
-
--- One more question was read.
-pub one_more_question : (version : Version) (whole : Result (List QuestionData) Fault) (front : List QuestionData)
-    (vs : List Value)
-    (i : ℕ) (v : Value) (q : QuestionData)
-    → i < length vs → v ≡ get_or vs i v
-    → question_of_table version (i + 1) (table_or_empty (view v)) ≡ Ok q
-    → whole ≡ with_questions front (questions_from version (i + 1) (map (λ v. table_or_empty (view v)) (drop i vs)))
-    → whole ≡ with_questions (front ++ q ∷ [])
-    (questions_from version (i + 1 + 1) (map (λ v. table_or_empty (view v)) (drop (i + 1) vs)))
-one_more_question version whole front vs i v q h is found before =
-    let opened = rw (drop_more vs i v h, ← is, found) at before in
-    opened ∙ with_questions_cons front q _

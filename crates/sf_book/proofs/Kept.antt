@@ -17,7 +17,7 @@ use Rattle.sf_book.specs.Books.{OutstandingData, BookData, IsLawfulBook, IsKept,
 use Rattle.sf_book.specs.Changes.{outstanding_at, without, MayCommit, Refuses}
 use Rattle.sf_book.specs.declared.fault.Fault.{Fault}
 use Rattle.sf_book.specs.declared.fault.Fault.TheVariants.{Memory}
-use Rattle.std.specs.Prelude.{Result, Ok, Err, IfOk, IfErr}
+use Rattle.std.specs.Prelude.{Result, Ok, Err, IfErr}
 use Rattle.sf_book.proofs.Lists.{remove_without}
 use Rattle.sf_book.proofs.Lawful.{fresh_lawful, IsReplaced, leased_piece, after_split, after_answer, after_empty, split_lawful, answer_lawful, empty_lawful, marks_lawful}
 
@@ -230,10 +230,3 @@ pub memory_refuses : {A : Type 0} (r : Result A Fault) (b c : BookData) (id : �
     → IfErr r (λ f. (f ≡ Memory) × (c ≡ b)) → IfErr r (λ f. Refuses b id w f × (c ≡ b))
 memory_refuses (Ok x) b c id w m room h = tt
 memory_refuses (Err f) b c id w m room h = (subst (λ (g : Fault). Refuses b id w g) (sym h.0) (m, room), h.1)
-
--- what is committed may be committed, and there is room for it
-pub commits_where_may : {A : Type 0} (P : A → Type 0) (r : Result A Fault) (b : BookData) (id : ℕ) (w : WorkData)
-    → MayCommit b id w → b.commits < b.budget → IfOk r P
-    → IfOk r (λ x. MayCommit b id w × (b.commits < b.budget) × P x)
-commits_where_may P (Ok x) b id w m room h = (m, room, h)
-commits_where_may P (Err f) b id w m room h = tt

@@ -1,5 +1,5 @@
 -- What is known of the form of the command line, and what a parse by it reads.
-use Rattle.std.proofs.Common.{◌≡◌, ◌≢◌, ◌&&◌, ◌⊎◌, inl, inr, ◌<◌, ◌≤◌, ◌^◌, ◌∙◌, ap, ℕ, List, [], Bool, true, false, map, refl, subst, arith}
+use Rattle.std.proofs.Common.{◌≡◌, ◌≢◌, ◌&&◌, ◌⊎◌, inl, inr, ◌<◌, ◌^◌, ◌∙◌, ap, ℕ, List, [], Bool, true, false, map, refl, subst, arith}
 use Rattle.std.specs.Prelude.{Option, Result, Some, None, Ok, Err, not, option_map, unwrap_or}
 use Rattle.std.specs.Borrow.{Bor}
 use Rattle.std.specs.Str.Parse.{ParsesUnsigned}
@@ -62,16 +62,6 @@ pub read_or : {X Y : Type 0} (f : X → Y) (o : Option X) (p : Option Y) (x : X)
     → f (unwrap_or o x) ≡ unwrap_or p (f x)
 read_or f None p x e = rw (← e) refl
 read_or f (Some y) p x e = rw (← e) refl
-
--- where the number of an option lies outside its range, the usual one stands for it
-pub usual_number : (greatest usual n : ℕ) (text : Option Text) → IsOptionNumber text greatest usual n
-    → ((0 < n) × (greatest < n)) ⊎ (n ≤ 0)
-    → IsOptionNumber text greatest usual usual
-usual_number greatest usual n None is outside = refl
-usual_number greatest usual n (Some t) is (inl great) =
-    λ numeral some few. absurd (omega (arith, is numeral some few, great.1, few))
-usual_number greatest usual n (Some t) is (inr none) =
-    λ numeral some few. absurd (omega (arith, is numeral some few, none, some))
 
 -- the paths that a parse found are those that the argument names
 pub paths_found : (f : Found) (id : Text) (r : Option (Bor (List (Bor Text)))) (none : Bor (List (Bor Text)))

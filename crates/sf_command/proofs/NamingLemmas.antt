@@ -1,6 +1,6 @@
 -- What the answers of `read_names` say of files of names; and files that are read after these.
 use Rattle.std.proofs.Common.{◌≡◌, ◌⊎◌, inl, inr, ℕ, ◌+◌, ◌≤◌, ◌∙◌, Bool, List, [], ◌∷◌, ◌++◌, Option, Some, None, Result, Ok, Err, Bor, length, slice_get, sym, subst}
-use Rattle.std.specs.Prelude.{IfOk, IfErr}
+use Rattle.std.specs.Prelude.{IfOk}
 use Rattle.toml.specs.Data.{Members}
 use Rattle.toml.specs.Parse.{parse_document}
 use Rattle.sf_audit.specs.declared.fault.Fault.{Fault}
@@ -13,7 +13,7 @@ use Rattle.sf_command.specs.Listings.{ListsFiles, RefusesListing}
 use Rattle.sf_command.specs.Names.{AreNamesRead, IsNamesFile, RefusesNamesFile, RefusesNaming}
 use Rattle.sf_command.specs.Outputs.{EvaluatesFiles, RefusesEval, RefusesFiles}
 use Rattle.sf_command.proofs.Pairing.{PairedSoFar, paired_all, paired_more}
-use Rattle.sf_command.proofs.PolicyLemmas.{fails_due, option_cases}
+use Rattle.sf_command.proofs.PolicyLemmas.{option_cases}
 use Rattle.sf_command.proofs.ReadLemmas.{read_same}
 use Rattle.sf_command.proofs.RefusalLemmas.{still_unknown}
 
@@ -28,22 +28,6 @@ names_meant (Ok x) known text read none agrees = elim (option_cases (parse_docum
       (text, agrees, record { tree = found.0; parsed = found.1; file = meant.0; meant = meant.1; ordered = meant.2 })
 ]
 names_meant (Err e) known text read none agrees = tt
-
-pub names_refused : (r : Result NamesData Fault) (known : Option (List ℕ)) (text : List ℕ)
-    → ((tree : Members) → parse_document text ≡ Some tree → GivesNames r (names_of tree))
-    → (parse_document text ≡ None → (r ≡ Err faults.Syntax) ⊎ (r ≡ Err faults.Memory)) → AreKnownBytes known text
-    → IfErr r (λ e. ((e ≡ faults.Read) × (known ≡ None)) ⊎ (e ≡ faults.Memory) ⊎ RefusesNamesFile known e)
-names_refused (Ok x) known text read none agrees = tt
-names_refused (Err e) known text read none agrees = elim (option_cases (parse_document text)) [
-  | inl h ↦ elim (none h) [
-    | inl s ↦ let same : e ≡ faults.Syntax = cc in inr (inr (text, agrees, inl (same, inr h)))
-    | inr m ↦ let same : e ≡ faults.Memory = cc in inr (inl same)
-  ]
-  | inr found ↦ elim (fails_due e (names_of found.0) (read found.0 found.1)) [
-    | inl m ↦ inr (inl m)
-    | inr due ↦ inr (inr (text, agrees, inr (found.0, found.1, due)))
-  ]
-]
 
 -- The files at the first of the paths have these names. What is known of files stays what it was before.
 pub record NamedSoFar (before after : List ℕ → Option (List ℕ)) (paths : List (Bor (List ℕ))) (place : ℕ)

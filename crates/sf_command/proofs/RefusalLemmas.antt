@@ -1,6 +1,5 @@
 -- Why an audit, a comparison or a listing of files is refused.
 use Rattle.std.proofs.Common.{◌≡◌, ◌⊎◌, ◌∙◌, inl, inr, ℕ, List, None, Option, Bor, Result, Ok, Err, sym, subst}
-use Rattle.std.specs.Prelude.{slice_get, Some}
 use Rattle.std.specs.Result.{IfErr, IsErrAnd}
 use Rattle.sf_ask.specs.QuestionData.{QuestionData}
 use Rattle.sf_audit.specs.declared.fault.Fault.{Fault}
@@ -25,15 +24,6 @@ policy_why holds policy paths e (inl read) = inr (inr (inl read))
 policy_why holds policy paths e (inr (inl memory)) = inr (inl memory)
 policy_why holds policy paths e (inr (inr why)) = inr (inr (inr (inl why)))
 
--- where the file at a path can't be read, one at the paths isn't known
-pub read_why : (before after : List ℕ → Option (List ℕ)) (paths : List (Bor (List ℕ))) (n : ℕ) (path : Bor (List ℕ))
-    (e : Fault) → ((p : List ℕ) → after p ≡ before p) → slice_get paths n ≡ Some path
-    → ((e ≡ Read) × (after path.now ≡ None)) ⊎ (e ≡ Memory)
-    → ((e ≡ Read) × HasUnknown before paths) ⊎ (e ≡ Memory)
-read_why before after paths n path e same at (inl (read, none)) =
-    inl (read, record { place = n; path = path; at = at; unknown = sym (same path.now) ∙ none })
-read_why before after paths n path e same at (inr memory) = inr memory
-
 -- a file whose bytes aren't known after others were read wasn't known before
 pub still_unknown : (before after : List ℕ → Option (List ℕ)) (paths : List (Bor (List ℕ)))
     → ((p : List ℕ) → after p ≡ before p) → HasUnknown after paths → HasUnknown before paths
@@ -43,31 +33,6 @@ still_unknown before after paths same left = record {
   at = left.at;
   unknown = sym (same left.path.now) ∙ left.unknown;
 }
-
--- where a filter file can't be read, after a policy with these questions, the audit is refused
-pub filters_why : (before after : List ℕ → Option (List ℕ)) (policy : List ℕ) (paths : List (Bor (List ℕ)))
-    (questions : List QuestionData) (e : Fault)
-    → IsPolicyFile (before policy) questions → ((p : List ℕ) → after p ≡ before p)
-    → ((e ≡ Read) × HasUnknown after paths) ⊎ (e ≡ Memory)
-    → RefusesAudit before policy paths e
-filters_why before after policy paths questions e asked same (inl (read, left)) =
-    inr (inr (inr (inr (questions, asked, inl (read, still_unknown before after paths same left)))))
-filters_why before after policy paths questions e asked same (inr memory) = inr (inl memory)
-
--- where a file of the second of two stacks can't be read, one of either isn't known
-pub either_unknown : (before after : List ℕ → Option (List ℕ)) (old new : List (Bor (List ℕ))) (e : Fault)
-    → ((p : List ℕ) → after p ≡ before p) → ((e ≡ Read) × HasUnknown after new) ⊎ (e ≡ Memory)
-    → ((e ≡ Read) × (HasUnknown before old ⊎ HasUnknown before new)) ⊎ (e ≡ Memory)
-either_unknown before after old new e same (inl (read, left)) =
-    inl (read, inr (still_unknown before after new same left))
-either_unknown before after old new e same (inr memory) = inr memory
-
--- where a file of either stack can't be read, the comparison is refused
-pub unread_why : (holds : List ℕ → Option (List ℕ)) (old new : List (Bor (List ℕ))) (e : Fault)
-    → ((e ≡ Read) × (HasUnknown holds old ⊎ HasUnknown holds new)) ⊎ (e ≡ Memory)
-    → RefusesComparison holds old new e
-unread_why holds old new e (inl read) = inl read
-unread_why holds old new e (inr memory) = inr (inr (inl memory))
 
 -- where the comparison of what the files hold is refused, that of the files is
 pub comparison_why : (holds : List ℕ → Option (List ℕ)) (old new : List (Bor (List ℕ))) (files : List (List ℕ))
@@ -86,12 +51,6 @@ pub audit_why : (holds : List ℕ → Option (List ℕ)) (policy : List ℕ) (pa
 audit_why holds policy paths questions files e asked read (inl memory) = inr (inl memory)
 audit_why holds policy paths questions files e asked read (inr why) =
     inr (inr (inr (inr (questions, asked, inr (files, read, why)))))
-
--- a file of a listing can't be read
-pub unlisted_why : (holds : List ℕ → Option (List ℕ)) (paths : List (Bor (List ℕ))) (e : Fault)
-    → ((e ≡ Read) × HasUnknown holds paths) ⊎ (e ≡ Memory) → RefusesListing holds paths e
-unlisted_why holds paths e (inl read) = inl read
-unlisted_why holds paths e (inr memory) = inr (inr (inl memory))
 
 -- the listing of what the files hold is refused
 pub listing_why : (holds : List ℕ → Option (List ℕ)) (paths : List (Bor (List ℕ))) (files : List (List ℕ)) (e : Fault)

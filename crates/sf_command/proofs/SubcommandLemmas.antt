@@ -1,6 +1,6 @@
 -- Which subcommand the words of a command line name that fits its form.
-use Rattle.std.proofs.Common.{◌≡◌, ◌⊎◌, inl, inr, ap, sym, ◌∙◌, List, [], ◌∷◌, Bool, true, false, codes, refl}
-use Rattle.std.specs.Prelude.{if◌then◌else◌, Option, Some, None, find, is_some, option_map, unwrap_or}
+use Rattle.std.proofs.Common.{◌≡◌, ◌⊎◌, inl, inr, ap, List, [], ◌∷◌, Bool, true, false, refl}
+use Rattle.std.specs.Prelude.{if◌then◌else◌, Option, Some, None, find, is_some, option_map}
 use Rattle.clap.specs.Words.{App, Kinds, Row, Shape, Text}
 use Rattle.clap.specs.Kinds.{or_else}
 use Rattle.clap.specs.Faults.{built_fault, check_fault, defaults_fault, entered_fault, settle_fault, walk_fault}
@@ -107,21 +107,6 @@ known_subcommand words fits =
     let a = built command_line in
     entered_name a _ _ _ _ _ refl (stop_after a.top.rules (names_of a) (argument_words command_line words))
     (needs_subcommand a (argument_words command_line words) refl fits)
-
--- where a subcommand's name is none of the five, none of the five is named
-pub unknown_name : (o : Option (Text × List Row)) (name : Text) (rows : List Row) → o ≡ Some (name, rows)
-    → ¬ (name ≡ codes "audit") → ¬ (name ≡ codes "check") → ¬ (name ≡ codes "eval")
-    → ¬ (name ≡ codes "compare") → ¬ (name ≡ codes "list") → ¬ IsKnown o
-unknown_name o name rows is no_audit no_check no_eval no_compare no_list (found, met, inl audit) =
-    no_audit (ap (λ (p : Option (Text × List Row)). (unwrap_or p found).0) (sym is ∙ met) ∙ audit)
-unknown_name o name rows is no_audit no_check no_eval no_compare no_list (found, met, inr (inl check)) =
-    no_check (ap (λ (p : Option (Text × List Row)). (unwrap_or p found).0) (sym is ∙ met) ∙ check)
-unknown_name o name rows is no_audit no_check no_eval no_compare no_list (found, met, inr (inr (inl eval))) =
-    no_eval (ap (λ (p : Option (Text × List Row)). (unwrap_or p found).0) (sym is ∙ met) ∙ eval)
-unknown_name o name rows is no_audit no_check no_eval no_compare no_list (found, met, inr (inr (inr (inl compare)))) =
-    no_compare (ap (λ (p : Option (Text × List Row)). (unwrap_or p found).0) (sym is ∙ met) ∙ compare)
-unknown_name o name rows is no_audit no_check no_eval no_compare no_list (found, met, inr (inr (inr (inr list)))) =
-    no_list (ap (λ (p : Option (Text × List Row)). (unwrap_or p found).0) (sym is ∙ met) ∙ list)
 
 -- where there is no name, none of the five is named
 pub no_name : {X : Type 0} (f : X → Text) (g : X → List Row) (o : Option X) → None ≡ option_map f o

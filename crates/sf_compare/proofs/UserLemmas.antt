@@ -1,15 +1,12 @@
 -- What a comparison tells of questions.
-use Rattle.std.proofs.Common.{◌≡◌, ℕ, ◌≤◌, true, codes, ◌∷◌, [], refl, sym, subst, inl, inr, arith}
+use Rattle.std.proofs.Common.{ℕ, codes, ◌∷◌, [], sym, subst, inl, inr}
 use Rattle.std.proofs.lemmas.Bool.{cases_lt}
 use Rattle.sf_insn.specs.declared.input.Input.{Input}
 use Rattle.sf_insn.specs.Inputs.{IsInput}
 use Rattle.sf_check.specs.Stacks.{IsLawfulStack}
-use Rattle.sf_run.specs.declared.action.Action.{Action}
-use Rattle.sf_run.specs.declared.action.Action.TheVariants.{KillProcess, KillThread, Trap, Errno, UserNotif, Trace, Log, Allow, Other}
 use Rattle.sf_run.specs.ReplayLaws.{answers_are_right}
 use Rattle.sf_book.specs.Books.{BookData, IsSettled}
 use Rattle.sf_ask.specs.declared.actions.ActionSet.{ActionSet}
-use Rattle.sf_ask.specs.Actions.{has_action}
 use Rattle.sf_ask.specs.QuestionData.{QuestionData}
 use Rattle.sf_ask.specs.Breaking.{Breaks}
 use Rattle.sf_audit.specs.Actions.{set_of}
@@ -46,26 +43,3 @@ breaks_no_more s older q d settled never upward is broken =
 
 abbrev usual : ActionSet
 usual = set_of (codes "ALLOW" ∷ codes "LOG" ∷ [])
-
--- an action that carries a call out is among the usual ones
-carried_out : (other : Action) → 2 ≤ reach_of other → has_action usual other ≡ true
-carried_out Allow far = refl
-carried_out Log far = refl
-carried_out KillProcess far = absurd (omega arith)
-carried_out KillThread far = absurd (omega arith)
-carried_out Trap far = absurd (omega arith)
-carried_out Errno far = absurd (omega arith)
-carried_out UserNotif far = absurd (omega arith)
-carried_out Trace far = absurd (omega arith)
-carried_out (Other n) far = absurd (omega arith)
-
-pub usual_upward : IsUpward usual
-usual_upward Allow other asked far = carried_out other far
-usual_upward Log other asked far = carried_out other far
-usual_upward KillProcess other asked far = absurd (cc)
-usual_upward KillThread other asked far = absurd (cc)
-usual_upward Trap other asked far = absurd (cc)
-usual_upward Errno other asked far = absurd (cc)
-usual_upward UserNotif other asked far = absurd (cc)
-usual_upward Trace other asked far = absurd (cc)
-usual_upward (Other n) other asked far = absurd (cc)

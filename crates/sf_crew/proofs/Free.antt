@@ -11,7 +11,7 @@ use Rattle.sf_book.specs.Books.{OutstandingData, BookData, IsLawfulBook, IsOutst
 use Rattle.sf_book.specs.Changes.{outstanding_at, with_lease_at, with_lease, without, CommitsAs, Leases, MayCommit}
 use Rattle.sf_book.specs.ChangeLaws.{all_at, leased_at}
 use Rattle.sf_book.specs.declared.book.Lease.{Lease}
-use Rattle.sf_crew.specs.Explorations.{IsExhausted, IsFree, IsOnlyLease, MayWork, IsSameExploration, GoesOn}
+use Rattle.sf_crew.specs.Explorations.{IsExhausted, IsFree, IsOnlyLease, MayWork, GoesOn}
 
 abbrev Free : OutstandingData → Type 0
 Free e = e.leased ≡ false
@@ -63,13 +63,6 @@ leased_of b c x h l =
     let o : IsOutstanding b.stack e = all_at (IsOutstanding b.stack) b.outstanding x.id e h.outstanding l.there in
     o.of
 
--- a lease, if there is a piece, changes nothing else
-pub lease_keeps : (b c : BookData) (l : Option Lease)
-    → MatchOption l ((c ≡ b) × All (λ e. e.leased ≡ true) b.outstanding) (λ x. Leases b x.id (arc_value x.piece) c)
-    → IsSameExploration b c × (c.commits ≡ b.commits)
-lease_keeps b c None h = rw h.0 (record { stack = refl; budget = refl }, refl)
-lease_keeps b c (Some x) h = rw h.after (record { stack = refl; budget = refl }, refl)
-
 -- the piece that was leased may be worked within the budget; where there is none, nothing is outstanding
 pub leased_or_end : (b c : BookData) (l : Option Lease) → IsFree b.outstanding → b.commits < b.budget
     → MatchOption l ((c ≡ b) × All (λ e. e.leased ≡ true) b.outstanding) (λ x. Leases b x.id (arc_value x.piece) c)
@@ -92,13 +85,6 @@ may_commit b x w h m is =
       there = m.lease.there;
       same_name = ap (λ (q : PieceData). q.name) is;
     }
-
--- where nothing was split, no piece is on lease after the commit
-pub goes_one : (b c : BookData) (x : Lease) (p : PieceData) (n : List Bool) (s : StepData) → MayWork b x
-    → CommitsAs b x.id p n s None c → GoesOn b None c
-goes_one b c x p n (Split f t) m k = absurd k
-goes_one b c x p n (Settled a) m k = rw k (record { commits = refl; only = m.lease.others })
-goes_one b c x p n Empty m k = rw k (record { commits = refl; only = m.lease.others })
 
 -- ---- a split, after which the second child is given back
 

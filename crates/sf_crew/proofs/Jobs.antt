@@ -1,14 +1,11 @@
 -- The jobs of one view among all.
-use Rattle.std.proofs.Common.{◌≡◌, ℕ, ◌≤◌, min, List, ◌++◌, map, length, Some, Option, sym, refl, ap, ◌+◌, ◌∙◌, subst, arith}
+use Rattle.std.proofs.Common.{◌≡◌, ℕ, ◌≤◌, min, List, ◌++◌, map, length, Option, sym, refl, ◌+◌, ◌∙◌, subst, arith}
 use mathlib.Core.Option.{some}
 use lib.ListN.{get_elem?}
 use Rattle.sf_crew.specs.declared.board.view.BoardKey.{BoardKey}
 use Rattle.sf_crew.specs.declared.board.view.View.{View}
 use Rattle.sf_crew.specs.declared.board.view.EnteredSheet.{EnteredSheet}
 use Rattle.sf_crew.specs.Views.{count_of_regions, jobs, owed_jobs, once_below}
-use Rattle.sf_ask.specs.Sheets.{SheetData}
-use Rattle.sf_crew.specs.BoardSteps.{with_notes}
-use Rattle.sf_crew.specs.EnteredSheets.{Enters}
 use Rattle.sf_crew.specs.BoardRule.{Sound, Kept}
 use Rattle.sf_crew.proofs.Totals.{times, total_at, total_only}
 
@@ -44,16 +41,3 @@ pub count_all : (k : BoardKey) (n e : ℕ) (d least : ℕ → ℕ) (views : List
 count_all k n e d least views port v at h whole =
     sym (total_only (λ u. u.joined_seats) (λ u. length (jobs u)) views port v
     (λ j u there none. idle_count k n least u (h.each j u there) none) at (h.joined_seats ∙ sym whole)) ∙ h.drawn_count
-
--- entering the job that a seat owes leaves the number of its jobs
-pub entered_count : (v x w : View) (s : SheetData) (job : ℕ) → x ≡ with_notes v x.notes → v.owes ≡ Some job
-    → Enters x s w → length (jobs w) ≡ length (jobs v)
-entered_count v x w s job looked owing e =
-    let now : length (jobs w) ≡ 1 + length (map (λ (y : EnteredSheet). y.job) x.entered_sheets) =
-    ap (λ (y : View). length (jobs y)) e.3 ∙ omega arith in
-    let same : length (map (λ (y : EnteredSheet). y.job) x.entered_sheets)
-    ≡ length (map (λ (y : EnteredSheet). y.job) v.entered_sheets) =
-    ap (λ (y : View). length (map (λ (z : EnteredSheet). z.job) y.entered_sheets)) looked in
-    let was : length (jobs v) ≡ 1 + length (map (λ (y : EnteredSheet). y.job) v.entered_sheets) =
-    ap (λ o. length (owed_jobs o ++ map (λ (y : EnteredSheet). y.job) v.entered_sheets)) owing ∙ omega arith in
-    omega arith

@@ -1,5 +1,5 @@
 -- Why replies are right.
-use Rattle.std.proofs.Common.{◌≡◌, ℕ, zero, suc, ◌+◌, ◌<◌, Bool, true, false, true≢false, List, [], ◌∷◌, ◌++◌, length, Option, Some, None, Result, Ok, Err, IfOk, slice_get, get_or, ◌==◌, ◌⊎◌, sym, refl, ap, ◌∙◌, subst, inl, inr, ⊎_elim, arith}
+use Rattle.std.proofs.Common.{◌≡◌, ℕ, zero, suc, ◌+◌, ◌<◌, Bool, true, false, true≢false, List, [], ◌∷◌, ◌++◌, length, Option, Some, None, slice_get, get_or, ◌==◌, ◌⊎◌, sym, refl, ap, ◌∙◌, subst, inl, inr, ⊎_elim, arith}
 use Rattle.std.proofs.lemmas.Bool.Decides.{nat_tests}
 use Rattle.std.proofs.lemmas.Option.{slice_get-get_or, same_Some, get_or_from_slice_get}
 use mathlib.Core.Logic.{dite}
@@ -16,8 +16,7 @@ use Rattle.sf_ask.specs.MemberLaws.{in_some_region}
 use Rattle.sf_ask.specs.Sheets.{HasNoBreak, IsRightWhereGiven}
 use Rattle.sf_crew.specs.declared.board.Tally.{Tally}
 use Rattle.sf_ask.specs.QuestionBits.{bit_of}
-use Rattle.sf_crew.specs.Sweeps.{IsWithoutHit, HasDoubt, IsUnbroken, IsReplyTo, IsRightReplyAt, IsFullTally}
-use Rattle.sf_crew.specs.declared.fault.Fault.{Fault}
+use Rattle.sf_crew.specs.Sweeps.{IsWithoutHit, HasDoubt, IsUnbroken, IsReplyTo, IsFullTally}
 
 none_left : {X : Type 0} (xs : List X) → length xs ≡ 0 → xs ≡ []
 none_left [] e = refl
@@ -99,9 +98,6 @@ no_doubt_plain s qs r q plain h = h.decisive plain
 marked_or_not : (n : ℕ) (b : Bool) → b ≡ (n == 1) → n ≡ 1 → b ≡ true
 marked_or_not n b is one = is ∙ ap (λ x. x == 1) one
 
-not_marked : (n : ℕ) (b : Bool) → b ≡ (n == 1) → (n ≡ 1 → ⊥) → b ≡ false
-not_marked n b is none = let t : (n == 1) ≡ false = grind (arith, nat_tests, none) in is ∙ t
-
 pub tally_unbroken : (s : BookData) (qs : List QuestionData) (t : Tally) (q : ℕ)
     (question : QuestionData) (doubt : Bool)
     → IsFullTally s qs t → q < length qs → slice_get qs q ≡ Some question → get_or t.least q none_place ≡ None
@@ -113,11 +109,6 @@ tally_unbroken s qs t q question doubt h lt asked none is r below = ⊎_elim
     (entry_unbroken s qs q question r asked x.1))
     (h.cleared q r lt below (λ p found. absurd (let same : get_or t.least q none_place
     ≡ Some p = get_or_from_slice_get t.least q (Some p) none_place found in cc (same, none))))
-
-pub tally_certain : (s : BookData) (qs : List QuestionData) (t : Tally) (q : ℕ) (doubt : Bool) → IsFullTally s qs t
-    → q < length qs → doubt ≡ (bit_of t.doubts q == 1) → IsPlain s.stack → doubt ≡ false
-tally_certain s qs t q doubt h lt is plain =
-    not_marked (bit_of t.doubts q) doubt is (λ one. let d = h.doubts q lt one in no_doubt_plain s qs d.0 q plain d.2)
 
 pub tally_first : (s : BookData) (qs : List QuestionData) (t : Tally) (q place : ℕ) (question : QuestionData)
     → IsFullTally s qs t
@@ -183,8 +174,3 @@ pub place_there : (l : List (Option ℕ)) (q x : ℕ) → get_or l q none_place 
 place_there [] q x e = absurd (cc (e))
 place_there (y ∷ l) zero x e = ap (λ (z : Option ℕ). Some z) e
 place_there (y ∷ l) (suc q) x e = place_there l q x e
-
-pub ok_replies : (s : BookData) (qs : List QuestionData) (q : ℕ) (question : QuestionData) (r : Result Reply Fault)
-    → slice_get qs q ≡ Some question → IfOk r (IsReplyTo s question) → IfOk r (IsRightReplyAt s qs q)
-ok_replies s qs q question (Ok x) asked h = record { question = question; asked = asked; replies = h }
-ok_replies s qs q question (Err f) asked h = tt

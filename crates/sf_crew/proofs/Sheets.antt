@@ -11,13 +11,10 @@ use Rattle.sf_ask.specs.SheetLaws.{clear-breaks-none}
 use Rattle.sf_crew.specs.declared.board.view.BoardKey.{BoardKey}
 use Rattle.sf_crew.specs.declared.board.view.View.{View}
 use Rattle.sf_crew.specs.declared.board.view.Note.{Note}
-use Rattle.sf_crew.specs.Views.{questions_of, Covered, Noted, has, entered_sheet, note}
+use Rattle.sf_crew.specs.Views.{questions_of, Covered, has, entered_sheet}
 use Rattle.sf_crew.specs.BoardSteps.{view_of, with_notes, with_marks}
 use Rattle.sf_crew.proofs.Doubts.{has_same, has_other, has_most}
-use Rattle.sf_crew.specs.EnteredSheets.{IsHit, IsDoubt, MarksDoubts, AreDoubts, NotesHits, IsSheetFor}
-
-pub marks_none : (vs : List (Option Verdict)) (old : List ℕ) → MarksDoubts vs 0 old old
-marks_none vs old = record { more = λ q. omega arith; doubts = λ q lt. absurd (omega arith); only = λ q one. inl one }
+use Rattle.sf_crew.specs.EnteredSheets.{IsDoubt, MarksDoubts, AreDoubts, NotesHits, IsSheetFor}
 
 pub marks_same : (vs : List (Option Verdict)) (n : ℕ) (old new : List ℕ) → (IsDoubt vs n → ⊥) → MarksDoubts vs n old new
     → MarksDoubts vs (n + 1) old new
@@ -37,24 +34,6 @@ marks_more vs n old new is h = record {
       (λ ne. has_other q n new ne ∙ h.doubts q (omega arith) there);
   only = λ q one. dite (ℕ_discrete q n) (λ e. inr (subst (IsDoubt vs) (sym e) is))
       (λ ne. h.only q (sym (has_other q n new ne) ∙ one));
-}
-
-pub hits_same : (vs : List (Option Verdict)) (job n : ℕ) (old new : List Note) → (IsHit vs n → ⊥)
-    → NotesHits vs job n old new → NotesHits vs job (n + 1) old new
-hits_same vs job n old new none h = record {
-  more = h.more;
-  hits = λ q lt is. dite (ℕ_discrete q n) (λ e. absurd (none (subst (IsHit vs) e is)))
-      (λ ne. h.hits q (omega arith) is);
-  only = h.only;
-}
-
-pub hits_more : (vs : List (Option Verdict)) (job n : ℕ) (old new : List Note) → IsHit vs n → NotesHits vs job n old new
-    → NotesHits vs job (n + 1) old (note n job ∷ new)
-hits_more vs job n old new is h = record {
-  more = λ q r x. inr (h.more q r x);
-  hits = λ q lt there. dite (ℕ_discrete q n) (λ e. inl (sym e, refl)) (λ ne. inr (h.hits q (omega arith) there));
-  only = λ q r x. ⊎_elim (λ (y : (n ≡ q) × (job ≡ r)). inr (sym y.1, subst (IsHit vs) y.0 is))
-      (λ (y : Noted new q r). h.only q r y) x;
 }
 
 -- each verdict is a hit, a doubt, or there is none; or no member breaks the question

@@ -1,13 +1,12 @@
 -- The questions that a sheet skips.
-use Rattle.std.proofs.Common.{◌≡◌, ◌/◌, ◌%◌, not, true, ap, slice_index, ℕ, ◌+◌, ◌<◌, ◌==◌, bit_and, ◌*◌, ◌^◌, set, w64, length, List, sym, ◌∙◌, subst, arith}
+use Rattle.std.proofs.Common.{◌≡◌, ◌/◌, ◌%◌, ap, slice_index, ℕ, ◌+◌, ◌<◌, bit_and, ◌*◌, ◌^◌, set, w64, length, List, sym, ◌∙◌, subst, arith}
 use Rattle.std.specs.Int.{bit_at, bit_not}
 use Rattle.std.proofs.lemmas.Nat.Bits.{bit_at_ones, bit_at_clear_other}
 use Rattle.std.proofs.lemmas.List.{get_or-set_same, get_or-set_other}
 use mathlib.Core.Logic.{dite}
 use native.Mathlib.Decide.{ℕ_discrete}
 use Rattle.sf_crew.specs.declared.board.view.Note.{Note}
-use Rattle.sf_ask.specs.QuestionBits.{bit_of, has_bit}
-use Rattle.sf_crew.proofs.Doubts.{bit_most}
+use Rattle.sf_ask.specs.QuestionBits.{bit_of}
 use Rattle.sf_crew.specs.Views.{Noted}
 
 -- a place below the job was noted for the question
@@ -51,9 +50,3 @@ words_more words word job m ns ms long within more all these q few none = dite (
     (λ ne. (let was = all q few
     (ap (λ x. bit_at x (q % 64)) (sym (get_or-set_other words word (q / 64) m 0 ne)) ∙ none) in
     (was.0, more q was.0 was.1, was.2)))
-
--- a question that is not asked for has its bit at 0
-pub not_wanted : (words : List ℕ) (q : ℕ) → true ≡ not (has_bit words q) → bit_of words q ≡ 0
-not_wanted words q h = let most = bit_most (slice_index words (q / 64)) (q % 64) in dite (ℕ_discrete (bit_of words q) 1)
-    (λ one. absurd (let t : has_bit words q ≡ true = ap (λ x. x == 1) one in cc (h, t)))
-    (λ ne. omega arith)

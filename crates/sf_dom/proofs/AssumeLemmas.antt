@@ -14,9 +14,8 @@ use Rattle.sf_sym.specs.ValueLaws.{value-node, value-constant}
 use Rattle.std.proofs.lemmas.Nat.{or_comm, and_comm, xor_comm}
 use Rattle.sf_insn.specs.declared.input.Input.{Input}
 use Rattle.sf_dom.specs.declared.known.Known.{Known}
-use Rattle.sf_dom.specs.declared.guards.Pair.{Pair}
 use Rattle.sf_dom.specs.Known.{Admits, Leaves, IsNarrower, IsDecided, IsConsistent, IsTight, known_of}
-use Rattle.sf_dom.specs.Propagation.{IsReady, IsPropagatedAt, IsReducedNode, IsLeft, AreTightWords, KeepsTight, AreOthersTight, AddsNumber, AreExcluded, AreBothExcluded, IsAssumed, IsRestricted, IsPropagated, IsSharp, IsMovedPast, Tells, TestGives, AllNarrower, KeepsAgreeing, NoneAgreesWith, KeepsAgreeingOn, NoneAgreesOn, LeavesPair, LeavesNoPair, HasGoneBack, Holds}
+use Rattle.sf_dom.specs.Propagation.{IsReady, IsPropagatedAt, IsReducedNode, IsLeft, AreTightWords, KeepsTight, AreOthersTight, AddsNumber, AreExcluded, AreBothExcluded, IsAssumed, IsRestricted, IsPropagated, IsSharp, IsMovedPast, Tells, TestGives, AllNarrower, KeepsAgreeing, NoneAgreesWith, KeepsAgreeingOn, NoneAgreesOn, LeavesPair, HasGoneBack, Holds}
 use Rattle.sf_dom.specs.Conditions.{AreLeftAlone}
 use Rattle.sf_dom.specs.Backward.{IsSwappable, IsPropagatedBack}
 use Rattle.sf_dom.proofs.Propagations.{AllNarrower-trans, AllNarrower-set, AllNarrower-refl, propagate-set, word-below, operands-below}
@@ -27,14 +26,7 @@ use Rattle.sf_sym.specs.declared.pool.Cond.{Cond}
 use Rattle.sf_insn.specs.declared.ops.Test.{Test}
 use Rattle.sf_insn.specs.declared.ops.Test.TheVariants.{Equal, Greater, GreaterOrEqual, AnyBit}
 use Rattle.sf_dom.specs.Facts.{known_at, numbers_at, excluded_of, AgreesWith, KnowDecided}
-use Rattle.sf_dom.specs.Reduction.{IsMeet, IsReducedWord}
-
--- a test that lets fewer pairs through
-pub fewer_pairs : (o : Option Pair) (v w : Known) (P Q : ℕ → ℕ → Type 0) → ((x y : ℕ) → Q x y → P x y)
-    → MatchOption o (LeavesNoPair v w P) (λ p. LeavesPair v w p.node p.other P)
-    → MatchOption o (LeavesNoPair v w Q) (λ p. LeavesPair v w p.node p.other Q)
-fewer_pairs None v w P Q f h = λ x y a b q. h x y a b (f x y q)
-fewer_pairs (Some p) v w P Q f h = λ x y a b q. h x y a b (f x y q)
+use Rattle.sf_dom.specs.Reduction.{IsMeet}
 
 -- a node's knowledge is met with more that holds of its value
 pub met-left : (ks : List Known) (ex : List (List ℕ)) (ns : List Node) (d : Input) (i : ℕ) (more both : Known)
@@ -47,20 +39,6 @@ met-left ks ex ns d i more both l a h m =
 pub narrower-at : (ks : List Known) (i : ℕ) (more next : Known) → i < length ks → IsNarrower more next
     → IsNarrower more (known_at (set ks i next) i)
 narrower-at ks i more next l h = rw (get_or-set_same ks i next (known_of 0 0 0 0) l) h
-
--- a word's facts as those of its node
-pub word-node : (o : Option Known) (k : Known) (ex : List (List ℕ)) (i : ℕ)
-    → MatchOption o ((n : ℕ) → ¬ Leaves k (numbers_at ex i) n) (λ r. IsReducedWord k r (numbers_at ex i))
-    → MatchOption o ((n : ℕ) → ¬ Leaves k (excluded_of ex (Word i)) n) (λ r. IsReducedNode k r ex (Word i))
-word-node None k ex i h = h
-word-node (Some r) k ex i h = record {
-  same = h.same;
-  narrower = h.narrower;
-  consistent = h.consistent;
-  ones_low = h.ones_low;
-  high_zeros = h.high_zeros;
-  tight = λ j e. let same : i ≡ j = cc in rw same at h.tight;
-}
 
 -- what is left of a node whose facts are met with more
 pub left-of : (o : Option Known) (ks : List Known) (ex : List (List ℕ)) (ns : List Node) (i : ℕ) (more met : Known)
@@ -418,18 +396,6 @@ assumed-nothing o ex ns cond ready decided left b1 b2 tight =
       sharp = left.sharp;
       decided = left.decided;
     }
-
--- a word of which nothing else is known is restricted
-pub restricted-nothing : (o : List Known) (ex : List (List ℕ)) (ns : List Node) (w : ℕ) (more next : Known)
-    → IsReady o ns → KnowDecided o ns → AreTightWords o ex → IsLeft o ex ns w more next → next ≡ known_at o w
-    → IsRestricted o o ex ns w more
-restricted-nothing o ex ns w more next ready decided tight left same = record {
-  count = ready.count;
-  keeps = λ d i a h. a;
-  narrower = AllNarrower-refl o;
-  word = rw (← same) left.told;
-  passed = already-passed o ex ns ready decided tight;
-}
 
 -- what is left of a word is known of it
 pub left-set : (o : List Known) (ex : List (List ℕ)) (ns : List Node) (w : ℕ) (more next : Known) → w < length o

@@ -5,9 +5,6 @@ use Rattle.std.specs.Prelude.{true, false}
 use Rattle.sf_insn.specs.declared.ops.Test.TheVariants.{Equal, Greater, GreaterOrEqual}
 use Rattle.sf_dom.specs.Propagation.{TestGives}
 
-pub gives-greater : (x y : ℕ) → TestGives Greater x y true → y < x
-gives-greater x y h = (Decides-ltb y x).0 h
-
 pub gives-not_greater : (x y : ℕ) → TestGives Greater x y false → x ≤ y
 gives-not_greater x y h =
     elim (cases_lt y x) [ inl l ↦ absurd (false≢true (sym h ∙ (Decides-ltb y x).1 l)) | inr l ↦ l ]

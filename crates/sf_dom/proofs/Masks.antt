@@ -1,18 +1,9 @@
 use Rattle.std.proofs.Common.{◌≡◌, ℕ, ◌<◌, ◌≤◌, ◌^◌, ◌-◌, ◌+◌, min, arith, sym, ap, ◌∙◌, inl, inr}
 use Rattle.std.proofs.lemmas.Bool.{cases_lt}
 use Rattle.std.specs.Prelude.{bit_and}
-use Rattle.sf_dom.specs.Facts.{LiesIn}
 use Rattle.std.specs.Int.{bit_at, w32}
 use Rattle.std.proofs.lemmas.Nat.Bits.{bit_at_and, bit_at_not, bit_at-lt, bit_at_above, same_from_bits}
 use Rattle.sf_dom.specs.Known.{HasBits, Admits, known_of}
-use Rattle.sf_dom.proofs.Halves.{HasBits-none}
-
--- a number that lies in an interval is admitted where no bit is known, and only such a one is
-pub in-admits : (low high n : ℕ) → LiesIn low high n → Admits (known_of low high 0 0) n
-in-admits low high n l = record { above = l.0; below = l.1; bits = HasBits-none n }
-
-pub admits-in : (low high n : ℕ) → Admits (known_of low high 0 0) n → LiesIn low high n
-admits-in low high n h = (h.above, h.below)
 
 -- a number that has, on the bits of a mask, those of a value
 pub masked-admits : (n mask value : ℕ) → n < 2 ^ 32 → mask < 2 ^ 32 → value < 2 ^ 32 → bit_and n mask ≡ value

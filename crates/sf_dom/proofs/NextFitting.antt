@@ -45,7 +45,7 @@ next-open a z o h none =
     let halves = fitted-half x z o (omega (arith, and_mod x z 1, and_le_r (x % 2) (z % 2), none)) in
     let sum : x / 2 ≡ a / 2 + z / 2 = omega (arith, none) in
     let half : fitted x z o / 2 ≡ a / 2 = halves.0 ∙ ap (λ y. fitted y (z / 2) (o / 2)) sum
-            ∙ fitted-same (a / 2) (z / 2) (o / 2) (HasBits-half a z o h) in
+    ∙ fitted-same (a / 2) (z / 2) (o / 2) (HasBits-half a z o h) in
     let one : x % 2 ≡ 1 = omega (arith, none) in
     let no : o % 2 ≡ 0 = omega (arith, none, low.1) in
     let lowest : fitted x z o % 2 ≡ 1 = rw (one, no) at halves.1 in
@@ -70,7 +70,7 @@ next-carried a z o apart h some up =
     let half : fitted x z o / 2 ≡ r = halves.0 ∙ ap (λ y. fitted y (z / 2) (o / 2)) sum in
     let lowest : fitted x z o % 2 ≡ bit_or 0 (o % 2) = rw even at halves.1 in
     let is : fitted x z o ≡ 2 * r + o % 2
-        = omega (arith, half, lowest, or_add_and 0 (o % 2), and_le_l 0 (o % 2)) in
+    = omega (arith, half, lowest, or_add_and 0 (o % 2), and_le_l 0 (o % 2)) in
     rw is record {
       above = omega (arith, up.above);
       bits = HasBits-double r (o % 2) z o (omega arith) (AreApart-lowest z o apart) (omega arith) up.bits;

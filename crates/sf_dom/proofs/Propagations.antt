@@ -1,4 +1,4 @@
-use Rattle.std.proofs.Common.{◌≡◌, ◌≢◌, ℕ, Bool, true, false, ◌<◌, ◌≤◌, ◌-◌, ◌+◌, min, max, List, [], ◌∷◌, ◌++◌, length, set, arith, refl, sym, ap, ◌∙◌, ◌⊎◌, inl, inr}
+use Rattle.std.proofs.Common.{◌≡◌, ◌≢◌, ℕ, Bool, true, false, ◌<◌, ◌≤◌, ◌-◌, ◌+◌, min, max, List, [], ◌∷◌, ◌++◌, length, set, arith, sym, ap, ◌∙◌, ◌⊎◌, inl, inr}
 use Rattle.std.proofs.lemmas.Bool.{cases_lt, cases_eq}
 use Rattle.std.proofs.lemmas.Nat.{or_comm}
 use Rattle.std.proofs.lemmas.List.{get_or-set_same, get_or-set_other, length-set, get_or_append_left, get_or_push, length_push}
@@ -360,16 +360,3 @@ IsReady-set ks ns i next l h n s = record {
         (h.constants j c (omega (arith, length-set ks i next)) e)
   ];
 }
-
--- what has one number keeps it
-pub decided-kept : (k next : Known) → IsConsistent k → IsNarrower k next → IsConsistent next → IsDecided k → next ≡ k
-decided-kept k next s n t d =
-    let a = n.low in let b = n.high in let o = t.ordered in
-    let low : next.low ≡ k.low = omega arith in
-    let high : next.high ≡ k.high = omega arith in
-    let one : next.low ≡ next.high = omega arith in
-    let zeros : next.zeros ≡ k.zeros = t.zeros one ∙ ap (λ x. 4294967295 - x) low ∙ sym (s.zeros d) in
-    let ones : next.ones ≡ k.ones = t.ones one ∙ low ∙ sym (s.ones d) in
-    let whole : known_of next.low next.high next.zeros next.ones ≡ known_of k.low k.high k.zeros k.ones =
-    rw (low, high, zeros, ones) refl in
-    whole

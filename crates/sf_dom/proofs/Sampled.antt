@@ -1,9 +1,9 @@
 -- What facts are after forward propagation and after new nodes are taken in, and where a condition or a range is kept
 -- exactly.
 use Rattle.std.proofs.Common.{◌≡◌, ◌≢◌, ℕ, zero, suc, ◌<◌, ◌≤◌, ◌^◌, List, length, get_or, take, Bool, true, false, arith, refl, sym, ap, subst, ◌∙◌, inl, inr}
-use Rattle.std.proofs.lemmas.Bool.{cases_lt, eq-eqb, ne_eqb}
+use Rattle.std.proofs.lemmas.Bool.{cases_lt}
 use Rattle.std.proofs.lemmas.List.{get_or-take, get_or_append_left}
-use Rattle.std.specs.Prelude.{◌==◌, if◌then◌else◌, slice_index, Contains, Option, Some, None, MatchOption, replicate}
+use Rattle.std.specs.Prelude.{slice_index, Contains, Option, Some, None, MatchOption, replicate}
 use Rattle.sf_insn.specs.Inputs.{IsInput}
 use Rattle.sf_insn.specs.declared.input.Input.{Input}
 use Rattle.sf_insn.specs.declared.ops.Test.{Test}
@@ -31,11 +31,6 @@ pub decided-none : (o : Option ℕ) (k : Known) → MatchOption o (¬ IsDecided 
     → o ≡ None → ¬ IsDecided k
 decided-none None k h e = h
 decided-none (Some m) k h e = cc
-
-pub decided-ends : (o : Option ℕ) (k : Known) → MatchOption o (¬ IsDecided k) (λ m. IsDecided k × (m ≡ k.low))
-    → o ≡ (if k.low == k.high then Some k.low else None)
-decided-ends None k h = rw (ne_eqb k.low k.high h) refl
-decided-ends (Some m) k h = rw (eq-eqb k.low k.high h.0, h.1) refl
 
 -- a node of words and constants that is not decided has two numbers
 pub undecided : (f : FactsView) (ns : List Node) (i n : ℕ) → Covers f ns → ArePlainNodes ns → i < length ns

@@ -99,13 +99,6 @@ variable-here slots os i r slot kept within found is =
     let at = kept.variables i r below (sym found ∙ is) in
     record { below = below; found = sym found ∙ is; rank = at.0; place = at.1 }
 
--- what is known of a variable is known at its place
-pub known-variable_at : (slots : List Slot) (os : List Variable) (r : ℕ) → AreKept slots os → r < length os
-    → known_at (known_by os slots) (slice_index (places_of os) r)
-    ≡ (get_or os r (variable_of 0 (known_of 0 0 0 0))).known
-known-variable_at slots os r k l = known-slot slots os (slice_index (places_of os) r) (k.within r l)
-    ∙ ap (slot_known os) (k.told r l)
-
 -- a variable's facts are written at its place
 pub known-set : (slots : List Slot) (os : List Variable) (r i : ℕ) (x : Known) → AreKept slots os → i < length slots
     → slot_at slots i ≡ VariableAt r
@@ -138,11 +131,6 @@ known-set slots os r i x k l e =
         let apart : q ≢ r = λ same. ne (sym v.1 ∙ ap (slice_index (places_of os)) same ∙ w.1) in
         ap (λ (o : Variable). o.known) (get_or-set_other os r q (variable_of i x)
         (variable_of 0 (known_of 0 0 0 0)) apart)
-
--- what is known of a number is not changed by writing it again
-pub number-set : (slots : List Slot) (os : List Variable) (i : ℕ) (x : Known) → x ≡ known_at (known_by os slots) i
-    → known_by os slots ≡ set (known_by os slots) i x
-number-set slots os i x e = sym (ap (set (known_by os slots) i) e ∙ set-get_or (known_by os slots) i (known_of 0 0 0 0))
 
 -- one more slot, with a number
 pub kept-number : (slots : List Slot) (os : List Variable) (c : ℕ) → 16 ≤ length slots → AreKept slots os

@@ -21,12 +21,6 @@ pub added_four : (before first second third after a b c d : List ℕ) → first 
 added_four before first second third after a b c d p q r s =
     added_two before first after a (b ++ (c ++ d)) p (added_three first second third after b c d q r s)
 
-pub added_five : (before first second third fourth after a b c d e : List ℕ) → first ≡ before ++ a
-    → second ≡ first ++ b → third ≡ second ++ c → fourth ≡ third ++ d → after ≡ fourth ++ e
-    → after ≡ before ++ (a ++ (b ++ (c ++ (d ++ e))))
-added_five before first second third fourth after a b c d e p q r s t =
-    added_two before first after a (b ++ (c ++ (d ++ e))) p (added_four first second third fourth after b c d e q r s t)
-
 -- ---- words with something between them
 
 -- spans after these words, if there are any

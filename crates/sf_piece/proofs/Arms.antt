@@ -7,7 +7,7 @@ use Rattle.sf_insn.specs.declared.input.Input.{Input}
 use Rattle.sf_insn.specs.Words.{apply}
 use Rattle.sf_insn.specs.declared.ops.BinOp.TheVariants.{Div}
 use Rattle.sf_check.specs.declared.insn.Insn.{Insn}
-use Rattle.sf_check.specs.declared.insn.Insn.TheVariants.{LoadScratch, LoadXScratch, StoreA, StoreX, Jump, Tax, Txa}
+use Rattle.sf_check.specs.declared.insn.Insn.TheVariants.{LoadScratch, LoadXScratch, StoreA, StoreX}
 use Rattle.sf_run.specs.Machine.{State, goes, insn_progress}
 use Rattle.sf_sym.specs.declared.pool.Node.{Node}
 use Rattle.sf_sym.specs.declared.pool.Node.TheVariants.{Const}
@@ -145,18 +145,3 @@ store_goes p k b = stored_goes p (StoreA k) k p.machine.a b b.a (λ d. refl)
 pub store_x_goes : (p : PieceData) (k : ℕ) → AreNodesBelow (length p.pool) p.machine
     → GoesTo p (StoreX k) (record (on p.machine) { scratch = slice_set p.machine.scratch k (Some p.machine.x) })
 store_x_goes p k b = stored_goes p (StoreX k) k p.machine.x b b.x (λ d. refl)
-
-pub tax_goes : (p : PieceData) → AreNodesBelow (length p.pool) p.machine
-    → GoesTo p Tax (record (on p.machine) { x = p.machine.a })
-tax_goes p b = goes_to p Tax (p.machine.place + 1) p.machine.a p.machine.a p.machine.scratch b.a b.a b.zero b.scratch
-    (inl (λ d. refl))
-
-pub txa_goes : (p : PieceData) → AreNodesBelow (length p.pool) p.machine
-    → GoesTo p Txa (record (on p.machine) { a = p.machine.x })
-txa_goes p b = goes_to p Txa (p.machine.place + 1) p.machine.x p.machine.x p.machine.scratch b.x b.x b.zero b.scratch
-    (inl (λ d. refl))
-
-pub jump_goes : (p : PieceData) (k : ℕ) → AreNodesBelow (length p.pool) p.machine
-    → GoesTo p (Jump k) (record (on p.machine) { place = p.machine.place + 1 + k })
-jump_goes p k b = goes_to p (Jump k) (p.machine.place + 1 + k) p.machine.a p.machine.x p.machine.scratch
-    b.a b.x b.zero b.scratch (inl (λ d. refl))

@@ -1,5 +1,5 @@
 -- Names by their runs of false: what is added to one, and how two compare.
-use Rattle.std.proofs.Common.{◌≡◌, ℕ, zero, suc, ◌+◌, ◌<◌, Bool, true, false, List, [], ◌∷◌, ◌++◌, length, replicate, refl, sym, ap, ◌∙◌, arith, append_assoc, take, take_all, get_or, ◌-◌}
+use Rattle.std.proofs.Common.{◌≡◌, ℕ, zero, suc, ◌+◌, ◌<◌, Bool, true, false, List, [], ◌∷◌, ◌++◌, length, replicate, refl, sym, ap, ◌∙◌, arith, append_assoc, take, get_or, ◌-◌}
 use Rattle.std.specs.declared.cmp.Ordering.{Ordering}
 use Rattle.std.specs.declared.cmp.Reverse.{Reverse}
 use Rattle.std.specs.declared.cmp.Ordering.TheVariants.{Less, Equal, Greater}
@@ -29,14 +29,6 @@ falses_more (k ∷ runs) m n =
 -- a name's runs, and then the falses at its end
 pub with_rest : (runs : List (Reverse ℕ)) (n : ℕ) → spelled runs n ≡ spelled runs 0 ++ replicate n false
 with_rest runs n = let e : n ≡ 0 + n = omega arith in ap (λ k. spelled runs k) e ∙ falses_more runs 0 n
-
--- so many values, made more by falses
-pub made_longer : (xs : List Bool) (m n : ℕ) → m ≡ length xs
-    → take (m + n) xs ++ replicate (m + n - m) false ≡ xs ++ replicate n false
-made_longer xs m n h =
-    let all = take_all (m + n) xs (omega (arith, h)) in
-    let more : m + n - m ≡ n = omega arith in
-    rw (all, more) refl
 
 -- values with the run at a place more
 pub with_run : (runs : List (Reverse ℕ)) (i : ℕ) (run : Reverse ℕ) (xs ys : List Bool) → i < length runs

@@ -8,6 +8,3 @@ returns-then-mask-eq0-clause-confined c =
     mask-stays c.args.question.now c.args.word c.mask-mask.result c.args.facts.now c.args.pool.now
     c.mask-mask.ensures.value (omega (arith, c.if-mask-eq0.true))
     (eqb-true _ _ c.mask-mask.ensures.inside) c.requires.covers
-
-pub returns-clause-confined : goal.returns-clause-confined
-returns-clause-confined c = rw c.mask-mask.ensures.value at c.in_ok-confine_bits.ensures.confined

@@ -6,6 +6,3 @@ pub returns-then-is_whole-clause-confined : goal.returns-then-is_whole-clause-co
 returns-then-is_whole-clause-confined c =
     range-stays c.args.question.now c.args.word c.range-low.result c.args.facts.now c.args.pool.now c.range-low.ensures
     (sym c.is_whole.ensures ∙ c.if-is_whole.true) c.requires.covers
-
-pub returns-clause-confined : goal.returns-clause-confined
-returns-clause-confined c = rw c.range-low.ensures at c.in_ok-confine.ensures.confined

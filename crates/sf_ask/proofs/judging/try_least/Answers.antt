@@ -17,13 +17,6 @@ returns-then-not-branch-clause-right c =
     c.facts-known.ensures.known (confined c) c.in-Some-least_input.ensures
     (sym c.in_ok-is_member_of.ensures.tells ∙ c.if-not-branch.true)
 
-pub returns-then-not-branch-clause-tried : goal.returns-then-not-branch-clause-tried
-returns-then-not-branch-clause-tried c = (
-  c.in-Some-least_input.input,
-  record { facts = c.in-Some.facts; confined = confined c; least = c.in-Some-least_input.ensures },
-  sym c.in_ok-is_member_of.ensures.tells ∙ c.if-not-branch.true,
-)
-
 pub returns-then-not-branch-clause-decisive : goal.returns-then-not-branch-clause-decisive
 returns-then-not-branch-clause-decisive c = λ plain.
     let hit = exact-hit c.args.piece.now c.args.question.now c.in-Some.facts c.in-Some-least_input.input

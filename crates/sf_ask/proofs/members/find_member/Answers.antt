@@ -8,9 +8,6 @@ returns-then-branch-clause-plain c = λ plain.
     (record { covers = c.facts.ensures.covers; agree = c.facts.ensures.known })
     (rw c.facts.ensures.value at c.in-Some.ensures) (sym c.in_ok-is_member_of.ensures.tells ∙ c.if-branch.true)
 
-pub returns-in-Some-3-clause-right : goal.returns-in-Some-3-clause-right
-returns-in-Some-3-clause-right c = rw c.in-Some-3.is at c.in_ok-member.ensures.member
-
 pub returns-in-Some-3-clause-plain : goal.returns-in-Some-3-clause-plain
 returns-in-Some-3-clause-plain c = λ plain.
     absurd (true≢false (sym (plain-least c.args.piece.now c.in-Some.least (c.facts.ensures.plain plain)

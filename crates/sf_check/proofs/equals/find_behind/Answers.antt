@@ -8,11 +8,6 @@ returns-then-found-keys c =
     c.args.number c.requires.keys (rw c.key_of-from.ensures at c.count_below-found.ensures) c.requires.from
     c.requires.inside c.requires.same (λ within. absurd (omega arith))
 
-pub overflow_sub-result : goal.overflow_sub-result
-overflow_sub-result c =
-    let least = c.count_below-found.ensures.1 c.count_below-found.result 0 (omega arith) (omega arith) in
-    omega (arith, least)
-
 pub returns-then-key-key_of : goal.returns-then-key-key_of
 returns-then-key-key_of c = rw c.key_of-from.ensures (
     found_by_key c.args.insns.now c.args.chains.now c.args.keys.now c.count_below-found.result c.args.place c.args.last

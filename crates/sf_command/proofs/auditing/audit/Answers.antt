@@ -1,7 +1,7 @@
 use Rattle.std.proofs.Common.{map, rules}
 use Rattle.sf_command.proofs.KeptLemmas.{kept_audit_refusal, kept_stack, second_weaker}
 use Rattle.sf_command.proofs.ReadLemmas.{kept_same}
-use Rattle.sf_command.proofs.RefusalLemmas.{audit_why, filters_why, handed_on, policy_why}
+use Rattle.sf_command.proofs.RefusalLemmas.{audit_why, handed_on, policy_why}
 use Rattle.sf_command.proofs.auditing.audit.Goals as goal
 
 pub returns-clause-written : goal.returns-clause-written
@@ -21,13 +21,6 @@ pub returns-in_err-questions-clause-refused : goal.returns-in_err-questions-clau
 returns-in_err-questions-clause-refused g c =
     handed_on _ c.from_residual.result c.in_err-questions.field-0.0 c.from_residual.ensures.1
     (policy_why _ _ _ _ c.in_err-questions.ensures.refused)
-
-pub returns-in_err-filters-clause-refused : goal.returns-in_err-filters-clause-refused
-returns-in_err-filters-clause-refused g c =
-    handed_on _ c.from_residual-in_err-filters.result c.in_err-filters.field-0.0
-    c.from_residual-in_err-filters.ensures.1
-    (filters_why _ _ _ _ _ _ c.in_ok-questions.ensures.asked c.in_ok-questions.ensures.same
-    c.in_err-filters.ensures.refused)
 
 pub returns-in_err-outcome-clause-refused : goal.returns-in_err-outcome-clause-refused
 returns-in_err-outcome-clause-refused g c =

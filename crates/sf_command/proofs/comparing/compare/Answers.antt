@@ -1,6 +1,6 @@
 use Rattle.std.proofs.Common.{map}
 use Rattle.sf_command.proofs.KeptLemmas.{both_read, both_refusal, both_stack, second_weaker}
-use Rattle.sf_command.proofs.RefusalLemmas.{comparison_why, handed_on, unread_why}
+use Rattle.sf_command.proofs.RefusalLemmas.{comparison_why, handed_on}
 use Rattle.sf_command.proofs.comparing.compare.Goals as goal
 
 pub returns-clause-written : goal.returns-clause-written
@@ -14,11 +14,6 @@ returns-clause-written g c = record {
   written = c.in_ok-write_compared.ensures.written;
   told = rw c.change.ensures at c.status_of_change-status.ensures;
 }
-
-pub returns-in_err-filters-clause-refused : goal.returns-in_err-filters-clause-refused
-returns-in_err-filters-clause-refused g c =
-    handed_on _ c.from_residual.result c.in_err-filters.field-0.0 c.from_residual.ensures.1
-    (unread_why _ _ _ _ c.in_err-filters.ensures.refused)
 
 pub returns-in_err-comparison-clause-refused : goal.returns-in_err-comparison-clause-refused
 returns-in_err-comparison-clause-refused g c =

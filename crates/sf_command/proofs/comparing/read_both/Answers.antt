@@ -1,7 +1,6 @@
 use Rattle.std.proofs.Common.{◌≡◌, ◌∙◌, length, map, rules, sym}
 use Rattle.std.proofs.lemmas.List.{length-map, map-append}
 use Rattle.sf_command.proofs.ReadLemmas.{kept_same}
-use Rattle.sf_command.proofs.RefusalLemmas.{either_unknown, handed_on}
 use Rattle.sf_command.proofs.comparing.read_both.Goals as goal
 
 pub returns-clause-read : goal.returns-clause-read
@@ -15,8 +14,3 @@ returns-clause-read g c =
       whole = rw c.in_ok-append.ensures.items (map-append _ c.in_ok-filters.filters.items c.in_ok-newer.newer.items);
       parted = count ∙ sym (length-map c.in_ok-filters.filters.items (λ f. f.items));
     }
-
-pub returns-in_err-newer-clause-refused : goal.returns-in_err-newer-clause-refused
-returns-in_err-newer-clause-refused g c =
-    handed_on _ c.from_residual-in_err-newer.result c.in_err-newer.field-0.0 c.from_residual-in_err-newer.ensures.1
-    (either_unknown _ _ _ _ _ c.in_ok-filters.ensures.same c.in_err-newer.ensures.refused)

@@ -1,9 +1,8 @@
-use Rattle.std.proofs.Common.{codes, refl, inl, inr}
+use Rattle.std.proofs.Common.{codes, refl, inr}
 use Rattle.std.proofs.lemmas.Result.{IfErr-weaker, IfOk-weaker}
 use Rattle.clap.specs.Words.{found_of}
 use Rattle.sf_command.proofs.CommandLineLemmas.{paths_found}
 use Rattle.sf_command.proofs.NamingLemmas.{compared_same, uncompared_same}
-use Rattle.sf_command.proofs.RefusalLemmas.{handed_on}
 use Rattle.sf_command.proofs.dispatch.run_compare.Goals as goal
 
 pub returns-clause-done : goal.returns-clause-done
@@ -24,11 +23,6 @@ returns-clause-done g c = IfOk-weaker c.compare.result _ _ (λ s written. record
   called = c.in_ok-names.ensures.called;
   compared = compared_same _ _ c.names_of.ensures.same _ _ _ _ _ _ _ _ _ (rw c.deref.ensures.value at written);
 }) c.compare.ensures.written
-
-pub returns-in_err-names-clause-refused : goal.returns-in_err-names-clause-refused
-returns-in_err-names-clause-refused g c =
-    handed_on _ c.from_residual.result c.in_err-names.field-0.0 c.from_residual.ensures.1
-    (inl c.in_err-names.ensures.refused)
 
 pub returns-clause-refused : goal.returns-clause-refused
 returns-clause-refused g c = IfErr-weaker c.compare.result _ _ (λ e why. inr (

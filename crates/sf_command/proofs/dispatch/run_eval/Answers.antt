@@ -31,11 +31,6 @@ returns-in_err-_input-clause-refused g c =
       inl (rw c.text_of-digits.ensures at c.in_err-_input.ensures.refused),
     ))
 
-pub returns-in_err-names-clause-refused : goal.returns-in_err-names-clause-refused
-returns-in_err-names-clause-refused g c =
-    handed_on _ c.from_residual-in_err-names.result c.in_err-names.field-0.0 c.from_residual-in_err-names.ensures.1
-    (inl c.in_err-names.ensures.refused)
-
 pub returns-in_err-evaluate-clause-refused : goal.returns-in_err-evaluate-clause-refused
 returns-in_err-evaluate-clause-refused g c =
     handed_on _ c.from_residual-in_err-evaluate.result c.in_err-evaluate.field-0.0

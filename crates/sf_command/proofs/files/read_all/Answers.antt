@@ -2,7 +2,6 @@ use Rattle.std.proofs.Common.{◌≡◌, List, [], ℕ, Bor, arith, length, map,
 use Rattle.std.proofs.lemmas.Option.{slice_get-get_or}
 use Rattle.std.proofs.lemmas.List.{length-map, map-append}
 use Rattle.sf_command.proofs.KeptLemmas.{all_kept, none_more_kept, one_kept}
-use Rattle.sf_command.proofs.RefusalLemmas.{handed_on, read_why}
 use Rattle.sf_command.proofs.files.read_all.Goals as goal
 use Rattle.sf_command.proofs.files.read_all.Goals.{then-len-le-MOST_PROGRAMS+in_ok-push, else-len-le-MOST_PROGRAMS}
 
@@ -23,17 +22,6 @@ loop-path-preserved g c =
       | else-len-le-MOST_PROGRAMS w ↦ rw w.read-is (none_more_kept _ _ _ _ _ _ _ _ c.loop-path.invariant here
           c.in_ok-bytes.ensures.bytes c.read.ensures.same (omega (arith, count, w.if-len-le-MOST_PROGRAMS.false)))
     ]
-
-pub returns-in_err-bytes-clause-refused : goal.returns-in_err-bytes-clause-refused
-unfolding no_path
-returns-in_err-bytes-clause-refused g c =
-    let so_far = c.loop-path.invariant in
-    let here = slice_get-get_or c.args.paths.now c.loop-path.path-index no_path c.loop-path-test.true in
-    handed_on _ c.from_residual.result c.in_err-bytes.field-0.0 c.from_residual.ensures.1
-    (read_why _ _ _ _ _ _ so_far.same here c.in_err-bytes.ensures.refused)
-
-pub returns-clause-same : goal.returns-clause-same
-returns-clause-same g c = c.loop-path.invariant.same
 
 pub returns-clause-read : goal.returns-clause-read
 returns-clause-read g c = all_kept _ _ _ _ _ c.loop-path.invariant c.loop-path-test.false

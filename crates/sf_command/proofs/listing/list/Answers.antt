@@ -1,6 +1,6 @@
 use Rattle.std.proofs.Common.{map}
 use Rattle.sf_command.proofs.KeptLemmas.{kept_refusal, kept_stack, second_weaker}
-use Rattle.sf_command.proofs.RefusalLemmas.{handed_on, listing_why, unlisted_why}
+use Rattle.sf_command.proofs.RefusalLemmas.{handed_on, listing_why}
 use Rattle.sf_command.proofs.listing.list.Goals as goal
 
 pub returns-clause-written : goal.returns-clause-written
@@ -13,11 +13,6 @@ returns-clause-written g c = record {
   written = c.in_ok-whole.ensures.written;
   told = rw c.in_ok-whole.ensures.whole at c.status_of_listing-status.ensures;
 }
-
-pub returns-in_err-filters-clause-refused : goal.returns-in_err-filters-clause-refused
-returns-in_err-filters-clause-refused g c =
-    handed_on _ c.from_residual.result c.in_err-filters.field-0.0 c.from_residual.ensures.1
-    (unlisted_why _ _ _ c.in_err-filters.ensures.refused)
 
 pub returns-in_err-listing-clause-refused : goal.returns-in_err-listing-clause-refused
 returns-in_err-listing-clause-refused g c =

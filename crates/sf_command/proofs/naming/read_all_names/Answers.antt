@@ -21,9 +21,6 @@ returns-in_err-names-clause-refused g c =
     handed_on _ c.from_residual.result c.in_err-names.field-0.0 c.from_residual.ensures.1
     (naming_why _ _ _ _ _ _ c.loop-path.invariant.same here c.in_err-names.ensures.refused)
 
-pub returns-clause-same : goal.returns-clause-same
-returns-clause-same g c = c.loop-path.invariant.same
-
 pub returns-clause-meant : goal.returns-clause-meant
 returns-clause-meant g c =
     all_named _ _ _ _ _ c.loop-path.invariant c.loop-path-test.false c.loop-path.auto.path-index-end

@@ -1,15 +1,9 @@
-use Rattle.std.proofs.Common.{List, All, subst, ◌≡◌, ◌+◌, ◌<◌, length, vec_len, sym, ap, ◌∙◌, arith, rules}
+use Rattle.std.proofs.Common.{List, All, subst, ◌≡◌, ◌+◌, vec_len, sym, ap, ◌∙◌, arith, rules}
 use Rattle.sf_crew.specs.declared.board.view.View.{View}
 use Rattle.sf_crew.specs.Boards.{about, seat_view, IsNewSeat}
 use Rattle.sf_crew.specs.declared.board.Seat.{Seat}
 use Rattle.sf_crew.proofs.FullLemmas.{full_tally, last_of}
 use Rattle.sf_crew.proofs.sweeping.tally.Goals as goal
-
-pub join_all-requires-clause-others : goal.join_all-requires-clause-others
-join_all-requires-clause-others g c = λ k d lt. let same : length c.in_ok-worked.worked.items
-    ≡ length c.in_ok-numbered_seats.numbered_seats.items = search rules in
-    let below : k < length c.in_ok-numbered_seats.numbered_seats.items = omega (arith, lt, same) in
-    let y = (c.in_ok-worked.ensures.each k d below).1.call.met in search rules
 
 pub returns-clause-ok : goal.returns-clause-ok
 returns-clause-ok g c =

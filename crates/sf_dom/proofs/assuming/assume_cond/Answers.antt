@@ -1,13 +1,7 @@
 use Rattle.std.proofs.Common.{arith, refl}
 use Rattle.sf_dom.proofs.AssumeLemmas.{assumed-all, alone-set, others-set}
-use Rattle.sf_dom.proofs.Propagations.{IsReady-set, decided-kept}
+use Rattle.sf_dom.proofs.Propagations.{IsReady-set}
 use Rattle.sf_dom.proofs.assuming.assume_cond.Goals as goal
-
-pub set-requires-clause-decided : goal.set-requires-clause-decided
-set-requires-clause-decided c = λ d.
-    let count = c.requires.ready.count in
-    decided-kept _ _ (c.requires.ready.consistent c.args.cond.now.node.0 (omega (arith, c.requires.node)))
-    c.requires.left.narrower c.requires.left.consistent d
 
 pub meet_node-requires-clause-ready : goal.meet_node-requires-clause-ready
 meet_node-requires-clause-ready c =

@@ -1,17 +1,8 @@
-use Rattle.std.proofs.Common.{◌≡◌, ◌<◌, true, sym, ◌∙◌}
+use Rattle.std.proofs.Common.{◌≡◌, sym, ◌∙◌}
 use Rattle.std.specs.Prelude.{Option, Some, None}
 use Rattle.sf_dom.specs.declared.known.Known.{Known}
-use Rattle.sf_dom.specs.Propagation.{TestGives}
-use Rattle.sf_insn.specs.declared.ops.Test.TheVariants.{Greater}
-use Rattle.sf_dom.proofs.AssumeLemmas.{fewer_pairs}
-use Rattle.sf_dom.proofs.GuardLemmas.{gives-greater, gives-not_greater, gives-at_least, gives-less}
+use Rattle.sf_dom.proofs.GuardLemmas.{gives-not_greater, gives-at_least, gives-less}
 use Rattle.sf_dom.proofs.assuming.assume_test.Goals as goal
-
-pub returns-in-Greater-true-clause-pair : goal.returns-in-Greater-true-clause-pair
-returns-in-Greater-true-clause-pair c =
-    rw (c.in-Greater-true.is-0, c.in-Greater-true.is-1)
-    (fewer_pairs c.greater.result c.args.v c.args.w (λ x y. y < x)
-    (λ x y. TestGives Greater x y true) gives-greater c.greater.ensures.pair)
 
 pub returns-in-Greater-false-clause-pair : goal.returns-in-Greater-false-clause-pair
 returns-in-Greater-false-clause-pair c =

@@ -1,37 +1,11 @@
 use Rattle.std.proofs.Common.{arith, sym}
 use Rattle.sf_sym.specs.Pool.{value_of}
-use Rattle.sf_dom.proofs.Propagations.{propagate-set, AllNarrower-set, AllNarrower-refl, IsReady-set, tight-set}
+use Rattle.sf_dom.proofs.Propagations.{propagate-set, AllNarrower-set, IsReady-set, tight-set}
 use Rattle.sf_dom.proofs.Reductions.{IsNarrower-trans}
 use Rattle.sf_dom.specs.Facts.{known_at}
 use Rattle.sf_dom.proofs.AssumeLemmas.{walked}
 use Rattle.sf_dom.proofs.Backs.{carries-step, hands-on-narrower, carried, walked-end, walked-other}
 use Rattle.sf_dom.proofs.assuming.propagate_back.Goals as goal
-
-pub loop-op-init : goal.loop-op-init
-loop-op-init c = record {
-  within = omega arith;
-  keeps = λ d p a. a;
-  narrower = AllNarrower-refl c.args.nodes.now.known;
-  tight = λ w b h. h;
-  ready = c.requires.ready;
-  carries = λ last same narrower more. more;
-}
-
-pub returns-in-None-reduce_node-clause-kept : goal.returns-in-None-reduce_node-clause-kept
-returns-in-None-reduce_node-clause-kept c = λ d p a.
-    let ks = c.loop-op.nodes.known in
-    let ns = c.args.pool.now in
-    let ex = c.args.excluded.now in
-    let o = c.in-Some in
-    let inv = c.loop-op.invariant in
-    let agrees = inv.keeps d p a in
-    let within = inv.within in
-    let count = inv.ready.count in
-    let bits = rw (c.get.ensures, c.get-in-Some.ensures) at c.in-Some-backward.ensures.bits in
-    let left = walked ks ex ns d c.loop-op.at o.x o.c o.op (known_at ks c.loop-op.at) c.in-Some-backward.gained
-    (omega (arith, o.ensures.smaller)) agrees (o.ensures.value d p c.in-Some-backward.ensures.swappable) bits
-    (agrees c.loop-op.at (omega arith)).admitted in
-    rw c.node_at-node.ensures.node at c.in-None-reduce_node.ensures (value_of ns d o.x) left
 
 pub loop-op-preserved : goal.loop-op-preserved
 loop-op-preserved c =
@@ -65,12 +39,6 @@ loop-op-preserved c =
           (hands-on-narrower o.op o.c (known_at ks c.loop-op.at) c.in-Some-backward.gained next t.narrower
           (rw c.get.ensures at c.in-Some-backward.ensures.told)) inv.carries;
     })
-
-pub returns-in-None-clause-tight : goal.returns-in-None-clause-tight
-returns-in-None-clause-tight c = λ _. c.loop-op.invariant.tight
-
-pub returns-clause-tight : goal.returns-clause-tight
-returns-clause-tight c = λ _. c.loop-op.invariant.tight
 
 pub returns-in-None-clause-backward : goal.returns-in-None-clause-backward
 returns-in-None-clause-backward c = λ t.

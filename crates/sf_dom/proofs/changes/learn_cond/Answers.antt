@@ -1,4 +1,3 @@
-use Rattle.std.proofs.Common.{refl}
 use Rattle.sf_dom.proofs.Assumed.{alone-with-more, others-tight}
 use Rattle.sf_dom.proofs.changes.learn_cond.Goals as goal
 
@@ -27,10 +26,3 @@ pub changes_nothing-requires-clause-tight : goal.changes_nothing-requires-clause
 changes_nothing-requires-clause-tight c = others-tight c.args.nodes.now.known
     c.args.excluded.now c.in_ok-lists.lists c.args.pool.now c.args.cond.now c.requires.tight
     c.in_ok-lists.ensures.told
-
-pub returns-then-changes_nothing : goal.returns-then-changes_nothing
-returns-then-changes_nothing c = record {
-  words = c.in_ok-lists.ensures.words;
-  both = c.in_ok-lists.ensures.told;
-  consistent = c.if-changes_nothing.ensures refl;
-}

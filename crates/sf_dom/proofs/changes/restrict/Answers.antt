@@ -1,7 +1,7 @@
-use Rattle.std.proofs.Common.{◌≡◌, ◌<◌, length, set, true, arith, refl, ◌∙◌}
+use Rattle.std.proofs.Common.{◌<◌, length, set, true, arith, ◌∙◌}
 use Rattle.std.proofs.lemmas.List.{length-set}
 use Rattle.sf_dom.specs.FactsLaws.{value-word}
-use Rattle.sf_dom.proofs.AssumeLemmas.{restricted-all, restricted-nothing, left-set}
+use Rattle.sf_dom.proofs.AssumeLemmas.{restricted-all, left-set}
 use Rattle.sf_dom.proofs.Propagations.{tight-set}
 use Rattle.sf_dom.proofs.changes.restrict.Goals as goal
 
@@ -38,8 +38,3 @@ returns c =
     c.len-count.ensures.lawful c.requires.word count (length-set ks c.args.word c.in-Some.left ∙ count)
     (left-set ks c.args.excluded.now c.args.pool.now c.args.word c.args.more c.in-Some.left within c.in-Some.ensures)
     (rw (c.set.ensures.known, c.in_ok-next.ensures) at c.if-not-propagate.ensures)
-
-pub returns-then-is_same : goal.returns-then-is_same
-returns-then-is_same c = restricted-nothing c.args.nodes.now.known c.args.excluded.now c.args.pool.now c.args.word
-    c.args.more c.in-Some.left c.requires.ready c.requires.decided c.requires.tight c.in-Some.ensures
-    (c.if-is_same.ensures.0 refl ∙ c.get.ensures)

@@ -1,20 +1,10 @@
 use Rattle.std.proofs.Common.{arith}
-use Rattle.sf_dom.proofs.Reductions.{freedom-falls, IsNarrower-trans, IsNarrower-refl, consistent-reduce_once}
+use Rattle.sf_dom.proofs.Reductions.{freedom-falls, consistent-reduce_once}
 use Rattle.sf_dom.proofs.known.reduce_known.Goals as goal
-
-pub loop-next-init : goal.loop-next-init
-loop-next-init c = record { same = λ n h. h; narrower = IsNarrower-refl c.args.known }
 
 pub loop-next-smaller : goal.loop-next-smaller
 loop-next-smaller c = freedom-falls c.in-Some.next c.loop-next.at c.in-Some.ensures.narrower c.in-Some.ensures.ordered
     (omega arith) (omega arith) c.if-eq.ensures
-
-pub loop-next-preserved : goal.loop-next-preserved
-loop-next-preserved c = record {
-  same = λ n h. c.in-Some.ensures.same n (c.loop-next.invariant.same n h);
-  narrower = IsNarrower-trans c.args.known c.loop-next.at c.in-Some.next c.loop-next.invariant.narrower
-      c.in-Some.ensures.narrower;
-}
 
 pub returns-then-eq : goal.returns-then-eq
 returns-then-eq c =

@@ -1,21 +1,11 @@
-use Rattle.std.proofs.Common.{◌≡◌, length, arith, ◌∷◌, [], ◌∙◌, refl, sym, ap, inl, inr}
+use Rattle.std.proofs.Common.{◌≡◌, length, arith, ◌∷◌, [], ◌∙◌, sym, ap, inl, inr}
 use Rattle.std.proofs.lemmas.Bool.{cases_lt}
-use Rattle.std.proofs.lemmas.List.{length_push, take-append-le, take_all, get_or-take}
+use Rattle.std.proofs.lemmas.List.{length_push, take-append-le, get_or-take}
 use Rattle.sf_sym.specs.Pool.{values_of, value_of}
 use Rattle.sf_dom.specs.Known.{known_of}
 use Rattle.sf_dom.proofs.Propagations.{grown-left, agrees-push, passed-push, still-none}
 use Rattle.sf_dom.proofs.propagation.append.Goals as goal
 use Rattle.sf_dom.specs.Facts.{known_at}
-
-pub loop-i-init : goal.loop-i-init
-loop-i-init c = record {
-  count = omega arith;
-  kept = take_all (length c.args.nodes.now.known) c.args.nodes.now.known (omega arith);
-  longer = omega arith;
-  untouched = λ same. refl;
-  keeps = λ d p a. a;
-  passed = λ s k a b. absurd (omega arith);
-}
 
 pub returns-in-None-clause-grown : goal.returns-in-None-clause-grown
 returns-in-None-clause-grown c = λ d p a.
@@ -68,15 +58,3 @@ loop-i-preserved c =
           (rw c.node_at-node.ensures.node at c.transfer-known.ensures.forced)
           (rw c.node_at-node.ensures.node at c.transfer-known.ensures.constant) t;
     })
-
-pub returns-clause-grown : goal.returns-clause-grown
-returns-clause-grown c =
-    let inv = c.loop-i.invariant in
-    let count = inv.count in
-    let l : length c.args.pool.now ≡ c.loop-i.i = omega arith in
-    record {
-      covers = omega arith;
-      kept = inv.kept;
-      keeps = inv.keeps;
-      passed = λ s k a b. inv.passed s k a (omega arith);
-    }

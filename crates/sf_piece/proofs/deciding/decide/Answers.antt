@@ -1,4 +1,4 @@
-use Rattle.std.proofs.Common.{true, false}
+use Rattle.std.proofs.Common.{true}
 use Rattle.sf_piece.proofs.Children.{entry_foreseen, never_implies}
 use Rattle.sf_piece.proofs.Joined.{split_right}
 use Rattle.sf_piece.proofs.deciding.decide.Goals as goal
@@ -8,12 +8,6 @@ take-requires-clause-foreseen c =
     let never = rw c.in_default.is at c.in_ok-on_false.ensures in
     entry_foreseen c.args.run.now c.args.insn c.args.cond true c.requires.query
     (never_implies c.args.run.now c.args.cond true never)
-
-pub take-requires-in_default-3-clause-foreseen : goal.take-requires-in_default-3-clause-foreseen
-take-requires-in_default-3-clause-foreseen c =
-    let never = rw c.in_default-3.is at c.in_ok-on_true.ensures in
-    entry_foreseen c.args.run.now c.args.insn c.args.cond false c.requires.query
-    (never_implies c.args.run.now c.args.cond false never)
 
 pub returns : goal.returns
 returns c =

@@ -1,5 +1,5 @@
 use Rattle.std.proofs.Common.{refl, arith}
-use Rattle.sf_piece.proofs.Arms.{sixteen_scratch_words, load_goes, load_x_goes, store_goes, store_x_goes, tax_goes, txa_goes, jump_goes}
+use Rattle.sf_piece.proofs.Arms.{sixteen_scratch_words, load_goes, load_x_goes, store_goes, store_x_goes}
 use Rattle.sf_piece.proofs.executing.move_on.Goals as goal
 
 pub scratch-w-requires : goal.scratch-w-requires
@@ -32,21 +32,6 @@ pub go-requires-in-StoreX-clause-goes : goal.go-requires-in-StoreX-clause-goes
 go-requires-in-StoreX-clause-goes c =
     let s = rw (← c.run.view_is) at c.requires.standing in
     rw (← c.run.view_is, c.with_scratch-in-StoreX.ensures) (store_x_goes _ c.in-StoreX.k s.nodes)
-
-pub go-requires-in-Tax-clause-goes : goal.go-requires-in-Tax-clause-goes
-go-requires-in-Tax-clause-goes c =
-    let s = rw (← c.run.view_is) at c.requires.standing in
-    rw (← c.run.view_is, c.in-Tax.is) (tax_goes _ s.nodes)
-
-pub go-requires-in-Txa-clause-goes : goal.go-requires-in-Txa-clause-goes
-go-requires-in-Txa-clause-goes c =
-    let s = rw (← c.run.view_is) at c.requires.standing in
-    rw (← c.run.view_is, c.in-Txa.is) (txa_goes _ s.nodes)
-
-pub go-requires-in-Jump-clause-goes : goal.go-requires-in-Jump-clause-goes
-go-requires-in-Jump-clause-goes c =
-    let s = rw (← c.run.view_is) at c.requires.standing in
-    rw (← c.run.view_is) (jump_goes _ c.in-Jump.k s.nodes)
 
 pub with_scratch-requires : goal.with_scratch-requires
 with_scratch-requires c =

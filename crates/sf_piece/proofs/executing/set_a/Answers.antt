@@ -1,4 +1,3 @@
-use Rattle.sf_piece.proofs.Joined.{grown_gone}
 use Rattle.sf_piece.proofs.Arms.{set_a_goes}
 use Rattle.sf_piece.proofs.executing.set_a.Goals as goal
 
@@ -7,18 +6,3 @@ go-requires-clause-goes c =
     let h = rw c.in-Some.is at c.in_ok-id.ensures in
     let g = set_a_goes c.args.run.now c.args.insn c.args.node c.push.new.run c.in-Some.id h c.requires.sets in
     rw (← c.run.view_is) (rw (← c.run.view_is) at g)
-
-pub go-requires-clause-standing : goal.go-requires-clause-standing
-go-requires-clause-standing c =
-    let h = rw c.in-Some.is at c.in_ok-id.ensures in
-    rw (← c.run.view_is) (rw (← c.run.view_is) at (h.grown.standing _ c.requires.standing))
-
-pub go-requires-clause-lawful : goal.go-requires-clause-lawful
-go-requires-clause-lawful c =
-    let h = rw c.in-Some.is at c.in_ok-id.ensures in
-    rw (← c.run.view_is) (rw (← c.run.view_is) at h.lawful)
-
-pub returns-in-Some : goal.returns-in-Some
-returns-in-Some c =
-    let h = rw c.in-Some.is at c.in_ok-id.ensures in
-    (grown_gone c.args.run.now c.push.new.run c.go.new.run h.grown c.go.ensures.gone, c.go.ensures.lawful)

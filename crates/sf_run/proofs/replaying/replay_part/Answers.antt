@@ -1,8 +1,8 @@
-use Rattle.std.proofs.Common.{◌∙◌, reverse, sym, arith}
-use Rattle.std.proofs.lemmas.List.{at_drop_all, length_push}
+use Rattle.std.proofs.Common.{◌∙◌, sym}
+use Rattle.std.proofs.lemmas.List.{length_push}
 use Rattle.std.proofs.lemmas.Iterator.Adapters.{YieldsList-from_rev_slice}
-use Rattle.std.proofs.lemmas.Iterator.Consumers.{YieldsList-end, YieldsList-turn}
-use Rattle.sf_run.proofs.ReplayLemmas.{onward, onward_more, onward_stops, onward_at}
+use Rattle.std.proofs.lemmas.Iterator.Consumers.{YieldsList-turn}
+use Rattle.sf_run.proofs.ReplayLemmas.{onward_more, onward_stops, onward_at}
 use Rattle.sf_run.proofs.replaying.replay_part.Goals as goal
 
 pub returns-in_err-value : goal.returns-in_err-value
@@ -23,10 +23,3 @@ loop-program-preserved c =
     c.in_ok-value.value (sym c.in_ok-value.ensures) in
     rw (c.fold-so_far.ensures, length_push c.loop-program.yielded c.in-Some.program)
     (sym (at ∙ more) ∙ c.loop-program.invariant)
-
-pub returns : goal.returns
-returns c =
-    let all = YieldsList-end (YieldsList-from_rev_slice c.args.programs.now cc) c.loop-program.yielded _
-    c.loop-program.yielded_by _ _ c.in-None.is c.next.ensures.steps in
-    sym (at_drop_all (onward c.loop-program.so_far c.loop-program.left.now) (reverse c.args.programs.now) _
-    (omega (arith, all.1))) ∙ c.loop-program.invariant

@@ -13,15 +13,6 @@ returns-then-is_same-clause-found c = λ i e.
     let there : c.loop-next.next - 1 < length (nodes_of es) = omega (arith, within, length-nodes es) in
     rw (← at) (there, read ∙ same)
 
-pub loop-next-smaller : goal.loop-next-smaller
-loop-next-smaller c =
-    let es = c.args.interned_nodes.now in
-    let within : c.loop-next.next - 1 < length es = omega (arith, c.loop-next.invariant.within, length-nodes es) in
-    let link : c.get-interned.result.link ≡ link_at es (c.loop-next.next - 1) =
-    ap (λ x. x.link) (c.get-interned.ensures blank) in
-    let low = (c.requires.linked (c.loop-next.next - 1) within).within in
-    omega (arith, link, low)
-
 pub loop-next-preserved : goal.loop-next-preserved
 loop-next-preserved c =
     let es = c.args.interned_nodes.now in

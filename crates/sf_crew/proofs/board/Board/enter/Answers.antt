@@ -9,14 +9,6 @@ use Rattle.sf_crew.proofs.Moves.{enters}
 use Rattle.sf_crew.proofs.Sheets.{covers, marked_view}
 use Rattle.sf_crew.proofs.board.Board.enter.Goals as goal
 
-pub enter_doubts-requires : goal.enter_doubts-requires
-enter_doubts-requires c = let hits = c.enter_hits.ensures in
-    record {
-      table = hits.table ∙ c.requires.seat.0;
-      questions = c.requires.sheet.questions;
-      owes = ap (λ (v : View). v.owes) hits.view ∙ c.requires.sheet.job;
-    }
-
 pub fetch_add-requires : goal.fetch_add-requires
 fetch_add-requires c =
     let hits = c.enter_hits.ensures in let doubts = c.enter_doubts.ensures in

@@ -5,13 +5,10 @@ use Rattle.sf_crew.specs.Views.{questions_of}
 use Rattle.sf_crew.specs.BoardSteps.{with_marks, view_with_mark}
 use Rattle.sf_crew.specs.EnteredSheets.{MarksDoubts}
 use Rattle.sf_crew.specs.Boards.{about}
-use Rattle.sf_crew.proofs.Sheets.{marks_none, marks_same, marks_more}
+use Rattle.sf_crew.proofs.Sheets.{marks_same, marks_more}
 use Rattle.sf_crew.proofs.Moves.{marks}
 use Rattle.sf_crew.proofs.board.Board.enter_doubts.Goals.{then-is_doubt, else-is_doubt}
 use Rattle.sf_crew.proofs.board.Board.enter_doubts.Goals as goal
-
-pub loop-q-init : goal.loop-q-init
-loop-q-init c = record { table = refl; carried = refl; view = refl; marks = marks_none _ _ }
 
 pub loop-q-preserved : goal.loop-q-preserved
 loop-q-preserved c =

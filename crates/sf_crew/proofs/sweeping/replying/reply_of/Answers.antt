@@ -1,14 +1,9 @@
-use Rattle.sf_crew.proofs.Replies.{reply_allowed, tally_unbroken, tally_certain, tally_doubtful, tally_first, tally_passed, question_there, place_there, ok_replies}
+use Rattle.sf_crew.proofs.Replies.{reply_allowed, tally_unbroken, tally_doubtful, tally_first, tally_passed, question_there, place_there}
 use Rattle.sf_crew.proofs.sweeping.replying.reply_of.Goals as goal
 
 pub reply_without_hit-requires-clause-unbroken : goal.reply_without_hit-requires-clause-unbroken
 reply_without_hit-requires-clause-unbroken c = tally_unbroken _ _ c.args.tally.now c.args.q _ _ c.requires.tally
     c.requires.question.0 (question_there _ c.args.q _ c.requires.question.0 c.index-questions-q.is) c.in_default.is
-    c.has_bit-doubt.ensures
-
-pub reply_without_hit-requires-clause-plain : goal.reply_without_hit-requires-clause-plain
-reply_without_hit-requires-clause-plain c =
-    tally_certain _ _ c.args.tally.now c.args.q _ c.requires.tally c.requires.question.0
     c.has_bit-doubt.ensures
 
 pub reply_without_hit-requires-clause-doubtful : goal.reply_without_hit-requires-clause-doubtful
@@ -39,7 +34,3 @@ returns-in-Hit-clause-ok c =
           (tally_first _ _ c.args.tally.now c.args.q c.in-Some.place _ c.requires.tally c.requires.question.0 asked
           (place_there _ c.args.q c.in-Some.place c.in-Some.is));
     }
-
-pub returns-clause-ok : goal.returns-clause-ok
-returns-clause-ok c = ok_replies _ _ c.args.q _ _
-    (question_there _ c.args.q _ c.requires.question.0 c.index-questions-q.is) c.reply_in_turn.ensures.ok

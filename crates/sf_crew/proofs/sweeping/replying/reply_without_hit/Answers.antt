@@ -1,4 +1,4 @@
-use Rattle.std.proofs.Common.{true≢false, sym, ◌∙◌, inl, inr, arith}
+use Rattle.std.proofs.Common.{true≢false, sym, ◌∙◌, inr, arith}
 use Rattle.sf_crew.proofs.Replies.{reply_never, reply_unsettled}
 use Rattle.sf_crew.proofs.sweeping.replying.reply_without_hit.Goals as goal
 
@@ -6,11 +6,6 @@ pub returns-then-doubt : goal.returns-then-doubt
 returns-then-doubt c = reply_unsettled _ _ _ c.outstanding_count-left.ensures.lawful c.requires.unbroken
     (inr (c.requires.doubtful c.if-doubt.true))
     (λ plain. absurd (true≢false (sym c.if-doubt.true ∙ c.requires.plain plain)))
-
-pub returns-then-left-gt0 : goal.returns-then-left-gt0
-returns-then-left-gt0 c = reply_unsettled _ _ _ c.outstanding_count-left.ensures.lawful c.requires.unbroken
-    (inl (omega (arith, c.if-left-gt0.true, c.outstanding_count-left.ensures.value)))
-    (λ plain. omega (arith, c.if-left-gt0.true, c.outstanding_count-left.ensures.value))
 
 pub returns-else-left-gt0 : goal.returns-else-left-gt0
 returns-else-left-gt0 c = reply_never _ _ _ c.outstanding_count-left.ensures.lawful

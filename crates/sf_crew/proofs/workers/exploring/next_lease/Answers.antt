@@ -1,13 +1,7 @@
 use Rattle.std.proofs.Common.{◌≡◌, ◌≤◌, ap, arith}
 use Rattle.sf_book.specs.declared.book.Counts.{Counts}
-use Rattle.sf_crew.proofs.Free.{lease_keeps, leased_or_end}
+use Rattle.sf_crew.proofs.Free.{leased_or_end}
 use Rattle.sf_crew.proofs.workers.exploring.next_lease.Goals as goal
-
-pub returns-clause-same : goal.returns-clause-same
-returns-clause-same c = let k = lease_keeps _ _ _ c.in_ok-lease.ensures.ok in k.0
-
-pub returns-clause-commits : goal.returns-clause-commits
-returns-clause-commits c = let k = lease_keeps _ _ _ c.in_ok-lease.ensures.ok in k.1
 
 pub returns-clause-ok : goal.returns-clause-ok
 returns-clause-ok c =

@@ -1,18 +1,11 @@
 use Rattle.std.proofs.Common.{refl}
 use Rattle.sf_book.specs.declared.book.Lease.{Lease}
-use Rattle.sf_crew.proofs.Free.{may_commit, goes_one, goes_split}
+use Rattle.sf_crew.proofs.Free.{may_commit, goes_split}
 use Rattle.sf_crew.proofs.workers.exploring.turn.Goals as goal
 
 pub commit_own-requires-clause-may : goal.commit_own-requires-clause-may
 commit_own-requires-clause-may g c = may_commit c.args.book.now c.args.lease c.in_ok-work.work
     c.counts-counts.ensures.lawful c.requires c.in_ok-work.ensures
-
-pub returns-in_default-clause-ok : goal.returns-in_default-clause-ok
-returns-in_default-clause-ok g c =
-    let h = c.in_ok-f.ensures.ok in
-    let k = rw c.in_default.is at h in
-    goes_one c.args.book.now c.commit_own.new.self c.args.lease c.in_ok-work.work.piece c.in_ok-work.work.name
-    c.in_ok-work.work.step c.requires k
 
 pub returns-clause-ok : goal.returns-clause-ok
 returns-clause-ok g c =

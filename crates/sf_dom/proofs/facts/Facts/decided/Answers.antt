@@ -1,7 +1,7 @@
 use Rattle.std.proofs.Common.{arith}
 use Rattle.std.specs.Arc.{arc_value}
 use Rattle.sf_dom.specs.Facts.{Agrees, known_at}
-use Rattle.sf_dom.proofs.Sampled.{undecided, decided-some, decided-none, decided-ends}
+use Rattle.sf_dom.proofs.Sampled.{undecided, decided-some, decided-none}
 use Rattle.sf_dom.proofs.facts.Facts.decided.Goals as goal
 
 pub returns-clause-some : goal.returns-clause-some
@@ -22,9 +22,3 @@ returns-clause-none c =
     rw (← c.self.view_is) (λ plain e n all.
     undecided _ c.args.pool.now c.args.node.0 n covers plain c.requires.node
     (decided-none c.decided.result (known_at (arc_value c.self.inside.nodes).known c.args.node.0) told e) all)
-
-pub returns-clause-ends : goal.returns-clause-ends
-returns-clause-ends c =
-    let told = rw (c.get-known.ensures, c.deref.ensures) at c.decided.ensures in
-    rw (← c.self.view_is) (decided-ends c.decided.result
-    (known_at (arc_value c.self.inside.nodes).known c.args.node.0) told)

@@ -1,5 +1,3 @@
-use Rattle.std.proofs.Common.{sym, ◌∙◌}
-use Rattle.std.proofs.lemmas.Bool.{false≢true}
 use Rattle.sf_dom.proofs.facts.Facts.is_same.Goals as goal
 
 pub returns-then-are_same_known : goal.returns-then-are_same_known
@@ -8,9 +6,3 @@ returns-then-are_same_known c =
     let two = c.is_same.ensures in
     rw (← c.self.view_is, ← c.other.view_is)
     ((λ t. record { known = one.0 c.if-are_same_known.true; excluded = two.0 t }), (λ h. two.1 h.excluded))
-
-pub returns-else-are_same_known : goal.returns-else-are_same_known
-returns-else-are_same_known c =
-    let one = rw (c.deref.ensures, c.deref-2.ensures) at c.are_same_known.ensures in
-    rw (← c.self.view_is, ← c.other.view_is)
-    ((λ t. absurd (false≢true (sym c.if-are_same_known.false ∙ t))), (λ h. one.1 h.known))

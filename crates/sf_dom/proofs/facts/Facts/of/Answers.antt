@@ -6,15 +6,6 @@ use Rattle.sf_sym.specs.declared.pool.Cond.{Cond}
 use Rattle.sf_dom.specs.FactsLaws.{some-input}
 use Rattle.sf_dom.proofs.facts.Facts.of.Goals as goal
 
-pub returns-then-not-branch : goal.returns-then-not-branch
-returns-then-not-branch c = λ d p all.
-    let xs = c.args.conds.now in
-    let i = c.loop-cond.cond-index in
-    let ns = c.args.pool.now in
-    let before = All-take (λ (k : Cond). is_met ns d k ≡ true) i xs all in
-    (rw c.if-not-branch.true at c.in_ok-learn.ensures.learnt) d p (c.loop-cond.invariant.sound d p before)
-    (all i _ (omega arith))
-
 pub loop-cond-preserved : goal.loop-cond-preserved
 loop-cond-preserved c =
     let xs = c.args.conds.now in

@@ -4,9 +4,3 @@ use Rattle.sf_dom.proofs.facts.Facts.tell.Goals as goal
 pub returns-clause-told : goal.returns-clause-told
 unfolding Agrees
 returns-clause-told c = rw (← c.self.view_is) (rw c.deref.ensures at c.tell_node.ensures.told)
-
-pub returns-clause-walked : goal.returns-clause-walked
-returns-clause-walked c = rw (← c.self.view_is) (rw c.deref.ensures at c.tell_node.ensures.walked)
-
-pub returns-clause-none : goal.returns-clause-none
-returns-clause-none c = rw (← c.self.view_is) (rw c.deref.ensures at c.tell_node.ensures.none)

@@ -18,16 +18,6 @@ index-requires c =
     (sym found ∙ c.in-Variable.is) in
     omega (arith, kept.0)
 
-pub returns-in-Number : goal.returns-in-Number
-returns-in-Number c =
-    let slots = arc_value c.self.inside.slots in
-    let found : c.slot_of.result ≡ slot_at slots c.args.i = rw c.deref.ensures at c.slot_of.ensures in
-    let os = c.self.inside.variables.items in
-    let within = rw (← c.self.view_is) at c.requires in
-    let below : c.args.i < length slots = omega (arith, within, known-length slots os) in
-    rw (← c.self.view_is) (c.of_number.ensures ∙ sym (known-slot slots os c.args.i below
-    ∙ ap (slot_known os) (sym found ∙ c.in-Number.is)))
-
 pub returns-in-Variable : goal.returns-in-Variable
 returns-in-Variable c =
     let slots = arc_value c.self.inside.slots in

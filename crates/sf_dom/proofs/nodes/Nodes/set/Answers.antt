@@ -1,9 +1,6 @@
-use Rattle.std.proofs.Common.{◌≡◌, ◌<◌, length, refl, sym, ap, ◌∙◌, arith}
+use Rattle.std.proofs.Common.{◌≡◌, arith}
 use Rattle.std.specs.Arc.{arc_value}
-use Rattle.sf_dom.specs.Known.{IsDecided}
-use Rattle.sf_dom.specs.Facts.{known_at}
-use Rattle.sf_dom.specs.Nodes.{slot_at, slot_known, known_by}
-use Rattle.sf_dom.proofs.Slots.{IsVariable, place-read, laid-out, known-length, known-slot, known-set, kept-set, places-set, variable-here, number-set}
+use Rattle.sf_dom.proofs.Slots.{IsVariable, place-read, laid-out, known-set, kept-set, places-set, variable-here}
 use Rattle.sf_dom.proofs.nodes.Nodes.set.Goals as goal
 
 pub index_mut-requires : goal.index_mut-requires
@@ -38,18 +35,6 @@ returns-in-Variable-clause-known c = rw (← c.self.view_is, place c) (known-set
 pub returns-in-Variable-clause-variables : goal.returns-in-Variable-clause-variables
 returns-in-Variable-clause-variables c = rw (← c.self.view_is, place c) (places-set c.self.inside.variables.items
     c.in-Variable.rank c.args.i c.args.known (variable c).place)
-
-pub returns-in_default-clause-known : goal.returns-in_default-clause-known
-returns-in_default-clause-known c =
-    let slots = arc_value c.self.inside.slots in
-    let found : c.slot_of.result ≡ slot_at slots c.args.i = rw c.deref.ensures at c.slot_of.ensures in
-    let os = c.self.inside.variables.items in
-    let i = c.args.i in
-    let within = rw (← c.self.view_is) at c.requires.within in
-    let below : i < length slots = omega (arith, within, known-length slots os) in
-    let here = known-slot slots os i below ∙ ap (slot_known os) (sym found ∙ c.in_default.is) in
-    let decided : IsDecided (known_at (known_by os slots) i) = rw here refl in
-    rw (← c.self.view_is) (number-set slots os i c.args.known ((rw (← c.self.view_is) at c.requires.decided) decided))
 
 pub returns-in-Variable-clause-laid_out : goal.returns-in-Variable-clause-laid_out
 returns-in-Variable-clause-laid_out c = laid-out (arc_value c.self.inside.slots) _ (invariant_of-self c)

@@ -1,12 +1,8 @@
-use Rattle.std.proofs.Common.{◌++◌}
 use Rattle.std.proofs.lemmas.List.{append-nil}
 use Rattle.std.specs.Arc.{arc_slice_items}
 use Rattle.sf_dom.specs.Ascending.{shared_items}
 use Rattle.sf_dom.proofs.AscendingLemmas.{more-behind}
 use Rattle.sf_dom.proofs.numbers.Numbers.with_number.Goals as goal
-
-pub invariant_of-result : goal.invariant_of-result
-invariant_of-result c = (rw c.in_ok-older.ensures c.self.invariant.0, c.in_ok-newer.ensures.rising)
 
 pub returns-then-as_slice-lt-MERGED : goal.returns-then-as_slice-lt-MERGED
 returns-then-as_slice-lt-MERGED c =

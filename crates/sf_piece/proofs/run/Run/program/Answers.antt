@@ -19,11 +19,3 @@ returns-then-self-programs c =
       inside = omega (arith, inside, ap length code);
       short = omega (arith, short, ap length code);
     })
-
-pub returns-else-self-programs : goal.returns-else-self-programs
-returns-else-self-programs c =
-    rw (← c.self.view_is) (omega (
-      arith,
-      c.if-self-programs.false,
-      ap length (c.programs-programs.ensures.same ∙ c.deref.ensures),
-    ))

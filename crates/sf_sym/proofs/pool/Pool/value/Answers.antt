@@ -1,12 +1,5 @@
-use Rattle.std.proofs.Common.{◌≡◌, length, ap, ◌∙◌}
 use Rattle.sf_sym.specs.ValueLaws.{value-last}
 use Rattle.sf_sym.proofs.pool.Pool.value.Goals as goal
-
-pub compute-requires : goal.compute-requires
-compute-requires c =
-    let e : length c.as_slice.result.now ≡ c.args.id.0 = ap length c.as_slice.ensures.value
-    ∙ c.in_ok-values.ensures.count in
-    rw e c.node.ensures.operands
 
 pub returns : goal.returns
 returns c =

@@ -1,5 +1,0 @@
-use Rattle.sf_compare.proofs.UserLemmas.{usual_upward}
-use Rattle.sf_compare.proofs.laws.usual_actions_are_upward.Goals as goal
-
-pub returns : goal.returns
-returns c = usual_upward
