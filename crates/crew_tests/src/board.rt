@@ -4,14 +4,16 @@ ghost use Rattle.sf_ask.specs.Sheets.{is_skipped, verdict_at};
 ghost use Rattle.sf_crew.specs.Views.{questions_of, regions_of};
 ghost use Rattle.sf_crew.specs.Boards.{about, seat_view, IsSeatOf, IsNewSeat};
 
-use crate::kit::{anything, calls};
-use samples::{any_bit, execve_stack, low_bits, stack_of};
+use crate::kit::{anything, calls, settle};
+use samples::{any_bit, execve_refused, low_bits};
 use sf_ask::{Question, Reply, Sheet};
 use sf_book::Settled;
-use sf_crew::{Board, Open, Seat, explore, sweep};
+use sf_crew::{Board, Open, Seat, sweep};
 use std::alloc::Global;
+use std::sync::Wait;
 use std::test::Fail;
 use std::thread;
+use std::thread::Threads;
 
 /// Two seats of the board.
 fn two_of(board: &Board, mut seats: Vec<Seat>) -> Option<(Seat, Seat)>
@@ -110,41 +112,131 @@ fn enter_without_second(
     Some(())
 }
 
-/// Two seats that have drawn and entered three regions in turn.
-struct Joined {
-    all: Seat,
-    jobs: [usize; 3],
-    seen: [Option<usize>; 2],
-}
-
-/// The second seat enters first, and then the first seat looks. It enters its last sheet without the question for which it
-/// has seen a place.
-fn work_both(
+/// Each of two seats draws a job and enters a sheet, the second one first. Before the first seat enters, it looks at the
+/// second question and at the first. Answers the jobs, and what the first seat has seen.
+fn enter_one_each(
     alloc: Global,
     board: &Board,
-    mut first: Seat,
-    mut second: Seat,
+    first: &mut Seat,
+    second: &mut Seat,
     settled: &Settled,
-    questions: &[Question; 2],
-) -> Option<Joined>
-    requires seats { IsNewSeat board.now first × IsNewSeat board.now second }
+    questions: &[Question],
+) -> Option<([usize; 2], [Option<usize>; 2])>
+    requires seats { IsNewSeat board.now first.old × IsNewSeat board.now second.old }
     requires matter { (regions_of (about board.now) ≡ settled.now)
         × (questions_of (about board.now) ≡ questions.now) }
-    ensures { IfSome result (λ w. IsSeatOf board.now w.all) }
+    requires two { 1 < length questions.now }
+    ensures same { IsSeatOf board.now first.new × IsSeatOf board.now second.new }
+    ensures free { IfSome result (λ _. ((seat_view first.new).owes ≡ None)
+        × ((seat_view second.new).owes ≡ None)) }
 {
-    let a = board.draw(&mut first)?;
-    let b = board.draw(&mut second)?;
-    enter(alloc, board, &mut second, settled, questions, b)?;
-    let seen = [board.look(&mut first, 1), board.look(&mut first, 0)];
-    enter(alloc, board, &mut first, settled, questions, a)?;
-    let c = board.draw(&mut first)?;
-    enter_without_second(alloc, board, &mut first, settled, questions, c)?;
+    let a = board.draw(first)?;
+    let b = board.draw(second)?;
+    enter(alloc, board, second, settled, questions, b)?;
+    let seen = [board.look(first, 1), board.look(first, 0)];
+    enter(alloc, board, first, settled, questions, a)?;
+    Some(([a, b], seen))
+}
+
+/// What a board says at its end, in plain numbers: the least places of two questions, the doubts, and the sheets.
+type ShortTally = ([Option<usize>; 2], [u64; 4], usize);
+
+/// What the board says after two seats, each of which draws no more. `None` where one of them still draws a job.
+fn close_both(board: Board, mut first: Seat, mut second: Seat) -> Option<ShortTally>
+    requires seats { IsSeatOf board first × IsSeatOf board second }
+    requires free { ((seat_view first).owes ≡ None) × ((seat_view second).owes ≡ None) }
+{
     if board.draw(&mut first).is_some() || board.draw(&mut second).is_some() {
         return None;
     }
     let all = board.join(first, second);
-    let jobs = [a, b, c];
-    Some(Joined { all, jobs, seen })
+    let found = board.close(all);
+    let least = [found.least[0], found.least[1]];
+    Some((least, found.doubts, found.entered))
+}
+
+/// Two seats judge three regions: each of them one, and then the first seat another, whose last sheet has no verdict on
+/// the question for which it has seen a place. Answers the jobs, what the first seat saw, and what the board says.
+fn share_three(
+    alloc: Global,
+    settled: &Settled,
+    questions: &[Question; 2],
+) -> Option<([usize; 3], [Option<usize>; 2], ShortTally)> {
+    let (board, seats) = Board::new(alloc, settled, questions, 2).ok()?;
+    let (mut a, mut b) = two_of(&board, seats)?;
+    let (jobs, seen) = enter_one_each(alloc, &board, &mut a, &mut b, settled, questions)?;
+    let last = board.draw(&mut a)?;
+    enter_without_second(alloc, &board, &mut a, settled, questions, last)?;
+    let tally = close_both(board, a, b)?;
+    Some(([jobs[0], jobs[1], last], seen, tally))
+}
+
+#[test]
+fn two_seats_share_three_regions(rt: HostRuntime) -> Result<(), Fail> {
+    let settled = settle(&rt, &execve_refused(), 1)?;
+    let questions = two_questions(rt.alloc())?;
+    let shared = share_three(rt.alloc(), &settled, &questions);
+    let wanted = (
+        [0, 1, 2],
+        [Some(1), None],
+        ([None, Some(1)], [0, 0, 0, 0], 3),
+    );
+    assert_eq!(rt; shared, Some(wanted));
+    Ok(())
+}
+
+/// 65 times whether anything is let through.
+fn many_questions(alloc: Global) -> Option<Vec<Question>> {
+    let mut questions = Vec::new(alloc);
+    for _ in 0..65 {
+        questions.push(anything(alloc).ok()?).ok()?;
+    }
+    Some(questions)
+}
+
+/// What the board says of 65 questions where each of two seats judges one of two regions.
+fn share_two(alloc: Global, settled: &Settled) -> Option<ShortTally> {
+    let questions = many_questions(alloc)?;
+    if questions.len() != 65 {
+        return None;
+    }
+    let (board, seats) = Board::new(alloc, settled, &questions, 2).ok()?;
+    let (mut a, mut b) = two_of(&board, seats)?;
+    enter_one_each(alloc, &board, &mut a, &mut b, settled, &questions)?;
+    close_both(board, a, b)
+}
+
+/// The second of two regions is in doubt for each question.
+#[test]
+fn doubts_have_a_bit_for_each_question(rt: HostRuntime) -> Result<(), Fail> {
+    let settled = settle(&rt, &any_bit(5), 1)?;
+    let (_least, doubts, entered) = share_two(rt.alloc(), &settled).ok_or("another answer")?;
+    assert_eq!(rt; (doubts, entered), ([u64::MAX, 1, 0, 0], 2));
+    Ok(())
+}
+
+/// Whether each of 65 questions is replied to by `Unsettled`.
+fn are_unsettled<R: Threads + Wait + Sync + AllocGlobal>(
+    rt: &R,
+    settled: &Settled,
+    workers: usize,
+) -> Option<bool> {
+    let questions = many_questions(rt.alloc())?;
+    if questions.len() != 65 {
+        return None;
+    }
+    let workers = workers.clamp(1, 64);
+    let replies = sweep(rt, rt.alloc(), settled, &questions, workers, &Open).ok()?;
+    Some(replies.as_slice() == [Reply::Unsettled; 65].as_slice())
+}
+
+#[test]
+fn a_question_in_doubt_is_unsettled(rt: HostRuntime) -> Result<(), Fail> {
+    let settled = settle(&rt, &any_bit(5), 1)?;
+    for workers in [1, 2, 8] {
+        assert_eq!(rt; are_unsettled(&rt, &settled, workers), Some(true));
+    }
+    Ok(())
 }
 
 /// All jobs that one seat draws; it enters each. `None` where there are more than there are regions.
@@ -170,96 +262,42 @@ fn draw_all(
     None
 }
 
-#[test]
-fn eight_seats_draw_four_jobs_once_each(rt: HostRuntime) -> Result<(), Fail> {
-    let alloc = rt.alloc();
-    let settled = explore(&rt, alloc, stack_of(alloc, &[&low_bits(3)])?, 100, 1, &Open)?;
-    let questions = two_questions(alloc)?;
-    let (board, seats) = Board::new(alloc, &settled, &questions, 8)?;
-    let (shared, of, about_them) = (&board, &settled, &questions);
-    let drawn = thread::map_vec(
-        &rt,
-        seats,
-        &|seat: Seat| -> Option<Vec<usize>>
-            requires { IsNewSeat shared.now seat × (regions_of (about shared.now) ≡ of.now)
-                × (questions_of (about shared.now) ≡ about_them.now) }
-        { draw_all(alloc, shared, seat, of, about_them) },
-    )?;
+/// The jobs that all seats have drawn, in rising order. `None` where a seat drew too many.
+fn all_jobs(alloc: Global, drawn: Vec<Option<Vec<usize>>>) -> Option<Vec<usize>> {
     let mut all = Vec::new(alloc);
     for jobs in drawn {
-        all.extend_from_slice(&jobs.ok_or("too many jobs")?)?;
+        all.extend_from_slice(&jobs?).ok()?;
     }
-    all.sort()?;
-    assert_eq!(rt; all.as_slice(), [0, 1, 2, 3].as_slice());
-    Ok(())
+    all.sort().ok()?;
+    Some(all)
 }
 
-#[test]
-fn two_seats_share_three_regions(rt: HostRuntime) -> Result<(), Fail> {
-    let alloc = rt.alloc();
-    let settled = explore(&rt, alloc, execve_stack(alloc)?, 100, 1, &Open)?;
-    let questions = two_questions(alloc)?;
-    let (board, seats) = Board::new(alloc, &settled, &questions, 2)?;
-    let (first, second) = two_of(&board, seats).ok_or("no two seats")?;
-    let Joined { all, jobs, seen } = work_both(
-        alloc, &board, first, second, &settled, &questions,
-    ).ok_or("another answer")?;
-    assert_eq!(rt; (jobs, seen), ([0, 1, 2], [Some(1), None]));
-    let found = board.close(all);
-    assert_eq!(rt; (found.least[0], found.least[1]), (None, Some(1)));
-    assert_eq!(rt; (found.doubts, found.entered), ([0, 0, 0, 0], 3));
-    Ok(())
-}
-
-/// Two seats draw and enter a region each, and are joined.
-fn enter_one_each(
+/// The jobs that eight seats draw, each on a thread of its own.
+fn draw_by_eight<R: Threads + Sync>(
+    rt: &R,
     alloc: Global,
-    board: &Board,
-    mut first: Seat,
-    mut second: Seat,
     settled: &Settled,
-    questions: &[Question],
-) -> Option<Seat>
-    requires seats { IsNewSeat board.now first × IsNewSeat board.now second }
-    requires matter { (regions_of (about board.now) ≡ settled.now)
-        × (questions_of (about board.now) ≡ questions.now) }
-    ensures { IfSome result (λ s. IsSeatOf board.now s) }
-{
-    let a = board.draw(&mut first)?;
-    let b = board.draw(&mut second)?;
-    enter(alloc, board, &mut second, settled, questions, b)?;
-    enter(alloc, board, &mut first, settled, questions, a)?;
-    if board.draw(&mut first).is_some() || board.draw(&mut second).is_some() {
-        return None;
-    }
-    Some(board.join(first, second))
+    questions: &[Question; 2],
+) -> Option<Vec<usize>> {
+    let (board, seats) = Board::new(alloc, settled, questions, 8).ok()?;
+    let shared = &board;
+    let drawn = thread::map_vec(
+        rt,
+        seats,
+        &|seat: Seat| -> Option<Vec<usize>>
+            requires { IsNewSeat shared.now seat × (regions_of (about shared.now) ≡ settled.now)
+                × (questions_of (about shared.now) ≡ questions.now) }
+        { draw_all(alloc, shared, seat, settled, questions) },
+    )
+    .ok()?;
+    all_jobs(alloc, drawn)
 }
 
-/// The second of two regions is in doubt for each question.
 #[test]
-fn doubts_have_a_bit_for_each_question(rt: HostRuntime) -> Result<(), Fail> {
-    let alloc = rt.alloc();
-    let settled = explore(&rt, alloc, stack_of(alloc, &[&any_bit(5)])?, 100, 1, &Open)?;
-    let mut questions = Vec::new(alloc);
-    for _ in 0..65 {
-        questions.push(anything(alloc)?)?;
-    }
-    if questions.len() > 256 {
-        return Err("too many questions".into());
-    }
-    let (board, seats) = Board::new(alloc, &settled, &questions, 2)?;
-    let (first, second) = two_of(&board, seats).ok_or("no two seats")?;
-    let all = enter_one_each(alloc, &board, first, second, &settled, &questions).ok_or(
-        "another answer",
-    )?;
-    let found = board.close(all);
-    assert_eq!(rt; (found.doubts, found.entered), ([u64::MAX, 1, 0, 0], 2));
-    for workers in [1, 2, 8] {
-        let replies = sweep(&rt, alloc, &settled, &questions, workers, &Open)?;
-        assert_eq!(rt; replies.len(), 65);
-        for reply in &replies {
-            assert_eq!(rt; *reply, Reply::Unsettled);
-        }
-    }
+fn eight_seats_draw_four_jobs_once_each(rt: HostRuntime) -> Result<(), Fail> {
+    let settled = settle(&rt, &low_bits(3), 1)?;
+    let questions = two_questions(rt.alloc())?;
+    let jobs = draw_by_eight(&rt, rt.alloc(), &settled, &questions).ok_or("too many jobs")?;
+    assert_eq!(rt; jobs.as_slice(), [0, 1, 2, 3].as_slice());
     Ok(())
 }

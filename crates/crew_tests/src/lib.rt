@@ -12,8 +12,6 @@ mod shared;
 #[cfg(test)]
 mod stealing;
 #[cfg(test)]
-mod sweeps;
-#[cfg(test)]
-mod together;
+mod watch;
 #[cfg(test)]
 mod workers;

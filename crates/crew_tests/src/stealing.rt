@@ -1,49 +1,14 @@
 //! One bench with several handles.
 use crossbeam_deque::Steal;
-use samples::{echo_stack, execve_stack};
-use sf_book::{Book, Lease};
+use samples::execve_stack;
+use sf_book::Lease;
 use sf_crew::{Owner, Thief, bench};
-use sf_piece::advance;
+use sf_piece::{Piece, root};
 use std::alloc::{AllocError, Global};
 use std::sync::Arc;
 use std::test::Fail;
 use std::thread;
 use std::thread::Threads;
-
-/// Leases all pieces.
-fn lease_all(alloc: Global, book: &mut Book) -> Result<Vec<Lease>, Fail> {
-    let mut leases = Vec::new(alloc);
-    for _ in 0..1000 {
-        let Some(lease) = book.lease()? else {
-            break;
-        };
-        leases.push(lease)?;
-    }
-    Ok(leases)
-}
-
-/// Splits each piece of the book, and then takes all children off lease.
-fn deepen(alloc: Global, book: &mut Book) -> Result<(), Fail> {
-    let leases = lease_all(alloc, book)?;
-    for lease in &leases {
-        let work = advance(alloc, &lease.piece)?;
-        let _ids = book.commit(lease.id, work)?;
-    }
-    book.recall();
-    Ok(())
-}
-
-/// The leases of 512 pieces, which 511 commits left.
-fn many_leases(alloc: Global) -> Result<Vec<Lease>, Fail> {
-    let mut book = Book::open(alloc, echo_stack(alloc)?, 1000)?;
-    for _ in 0..9 {
-        deepen(alloc, &mut book)?;
-    }
-    if book.counts().commits != 511 {
-        return Err("not 511 commits".into());
-    }
-    lease_all(alloc, &mut book)
-}
 
 /// A handle of a bench.
 #[derive(Drop)]
@@ -52,24 +17,18 @@ enum Any {
     Stealing(Thief),
 }
 
-/// Gets leases until none is left: the ids, in their order.
-fn drain(alloc: Global, end: Any) -> Result<Vec<u64>, AllocError> {
-    let mut ids = Vec::new(alloc);
-    match end {
-        Any::Owning(mut owner) => {
-            for _ in 0..u64::MAX {
-                let Some(lease) = owner.take() else {
-                    break;
-                };
-                ids.push(lease.id)?;
-            }
-        }
-        Any::Stealing(mut thief) => steal_all(&mut thief, &mut ids)?,
+/// Takes all leases that are left: the ids, in their order.
+fn take_all(owner: &mut Owner, ids: &mut Vec<u64>) -> Result<(), AllocError> {
+    for _ in 0..u64::MAX {
+        let Some(lease) = owner.take() else {
+            break;
+        };
+        ids.push(lease.id)?;
     }
-    Ok(ids)
+    Ok(())
 }
 
-/// After a `Retry` it tries again.
+/// Steals all leases that are left. After a `Retry` it tries again.
 fn steal_all(thief: &mut Thief, ids: &mut Vec<u64>) -> Result<(), AllocError> {
     for _ in 0..u64::MAX {
         match thief.steal() {
@@ -79,6 +38,16 @@ fn steal_all(thief: &mut Thief, ids: &mut Vec<u64>) -> Result<(), AllocError> {
         }
     }
     Ok(())
+}
+
+/// Gets leases until none is left: the ids, in their order.
+fn drain(alloc: Global, end: Any) -> Result<Vec<u64>, AllocError> {
+    let mut ids = Vec::new(alloc);
+    match end {
+        Any::Owning(mut owner) => take_all(&mut owner, &mut ids)?,
+        Any::Stealing(mut thief) => steal_all(&mut thief, &mut ids)?,
+    }
+    Ok(ids)
 }
 
 /// Whether the numbers rise.
@@ -93,15 +62,55 @@ fn rises(ids: &[u64]) -> bool {
     true
 }
 
-/// Puts all leases, under ids from 0. False: one was handed back.
-fn put_all(owner: &mut Owner, leases: Vec<Lease>) -> bool {
-    for (place, lease) in leases.into_iter().enumerate() {
-        let (id, piece) = (place as u64, lease.piece);
+/// The first piece of a stack.
+fn execve_root(alloc: Global) -> Result<Arc<Piece>, Fail> {
+    Ok(root(alloc, &execve_stack(alloc)?)?)
+}
+
+/// Puts leases of the piece under this many ids, from 0. False: one was not put.
+fn put_many(owner: &mut Owner, piece: &Arc<Piece>, count: u64) -> bool {
+    for id in 0..count {
+        let Ok(piece) = Arc::try_clone(piece) else {
+            return false;
+        };
         if owner.put(Lease { id, piece }).is_err() {
             return false;
         }
     }
     true
+}
+
+/// What a thief steals: the id. A `Retry`, which comes only where several handles are used at once, counts as
+/// `u64::MAX`.
+fn stolen_id(thief: &mut Thief) -> Option<u64> {
+    match thief.steal() {
+        Steal::Success(lease) => Some(lease.id),
+        Steal::Retry => Some(u64::MAX),
+        Steal::Empty => None,
+    }
+}
+
+/// How many leases are put where many are: so many that threads which get them do so at once.
+const MANY: u64 = 50_000;
+
+/// An owner that has put many leases, and three thieves, of which one has stolen the first lease. `None` where it is
+/// otherwise.
+fn many_on_a_bench(alloc: Global, piece: &Arc<Piece>) -> Option<(Owner, Vec<Thief>)> {
+    let (mut owner, mut thieves) = bench(alloc, 3).ok()?;
+    if !put_many(&mut owner, piece, MANY) || stolen_id(thieves.first_mut()?) != Some(0) {
+        return None;
+    }
+    Some((owner, thieves))
+}
+
+/// The handles, the owner's first.
+fn ends_of(alloc: Global, owner: Owner, thieves: Vec<Thief>) -> Result<Vec<Any>, AllocError> {
+    let mut ends = Vec::new(alloc);
+    ends.push(Any::Owning(owner))?;
+    for thief in thieves {
+        ends.push(Any::Stealing(thief))?;
+    }
+    Ok(ends)
 }
 
 /// All ids that the handles get, each on a thread of its own and in rising order.
@@ -122,48 +131,66 @@ fn drain_all<R: Threads + Sync>(rt: &R, alloc: Global, ends: Vec<Any>) -> Result
     Ok(all)
 }
 
+/// All ids that are got after the first, in rising order.
+fn ids_after_the_first<R: Threads + Sync>(rt: &R, alloc: Global) -> Result<Vec<u64>, Fail> {
+    let piece = execve_root(alloc)?;
+    let (owner, thieves) = many_on_a_bench(alloc, &piece).ok_or("another lease")?;
+    let mut all = drain_all(rt, alloc, ends_of(alloc, owner, thieves)?)?;
+    all.sort()?;
+    Ok(all)
+}
+
 #[test]
 fn each_of_many_leases_is_got_once_and_in_order(rt: HostRuntime) -> Result<(), Fail> {
-    let alloc = rt.alloc();
-    let (mut owner, mut thieves) = bench(alloc, 3)?;
-    let leases = many_leases(alloc)?;
-    assert_eq!(rt; leases.len(), 512);
-    assert!(rt; put_all(&mut owner, leases));
-    let mut first = thieves.pop().ok_or("no thief")?;
-    assert!(rt; matches!(first.steal(), Steal::Success(lease) if lease.id == 0));
-    let mut ends = Vec::new(alloc);
-    ends.push(Any::Stealing(first))?;
-    ends.push(Any::Owning(owner))?;
-    for thief in thieves {
-        ends.push(Any::Stealing(thief))?;
-    }
-    let mut all = drain_all(&rt, alloc, ends)?;
-    all.push(0)?;
-    all.sort()?;
-    assert_eq!(rt; all.len(), 512);
+    let all = ids_after_the_first(&rt, rt.alloc())?;
     assert!(rt; rises(&all));
+    assert_eq!(rt;
+        (all.len(), all.first().copied(), all.last().copied()),
+        (49_999, Some(1), Some(49_999))
+    );
     Ok(())
+}
+
+/// The owner takes a lease, and each thief in turn steals one.
+fn get_in_turn(
+    owner: &mut Owner,
+    thieves: &mut [Thief],
+    ids: &mut Vec<Option<u64>>,
+) -> Result<(), AllocError> {
+    ids.push(owner.take().map(|lease| lease.id))?;
+    for thief in thieves.iter_mut() {
+        ids.push(stolen_id(thief))?;
+    }
+    Ok(())
+}
+
+/// What an owner and two thieves get in turn: once from the empty bench, and twice after four leases are put.
+fn got_in_turn(alloc: Global, piece: &Arc<Piece>) -> Result<Vec<Option<u64>>, Fail> {
+    let (mut owner, mut thieves) = bench(alloc, 2)?;
+    let mut ids = Vec::new(alloc);
+    get_in_turn(&mut owner, &mut thieves, &mut ids)?;
+    if !put_many(&mut owner, piece, 4) {
+        return Err("a lease was not put".into());
+    }
+    get_in_turn(&mut owner, &mut thieves, &mut ids)?;
+    get_in_turn(&mut owner, &mut thieves, &mut ids)?;
+    Ok(ids)
 }
 
 #[test]
 fn a_bench_is_first_in_first_out(rt: HostRuntime) -> Result<(), Fail> {
-    let alloc = rt.alloc();
-    let mut book = Book::open(alloc, execve_stack(alloc)?, 100)?;
-    let piece = book.lease()?.ok_or("nothing to lease")?.piece;
-    let (mut owner, mut thieves) = bench(alloc, 2)?;
-    assert_eq!(rt; thieves.len(), 2);
-    assert!(rt; owner.take().is_none());
-    for id in 0..4 {
-        let piece = Arc::try_clone(&piece)?;
-        assert!(rt; owner.put(Lease { id, piece }).is_ok());
-    }
-    assert_eq!(rt; owner.take().map(|lease| lease.id), Some(0));
-    for (place, thief) in thieves.iter_mut().enumerate() {
-        assert!(rt; matches!(thief.steal(), Steal::Success(lease) if lease.id == place as u64 + 1));
-    }
-    assert_eq!(rt; owner.take().map(|lease| lease.id), Some(3));
-    for thief in thieves.iter_mut() {
-        assert!(rt; matches!(thief.steal(), Steal::Empty));
-    }
+    let ids = got_in_turn(rt.alloc(), &execve_root(rt.alloc())?)?;
+    let wanted = [
+        None,
+        None,
+        None,
+        Some(0),
+        Some(1),
+        Some(2),
+        Some(3),
+        None,
+        None,
+    ];
+    assert_eq!(rt; ids.as_slice(), wanted.as_slice());
     Ok(())
 }
