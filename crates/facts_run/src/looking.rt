@@ -1,7 +1,7 @@
 //! Takes the steps of a case, and says what they leave.
 
-ghost use Rattle.std.specs.Prelude.{◌≡◌, IsTrue, IfOk, length};
-ghost use Rattle.sf_sym.specs.Pool.{OperandsBelow};
+ghost use Rattle.std.specs.Prelude.{◌≡◌, All, IsTrue, IfOk, IfSome, length};
+ghost use Rattle.sf_sym.specs.Pool.{IsCondBelow, OperandsBelow};
 ghost use Rattle.sf_dom.specs.Facts.{Covers};
 
 use crate::cases::{Case, Step};
@@ -36,30 +36,29 @@ fn pool_of(alloc: Global, nodes: &[Node]) -> Result<Pool, Fail> {
     Ok(pool)
 }
 
-/// Takes in a condition: `false`: it contradicts. What it leaves of a copy of the facts has to be the same.
-fn learn(
-    alloc: Global,
-    facts: &mut Facts,
-    pool: &Pool,
-    node: usize,
-    test: Test,
-    other: usize,
-    sense: bool,
-) -> Result<bool, Fail>
-    requires { Covers facts.old pool.now }
-    ensures { Covers facts.new pool.now }
+/// The condition that the test of two nodes of the pool has this result.
+fn cond_of(pool: &Pool, node: usize, test: Test, other: usize, sense: bool) -> Result<Cond, Fail>
+    ensures { IfOk result (IsCondBelow (length pool.now)) }
 {
     if node >= pool.len() || other >= pool.len() {
         return Err(Fail::from("a condition on no node"));
     }
-    let cond = Cond {
+    Ok(Cond {
         node: NodeId(node as u32),
         test,
         other: NodeId(other as u32),
         sense,
-    };
-    let copy = facts.with_cond(alloc, pool, &cond)?;
-    let taken = facts.learn(alloc, pool, &cond)?;
+    })
+}
+
+/// Takes in a condition: `false`: it contradicts. What it leaves of a copy of the facts has to be the same.
+fn learn(alloc: Global, facts: &mut Facts, pool: &Pool, cond: &Cond) -> Result<bool, Fail>
+    requires covers { Covers facts.old pool.now }
+    requires below { IsCondBelow (length pool.now) cond.now }
+    ensures { Covers facts.new pool.now }
+{
+    let copy = facts.with_cond(alloc, pool, cond)?;
+    let taken = facts.learn(alloc, pool, cond)?;
     match copy {
         Some(left) if taken && left.is_same(facts) => Ok(true),
         None if !taken => Ok(false),
@@ -74,7 +73,8 @@ fn take(alloc: Global, facts: &mut Facts, pool: &Pool, step: Step) -> Result<boo
 {
     match step {
         Step::Learn(node, test, other, sense) => {
-            learn(alloc, facts, pool, node, test, other, sense)
+            let cond = cond_of(pool, node, test, other, sense)?;
+            learn(alloc, facts, pool, &cond)
         }
         Step::Confine(word, low, high) => {
             if word >= 16 {
@@ -104,30 +104,73 @@ fn take_all(alloc: Global, facts: &mut Facts, pool: &Pool, steps: &[Step]) -> Re
     Ok(true)
 }
 
-/// The facts of the pool. Facts of only the words have to become the same when they take in the other nodes, and so has
-/// a fork.
+/// The conditions of the steps; `None` where other steps are among them.
+fn conds_of(alloc: Global, pool: &Pool, steps: &[Step]) -> Result<Option<Vec<Cond>>, Fail>
+    ensures { IfOk result (λ o. IfSome o
+        (λ conds. All (IsCondBelow (length pool.now)) conds.items)) }
+{
+    let mut conds = Vec::new(alloc);
+    for step in steps {
+        let Step::Learn(node, test, other, sense) = *step else {
+            return Ok(None);
+        };
+        conds.push(cond_of(pool, node, test, other, sense)?)?;
+    }
+    Ok(Some(conds))
+}
+
+/// Conditions that are taken in together have to leave what they left one after the other.
+fn see_together(
+    alloc: Global,
+    pool: &Pool,
+    steps: &[Step],
+    facts: &Facts,
+    taken: bool,
+) -> Result<(), Fail> {
+    let Some(conds) = conds_of(alloc, pool, steps)? else {
+        return Ok(());
+    };
+    match Facts::of(alloc, pool, &conds)? {
+        Some(left) if taken && left.is_same(facts) => Ok(()),
+        None if !taken => Ok(()),
+        _ => Err(Fail::from("together they leave something else")),
+    }
+}
+
+/// The facts of the pool. Facts of only the words have to become the same when they take in the other nodes, and stay
+/// so when they take them in again.
 fn facts_of(alloc: Global, pool: &Pool) -> Result<Facts, Fail>
     ensures { IfOk result (λ facts. Covers facts pool.now) }
 {
     let facts = Facts::new(alloc, pool)?;
     let words = Pool::new(alloc)?;
     let mut grown = Facts::new(alloc, &words)?;
-    if !grown.grow(alloc, pool)? || !facts.is_same(&grown) {
-        return Err(Fail::from("grown facts are others"));
-    }
-    if !facts.is_same(&facts.fork()?) {
-        return Err(Fail::from("a fork has other facts"));
+    for _ in 0..2 {
+        if !grown.grow(alloc, pool)? || !facts.is_same(&grown) {
+            return Err(Fail::from("grown facts are others"));
+        }
     }
     Ok(facts)
 }
 
-/// What is known of the node at the place, as text.
+/// What became of the steps: `is_same` says whether the facts are still those of a fork that took none.
+fn outcome(steps: &[Step], taken: bool, is_same: bool) -> &'static str {
+    if !taken {
+        "contradicts"
+    } else if is_same && !steps.is_empty() {
+        "nothing new"
+    } else {
+        "taken"
+    }
+}
+
+/// What is known of the node at the place, as text. Of a word the least number has to be the low end.
 fn node_text(
     alloc: Global,
     facts: &Facts,
     pool: &Pool,
     at: usize,
-    taken: bool,
+    outcome: &str,
 ) -> Result<String, Fail>
     requires { Covers facts.now pool.now }
 {
@@ -136,11 +179,13 @@ fn node_text(
     }
     let known = facts.known(NodeId(at as u32));
     let (low, high, zeros, ones) = (known.low, known.high, known.zeros, known.ones);
+    if at < 16 && facts.least(at) != Some(low) {
+        return Err(Fail::from("another number is the least"));
+    }
     let mut text = String::new(alloc);
-    text.push_str(if taken { "taken" } else { "contradicts" })?;
     write!(
         &mut text,
-        ", from {low} to {high}, zeros {zeros:08x}, ones {ones:08x}"
+        "{outcome}, from {low} to {high}, zeros {zeros:08x}, ones {ones:08x}"
     )?;
     if let Some(number) = facts.decided(pool, NodeId(at as u32)) {
         write!(&mut text, ", decided {number}")?;
@@ -152,6 +197,9 @@ fn node_text(
 pub fn look(alloc: Global, case: &Case) -> Result<String, Fail> {
     let pool = pool_of(alloc, &case.nodes)?;
     let mut facts = facts_of(alloc, &pool)?;
+    let before = facts.fork()?;
     let taken = take_all(alloc, &mut facts, &pool, &case.steps)?;
-    node_text(alloc, &facts, &pool, case.at, taken)
+    see_together(alloc, &pool, &case.steps, &facts, taken)?;
+    let outcome = outcome(&case.steps, taken, facts.is_same(&before));
+    node_text(alloc, &facts, &pool, case.at, outcome)
 }

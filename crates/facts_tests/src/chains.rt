@@ -1,5 +1,5 @@
 //! Tests of `Program::skip_others`: which tests for other numbers than the one that A has are skipped.
-use samples::{op, raw, wrong_case};
+use samples::{op, raw};
 use sf_check::{Passed, Program, check};
 use sf_insn::RawInsn;
 use std::alloc::Global;
@@ -25,9 +25,11 @@ fn skip_others(program: &Program, place: usize, number: u32) -> Option<Passed> {
     }
 }
 
-/// The place and the number of the first case that is wrong: not as many tests are skipped as it says, or up to another
-/// place.
-fn wrong_chain(program: &Program, cases: &[(usize, u32, usize, usize)]) -> Option<(usize, u32)> {
+/// A place, the number that A has, how many tests are skipped there, and up to which place.
+type Case = (usize, u32, usize, usize);
+
+/// The place and the number of the first case that is wrong.
+fn wrong_chain(program: &Program, cases: &[Case]) -> Option<(usize, u32)> {
     for (place, number, count, behind) in cases {
         let (count, behind) = (*count, *behind);
         if skip_others(program, *place, *number) != Some(Passed { count, behind }) {
@@ -80,71 +82,78 @@ fn far_tests(alloc: Global) -> Result<Program, Fail> {
     program_of(alloc, code)
 }
 
+const OVER_RETURNS: [Case; 13] = [
+    (1, 10, 0, 1),
+    (1, 11, 1, 3),
+    (1, 20, 10, 21),
+    (1, 29, 19, 39),
+    (1, 9, 20, 41),
+    (1, 0xFFFFFFFF, 20, 41),
+    (11, 15, 0, 11),
+    (11, 13, 15, 41),
+    (37, 29, 1, 39),
+    (37, 27, 2, 41),
+    (0, 10, 0, 0),
+    (2, 9, 0, 2),
+    (41, 9, 0, 41),
+];
+
 #[test]
 fn tests_fail_over_returns(rt: HostRuntime) -> Result<(), Fail> {
-    let cases = [
-        (1, 10, 0, 1),
-        (1, 11, 1, 3),
-        (1, 20, 10, 21),
-        (1, 29, 19, 39),
-        (1, 9, 20, 41),
-        (1, 0xFFFFFFFF, 20, 41),
-        (11, 15, 0, 11),
-        (11, 13, 15, 41),
-        (37, 29, 1, 39),
-        (37, 27, 2, 41),
-        (0, 10, 0, 0),
-        (2, 9, 0, 2),
-        (41, 9, 0, 41),
-    ];
-    assert_eq!(rt; wrong_chain(&tests_over_returns(rt.alloc())?, &cases), None);
+    assert_eq!(rt;
+        wrong_chain(&tests_over_returns(rt.alloc())?, &OVER_RETURNS),
+        None
+    );
     Ok(())
 }
+
+const MEETING: [Case; 12] = [
+    (0, 100, 0, 0),
+    (0, 5, 14, 26),
+    (0, 13, 1, 13),
+    (0, 20, 8, 20),
+    (1, 1, 0, 1),
+    (1, 12, 11, 12),
+    (1, 13, 12, 13),
+    (1, 25, 24, 25),
+    (1, 100, 25, 26),
+    (12, 12, 0, 12),
+    (12, 5, 14, 26),
+    (20, 19, 6, 26),
+];
 
 #[test]
 fn a_chain_ends_in_the_midst_of_another(rt: HostRuntime) -> Result<(), Fail> {
-    let cases = [
-        (0, 100, 0, 0),
-        (0, 5, 14, 26),
-        (0, 13, 1, 13),
-        (0, 20, 8, 20),
-        (1, 1, 0, 1),
-        (1, 12, 11, 12),
-        (1, 13, 12, 13),
-        (1, 25, 24, 25),
-        (1, 100, 25, 26),
-        (12, 12, 0, 12),
-        (12, 5, 14, 26),
-        (20, 19, 6, 26),
-    ];
-    assert_eq!(rt; wrong_chain(&meeting_chains(rt.alloc())?, &cases), None);
+    assert_eq!(rt; wrong_chain(&meeting_chains(rt.alloc())?, &MEETING), None);
     Ok(())
 }
+
+const TWICE: [Case; 5] = [
+    (1, 15, 5, 6),
+    (6, 15, 0, 6),
+    (7, 15, 4, 11),
+    (12, 15, 10, 22),
+    (1, 25, 16, 17),
+];
 
 #[test]
 fn a_chain_asks_for_a_number_twice(rt: HostRuntime) -> Result<(), Fail> {
-    let cases = [
-        (1, 15, 5, 6),
-        (6, 15, 0, 6),
-        (7, 15, 4, 11),
-        (12, 15, 10, 22),
-        (1, 25, 16, 17),
-    ];
-    assert_eq!(rt; wrong_chain(&number_twice(rt.alloc())?, &cases), None);
+    assert_eq!(rt; wrong_chain(&number_twice(rt.alloc())?, &TWICE), None);
     Ok(())
 }
 
+const FAR: [Case; 6] = [
+    (0, 1, 0, 0),
+    (0, 2, 1, 201),
+    (0, 3, 2, 457),
+    (0, 4, 3, 458),
+    (201, 1, 2, 458),
+    (457, 3, 0, 457),
+];
+
 #[test]
 fn tests_fail_far(rt: HostRuntime) -> Result<(), Fail> {
-    let cases = [
-        (0, 1, 0, 0),
-        (0, 2, 1, 201),
-        (0, 3, 2, 457),
-        (0, 4, 3, 458),
-        (201, 1, 2, 458),
-        (457, 3, 0, 457),
-    ];
-    assert_eq!(rt; wrong_chain(&far_tests(rt.alloc())?, &cases), None);
+    assert_eq!(rt; wrong_chain(&far_tests(rt.alloc())?, &FAR), None);
     Ok(())
 }
 
@@ -156,12 +165,14 @@ fn is_equal_test(alloc: Global, insn: RawInsn) -> Option<bool> {
 
 #[test]
 fn tells_tests_of_equality(rt: HostRuntime) {
-    let alloc = rt.alloc();
-    let cases = [
-        ("jeq #5", is_equal_test(alloc, op(0x15, 5)), Some(true)),
-        ("jeq x", is_equal_test(alloc, op(0x1d, 0)), Some(false)),
-        ("jgt #5", is_equal_test(alloc, op(0x25, 5)), Some(false)),
-        ("ret #5", is_equal_test(alloc, op(0x06, 5)), Some(false)),
-    ];
-    assert_eq!(rt; wrong_case(&cases), None);
+    // jeq #5; jeq x; jgt #5; ret #5
+    for (code, k, wanted) in [
+        (0x15, 5, true),
+        (0x1d, 0, false),
+        (0x25, 5, false),
+        (0x06, 5, false),
+    ] {
+        let found = is_equal_test(rt.alloc(), op(code, k));
+        assert!(rt; found == Some(wanted), "{code:x}");
+    }
 }

@@ -1,10 +1,9 @@
-//! Tests of the libraries below symbolic execution: instructions, programs, runs, lists, symbolic words and facts.
+//! Tests of the libraries below symbolic execution: instructions, programs, runs, lists, symbolic words, and what faults
+//! say. What facts know is tried by the cases of `facts_run`.
 #![tactic(auto)]
 
 #[cfg(test)]
 mod chains;
-#[cfg(test)]
-mod facts;
 #[cfg(test)]
 mod faults;
 #[cfg(test)]

@@ -12,23 +12,28 @@ fn numbers_below(alloc: Global, n: u32) -> Result<SharedList<u32, 4>, AllocError
     Ok(list)
 }
 
-/// Whether the list has at each place below n the number of the place.
-fn counts_up(list: &SharedList<u32, 4>, n: u32) -> bool {
+/// Whether the list has this length, and at each place below n the number of the place.
+fn counts_up(list: &SharedList<u32, 4>, length: u64, n: u32) -> bool {
     for i in 0..n {
         if i as usize >= list.len() || list.get(i as usize) != i {
             return false;
         }
     }
-    true
+    list.len() as u64 == length
+}
+
+/// A fork that has one element more.
+fn longer_fork(list: &SharedList<u32, 4>) -> Result<SharedList<u32, 4>, AllocError> {
+    let mut copy = list.fork()?;
+    copy.push(7)?;
+    Ok(copy)
 }
 
 /// Whether a fork that gets one more element leaves the list as it was, and both keep what they had.
 fn forks_at(alloc: Global, n: u32) -> Result<bool, AllocError> {
     let list = numbers_below(alloc, n)?;
-    let mut copy = list.fork()?;
-    copy.push(7)?;
-    let lengths = (list.len() as u64, copy.len() as u64);
-    Ok(lengths == (n as u64, n as u64 + 1) && counts_up(&list, n) && counts_up(&copy, n))
+    let copy = longer_fork(&list)?;
+    Ok(counts_up(&list, n as u64, n) && counts_up(&copy, n as u64 + 1, n))
 }
 
 #[test]

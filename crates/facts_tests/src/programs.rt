@@ -1,5 +1,5 @@
 //! Tests of which programs and stacks are lawful, plain and the same.
-use samples::{ALLOW, negation_filter, op, raw, unset_scratch, wrong_case};
+use samples::{ALLOW, negation_filter, op, raw, unset_scratch};
 use sf_check::{Fault, Insn, Program, Stack, check};
 use sf_insn::RawInsn;
 use std::alloc::Global;
@@ -15,47 +15,42 @@ fn fault(alloc: Global, raws: &[RawInsn]) -> Option<Fault> {
     check_program(alloc, raws).err()
 }
 
+/// The codes and the constants of single instructions, and their faults.
+const REFUSED: [(u16, u32, Fault); 15] = [
+    (0x94, 0, Fault::Code(0)),
+    (0x28, 0, Fault::Code(0)),
+    (0x120, 0, Fault::Code(0)),
+    (0x20, 62, Fault::Field(0)),
+    (0x20, 64, Fault::Field(0)),
+    (0x34, 0, Fault::Field(0)),
+    (0x64, 32, Fault::Field(0)),
+    (0x74, 32, Fault::Field(0)),
+    (0x60, 16, Fault::Field(0)),
+    (0x61, 16, Fault::Field(0)),
+    (0x02, 16, Fault::Field(0)),
+    (0x03, 16, Fault::Field(0)),
+    (0x05, 0, Fault::Jump(0)),
+    (0x15, 0, Fault::Jump(0)),
+    (0x20, 0, Fault::Last),
+];
+
 #[test]
 fn refuses_single_instructions(rt: HostRuntime) {
-    let cases = [
-        (op(0x94, 0), Fault::Code(0)),
-        (op(0x28, 0), Fault::Code(0)),
-        (op(0x120, 0), Fault::Code(0)),
-        (op(0x20, 62), Fault::Field(0)),
-        (op(0x20, 64), Fault::Field(0)),
-        (op(0x34, 0), Fault::Field(0)),
-        (op(0x64, 32), Fault::Field(0)),
-        (op(0x74, 32), Fault::Field(0)),
-        (op(0x60, 16), Fault::Field(0)),
-        (op(0x61, 16), Fault::Field(0)),
-        (op(0x02, 16), Fault::Field(0)),
-        (op(0x03, 16), Fault::Field(0)),
-        (op(0x05, 0), Fault::Jump(0)),
-        (op(0x15, 0), Fault::Jump(0)),
-        (op(0x20, 0), Fault::Last),
-    ];
-    for (insn, wanted) in cases {
-        assert!(rt; fault(rt.alloc(), &[insn]) == Some(wanted), "{insn:?}");
+    for (code, k, wanted) in REFUSED {
+        let found = fault(rt.alloc(), &[op(code, k)]);
+        assert!(rt; found == Some(wanted), "{code:x} {k}");
     }
 }
 
 #[test]
-fn refuses_loads_that_a_path_has_not_set_and_targets_outside(rt: HostRuntime) {
-    let alloc = rt.alloc();
+fn refuses_loads_that_a_path_has_not_set(rt: HostRuntime) {
+    assert!(rt; fault(rt.alloc(), &unset_scratch()) == Some(Fault::Scratch(3)));
+}
+
+#[test]
+fn targets_do_not_wrap(rt: HostRuntime) {
     let far = [op(0x05, 0xffffffff), op(0x06, 0)];
-    let cases = [
-        (
-            "unset",
-            fault(alloc, &unset_scratch()),
-            Some(Fault::Scratch(3)),
-        ),
-        (
-            "a target doesn't wrap",
-            fault(alloc, &far),
-            Some(Fault::Jump(0)),
-        ),
-    ];
-    assert_eq!(rt; wrong_case(&cases), None);
+    assert!(rt; fault(rt.alloc(), &far) == Some(Fault::Jump(0)));
 }
 
 /// How many instructions a program of this many returns has.
@@ -66,13 +61,14 @@ fn returns(alloc: Global, count: usize) -> Result<usize, Fault> {
 
 #[test]
 fn programs_have_1_to_4096_instructions(rt: HostRuntime) {
-    let alloc = rt.alloc();
     let cases = [
-        ("none", returns(alloc, 0), Err(Fault::Empty)),
-        ("the most", returns(alloc, 4096), Ok(4096)),
-        ("too many", returns(alloc, 4097), Err(Fault::TooLong)),
+        (0, Err(Fault::Empty)),
+        (4096, Ok(4096)),
+        (4097, Err(Fault::TooLong)),
     ];
-    assert_eq!(rt; wrong_case(&cases), None);
+    for (count, wanted) in cases {
+        assert!(rt; returns(rt.alloc(), count) == wanted, "{count}");
+    }
 }
 
 #[test]
@@ -93,28 +89,18 @@ fn is_allowing(alloc: Global, raws: &[RawInsn]) -> Result<bool, Fault> {
 
 #[test]
 fn programs_are_the_same_whatever_stands_in_unused_fields(rt: HostRuntime) {
-    let alloc = rt.alloc();
-    let otherwise = [raw(0x20, 3, 4, 0), raw(0x06, 9, 0, 0x7fff0000)];
-    let longer = [op(0x20, 0), op(0x87, 0), ALLOW];
-    let cases = [
-        (
-            "spelled so",
-            is_allowing(alloc, &[op(0x20, 0), ALLOW]),
-            Ok(true),
-        ),
+    for (what, raws, wanted) in [
+        ("spelled so", [op(0x20, 0), ALLOW].as_slice(), true),
         (
             "spelled otherwise",
-            is_allowing(alloc, &otherwise),
-            Ok(true),
+            &[raw(0x20, 3, 4, 0), raw(0x06, 9, 0, 0x7fff0000)],
+            true,
         ),
-        (
-            "of another word",
-            is_allowing(alloc, &[op(0x20, 4), ALLOW]),
-            Ok(false),
-        ),
-        ("longer", is_allowing(alloc, &longer), Ok(false)),
-    ];
-    assert_eq!(rt; wrong_case(&cases), None);
+        ("of another word", &[op(0x20, 4), ALLOW], false),
+        ("longer", &[op(0x20, 0), op(0x87, 0), ALLOW], false),
+    ] {
+        assert!(rt; is_allowing(rt.alloc(), raws) == Ok(wanted), "{what}");
+    }
 }
 
 /// A stack of `count` programs with `negations` negations each, and of one more with `newest` negations.
@@ -143,25 +129,22 @@ fn sizes(
     Ok((stack.path_length(), stack.programs().len()))
 }
 
+/// How many programs there are but for the newest, how many negations they have, and how many the newest has. Then the
+/// sizes of the stack.
+const SIZES: [(usize, usize, usize, Result<(usize, usize), Fault>); 4] = [
+    (63, 0, 0, Ok((316, 64))),
+    (64, 0, 0, Err(Fault::TooMany)),
+    (7, 4095, 4067, Ok((32768, 8))),
+    (7, 4095, 4068, Err(Fault::PathLength)),
+];
+
 #[test]
 fn stacks_have_1_to_64_programs_and_paths_of_at_most_32768(rt: HostRuntime) {
-    let alloc = rt.alloc();
-    let cases = [
-        ("64 programs", sizes(alloc, 63, 0, 0), Ok((316, 64))),
-        ("65 programs", sizes(alloc, 64, 0, 0), Err(Fault::TooMany)),
-        (
-            "the longest path",
-            sizes(alloc, 7, 4095, 4067),
-            Ok((32768, 8)),
-        ),
-        (
-            "a longer path",
-            sizes(alloc, 7, 4095, 4068),
-            Err(Fault::PathLength),
-        ),
-    ];
-    assert_eq!(rt; wrong_case(&cases), None);
-    assert!(rt; Stack::of(Vec::new(alloc)).err() == Some(Fault::NoFilter));
+    for (count, negations, newest, wanted) in SIZES {
+        let found = sizes(rt.alloc(), count, negations, newest);
+        assert!(rt; found == wanted, "{count} {negations} {newest}");
+    }
+    assert!(rt; Stack::of(Vec::new(rt.alloc())).err() == Some(Fault::NoFilter));
 }
 
 /// Whether a stack of 64 programs `ret 0x7fff0000` is the same as one of `count` such programs and one more with
@@ -173,13 +156,10 @@ fn is_64_returns(alloc: Global, count: usize, newest: usize) -> Result<bool, Fau
 
 #[test]
 fn stacks_are_the_same_where_all_their_programs_are(rt: HostRuntime) {
-    let alloc = rt.alloc();
-    let cases = [
-        ("the same", is_64_returns(alloc, 63, 0), Ok(true)),
-        ("one less", is_64_returns(alloc, 62, 0), Ok(false)),
-        ("another last one", is_64_returns(alloc, 63, 1), Ok(false)),
-    ];
-    assert_eq!(rt; wrong_case(&cases), None);
+    for (count, newest, wanted) in [(63, 0, true), (62, 0, false), (63, 1, false)] {
+        let found = is_64_returns(rt.alloc(), count, newest);
+        assert!(rt; found == Ok(wanted), "{count} {newest}");
+    }
 }
 
 /// Whether the stack of this instruction and a return is plain.
@@ -189,23 +169,26 @@ fn is_plain(alloc: Global, insn: RawInsn) -> Result<bool, Fault> {
     Ok(Stack::of(programs)?.is_plain())
 }
 
+/// The codes and the constants of instructions, and whether a program with one is plain.
+const PLAIN: [(u16, u32, bool); 12] = [
+    (0x20, 0, true),
+    (0x05, 0, true),
+    (0x15, 5, true),
+    (0x25, 5, true),
+    (0x35, 5, true),
+    (0x45, 0x40000000, true),
+    (0x45, 1, true),
+    (0x45, 5, false),
+    (0x45, 0, false),
+    (0x1d, 0, false),
+    (0x54, 1, false),
+    (0x07, 0, false),
+];
+
 #[test]
 fn plain_programs_compare_words_or_ask_for_one_bit(rt: HostRuntime) {
-    let cases = [
-        (op(0x20, 0), true),
-        (op(0x05, 0), true),
-        (op(0x15, 5), true),
-        (op(0x25, 5), true),
-        (op(0x35, 5), true),
-        (op(0x45, 0x40000000), true),
-        (op(0x45, 1), true),
-        (op(0x45, 5), false),
-        (op(0x45, 0), false),
-        (op(0x1d, 0), false),
-        (op(0x54, 1), false),
-        (op(0x07, 0), false),
-    ];
-    for (insn, wanted) in cases {
-        assert!(rt; is_plain(rt.alloc(), insn) == Ok(wanted), "{insn:?}");
+    for (code, k, wanted) in PLAIN {
+        let found = is_plain(rt.alloc(), op(code, k));
+        assert!(rt; found == Ok(wanted), "{code:x} {k}");
     }
 }

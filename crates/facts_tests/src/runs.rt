@@ -1,6 +1,7 @@
 //! Tests of what a program returns, and of what a stack meets and answers.
 use samples::{
-    eight_divided, equality_tests, execve_refused, op, shift_filter, stack_of, wrong_case,
+    eight_divided, equality_tests, execve_refused, execve_stack, op, shift_filter, stack_of,
+    wrong_case,
 };
 use sf_check::{Program, Stack, check};
 use sf_insn::{Input, RawInsn};
@@ -32,19 +33,23 @@ fn result_of(alloc: Global, a: u32, code: u16, b: u32) -> Option<u32> {
     value(alloc, &[op(0x00, a), op(code, b), op(0x16, 0)], 0)
 }
 
+/// A, the code of an operation, its other number, and the result.
+const RESULTS: [(u32, u16, u32, u32); 7] = [
+    (7, 0x14, 9, 0xfffffffe),
+    (0x80000000, 0x24, 2, 0),
+    (17, 0x34, 5, 3),
+    (1, 0x84, 0, 0xffffffff),
+    (0xffffffff, 0x04, 1, 0),
+    (0x0c, 0xa4, 0x0a, 0x06),
+    (0x80000000, 0x74, 31, 1),
+];
+
 #[test]
 fn arithmetic_is_modulo_2_to_the_32(rt: HostRuntime) {
-    let alloc = rt.alloc();
-    let cases = [
-        ("sub", result_of(alloc, 7, 0x14, 9), Some(0xfffffffe)),
-        ("mul", result_of(alloc, 0x80000000, 0x24, 2), Some(0)),
-        ("div", result_of(alloc, 17, 0x34, 5), Some(3)),
-        ("neg", result_of(alloc, 1, 0x84, 0), Some(0xffffffff)),
-        ("add", result_of(alloc, 0xffffffff, 0x04, 1), Some(0)),
-        ("xor", result_of(alloc, 0x0c, 0xa4, 0x0a), Some(0x06)),
-        ("rsh", result_of(alloc, 0x80000000, 0x74, 31), Some(1)),
-    ];
-    assert_eq!(rt; wrong_case(&cases), None);
+    for (a, code, b, wanted) in RESULTS {
+        let found = result_of(rt.alloc(), a, code, b);
+        assert!(rt; found == Some(wanted), "{code:x}");
+    }
 }
 
 #[test]
@@ -53,11 +58,9 @@ fn words_move_between_a_x_and_scratch(rt: HostRuntime) {
     let length = [op(0x80, 0), op(0x07, 0), op(0x87, 0), op(0x16, 0)];
     // ldx #5; stx M[15]; ld M[15]; ret a
     let kept = [op(0x01, 5), op(0x03, 15), op(0x60, 15), op(0x16, 0)];
-    let cases = [
-        ("the length", value(rt.alloc(), &length, 0), Some(64)),
-        ("a scratch word", value(rt.alloc(), &kept, 0), Some(5)),
-    ];
-    assert_eq!(rt; wrong_case(&cases), None);
+    for (raws, wanted) in [(length, 64), (kept, 5)] {
+        assert!(rt; value(rt.alloc(), &raws, 0) == Some(wanted), "{wanted}");
+    }
 }
 
 /// What a stack meets on an input.
@@ -82,23 +85,18 @@ fn trace_number(alloc: Global, raws: &[RawInsn], input: &Input) -> Option<(usize
 
 #[test]
 fn a_division_by_an_x_of_0_returns_0(rt: HostRuntime) {
-    let (alloc, divided) = (rt.alloc(), eight_divided());
-    let cases = [
-        ("by 0", value(alloc, &divided, 0), Some(0)),
-        ("by 2", value(alloc, &divided, 2), Some(4)),
-    ];
-    assert_eq!(rt; wrong_case(&cases), None);
-    assert_eq!(rt; trace_number(alloc, &divided, &ZEROS), Some((1, 1)));
+    for (argument, wanted) in [(0, 0), (2, 4)] {
+        let found = value(rt.alloc(), &eight_divided(), argument);
+        assert!(rt; found == Some(wanted), "{argument}");
+    }
+    assert!(rt; trace_number(rt.alloc(), &eight_divided(), &ZEROS) == Some((1, 1)));
 }
 
 /// The bits of a returned A are met from the highest one on.
 #[test]
 fn a_shift_by_x_is_modulo_32(rt: HostRuntime) {
-    assert_eq!(rt; value(rt.alloc(), &shift_filter(), 0), Some(256));
-    assert_eq!(rt;
-        trace_number(rt.alloc(), &shift_filter(), &ZEROS),
-        Some((32, 1 << 8))
-    );
+    assert!(rt; value(rt.alloc(), &shift_filter(), 0) == Some(256));
+    assert!(rt; trace_number(rt.alloc(), &shift_filter(), &ZEROS) == Some((32, 1 << 8)));
 }
 
 /// The answer of a stack.
@@ -106,24 +104,22 @@ fn answer_of(stack: &Stack, input: &Input) -> Answer {
     answer(stack, input)
 }
 
+/// Words 0 and 1 of inputs, what `execve_refused` meets, and its answer.
+const MET: [(u32, u32, (usize, u64), Action, u16); 3] = [
+    (59, 0x40000003, (1, 0), Action::KillProcess, 0),
+    (0, 0xC000003E, (2, 2), Action::Allow, 0),
+    (59, 0xC000003E, (2, 3), Action::Errno, 1),
+];
+
 #[test]
 fn a_trace_has_each_test_in_order(rt: HostRuntime) -> Result<(), Fail> {
-    let (alloc, refused) = (rt.alloc(), execve_refused());
-    let stack = stack_of(alloc, &[&refused])?;
-    let inputs = [
-        input_of(59, 0x40000003, 0),
-        input_of(0, 0xC000003E, 0),
-        input_of(59, 0xC000003E, 0),
-    ];
-    let wanted = [
-        ((1, 0), Action::KillProcess, 0),
-        ((2, 2), Action::Allow, 0),
-        ((2, 3), Action::Errno, 1),
-    ];
-    for (input, (number, action, info)) in inputs.iter().zip(wanted.iter()) {
-        assert!(rt; trace_number(alloc, &refused, input) == Some(*number));
-        let (action, info) = (*action, *info);
-        assert!(rt; answer_of(&stack, input) == Answer { action, info });
+    let stack = execve_stack(rt.alloc())?;
+    for (nr, arch, number, action, info) in MET {
+        let input = input_of(nr, arch, 0);
+        let met = trace_number(rt.alloc(), &execve_refused(), &input);
+        assert!(rt; met == Some(number), "{nr} {arch:x}");
+        let found = answer_of(&stack, &input);
+        assert!(rt; found == Answer { action, info }, "{nr} {arch:x}");
     }
     Ok(())
 }
@@ -146,8 +142,9 @@ fn the_lowest_action_wins(rt: HostRuntime) {
         (0x7ffc0001, 0x7ff00002, Action::Trace, 2),
     ];
     for (older, newer, action, info) in cases {
+        let found = pair(rt.alloc(), older, newer);
         assert!(rt;
-            pair(rt.alloc(), older, newer) == Some(Answer { action, info }),
+            found == Some(Answer { action, info }),
             "{older:x} {newer:x}"
         );
     }
@@ -217,14 +214,13 @@ fn a_trace_has_the_tests_of_seven_of_the_longest_programs(rt: HostRuntime) -> Re
     let raws = equality_tests(rt.alloc(), 4094)?;
     let met = trace_of_seven(rt.alloc(), &raws).ok_or("no trace")?;
     assert_eq!(rt; met.len(), 28658);
-    let cases = [
-        ("the number's test", met.get(4000), Some(&true)),
-        ("the one before it", met.get(3999), Some(&false)),
-        ("the first program's last", met.get(4093), Some(&false)),
-        ("the number's last test", met.get(28564), Some(&true)),
-        ("the one before that", met.get(28563), Some(&false)),
-        ("the last test of all", met.get(28657), Some(&false)),
-    ];
-    assert_eq!(rt; wrong_case(&cases), None);
+    // the number's test in the first program and in the last one
+    for place in [4000, 28564] {
+        assert!(rt; met.get(place) == Some(&true), "{place}");
+    }
+    // those before them, and the last tests of the first program and of all
+    for place in [3999, 28563, 4093, 28657] {
+        assert!(rt; met.get(place) == Some(&false), "{place}");
+    }
     Ok(())
 }

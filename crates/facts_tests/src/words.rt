@@ -3,7 +3,6 @@
 ghost use Rattle.std.specs.Prelude.{IsTrue};
 ghost use Rattle.sf_sym.specs.Pool.{OperandsBelow};
 
-use samples::wrong_case;
 use sf_insn::{BinOp, Input, Test};
 use sf_sym::{Cond, Node, NodeId, Pool, constant_of};
 use std::alloc::Global;
@@ -27,7 +26,7 @@ fn is_lawful(count: usize, node: Node) -> bool
 }
 
 /// Pushes a node, and gives its place; `None` where its operands are not in the pool.
-pub fn push(pool: &mut Pool, node: Node) -> Option<NodeId> {
+fn push(pool: &mut Pool, node: Node) -> Option<NodeId> {
     if is_lawful(pool.len(), node) {
         pool.push(node).ok()
     } else {
@@ -36,7 +35,7 @@ pub fn push(pool: &mut Pool, node: Node) -> Option<NodeId> {
 }
 
 /// The pool of the sixteen words.
-pub fn new_pool(alloc: Global) -> Option<Pool> {
+fn new_pool(alloc: Global) -> Option<Pool> {
     Pool::new(alloc).ok()
 }
 
@@ -66,23 +65,23 @@ fn negate_constant(alloc: Global, number: u32) -> Option<u32> {
     constant_at(&pool, minus)
 }
 
+/// Operations on two numbers, and their values.
+const VALUES: [(BinOp, u32, u32, u32); 6] = [
+    (BinOp::Add, 1, 2, 3),
+    (BinOp::Sub, 1, 2, u32::MAX),
+    (BinOp::Div, 7, 0, 0),
+    (BinOp::Div, 7, 2, 3),
+    (BinOp::Lsh, 1, 40, 0x100),
+    (BinOp::Rsh, 0x100, 40, 1),
+];
+
 #[test]
 fn an_operation_on_constants_is_the_constant_of_its_value(rt: HostRuntime) {
-    let alloc = rt.alloc();
-    let cases = [
-        ("add", fold_constants(alloc, BinOp::Add, 1, 2), Some(3)),
-        (
-            "sub",
-            fold_constants(alloc, BinOp::Sub, 1, 2),
-            Some(u32::MAX),
-        ),
-        ("div by 0", fold_constants(alloc, BinOp::Div, 7, 0), Some(0)),
-        ("div", fold_constants(alloc, BinOp::Div, 7, 2), Some(3)),
-        ("lsh", fold_constants(alloc, BinOp::Lsh, 1, 40), Some(0x100)),
-        ("rsh", fold_constants(alloc, BinOp::Rsh, 0x100, 40), Some(1)),
-        ("neg", negate_constant(alloc, 1), Some(u32::MAX)),
-    ];
-    assert_eq!(rt; wrong_case(&cases), None);
+    for (op, a, b, wanted) in VALUES {
+        let found = fold_constants(rt.alloc(), op, a, b);
+        assert!(rt; found == Some(wanted), "{op:?} {a} {b}");
+    }
+    assert!(rt; negate_constant(rt.alloc(), 1) == Some(u32::MAX));
 }
 
 /// The places of a sum that is pushed twice and of the sum with its operands swapped, and how many nodes there are
@@ -139,20 +138,10 @@ fn grow_fork(alloc: Global, count: u32, further: u32) -> Option<(NodeId, usize)>
 
 #[test]
 fn a_fork_grows_alone(rt: HostRuntime) {
-    let alloc = rt.alloc();
-    let cases = [
-        (
-            "short",
-            grow_fork(alloc, 100, 1000),
-            Some((NodeId(116), 116)),
-        ),
-        (
-            "long",
-            grow_fork(alloc, 5000, 9000),
-            Some((NodeId(5016), 5016)),
-        ),
-    ];
-    assert_eq!(rt; wrong_case(&cases), None);
+    for (count, further, length) in [(100, 1000, 116), (5000, 9000, 5016)] {
+        let wanted = Some((NodeId(length), length as usize));
+        assert!(rt; grow_fork(rt.alloc(), count, further) == wanted, "{count}");
+    }
 }
 
 /// Words 100, 7 and then zeros.
@@ -164,11 +153,6 @@ const INPUT: Input = Input {
 fn value_on_input(alloc: Global, node: Node) -> Option<u32> {
     let mut pool = new_pool(alloc)?;
     let id = push(&mut pool, node)?;
-    value_at(alloc, &pool, id)
-}
-
-/// The value of a node of a pool on the words 100, 7 and then zeros.
-fn value_at(alloc: Global, pool: &Pool, id: NodeId) -> Option<u32> {
     if (id.0 as usize) < pool.len() {
         pool.value(alloc, id, &INPUT).ok()
     } else {
@@ -176,23 +160,21 @@ fn value_at(alloc: Global, pool: &Pool, id: NodeId) -> Option<u32> {
     }
 }
 
+/// Nodes, and their values on this input.
+const ON_INPUT: [(Node, u32); 5] = [
+    (Node::Word(1), 7),
+    (Node::Const(5), 5),
+    (Node::Bin(BinOp::Div, FIRST, SECOND), 14),
+    (Node::Bin(BinOp::Div, FIRST, NodeId(2)), 0),
+    (Node::Neg(SECOND), u32::MAX - 6),
+];
+
 #[test]
 fn nodes_have_values_on_an_input(rt: HostRuntime) {
-    let alloc = rt.alloc();
-    let by_third = Node::Bin(BinOp::Div, FIRST, NodeId(2));
-    let quotient = Node::Bin(BinOp::Div, FIRST, SECOND);
-    let cases = [
-        ("a word", value_on_input(alloc, Node::Word(1)), Some(7)),
-        ("a constant", value_on_input(alloc, Node::Const(5)), Some(5)),
-        ("a quotient", value_on_input(alloc, quotient), Some(14)),
-        ("a quotient by 0", value_on_input(alloc, by_third), Some(0)),
-        (
-            "minus 7",
-            value_on_input(alloc, Node::Neg(SECOND)),
-            Some(u32::MAX - 6),
-        ),
-    ];
-    assert_eq!(rt; wrong_case(&cases), None);
+    for (node, wanted) in ON_INPUT {
+        let found = value_on_input(rt.alloc(), node);
+        assert!(rt; found == Some(wanted), "{wanted}");
+    }
 }
 
 /// Whether the test of 100 against 7 has this sense.
@@ -212,12 +194,14 @@ fn holds(alloc: Global, test: Test, sense: bool) -> Option<bool> {
 
 #[test]
 fn a_condition_is_met_where_its_test_has_its_sense(rt: HostRuntime) {
-    let alloc = rt.alloc();
     let cases = [
-        ("above", holds(alloc, Test::Greater, true), Some(true)),
-        ("not above", holds(alloc, Test::Greater, false), Some(false)),
-        ("another", holds(alloc, Test::Equal, false), Some(true)),
-        ("a common bit", holds(alloc, Test::AnyBit, true), Some(true)),
+        (Test::Greater, true, true),
+        (Test::Greater, false, false),
+        (Test::Equal, false, true),
+        (Test::AnyBit, true, true),
     ];
-    assert_eq!(rt; wrong_case(&cases), None);
+    for (test, sense, wanted) in cases {
+        let found = holds(rt.alloc(), test, sense);
+        assert!(rt; found == Some(wanted), "{test:?} {sense}");
+    }
 }

@@ -1,213 +1,154 @@
 //! Tests of filters that compare A with one number after the other, where A has only one number.
-use crate::regions::explore_stack;
+use crate::exploring::{explore_stack, push_name};
 use samples::{op, raw, stack_of};
 use sf_insn::RawInsn;
 use std::alloc::Global;
 use std::test::Fail;
 
-/// The beginning of a filter: it loads this number.
-fn load_number(alloc: Global, number: u32) -> Result<Vec<RawInsn>, Fail> {
-    let mut code = Vec::new(alloc);
-    code.push(op(0x00, number))?;
-    Ok(code)
+/// A number in decimal digits.
+fn number(text: &str) -> Result<u32, Fail> {
+    match text.parse::<u32>() {
+        Ok(number) => Ok(number),
+        Err(_) => Err("no number".into()),
+    }
 }
 
-/// Adds tests for each number from `from` up to `end`, without it. Each goes on to the next place whatever A is.
-fn ask(code: &mut Vec<RawInsn>, from: u32, end: u32) -> Result<(), Fail> {
+/// The instruction of sixteen hexadecimal digits: four are its code, two each its fields for jumps, and eight its
+/// constant.
+fn insn_of(digits: &str) -> Result<RawInsn, Fail> {
+    let Ok(fields) = u64::from_str_radix(digits, 16) else {
+        return Err("no instruction".into());
+    };
+    let [high, low, jt, jf, a, b, c, d] = fields.to_be_bytes();
+    let code = u16::from_be_bytes([high, low]);
+    Ok(raw(code, jt, jf, u32::from_be_bytes([a, b, c, d])))
+}
+
+/// Adds a test for each number from `from` up to `end`, without it. Where it fails, each leads past a return, or else,
+/// as where it is true, to the next place.
+fn push_tests(code: &mut Vec<RawInsn>, from: u32, end: u32, returns: bool) -> Result<(), Fail> {
     for number in from..end {
-        code.push(raw(0x15, 0, 0, number))?;
+        code.push(raw(0x15, 0, if returns { 1 } else { 0 }, number))?;
+        if returns {
+            code.push(op(0x06, number))?;
+        }
     }
     Ok(())
 }
 
-/// The names of the regions of a filter, to which a return of 0 is added, as a report shows them, each with a full stop
-/// behind it.
-fn names(alloc: Global, mut code: Vec<RawInsn>) -> Result<String, Fail> {
+/// Adds a part of a filter: `10..20` stands for tests, `10..20+ret` for tests with a return behind each, and sixteen
+/// digits for an instruction.
+fn push_part(code: &mut Vec<RawInsn>, part: &str) -> Result<(), Fail> {
+    let (range, returns) = match part.strip_suffix("+ret") {
+        Some(range) => (range, true),
+        None => (part, false),
+    };
+    match range.split_once("..") {
+        Some((from, end)) => push_tests(code, number(from)?, number(end)?, returns),
+        None => Ok(code.push(insn_of(part)?)?),
+    }
+}
+
+/// The filter that loads a number, or the first word, has these parts, and then returns 0.
+fn filter_of(alloc: Global, loads: &str, parts: &str) -> Result<Vec<RawInsn>, Fail> {
+    let first = match loads {
+        "word" => op(0x20, 0),
+        _ => op(0x00, number(loads)?),
+    };
+    let mut code = vec![in alloc; first; 1]?;
+    for part in parts.split_whitespace() {
+        push_part(&mut code, part)?;
+    }
     code.push(op(0x06, 0))?;
-    let stack = stack_of(alloc, &[&code])?;
+    Ok(code)
+}
+
+/// The names of the regions of a filter, as a report shows them, each with a full stop behind it.
+fn names_of(alloc: Global, filter: &[RawInsn]) -> Result<String, Fail> {
+    let stack = stack_of(alloc, &[filter])?;
     let mut text = String::new(alloc);
-    for (name, _answer) in &explore_stack(alloc, &stack, 100)? {
-        for entry in name {
-            text.push(if *entry { 'T' } else { 'F' })?;
-        }
+    for (name, _answer) in &explore_stack(alloc, &stack)?.regions {
+        push_name(&mut text, name)?;
         text.push('.')?;
     }
     Ok(text)
 }
 
-#[test]
-fn a_number_stands_anywhere_in_a_chain(rt: HostRuntime) -> Result<(), Fail> {
-    let alloc = rt.alloc();
-    for (number, name) in [
-        (10, "TFFFFFFFFFFF."),
-        (11, "FTFFFFFFFFFF."),
-        (15, "FFFFFTFFFFFF."),
-        (21, "FFFFFFFFFFFT."),
-        (9, "FFFFFFFFFFFF."),
-        (22, "FFFFFFFFFFFF."),
-        (0xFFFFFFFF, "FFFFFFFFFFFF."),
-    ] {
-        let mut code = load_number(alloc, number)?;
-        ask(&mut code, 10, 22)?;
-        assert_eq!(rt; names(alloc, code)?.as_str(), name);
-    }
-    Ok(())
-}
-
-#[test]
-fn a_number_stands_in_a_chain_twice(rt: HostRuntime) -> Result<(), Fail> {
-    let alloc = rt.alloc();
-    for (number, name) in [
-        (15, "FFFFFTFFFFTFFFFFFFFFF."),
-        (12, "FFTFFFFFFFFFFFFFFFFFF."),
-        (25, "FFFFFFFFFFFFFFFFTFFFF."),
-    ] {
-        let mut code = load_number(alloc, number)?;
-        ask(&mut code, 10, 20)?;
-        ask(&mut code, 15, 16)?;
-        ask(&mut code, 20, 30)?;
-        assert_eq!(rt; names(alloc, code)?.as_str(), name);
-    }
-    Ok(())
-}
-
-#[test]
-fn a_true_test_leads_past_others_of_its_chain(rt: HostRuntime) -> Result<(), Fail> {
-    let alloc = rt.alloc();
-    for (number, name) in [
-        (15, "FFFFFTFFFFFFFFFFT."),
-        (17, "FFFFFFFFTFFFFFFFFFFF."),
-        (40, "FFFFFFFFFFFFFFFFFFFF."),
-    ] {
-        let mut code = load_number(alloc, number)?;
-        ask(&mut code, 10, 15)?;
-        code.push(raw(0x15, 3, 0, 15))?;
-        ask(&mut code, 15, 18)?;
-        ask(&mut code, 20, 30)?;
-        ask(&mut code, 15, 16)?;
-        assert_eq!(rt; names(alloc, code)?.as_str(), name);
-    }
-    Ok(())
-}
-
-#[test]
-fn a_false_test_leads_past_a_return(rt: HostRuntime) -> Result<(), Fail> {
-    let alloc = rt.alloc();
-    for (number, name) in [
-        (15, "FFFFFTFFFFFTFFFFFFFFFFF."),
-        (25, "FFFFFFFFFFFFFFFFTFFFFFF."),
-        (30, "FFFFFFFFFFT."),
-    ] {
-        let mut code = load_number(alloc, number)?;
-        ask(&mut code, 10, 20)?;
-        code.push(raw(0x15, 0, 1, 30))?;
-        code.push(op(0x06, 1))?;
-        ask(&mut code, 15, 16)?;
-        ask(&mut code, 21, 32)?;
-        assert_eq!(rt; names(alloc, code)?.as_str(), name);
-    }
-    Ok(())
-}
-
-#[test]
-fn each_test_has_a_return_behind_it(rt: HostRuntime) -> Result<(), Fail> {
-    let alloc = rt.alloc();
-    for (number, name) in [
-        (10, "T."),
-        (15, "FFFFFT."),
-        (21, "FFFFFFFFFFFT."),
-        (22, "FFFFFFFFFFFF."),
-        (9, "FFFFFFFFFFFF."),
-    ] {
-        let mut code = load_number(alloc, number)?;
-        for asked in 10..22 {
-            code.push(raw(0x15, 0, 1, asked))?;
-            code.push(op(0x06, asked))?;
+/// The first case that is wrong; `None` where there is none. A case has what the filter loads, and the names of its
+/// regions.
+fn wrong_names(
+    alloc: Global,
+    parts: &str,
+    cases: &'static str,
+) -> Result<Option<&'static str>, Fail> {
+    for case in cases.split_whitespace() {
+        let (loads, names) = case.split_once(':').ok_or("no case")?;
+        if names_of(alloc, &filter_of(alloc, loads, parts)?)?.as_str() != names {
+            return Ok(Some(case));
         }
-        assert_eq!(rt; names(alloc, code)?.as_str(), name);
     }
-    Ok(())
+    Ok(None)
 }
 
-#[test]
-fn a_chain_ends_in_the_midst_of_another(rt: HostRuntime) -> Result<(), Fail> {
-    // A test for 50 leads to the chain of 1 to 9 where A is 50, and otherwise behind it, to a chain of 10 to 20.
-    let alloc = rt.alloc();
-    for (number, name) in [
-        (50, "TFFFFFFFFFFFFFFFFFFFF."),
-        (5, "FFFFFFFFFFFF."),
-        (14, "FFFFFTFFFFFF."),
-    ] {
-        let mut code = load_number(alloc, number)?;
-        code.push(raw(0x15, 0, 9, 50))?;
-        ask(&mut code, 1, 10)?;
-        ask(&mut code, 10, 21)?;
-        assert_eq!(rt; names(alloc, code)?.as_str(), name);
-    }
-    Ok(())
-}
+/// What a filter does, its parts, and its cases.
+const CHAINS: [(&str, &str, &str); 10] = [
+    (
+        "a number stands anywhere in a chain",
+        "10..22",
+        "10:TFFFFFFFFFFF. 11:FTFFFFFFFFFF. 15:FFFFFTFFFFFF. 21:FFFFFFFFFFFT. 9:FFFFFFFFFFFF. 22:FFFFFFFFFFFF. \
+        4294967295:FFFFFFFFFFFF.",
+    ),
+    (
+        "a number stands in a chain twice",
+        "10..20 15..16 20..30",
+        "15:FFFFFTFFFFTFFFFFFFFFF. 12:FFTFFFFFFFFFFFFFFFFFF. 25:FFFFFFFFFFFFFFFFTFFFF.",
+    ),
+    (
+        "a true test leads past others of its chain",
+        "10..15 001503000000000f 15..18 20..30 15..16",
+        "15:FFFFFTFFFFFFFFFFT. 17:FFFFFFFFTFFFFFFFFFFF. 40:FFFFFFFFFFFFFFFFFFFF.",
+    ),
+    (
+        "a false test leads past a return",
+        "10..20 001500010000001e 0006000000000001 15..16 21..32",
+        "15:FFFFFTFFFFFTFFFFFFFFFFF. 25:FFFFFFFFFFFFFFFFTFFFFFF. 30:FFFFFFFFFFT.",
+    ),
+    (
+        "each test has a return behind it",
+        "10..22+ret",
+        "10:T. 15:FFFFFT. 21:FFFFFFFFFFFT. 22:FFFFFFFFFFFF. 9:FFFFFFFFFFFF.",
+    ),
+    (
+        "a test for 50 leads to the chain of 1 to 9 where A is 50, and otherwise behind it, to a chain of 10 to 20",
+        "0015000900000032 1..10 10..21",
+        "50:TFFFFFFFFFFFFFFFFFFFF. 5:FFFFFFFFFFFF. 14:FFFFFTFFFFFF.",
+    ),
+    (
+        "another test stands between two chains",
+        "10..20 0025000000000064 20..31",
+        "25:FFFFFFFFFFFFFFFFTFFFFF. 12:FFTFFFFFFFFFFFFFFFFFFF. 200:FFFFFFFFFFTFFFFFFFFFFF.",
+    ),
+    (
+        "a jump stands between two chains",
+        "10..20 0005000000000000 20..32 12..13",
+        "27:FFFFFFFFFFFFFFFFFTFFFFF. 12:FFTFFFFFFFFFFFFFFFFFFFT.",
+    ),
+    (
+        "chains are short",
+        "10..13 0005000000000000 15..18",
+        "10:TFFFFF. 12:FFTFFF. 15:FFFTFF. 17:FFFFFT.",
+    ),
+    (
+        "a word has one number once a test told it",
+        "001500140000000f 10..20 15..16 20..29",
+        "word:F.TFFFFFTFFFFTFFFFFFFFF.",
+    ),
+];
 
 #[test]
-fn another_test_stands_between_two_chains(rt: HostRuntime) -> Result<(), Fail> {
-    let alloc = rt.alloc();
-    for (number, name) in [
-        (25, "FFFFFFFFFFFFFFFFTFFFFF."),
-        (12, "FFTFFFFFFFFFFFFFFFFFFF."),
-        (200, "FFFFFFFFFFTFFFFFFFFFFF."),
-    ] {
-        let mut code = load_number(alloc, number)?;
-        ask(&mut code, 10, 20)?;
-        code.push(raw(0x25, 0, 0, 100))?;
-        ask(&mut code, 20, 31)?;
-        assert_eq!(rt; names(alloc, code)?.as_str(), name);
+fn a_number_stands_in_chains(rt: HostRuntime) -> Result<(), Fail> {
+    for (what, parts, cases) in CHAINS {
+        assert_eq!(rt; wrong_names(rt.alloc(), parts, cases)?, None, "{what}");
     }
-    Ok(())
-}
-
-#[test]
-fn a_jump_stands_between_two_chains(rt: HostRuntime) -> Result<(), Fail> {
-    let alloc = rt.alloc();
-    for (number, name) in [
-        (27, "FFFFFFFFFFFFFFFFFTFFFFF."),
-        (12, "FFTFFFFFFFFFFFFFFFFFFFT."),
-    ] {
-        let mut code = load_number(alloc, number)?;
-        ask(&mut code, 10, 20)?;
-        code.push(op(0x05, 0))?;
-        ask(&mut code, 20, 32)?;
-        ask(&mut code, 12, 13)?;
-        assert_eq!(rt; names(alloc, code)?.as_str(), name);
-    }
-    Ok(())
-}
-
-#[test]
-fn chains_are_short(rt: HostRuntime) -> Result<(), Fail> {
-    let alloc = rt.alloc();
-    for (number, name) in [
-        (10, "TFFFFF."),
-        (12, "FFTFFF."),
-        (15, "FFFTFF."),
-        (17, "FFFFFT."),
-    ] {
-        let mut code = load_number(alloc, number)?;
-        ask(&mut code, 10, 13)?;
-        code.push(op(0x05, 0))?;
-        ask(&mut code, 15, 18)?;
-        assert_eq!(rt; names(alloc, code)?.as_str(), name);
-    }
-    Ok(())
-}
-
-#[test]
-fn a_word_has_one_number_once_a_test_told_it(rt: HostRuntime) -> Result<(), Fail> {
-    let alloc = rt.alloc();
-    let mut code = Vec::new(alloc);
-    code.push(op(0x20, 0))?;
-    code.push(raw(0x15, 0, 20, 15))?;
-    ask(&mut code, 10, 20)?;
-    ask(&mut code, 15, 16)?;
-    ask(&mut code, 20, 29)?;
-    assert_eq!(rt; names(alloc, code)?.as_str(), "F.TFFFFFTFFFFTFFFFFFFFF.");
     Ok(())
 }

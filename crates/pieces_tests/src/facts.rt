@@ -3,13 +3,15 @@
 ghost use Rattle.std.specs.Prelude.{length, IfOk, All};
 ghost use Rattle.sf_sym.specs.Pool.{IsCondBelow};
 
+use crate::exploring::explore_stack;
 use samples::{
     any_bit, eight_divided, execve_refused, four_tests, low_bits, nested_tests, stack_of,
     x32_refused,
 };
 use sf_check::Stack;
 use sf_dom::Facts;
-use sf_piece::{Piece, Step, advance, root};
+use sf_insn::RawInsn;
+use sf_piece::Piece;
 use sf_sym::{Cond, NodeId};
 use std::alloc::Global;
 use std::sync::Arc;
@@ -35,22 +37,13 @@ fn carries_its_facts(alloc: Global, piece: &Piece) -> Result<bool, Fail> {
     }
 }
 
-/// How many pieces of the stack carry other facts than those that are made of their conditions.
-fn strays(alloc: Global, stack: &Arc<Stack>) -> Result<u64, Fail> {
+/// How many pieces of the stack of these filters carry other facts than those that are made of their conditions.
+fn strays(alloc: Global, filters: &[&[RawInsn]]) -> Result<u64, Fail> {
+    let stack = stack_of(alloc, filters)?;
     let mut strays = 0u64;
-    let mut open: Vec<Arc<Piece>> = Vec::new(alloc);
-    open.push(root(alloc, stack)?)?;
-    for _ in 0..1000 {
-        let Some(piece) = open.pop() else {
-            break;
-        };
-        if !carries_its_facts(alloc, &piece)? {
+    for piece in &explore_stack(alloc, &stack)?.pieces {
+        if !carries_its_facts(alloc, piece)? {
             strays = strays.wrapping_add(1);
-        }
-        let (_piece, step, _longer) = advance(alloc, &piece)?.into_parts();
-        if let Step::Split(on_false, on_true) = step {
-            open.push(on_true)?;
-            open.push(on_false)?;
         }
     }
     Ok(strays)
@@ -59,14 +52,13 @@ fn strays(alloc: Global, stack: &Arc<Stack>) -> Result<u64, Fail> {
 #[test]
 fn carried_facts_are_those_built_afresh(rt: HostRuntime) -> Result<(), Fail> {
     let alloc = rt.alloc();
-    let both = stack_of(alloc, &[&execve_refused(), &x32_refused()])?;
-    assert_eq!(rt; strays(alloc, &both)?, 0);
-    let divided = stack_of(alloc, &[&eight_divided()])?;
-    assert_eq!(rt; strays(alloc, &divided)?, 0);
-    assert_eq!(rt; strays(alloc, &stack_of(alloc, &[&nested_tests()])?)?, 0);
-    assert_eq!(rt; strays(alloc, &stack_of(alloc, &[&four_tests()])?)?, 0);
-    assert_eq!(rt; strays(alloc, &stack_of(alloc, &[&low_bits(3)])?)?, 0);
-    assert_eq!(rt; strays(alloc, &stack_of(alloc, &[&any_bit(5)])?)?, 0);
+    let login = strays(alloc, &[&execve_refused(), &x32_refused()])?;
+    let divided = strays(alloc, &[&eight_divided()])?;
+    let nested = strays(alloc, &[&nested_tests()])?;
+    let four = strays(alloc, &[&four_tests()])?;
+    let low = strays(alloc, &[&low_bits(3)])?;
+    let any = strays(alloc, &[&any_bit(5)])?;
+    assert_eq!(rt; [login, divided, nested, four, low, any], [0; 6]);
     Ok(())
 }
 
@@ -93,18 +85,8 @@ fn write_known(text: &mut String, piece: &Piece) -> Result<(), Fail> {
 /// What is known in each piece of the stack, in the order of names.
 fn known_of_all(alloc: Global, stack: &Arc<Stack>) -> Result<String, Fail> {
     let mut text = String::new(alloc);
-    let mut open: Vec<Arc<Piece>> = Vec::new(alloc);
-    open.push(root(alloc, stack)?)?;
-    for _ in 0..1000 {
-        let Some(piece) = open.pop() else {
-            break;
-        };
-        write_known(&mut text, &piece)?;
-        let (_piece, step, _longer) = advance(alloc, &piece)?.into_parts();
-        if let Step::Split(on_false, on_true) = step {
-            open.push(on_true)?;
-            open.push(on_false)?;
-        }
+    for piece in &explore_stack(alloc, stack)?.pieces {
+        write_known(&mut text, piece)?;
     }
     Ok(text)
 }

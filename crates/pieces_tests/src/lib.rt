@@ -6,6 +6,8 @@ mod books;
 #[cfg(test)]
 mod chains;
 #[cfg(test)]
+mod exploring;
+#[cfg(test)]
 mod facts;
 #[cfg(test)]
 mod names;
@@ -13,3 +15,5 @@ mod names;
 mod questions;
 #[cfg(test)]
 mod regions;
+#[cfg(test)]
+mod scripts;

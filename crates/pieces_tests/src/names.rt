@@ -1,8 +1,8 @@
 //! Names with a long run of falses, and with more runs than two shared blocks hold.
+use crate::scripts::work_off;
 use samples::{ALLOW, equality_tests, op, stack_of};
 use sf_book::{Book, Settled};
 use sf_insn::RawInsn;
-use sf_piece::advance;
 use std::alloc::Global;
 use std::sync::Arc;
 use std::test::Fail;
@@ -23,18 +23,10 @@ fn falling(alloc: Global) -> Result<Vec<RawInsn>, Fail> {
 }
 
 /// The regions of a filter.
-fn explore_stack(alloc: Global, filter: &[RawInsn]) -> Result<Settled, Fail> {
+fn explored(alloc: Global, filter: &[RawInsn]) -> Result<Settled, Fail> {
     let stack = stack_of(alloc, &[filter])?;
     let mut book = Book::open(alloc, Arc::try_clone(&stack)?, 1000)?;
-    for _ in 0..1000 {
-        let Some(lease) = book.lease()? else {
-            break;
-        };
-        if let Some((f, t)) = book.commit(lease.id, advance(alloc, &lease.piece)?)? {
-            book.give_back(f);
-            book.give_back(t);
-        }
-    }
+    work_off(alloc, &mut book)?;
     Ok(book.finish(&stack)?)
 }
 
@@ -57,20 +49,22 @@ fn in_order(alloc: Global, settled: &Settled, length: usize) -> Result<u32, Fail
     Ok(count)
 }
 
+/// How many regions a filter has, and how many of their names have 70 truth values and are before the next one.
+fn count_names(alloc: Global, filter: &[RawInsn]) -> Result<(usize, u32), Fail> {
+    let settled = explored(alloc, filter)?;
+    Ok((settled.region_count(), in_order(alloc, &settled, 70)?))
+}
+
 #[test]
 fn names_with_a_long_run_are_in_order(rt: HostRuntime) -> Result<(), Fail> {
-    let alloc = rt.alloc();
-    let settled = explore_stack(alloc, &equality_tests(alloc, TESTS)?)?;
-    assert_eq!(rt; settled.region_count(), 71);
-    assert_eq!(rt; in_order(alloc, &settled, 70)?, 70);
+    let filter = equality_tests(rt.alloc(), TESTS)?;
+    assert_eq!(rt; count_names(rt.alloc(), &filter)?, (71, 70));
     Ok(())
 }
 
 #[test]
 fn names_with_many_runs_are_in_order(rt: HostRuntime) -> Result<(), Fail> {
-    let alloc = rt.alloc();
-    let settled = explore_stack(alloc, &falling(alloc)?)?;
-    assert_eq!(rt; settled.region_count(), 71);
-    assert_eq!(rt; in_order(alloc, &settled, 70)?, 70);
+    let filter = falling(rt.alloc())?;
+    assert_eq!(rt; count_names(rt.alloc(), &filter)?, (71, 70));
     Ok(())
 }

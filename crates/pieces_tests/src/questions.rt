@@ -3,27 +3,33 @@
 use samples::other_text;
 use sf_ask::{ActionSet, Fault, Question};
 use sf_run::Action;
+use std::alloc::Global;
 use std::test::Fail;
 
-/// Any number in each word.
-const ANY: [(u32, u32); 16] = [(0, u32::MAX); 16];
-
-#[test]
-fn keeps_what_it_was_given(rt: HostRuntime) -> Result<(), Fail> {
-    let mut ranges = ANY;
+/// Which calls of x86-64 in the x32 range are let through.
+fn x32_question(alloc: Global) -> Result<Question, Fault> {
+    let mut ranges = [(0, u32::MAX); 16];
     ranges[1] = (0xc000003e, 0xc000003e);
     let mut masks = [(0, 0); 16];
     masks[0] = (0x40000000, 0x40000000);
-    let question = Question::of_masked(rt.alloc(), "x32", ranges, masks, ActionSet::LET_THROUGH)?;
-    assert!(rt; question.name() == "x32");
-    assert!(rt; question.range(0) == (0, u32::MAX));
-    assert!(rt; question.range(1) == (0xc000003e, 0xc000003e));
-    assert!(rt; question.mask(0) == (0x40000000, 0x40000000));
-    assert!(rt; question.mask(1) == (0, 0));
-    assert!(rt; question.actions().has(Action::Log));
-    assert!(rt; question.actions().has(Action::Allow));
-    assert!(rt; !question.actions().has(Action::Errno));
-    assert!(rt; !question.actions().has(Action::Other(0x00010000)));
+    Question::of_masked(alloc, "x32", ranges, masks, ActionSet::LET_THROUGH)
+}
+
+#[test]
+fn keeps_what_it_was_given(rt: HostRuntime) -> Result<(), Fail> {
+    let asked = x32_question(rt.alloc())?;
+    assert_eq!(rt; asked.name(), "x32");
+    assert_eq!(rt;
+        (asked.range(0), asked.range(1)),
+        ((0, u32::MAX), (0xc000003e, 0xc000003e))
+    );
+    assert_eq!(rt;
+        (asked.mask(0), asked.mask(1)),
+        ((0x40000000, 0x40000000), (0, 0))
+    );
+    let actions = asked.actions();
+    assert!(rt; actions.has(Action::Log) && actions.has(Action::Allow));
+    assert!(rt; !actions.has(Action::Errno) && !actions.has(Action::Other(0x00010000)));
     Ok(())
 }
 
