@@ -1,15 +1,16 @@
 -- What a sketch shows stays as it grows.
-use Rattle.std.proofs.Common.{◌≡◌, ℕ, zero, suc, ◌<◌, ◌≤◌, List, [], ◌∷◌, ◌++◌, length, Option, Some, None, refl, sym, ap, subst, ◌∙◌, inl, inr, arith, get_or, length-append, append-nil, append_assoc}
-use Rattle.std.specs.Prelude.{slice_index_or}
+use Rattle.std.proofs.Common.{◌≡◌, ◌≢◌, ℕ, zero, suc, ◌<◌, ◌≤◌, List, [], ◌∷◌, ◌++◌, length, Option, Some, None, refl, sym, ap, subst, ◌∙◌, inl, inr, arith, get_or, length-append, append-nil, append_assoc}
+use Rattle.std.specs.Prelude.{slice_index_or, All}
 use Rattle.std.proofs.lemmas.Bool.{cases_lt}
 use Rattle.std.proofs.lemmas.List.{get_or_append_left}
+use Rattle.std.proofs.lemmas.List.Quantifiers.{all_pairs_push}
 use Rattle.sf_insn.specs.declared.input.Input.{Input}
 use Rattle.sf_picture.specs.declared.axis.Axis.{Axis}
 use Rattle.sf_picture.specs.declared.picture.Branch.{Branch}
 use Rattle.sf_picture.specs.declared.picture.Branch.TheVariants.{Leaf, Fork}
 use Rattle.sf_picture.specs.declared.picture.Run.{Run}
 use Rattle.sf_picture.specs.PictureData.{ForkData}
-use Rattle.sf_picture.specs.Pictures.{number_on, next_of, fork_at, labels_along, LeadBelow, IsBelow, AreRightForks, IsRightFork}
+use Rattle.sf_picture.specs.Pictures.{number_on, next_of, fork_at, labels_along, LeadBelow, IsBelow, AreEachOnce, AreRightForks, IsRightFork}
 use Rattle.sf_picture.specs.Drawing.{SketchData, Grows, shown_at, IsForkOf, LeadsAs, ClosesRuns, IsRightSketch}
 use Rattle.sf_picture.specs.PictureLaws.{lead-next, next-here, next-later}
 
@@ -176,3 +177,9 @@ fork-leads s axis leaves forks old new (Fork i) right closes is = record {
   below = is.0;
   shows = λ d c found. fork-shown s axis new i d c right is.0 is.1 (closes.keeps (number_on axis d) c found);
 }
+
+-- a list to which a new element was added has each of its elements once
+pub once-more : {X : Type 0} (xs ys : List X) (x : X) → ys ≡ xs ++ x ∷ [] → AreEachOnce xs → All (λ y. y ≢ x) xs
+    → AreEachOnce ys
+once-more {X = X} xs ys x e once none = subst (λ (l : List X). AreEachOnce l) (sym e)
+    (all_pairs_push (λ (a b : X). a ≢ b) xs x once none)

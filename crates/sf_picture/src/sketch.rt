@@ -1,6 +1,6 @@
 //! Pictures while they are drawn: leaves and forks, each once.
 
-ghost use Rattle.std.specs.Prelude.{◌≡◌, ◌<◌, ◌≤◌, ℕ, true, IfOk, IfErr, OnErr, All, length, IsTrue, ◌↔◌, IfSome, slice_index_or, []};
+ghost use Rattle.std.specs.Prelude.{◌≡◌, ◌≢◌, ◌<◌, ◌≤◌, ℕ, true, IfOk, IfErr, OnErr, All, length, IsTrue, ◌↔◌, IfNone, IfSome, slice_index_or, []};
 ghost use Rattle.sf_picture.specs.declared.fault.Fault.TheVariants.{Memory};
 
 use crate::axis::Axis;
@@ -23,7 +23,7 @@ pub(crate) struct Sketch {
 impl Model for Sketch {
     ghost use Rattle.std.specs.Prelude.{length};
     ghost use Rattle.sf_picture.specs.Drawing.{SketchData};
-    ghost use Rattle.sf_picture.specs.Pictures.{AreRightForks};
+    ghost use Rattle.sf_picture.specs.Pictures.{AreEachOnce, AreRightForks};
 
     ghost Value = { SketchData };
 
@@ -33,7 +33,8 @@ impl Model for Sketch {
       spent = s.spent;
     } };
 
-    ghost invariant = { λ s. AreRightForks (length s.leaves.items) s.forks.items };
+    ghost invariant = { λ s. AreRightForks (length s.leaves.items) s.forks.items
+        × AreEachOnce s.leaves.items × AreEachOnce s.forks.items };
 }
 
 /// Whether two lists of labels are the same.
@@ -98,8 +99,9 @@ impl Sketch {
 
     /// The place of an equal leaf.
     fn find_leaf(&self, labels: &[usize]) -> Option<usize>
-        ensures { IfSome result (λ i. (i < length self.now.leaves)
+        ensures some { IfSome result (λ i. (i < length self.now.leaves)
             × (slice_index_or self.now.leaves i [] ≡ labels.now)) }
+        ensures none { IfNone result (All (λ l. l ≢ labels.now) self.now.leaves) }
     {
         for (i, leaf) in self.leaves.iter().enumerate() {
             if are_same_labels(leaf.numbers.as_slice(), labels) {
@@ -129,8 +131,10 @@ impl Sketch {
 
     /// The place of an equal fork.
     fn find_fork(&self, axis: Axis, runs: &[Run]) -> Option<usize>
-        ensures { IfSome result (λ i. (i < length self.now.forks)
+        ensures some { IfSome result (λ i. (i < length self.now.forks)
             × (fork_at self.now.forks i ≡ record { axis = axis; runs = runs.now })) }
+        ensures none { IfNone result (All (λ f. f ≢ record { axis = axis; runs = runs.now })
+            self.now.forks) }
     {
         for (i, fork) in self.forks.iter().enumerate() {
             if fork.axis() == axis && are_same_runs(fork.runs(), runs) {
