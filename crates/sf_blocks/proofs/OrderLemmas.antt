@@ -1,4 +1,5 @@
 -- How two lists in full blocks compare, block by block.
+use Rattle.std.proofs.lemmas.Grind.{common_steps}
 use Rattle.std.proofs.Common.{◌≡◌, ℕ, zero, suc, ◌+◌, ◌*◌, ◌<◌, ◌≤◌, ◌⊎◌, inl, inr, List, [], ◌∷◌, ◌++◌, length, get_or, refl, sym, ap, ◌∙◌, arith, length-append, length-drop, append_assoc, drop, min, false, true}
 use Rattle.std.specs.declared.cmp.Ordering.{Ordering}
 use Rattle.std.specs.declared.cmp.Ordering.TheVariants.{Less, Equal, Greater}
@@ -122,8 +123,7 @@ from bs tail k = joined_blocks (drop k bs) ++ tail
 
 pub from-next : {T : Type 0} (bs : List (List T)) (tail : List T) (k : ℕ) (e : List T) → k < length bs
     → from bs tail k ≡ get_or bs k e ++ from bs tail (k + 1)
-from-next bs tail k e h =
-    rw (drop_more bs k e h) (append_assoc (get_or bs k e) (joined_blocks (drop (k + 1) bs)) tail)
+from-next bs tail k e h = grind (arith, common_steps, drop_more, append_assoc)
 
 -- how long the elements from a block on are
 pub length-from : {T : Type 0} (bs : List (List T)) (tail : List T) (k : ℕ) → AllFull bs → k ≤ length bs

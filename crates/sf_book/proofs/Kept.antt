@@ -1,8 +1,9 @@
 -- What a book keeps through its calls.
+use Rattle.std.proofs.lemmas.Grind.{common_steps}
 use Rattle.std.proofs.Common.{◌≡◌, ℕ, zero, suc, ◌⊎◌, inl, inr, ⊎_elim, cond, length-append, ◌+◌, ◌==◌, ◌<◌, ◌≤◌, Bool, true, false, List, [], ◌∷◌, ◌++◌, length, map, get_or, refl, sym, ◌∙◌, ap, subst, arith, append_assoc, Option, Some}
 use Rattle.std.specs.List.{All, remove, HoldsAt, sum_by}
 use Rattle.std.proofs.lemmas.List.Sums.{sum_by-remove, sum_by-cons}
-use Rattle.std.proofs.lemmas.List.Elements.{All-push, All-map, All-filter, All-cons, All-nil}
+use Rattle.std.proofs.lemmas.List.Elements.{All-push, All-map, All-filter}
 use Rattle.std.proofs.lemmas.Bool.Decides.{nat_tests}
 use Rattle.std.proofs.lemmas.List.{get_or_default}
 use Rattle.sf_run.specs.declared.action.Answer.{Answer}
@@ -64,20 +65,12 @@ below_less b i next e h l = rw (remove_without b.outstanding i e h.lawful.ids l)
 pub kept_answer : (b : BookData) (p : PieceData) (n : List Bool) (a : Answer) (i next : ℕ) (e : OutstandingData)
     → IsKept b next → IsReplaced b p i e → IsRightAnswer p n a
     → IsKept (after_answer b (remove b.outstanding i) (record { piece = p; name = n; answer = a })) next
-kept_answer b p n a i next e h r s =
-    let few = h.few in
-    record {
-      lawful = answer_lawful b p n a i e h.lawful r s;
-      below = below_less b i next e h r.there;
-      few = omega arith;
-    }
+kept_answer b p n a i next e h r s = search (arith, answer_lawful, below_less)
 
 pub kept_empty : (b : BookData) (p : PieceData) (i next : ℕ) (e : OutstandingData) → IsKept b next
     → IsReplaced b p i e → HasNoMember p
     → IsKept (after_empty b (remove b.outstanding i) p.name) next
-kept_empty b p i next e h r s =
-    let few = h.few in
-    record { lawful = empty_lawful b p i e h.lawful r s; below = below_less b i next e h r.there; few = omega arith }
+kept_empty b p i next e h r s = search (arith, empty_lawful, below_less)
 
 two_places : (m : OutstandingData → ℕ) (es : List OutstandingData) (i j : ℕ) (d e : OutstandingData)
     → i < length es → j < length es
@@ -103,9 +96,7 @@ no_child : (b : BookData) (p : PieceData) (i : ℕ) (d : OutstandingData) (n : L
     → is_prefix p.name n ≡ true → (p.name ≡ n → ⊥) → All (λ e. e.piece.name ≡ n → ⊥) b.outstanding
 no_child b p i d n h l is begins other = λ j e lj same.
     let m : OutstandingData → ℕ = λ x. hits x.piece.name n in
-    let apart : i ≡ j → ⊥ =
-    λ k. other (sym is ∙ (ap (λ (x : OutstandingData). x.piece.name) (get_or_default b.outstanding i d e l)
-    ∙ (ap (λ k. (get_or b.outstanding k e).piece.name) k ∙ same))) in
+    let apart : i ≡ j → ⊥ = search (arith, get_or_default) in
     let two : m (get_or b.outstanding i d) + m (get_or b.outstanding j e) ≤ sum_by m b.outstanding =
     two_places m b.outstanding i j d e l lj apart in
     let first : m (get_or b.outstanding i d) ≡ 1 = ap (λ k. hits k n) is ∙ ap bit begins in
@@ -114,10 +105,7 @@ no_child b p i d n h l is begins other = λ j e lj same.
     absurd (omega arith)
 
 longer : (xs on : List Bool) (b : Bool) → xs ≡ xs ++ on ++ b ∷ [] → ⊥
-longer xs on b h =
-    let len = ap length h in
-    let one : length (xs ++ on ++ b ∷ []) ≡ length xs + length on + 1 = rw (length-append, length-append) refl in
-    absurd (omega arith)
+longer xs on b h = grind (arith, common_steps, length-append)
 
 -- the children's names are new
 pub new_names : (b : BookData) (p f t : PieceData) (i : ℕ) (d : OutstandingData) → IsLawfulBook b
@@ -150,17 +138,7 @@ find_place (e ∷ es) id x h =
 
 -- the place of a piece that may be committed
 pub may_place : (b : BookData) (id : ℕ) (w : WorkData) → MayCommit b id w → (i : ℕ) × IsPlace b.outstanding id w i
-may_place b id w m =
-    let r = find_place b.outstanding id m.under_id m.there in
-    let at : (d : OutstandingData) → get_or b.outstanding r.0 d ≡ m.under_id =
-    λ d. get_or_default b.outstanding r.0 d m.under_id r.1 ∙ r.2 in (
-      r.0,
-      record {
-        there = r.1;
-        has_id = λ d. ap (λ (e : OutstandingData). e.id) (at d) ∙ r.3;
-        has_name = λ d. ap (λ (e : OutstandingData). e.piece.name) (at d) ∙ sym m.same_name;
-      },
-    )
+may_place b id w m = grind (arith, common_steps, find_place, get_or_default)
 
 -- the id of an outstanding piece is below the next one
 pub low_id : (b : BookData) (next id : ℕ) (w : WorkData) → IsKept b next → MayCommit b id w → id < next
@@ -178,8 +156,7 @@ replaced b id w i d p s r n = record { there = p.there; of = s; named = n; same_
 -- the pieces that are left, by place and by id
 pub left_over : (b : BookData) (id : ℕ) (w : WorkData) (i : ℕ) (d : OutstandingData) → IsLawfulBook b
     → IsPlace b.outstanding id w i → remove b.outstanding i ≡ without id b.outstanding
-left_over b id w i d h p = subst (λ (k : ℕ). remove b.outstanding i ≡ without k b.outstanding) (p.has_id d)
-    (remove_without b.outstanding i d h.ids p.there)
+left_over b id w i d h p = search (arith, remove_without)
 
 -- ---- what a commit leaves, where it may
 
@@ -217,12 +194,7 @@ child_names b id w f t h m right =
 
 pub kept_fresh : (stack : List (List Insn)) (r : PieceData) (budget : ℕ) → IsLawfulStack stack → IsRoot stack r
     → IsKept (fresh stack r budget) 1
-kept_fresh stack r budget lawful h = record {
-  lawful = fresh_lawful stack r budget lawful h;
-  below = All-cons (λ e. e.id < 1) (record { id = 0; piece = r; leased = false }) [] (omega arith)
-      (All-nil (λ e. e.id < 1));
-  few = omega arith;
-}
+kept_fresh stack r budget lawful h = grind (arith, common_steps, fresh_lawful)
 
 -- refused memory is a right reason to refuse what may be committed
 pub memory_refuses : {A : Type 0} (r : Result A Fault) (b c : BookData) (id : ℕ) (w : WorkData) → MayCommit b id w

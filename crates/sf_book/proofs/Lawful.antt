@@ -1,9 +1,10 @@
 -- A change of a lawful book leaves a lawful book.
-use Rattle.std.proofs.Common.{◌≡◌, ℕ, ◌+◌, ◌<◌, ◌≤◌, Bool, true, false, List, [], ◌∷◌, ◌++◌, length, map, get_or, refl, sym, ◌∙◌, ap, arith, length-append}
+use Rattle.std.proofs.lemmas.Grind.{common_steps}
+use Rattle.std.proofs.Common.{◌≡◌, ℕ, ◌+◌, ◌<◌, ◌≤◌, Bool, true, List, [], ◌∷◌, ◌++◌, length, map, get_or, refl, ◌∙◌, ap, arith, length-append}
 use Rattle.std.proofs.lemmas.List.{length-map}
 use Rattle.std.specs.List.{All, remove, sum_by}
 use Rattle.std.proofs.lemmas.List.Edits.{length-remove}
-use Rattle.std.proofs.lemmas.List.Elements.{All-push, All-filter, All-map, All-get_or, All-cons, All-nil}
+use Rattle.std.proofs.lemmas.List.Elements.{All-push, All-filter, All-map}
 use Rattle.std.proofs.lemmas.List.Sums.{sum_by_push, sum_by-remove}
 use Rattle.std.specs.List.Sorted.{IsPermutation}
 use Rattle.std.proofs.lemmas.List.Sorted.{sum_by-IsPermutation, All-permutation, length_permutation}
@@ -12,8 +13,7 @@ use Rattle.sf_insn.specs.Inputs.{IsInput}
 use Rattle.sf_check.specs.declared.insn.Insn.{Insn}
 use Rattle.sf_check.specs.Stacks.{IsLawfulStack}
 use Rattle.sf_run.specs.declared.action.Answer.{Answer}
-use Rattle.sf_run.specs.Machine.{trace_of}
-use Rattle.sf_piece.specs.Pieces.{PieceData, is_member, is_prefix, IsTrulyNamed, IsRightSplit, IsRightAnswer, HasNoMember, IsRoot}
+use Rattle.sf_piece.specs.Pieces.{PieceData, is_member, IsTrulyNamed, IsRightSplit, IsRightAnswer, HasNoMember, IsRoot}
 use Rattle.sf_book.specs.Books.{OutstandingData, RegionData, BookData, IsOutstanding, IsRightRegion, IsNoBeginning, HasRisingIds, IsLawfulBook, fresh}
 use Rattle.sf_book.specs.PrefixCounts.{bit, hits}
 use Rattle.sf_book.proofs.Names.{split_members, split_names, same_members, answer_members, answer_begins, hits-le}
@@ -31,9 +31,7 @@ pub record IsReplaced (b : BookData) (p : PieceData) (i : ℕ) (d : OutstandingD
 same_there : (b : BookData) (p : PieceData) (i : ℕ) (e : OutstandingData) → IsLawfulBook b
     → IsReplaced b p i e → (d : Input)
     → IsInput d → is_member (get_or b.outstanding i e).piece d ≡ is_member p d
-same_there b p i e h r d n =
-    let o = All-get_or (IsOutstanding b.stack) b.outstanding i e r.there h.outstanding in
-    same_members (get_or b.outstanding i e).piece p o.named r.named (o.of ∙ sym r.of) r.same_name d n
+same_there b p i e h r d n = search (arith, same_members)
 
 all_without : (b : BookData) (i : ℕ) (e : OutstandingData) → IsLawfulBook b → i < length b.outstanding
     → All (IsOutstanding b.stack) (remove b.outstanding i)
@@ -53,22 +51,12 @@ below_without b i k e h l a = rw (remove_without b.outstanding i e h.ids l)
 members_left : (b : BookData) (p : PieceData) (i : ℕ) (e : OutstandingData) → IsLawfulBook b → IsReplaced b p i e
     → (d : Input) → IsInput d → sum_by (λ x. bit (is_member x.piece d)) (remove b.outstanding i) + bit (is_member p d)
     ≡ sum_by (λ x. bit (is_member x.piece d)) b.outstanding
-members_left b p i e h r d n =
-    let m : OutstandingData → ℕ = λ x. bit (is_member x.piece d) in
-    let out : sum_by m (remove b.outstanding i) + m (get_or b.outstanding i e) ≡ sum_by m b.outstanding =
-    sum_by-remove m b.outstanding i e r.there in
-    let same : m (get_or b.outstanding i e) ≡ bit (is_member p d) = ap bit (same_there b p i e h r d n) in
-    omega arith
+members_left b p i e h r d n = grind (arith, common_steps, sum_by-remove, same_there)
 
 names_left : (b : BookData) (p : PieceData) (i : ℕ) (e : OutstandingData) → IsReplaced b p i e → (l : List Bool)
     → sum_by (λ x. hits x.piece.name l) (remove b.outstanding i) + hits p.name l
     ≡ sum_by (λ x. hits x.piece.name l) b.outstanding
-names_left b p i e r l =
-    let m : OutstandingData → ℕ = λ x. hits x.piece.name l in
-    let out : sum_by m (remove b.outstanding i) + m (get_or b.outstanding i e) ≡ sum_by m b.outstanding =
-    sum_by-remove m b.outstanding i e r.there in
-    let same : m (get_or b.outstanding i e) ≡ hits p.name l = ap (λ n. hits n l) r.same_name in
-    omega arith
+names_left b p i e r l = grind (arith, common_steps, sum_by-remove)
 
 abbrev pub leased_piece : ℕ → PieceData → OutstandingData
 leased_piece k p = record { id = k; piece = p; leased = true }
@@ -174,11 +162,7 @@ pub empty_lawful : (b : BookData) (p : PieceData) (i : ℕ) (e : OutstandingData
     → IsLawfulBook (after_empty b (remove b.outstanding i) p.name)
 empty_lawful b p i e h r s =
     let es = remove b.outstanding i in
-    let gone : IsNoBeginning b.stack p.name =
-    record {
-      none = λ d k. ap (λ q. is_prefix p.name (trace_of q d)) (sym r.of)
-          ∙ (sym (r.named.members d k) ∙ s.none d k);
-    } in
+    let gone : IsNoBeginning b.stack p.name = search arith in
     let shorter : length es + 1 ≡ length b.outstanding = length-remove b.outstanding i r.there in
     let longer : length (b.emptied ++ p.name ∷ []) ≡ length b.emptied + 1 = length-append b.emptied (p.name ∷ []) in
     record {
@@ -221,12 +205,7 @@ marks_lawful b g ids pieces h =
             named = rw (pieces (get_or b.outstanding k d)) o.named;
           });
       regions = h.regions;
-      one = λ d n.
-          let m : OutstandingData → ℕ = λ x. bit (is_member x.piece d) in
-          let same : sum_by m (map g b.outstanding) ≡ sum_by m b.outstanding =
-          sum_by-map_same m g (λ e. ap (λ p. bit (is_member p d)) (pieces e)) b.outstanding in
-          let before = h.one d n in
-          omega arith;
+      one = search (arith, sum_by-map_same);
       emptied = h.emptied;
       apart = λ l.
           let m : OutstandingData → ℕ = λ x. hits x.piece.name l in
@@ -242,22 +221,7 @@ marks_lawful b g ids pieces h =
 
 pub fresh_lawful : (stack : List (List Insn)) (r : PieceData) (budget : ℕ) → IsLawfulStack stack → IsRoot stack r
     → IsLawfulBook (fresh stack r budget)
-fresh_lawful stack r budget lawful h =
-    let O : IsOutstanding stack (record { id = 0; piece = r; leased = false }) =
-    record { of = h.of; named = h.named } in
-    record {
-      stack = lawful;
-      outstanding = All-cons (IsOutstanding stack) (record { id = 0; piece = r; leased = false }) [] O
-          (All-nil (IsOutstanding stack));
-      regions = All-nil (IsRightRegion stack);
-      one = λ d n. rw (h.all d n) refl;
-      emptied = All-nil (IsNoBeginning stack);
-      apart = λ l. rw (h.name) (omega arith);
-      pieces = refl;
-      committed = refl;
-      within = omega arith;
-      ids = (tt, tt);
-    }
+fresh_lawful stack r budget lawful h = grind (arith, common_steps)
 
 -- a book stays lawful with its regions in another order
 pub permuted_lawful : (b : BookData) (rs : List RegionData) → IsPermutation b.regions rs → IsLawfulBook b
@@ -268,11 +232,7 @@ permuted_lawful b rs p h =
       stack = h.stack;
       outstanding = h.outstanding;
       regions = All-permutation (IsRightRegion b.stack) b.regions rs p h.regions;
-      one = λ d n.
-          let g : RegionData → ℕ = λ x. bit (is_member x.piece d) in
-          let same : sum_by g rs ≡ sum_by g b.regions = sum_by-IsPermutation g b.regions rs p in
-          let before = h.one d n in
-          omega arith;
+      one = search (arith, sum_by-IsPermutation);
       emptied = h.emptied;
       apart = λ l.
           let g : RegionData → ℕ = λ x. hits x.name l in

@@ -1,4 +1,5 @@
 -- The outstanding pieces that two maps stand for.
+use Rattle.std.proofs.lemmas.Grind.{common_steps}
 use Rattle.std.proofs.Common.{◌≡◌, ℕ, ◌==◌, Bool, true, false, cond, List, [], ◌∷◌, map, get_or, Option, None, Some, refl, sym, ◌∙◌, ap, subst, arith, ◌⊎◌, inl, inr, ⊎_elim}
 use Rattle.std.specs.List.{All}
 use Rattle.std.specs.List.Sorted.{IsStrictlySortedBy}
@@ -91,16 +92,7 @@ pub test_of : (ids : Ids) (names : Names) (i j : ℕ) (p q : PieceData) → AreM
     → piece_at ids i ≡ Some p
     → piece_at ids j ≡ Some q → is_at (name_cmp p) q ≡ (j == i)
 test_of ids names i j p q h at_i at_j =
-    same_bool (is_at (name_cmp p) q) (j == i)
-    (λ t.
-    let m = h.named i p at_i in
-    let n = h.named j q at_j in
-    let same : m.0 ≡ n.0 = some_inj m.0 n.0 (sym m.1 ∙ (mark_by_name names p q (same_name p q t) ∙ n.1)) in
-    num_yes j i (sym n.2 ∙ (ap (λ x. x.id) (sym same) ∙ m.2)))
-    (λ t.
-    let e : j ≡ i = num_same j i t in
-    let same : q ≡ p = some_inj q p (sym at_j ∙ (ap (λ k. piece_at ids k) e ∙ at_i)) in
-    name_yes p q (ap (λ x. x.name) (sym same)))
+    grind (arith, common_steps, same_bool, some_inj, mark_by_name, same_name, num_yes, num_same, name_yes)
 
 -- ---- lists
 
@@ -179,8 +171,7 @@ leased_maps ids names i p m on h at is =
     let w : LeaseState = record { id = m.id; leased = on } in
     record {
       rising = h.rising;
-      sorted = subst (λ ks. IsStrictlySortedBy name_cmp ks)
-          (sym (keys-set_value (is_at (name_cmp p)) names w)) h.sorted;
+      sorted = search (arith, keys-set_value);
       named = λ j q at_j.
           let n = h.named j q at_j in
           rw (marked_mark names p q m on is) (marked_named (is_at (name_cmp p) q) w m n.0
@@ -219,10 +210,7 @@ recalled_maps ids names h = record {
   rising = h.rising;
   sorted = subst (λ ks. IsStrictlySortedBy name_cmp ks) (sym (keys_off names)) h.sorted;
   named = λ j q at. let n = h.named j q at in (off n.0, off_mark names q ∙ ap (option_map off) n.1, n.2);
-  known = λ q n k.
-      let m = from_off (lease_state_of names q) n (sym (off_mark names q) ∙ k) in
-      let r = h.known q m.0 m.1 in
-      (r.0, ap (λ x. piece_at ids x) (sym m.2) ∙ r.1, r.2);
+  known = search (arith, from_off, off_mark);
 }
 
 pub recalled_view : (ids : Ids) (names : Names) → AreMatchingMaps ids names

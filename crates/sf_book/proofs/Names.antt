@@ -1,5 +1,6 @@
 -- Names as beginnings of lists of truth values.
-use Rattle.std.proofs.Common.{◌≡◌, ◌+◌, ◌≤◌, Bool, true, false, not, List, [], ◌∷◌, ◌++◌, refl, sym, ◌∙◌, ap, arith, append_assoc}
+use Rattle.std.proofs.lemmas.Grind.{common_steps}
+use Rattle.std.proofs.Common.{◌≡◌, ◌+◌, ◌≤◌, Bool, true, false, not, List, [], ◌∷◌, ◌++◌, refl, sym, arith, append_assoc}
 use Rattle.sf_insn.specs.declared.input.Input.{Input}
 use Rattle.sf_insn.specs.Inputs.{IsInput}
 use Rattle.sf_run.specs.declared.action.Answer.{Answer}
@@ -51,16 +52,12 @@ longer_misses m n t h = below_none (is_prefix n t) (is_prefix m t) (hits-le m n 
 -- pieces of one stack with one name have the same members
 pub same_members : (p q : PieceData) → IsTrulyNamed p → IsTrulyNamed q → p.stack ≡ q.stack → p.name ≡ q.name
     → (d : Input) → IsInput d → is_member p d ≡ is_member q d
-same_members p q np nq s n d i =
-    np.members d i ∙ (ap (λ k. is_prefix k (trace_of p.stack d)) n
-    ∙ (ap (λ k. is_prefix q.name (trace_of k d)) s ∙ sym (nq.members d i)))
+same_members p q np nq s n d i = grind (arith, common_steps)
 
 -- a piece whose name goes on from another's has none of the inputs that the other hasn't
 longer_has_none : (p f : PieceData) → IsTrulyNamed p → IsTrulyNamed f → f.stack ≡ p.stack
     → is_prefix p.name f.name ≡ true → (d : Input) → IsInput d → is_member p d ≡ false → is_member f d ≡ false
-longer_has_none p f np nf s h d i out =
-    nf.members d i ∙ (ap (λ k. is_prefix f.name (trace_of k d)) s
-    ∙ longer_misses p.name f.name (trace_of p.stack d) h (sym (np.members d i) ∙ out))
+longer_has_none p f np nf s h d i out = grind (arith, common_steps, longer_misses)
 
 shared : (m f t : Bool) → (m ≡ true → t ≡ not f) → (m ≡ false → f ≡ false) → (m ≡ false → t ≡ false)
     → bit f + bit t ≡ bit m
@@ -81,12 +78,7 @@ split_members p f t np s d i =
 -- the children's names take no more room than the piece's
 pub split_names : (p f t : PieceData) → IsRightSplit p f t → (l : List Bool)
     → hits f.name l + hits t.name l ≤ hits p.name l
-split_names p f t s l =
-    let both : hits (p.name ++ s.on ++ false ∷ []) l + hits (p.name ++ s.on ++ true ∷ []) l ≤ hits (p.name ++ s.on) l =
-    hits-children (p.name ++ s.on) l in
-    let under : hits (p.name ++ s.on) l ≤ hits p.name l =
-    hits-le p.name (p.name ++ s.on) l (prefix-append p.name s.on) in
-    rw (s.false_name, s.true_name) (omega arith)
+split_names p f t s l = search (arith, hits-children, hits-le, prefix-append)
 
 settled : (m : Bool) (p e w : List Bool) → m ≡ is_prefix p w → is_prefix p e ≡ true → (m ≡ true → w ≡ e)
     → m ≡ is_prefix e w

@@ -1,5 +1,6 @@
 -- The first free name among those of the outstanding pieces.
-use Rattle.std.proofs.Common.{◌≡◌, ℕ, Bool, true, false, not, cond, [], ◌∷◌, get_or, Option, None, Some, refl, sym, ◌∙◌, ap, subst, ◌⊎◌, inl, inr, ⊎_elim}
+use Rattle.std.proofs.lemmas.Grind.{common_steps}
+use Rattle.std.proofs.Common.{arith, ◌≡◌, ℕ, Bool, true, false, not, cond, [], ◌∷◌, get_or, Option, None, Some, refl, sym, ◌∙◌, ap, subst, ◌⊎◌, inl, inr, ⊎_elim}
 use Rattle.std.specs.List.{All, find}
 use Rattle.std.specs.List.Sorted.{IsStrictlySortedBy}
 use Rattle.std.specs.Option.{option_map, option_map_or}
@@ -64,11 +65,7 @@ found_first e names m s true is h next =
           r.there)
           r.there;
       free = r.free;
-      first = λ q n at f.
-          ⊎_elim
-          (λ (k : e.1 ≡ n). true_false n.leased (ap (λ x. x.leased) (sym k) ∙ is) f)
-          (λ (k : lease_state_of names q ≡ Some n). r.first q n k f)
-          (head_or_later (is_at (name_cmp q) e.0) e.1 n (lease_state_of names q) at);
+      first = search (arith, true_false, head_or_later);
     }
 
 pub find_first : (names : Names) (m : LeaseState) → IsStrictlySortedBy name_cmp (keys_of names)
@@ -151,8 +148,4 @@ first_piece ids names i h is =
 pub leases_entry : (ids : Ids) (names : Names) (i : ℕ) (p : PieceData) → AreMatchingMaps ids names
     → (f : IsFirstPiece ids names i) → f.piece ≡ p
     → LeasesFirst (outstanding_list ids names) i p (outstanding_list ids (marked names f.piece f.state true))
-leases_entry ids names i p h f same = record {
-  there = entry_at_is ids names i ∙ (rw (f.there, f.marked, f.free, same) refl);
-  first = rw (← same) f.first;
-  after = marked_view ids names i f.piece f.state true h f.there f.marked;
-}
+leases_entry ids names i p h f same = grind (arith, common_steps, entry_at_is, marked_view)

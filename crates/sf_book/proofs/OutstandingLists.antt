@@ -1,4 +1,5 @@
 -- One outstanding piece more, and one less.
+use Rattle.std.proofs.lemmas.Grind.{common_steps}
 use Rattle.std.proofs.Common.{◌≡◌, ◌≢◌, ℕ, ◌<◌, ◌==◌, Bool, true, false, not, cond, List, [], ◌∷◌, ◌++◌, map, get_or, Option, None, Some, refl, sym, ◌∙◌, ap, subst, arith, append-nil, ◌⊎◌, inl, inr, ⊎_elim}
 use Rattle.std.specs.List.{All, AllByRecursion, slice_get}
 use Rattle.std.specs.List.Sorted.{IsStrictlySortedBy}
@@ -234,12 +235,7 @@ taken_view ids names i p ids' names' h a is =
 -- an id that no piece has
 none_at : (e : OutstandingData) (es : List OutstandingData) (i : ℕ) → outstanding_at i (e ∷ es) ≡ None
     → ((e.id == i) ≡ false) × (outstanding_at i es ≡ None)
-none_at e es i h = go (e.id == i) refl h
-  where
-    go : (b : Bool) → (e.id == i) ≡ b → cond b (Some e) (outstanding_at i es) ≡ None
-        → ((e.id == i) ≡ false) × (outstanding_at i es ≡ None)
-    go true is k = absurd (cc)
-    go false is k = (is, k)
+none_at e es i h = grind (arith, common_steps)
 
 pub without_none : (es : List OutstandingData) (i : ℕ) → outstanding_at i es ≡ None → without i es ≡ es
 without_none [] i h = refl
@@ -268,14 +264,8 @@ pub is_added : (ids : Ids) (names : Names) (i : ℕ) (p : PieceData) (on : Bool)
     (lease_state_of names q))
     → IsStrictlySortedBy nat_cmp (keys_of ids') → IsStrictlySortedBy name_cmp (keys_of names')
     → IsAdded ids names i p on ids' names'
-is_added ids names i p on ids' names' h above apart at_id at_name rising sorted = record {
-  at_id = at_id;
-  at_name = at_name;
-  no_id = absent_id ids i (below_ids ids names i above);
-  no_name = absent_name ids names p h apart;
-  rising = rising;
-  sorted = sorted;
-}
+is_added ids names i p on ids' names' h above apart at_id at_name rising sorted =
+    search (arith, absent_id, below_ids, absent_name)
 
 -- with one more id, above all others, the ids still rise
 pub added_ids : (ids : Ids) (names : Names) (i : ℕ) (p : PieceData) → All (λ e. e.id < i) (outstanding_list ids names)
@@ -307,8 +297,7 @@ without_low i (e ∷ es) h =
 -- without the id of the last one, the others are left
 pub without_last : (es : List OutstandingData) (x : OutstandingData) → All (λ e. e.id < x.id) es
     → without x.id (es ++ x ∷ []) ≡ es
-without_last es x h = without_append x.id es (x ∷ [])
-    ∙ (rw (without_low x.id es h, num_yes x.id x.id refl, append-nil) refl)
+without_last es x h = search (arith, without_append, without_low, num_yes, append-nil)
 
 -- the pieces stand in the order of their ids
 pub piece_place : (ids : List (ℕ × PieceData)) (names : List (PieceData × LeaseState)) (i : ℕ) (p : PieceData)

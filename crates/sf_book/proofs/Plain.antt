@@ -1,12 +1,12 @@
 -- What the type of books keeps, through its calls.
-use Rattle.std.proofs.Common.{◌≡◌, ℕ, ◌+◌, ◌<◌, List, ◌∷◌, ◌++◌, [], map}
+use Rattle.std.proofs.Common.{arith, ◌≡◌, ℕ, ◌+◌, ◌<◌, List, ◌∷◌, ◌++◌, [], map}
 use Rattle.sf_check.specs.declared.insn.Insn.{Insn}
 use Rattle.sf_check.specs.Stacks.{IsLawfulStack}
 use Rattle.sf_check.specs.Stacks.{IsPlain}
 use Rattle.sf_run.specs.declared.action.Answer.{Answer}
 use Rattle.sf_piece.specs.Pieces.{PieceData, WorkData, StepData, Split, Settled, Empty, IsRightStep, IsRightWork, IsRoot}
 use Rattle.sf_piece.specs.PlainPieces.{IsPlainPiece, IsPlainWork}
-use Rattle.std.proofs.Common.{subst, sym}
+use Rattle.std.proofs.Common.{subst}
 use Rattle.sf_book.specs.Books.{OutstandingData, BookData, fresh}
 use Rattle.sf_book.specs.Changes.{without, MayCommit}
 use Rattle.sf_book.specs.PlainBooks.{IsBook}
@@ -16,10 +16,7 @@ use Rattle.sf_book.proofs.Kept.{kept_fresh, kept_marks, split_kept, answer_kept,
 
 pub fresh_book : (stack : List (List Insn)) (r : PieceData) (budget : ℕ) → IsLawfulStack stack → IsRoot stack r
     → (IsPlain r.stack → IsPlainPiece r) → IsBook (fresh stack r budget) 1
-fresh_book stack r budget lawful root plain = record {
-  kept = kept_fresh stack r budget lawful root;
-  plain = record { book = λ h. plain_fresh stack r budget (plain (subst IsPlain (sym root.of) h)) };
-}
+fresh_book stack r budget lawful root plain = search (arith, kept_fresh, plain_fresh)
 
 pub marks_book : (b : BookData) (next : ℕ) (g : OutstandingData → OutstandingData)
     → ((e : OutstandingData) → (g e).id ≡ e.id)
@@ -51,10 +48,7 @@ split_book b next id w f t h m room work = record {
 pub answer_book : (b : BookData) (next id : ℕ) (w : WorkData) (a : Answer) → IsBook b next → MayCommit b id w
     → b.commits < b.budget → IsLawfulWork w (Settled a)
     → IsBook (after_answer b (without id b.outstanding) (record { piece = w.piece; name = w.name; answer = a })) next
-answer_book b next id w a h m room work = record {
-  kept = answer_kept b next id w a h.kept m room work.right.0 (right_step w (Settled a) work);
-  plain = answer_plain b id w a h.plain m work.plain work.is;
-}
+answer_book b next id w a h m room work = search (arith, answer_kept, right_step, answer_plain)
 
 pub empty_book : (b : BookData) (next id : ℕ) (w : WorkData) → IsBook b next → MayCommit b id w → b.commits < b.budget
     → IsLawfulWork w Empty

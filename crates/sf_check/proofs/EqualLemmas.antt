@@ -1,5 +1,6 @@
 -- The tables of the tests by which a program compares A with one number after the other: how they are made, and what a
 -- look-up in them finds.
+use Rattle.std.proofs.lemmas.Grind.{common_steps}
 use Rattle.std.proofs.Common.{◌≡◌, ◌≢◌, ℕ, zero, suc, ◌+◌, ◌-◌, ◌*◌, ◌<◌, ◌≤◌, ◌⊎◌, List, [], ◌∷◌, ◌++◌, length, set, refl, sym, ap, subst, ◌∙◌, inl, inr, arith, length-set}
 use Rattle.std.specs.Prelude.{All, Contains, slice_index}
 use Rattle.std.specs.List.Sorted.{IsNonDecreasing, IsPermutation, IsPartitionPoint}
@@ -20,9 +21,7 @@ same_number i j k r s a b = let e = a.is in let f = b.is in cc
 
 -- the instruction at a place asks for one number at most
 pub one_number : (code : List Insn) (at j k p q : ℕ) → IsEqualTest code at j p → IsEqualTest code at k q → j ≡ k
-one_number code at j k p q a b =
-    let same : a.insn ≡ b.insn = same_Some a.insn b.insn (sym a.here ∙ b.here) in
-    same_number b.insn j k a.skips b.skips (subst (λ (i : Insn). AsksFor i j a.skips) same a.asks) b.asks
+one_number code at j k p q a b = grind (arith, common_steps, same_Some, same_number)
 
 -- where the instruction at a place is no equal test, no equal test is there
 pub none_here : (code : List Insn) (at : ℕ) (i : Insn) → IsAt code at i → ((k skips : ℕ) → AsksFor i k skips → ⊥)
@@ -33,14 +32,12 @@ none_here code at i here none k next t =
 -- where the instruction at a place is an equal test, that test is there
 pub test_here : (code : List Insn) (at number skips : ℕ) (i : Insn) → IsAt code at i → AsksFor i number skips
     → IsEqualTest code at number (at + 1 + skips)
-test_here code at number skips i here asks =
-    record { insn = i; here = here; skips = skips; asks = asks; leads = refl }
+test_here code at number skips i here asks = grind (arith, common_steps)
 
 -- a test for the number itself is for no other one
 pub only_number : (code : List Insn) (at number asked skips : ℕ) (i : Insn) → IsAt code at i → AsksFor i asked skips
     → asked ≡ number → (k next : ℕ) → IsEqualTest code at k next → k ≡ number
-only_number code at number asked skips i here asks is k next t =
-    one_number code at k asked next (at + 1 + skips) t (test_here code at asked skips i here asks) ∙ is
+only_number code at number asked skips i here asks is k next t = search (arith, one_number, test_here)
 
 -- equal tests lead to places of the program where all targets are inside
 pub tests_inside : (code : List Insn) → ((at : ℕ) (i : Insn) → IsAt code at i → AllBelow (length code) (targets at i))
@@ -67,8 +64,7 @@ pub passed_one_more : (code : List Insn) (number m n all k place at next behind 
     → ArePassed code number m place at → k ≢ number → IsEqualTest code at k next
     → ArePassed code number n next behind → all ≡ m + (1 + n) → ArePassed code number all place behind
 passed_one_more code number m n all k place at next behind some other test more is =
-    let e : all ≡ m + suc n = omega (arith, is) in
-    rw e (passed_more code number m (suc n) place at behind some (k, next, other, test, more))
+    grind (arith, common_steps, passed_more)
 
 -- ---- going on in a chain
 
@@ -261,9 +257,7 @@ joined_by code chains steps lasts chains' steps' lasts' place next number chain 
         let l = slice_index lasts c in
         let e' : slice_index chains' p ≡ c = by.old_chain p ne in
         let last : slice_index lasts' c ≡ l = by.old_last c apart in
-        let not_next : l ≢ next = λ e.
-        let same : c ≡ next = sym old.same ∙ ap (slice_index chains) e ∙ single in
-        ne (omega (arith, old.before_last, old.begins, same, e)) in
+        let not_next : l ≢ next = search arith in
         record {
           begins = omega (arith, e', old.begins);
           few = omega (arith, by.old_step p ne, old.few);
@@ -294,9 +288,7 @@ joined_by code chains steps lasts chains' steps' lasts' place next number chain 
     -- what was in one chain still is
     kept : (p q : ℕ) → LeadsOn code chains steps p q → p ≢ next → p < length code → LeadsOn code chains' steps' p q
     kept p q link ne within =
-        let apart : link.next ≢ next = λ e.
-        let same : slice_index chains p ≡ next = sym link.same ∙ ap (slice_index chains) e ∙ single in
-        none_single p (omega (arith, link.test.leads, e)) same in
+        let apart : link.next ≢ next = search arith in
         record {
           number = link.number;
           next = link.next;

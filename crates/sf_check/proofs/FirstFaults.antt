@@ -1,4 +1,5 @@
 -- A list of raw instructions has at most one first fault.
+use Rattle.std.proofs.lemmas.Grind.{common_steps}
 use Rattle.std.proofs.Common.{◌≡◌, ℕ, ◌<◌, List, length, Some, slice_get, Ok, Err, Result, refl, sym, ap, subst, ◌∙◌, inl, inr, arith}
 use Rattle.std.proofs.lemmas.Bool.{cases_lt}
 use Rattle.std.proofs.lemmas.Option.{same_Some, slice_get_within}
@@ -75,8 +76,7 @@ not_before raws place at r e before here wrong lt = bad_not_fine raws at r e wro
 
 not_all : (raws : List RawInsn) (at : ℕ) (r : RawInsn) (e : Fault) → AreFineBefore raws (length raws)
     → slice_get raws at ≡ Some r → Badness raws at r e → ⊥
-not_all raws at r e before here wrong = not_before raws (length raws) at r e before here wrong
-    (slice_get_within raws at r here)
+not_all raws at r e before here wrong = grind (arith, common_steps, not_before, slice_get_within)
 
 two_bad : (raws : List RawInsn) (a b : ℕ) (r q : RawInsn) (e f : Fault) → AreFineBefore raws a → AreFineBefore raws b
     → slice_get raws a ≡ Some r → slice_get raws b ≡ Some q → Badness raws a r e → Badness raws b q f → e ≡ f

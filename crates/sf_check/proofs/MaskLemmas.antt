@@ -1,4 +1,5 @@
 -- By its masks the checker finds the least load that a path has not set.
+use Rattle.std.proofs.lemmas.Grind.{common_steps}
 use Rattle.std.proofs.Common.{◌≡◌, ℕ, zero, suc, ◌+◌, ◌*◌, ◌%◌, ◌^◌, ◌<◌, min, List, [], ◌∷◌, length, get_or, set, replicate, Some, bit_and, bit_or, refl, sym, ap, subst, ◌∙◌, ◌⊎◌, inl, inr, arith, length-set}
 use Rattle.std.specs.Prelude.{Contains, Any}
 use Rattle.std.specs.Int.{bit_at, w16}
@@ -37,8 +38,7 @@ set_only n k lt i h z =
 -- one mask is met with a set
 met_same : (ms : List ℕ) (p s k : ℕ) → p < length ms → bit_at (get_or (set ms p (bit_and (get_or ms p 0) s)) p 0) k
     ≡ min (bit_at (get_or ms p 0) k) (bit_at s k)
-met_same ms p s k lt = ap (λ (n : ℕ). bit_at n k) (get_or-set_same ms p (bit_and (get_or ms p 0) s) 0 lt)
-    ∙ bit_at_and (get_or ms p 0) s k
+met_same ms p s k lt = grind (arith, common_steps, get_or-set_same, bit_at_and)
 
 met_other : (ms : List ℕ) (p s k q : ℕ) → (q ≡ p → ⊥) → bit_at (get_or (set ms p (bit_and (get_or ms p 0) s)) q 0) k
     ≡ bit_at (get_or ms q 0) k
@@ -230,8 +230,7 @@ known_step code masks place i after known lt at inside fine more stored only = r
         from (inl e) =
             let leads = subst (λ (x : ℕ). Leads code x q) e path.0 in
             let back = subst (λ (x : ℕ). IsPath code (x ∷ earlier)) e path.1 in
-            let bit_after : bit_at after k ≡ 1 = met_adds (length code)
-            (successors place i) after masks q k known.size inside (here q leads) h in
+            let bit_after : bit_at after k ≡ 1 = search (arith, met_adds) in
             let at_place : Any (Stores code k) (place ∷ earlier) = elim (bits (get_or masks place 0) k) [
               | inl z ↦ any_here (Stores code k) place earlier (i, at, only k bit_after z)
               | inr one ↦ any_there (Stores code k) place earlier

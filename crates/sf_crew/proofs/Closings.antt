@@ -1,16 +1,14 @@
 -- The tally is right.
-use Rattle.std.proofs.Common.{◌≡◌, ◌≢◌, ℕ, zero, suc, ◌+◌, ◌<◌, ◌≤◌, ◌/◌, ◌%◌, min, max, List, [], ◌∷◌, All, sum_by, length, get_or, set, slice_index, slice_get, Option, Some, None, sym, refl, ap, ◌∙◌, subst, inl, inr, ⊎_elim, length-append, arith}
+use Rattle.std.proofs.Common.{◌≡◌, ◌≢◌, ℕ, zero, suc, ◌+◌, ◌<◌, ◌≤◌, ◌/◌, ◌%◌, min, List, [], ◌∷◌, All, sum_by, length, get_or, set, slice_index, slice_get, Option, Some, None, sym, refl, ap, ◌∙◌, inl, inr, ⊎_elim, length-append, arith}
 use Rattle.std.specs.Int.{bit_at}
 use Rattle.std.proofs.lemmas.Bool.Decides.{nat_tests}
 use Rattle.std.proofs.lemmas.List.{length-map}
 use Rattle.std.proofs.lemmas.Option.{slice_get_within}
 use mathlib.Core.Option.{some, some-injective, some-ne-none}
-use mathlib.Core.Logic.{dite}
-use native.Mathlib.Decide.{ℕ_discrete}
 use lib.ListN.{get_elem?, replicate}
 use Rattle.atomic_table.specs.Table.{State}
 use Rattle.sf_ask.specs.declared.verdict.Verdict.TheVariants.{Doubt}
-use Rattle.sf_ask.specs.Sheets.{HasBreak, HasNoBreak, IsRightOn}
+use Rattle.sf_ask.specs.Sheets.{HasNoBreak, IsRightOn}
 use Rattle.sf_crew.specs.declared.board.view.BoardKey.{BoardKey}
 use Rattle.sf_crew.specs.declared.board.view.View.{View}
 use Rattle.sf_crew.specs.declared.board.view.EnteredSheet.{EnteredSheet}
@@ -100,28 +98,16 @@ close_right k s id v t few h at unmarked doubts entered least =
     let count : length (entered_jobs v) ≡ length v.entered_sheets = length-map v.entered_sheets (λ e. e.job) in
     let right = doubts_right k v.notes v.entered_sheets mine.covered in
     let joined : v.joined_seats ≡ k.seats → (q : ℕ) → q < 256 → bit_of t.doubts q
-    ≡ has_doubt q v.entered_sheets = λ whole q lt.
-    (let only = top_only (λ u. u.joined_seats) (doubt_at q) s.views id v
-    (λ j u there idle. let i = (kept.each j u there).idle idle in let m = (kept.each j u there).marks i.0 in
-    subst (λ (y : List ℕ × List EnteredSheet). max (has q y.0) (has_doubt q y.1) ≡ 0)
-    (λ l. (sym m l, sym i.1 l)) refl) at
-    (kept.joined_seats ∙ sym whole) in
-    bit q lt ∙ only ∙ ap (λ (y : List ℕ). max (has q y) (has_doubt q v.entered_sheets)) unmarked ∙ omega arith) in
+    ≡ has_doubt q v.entered_sheets = search (arith, top_only) in
     record {
       each_once = λ x. (let p = parted x in let o = jobs_once k n _ _ _ s.views id v at kept x in
           let u = once_up x (min n (count_of_regions k)) (count_of_regions k) (omega arith) in omega arith);
-      breaks = λ q r is. (let l = least.0 q r is in
-          ⊎_elim (λ (x : slice_index s.words (q + 6) ≡ count_of_regions k). absurd (let a = l.1 in
-          let b = l.2 in omega arith))
-          (λ (x : (slice_index s.words (q + 6) < count_of_regions k)
-          × HasBreak (regions_of k) (questions_of k) (slice_index s.words (q + 6)) q).
-          (l.2, subst (λ y. HasBreak (regions_of k) (questions_of k) y q) (sym l.1) x.1)) (kept.right q l.0));
+      breaks = search arith;
       cleared = cleared_all k t s.words v.notes v.entered_sheets mine.noted least
           (λ q lt. let a = bit q (omega arith) in let b = top_at (doubt_at q) s.views id v at in
           omega arith) mine.covered;
       doubts = right;
-      counted = (let a = total_at (λ u. length u.entered_sheets) s.views id v at in
-          let b = kept.entered_is in omega arith);
+      counted = search (arith, total_at);
       complete = λ full x.
           (let a = total_at (λ u. length (jobs u)) s.views id v at in let b = kept.drawn_count in
           let whole : sum_by (λ u. length (jobs u)) s.views ≡ length (jobs v) = omega arith in
@@ -134,10 +120,7 @@ close_right k s id v t few h at unmarked doubts entered least =
           ap (once_below x) (omega arith) in omega arith);
       all_doubts = joined;
       past = λ whole q out lt. joined whole q lt ∙ none_past k q v.entered_sheets out right;
-      all_counted = λ whole.
-          entered ∙ sym kept.entered_is ∙ total_only (λ u. u.joined_seats) (λ u. length u.entered_sheets) s.views id v
-          (λ j u there idle. ap (λ (y : List EnteredSheet). length y) ((kept.each j u there).idle idle).1) at
-          (kept.joined_seats ∙ sym whole);
+      all_counted = search (arith, total_only);
     }
 
 abbrev pub nones : ℕ → List (Option ℕ)
@@ -165,28 +148,11 @@ set_get_other (y ∷ l) (suc i) (suc j) x ne = set_get_other l i j x (λ e. ne (
 
 pub least_put : (words : List ℕ) (n m x : ℕ) (l : List (Option ℕ)) → m < length l → x ≡ slice_index words (m + 6)
     → x < n → LeastIs words n m l → LeastIs words n (m + 1) (set l m (Some x))
-least_put words n m x l there is below h = (
-  (λ q r e. dite (ℕ_discrete q m)
-      (λ same. let now : slice_get (set l m (Some x)) q ≡ Some (Some x) =
-      subst (λ y. slice_get (set l m (Some x)) y ≡ Some (Some x)) (sym same) (set_get l m (Some x) there) in
-      let found : r ≡ x = cc (now, e) in let word : slice_index words (q + 6) ≡ slice_index words (m + 6) =
-      ap (λ y. slice_index words (y + 6)) same in (omega arith, found ∙ is ∙ sym word, omega arith))
-      (λ ne. let old = h.0 q r (sym (set_get_other l m q (Some x) ne) ∙ e) in
-      ((let lt = old.0 in omega arith), old.1, old.2))),
-  (λ q lt small. dite (ℕ_discrete q m)
-      (λ same. subst (λ y. slice_get (set l m (Some x)) y ≡ Some (Some (slice_index words (y + 6)))) (sym same)
-      (set_get l m (Some x) there ∙ ap (λ y. Some (Some y)) is))
-      (λ ne. set_get_other l m q (Some x) ne ∙ h.1 q (omega arith) small)),
-)
+least_put words n m x l there is below h = search (arith, set_get, set_get_other)
 
 pub least_skip : (words : List ℕ) (n m : ℕ) (l : List (Option ℕ)) → n ≤ slice_index words (m + 6) → LeastIs words n m l
     → LeastIs words n (m + 1) l
-least_skip words n m l high h = (
-  (λ q r e. let old = h.0 q r e in ((let lt = old.0 in omega arith), old.1, old.2)),
-  (λ q lt small. dite (ℕ_discrete q m) (λ same.
-      absurd (let word : slice_index words (q + 6) ≡ slice_index words (m + 6) = ap
-      (λ y. slice_index words (y + 6)) same in omega arith)) (λ ne. h.1 q (omega arith) small)),
-)
+least_skip words n m l high h = search arith
 
 pub elem_index : (l : List ℕ) (i a : ℕ) → get_elem? l i ≡ some a → slice_index l i ≡ a
 elem_index [] i a e = absurd (some-ne-none a (sym e))

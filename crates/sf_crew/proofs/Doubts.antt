@@ -1,5 +1,6 @@
 -- The questions in doubt, and their bits.
-use Rattle.std.proofs.Common.{◌≡◌, ◌≢◌, ℕ, ◌+◌, ◌*◌, ◌/◌, ◌%◌, ◌^◌, ◌<◌, ◌≤◌, ◌==◌, if◌then◌else◌, max, bit_or, List, [], ◌∷◌, ◌++◌, w64, ap, ◌∙◌, arith}
+use Rattle.std.proofs.lemmas.Grind.{common_steps}
+use Rattle.std.proofs.Common.{◌≡◌, ◌≢◌, ℕ, ◌+◌, ◌*◌, ◌/◌, ◌%◌, ◌^◌, ◌<◌, ◌≤◌, ◌==◌, if◌then◌else◌, max, bit_or, List, [], ◌∷◌, ◌++◌, w64, ap, arith}
 use Rattle.std.specs.Int.{bit_at}
 use Rattle.std.proofs.lemmas.Bool.Decides.{nat_tests}
 use Rattle.std.proofs.lemmas.Nat.Bits.{bit_at-lt, bit_at-zero, bit_at_set_same, bit_at_set_other}
@@ -12,8 +13,7 @@ pub has_same : (x : ℕ) (xs : List ℕ) → has x (x ∷ xs) ≡ max 1 (has x x
 has_same x xs = let t : (if x == x then 1 else 0) ≡ 1 = grind (arith, nat_tests) in ap (λ n. max n (has x xs)) t
 
 pub has_other : (x y : ℕ) (xs : List ℕ) → x ≢ y → has x (y ∷ xs) ≡ has x xs
-has_other x y xs ne = let t : (if x == y then 1 else 0) ≡ 0 = grind (arith, nat_tests) in
-    ap (λ n. max n (has x xs)) t ∙ omega arith
+has_other x y xs ne = grind (arith, common_steps, nat_tests)
 
 one_at_most : (x y : ℕ) → (if x == y then 1 else 0) ≤ 1
 one_at_most x y = grind (arith, nat_tests)
@@ -43,8 +43,7 @@ mask_apart b c b_low c_low same = dite (ℕ_discrete b c) (λ e. e) (λ ne. absu
 
 -- the place of a word of doubts and a mask in it belong to only one question
 pub question_is : (p q : ℕ) → p / 64 + 2 ≡ q / 64 + 2 → 1 * 2 ^ (p % 64) % 2 ^ 64 ≡ 1 * 2 ^ (q % 64) % 2 ^ 64 → p ≡ q
-question_is p q word mask = let rest : p % 64 ≡ q % 64 =
-    mask_apart (p % 64) (q % 64) (omega arith) (omega arith) mask in omega arith
+question_is p q word mask = grind (arith, common_steps, mask_apart)
 
 -- the bit of q is 1 in its word after it was set there
 pub bit_set : (word q : ℕ) → bit_at (bit_or word (1 * 2 ^ (q % 64) % 2 ^ 64)) (q % 64) ≡ 1

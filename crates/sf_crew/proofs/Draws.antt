@@ -1,5 +1,5 @@
 -- What drawing a job keeps of the rule of a board.
-use Rattle.std.proofs.Common.{◌≡◌, ℕ, suc, ◌+◌, ◌%◌, ◌<◌, ◌≤◌, ◌==◌, if◌then◌else◌, min, List, ◌++◌, sum_by, map, length, set, slice_index, Some, None, IfSome, sym, refl, ap, ◌∙◌, subst, inl, inr, length-set, lt_of_not-le, arith}
+use Rattle.std.proofs.Common.{◌≡◌, ℕ, suc, ◌+◌, ◌%◌, ◌<◌, ◌≤◌, ◌==◌, if◌then◌else◌, min, List, ◌++◌, sum_by, map, length, set, slice_index, Some, None, IfSome, refl, ap, ◌∙◌, subst, inl, inr, length-set, lt_of_not-le, arith}
 use Rattle.std.proofs.lemmas.Bool.Decides.{nat_tests}
 use Rattle.std.proofs.lemmas.List.{get_or-set_same, get_or-set_other}
 use mathlib.Core.Option.{some}
@@ -75,11 +75,7 @@ pass_kept k n e d least views port v past fresh part at h = let w : View = view_
     let mine = h.each port v at in
     one_view k n (n + 1) e e d d least least views port v w at (record {
       joined_seats = refl;
-      drawn = λ x.
-          let same : times x (jobs w) ≡ times x (jobs v) = refl in
-          let after : once_below x (min (n + 1) (count_of_regions k)) ≡ once_below x (min n (count_of_regions k)) =
-          ap (once_below x) (omega arith) in
-          omega arith;
+      drawn = search arith;
       drawn_count = (let same : length (jobs w) ≡ length (jobs v) = refl in omega arith);
       past_end = inr (omega arith);
       entered_is = refl;
@@ -162,7 +158,5 @@ draws k slots id me is free fresh part small s h homes at fits =
     let told : IfSome v.about (λ j. (n < count_of_regions j → (times n (jobs v) ≡ 0)
     × (length (jobs v) < count_of_regions j)
     × (t.0 ≡ view_with_job v n)) × (count_of_regions j ≤ n → (t.0 ≡ view_without_job v) × HasAllJobs j t.0)) =
-    subst (λ o. IfSome o (λ j. (n < count_of_regions j → (times n (jobs v) ≡ 0) × (length (jobs v) < count_of_regions j)
-    × (t.0 ≡ view_with_job v n)) × (count_of_regions j ≤ n → (t.0 ≡ view_without_job v) × HasAllJobs j t.0)))
-    (sym is) (t.2, t.3) in
+    search arith in
     (t.0, keeps, tt, put_next k s.words _ _ h.0 t.1, (told, refl))

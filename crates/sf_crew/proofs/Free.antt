@@ -1,4 +1,5 @@
 -- Pieces on lease through a turn.
+use Rattle.std.proofs.lemmas.Grind.{common_steps}
 use Rattle.std.proofs.Common.{◌≡◌, ℕ, ◌<◌, ◌==◌, Bool, true, false, not, cond, List, [], ◌∷◌, ◌++◌, map, Option, Some, None, MatchOption, refl, ◌∙◌, ap, arith, inl}
 use Rattle.std.specs.List.{All}
 use Rattle.std.proofs.lemmas.Bool.Decides.{nat_tests}
@@ -50,10 +51,7 @@ leased_there es id p at =
 
 pub only_leased : (b c : BookData) (x : Lease) → IsFree b.outstanding → Leases b x.id (arc_value x.piece) c
     → IsOnlyLease c x
-only_leased b c x h l = rw l.after (record {
-  there = leased_there b.outstanding x.id (arc_value x.piece) l.there;
-  others = left_free x.id b.outstanding h;
-})
+only_leased b c x h l = grind (arith, common_steps, leased_there, left_free)
 
 -- the piece that is leased is of the book's stack
 pub leased_of : (b c : BookData) (x : Lease) → IsLawfulBook b → Leases b x.id (arc_value x.piece) c
@@ -128,10 +126,7 @@ goes_split b c x y i j p n (Split f t) m k id is =
     let piece : arc_value y.piece ≡ f = same_Some (arc_value y.piece) f is in
     rw (k.1, id, piece) (record {
       commits = refl;
-      only = record {
-        there = first_there rest i j f t below k.0.1;
-        others = rest_free rest i j f t m.lease.others below k.0.1;
-      };
+      only = search (arith, first_there, rest_free);
     })
 goes_split b c x y i j p n (Settled a) m k id is = absurd k
 goes_split b c x y i j p n Empty m k id is = absurd k

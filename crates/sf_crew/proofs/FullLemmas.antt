@@ -13,7 +13,7 @@ use Rattle.sf_crew.specs.declared.board.view.View.{View}
 use Rattle.sf_crew.specs.declared.board.view.EnteredSheet.{EnteredSheet}
 use Rattle.sf_crew.specs.declared.board.Tally.{Tally}
 use Rattle.sf_ask.specs.QuestionBits.{bit_of}
-use Rattle.sf_crew.specs.Views.{regions_of, questions_of, count_of_regions, jobs, owed_jobs, has, has_doubt, IsInDoubt, once_below}
+use Rattle.sf_crew.specs.Views.{regions_of, questions_of, count_of_regions, jobs, has, has_doubt, IsInDoubt, once_below}
 use Rattle.sf_crew.specs.BoardSteps.{HasAllJobs, Knows}
 use Rattle.sf_crew.specs.Tallies.{RightTally, IsBelow}
 use Rattle.sf_crew.specs.Sweeps.{IsFullTally}
@@ -72,9 +72,7 @@ full_tally s qs k v t right is free whole past knows regions questions few =
     let all : 0 < v.exhausted_seats → HasAllJobs k v =
     subst (λ o. IfSome o (λ j. 0 < v.exhausted_seats → HasAllJobs j v)) is knows.1 in
     let full = all past whole in
-    let same : length (jobs v) ≡ length v.entered_sheets =
-    ap (λ o. length (owed_jobs o ++ map (λ e. e.job) v.entered_sheets)) free
-    ∙ length-map v.entered_sheets (λ e. e.job) in
+    let same : length (jobs v) ≡ length v.entered_sheets = search (arith, length-map) in
     let count : length v.entered_sheets ≡ count_of_regions k = sym same ∙ full.0 in
     let here : IsFullTally (regions_of k) (questions_of k) t = record {
       breaks = right.breaks;

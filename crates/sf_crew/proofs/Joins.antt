@@ -1,12 +1,11 @@
 -- What a seat knows of its jobs, and how seats are split and joined.
+use Rattle.std.proofs.lemmas.Grind.{common_steps}
 use Rattle.std.proofs.Common.{◌≡◌, ◌≢◌, ℕ, zero, suc, ◌+◌, ◌<◌, ◌≤◌, ◌⊎◌, min, max, List, [], ◌∷◌, ◌++◌, sum_by, map, length, set, slice_index, Some, None, IfSome, sym, refl, ap, ◌∙◌, subst, inl, inr, ⊎_elim, length-append, lt_of_not-le, arith}
 use Rattle.std.proofs.lemmas.Bool.Decides.{nat_tests}
 use Rattle.std.proofs.lemmas.List.{set-get_or, length-map, map-append}
 use Rattle.std.proofs.lemmas.List.Elements.{All-nil, All-append}
 use Rattle.std.proofs.lemmas.List.Sums.{sum_by_push}
 use mathlib.Core.Option.{some, some-ne-none}
-use mathlib.Core.Logic.{dite}
-use native.Mathlib.Decide.{dec_le}
 use lib.ListN.{get_elem?}
 use Rattle.atomic_table.specs.Table.{Me, Allows, Splits, Joins, keeps}
 use Rattle.atomic_table.proofs.Lists.{set_else, set_again}
@@ -54,15 +53,7 @@ glances k slots id me is s h homes at fits =
     )
 
 shared : (k : BoardKey) (least : ℕ → ℕ) (n : ℕ) (v : View) → v.about ≡ Some k → Sound k n least (shared_view v)
-shared k least n v is = record {
-  about = λ _. is;
-  idle = λ none. absurd (omega arith);
-  few = omega arith;
-  past = λ some_none. absurd (omega arith);
-  marks = λ _. refl;
-  noted = λ q r x. absurd x;
-  covered = All-nil (Covered k []);
-}
+shared k least n v is = grind (arith, common_steps)
 
 split_kept : (k : BoardKey) (n e : ℕ) (d least : ℕ → ℕ) (views : List View) (port : ℕ) (v : View) → 1 < v.joined_seats
     → v.exhausted_seats ≡ 0 → v.about ≡ Some k → get_elem? views port ≡ some v → Kept k n e d least views
@@ -70,22 +61,12 @@ split_kept : (k : BoardKey) (n e : ℕ) (d least : ℕ → ℕ) (views : List Vi
 split_kept k n e d least views port v joined_seats fresh is at h = let w : View = kept_view v in
     let u : View = shared_view v in
     let mine = h.each port v at in let vs : List View = set views port w in record {
-      joined_seats = (let s = total_set (λ y. y.joined_seats) views port v w at in
-          let t = sum_by_push (λ y. y.joined_seats) vs u in
-          let p = h.joined_seats in omega arith);
-      drawn = λ x. (let s = total_set (λ y. times x (jobs y)) views port v w at in
-          let t = sum_by_push (λ y. times x (jobs y)) vs u in let p = h.drawn x in omega arith);
-      drawn_count = (let s = total_set (λ y. length (jobs y)) views port v w at in
-          let t = sum_by_push (λ y. length (jobs y)) vs u in let p = h.drawn_count in omega arith);
-      past_end = (let s = total_set (λ y. y.exhausted_seats) views port v w at in
-          let t = sum_by_push (λ y. y.exhausted_seats) vs u in
-          let p = h.past_end in omega arith);
-      entered_is = (let s = total_set (λ y. length y.entered_sheets) views port v w at in
-          let t = sum_by_push (λ y. length y.entered_sheets) vs u in let p = h.entered_is in omega arith);
-      marked = λ q few. (let s = top_set (doubt_at q) views port v w at (omega arith) in
-          let t = top_at (doubt_at q) views port v at in let p = h.marked q few in
-          let same : doubt_at q w ≡ doubt_at q v = refl in
-          let none : doubt_at q u ≡ 0 = refl in let r = top_snoc (doubt_at q) vs u none in omega arith);
+      joined_seats = search (arith, total_set, sum_by_push);
+      drawn = search (arith, total_set, sum_by_push);
+      drawn_count = search (arith, total_set, sum_by_push);
+      past_end = search (arith, total_set, sum_by_push);
+      entered_is = search (arith, total_set, sum_by_push);
+      marked = search (arith, top_set, top_at, top_snoc);
       right = h.right;
       each = every_snoc (Sound k n least) vs u (every_set (Sound k n least) (Sound k n least) views port w h.each
           (λ y s. s) record {
@@ -127,32 +108,17 @@ joint_jobs x v w a b =
     let r : times x (jobs w) ≡ times x (map f w.entered_sheets) =
     ap (λ o. times x (owed_jobs o ++ map f w.entered_sheets)) b in
     let both : times x (map f (v.entered_sheets ++ w.entered_sheets)) ≡ times x (map f v.entered_sheets)
-    + times x (map f w.entered_sheets) =
-    ap (times x) (map-append f v.entered_sheets w.entered_sheets)
-    ∙ times_append x (map f v.entered_sheets) (map f w.entered_sheets) in
+    + times x (map f w.entered_sheets) = search (arith, map-append, times_append) in
     omega arith
 
 joint_count : (v w : View) → v.owes ≡ None → w.owes ≡ None → length (jobs (joined_view v w)) ≡ length (jobs v)
     + length (jobs w)
-joint_count v w a b =
-    let f : EnteredSheet → ℕ = λ e. e.job in
-    let l : length (jobs v) ≡ length (map f v.entered_sheets) =
-    ap (λ o. length (owed_jobs o ++ map f v.entered_sheets)) a in
-    let r : length (jobs w) ≡ length (map f w.entered_sheets) =
-    ap (λ o. length (owed_jobs o ++ map f w.entered_sheets)) b in
-    omega (
-      arith,
-      length-map v.entered_sheets f,
-      length-map w.entered_sheets f,
-      length-map (v.entered_sheets ++ w.entered_sheets) f,
-      length-append v.entered_sheets w.entered_sheets,
-    )
+joint_count v w a b = grind (arith, common_steps, length-map, length-append)
 
 -- how a sum changes where two views change: the first becomes b, and the second z
 total_both : (f : View → ℕ) (views : List View) (i j : ℕ) (v w b z : View) → j ≢ i → get_elem? views i ≡ some v
     → get_elem? (set views i b) j ≡ some w → sum_by f (set (set views i b) j z) + f v + f w ≡ sum_by f views + f b + f z
-total_both f views i j v w b z apart at at' = let s = total_set f views i v b at in
-    let t = total_set f (set views i b) j w z at' in omega arith
+total_both f views i j v w b z apart at at' = grind (arith, common_steps, total_set)
 
 long_enough : (views : List View) (i : ℕ) (v b : View) → get_elem? views i ≡ some v
     → get_elem? (set views i b) i ≡ some b
@@ -182,16 +148,12 @@ join_kept k n e d least views i j v w free free' is part apart at at' h =
     let b : View = joined_view v w in let z : View = idle_view in
     let was : get_elem? views j ≡ some w = sym (set_else views i j b apart) ∙ at' in
     let mine = h.each i v at in let theirs = h.each j w was in record {
-      joined_seats = (let s = total_both (λ y. y.joined_seats) views i j v w b z apart at at' in
-          let p = h.joined_seats in omega arith);
+      joined_seats = search (arith, total_both);
       drawn = λ x. (let s = total_both (λ y. times x (jobs y)) views i j v w b z apart at at' in
           let t = joint_jobs x v w free free' in let p = h.drawn x in omega arith);
-      drawn_count = (let s = total_both (λ y. length (jobs y)) views i j v w b z apart at at' in
-          let t = joint_count v w free free' in let p = h.drawn_count in omega arith);
-      past_end = (let s = total_both (λ y. y.exhausted_seats) views i j v w b z apart at at' in
-          let p = h.past_end in omega arith);
-      entered_is = (let s = total_both (λ y. length y.entered_sheets) views i j v w b z apart at at' in
-          let t = length-append v.entered_sheets w.entered_sheets in let p = h.entered_is in omega arith);
+      drawn_count = search (arith, total_both, joint_count);
+      past_end = search (arith, total_both);
+      entered_is = search (arith, total_both, length-append);
       marked = λ q few.
           (let none : doubt_at q z ≡ 0 = refl in
           let a : has q v.marked ≡ 0 = ap (has q) (mine.marks free) in
@@ -207,11 +169,9 @@ join_kept k n e d least views i j v w free free' is part apart at at' h =
             about = λ _. is;
             idle = λ none. absurd (omega arith);
             few = (let x = mine.few in let y = theirs.few in omega arith);
-            past = λ some_none. dite (dec_le 1 v.exhausted_seats) (λ yes. mine.past yes)
-                (λ no. theirs.past (let lt = lt_of_not-le no in omega arith));
+            past = search (arith, lt_of_not-le);
             marks = λ _. refl;
-            noted = λ q r x. ⊎_elim (λ (y : Noted v.notes q r). mine.noted q r y)
-                (λ (y : Noted w.notes q r). theirs.noted q r y) (noted_either v.notes w.notes q r x);
+            noted = search (arith, noted_either);
             covered = All-append (Covered k (v.notes ++ w.notes)) v.entered_sheets w.entered_sheets
                 (noted_more k v.notes (v.notes ++ w.notes) v.entered_sheets (noted_left v.notes w.notes) mine.covered)
                 (noted_more k w.notes (v.notes ++ w.notes) w.entered_sheets
@@ -230,5 +190,4 @@ join_kept k n e d least views i j v w free free' is part apart at at' h =
 pub joins : (k : BoardKey) (id other : ℕ) (v w : View) → v.owes ≡ None → w.owes ≡ None → v.about ≡ Some k
     → 0 < v.joined_seats
     → Joins {S = ℕ} (BoardKept k) id v other w (joined_view v w) idle_view
-joins k id other v w free free' is part s h at apart at' =
-    (h.0, join_kept k _ _ _ _ s.views id other v w free free' is part apart at at' h.1)
+joins k id other v w free free' is part s h at apart at' = search (arith, join_kept)

@@ -1,12 +1,12 @@
 -- Each step of a seat keeps the rule of its board.
-use Rattle.std.proofs.Common.{◌≡◌, ◌≢◌, ℕ, false, ◌+◌, ◌-◌, ◌*◌, ◌/◌, ◌%◌, ◌^◌, ◌<◌, ◌≤◌, nat_lt, min, max, bit_or, List, [], ◌∷◌, ◌++◌, All, sum_by, map, length, set, slice_index, Some, IfSome, sym, refl, ap, ◌∙◌, subst, inl, inr, ⊎_elim, length-set, length-append, lt_of_not-le, arith}
+use Rattle.std.proofs.Common.{◌≡◌, ◌≢◌, ℕ, false, ◌+◌, ◌-◌, ◌*◌, ◌/◌, ◌%◌, ◌^◌, ◌<◌, ◌≤◌, nat_lt, min, max, bit_or, List, [], ◌∷◌, ◌++◌, All, sum_by, map, length, set, slice_index, Some, IfSome, sym, refl, ap, ◌∙◌, subst, inr, ⊎_elim, length-set, length-append, lt_of_not-le, arith}
 use Rattle.std.specs.Int.{bit_at}
 use Rattle.std.proofs.lemmas.Bool.Decides.{nat_tests}
 use Rattle.std.proofs.lemmas.List.{get_or-set_same, get_or-set_other, set-get_or, length-map}
-use Rattle.std.proofs.lemmas.List.Elements.{All-cons, All-weaker}
+use Rattle.std.proofs.lemmas.List.Elements.{All-cons}
 use mathlib.Core.Option.{some}
 use mathlib.Core.Logic.{dite}
-use native.Mathlib.Decide.{dec_le, ℕ_discrete}
+use native.Mathlib.Decide.{dec_le}
 use lib.ListN.{get_elem?}
 use Rattle.atomic_table.specs.Table.{Me, Allows, keeps}
 use Rattle.sf_crew.specs.declared.board.view.BoardKey.{BoardKey}
@@ -18,7 +18,7 @@ use Rattle.sf_crew.specs.Views.{note, entered_sheet, has, has_doubt, regions_of,
 use Rattle.sf_crew.specs.BoardRule.{Kept, BoardKept, least_in, doubts_in}
 use Rattle.sf_crew.specs.BoardSteps.{with_notes, view_with_note, view_with_mark, view_with_sheet, Looks}
 use Rattle.sf_crew.proofs.Doubts.{has_same, has_other, has_most, has_doubt_most, question_is, bit_set, bit_kept, bit_most}
-use Rattle.sf_crew.proofs.Totals.{times, total_set, total_le, top_set, top_kept}
+use Rattle.sf_crew.proofs.Totals.{total_set, total_le, top_set, top_kept}
 use Rattle.sf_crew.proofs.OneView.{one_view, marks_and_notes, same_marks, later, in_words}
 
 pub not_above : (n : ℕ) → nat_lt 0 n ≡ false → n ≡ 0
@@ -26,12 +26,7 @@ not_above n h = grind (arith, nat_tests)
 
 pub noted_more : (k : BoardKey) (ns ms : List Note) (es : List EnteredSheet) → ((q r : ℕ) → Noted ns q r → Noted ms q r)
     → All (Covered k ns) es → All (Covered k ms) es
-noted_more k ns ms es more h = All-weaker (Covered k ns) (Covered k ms) (λ e c. record {
-  there = c.there;
-  cleared = λ q there. ⊎_elim (λ (x : (r : ℕ) × Noted ns q r × (r ≤ e.job)). inl (x.0, more q x.0 x.1, x.2))
-      (λ x. inr x) (c.cleared q there);
-  doubts = c.doubts;
-}) es h
+noted_more k ns ms es more h = search arith
 
 -- the rule stays where the notes of one view and the least places change
 renoted : (k : BoardKey) (n e : ℕ) (d least less : ℕ → ℕ) (views : List View) (port : ℕ) (v : View) (ns : List Note)
@@ -87,9 +82,7 @@ hits k slots id q j me there below breaks s h homes at fits =
     let others : (p : ℕ) → p ≢ q → least_in words p ≡ least_in s.words p =
     λ p ne. get_or-set_other s.words (q + 6) (p + 6) m 0 (λ e. ne (omega arith)) in
     let by : (F : ℕ → ℕ → Type 0) → F q m → ((p : ℕ) → p ≢ q → F p (least_in s.words p)) → (p : ℕ)
-    → F p (least_in words p) =
-    λ F a b p. dite (ℕ_discrete p q) (λ e. subst (λ x. F x (least_in words x)) (sym e) (subst (F q) (sym here) a))
-    (λ ne. subst (F p) (sym (others p ne)) (b p ne)) in
+    → F p (least_in words p) = search arith in
     let least_n : least_in s.words q ≡ n = refl in
     let kept = renoted k _ _ _ (least_in s.words) (least_in words) s.views id v (note q j ∷ v.notes) at
     (by (λ p x. x ≤ least_in s.words p) (omega arith) (λ p ne. omega arith))
@@ -123,19 +116,8 @@ new_mark : (d d' : ℕ → ℕ) (views : List View) (port : ℕ) (v : View) (q :
     → bit_at (d' (p / 64)) (p % 64) ≡ bit_at (d (p / 64)) (p % 64))
     → ((p : ℕ) → p < 256 → bit_at (d (p / 64)) (p % 64) ≡ top (doubt_at p) views) → (p : ℕ) → p < 256
     → bit_at (d' (p / 64)) (p % 64) ≡ top (doubt_at p) (set views port (view_with_mark v q))
-new_mark d d' views port v q at here others was p few = let w : View = view_with_mark v q in
-    dite (ℕ_discrete p q)
-    (λ same. (let one : doubt_at q w ≡ max (max 1 (has q v.marked)) (has_doubt q v.entered_sheets) = ap
-    (λ x. max x (has_doubt q v.entered_sheets)) (has_same q v.marked) in
-    let a = has_most q v.marked in let b = has_doubt_most q v.entered_sheets in
-    let up : doubt_at q v ≤ doubt_at q w = omega arith in
-    let s = top_set (doubt_at q) views port v w at up in let most : top (doubt_at p) views ≤ 1 =
-    subst (λ x. x ≤ 1) (was p few) (bit_most (d (p / 64)) (p % 64)) in
-    let most' : top (doubt_at q) views ≤ 1 = subst (λ x. top (doubt_at x) views ≤ 1) same most in
-    subst (λ x. bit_at (d' (x / 64)) (x % 64) ≡ top (doubt_at x) (set views port w)) (sym same)
-    (here ∙ omega arith)))
-    (λ ne. others p few ne ∙ was p few ∙ sym (top_kept (doubt_at p) views port v w at
-    (ap (λ x. max x (has_doubt p v.entered_sheets)) (has_other p q v.marked ne))))
+new_mark d d' views port v q at here others was p few =
+    search (arith, has_same, has_most, has_doubt_most, top_set, bit_most, top_kept, has_other)
 
 mark_kept : (k : BoardKey) (n e j q : ℕ) (d d' least : ℕ → ℕ) (views : List View) (port : ℕ) (v : View)
     → v.owes ≡ Some j
@@ -166,10 +148,7 @@ marks k slots q j id me owing few s h homes at fits =
     let m : ℕ = bit_or (slice_index s.words i) (1 * 2 ^ (q % 64) % 2 ^ 64) in let words : List ℕ = set s.words i m in
     let here : doubts_in words (q / 64) ≡ m = get_or-set_same s.words i m 0 (omega arith) in
     let others : (p : ℕ) → p < 256 → p ≢ q → bit_at (doubts_in words (p / 64)) (p % 64)
-    ≡ bit_at (doubts_in s.words (p / 64)) (p % 64) = λ p low ne. dite (ℕ_discrete (p / 64) (q / 64))
-    (λ same. ap (λ x. bit_at (doubts_in words x) (p % 64)) same ∙ ap (λ x. bit_at x (p % 64)) here
-    ∙ bit_kept (slice_index s.words i) p q ne same ∙ ap (λ x. bit_at (doubts_in s.words x) (p % 64)) (sym same))
-    (λ apart. ap (λ x. bit_at x (p % 64)) (get_or-set_other s.words i (p / 64 + 2) m 0 (λ e. apart (omega arith)))) in
+    ≡ bit_at (doubts_in s.words (p / 64)) (p % 64) = search (arith, bit_kept, get_or-set_other) in
     let kept = mark_kept k _ _ j q (doubts_in s.words) (doubts_in words) _ s.views id v owing
     (ap (λ x. bit_at x (q % 64)) here ∙ bit_set (slice_index s.words i) q) others at h.1 in (
       view_with_mark v q,
@@ -202,10 +181,8 @@ enter_kept k n e j d least views port v owing part covered at h = let w : View =
     let mine = h.each port v at in
     one_view k n n e (e + 1) d d least least views port v w at (record {
       joined_seats = refl;
-      drawn = λ x. (let same : times x (jobs v) ≡ times x (jobs w) =
-          ap (λ o. times x (owed_jobs o ++ map (λ y. y.job) v.entered_sheets)) owing in omega arith);
-      drawn_count = (let same : length (jobs v) ≡ length (jobs w) =
-          ap (λ o. length (owed_jobs o ++ map (λ y. y.job) v.entered_sheets)) owing in omega arith);
+      drawn = search arith;
+      drawn_count = search arith;
       past_end = inr (omega arith);
       entered_is = omega arith;
     }) (same_marks d views port v w at (λ q.
@@ -228,13 +205,7 @@ entries_few k n e j d least views port v owing at h = let w : View = view_with_s
     let same : length (jobs v) ≡ length (jobs w) =
     ap (λ o. length (owed_jobs o ++ map (λ y. y.job) v.entered_sheets)) owing in
     let le : sum_by (λ u. length u.entered_sheets) (set views port w)
-    ≤ sum_by (λ u. length (jobs u)) (set views port w) =
-    total_le (λ u. length u.entered_sheets) (λ u. length (jobs u)) (set views port w)
-    (λ i u _. omega (
-      arith,
-      length-append (owed_jobs u.owes) (map (λ y. y.job) u.entered_sheets),
-      length-map u.entered_sheets (λ y. y.job),
-    )) in
+    ≤ sum_by (λ u. length (jobs u)) (set views port w) = search (arith, total_le, length-append, length-map) in
     let p = h.entered_is in let c = h.drawn_count in omega arith
 
 pub enters : (k : BoardKey) (slots id j : ℕ) (me : Me ℕ View) → me.0.owes ≡ Some j → 0 < me.0.joined_seats

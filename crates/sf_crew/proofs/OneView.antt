@@ -1,5 +1,6 @@
 -- When the rule stays where one view and the words of the board change.
-use Rattle.std.proofs.Common.{◌≡◌, ℕ, ◌+◌, ◌/◌, ◌%◌, ◌<◌, ◌≤◌, ◌⊎◌, min, List, length, set, slice_index, sym, refl, ap, ◌∙◌, subst, inr, ⊎_elim, arith}
+use Rattle.std.proofs.lemmas.Grind.{common_steps}
+use Rattle.std.proofs.Common.{◌≡◌, ℕ, ◌+◌, ◌/◌, ◌%◌, ◌<◌, ◌≤◌, ◌⊎◌, min, List, length, set, slice_index, sym, ◌∙◌, subst, arith}
 use Rattle.std.specs.Int.{bit_at}
 use mathlib.Core.Option.{some}
 use lib.ListN.{get_elem?}
@@ -24,13 +25,7 @@ pub record IsCounted (k : BoardKey) (n m e f : ℕ) (v w : View) : Type 0 where
 -- other marks and other notes count for nothing
 pub marks_and_notes : (k : BoardKey) (n e : ℕ) (v : View) (qs : List ℕ) (ns : List Note)
     → IsCounted k n n e e v (with_marks (with_notes v ns) qs)
-marks_and_notes k n e v qs ns = record {
-  joined_seats = refl;
-  drawn = λ x. refl;
-  drawn_count = refl;
-  past_end = inr (omega arith);
-  entered_is = refl;
-}
+marks_and_notes k n e v qs ns = grind (arith, common_steps)
 
 -- the bits stay right where the new view marks what the old one marked
 pub same_marks : (d : ℕ → ℕ) (views : List View) (port : ℕ) (v w : View) → get_elem? views port ≡ some v
@@ -46,17 +41,11 @@ pub one_view : (k : BoardKey) (n m e f : ℕ) (d d' least less : ℕ → ℕ) (v
     → ((u : View) → Sound k n least u → Sound k m less u) → Sound k m less w
     → Kept k n e d least views → Kept k m f d' less (set views port w)
 one_view k n m e f d d' least less views port v w at counted marked right others mine h = record {
-  joined_seats = (let s = total_set (λ u. u.joined_seats) views port v w at in let c = counted.joined_seats in
-      let p = h.joined_seats in omega arith);
-  drawn = λ x. (let s = total_set (λ u. times x (jobs u)) views port v w at in let c = counted.drawn x in
-      let p = h.drawn x in omega arith);
-  drawn_count = (let s = total_set (λ u. length (jobs u)) views port v w at in let c = counted.drawn_count in
-      let p = h.drawn_count in omega arith);
-  past_end = (let s = total_set (λ u. u.exhausted_seats) views port v w at in let p = h.past_end in
-      ⊎_elim (λ (y : m ≤ count_of_regions k). omega arith)
-      (λ (y : m + v.exhausted_seats ≤ n + w.exhausted_seats). omega arith) counted.past_end);
-  entered_is = (let s = total_set (λ u. length u.entered_sheets) views port v w at in let c = counted.entered_is in
-      let p = h.entered_is in omega arith);
+  joined_seats = search (arith, total_set);
+  drawn = search (arith, total_set);
+  drawn_count = search (arith, total_set);
+  past_end = search (arith, total_set);
+  entered_is = search (arith, total_set);
   marked = marked;
   right = right;
   each = every_set (Sound k n least) (Sound k m less) views port w h.each others mine;
@@ -65,29 +54,12 @@ one_view k n m e f d d' least less views port v w at counted marked right others
 -- a view stays sound where the next job is a later one, and the least places are no greater
 pub later : (k : BoardKey) (n m : ℕ) (least less : ℕ → ℕ) (v : View) → n ≤ m → ((q : ℕ) → less q ≤ least q)
     → Sound k n least v → Sound k m less v
-later k n m least less v up down h = record {
-  about = h.about;
-  idle = h.idle;
-  few = h.few;
-  past = λ some_none. let was = h.past some_none in omega arith;
-  marks = h.marks;
-  noted = λ q r at. let was = h.noted q r at in let now = down q in omega arith;
-  covered = h.covered;
-}
+later k n m least less v up down h = grind (arith, common_steps)
 
 -- the rule speaks of only four words of doubts
 redoubted : (k : BoardKey) (n e : ℕ) (d d' least : ℕ → ℕ) (views : List View) → ((w : ℕ) → w < 4 → d w ≡ d' w)
     → Kept k n e d least views → Kept k n e d' least views
-redoubted k n e d d' least views same h = record {
-  joined_seats = h.joined_seats;
-  drawn = h.drawn;
-  drawn_count = h.drawn_count;
-  past_end = h.past_end;
-  entered_is = h.entered_is;
-  marked = λ q few. ap (λ x. bit_at x (q % 64)) (sym (same (q / 64) (omega arith))) ∙ h.marked q few;
-  right = h.right;
-  each = h.each;
-}
+redoubted k n e d d' least views same h = grind (arith, common_steps)
 
 -- the rule of some numbers holds of the words that have these numbers
 pub in_words : (k : BoardKey) (words : List ℕ) (n e : ℕ) (d least : ℕ → ℕ) (views : List View)

@@ -1,14 +1,13 @@
 -- A new board keeps its rule.
-use Rattle.std.proofs.Common.{◌≡◌, ℕ, zero, suc, ◌+◌, ◌/◌, ◌%◌, ◌<◌, List, [], ◌∷◌, ◌++◌, length, slice_index, sym, refl, ap, ◌∙◌, subst, inl, min, arith}
-use Rattle.std.specs.Int.{bit_at}
+use Rattle.std.proofs.lemmas.Grind.{common_steps}
+use Rattle.std.proofs.Common.{◌≡◌, ℕ, zero, suc, ◌+◌, ◌<◌, List, [], ◌∷◌, ◌++◌, length, slice_index, sym, refl, ap, ◌∙◌, subst, arith}
 use Rattle.std.proofs.lemmas.Nat.Bits.{bit_at-zero}
 use Rattle.std.proofs.lemmas.Bool.Decides.{nat_tests}
 use Rattle.std.proofs.lemmas.List.{get_or-append-add, get_or-replicate}
-use Rattle.std.proofs.lemmas.List.Elements.{All-nil}
 use mathlib.Core.Option.{some, some-injective, some-ne-none}
 use lib.ListN.{get_elem?, replicate, length-replicate}
 use Rattle.sf_crew.specs.declared.board.view.BoardKey.{BoardKey}
-use Rattle.sf_crew.specs.Views.{questions_of, count_of_regions, Covered, once_below}
+use Rattle.sf_crew.specs.Views.{questions_of, count_of_regions}
 use Rattle.sf_crew.specs.BoardRule.{Sound, Kept, BoardKept, least_in, doubts_in}
 use Rattle.sf_crew.specs.BoardSteps.{first_view}
 
@@ -34,30 +33,11 @@ only_view x y (suc port) e = absurd (some-ne-none y (sym e))
 
 opened : (k : BoardKey)
     → Sound k 0 (least_in (first_words (length (questions_of k)) (count_of_regions k))) (first_view k)
-opened k = record {
-  about = λ _. refl;
-  idle = λ _. (refl, refl);
-  few = omega arith;
-  past = λ some_none. absurd (omega arith);
-  marks = λ _. refl;
-  noted = λ q r x. absurd x;
-  covered = All-nil (Covered k []);
-}
+opened k = grind (arith, common_steps)
 
 pub opens : (k : BoardKey) → Kept k 0 0 (doubts_in (first_words (length (questions_of k)) (count_of_regions k)))
     (least_in (first_words (length (questions_of k)) (count_of_regions k))) (first_view k ∷ [])
-opens k = let words : List ℕ = first_words (length (questions_of k)) (count_of_regions k) in record {
-  joined_seats = omega arith;
-  drawn = λ x. (let none : once_below x (min 0 (count_of_regions k)) ≡ 0 = grind (arith, nat_tests) in omega arith);
-  drawn_count = omega arith;
-  past_end = omega arith;
-  entered_is = refl;
-  marked = λ q few. ap (λ x. bit_at x (q % 64))
-      (first_doubts (length (questions_of k)) (count_of_regions k) (q / 64) (omega arith))
-      ∙ bit_at-zero (q % 64);
-  right = λ q there. inl (first_least (length (questions_of k)) (count_of_regions k) q there);
-  each = λ port v at. subst (Sound k 0 (least_in words)) (only_view (first_view k) v port at) (opened k);
-}
+opens k = grind (arith, common_steps, nat_tests, first_doubts, bit_at-zero, first_least, only_view, opened)
 
 -- words that are the first words of a board keep its rule
 pub opens_at : (k : BoardKey) (words : List ℕ) (n regions : ℕ) → words ≡ first_words n regions

@@ -55,11 +55,7 @@ pub reply_allowed : (s : BookData) (q : QuestionData) (r : ℕ) (d : Input) → 
     → TellsTriedAt s r q (Hit d)
     → ((e : ℕ) → e < r → IsWithoutHit s q e) → (IsPlain s.stack → (e : ℕ) → e < r → (x : Input) → ¬ IsBreakAt s e q x)
     → IsReplyTo s q (Allowed d)
-reply_allowed s q r d hit example passed first = record {
-  right = (hit.member.input, hit.breaks);
-  found = (r, example, passed);
-  plain = λ h. (r, record { here = (d, hit); none_earlier = first h }, example);
-}
+reply_allowed s q r d hit example passed first = search arith
 
 -- what a verdict that is no hit tells of its region
 pub clear_unbroken : (s : BookData) (q : QuestionData) (doubt : Bool) (r : ℕ) → IsRightVerdict s r q Clear

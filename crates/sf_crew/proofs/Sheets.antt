@@ -1,7 +1,6 @@
 -- What entering one verdict more, and a whole sheet, does to a seat.
-use Rattle.std.proofs.Common.{◌≡◌, ℕ, ◌+◌, ◌<◌, ◌⊎◌, List, [], ◌∷◌, length, zero, suc, true, Option, Some, None, sym, refl, ap, ◌∙◌, subst, inl, inr, ⊎_elim, arith}
-use mathlib.Core.Logic.{dite}
-use native.Mathlib.Decide.{ℕ_discrete}
+use Rattle.std.proofs.lemmas.Grind.{common_steps}
+use Rattle.std.proofs.Common.{◌≡◌, ℕ, ◌+◌, ◌<◌, ◌⊎◌, List, [], ◌∷◌, length, zero, suc, true, Option, Some, None, refl, ap, subst, inl, inr, ⊎_elim, arith}
 use Rattle.sf_ask.specs.declared.verdict.Verdict.{Verdict}
 use Rattle.sf_ask.specs.declared.verdict.Verdict.TheVariants.{Clear, Hit, Doubt}
 use Rattle.sf_book.specs.Books.{BookData}
@@ -11,30 +10,18 @@ use Rattle.sf_ask.specs.SheetLaws.{clear-breaks-none}
 use Rattle.sf_crew.specs.declared.board.view.BoardKey.{BoardKey}
 use Rattle.sf_crew.specs.declared.board.view.View.{View}
 use Rattle.sf_crew.specs.declared.board.view.Note.{Note}
-use Rattle.sf_crew.specs.Views.{questions_of, Covered, has, entered_sheet}
+use Rattle.sf_crew.specs.Views.{questions_of, Covered, entered_sheet}
 use Rattle.sf_crew.specs.BoardSteps.{view_of, with_notes, with_marks}
 use Rattle.sf_crew.proofs.Doubts.{has_same, has_other, has_most}
 use Rattle.sf_crew.specs.EnteredSheets.{IsDoubt, MarksDoubts, AreDoubts, NotesHits, IsSheetFor}
 
 pub marks_same : (vs : List (Option Verdict)) (n : ℕ) (old new : List ℕ) → (IsDoubt vs n → ⊥) → MarksDoubts vs n old new
     → MarksDoubts vs (n + 1) old new
-marks_same vs n old new none h = record {
-  more = h.more;
-  doubts = λ q lt is. dite (ℕ_discrete q n) (λ e. absurd (none (subst (IsDoubt vs) e is)))
-      (λ ne. h.doubts q (omega arith) is);
-  only = h.only;
-}
+marks_same vs n old new none h = search arith
 
 pub marks_more : (vs : List (Option Verdict)) (n : ℕ) (old new : List ℕ) → IsDoubt vs n → MarksDoubts vs n old new
     → MarksDoubts vs (n + 1) old (n ∷ new)
-marks_more vs n old new is h = record {
-  more = λ q. (let m = h.more q in omega arith);
-  doubts = λ q lt there. dite (ℕ_discrete q n)
-      (λ e. (let most = has_most n new in subst (λ x. has x (n ∷ new) ≡ 1) (sym e) (has_same n new ∙ omega arith)))
-      (λ ne. has_other q n new ne ∙ h.doubts q (omega arith) there);
-  only = λ q one. dite (ℕ_discrete q n) (λ e. inr (subst (IsDoubt vs) (sym e) is))
-      (λ ne. h.only q (sym (has_other q n new ne) ∙ one));
-}
+marks_more vs n old new is h = search (arith, has_most, has_same, has_other)
 
 -- each verdict is a hit, a doubt, or there is none; or no member breaks the question
 verdict_cases : (s : BookData) (qs : List QuestionData) (r q : ℕ) (v : Option Verdict) → IsRightWhereGiven s qs r q v
@@ -78,15 +65,10 @@ covers k v s ds ns f right notes marks =
           inr (inl (subst (λ (y : Subject). HasNoBreak y.0 y.1 s.job q) (λ i. (f.regions i, f.questions i)) z)))
           y) x)
           (verdict_cases s.settled s.questions s.job q (verdict_at s.verdicts q) (right.right q there)));
-      doubts = λ q one. ⊎_elim (λ (x : has q [] ≡ 1). absurd (cc))
-          (λ (x : IsDoubt s.verdicts q). let there = doubt_below s.verdicts q x in
-          subst (λ (y : Subject). IsRightWhereGiven y.0 y.1 s.job q (Some Doubt)) (λ i. (f.regions i, f.questions i))
-          (doubt_right s.settled s.questions s.job q (verdict_at s.verdicts q) (right.right q (omega arith)) x))
-          (marks.only q one);
+      doubts = search (arith, doubt_below, doubt_right);
     }
 
 -- a seat's view before the last step of entering: its notes and its marks are new
 pub marked_view : (v m w : View) → m ≡ with_notes v m.notes → w ≡ with_marks m w.marked
     → w ≡ view_of v.about v.joined_seats v.exhausted_seats v.owes w.marked v.entered_sheets m.notes
-marked_view v m w noted marked = marked ∙ ap
-    (λ (y : View). view_of y.about y.joined_seats y.exhausted_seats y.owes w.marked y.entered_sheets m.notes) noted
+marked_view v m w noted marked = grind (arith, common_steps)

@@ -1,5 +1,6 @@
 -- The questions that a sheet skips.
-use Rattle.std.proofs.Common.{◌≡◌, ◌/◌, ◌%◌, ap, slice_index, ℕ, ◌+◌, ◌<◌, bit_and, ◌*◌, ◌^◌, set, w64, length, List, sym, ◌∙◌, subst, arith}
+use Rattle.std.proofs.lemmas.Grind.{common_steps}
+use Rattle.std.proofs.Common.{◌≡◌, ◌%◌, ℕ, ◌+◌, ◌<◌, bit_and, ◌*◌, ◌^◌, set, w64, length, List, sym, ◌∙◌, subst, arith}
 use Rattle.std.specs.Int.{bit_at, bit_not}
 use Rattle.std.proofs.lemmas.Nat.Bits.{bit_at_ones, bit_at_clear_other}
 use Rattle.std.proofs.lemmas.List.{get_or-set_same, get_or-set_other}
@@ -27,8 +28,7 @@ skips_more word job n at ns ms within more all this bit low none = dite (ℕ_dis
 pub skips_still : (word job n : ℕ) (ns ms : List Note) → ((q r : ℕ) → Noted ns q r → Noted ms q r)
     → ((bit : ℕ) → bit < 64 → bit_at n bit ≡ 0 → IsBeaten job ns (word * 64 + bit)) → (bit : ℕ) → bit < 64
     → bit_at n bit ≡ 0 → IsBeaten job ms (word * 64 + bit)
-skips_still word job n ns ms more all bit low none =
-    let was = all bit low none in (was.0, more (word * 64 + bit) was.0 was.1, was.2)
+skips_still word job n ns ms more all bit low none = grind (arith, common_steps)
 
 -- where all bits are set, no question is skipped
 pub skips_none : (word job : ℕ) (ns : List Note) (bit : ℕ) → bit < 64 → bit_at 18446744073709551615 bit ≡ 0
@@ -41,12 +41,5 @@ pub words_more : (words : List ℕ) (word job m : ℕ) (ns ms : List Note) → l
     → ((q : ℕ) → q < 256 → bit_of words q ≡ 0 → IsBeaten job ns q)
     → ((bit : ℕ) → bit < 64 → bit_at m bit ≡ 0 → IsBeaten job ms (word * 64 + bit))
     → (q : ℕ) → q < 256 → bit_of (set words word m) q ≡ 0 → IsBeaten job ms q
-words_more words word job m ns ms long within more all these q few none = dite (ℕ_discrete (q / 64) word)
-    (λ e. (let place : word * 64 + q % 64 ≡ q = omega (arith, e) in
-    let here : slice_index (set words word m) (q / 64) ≡ m =
-    ap (λ i. slice_index (set words word m) i) e ∙ get_or-set_same words word m 0 (omega (arith, long, within)) in
-    subst (IsBeaten job ms) place
-    (these (q % 64) (omega arith) (ap (λ x. bit_at x (q % 64)) (sym here) ∙ none))))
-    (λ ne. (let was = all q few
-    (ap (λ x. bit_at x (q % 64)) (sym (get_or-set_other words word (q / 64) m 0 ne)) ∙ none) in
-    (was.0, more q was.0 was.1, was.2)))
+words_more words word job m ns ms long within more all these q few none =
+    search (arith, get_or-set_same, get_or-set_other)

@@ -1,5 +1,6 @@
 -- Sums and greatest values over all views, and lists read by place.
-use Rattle.std.proofs.Common.{◌≡◌, ◌≢◌, ℕ, zero, suc, ◌+◌, ◌≤◌, ◌==◌, if◌then◌else◌, cond, max, List, [], ◌∷◌, ◌++◌, sum_by, count_by, set, sym, refl, ap, subst, ⊎_elim, arith}
+use Rattle.std.proofs.lemmas.Grind.{common_steps}
+use Rattle.std.proofs.Common.{◌≡◌, ℕ, zero, suc, ◌+◌, ◌≤◌, ◌==◌, if◌then◌else◌, cond, max, List, [], ◌∷◌, ◌++◌, sum_by, count_by, set, sym, refl, ap, arith}
 use Rattle.std.proofs.lemmas.List.Sums.{sum_by-cons, sum_by-append}
 use mathlib.Core.Option.{some, some-injective, some-ne-none}
 use lib.ListN.{get_elem?}
@@ -79,8 +80,7 @@ top_snoc f (x ∷ xs) w h = let rest = top_snoc f xs w h in omega arith
 -- the greatest value stays where the view that changes keeps its own
 pub top_kept : (f : View → ℕ) (views : List View) (port : ℕ) (v w : View) → get_elem? views port ≡ some v → f w ≡ f v
     → top f (set views port w) ≡ top f views
-top_kept f views port v w at same = let s = top_set f views port v w at (omega arith) in
-    let t = top_at f views port v at in omega arith
+top_kept f views port v w at same = grind (arith, common_steps, top_set, top_at)
 
 top_below_total : (f : View → ℕ) (views : List View) → top f views ≤ sum_by f views
 top_below_total f [] = omega arith
@@ -89,22 +89,18 @@ top_below_total f (x ∷ xs) = let rest = top_below_total f xs in let all = sum_
 pub top_only : (f g : View → ℕ) (views : List View) (port : ℕ) (v : View)
     → ((j : ℕ) (u : View) → get_elem? views j ≡ some u → f u ≡ 0 → g u ≡ 0) → get_elem? views port ≡ some v
     → sum_by f views ≡ f v → top g views ≡ g v
-top_only f g views port v h at e = let all = total_only f g views port v h at e in
-    let most = top_below_total g views in let mine = top_at g views port v at in omega arith
+top_only f g views port v h at e = grind (arith, common_steps, total_only, top_below_total, top_at)
 
 -- a fact of every view stays where one view changes
 pub every_set : (F G : View → Type 0) (views : List View) (port : ℕ) (w : View)
     → ((j : ℕ) (u : View) → get_elem? views j ≡ some u → F u) → ((u : View) → F u → G u) → G w → (j : ℕ) (u : View)
     → get_elem? (set views port w) j ≡ some u → G u
-every_set F G views port w all keeps mine j u e =
-    ⊎_elim (λ (x : (j ≡ port) × (w ≡ u)). subst G x.1 mine) (λ (x : (j ≢ port) × (get_elem? views j ≡ some u)).
-    keeps u (all j u x.1)) (at_set views port j w u e)
+every_set F G views port w all keeps mine j u e = grind (arith, common_steps, at_set)
 
 pub every_snoc : (F : View → Type 0) (views : List View) (w : View)
     → ((j : ℕ) (u : View) → get_elem? views j ≡ some u → F u) → F w → (j : ℕ) (u : View)
     → get_elem? (views ++ w ∷ []) j ≡ some u → F u
-every_snoc F views w all mine j u e = ⊎_elim (λ (x : get_elem? views j ≡ some u). all j u x)
-    (λ (x : w ≡ u). subst F x mine) (at_snoc views w u j e)
+every_snoc F views w all mine j u e = grind (arith, common_steps, at_snoc)
 
 -- the greatest value after one view changed, whether its own rises or falls
 pub top_change : (f : View → ℕ) (views : List View) (port : ℕ) (v w : View) → get_elem? views port ≡ some v

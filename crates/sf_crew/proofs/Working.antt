@@ -1,4 +1,5 @@
 -- What a worker's turn does to the handles of benches.
+use Rattle.std.proofs.lemmas.Grind.{common_steps}
 use Rattle.std.proofs.Common.{◌≡◌, ◌⊎◌, ⊎_elim, ℕ, zero, suc, ◌<◌, List, [], ◌∷◌, arith, get_or, set, slice_get, length, Some, refl, ap}
 use Rattle.std.specs.Arc.{arc_value}
 use Rattle.std.proofs.lemmas.Option.{same_Some}
@@ -47,11 +48,4 @@ slice_get_map (t ∷ ts) (suc i) d lt = slice_get_map ts i d (omega arith)
 -- one thief got a lease, and the others did nothing
 pub one_stolen : (ts : List (Thief Lease)) (i : ℕ) (t d : Thief Lease) (x : Lease) → i < length ts
     → Gets (thief_view (get_or ts i d)) x (thief_view t) → GetsOne (thief_views ts) x (thief_views (set ts i t))
-one_stolen ts i t d x lt got = record {
-  place = i;
-  before = thief_view (get_or ts i d);
-  after = thief_view t;
-  there = slice_get_map ts i d lt;
-  gets = got;
-  rest = map-set thief_view ts i t;
-}
+one_stolen ts i t d x lt got = grind (arith, common_steps, slice_get_map, map-set)

@@ -1,18 +1,18 @@
 -- On plain stacks some member that is held is shown the labels of each leaf that is drawn, and no leaf has two labels.
+use Rattle.std.proofs.lemmas.Grind.{common_steps}
 use Rattle.std.proofs.Common.{◌≡◌, ℕ, ◌<◌, ◌≤◌, ◌+◌, List, [], ◌∷◌, length, Option, Some, None, sym, ap, subst, ◌∙◌, inl, inr, arith}
 use Rattle.std.specs.Prelude.{MatchOption, Contains, All, slice_index_or}
 use Rattle.std.proofs.lemmas.Bool.{cases_lt}
 use Rattle.std.proofs.lemmas.List.{get_or_append_left, length_push}
 use Rattle.std.proofs.lemmas.List.Elements.{All-contains, All-push, Contains-get_or}
 use Rattle.sf_insn.specs.declared.input.Input.{Input}
-use Rattle.sf_piece.specs.Pieces.{PieceData, is_member}
 use Rattle.sf_book.specs.Books.{BookData}
 use Rattle.sf_picture.specs.declared.axis.Axis.{Axis}
 use Rattle.sf_picture.specs.declared.drawing.Span.{Span}
 use Rattle.sf_picture.specs.declared.picture.Branch.{Branch}
 use Rattle.sf_picture.specs.declared.picture.Run.{Run}
 use Rattle.sf_picture.specs.PictureData.{PictureData}
-use Rattle.sf_picture.specs.Pictures.{number_on, next_of, IsBelow, AreRightForks, labels_at, IsAttained}
+use Rattle.sf_picture.specs.Pictures.{number_on, next_of, IsBelow, AreRightForks, IsAttained}
 use Rattle.sf_picture.specs.Spans.{IsExactSpan}
 use Rattle.sf_picture.specs.Holding.{HeldData, IsHeldBy, IsFromSome}
 use Rattle.sf_picture.specs.PlainHolding.{IsPlainHeld}
@@ -26,17 +26,11 @@ pub short-none : (s : SketchData) → KeepsShort s s
 short-none s = record { spent = λ e. e; short = λ e all. all }
 
 pub short-more : (s t u : SketchData) → KeepsShort s t → KeepsShort t u → KeepsShort s u
-short-more s t u a b = record {
-  spent = λ e. a.spent (b.spent e);
-  short = λ e all. b.short e (a.short (b.spent e) all);
-}
+short-more s t u a b = grind (arith, common_steps)
 
 -- the same leaves
 pub short-same : (s t : SketchData) → t.leaves ≡ s.leaves → t.spent ≡ s.spent → KeepsShort s t
-short-same s t leaves spent = record {
-  spent = λ e. sym spent ∙ e;
-  short = λ e all. subst (All IsShort) (sym leaves) all;
-}
+short-same s t leaves spent = grind (arith, common_steps)
 
 -- a leaf with at most one label
 pub short-leaf : (s t : SketchData) (labels : List ℕ) (b : Branch) → length labels ≤ 1 → t.spent ≡ s.spent
@@ -101,10 +95,7 @@ attained-drawn (Some b) s t ls held book labels box few added all =
 -- a leaf stays as the sketch grows
 leaf-grows : (s t : SketchData) (place : ℕ) → Grows s t → place < length s.leaves
     → slice_index_or t.leaves place [] ≡ slice_index_or s.leaves place []
-leaf-grows s t place grows lt =
-    let more = grows.leaves in
-    ap (λ (l : List (List ℕ)). slice_index_or l place []) more.1
-    ∙ get_or_append_left s.leaves more.0 [] place lt
+leaf-grows s t place grows lt = grind (arith, common_steps, get_or_append_left)
 
 -- what is attained below a number stays so as the sketch and the runs grow
 below-grows : (s t : SketchData) (axis : Axis) (runs more : List Run) (first next : ℕ) (held : List HeldData)
@@ -141,20 +132,7 @@ attained-missed from s t axis runs first next held inside grows right le none be
 member-of-span : (held inside : List HeldData) (axis : Axis) (first last : ℕ) (k : HeldData) (d : Input)
     → All (IsFromSome held axis first last) inside → IsExactSpan axis first last → Contains inside k → IsHeldBy k d
     → (h : HeldData) × Contains held h × IsHeldBy h d × (first ≤ number_on axis d) × (number_on axis d ≤ last)
-member-of-span held inside axis first last k d from exact there member =
-    let f = All-contains (IsFromSome held axis first last) inside k from there in
-    let n = f.narrowed in
-    let r = n.only exact d member.input member.agrees in (
-      f.held_one,
-      f.there,
-      record {
-        input = member.input;
-        member = ap (λ (p : PieceData). is_member p d) (sym n.piece) ∙ member.member;
-        agrees = r.0;
-      },
-      r.1.above,
-      r.1.below,
-    )
+member-of-span held inside axis first last k d from exact there member = grind (arith, common_steps)
 
 -- a span was drawn
 pub attained-added : (from : ℕ) (s t : SketchData) (axis : Axis) (runs more : List Run) (first last : ℕ) (next : Branch)
@@ -215,15 +193,4 @@ pub picture-attained : (s : SketchData) (root : Branch) (p : PictureData) (book 
     (held : List HeldData) (place : ℕ)
     → p ≡ record { leaves = s.leaves; forks = s.forks; root = root; spent = s.spent }
     → All (IsPlainHeld book labels []) held → IsAttainedAt s root held place → IsAttained book p place
-picture-attained s root p book labels held place is all a =
-    let h = All-contains (IsPlainHeld book labels []) held a.held_one all a.there in
-    record {
-      at = h.place;
-      region = h.region;
-      input = a.input;
-      there = h.there;
-      is = a.member.input;
-      member = ap (λ (x : PieceData). is_member x a.input) (sym h.piece) ∙ a.member.member;
-      shown = ap (λ (x : PictureData). labels_at x a.input) is
-          ∙ (a.shown ∙ ap (λ (x : PictureData). slice_index_or x.leaves place []) (sym is));
-    }
+picture-attained s root p book labels held place is all a = grind (arith, common_steps)

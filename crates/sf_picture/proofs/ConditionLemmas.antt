@@ -7,8 +7,6 @@ use Rattle.std.proofs.lemmas.List.Elements.{All-contains}
 use Rattle.std.proofs.lemmas.Option.{same_Some, slice_get_within, get_or_from_slice_get}
 use Rattle.sf_insn.specs.declared.input.Input.{Input}
 use Rattle.sf_insn.specs.Inputs.{IsInput}
-use Rattle.sf_insn.specs.declared.ops.Test.{Test}
-use Rattle.sf_insn.specs.declared.ops.Test.TheVariants.{Equal}
 use Rattle.sf_insn.specs.Words.{passes}
 use Rattle.sf_sym.specs.declared.pool.Node.{Node}
 use Rattle.sf_sym.specs.declared.pool.Cond.{Cond}
@@ -26,9 +24,7 @@ use Rattle.sf_picture.proofs.CutLemmas.{between-more}
 -- each condition of a plain piece is plain
 pub plain-condition : (p : PieceData) (i : ℕ) (cond : Cond) → IsPlainPiece p → slice_get p.conditions i ≡ Some cond
     → IsPlainCondition p.pool cond
-plain-condition p i cond plain there =
-    subst (IsPlainCondition p.pool) (get_or_from_slice_get p.conditions i cond cond there)
-    (plain.conditions i cond (slice_get_within p.conditions i cond there))
+plain-condition p i cond plain there = search (arith, get_or_from_slice_get, slice_get_within)
 
 -- cuts lie at the conditions from a place on
 abbrev pub LieAtConditionsFrom : PieceData → List Cut → ℕ → Type 0
@@ -37,8 +33,7 @@ LieAtConditionsFrom p cuts n = (j : ℕ) (c : Cond) → n ≤ j → slice_get p.
 -- cuts that tell the results of a condition apart lie at it
 pub lies-at : (p : PieceData) (cuts : List Cut) (n : ℕ) (cond : Cond) → slice_get p.conditions n ≡ Some cond
     → LieBetweenResults p.pool cond cuts → LieAtCondition p cuts cond
-lies-at p cuts n cond there told d e di ei member unmet =
-    told d e di ei (meets p n cond d there member) unmet
+lies-at p cuts n cond there told d e di ei member unmet = search (arith, meets)
 
 -- so do more cuts
 pub condition-more : (p : PieceData) (cuts more : List Cut) (cond : Cond)
@@ -59,14 +54,7 @@ conditions-more p cuts more n cond there keeps here after j c le at =
 -- a node that is single is so with more cuts
 pub single-more : (p : PieceData) (cuts more : List Cut) (node : ℕ)
     → ((c : Cut) → Contains cuts c → Contains more c) → IsSingle p cuts node → IsSingle p more node
-single-more p cuts more node keeps s = record {
-  place = s.place;
-  cond = s.cond;
-  there = s.there;
-  of_node = s.of_node;
-  says = s.says;
-  lie = condition-more p cuts more s.cond keeps s.lie;
-}
+single-more p cuts more node keeps s = search (arith, condition-more)
 
 -- a result that is to be true is true
 same-true : (b : Bool) → same b true ≡ true → b ≡ true
@@ -76,14 +64,7 @@ same-true false e = absurd (true≢false (sym e))
 -- on an input that meets it, the node has the number that the condition says
 said-number : (ns : List Node) (cond : Cond) (d : Input) → IsPool ns → (s : SaysNumber ns cond)
     → is_met ns d cond ≡ true → value_of ns d cond.node.0 ≡ s.number
-said-number ns cond d pool s met =
-    let k = value-constant ns d cond.other.0 s.number pool s.within s.other in
-    let v = value_of ns d cond.node.0 in
-    let plain : same (passes Equal v s.number) true ≡ true =
-    ap (λ (x : ℕ). same (passes Equal v x) true) (sym k)
-    ∙ (ap (λ (t : Test). same (passes t v (value_of ns d cond.other.0)) true) (sym s.test)
-    ∙ (ap (λ (b : Bool). same (passes cond.test v (value_of ns d cond.other.0)) b) (sym s.sense) ∙ met)) in
-    eqb-true v s.number (same-true (passes Equal v s.number) plain)
+said-number ns cond d pool s met = search (arith, value-constant, eqb-true, same-true)
 
 -- Cuts that lie at a condition that says the number of a node lie at each plain condition about it.
 pub lies-by-single : (p : PieceData) (cuts : List Cut) (n : ℕ) (cond : Cond) → IsPool p.pool

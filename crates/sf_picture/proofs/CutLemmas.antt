@@ -1,4 +1,5 @@
 -- Cuts: those of a test lie between the numbers that it tells apart, and moving a cut into a window keeps it between.
+use Rattle.std.proofs.lemmas.Grind.{common_steps}
 use Rattle.std.proofs.Common.{◌≡◌, ℕ, ◌<◌, ◌≤◌, ◌+◌, ◌-◌, ◌^◌, ◌⊎◌, Bool, true, false, true≢false, List, length, length-drop, take, drop, get_or, Some, None, min, max, refl, sym, ap, subst, ◌∙◌, inl, inr, arith}
 use Rattle.std.specs.Prelude.{◌==◌, bit_and, slice_index, Contains, All}
 use Rattle.std.proofs.lemmas.Bool.{cases_eq, cases_lt, eqb-true, eqb-false, ltb-true, ltb-false, leb-true, leb-false, not-true, not-false}
@@ -10,17 +11,17 @@ use Rattle.sf_insn.specs.declared.input.Input.{Input}
 use Rattle.sf_insn.specs.declared.ops.Test.TheVariants.{Equal, Greater, GreaterOrEqual, AnyBit}
 use Rattle.sf_insn.specs.Words.{IsOneBit, passes}
 use Rattle.sf_sym.specs.declared.pool.Node.{Node}
-use Rattle.sf_sym.specs.declared.pool.Node.TheVariants.{Const, Word, Bin, Neg}
+use Rattle.sf_sym.specs.declared.pool.Node.TheVariants.{Const, Word}
 use Rattle.sf_sym.specs.declared.pool.Cond.{Cond}
-use Rattle.sf_sym.specs.Pool.{IsPool, node_at, node_value, values_of, value_of, same, is_met}
+use Rattle.sf_sym.specs.Pool.{IsPool, node_at, node_value, values_of, value_of, same}
 use Rattle.sf_sym.specs.ValueLaws.{value-node, value-constant}
-use Rattle.sf_dom.specs.Facts.{FactsView, known_at, IsWordOrConst, IsPlainCondition}
+use Rattle.sf_dom.specs.Facts.{FactsView, known_at, IsPlainCondition}
 use Rattle.sf_dom.specs.FactsLaws.{agreeing-word}
 use Rattle.sf_picture.specs.declared.axis.Axis.{Axis}
 use Rattle.sf_picture.specs.declared.cuts.Cut.{Cut}
 use Rattle.sf_picture.specs.declared.cuts.NumberTest.{NumberTest}
 use Rattle.sf_picture.specs.declared.windows.Window.{Window}
-use Rattle.sf_picture.specs.Cuts.{LiesBetweenNumbers, SomeLiesBetweenNumbers, LiesBetween, SomeLiesBetween, IsPlainCut, LieBetweenResults, IsMovedTo, IsWindow}
+use Rattle.sf_picture.specs.Cuts.{SomeLiesBetweenNumbers, LiesBetween, SomeLiesBetween, IsPlainCut, LieBetweenResults, IsMovedTo, IsWindow}
 use Rattle.sf_picture.proofs.SpanLemmas.{whole-number}
 
 -- ---- tests against a number
@@ -32,15 +33,7 @@ Sides last m n = ((m ≤ last) × (last < n)) ⊎ ((n ≤ last) × (last < m))
 -- a cut of a whole word lies between two numbers
 whole-between : (axis : Axis) (last m n : ℕ) (cuts : List Cut) → axis.mask ≡ 4294967295 → m < 2 ^ 32 → n < 2 ^ 32
     → Sides last m n → Contains cuts (record { axis = axis; last = last }) → SomeLiesBetweenNumbers cuts axis.word m n
-whole-between axis last m n cuts whole lm ln sides there =
-    let em : m ≡ bit_and m axis.mask = sym (ap (bit_and m) whole ∙ whole-number m lm) in
-    let en : n ≡ bit_and n axis.mask = sym (ap (bit_and n) whole ∙ whole-number n ln) in
-    record {
-      cut = record { axis = axis; last = last };
-      there = there;
-      of_word = refl;
-      between = subst (λ (x : ℕ). Sides last x (bit_and n axis.mask)) em (subst (λ (y : ℕ). Sides last m y) en sides);
-    }
+whole-between axis last m n cuts whole lm ln sides there = grind (arith, common_steps, whole-number)
 
 pub equal-between : (axis : Axis) (k m n : ℕ) (cuts : List Cut) → axis.mask ≡ 4294967295 → m < 2 ^ 32 → n < 2 ^ 32
     → passes Equal m k ≡ true → passes Equal n k ≡ false
@@ -61,19 +54,14 @@ pub greater-between : (axis : Axis) (k m n : ℕ) (cuts : List Cut) → axis.mas
     → passes Greater m k ≡ true → passes Greater n k ≡ false
     → (k < axis.mask → Contains cuts (record { axis = axis; last = k })) → SomeLiesBetweenNumbers cuts axis.word m n
 greater-between axis k m n cuts whole lm ln met unmet at =
-    let above : k < m = ltb-true k m met in
-    let rest : n ≤ k = ltb-false k n unmet in
-    whole-between axis k m n cuts whole lm ln (inr (rest, above)) (at (omega arith))
+    grind (arith, common_steps, ltb-true, ltb-false, whole-between)
 
 pub least-between : (axis : Axis) (k m n : ℕ) (cuts : List Cut) → axis.mask ≡ 4294967295 → m < 2 ^ 32 → n < 2 ^ 32
     → passes GreaterOrEqual m k ≡ true → passes GreaterOrEqual n k ≡ false
     → (0 < k → k - 1 < axis.mask → Contains cuts (record { axis = axis; last = k - 1 }))
     → SomeLiesBetweenNumbers cuts axis.word m n
 least-between axis k m n cuts whole lm ln met unmet below =
-    let above : k ≤ m = leb-true k m met in
-    let rest : n < k = leb-false k n unmet in
-    whole-between axis (k - 1) m n cuts whole lm ln (inr (omega arith, omega arith))
-    (below (omega arith) (omega arith))
+    grind (arith, common_steps, leb-true, leb-false, whole-between)
 
 -- the bits of a number that the whole word has
 all-bits : (mask k : ℕ) → mask ≡ 4294967295 → k < 2 ^ 32 → bit_and mask k ≡ k
@@ -101,10 +89,7 @@ bits-between axis k m n cuts whole lk met unmet at =
 -- a bit of a word makes a plain cut
 pub bit-plain : (axis : Axis) (k : ℕ) → axis.mask ≡ 4294967295 → axis.word < 16 → k < 2 ^ 32 → IsOneBit k
     → IsPlainCut (record { axis = record { word = axis.word; mask = bit_and axis.mask k }; last = 0 })
-bit-plain axis k whole word lk one = record {
-  word = word;
-  kind = inr (subst IsOneBit (sym (all-bits axis.mask k whole lk)) one, refl);
-}
+bit-plain axis k whole word lk one = grind (arith, common_steps, all-bits)
 
 -- ---- conditions
 
@@ -120,23 +105,12 @@ differ false false s e f = absurd (true≢false (sym e ∙ f))
 
 -- what lies between two numbers lies between them in the other order
 turned : (cuts : List Cut) (word m n : ℕ) → SomeLiesBetweenNumbers cuts word n m → SomeLiesBetweenNumbers cuts word m n
-turned cuts word m n s = record {
-  cut = s.cut;
-  there = s.there;
-  of_word = s.of_word;
-  between = elim s.between [ inl h ↦ inr h | inr h ↦ inl h ];
-}
+turned cuts word m n s = grind (arith, common_steps)
 
 -- between numbers of a word, between the inputs that have them
 of-inputs : (cuts : List Cut) (word : ℕ) (d e : Input)
     → SomeLiesBetweenNumbers cuts word (slice_index d.words word) (slice_index e.words word) → SomeLiesBetween cuts d e
-of-inputs cuts word d e s = record {
-  cut = s.cut;
-  there = s.there;
-  between = subst (λ (w : ℕ).
-      LiesBetweenNumbers s.cut.axis.mask s.cut.last (slice_index d.words w) (slice_index e.words w)) (sym s.of_word)
-      s.between;
-}
+of-inputs cuts word d e s = grind (arith, common_steps)
 
 -- the value of a node that is a word
 word-value : (ns : List Node) (d : Input) (i w : ℕ) → IsPool ns → i < length ns → node_at ns i ≡ Word w
@@ -172,17 +146,7 @@ word-between ns cond w k cuts pool node other lw is number told d e di ei met un
 pub constant-between : (ns : List Node) (cond : Cond) (c k : ℕ) (cuts : List Cut) → IsPool ns
     → cond.node.0 < length ns → cond.other.0 < length ns → node_at ns cond.node.0 ≡ Const c
     → node_at ns cond.other.0 ≡ Const k → LieBetweenResults ns cond cuts
-constant-between ns cond c k cuts pool node other is number d e di ei met unmet =
-    let vd = value-constant ns d cond.node.0 c pool node is in
-    let ve = value-constant ns e cond.node.0 c pool node is in
-    let kd = value-constant ns d cond.other.0 k pool other number in
-    let ke = value-constant ns e cond.other.0 k pool other number in
-    let node_same : value_of ns d cond.node.0 ≡ value_of ns e cond.node.0 = vd ∙ sym ve in
-    let other_same : value_of ns d cond.other.0 ≡ value_of ns e cond.other.0 = kd ∙ sym ke in
-    let result : is_met ns d cond ≡ is_met ns e cond =
-    ap (λ (x : ℕ). same (passes cond.test x (value_of ns d cond.other.0)) cond.sense) node_same
-    ∙ ap (λ (x : ℕ). same (passes cond.test (value_of ns e cond.node.0) x) cond.sense) other_same in
-    absurd (true≢false (sym met ∙ (result ∙ unmet)))
+constant-between ns cond c k cuts pool node other is number d e di ei met unmet = search (arith, value-constant)
 
 -- the axis of a plain condition, where its node has one
 pub cond-axis : (ns : List Node) (cond : Cond) (tested : NumberTest) (axis : Axis) (p : IsPlainCondition ns cond)
@@ -190,20 +154,7 @@ pub cond-axis : (ns : List Node) (cond : Cond) (tested : NumberTest) (axis : Axi
     → ((w : ℕ) → node_at ns tested.node.0 ≡ Word w → Some axis ≡ Some (record { word = w; mask = 4294967295 }))
     → ((c : ℕ) → node_at ns tested.node.0 ≡ Const c → Some axis ≡ None)
     → (w : ℕ) × (node_at ns cond.node.0 ≡ Word w) × (axis ≡ record { word = w; mask = 4294967295 })
-cond-axis ns cond tested axis p is whole constant = by (node_at ns cond.node.0) refl p.node
-  where
-    here : node_at ns tested.node.0 ≡ node_at ns cond.node.0
-    here = ap (λ (t : NumberTest). node_at ns t.node.0) is
-
-    missing : (x : Axis) → Some x ≡ None → ⊥
-    missing x e = cc
-
-    by : (n : Node) → node_at ns cond.node.0 ≡ n → IsWordOrConst n
-        → (w : ℕ) × (node_at ns cond.node.0 ≡ Word w) × (axis ≡ record { word = w; mask = 4294967295 })
-    by (Const c) e some = absurd (missing axis (constant c (here ∙ e)))
-    by (Word w) e some = (w, e, same_Some axis (record { word = w; mask = 4294967295 }) (whole w (here ∙ e)))
-    by (Bin op a b) e some = absurd some
-    by (Neg a) e some = absurd some
+cond-axis ns cond tested axis p is whole constant = search (arith, same_Some)
 
 -- a plain condition whose node has an axis is told apart by the cuts of its test
 pub cond-between : (ns : List Node) (cond : Cond) (tested : NumberTest) (axis : Axis) (cuts : List Cut) → IsPool ns
@@ -215,30 +166,14 @@ pub cond-between : (ns : List Node) (cond : Cond) (tested : NumberTest) (axis : 
     → passes tested.test n tested.number ≡ false → SomeLiesBetweenNumbers cuts axis.word m n)
     → LieBetweenResults ns cond cuts
 cond-between ns cond tested axis cuts pool node other lw p is whole constant told =
-    let a = cond-axis ns cond tested axis p is whole constant in
-    let word : axis.word ≡ a.0 = ap (λ (x : Axis). x.word) a.2 in
-    let mask : axis.mask ≡ 4294967295 = ap (λ (x : Axis). x.mask) a.2 in
-    let low : a.0 < 16 = omega (arith, word, lw) in
-    word-between ns cond a.0 p.number cuts pool node other low a.1 p.other (λ m n lm ln met unmet.
-    subst (λ (w : ℕ). SomeLiesBetweenNumbers cuts w m n) word (told mask m n lm ln
-    (ap (λ (t : NumberTest). passes t.test m t.number) is ∙ met)
-    (ap (λ (t : NumberTest). passes t.test n t.number) is ∙ unmet)))
+    search (arith, cond-axis, word-between)
 
 -- one whose node has none is a test of two numbers
 pub none-between : (ns : List Node) (cond : Cond) (tested : NumberTest) (cuts : List Cut) → IsPool ns
     → cond.node.0 < length ns → cond.other.0 < length ns → (p : IsPlainCondition ns cond)
     → tested ≡ record { node = cond.node; test = cond.test; number = p.number }
     → ((w : ℕ) → node_at ns tested.node.0 ≡ Word w → ⊥) → LieBetweenResults ns cond cuts
-none-between ns cond tested cuts pool node other p is missing = by (node_at ns cond.node.0) refl p.node
-  where
-    here : node_at ns tested.node.0 ≡ node_at ns cond.node.0
-    here = ap (λ (t : NumberTest). node_at ns t.node.0) is
-
-    by : (n : Node) → node_at ns cond.node.0 ≡ n → IsWordOrConst n → LieBetweenResults ns cond cuts
-    by (Const c) e some = constant-between ns cond c p.number cuts pool node other e p.other
-    by (Word w) e some = absurd (missing w (here ∙ e))
-    by (Bin op a b) e some = absurd some
-    by (Neg a) e some = absurd some
+none-between ns cond tested cuts pool node other p is missing = search (arith, constant-between)
 
 -- ---- windows
 
@@ -304,13 +239,7 @@ moved-between facts cuts cut moved window lw is axis whole masked there ns d e c
 -- the moved cut of a plain one is plain
 pub moved-plain : (cut moved : Cut) → moved.axis ≡ cut.axis
     → ((cut.axis.mask ≡ 4294967295 → ⊥) → moved ≡ cut) → IsPlainCut cut → IsPlainCut moved
-moved-plain cut moved axis masked plain = elim (cases_eq cut.axis.mask 4294967295) [
-  | inl all ↦ record {
-    word = subst (λ (a : Axis). a.word < 16) (sym axis) plain.word;
-    kind = inl (ap (λ (a : Axis). a.mask) axis ∙ all);
-  }
-  | inr part ↦ subst IsPlainCut (sym (masked part)) plain
-]
+moved-plain cut moved axis masked plain = grind (arith, common_steps, cases_eq)
 
 -- a cut that lies between stays with more cuts
 pub between-more : (cuts more : List Cut) (d e : Input) → ((c : Cut) → Contains cuts c → Contains more c)
@@ -330,11 +259,7 @@ moved-more facts tested i d cuts more lt keeps here before =
 
 -- what is among the last is among all
 pub contains-drop : (cuts : List Cut) (k : ℕ) (c : Cut) → Contains (drop k cuts) c → Contains cuts c
-contains-drop cuts k c (j, lt, e) = (
-  k + j,
-  omega (arith, lt, length-drop k cuts),
-  sym (get_or-drop k cuts j c) ∙ e,
-)
+contains-drop cuts k c (j, lt, e) = search (arith, length-drop, get_or-drop)
 
 pub contains-part : (cuts : List Cut) (n k : ℕ) (c : Cut) → Contains (take n (drop k cuts)) c → Contains cuts c
 contains-part cuts n k c (j, lt, e) =

@@ -1,5 +1,6 @@
 -- How a picture is drawn, span after span.
-use Rattle.std.proofs.Common.{◌≡◌, ℕ, ◌<◌, ◌≤◌, ◌+◌, ◌⊎◌, suc, List, [], ◌∷◌, ◌++◌, length, length-append, get_or, Option, Some, None, refl, sym, ap, subst, ◌∙◌, inl, inr, arith}
+use Rattle.std.proofs.lemmas.Grind.{common_steps}
+use Rattle.std.proofs.Common.{◌≡◌, ℕ, ◌<◌, ◌≤◌, ◌+◌, ◌⊎◌, suc, List, [], ◌∷◌, ◌++◌, length, length-append, get_or, Option, Some, None, sym, subst, ◌∙◌, inl, inr, arith}
 use Rattle.std.specs.Prelude.{MatchOption, Contains, All, true, slice_get, slice_index}
 use Rattle.std.proofs.lemmas.Bool.{cases_eq, cases_lt}
 use Rattle.std.proofs.lemmas.Nat.{and_le_r}
@@ -12,7 +13,7 @@ use Rattle.sf_picture.specs.declared.axis.Axis.{Axis}
 use Rattle.sf_picture.specs.declared.picture.Branch.{Branch}
 use Rattle.sf_picture.specs.declared.picture.Branch.TheVariants.{Leaf, Fork}
 use Rattle.sf_picture.specs.declared.picture.Run.{Run}
-use Rattle.sf_picture.specs.Pictures.{number_on, next_of, IsBelow, AreRightForks}
+use Rattle.sf_picture.specs.Pictures.{number_on, IsBelow, AreRightForks}
 use Rattle.sf_picture.specs.Holding.{HeldData, IsHeldBy, IsKeptIn, IsHeldAt}
 use Rattle.sf_picture.specs.Drawing.{SketchData, Grows, shown_at, IsShownAt, NoneIsHeld, AreRuns, AddsRun, IsLeafOf, LeadsAs, IsFoundBelow, IsRightSketch, EndBelow, DrawsTo}
 use Rattle.sf_picture.proofs.SketchLemmas.{grows-none, grows-below, grows-shown, grows-lead}
@@ -79,12 +80,7 @@ all-added s t axis runs more first last next inside held grows right found kept 
 -- runs lead into a sketch that grew
 pub runs-grow : (s t : SketchData) (first : ℕ) (runs : List Run) → Grows s t
     → AreRuns (length s.leaves) (length s.forks) first runs → AreRuns (length t.leaves) (length t.forks) first runs
-runs-grow s t first runs grows h = record {
-  rising = h.rising;
-  apart = h.apart;
-  lead = grows-lead s t runs grows h.lead;
-  ends = h.ends;
-}
+runs-grow s t first runs grows h = grind (arith, common_steps, grows-lead)
 
 -- where the runs reach the greatest number of the axis, what is held is shown from the fork on
 pub fork-shows : (s t : SketchData) (axis : Axis) (runs : List Run) (first : ℕ) (held : List HeldData) (b : Branch)
@@ -104,14 +100,7 @@ fork-shows s t axis runs first held b grows right whole found leads = record {
 -- where there are no runs, nothing is held
 pub none-found : (s : SketchData) (axis : Axis) (runs : List Run) (first : ℕ) (held : List HeldData) → axis.mask < first
     → All (IsFoundBelow s axis runs first) held → runs ≡ [] → NoneIsHeld held
-none-found s axis runs first held whole found none k x lt d is =
-    let least : number_on axis d ≤ axis.mask = and_le_r (slice_index d.words axis.word) axis.mask in
-    let within : number_on axis d < first = omega arith in
-    let f = found k x lt d is within in
-    missing f.0 (ap (λ (rs : List Run). next_of rs (number_on axis d)) (sym none) ∙ f.1)
-  where
-    missing : (b : Branch) → None ≡ Some b → ⊥
-    missing b e = cc
+none-found s axis runs first held whole found none k x lt d is = grind (arith, common_steps, and_le_r)
 
 -- a leaf shows its labels
 pub leaf-shows : (s : SketchData) (labels : List ℕ) (b : Branch) (held : List HeldData) → IsLeafOf s labels b
@@ -125,9 +114,7 @@ leaf-shows s labels (Fork i) held leaf all = absurd leaf
 -- where there is no label, nothing is held
 pub none-labelled : (labels : List ℕ) (held : List HeldData) → labels ≡ []
     → All (λ (h : HeldData). (d : Input) → IsHeldBy h d → Contains labels h.label) held → NoneIsHeld held
-none-labelled labels held none all k x lt d is =
-    let there = subst (λ (l : List ℕ). Contains l (get_or held k x).label) none (all k x lt d is) in
-    omega (arith, there.1)
+none-labelled labels held none all k x lt d is = grind (arith, common_steps)
 
 -- nothing is held where nothing was drawn, so any branch shows it
 pub none-shows : (s : SketchData) (b : Branch) (labels : List ℕ) (held : List HeldData) → IsLeafOf s labels b
@@ -143,11 +130,7 @@ pub region-shown : (s : SketchData) (b : Branch) (held : List HeldData) (book : 
     (region : RegionData) (d : Input) → IsShownAt s b held → IsHeldAt held book place label
     → slice_get book.regions place ≡ Some region → IsInput d → is_member region.piece d ≡ true
     → Contains (shown_at s (Some b) d) label
-region-shown s b held book place label region d shown at there is member =
-    let h = at region d there is member in
-    subst (λ (l : ℕ). Contains (shown_at s (Some b) d) l) h.2
-    (All-contains (λ (g : HeldData). (e : Input) → IsHeldBy g e → Contains (shown_at s (Some b) e) g.label) held h.0
-    shown.shows h.1 d h.3)
+region-shown s b held book place label region d shown at there is member = grind (arith, common_steps)
 
 -- what a fork of all runs shows, or none where there are no runs
 pub drawn-fork : (o : Option Branch) (s t : SketchData) (axis : Axis) (runs : List Run) (first : ℕ)
@@ -169,29 +152,17 @@ drawn-leaf (Some b) s labels held all leaf = leaf-shows s labels b held leaf all
 
 -- the last number of a list that ends with it
 pub last-of : (xs before : List ℕ) (m k : ℕ) → xs ≡ before ++ m ∷ [] → suc k ≡ length xs → slice_index xs k ≡ m
-last-of xs before m k e is =
-    let len : suc (length before) ≡ length xs = sym (ap length e ∙ length-append before (m ∷ []) ∙ omega arith) in
-    let place : k ≡ length before = omega arith in
-    ap (λ (l : List ℕ). slice_index l k) e ∙ (ap (λ (i : ℕ). slice_index (before ++ m ∷ []) i) place ∙ at before)
-  where
-    at : (ys : List ℕ) → slice_index (ys ++ m ∷ []) (length ys) ≡ m
-    at [] = refl
-    at (y ∷ ys) = at ys
+last-of xs before m k e is = grind (arith, common_steps, length-append)
 
 -- all of a list that ends with the greatest number was passed
 pub whole-passed : (xs before : List ℕ) (m first index : ℕ) → xs ≡ before ++ m ∷ [] → length xs ≡ index
     → ((k : ℕ) → k < index → slice_index xs k < first) → m < first
-whole-passed xs before m first index e len passed =
-    let long : suc (length before) ≡ length xs = sym (ap length e ∙ length-append before (m ∷ []) ∙ omega arith) in
-    subst (λ (n : ℕ). n < first) (last-of xs before m (length before) e long) (passed (length before) (omega arith))
+whole-passed xs before m first index e len passed = grind (arith, common_steps, length-append, last-of)
 
 -- one last number more was passed
 pub passed-more : (xs : List ℕ) (index first next : ℕ) → ((k : ℕ) → k < index → slice_index xs k < first) → first ≤ next
     → slice_index xs index < next → (k : ℕ) → k < index + 1 → slice_index xs k < next
-passed-more xs index first next passed le here k lt = elim (cases_eq k index) [
-  | inl is ↦ subst (λ (i : ℕ). slice_index xs i < next) (sym is) here
-  | inr other ↦ (let before = passed k (omega arith) in omega arith)
-]
+passed-more xs index first next passed le here k lt = grind (arith, common_steps, cases_eq)
 
 ends-more : (rs : List Run) (first next : ℕ) → first ≤ next → EndBelow first rs → EndBelow next rs
 ends-more [] first next le h = tt
@@ -199,26 +170,13 @@ ends-more (r ∷ rs) first next le h = let end = h.0 in (omega arith, ends-more 
 
 runs-later : (leaves forks first next : ℕ) (rs : List Run) → first ≤ next → AreRuns leaves forks first rs
     → AreRuns leaves forks next rs
-runs-later leaves forks first next rs le h = record {
-  rising = h.rising;
-  apart = h.apart;
-  lead = h.lead;
-  ends = ends-more rs first next le h.ends;
-}
+runs-later leaves forks first next rs le h = grind (arith, common_steps, ends-more)
 
 -- nothing of a span was left
 pub draws-none : (s : SketchData) (runs : List Run) (held : List HeldData) (axis : Axis) (first last : ℕ)
     → IsRightSketch s → AreRuns (length s.leaves) (length s.forks) first runs → first ≤ axis.mask + 1
     → (last < first) ⊎ (axis.mask < last) → DrawsTo s s runs runs held axis first last first
-draws-none s runs held axis first last right h short past = record {
-  grows = grows-none s;
-  right = right;
-  runs = h;
-  found = λ found. found;
-  short = short;
-  onward = omega arith;
-  passed = λ inside. elim past [ inl before ↦ before | inr beyond ↦ absurd (omega arith) ];
-}
+draws-none s runs held axis first last right h short past = grind (arith, common_steps, grows-none)
 
 -- nothing that is held had a member in the span
 pub draws-missed : (s t : SketchData) (runs : List Run) (inside held : List HeldData) (axis : Axis) (first last : ℕ)
@@ -259,5 +217,4 @@ draws-added s t runs more inside held axis first last next grows right right' h 
 -- runs for all numbers of an axis
 pub runs-whole : (leaves forks first mask : ℕ) (rs : List Run) → mask < first → first ≤ mask + 1
     → AreRuns leaves forks first rs → AreRuns leaves forks (mask + 1) rs
-runs-whole leaves forks first mask rs passed short h =
-    let same : first ≡ mask + 1 = omega arith in subst (λ (n : ℕ). AreRuns leaves forks n rs) same h
+runs-whole leaves forks first mask rs passed short h = grind (arith, common_steps)

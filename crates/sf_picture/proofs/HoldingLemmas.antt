@@ -1,5 +1,6 @@
 -- What is held, and the labels of it.
-use Rattle.std.proofs.Common.{◌≡◌, ℕ, ◌<◌, ◌≤◌, ◌⊎◌, ◌+◌, ◌^◌, Bool, true, false, true≢false, List, [], ◌∷◌, ◌++◌, length, take, get_or, Some, refl, sym, ap, subst, ◌∙◌, inl, inr, arith}
+use Rattle.std.proofs.lemmas.Grind.{common_steps}
+use Rattle.std.proofs.Common.{◌≡◌, ℕ, ◌<◌, ◌≤◌, ◌⊎◌, ◌+◌, ◌^◌, Bool, true, false, List, [], ◌∷◌, ◌++◌, length, take, get_or, Some, sym, ap, subst, ◌∙◌, inl, inr, arith}
 use Rattle.std.specs.Prelude.{slice_get, slice_index, bit_and, Contains, All}
 use Rattle.std.proofs.lemmas.Bool.{cases_eq}
 use Rattle.std.specs.List.{list_all}
@@ -36,25 +37,17 @@ not-met p cs i c there fails = list_all_at p cs i c (slice_get_within cs i c the
 pub meets : (p : PieceData) (i : ℕ) (c : Cond) (d : Input) → slice_get p.conditions i ≡ Some c → is_member p d ≡ true
     → is_met p.pool d c ≡ true
 unfolding is_member
-meets p i c d there member = by (is_met p.pool d c) refl
-  where
-    by : (b : Bool) → is_met p.pool d c ≡ b → is_met p.pool d c ≡ true
-    by true e = e
-    by false e = absurd (true≢false (sym member ∙ not-met (is_met p.pool d) p.conditions i c there e))
+meets p i c d there member = search (arith, not-met)
 
 -- one of its conditions that no input meets leaves no member
 pub none-agrees : (p : PieceData) (f g : FactsView) (i : ℕ) (c : Cond) → KeepsMembers p f g
     → slice_get p.conditions i ≡ Some c → NoInput g p.pool (Meets p.pool c) → NoMemberAgrees p f
-none-agrees p f g i c keeps there none d is member agrees =
-    none d is (keeps.keeps d is member agrees) (meets p i c d there member)
+none-agrees p f g i c keeps there none d is member agrees = search (arith, meets)
 
 -- where one is learnt, members agree still
 pub keeps-more : (p : PieceData) (f g h : FactsView) (i : ℕ) (c : Cond) → KeepsMembers p f g
     → slice_get p.conditions i ≡ Some c → Learns g h p.pool c → KeepsMembers p f h
-keeps-more p f g h i c keeps there learns = record {
-  covers = learns.covers;
-  keeps = λ d is member agrees. learns.keeps d is (keeps.keeps d is member agrees) (meets p i c d there member);
-}
+keeps-more p f g h i c keeps there learns = search (arith, meets)
 
 -- what was kept is kept among more
 pub kept-push : (inside : List HeldData) (k : HeldData) (axis : Axis) (first last : ℕ) (h : HeldData)
@@ -76,27 +69,16 @@ kept-none inside axis first last h none d held span = absurd (none d held span)
 -- no member is held in a span where no input that agrees with its facts is
 pub none-held : (h : HeldData) (ns : List Node) (axis : Axis) (first last : ℕ) → ns ≡ h.piece.pool
     → NoneInSpan h.facts ns axis first last → NoneIsHeldIn h axis first last
-none-held h ns axis first last same none d held span =
-    none d held.input (subst (λ (k : List Node). Agrees h.facts k d) (sym same) held.agrees) span
+none-held h ns axis first last same none d held span = grind (arith, common_steps)
 
 -- the members of a span are held with the facts that keep them
 pub in-held : (h k : HeldData) (ns : List Node) (f : FactsView) (axis : Axis) (first last : ℕ) → ns ≡ h.piece.pool
     → k ≡ record h { facts = f } → KeepsSpan h.facts ns axis first last f → IsHeldIn h axis first last k
-in-held h k ns f axis first last same is keeps =
-    subst (IsHeldIn h axis first last) (sym is) (record {
-      label = refl;
-      keeps = λ d held span. record {
-        input = held.input;
-        member = held.member;
-        agrees = subst (λ (n : List Node). Agrees f n d) same
-            (keeps d held.input (subst (λ (n : List Node). Agrees h.facts n d) (sym same) held.agrees) span);
-      };
-    })
+in-held h k ns f axis first last same is keeps = grind (arith, common_steps)
 
 -- all members are held as they were
 pub same-held : (h k : HeldData) (axis : Axis) (first last : ℕ) → k ≡ h → IsHeldIn h axis first last k
-same-held h k axis first last is =
-    subst (IsHeldIn h axis first last) (sym is) (record { label = refl; keeps = λ d held span. held })
+same-held h k axis first last is = grind (arith, common_steps)
 
 -- no member is held where none agrees with the facts
 pub none-ruled : (h : HeldData) → NoMemberAgrees h.piece h.facts → (d : Input) → IsHeldBy h d → ⊥
@@ -105,9 +87,7 @@ none-ruled h none d held = none d held.input held.member held.agrees
 -- what was held is held among more
 pub held-push : (held : List HeldData) (k : HeldData) (s : BookData) (place label : ℕ) → IsHeldAt held s place label
     → IsHeldAt (held ++ k ∷ []) s place label
-held-push held k s place label at region d there is member =
-    let h = at region d there is member in
-    (h.0, Contains-append_left held (k ∷ []) h.0 h.1, h.2, h.3)
+held-push held k s place label at region d there is member = grind (arith, common_steps)
 
 -- a region is held once it is added, with facts that all members agree with
 pub held-last : (held : List HeldData) (k : HeldData) (s : BookData) (place label : ℕ) (r : RegionData) (p : PieceData)
@@ -130,10 +110,7 @@ pub held-more : (held : List HeldData) (s : BookData) (labels : List ℕ) (n : �
     → ((place : ℕ) → place < n → IsHeldAt held s place (slice_index labels place))
     → IsHeldAt held s n (slice_index labels n)
     → (place : ℕ) → place < n + 1 → IsHeldAt held s place (slice_index labels place)
-held-more held s labels n before here place lt = elim (cases_eq place n) [
-  | inl same ↦ subst (λ (i : ℕ). IsHeldAt held s i (slice_index labels i)) (sym same) here
-  | inr other ↦ before place (omega arith)
-]
+held-more held s labels n before here place lt = grind (arith, common_steps, cases_eq)
 
 -- its members' labels are among some
 abbrev pub IsLabelled : List ℕ → HeldData → Type 0
@@ -168,8 +145,7 @@ kept-more held i h inside more axis first last lt is keeps here before =
 
 pub kept-all : (held : List HeldData) (inside : List HeldData) (axis : Axis) (first last n : ℕ) → length held ≤ n
     → All (IsKeptIn inside axis first last) (take n held) → All (IsKeptIn inside axis first last) held
-kept-all held inside axis first last n le all =
-    subst (All (IsKeptIn inside axis first last)) (take_all n held le) all
+kept-all held inside axis first last n le all = search (arith, take_all)
 
 -- ---- what is held is narrowed to spans
 
@@ -178,66 +154,31 @@ pub known-ends : (h : HeldData) (axis : Axis) (e : Ends) (k : Known) → axis.wo
     → k ≡ known_at h.facts.known axis.word
     → ((n : ℕ) → n < 2 ^ 32 → Admits k n → (e.low ≤ bit_and n axis.mask) × (bit_and n axis.mask ≤ e.high))
     → AreEndsOf h axis e
-known-ends h axis e k word covers is ends d input agrees =
-    ends (slice_index d.words axis.word) (input.each axis.word)
-    (subst (λ (x : Known). Admits x (slice_index d.words axis.word)) (sym is)
-    (agreeing-word h.facts h.piece.pool d axis.word covers word agrees).admitted)
+known-ends h axis e k word covers is ends d input agrees = search (arith, agreeing-word)
 
 -- no member is held in a span that the ends miss
 pub ends-miss : (h : HeldData) (axis : Axis) (e : Ends) (first last : ℕ) → AreEndsOf h axis e
     → (last < e.low) ⊎ (e.high < first) → NoneIsHeldIn h axis first last
-ends-miss h axis e first last ends past d held span =
-    let both = ends d held.input held.agrees in
-    let above = span.above in
-    let below = span.below in
-    elim past [ inl before ↦ omega (arith, both.0, before) | inr behind ↦ omega (arith, both.1, behind) ]
+ends-miss h axis e first last ends past d held span = grind (arith, common_steps)
 
 -- one more of the ends
 pub ends-more : (held : List HeldData) (axis : Axis) (ends : List Ends) (n : ℕ) (h : HeldData) (e : Ends)
     → length ends ≡ n → h ≡ get_or held n h → AreEndsOf h axis e
     → ((i : ℕ) (k : HeldData) (x : Ends) → i < n → AreEndsOf (get_or held i k) axis (get_or ends i x)) → n < length held
     → (i : ℕ) (k : HeldData) (x : Ends) → i < n + 1 → AreEndsOf (get_or held i k) axis (get_or (ends ++ e ∷ []) i x)
-ends-more held axis ends n h e count is here before lt i k x less = elim (cases_eq i n) [
-  | inl same ↦ (let he : get_or (ends ++ e ∷ []) i x ≡ e = get_or_push ends e x i (count ∙ sym same) in
-      let hh : get_or held i k ≡ h = ap (λ (j : ℕ). get_or held j k) same
-      ∙ (get_or_default held n k h lt ∙ sym is) in
-      subst (λ (y : Ends). AreEndsOf (get_or held i k) axis y) (sym he)
-      (subst (λ (y : HeldData). AreEndsOf y axis e) (sym hh) here))
-  | inr other ↦ (let older : i < length ends = omega arith in
-      let he = get_or_append_left ends (e ∷ []) x i older in
-      subst (λ (y : Ends). AreEndsOf (get_or held i k) axis y) (sym he) (before i k x (omega arith)))
-]
+ends-more held axis ends n h e count is here before lt i k x less =
+    search (arith, cases_eq, get_or_push, get_or_default, get_or_append_left)
 
 -- the same again, where the ends lie in the span
 pub narrowed-same : (h k : HeldData) (axis : Axis) (e : Ends) (first last : ℕ) → k ≡ h → Covers h.facts h.piece.pool
     → AreEndsOf h axis e → (first ≤ e.low) × (e.high ≤ last) → IsNarrowed h axis first last k
-narrowed-same h k axis e first last is covers ends within =
-    subst (IsNarrowed h axis first last) (sym is) (record {
-      piece = refl;
-      label = refl;
-      cuts = refl;
-      covers = covers;
-      only = λ exact d input agrees.
-          let both = ends d input agrees in
-          let low = within.0 in
-          let high = within.1 in
-          (agrees, record { above = omega (arith, both.0); below = omega (arith, both.1) });
-    })
+narrowed-same h k axis e first last is covers ends within = grind (arith, common_steps)
 
 -- the same with other facts
 pub narrowed-facts : (h k : HeldData) (ns : List Node) (f : FactsView) (axis : Axis) (first last : ℕ)
     → ns ≡ h.piece.pool → k ≡ record h { facts = f } → Covers f ns
     → (IsExactSpan axis first last → KeepsOnlySpan h.facts ns axis first last f) → IsNarrowed h axis first last k
-narrowed-facts h k ns f axis first last same is covers only =
-    subst (IsNarrowed h axis first last) (sym is) (record {
-      piece = refl;
-      label = refl;
-      cuts = refl;
-      covers = subst (Covers f) same covers;
-      only = λ exact d input agrees.
-          let r = only exact d input (subst (λ (n : List Node). Agrees f n d) (sym same) agrees) in
-          (subst (λ (n : List Node). Agrees h.facts n d) same r.0, r.1);
-    })
+narrowed-facts h k ns f axis first last same is covers only = grind (arith, common_steps)
 
 pub from-push : (held : List HeldData) (one k : HeldData) (axis : Axis) (first last : ℕ) (inside : List HeldData)
     → Contains held one → IsNarrowed one axis first last k → All (IsFromSome held axis first last) inside

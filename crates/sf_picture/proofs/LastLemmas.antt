@@ -1,5 +1,5 @@
 -- The last numbers of spans, and all axes.
-use Rattle.std.proofs.Common.{◌≡◌, ℕ, ◌<◌, ◌≤◌, ◌+◌, ◌-◌, List, [], ◌∷◌, ◌++◌, length, length-append, take, get_or, eqb, refl, sym, ap, subst, ◌∙◌, inl, inr, arith}
+use Rattle.std.proofs.Common.{◌≡◌, ℕ, ◌<◌, ◌≤◌, ◌+◌, ◌-◌, List, [], ◌∷◌, ◌++◌, length, length-append, take, get_or, eqb, refl, sym, ap, subst, inl, inr, arith}
 use Rattle.std.specs.Prelude.{Contains, All, slice_index}
 use Rattle.std.specs.List.{dedup}
 use Rattle.std.specs.List.Sorted.{IsNonDecreasing, IsStrictlyIncreasing, IsPermutation}
@@ -72,13 +72,7 @@ lasts-whole held axis found sorted once n le has only moved is rising =
 -- none is above the greatest number of the axis
 pub lasts-inside : (held : List HeldData) (axis : Axis) (lasts : List ℕ) (i : ℕ) → AreLasts held axis lasts
     → i < length lasts → slice_index lasts i ≤ axis.mask
-lasts-inside held axis lasts i l lt =
-    let count : length lasts ≡ length l.before + 1 =
-    ap length l.whole ∙ (length-append l.before (axis.mask ∷ []) ∙ omega arith) in
-    let end : slice_index lasts (length l.before) ≡ axis.mask =
-    ap (λ (xs : List ℕ). slice_index xs (length l.before)) l.whole
-    ∙ get_or_push l.before axis.mask 0 (length l.before) refl in
-    subst (λ (n : ℕ). slice_index lasts i ≤ n) end (l.rising i (length l.before) 0 (omega arith) (omega arith))
+lasts-inside held axis lasts i l lt = search (arith, length-append, get_or_push)
 
 -- ---- axes
 

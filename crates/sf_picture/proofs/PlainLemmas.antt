@@ -1,10 +1,11 @@
 -- Pictures of plain stacks: where all axes are done, what is held has one label.
+use Rattle.std.proofs.lemmas.Grind.{common_steps}
 use Rattle.std.proofs.Common.{◌≡◌, ℕ, ◌<◌, ◌≤◌, ◌+◌, ◌⊎◌, true, List, [], ◌∷◌, ◌++◌, length, length-append, take, get_or, Some, sym, ap, subst, ◌∙◌, inl, inr, arith}
 use Rattle.std.specs.Prelude.{slice_get, slice_index, Contains, All}
 use Rattle.std.proofs.lemmas.Bool.{cases_lt, true_from_ne_false}
 use Rattle.std.proofs.lemmas.Nat.{and_le_r}
 use Rattle.std.proofs.lemmas.List.{take_all, take_more, get_or_append_left, get_or_push, get_or_default}
-use Rattle.std.proofs.lemmas.List.Elements.{All-contains, All-push, Contains-push_cases}
+use Rattle.std.proofs.lemmas.List.Elements.{All-contains, All-push}
 use Rattle.sf_insn.specs.declared.input.Input.{Input}
 use Rattle.sf_insn.specs.Inputs.{IsInput}
 use Rattle.sf_insn.specs.Words.{IsOneBit}
@@ -38,9 +39,7 @@ region-one s i j r q d h input at at' member member' =
 -- an input that is held, of each that is
 pub some-held : (s : BookData) (labels : List ℕ) (box : List Span) (h : HeldData) → IsPlainHeld s labels box h
     → (d : Input) × IsHeldBy h d
-some-held s labels box h p =
-    let d = some-input h.facts h.piece.pool p.covers p.plain.nodes in
-    (d.0, record { input = d.1; member = (p.inside d.0 d.1 d.2).1; agrees = d.2 })
+some-held s labels box h p = grind (arith, common_steps, some-input)
 
 -- where no cut of one lies in the box, each member of the other that is held is a member of it too
 both-members : (s : BookData) (labels : List ℕ) (box : List Span) (axes : List Axis) (h k : HeldData) (e : Input)
@@ -76,51 +75,17 @@ one-label s labels box held axes at task le h k ih ik =
 child-held : (s : BookData) (labels : List ℕ) (box : List Span) (span : Span) (h k : HeldData)
     → IsPlainHeld s labels box h → IsNarrowed h span.axis span.first span.last k
     → IsExactSpan span.axis span.first span.last → IsPlainHeld s labels (span ∷ box) k
-child-held s labels box span h k p n exact = record {
-  place = p.place;
-  region = p.region;
-  there = p.there;
-  piece = n.piece ∙ p.piece;
-  label = n.label ∙ p.label;
-  plain = subst IsPlainPiece (sym n.piece) p.plain;
-  cuts = subst (AreCutsOf k.piece) (sym n.cuts) (subst (λ (x : PieceData). AreCutsOf x h.cuts) (sym n.piece) p.cuts);
-  covers = n.covers;
-  inside = λ d input agrees.
-      let r = n.only exact d input agrees in
-      let q = p.inside d input r.0 in
-      ((r.1, q.0), ap (λ (x : PieceData). is_member x d) n.piece ∙ q.1);
-}
+child-held s labels box span h k p n exact = grind (arith, common_steps)
 
 -- a cut of the span's axis lies between no two inputs of the span
 not-between : (span : Span) (c : Cut) (d e : Input) → c.axis ≡ span.axis → (c.last < span.first) ⊎ (span.last ≤ c.last)
     → IsInSpan span.axis span.first span.last d → IsInSpan span.axis span.first span.last e → LiesBetween c d e → ⊥
-not-between span c d e is side ind ine between =
-    let nd : number_on c.axis d ≡ number_on span.axis d = ap (λ (a : Axis). number_on a d) is in
-    let ne : number_on c.axis e ≡ number_on span.axis e = ap (λ (a : Axis). number_on a e) is in
-    let d-above = ind.above in
-    let d-below = ind.below in
-    let e-above = ine.above in
-    let e-below = ine.below in
-    elim between [
-      | inl b ↦ elim side [
-        | inl before ↦ omega (arith, b.0, b.1, before)
-        | inr behind ↦ omega (arith, b.0, b.1, behind)
-      ]
-      | inr b ↦ elim side [
-        | inl before ↦ omega (arith, b.0, b.1, before)
-        | inr behind ↦ omega (arith, b.0, b.1, behind)
-      ]
-    ]
+not-between span c d e is side ind ine between = grind (arith, common_steps)
 
 -- the axes that are done, with one more
 done-cases : (axes : List Axis) (at : ℕ) (axis a : Axis) → at < length axes → get_or axes at axis ≡ axis
     → Contains (take (at + 1) axes) a → Contains (take at axes) a ⊎ (a ≡ axis)
-done-cases axes at axis a lt is done =
-    let more = subst (λ (l : List Axis). Contains l a) (take_more axes at axis lt) done in
-    elim (Contains-push_cases (take at axes) (get_or axes at axis) a more) [
-      | inl before ↦ inl before
-      | inr here ↦ inr (sym here ∙ is)
-    ]
+done-cases axes at axis a lt is done = grind (arith, common_steps, take_more)
 
 child-uncut : (box : List Span) (span : Span) (axes : List Axis) (at : ℕ) (h k : HeldData) → at < length axes
     → get_or axes at span.axis ≡ span.axis → k.cuts ≡ h.cuts → IsUncut box (take at axes) h → IsUncutIn span h
@@ -201,13 +166,7 @@ skip-task s labels box held axes at axis lasts task lt is all one = record {
 bit-last : (s : BookData) (labels : List ℕ) (box : List Span) (held : List HeldData) (axis : Axis) (n : ℕ)
     → All (IsPlainHeld s labels box) held → IsLastOfCut held axis n
     → (axis.mask ≡ 4294967295) ⊎ (IsOneBit axis.mask × (n ≡ 0))
-bit-last s labels box held axis n all l =
-    let p = All-contains (IsPlainHeld s labels box) held l.held_one all l.there in
-    let c = All-contains IsPlainCut l.held_one.cuts l.cut p.cuts.plain l.of in
-    elim c.kind [
-      | inl whole ↦ inl (ap (λ (a : Axis). a.mask) (sym l.axis_is) ∙ whole)
-      | inr bit ↦ inr (subst (λ (a : Axis). IsOneBit a.mask) l.axis_is bit.0, sym l.last_is ∙ bit.1)
-    ]
+bit-last s labels box held axis n all l = search arith
 
 -- the span that ends with one of the last numbers is exact, where those before are passed
 exact-span : (s : BookData) (labels : List ℕ) (box : List Span) (held : List HeldData) (axis : Axis) (lasts : List ℕ)

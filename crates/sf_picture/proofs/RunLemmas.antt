@@ -1,4 +1,5 @@
 -- Runs, one after the other.
+use Rattle.std.proofs.lemmas.Grind.{common_steps}
 use Rattle.std.proofs.Common.{◌≡◌, ◌≢◌, ℕ, zero, suc, ◌<◌, ◌≤◌, ◌+◌, List, [], ◌∷◌, ◌++◌, length, Some, None, refl, sym, ap, subst, ◌∙◌, inl, inr, arith, get_or, set}
 use Rattle.std.proofs.lemmas.Bool.{cases_lt}
 use Rattle.sf_picture.specs.declared.picture.Branch.{Branch}
@@ -55,18 +56,8 @@ apart-push (x ∷ y ∷ ys) r h other = (h.0, apart-push (y ∷ ys) r h.1 (λ i 
 pub adds-push : (leaves forks first : ℕ) (rs : List Run) (r : Run) → first ≤ r.last → EndsElsewhere rs r.next
     → AreRuns leaves forks first rs → IsBelow leaves forks r.next
     → AreRuns leaves forks (r.last + 1) (rs ++ r ∷ []) × AddsRun rs (rs ++ r ∷ []) first r.last r.next
-adds-push leaves forks first rs r le other h below = (
-  record {
-    rising = rise-push rs r 0 first (omega arith) h.rising h.ends le;
-    apart = apart-push rs r h.apart other;
-    lead = lead-push leaves forks rs r h.lead below;
-    ends = ends-push rs r first h.ends le;
-  },
-  record {
-    keeps = λ n b e. next-push rs r n b e;
-    adds = λ n above inside. next-added rs r first n h.ends above inside;
-  },
-)
+adds-push leaves forks first rs r le other h below =
+    grind (arith, common_steps, rise-push, apart-push, lead-push, ends-push, next-push, next-added)
 
 -- ---- the last run goes on
 
@@ -141,18 +132,7 @@ pub adds-raise : (leaves forks first : ℕ) (rs : List Run) (k : ℕ) (d y : Run
     → IsBelow leaves forks y.next
     → AreRuns leaves forks (y.last + 1) (set rs k y) × AddsRun rs (set rs k y) first y.last y.next
 adds-raise leaves forks first rs k d y e le same end h below =
-    let higher : (get_or rs k d).last ≤ y.last = omega arith in (
-      record {
-        rising = raise-rise rs k d y 0 e higher h.rising;
-        apart = raise-apart rs k d y e same h.apart;
-        lead = raise-lead leaves forks rs k y h.lead below;
-        ends = raise-ends rs k y first e h.ends le;
-      },
-      record {
-        keeps = λ n b found. raise-next rs k d y e same higher n b found;
-        adds = λ n above inside. raise-added rs k y first n e h.ends above inside;
-      },
-    )
+    search (arith, raise-rise, raise-apart, raise-lead, raise-ends, raise-next, raise-added)
 
 -- each run ends below
 pub end-at : (rs : List Run) (k : ℕ) (d : Run) (first : ℕ) → k < length rs → EndBelow first rs
@@ -181,15 +161,4 @@ pub closes : (leaves forks last : ℕ) (rs : List Run) (k : ℕ) (d : Run) → s
     → AreRuns leaves forks (last + 1) rs → ClosesRuns leaves forks last rs
     (set rs k (record { last = last; next = d.next }))
 closes leaves forks last rs k d e here h =
-    let y : Run = record { last = last; next = d.next } in
-    let same : (get_or rs k d).next ≡ d.next = ap (λ (r : Run). r.next) here in
-    let end : (get_or rs k d).last < last + 1 = end-at rs k d (last + 1) (omega arith) h.ends in
-    let higher : (get_or rs k d).last ≤ last = omega arith in
-    record {
-      rising = raise-rise rs k d y 0 e higher h.rising;
-      apart = raise-apart rs k d y e same h.apart;
-      lead = raise-lead leaves forks rs k y h.lead (subst (IsBelow leaves forks) same
-          (lead-at leaves forks rs k d (omega arith) h.lead));
-      ends = λ some. end-last rs k y e;
-      keeps = λ n b found. raise-next rs k d y e same higher n b found;
-    }
+    search (arith, end-at, raise-rise, raise-apart, raise-lead, lead-at, end-last, raise-next)

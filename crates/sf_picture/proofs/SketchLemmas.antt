@@ -1,5 +1,6 @@
 -- What a sketch shows stays as it grows.
-use Rattle.std.proofs.Common.{◌≡◌, ◌≢◌, ℕ, zero, suc, ◌<◌, ◌≤◌, List, [], ◌∷◌, ◌++◌, length, Option, Some, None, refl, sym, ap, subst, ◌∙◌, inl, inr, arith, get_or, length-append, append-nil, append_assoc}
+use Rattle.std.proofs.lemmas.Grind.{common_steps}
+use Rattle.std.proofs.Common.{◌≡◌, ◌≢◌, ℕ, zero, suc, ◌<◌, ◌≤◌, List, [], ◌∷◌, ◌++◌, length, Option, Some, None, refl, sym, ap, subst, ◌∙◌, arith, get_or, length-append, append-nil, append_assoc}
 use Rattle.std.specs.Prelude.{slice_index_or, All}
 use Rattle.std.proofs.lemmas.Bool.{cases_lt}
 use Rattle.std.proofs.lemmas.List.{get_or_append_left}
@@ -58,10 +59,7 @@ joined : {X : Type 0} (a b c more some : List X) → b ≡ a ++ more → c ≡ b
 joined {X = X} a b c more some e f = f ∙ ap (λ (l : List X). l ++ some) e ∙ append_assoc a more some
 
 pub grows-more : (s t u : SketchData) → Grows s t → Grows t u → Grows s u
-grows-more s t u g h = record {
-  leaves = (g.leaves.0 ++ h.leaves.0, joined s.leaves t.leaves u.leaves g.leaves.0 h.leaves.0 g.leaves.1 h.leaves.1);
-  forks = (g.forks.0 ++ h.forks.0, joined s.forks t.forks u.forks g.forks.0 h.forks.0 g.forks.1 h.forks.1);
-}
+grows-more s t u g h = grind (arith, common_steps, joined)
 
 pub longer : {X : Type 0} (a b more : List X) → b ≡ a ++ more → length a ≤ length b
 longer {X = X} a b more e = omega (arith, ap length e, length-append a more)
@@ -69,21 +67,16 @@ longer {X = X} a b more e = omega (arith, ap length e, length-append a more)
 -- a branch that led into it leads into it still
 pub grows-below : (s t : SketchData) (b : Branch) → Grows s t → IsBelow (length s.leaves) (length s.forks) b
     → IsBelow (length t.leaves) (length t.forks) b
-grows-below s t b g h = below-more (length s.leaves) (length t.leaves) (length s.forks) (length t.forks) b
-    (longer s.leaves t.leaves g.leaves.0 g.leaves.1) (longer s.forks t.forks g.forks.0 g.forks.1) h
+grows-below s t b g h = grind (arith, common_steps, below-more, longer)
 
 pub grows-lead : (s t : SketchData) (rs : List Run) → Grows s t → LeadBelow (length s.leaves) (length s.forks) rs
     → LeadBelow (length t.leaves) (length t.forks) rs
-grows-lead s t rs g h = lead-more (length s.leaves) (length t.leaves) (length s.forks) (length t.forks) rs
-    (longer s.leaves t.leaves g.leaves.0 g.leaves.1) (longer s.forks t.forks g.forks.0 g.forks.1) h
+grows-lead s t rs g h = grind (arith, common_steps, lead-more, longer)
 
 -- and shows the same
 pub grows-shown : (s t : SketchData) (b : Branch) (d : Input) → Grows s t → AreRightForks (length s.leaves) s.forks
     → IsBelow (length s.leaves) (length s.forks) b → shown_at t (Some b) d ≡ shown_at s (Some b) d
-grows-shown s t b d g right h = same-along s.leaves t.leaves s.forks t.forks d
-    (λ i lt. ap (λ (l : List (List ℕ)). get_or l i []) g.leaves.1 ∙ get_or_append_left s.leaves g.leaves.0 [] i lt)
-    (λ i lt. ap (λ (l : List ForkData). fork_at l i) g.forks.1 ∙ get_or_append_left s.forks g.forks.0 _ i lt)
-    right (length s.forks) (length t.forks) b h (omega arith) (longer s.forks t.forks g.forks.0 g.forks.1)
+grows-shown s t b d g right h = grind (arith, common_steps, same-along, get_or_append_left, longer)
 
 -- from a fork on, an input is shown what it is shown from where its number leads
 pub fork-shown : (s : SketchData) (axis : Axis) (runs : List Run) (i : ℕ) (d : Input) (c : Branch)
@@ -115,16 +108,7 @@ fork-shown s axis runs i d c right lt is found = by (length s.forks) refl
 -- forks stay right among more leaves
 pub right-more : (leaves leaves' : ℕ) (fs : List ForkData) → leaves ≤ leaves' → AreRightForks leaves fs
     → AreRightForks leaves' fs
-right-more leaves leaves' fs le right i lt =
-    let h = right i lt in
-    record {
-      word = h.word;
-      several = h.several;
-      rising = h.rising;
-      whole = h.whole;
-      apart = h.apart;
-      below = lead-more leaves leaves' i i (fork_at fs i).runs le (omega arith) h.below;
-    }
+right-more leaves leaves' fs le right i lt = grind (arith, common_steps, lead-more)
 
 -- a list of one
 pub single : (rs : List Run) (r : Run) → length rs ≡ 1 → r ≡ get_or rs 0 r → rs ≡ r ∷ []
@@ -134,16 +118,7 @@ single (x ∷ y ∷ ys) r e is = absurd (omega arith)
 
 -- what is found in one run is where it leads
 of-one : (r : Run) (n : ℕ) (c : Branch) → next_of (r ∷ []) n ≡ Some c → r.next ≡ c
-of-one r n c found = elim (cases_lt r.last n) [
-  | inl lt ↦ absurd (none (sym (next-later r [] n lt) ∙ found))
-  | inr le ↦ some (sym (next-here r [] n le) ∙ found)
-]
-  where
-    none : None ≡ Some c → ⊥
-    none e = cc
-
-    some : Some r.next ≡ Some c → r.next ≡ c
-    some e = cc
+of-one r n c found = grind (arith, common_steps, cases_lt, next-later, next-here)
 
 -- where there is one run, what it leads to is as good as a fork
 pub one-leads : (s : SketchData) (axis : Axis) (old new : List Run) (r : Run) → new ≡ r ∷ []
@@ -159,14 +134,7 @@ one-leads s axis old new r one closes = record {
 -- runs that were closed make a right fork
 pub right-fork : (leaves forks : ℕ) (axis : Axis) (old new : List Run) → axis.word < 16 → 2 ≤ length new
     → ClosesRuns leaves forks axis.mask old new → IsRightFork leaves forks (record { axis = axis; runs = new })
-right-fork leaves forks axis old new word several closes = record {
-  word = word;
-  several = several;
-  rising = closes.rising;
-  whole = closes.ends (omega arith);
-  apart = closes.apart;
-  below = closes.lead;
-}
+right-fork leaves forks axis old new word several closes = grind (arith, common_steps)
 
 -- from such a fork on, an input is shown what it is shown from where the runs led
 pub fork-leads : (s : SketchData) (axis : Axis) (leaves forks : ℕ) (old new : List Run) (b : Branch) → IsRightSketch s

@@ -1,4 +1,5 @@
 -- Numbers under masks, and spans of them.
+use Rattle.std.proofs.lemmas.Grind.{common_steps}
 use Rattle.std.proofs.Common.{◌≡◌, ℕ, ◌<◌, ◌≤◌, ◌^◌, ◌-◌, ◌+◌, ◌*◌, min, List, Bool, true, false, Result, Ok, arith, sym, ap, subst, ◌∙◌, inl, inr}
 use Rattle.std.specs.Prelude.{MatchBool, bit_and, slice_index}
 use Rattle.std.specs.Int.{bit_at, w32}
@@ -68,17 +69,11 @@ one-bit-number m n first (i, lt, e) some le =
 -- a whole word has a number of the span where it lies in the range, and only there
 whole-same : (axis : Axis) (d : Input) → axis.mask ≡ 4294967295 → IsInput d
     → number_on axis d ≡ slice_index d.words axis.word
-whole-same axis d whole is =
-    ap (bit_and (slice_index d.words axis.word)) whole
-    ∙ whole-number (slice_index d.words axis.word) (is.each axis.word)
+whole-same axis d whole is = grind (arith, common_steps, whole-number)
 
 whole-lies : (axis : Axis) (first last : ℕ) (d : Input) → axis.mask ≡ 4294967295 → IsInput d
     → IsInSpan axis first last d → HasIn axis.word (LiesIn first last) d
-whole-lies axis first last d whole is span =
-    let same = whole-same axis d whole is in (
-      subst (λ (k : ℕ). first ≤ k) same span.above,
-      subst (λ (k : ℕ). k ≤ last) same span.below,
-    )
+whole-lies axis first last d whole is span = grind (arith, common_steps, whole-same)
 
 pub whole-confines : (b : Bool) (f g : FactsView) (ns : List Node) (axis : Axis) (first last : ℕ)
     → axis.mask ≡ 4294967295
@@ -138,37 +133,20 @@ one-only false f g ns axis first last v above below none e d is agrees = cc
 
 -- a number under itself as a mask
 pub and-self : (m : ℕ) → bit_and m m ≡ m
-and-self m = same_from_bits (bit_and m m) m (λ i. bit_at_and m m i ∙ min-self (bit_at m i))
-  where
-    min-self : (x : ℕ) → min x x ≡ x
-    min-self x = omega arith
+and-self m = grind (arith, common_steps, same_from_bits, bit_at_and)
 
 -- the one number of a span of a bit: its first one, where that is its last one, and else the bit
 pub span-first : (mask first last : ℕ) → first ≡ last → IsSpanOfBit mask first last
     → (first ≤ first) × (first ≤ last) × (bit_and first mask ≡ first)
-span-first mask first last same h = (
-  omega arith,
-  omega arith,
-  elim h.kind [
-    | inl zero ↦ (let none = zero.0 in let most = and_le_l first mask in omega arith)
-    | inr bit ↦ (let is : first ≡ mask = same ∙ bit.2 in
-        ap (λ (k : ℕ). bit_and k mask) is ∙ (and-self mask ∙ sym is))
-  ],
-)
+span-first mask first last same h = grind (arith, common_steps, and_le_l, and-self)
 
 pub span-bit : (mask first last : ℕ) → (first ≡ 0 → ⊥) → IsSpanOfBit mask first last
     → (first ≤ mask) × (mask ≤ last) × (bit_and mask mask ≡ mask)
-span-bit mask first last some h = elim h.kind [
-  | inl zero ↦ absurd (some zero.0)
-  | inr bit ↦ (let le = bit.1 in let end = bit.2 in (omega arith, omega arith, and-self mask))
-]
+span-bit mask first last some h = grind (arith, common_steps, and-self)
 
 -- a span with more than one number doesn't begin with 0
 pub span-none : (mask first last : ℕ) → (first ≡ last → ⊥) → first ≡ 0 → IsSpanOfBit mask first last → ⊥
-span-none mask first last other none h = elim h.kind [
-  | inl zero ↦ other (zero.0 ∙ sym zero.1)
-  | inr bit ↦ (let some = bit.0 in omega arith)
-]
+span-none mask first last other none h = grind (arith, common_steps)
 
 -- what an Ok holds
 pub ok-holds : {E : Type 0} (b c : Bool) → ◌≡◌ {A = Result Bool E} (Ok b) (Ok c) → b ≡ c

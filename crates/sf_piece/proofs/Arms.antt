@@ -1,18 +1,17 @@
 -- The instructions that meet nothing, one by one.
-use Rattle.std.proofs.Common.{◌≡◌, ℕ, zero, suc, ◌+◌, ◌<◌, List, [], ◌∷◌, length, map, Option, Some, slice_get, refl, sym, ap, subst, ◌∙◌, inl, inr}
+use Rattle.std.proofs.lemmas.Grind.{common_steps}
+use Rattle.std.proofs.Common.{arith, ◌≡◌, ℕ, zero, suc, ◌+◌, ◌<◌, List, [], ◌∷◌, length, map, Option, Some, slice_get, refl, sym, ap, subst, ◌∙◌, inl}
 use Rattle.std.specs.Prelude.{option_map, slice_set}
 use Rattle.std.proofs.lemmas.List.{length-map}
 use Rattle.std.proofs.lemmas.Option.{same_Some}
 use Rattle.sf_insn.specs.declared.input.Input.{Input}
-use Rattle.sf_insn.specs.Words.{apply}
-use Rattle.sf_insn.specs.declared.ops.BinOp.TheVariants.{Div}
 use Rattle.sf_check.specs.declared.insn.Insn.{Insn}
 use Rattle.sf_check.specs.declared.insn.Insn.TheVariants.{LoadScratch, LoadXScratch, StoreA, StoreX}
-use Rattle.sf_run.specs.Machine.{State, goes, insn_progress}
+use Rattle.sf_run.specs.Machine.{goes, insn_progress}
 use Rattle.sf_sym.specs.declared.pool.Node.{Node}
 use Rattle.sf_sym.specs.declared.pool.Node.TheVariants.{Const}
 use Rattle.sf_sym.specs.declared.pool.NodeId.{NodeId}
-use Rattle.sf_sym.specs.Pool.{value_of, values_of, node_value}
+use Rattle.sf_sym.specs.Pool.{value_of}
 use Rattle.sf_piece.specs.declared.machine.SymbolicMachine.{SymbolicMachine}
 use Rattle.sf_piece.specs.Pieces.{PieceData}
 use Rattle.sf_piece.specs.SymbolicRun.{concrete_state, AreNodesBelow}
@@ -33,49 +32,15 @@ goes_to : (p : PieceData) (i : Insn) (place : ℕ) (a x : NodeId) (scratch : Lis
     → a.0 < length p.pool → x.0 < length p.pool → p.machine.zero.0 < length p.pool
     → ((k : ℕ) (w : NodeId) → slice_get scratch k ≡ Some (Some w) → w.0 < length p.pool)
     → GoesBy p i (moved p.machine place a x scratch) → GoesTo p i (moved p.machine place a x scratch)
-goes_to p i place a x scratch a_below x_below zero_below scratch_below run = record {
-  program = refl;
-  so_far = refl;
-  zero = refl;
-  taken = refl;
-  value = refl;
-  nodes = record { a = a_below; x = x_below; zero = zero_below; scratch = scratch_below };
-  run = run;
-}
+goes_to p i place a x scratch a_below x_below zero_below scratch_below run = grind (arith, common_steps)
 
 pub set_a_goes : (p : PieceData) (i : Insn) (node : Node) (q : PieceData) (id : NodeId) → IsPushed p node q id
     → SetsA p i node → GoesTo q i (on_a q.machine id)
-set_a_goes p i node q id h sets = subst (λ (r : PieceData). GoesTo r i (on_a r.machine id)) (sym h.grown.same)
-    (goes_to (record p { pool = q.pool; facts = q.facts }) i (p.machine.place + 1) id p.machine.x p.machine.scratch
-    h.within h.grown.nodes.x h.grown.nodes.zero h.grown.nodes.scratch (by sets))
-  where
-    to : (d : Input) (v : ℕ) → value_of q.pool d id.0 ≡ v → concrete_state q.pool (on_a p.machine id) d
-        ≡ record (concrete_state p.pool p.machine d) { place = p.machine.place + 1; a = v }
-    to d v e = λ j. record (h.grown.state d j) { place = p.machine.place + 1; a = e j }
-
-    by : SetsA p i node → GoesBy (record p { pool = q.pool; facts = q.facts }) i (on_a p.machine id)
-    by (inl run) = inl (λ d. ap (λ (s : State). insn_progress d s i) (h.grown.state d) ∙ run d
-        ∙ ap (goes []) (sym (to d (node_value d (values_of p.pool d) node) (h.value d))))
-    by (inr (is, taken, value)) =
-        inr (
-          is,
-          taken,
-          λ d.
-              to d (apply Div (value_of p.pool d p.machine.a.0) (value_of p.pool d p.machine.x.0)) (h.value d ∙ value d)
-              ∙ ap (λ (s : State). record s { place = p.machine.place + 1; a = apply Div s.a s.x })
-              (sym (h.grown.state d)),
-        )
+set_a_goes p i node q id h sets = search (arith, goes_to)
 
 pub set_x_goes : (p : PieceData) (i : Insn) (k : ℕ) (q : PieceData) (id : NodeId) → IsPushed p (Const k) q id
     → SetsX p i k → GoesTo q i (on_x q.machine id)
-set_x_goes p i k q id h sets = subst (λ (r : PieceData). GoesTo r i (on_x r.machine id)) (sym h.grown.same)
-    (goes_to (record p { pool = q.pool; facts = q.facts }) i (p.machine.place + 1) p.machine.a id p.machine.scratch
-    h.grown.nodes.a h.within h.grown.nodes.zero h.grown.nodes.scratch
-    (inl (λ d. ap (λ (s : State). insn_progress d s i) (h.grown.state d) ∙ sets d ∙ ap (goes []) (sym (to d)))))
-  where
-    to : (d : Input) → concrete_state q.pool (on_x p.machine id) d
-        ≡ record (concrete_state p.pool p.machine d) { place = p.machine.place + 1; x = k }
-    to d = λ j. record (h.grown.state d j) { place = p.machine.place + 1; x = h.value d j }
+set_x_goes p i k q id h sets = search (arith, goes_to)
 
 -- ---- moves
 

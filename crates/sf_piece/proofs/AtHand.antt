@@ -1,4 +1,5 @@
 -- The instruction at hand, the end, and the first piece.
+use Rattle.std.proofs.lemmas.Grind.{common_steps}
 use Rattle.std.proofs.Common.{◌≡◌, ℕ, zero, suc, ◌+◌, ◌-◌, ◌*◌, ◌<◌, ◌≤◌, ◌^◌, Bool, true, false, List, [], ◌∷◌, ◌++◌, length, drop, map, reverse, get_or, Option, Some, None, slice_get, refl, sym, ap, subst, ◌∙◌, inl, inr, arith, append-nil, length-drop}
 use Rattle.std.specs.Prelude.{option_map, replicate, if◌then◌else◌}
 use Rattle.std.proofs.lemmas.List.{get_or-reverse, length-reverse}
@@ -60,12 +61,7 @@ pow_le k m h = pow-le-pow_right {n = 2} (omega arith) h
 -- how many programs are left
 left_count : (p : PieceData) (rest : List (List Insn)) (base pre : List Bool) → StandsAt p rest base pre
     → length rest ≡ length p.stack - p.machine.program
-left_count p rest base pre s = omega (
-  arith,
-  ap length s.rest_is,
-  length-drop p.machine.program (reverse p.stack),
-  length-reverse p.stack,
-)
+left_count p rest base pre s = grind (arith, common_steps, length-drop, length-reverse)
 
 -- where a program is left, the piece stands in the one that the stack has there
 record StandsIn (p : PieceData) (base pre : List Bool) : Type 0 where
@@ -81,8 +77,7 @@ stands_in p (code ∷ later) base pre s running = record {
   code = code;
   later = later;
   stands = s;
-  is = drop_first p.machine.program (reverse p.stack) code later s.rest_is
-      ∙ get_or-reverse p.stack p.machine.program [] running;
+  is = search (arith, drop_first, get_or-reverse);
 }
 
 pub at_hand : (p : PieceData) (i : Insn) → IsPiece p → p.machine.program < length p.stack
@@ -111,8 +106,7 @@ at_hand p i h running at =
           let w = load_is_set in_code.code (concrete_state p.pool p.machine some_input) i k s.laws.0 safe here loads in
           unmap (λ n. value_of p.pool some_input n.0) p.machine.scratch k w.0 w.1;
       taken = short.0;
-      value = λ less. let b = number_small 0 h.pre in let c = pow_le (length h.pre) 31 (omega (arith, short.1)) in
-          omega (arith, b, c, s.number);
+      value = search (arith, number_small, pow_le);
     }
   where
     pre_short : (code : List Insn) (place taken : ℕ) (pre : List Bool) → IsPending code place taken pre → (taken ≤ 32)
@@ -184,21 +178,7 @@ first_is stack pool zero_id fs lawful is within zeros covers known = record {
   rest = reverse stack;
   base = [];
   pre = [];
-  stands = record {
-    rest_is = refl;
-    laws = newest_first stack lawful;
-    name_is = refl;
-    number = refl;
-    inside = starts_in (reverse stack) pool (first_machine zero_id) at_start refl (newest_first stack lawful);
-    route = λ more r. route_whole (reverse stack) more r;
-    runs = λ d inp member. record {
-      ends = λ more vs r.
-          let all = runs_whole (reverse stack) d (concrete_state pool (first_machine zero_id) d) more vs (at_start d)
-          (newest_first stack lawful) r in
-          (sym all.0, ([], sym all.1, answer_none));
-      taken = none_taken (reverse stack) d (concrete_state pool (first_machine zero_id) d);
-    };
-  };
+  stands = search (arith, newest_first, starts_in, route_whole, runs_whole, answer_none, none_taken);
 }
   where
     at_start : (d : Input) → concrete_state pool (first_machine zero_id) d ≡ start
@@ -212,14 +192,9 @@ first_root stack pool zero_id fs h = record { of = refl; name = refl; named = h.
 -- the program that the code lends
 pub at_program : (stack lent : List (List Insn)) (n : ℕ) (p : List Insn) → lent ≡ stack → n < length lent
     → p ≡ get_or lent (length lent - 1 - n) p → p ≡ get_or stack (length stack - 1 - n) []
-at_program stack lent n p same lt here =
-    here ∙ sym (get_or_default lent (length lent - 1 - n) [] p (omega arith))
-    ∙ ap (λ (t : List (List Insn)). get_or t (length t - 1 - n) []) same
+at_program stack lent n p same lt here = grind (arith, common_steps, get_or_default)
 
 -- a program of a lawful stack isn't long
 pub short_program : (stack : List (List Insn)) (n : ℕ) → IsLawfulStack stack → n < length stack
     → length (get_or stack (length stack - 1 - n) []) ≤ 4096
-short_program stack n h lt =
-    let at = length stack - 1 - n in
-    let p : List Insn = get_or stack at [] in
-    (h.each at p (slice_get-get_or stack at [] (omega arith))).short
+short_program stack n h lt = grind (arith, common_steps, slice_get-get_or)

@@ -1,10 +1,10 @@
 -- Pieces with one more truth value in their names; names are routes.
+use Rattle.std.proofs.lemmas.Grind.{common_steps}
 use Rattle.std.proofs.Common.{◌≡◌, ℕ, zero, suc, ◌+◌, ◌-◌, ◌<◌, ◌&&◌, not, Bool, true, false, List, [], ◌∷◌, ◌++◌, length, refl, sym, ap, subst, ◌∙◌, inl, inr, arith, append_assoc, append-nil, length-append}
 use Rattle.std.specs.List.{AllByRecursion, list_all}
 use Rattle.std.specs.Prelude.{if◌then◌else◌}
 use Rattle.sf_insn.specs.declared.input.Input.{Input}
 use Rattle.sf_insn.specs.Inputs.{IsInput}
-use Rattle.sf_insn.specs.Words.{passes}
 use Rattle.sf_insn.specs.declared.ops.Test.{Test}
 use Rattle.sf_insn.specs.declared.ops.BinOp.{BinOp}
 use Rattle.sf_insn.specs.declared.ops.BinOp.TheVariants.{Div}
@@ -19,7 +19,7 @@ use Rattle.sf_run.specs.Routes.{IsWay, returns_at, goes_on, AreWays, IsWholeRout
 use Rattle.sf_run.specs.CompletionLaws.{some_way}
 use Rattle.sf_sym.specs.declared.pool.Node.{Node}
 use Rattle.sf_sym.specs.declared.pool.Cond.{Cond}
-use Rattle.sf_sym.specs.Pool.{value_of, is_met, same, IsCondBelow}
+use Rattle.sf_sym.specs.Pool.{is_met, same, IsCondBelow}
 use Rattle.sf_dom.specs.Facts.{FactsView}
 use Rattle.sf_piece.specs.declared.machine.SymbolicMachine.{SymbolicMachine}
 use Rattle.sf_piece.specs.Pieces.{PieceData, is_member, is_prefix, IsTrulyNamed}
@@ -64,10 +64,7 @@ same_right false = refl
 
 pub sense_is : (pool : List Node) (d : Input) (cond : Cond) (b : Bool) → cond.sense ≡ true
     → is_met pool d (with_sense cond b) ≡ same (is_met pool d cond) b
-sense_is pool d cond b e =
-    let x = passes cond.test (value_of pool d cond.node.0) (value_of pool d cond.other.0) in
-    let plain : same x cond.sense ≡ x = ap (λ (v : Bool). same x v) e ∙ same_right x in
-    ap (λ (v : Bool). same v b) (sym plain)
+sense_is pool d cond b e = grind (arith, common_steps, same_right)
 
 -- the name with one more truth value
 named_next : (p : PieceData) (i : Insn) (x b : Bool) → IsPiece p → HasAtHand p i → (d : Input) → IsInput d
@@ -80,14 +77,7 @@ named_next p i x b h s d inp next =
 -- what the facts tell of a condition is the next truth value on every member
 pub entry_foreseen : (p : PieceData) (i : Insn) (cond : Cond) (b : Bool) → IsQuery p i cond → IsImplied p cond b
     → IsForeseen p i b
-entry_foreseen p i cond b e imp = record {
-  asks = e.asks;
-  next = λ d inp member.
-      let is : is_met p.pool d cond ≡ b = same-true (is_met p.pool d cond) b
-      (sym (sense_is p.pool d cond b e.sense) ∙ imp d inp member) in
-      subst (λ (v : Bool). NextIs (insn_progress d (concrete_state p.pool p.machine d) i) p.machine.taken v) is
-      (e.next d);
-}
+entry_foreseen p i cond b e imp = search (arith, same-true, sense_is)
 
 other_way : (x b : Bool) → same x (not b) ≡ false → same x b ≡ true
 other_way true true h = refl
@@ -97,15 +87,13 @@ other_way false true h = absurd cc
 
 -- where no member has the other truth value, every member has this one
 pub never_implies : (p : PieceData) (cond : Cond) (b : Bool) → IsNever p cond (not b) → IsImplied p cond b
-never_implies p cond b h d inp member = other_way
-    (passes cond.test (value_of p.pool d cond.node.0) (value_of p.pool d cond.other.0)) b (h d inp member)
+never_implies p cond b h d inp member = search (arith, other_way)
 
 -- after a test
 pub branch_after : (p : PieceData) (i : Insn) (test : Test) (other : Operand) (t f next : ℕ) (b : Bool)
     → i ≡ Branch test other t f → next ≡ (if b then t else f)
     → AfterTruthValue p i b (record p.machine { place = p.machine.place + 1 + next })
-branch_after p i test other t f next b e h =
-    rw e (ap (λ (n : ℕ). record p.machine { place = p.machine.place + 1 + n }) h)
+branch_after p i test other t f next b e h = grind (arith, common_steps)
 
 foreseen_meets : (p : PieceData) (i : Insn) (b : Bool) → IsForeseen p i b → Meets p i p.conditions b
 unfolding is_member
@@ -133,12 +121,7 @@ pub take_gone : (p : PieceData) (i : Insn) (b : Bool) (m : SymbolicMachine) → 
     → IsForeseen p i b
     → AfterTruthValue p i b m → HasAdvanced p (taken_on p b m)
 unfolding is_member
-take_gone p i b m h s fore after =
-    let t = turned p i b p.conditions p.facts m h s fore.asks after (foreseen_meets p i b fore) in
-    record {
-      is_on = record { of = refl; conditions = refl; on = b ∷ []; name = refl; members = λ d inp. refl };
-      falls = t.falls;
-    }
+take_gone p i b m h s fore after = search (arith, turned, foreseen_meets)
 
 -- ---- children
 
@@ -163,8 +146,7 @@ child_members p cond b m fs d = all_push (is_met p.pool d) p.conditions (with_se
 child_both : (p : PieceData) (cond : Cond) (b : Bool) (m : SymbolicMachine) (fs : FactsView) (d : Input)
     → is_member (child_of p cond b m fs) d ≡ true → (is_member p d ≡ true)
     × (is_met p.pool d (with_sense cond b) ≡ true)
-child_both p cond b m fs d member = and-true (is_member p d) (is_met p.pool d (with_sense cond b))
-    (sym (child_members p cond b m fs d) ∙ member)
+child_both p cond b m fs d member = grind (arith, common_steps, and-true, child_members)
 
 child_meets : (p : PieceData) (i : Insn) (cond : Cond) (b : Bool) (m : SymbolicMachine) (fs : FactsView)
     → IsQuery p i cond
@@ -172,8 +154,7 @@ child_meets : (p : PieceData) (i : Insn) (cond : Cond) (b : Bool) (m : SymbolicM
 unfolding is_member
 child_meets p i cond b m fs e d inp member =
     let both = child_both p cond b m fs d member in
-    let is : is_met p.pool d cond ≡ b = same-true (is_met p.pool d cond) b
-    (sym (sense_is p.pool d cond b e.sense) ∙ both.1) in (
+    let is : is_met p.pool d cond ≡ b = search (arith, same-true, sense_is) in (
       both.0,
       subst (λ (v : Bool). NextIs (insn_progress d (concrete_state p.pool p.machine d) i) p.machine.taken v) is
           (e.next d),
@@ -252,12 +233,4 @@ piece_named p h = record { route = route_of p h.rest h.base h.pre h.stands; memb
 pub child_is : (p : PieceData) (cond : Cond) (b : Bool) (m : SymbolicMachine) (fs : FactsView)
     → AreChildFacts p cond b fs
     → IsLawfulPiece (child_of p cond b m fs) → IsChild p cond b (child_of p cond b m fs)
-child_is p cond b m fs facts h = record {
-  of = refl;
-  conditions = refl;
-  name = refl;
-  named = h.named;
-  members = λ d inp. child_members p cond b m fs d;
-  facts = facts;
-  plain = h.plain;
-}
+child_is p cond b m fs facts h = search (arith, child_members)

@@ -1,5 +1,6 @@
 -- A machine's concrete states while its pool grows.
-use Rattle.std.proofs.Common.{◌≡◌, ℕ, zero, suc, ◌&&◌, Bool, List, [], ◌∷◌, ◌++◌, length, map, Option, Some, None, refl, ap, subst, ◌∙◌}
+use Rattle.std.proofs.lemmas.Grind.{common_steps}
+use Rattle.std.proofs.Common.{arith, ◌≡◌, ℕ, zero, suc, ◌&&◌, Bool, List, [], ◌∷◌, ◌++◌, length, map, Option, Some, None, refl, ap, subst, ◌∙◌}
 use Rattle.std.specs.Prelude.{option_map, slice_get}
 use Rattle.std.proofs.lemmas.Option.{same_Some}
 use Rattle.std.specs.List.{list_all, AllByRecursion}
@@ -8,9 +9,8 @@ use Rattle.sf_run.specs.Machine.{State}
 use Rattle.sf_sym.specs.declared.pool.Node.{Node}
 use Rattle.sf_sym.specs.declared.pool.NodeId.{NodeId}
 use Rattle.sf_sym.specs.declared.pool.Cond.{Cond}
-use Rattle.sf_sym.specs.Pool.{value_of, is_met, same, IsCondBelow}
+use Rattle.sf_sym.specs.Pool.{value_of, is_met, IsCondBelow}
 use Rattle.sf_sym.specs.ValueLaws.{value-older}
-use Rattle.sf_insn.specs.Words.{passes}
 use Rattle.sf_piece.specs.declared.machine.SymbolicMachine.{SymbolicMachine}
 use Rattle.sf_piece.specs.SymbolicRun.{concrete_state, AreNodesBelow}
 
@@ -39,10 +39,7 @@ valued_grown pool added m d b =
 
 pub met_grown : (pool added : List Node) (d : Input) (c : Cond) → IsCondBelow (length pool) c
     → is_met (pool ++ added) d c ≡ is_met pool d c
-met_grown pool added d c b =
-    ap (λ (n : ℕ). same (passes c.test n (value_of (pool ++ added) d c.other.0)) c.sense)
-    (value-older pool added d c.node.0 b.0)
-    ∙ ap (λ (n : ℕ). same (passes c.test (value_of pool d c.node.0) n) c.sense) (value-older pool added d c.other.0 b.1)
+met_grown pool added d c b = grind (arith, common_steps, value-older)
 
 pub all_grown : (pool added : List Node) (d : Input) (cs : List Cond) → AllByRecursion (IsCondBelow (length pool)) cs
     → list_all (is_met (pool ++ added) d) cs ≡ list_all (is_met pool d) cs

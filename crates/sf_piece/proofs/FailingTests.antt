@@ -25,11 +25,7 @@ gone_same : (p : PieceData) → IsLawfulPiece p → HasGoneOn p p
 gone_same p h = record { is_on = on_same p; left = omega arith; lawful = h }
 
 gone_trans : (p q r : PieceData) → HasGoneOn p q → HasGoneOn q r → HasGoneOn p r
-gone_trans p q r a b = record {
-  is_on = on_trans p q r a.is_on b.is_on;
-  left = omega (arith, a.left, b.left);
-  lawful = b.lawful;
-}
+gone_trans p q r a b = search (arith, on_trans)
 
 -- a number that is below another one is at most that one
 weakened : (m n : ℕ) → m < n → m ≤ n
@@ -81,8 +77,7 @@ over_one_more p code known n place f next at is gone fails leads =
     let there : IsAt (code_at p) place i = subst (λ (c : List Insn). IsAt c place i) at.is here in
     let once = over_one q i known f gone.lawful at.running is there fails in
     let names : (p.name ++ replicate n false) ++ false ∷ [] ≡ p.name ++ replicate (n + 1) false =
-    append_assoc p.name (replicate n false) (false ∷ [])
-    ∙ ap (λ (l : List Bool). p.name ++ l) (replicate_more n false) in
+    search (arith, append_assoc, replicate_more) in
     let places : place + 1 + f ≡ next = omega (arith, leads) in
     subst (λ (k : ℕ). HasGoneOn p (record p {
       name = p.name ++ replicate (n + 1) false;

@@ -1,9 +1,9 @@
 -- Pieces whose pools have grown.
+use Rattle.std.proofs.lemmas.Grind.{common_steps}
 use Rattle.std.proofs.Common.{◌≡◌, ℕ, ◌<◌, ◌≤◌, Bool, true, false, List, [], ◌∷◌, ◌++◌, length, refl, sym, subst, ◌∙◌, arith, length-append}
 use Rattle.std.specs.List.{AllByRecursion}
 use Rattle.sf_insn.specs.declared.input.Input.{Input}
 use Rattle.sf_check.specs.declared.insn.Insn.{Insn}
-use Rattle.sf_run.specs.Machine.{State}
 use Rattle.sf_run.specs.Reachable.{IsReachable}
 use Rattle.sf_sym.specs.declared.pool.Node.{Node}
 use Rattle.sf_sym.specs.declared.pool.NodeId.{NodeId}
@@ -14,7 +14,7 @@ use Rattle.sf_sym.specs.ValueLaws.{value-older}
 use Rattle.sf_dom.specs.Facts.{FactsView, TakesIn, NoneAgrees}
 use Rattle.sf_piece.specs.declared.machine.SymbolicMachine.{SymbolicMachine}
 use Rattle.sf_piece.specs.Pieces.{PieceData, is_member, HasNoMember}
-use Rattle.sf_piece.specs.SymbolicRun.{concrete_state, InProgram, HasTaken, RunsOn, AreNodesBelow, StandsAt, IsPiece, IsLawfulPiece}
+use Rattle.sf_piece.specs.SymbolicRun.{InProgram, AreNodesBelow, StandsAt, IsPiece, IsLawfulPiece}
 use Rattle.sf_piece.specs.Works.{HasGrown, IsPushed}
 use Rattle.sf_piece.proofs.ConcreteStates.{valued_grown, all_grown}
 
@@ -28,12 +28,7 @@ below_le n m [] h b = tt
 below_le n m (c ∷ cs) h b = ((omega (arith, b.0.0), omega (arith, b.0.1)), below_le n m cs h b.1)
 
 nodes_le : (n m : ℕ) (k : SymbolicMachine) → n ≤ m → AreNodesBelow n k → AreNodesBelow m k
-nodes_le n m k h b = record {
-  a = omega (arith, b.a);
-  x = omega (arith, b.x);
-  zero = omega (arith, b.zero);
-  scratch = λ j w e. omega (arith, b.scratch j w e);
-}
+nodes_le n m k h b = grind (arith, common_steps)
 
 pub members_grown : (p : PieceData) (added : List Node) (fs : FactsView) (d : Input)
     → AllByRecursion (IsCondBelow (length p.pool)) p.conditions → is_member (grown p added fs) d ≡ is_member p d
@@ -53,22 +48,7 @@ in_grown p added (code ∷ later) pre b h = record {
 pub stands_grown : (p : PieceData) (added : List Node) (fs : FactsView) (rest : List (List Insn)) (base pre : List Bool)
     → AllByRecursion (IsCondBelow (length p.pool)) p.conditions → AreNodesBelow (length p.pool) p.machine
     → StandsAt p rest base pre → StandsAt (grown p added fs) rest base pre
-stands_grown p added fs rest base pre bounded b s = record {
-  rest_is = s.rest_is;
-  laws = s.laws;
-  name_is = s.name_is;
-  number = s.number;
-  inside = in_grown p added rest pre b s.inside;
-  route = s.route;
-  runs = λ d inp member.
-      let f = s.runs d inp (sym (members_grown p added fs d bounded) ∙ member) in
-      let same : concrete_state (p.pool ++ added) p.machine d ≡ concrete_state p.pool p.machine d =
-      valued_grown p.pool added p.machine d b in
-      record {
-        ends = λ more vs r. f.ends more vs (subst (λ (t : State). RunsOn rest d t more vs) same r);
-        taken = subst (λ (t : State). HasTaken rest d t p.machine.taken pre) (sym same) f.taken;
-      };
-}
+stands_grown p added fs rest base pre bounded b s = search (arith, in_grown, members_grown, valued_grown)
 
 length_le : (p : PieceData) (added : List Node) → length p.pool ≤ length (p.pool ++ added)
 length_le p added = omega (arith, length-append p.pool added)
@@ -119,13 +99,11 @@ pub pushed : (p : PieceData) (added : List Node) (fs : FactsView) (node : Node) 
     → IsLawfulPiece (grown p added fs) → id.0 < length (p.pool ++ added)
     → ((d : Input) → value_of (p.pool ++ added) d id.0 ≡ node_value d (values_of p.pool d) node)
     → ((c : ℕ) → node ≡ Const c → node_at (p.pool ++ added) id.0 ≡ Const c) → IsPushed p node (grown p added fs) id
-pushed p added fs node id h lawful within value constant =
-    record { grown = has_grown p added fs h; lawful = lawful; within = within; value = value; constant = constant }
+pushed p added fs node id h lawful within value constant = search (arith, has_grown)
 
 bool_false : (b : Bool) → (b ≡ true → ⊥) → b ≡ false
 bool_false true h = absurd (h refl)
 bool_false false h = refl
 
 pub none_member : (p : PieceData) → IsPiece p → NoneAgrees p.facts p.pool → HasNoMember p
-none_member p h none =
-    record { none = λ d inp. bool_false (is_member p d) (λ member. none d inp (h.known d inp member)) }
+none_member p h none = grind (arith, common_steps, bool_false)

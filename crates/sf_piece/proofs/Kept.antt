@@ -1,4 +1,5 @@
 -- Pieces that go on by an instruction.
+use Rattle.std.proofs.lemmas.Grind.{common_steps}
 use Rattle.std.proofs.Common.{◌≡◌, ℕ, zero, suc, ◌+◌, ◌*◌, ◌/◌, ◌%◌, ◌^◌, ◌<◌, ◌≤◌, Bool, true, false, List, [], ◌∷◌, ◌++◌, length, take, Option, Some, None, slice_get, refl, sym, ap, subst, ◌∙◌, inl, inr, arith, append-nil}
 use Rattle.std.specs.Prelude.{if◌then◌else◌, ◌==◌, Contains, replicate}
 use Rattle.std.specs.List.{AllByRecursion}
@@ -54,25 +55,19 @@ none_pending code place taken pre i (inr (inr p)) at no_return no_division =
 -- where a step meets nothing, nothing of it is in the name
 nothing_taken : (code : List Insn) (place taken : ℕ) (pre : List Bool) (i : Insn) (d : Input) (s t : State)
     → IsPending code place taken pre → IsAt code place i → insn_progress d s i ≡ goes [] t → pre ≡ []
-nothing_taken code place taken pre i d s t pending at e = none_pending code place taken pre i pending at
-    (λ is. let clash : insn_progress d s ReturnA ≡ goes [] t =
-    subst (λ (j : Insn). insn_progress d s j ≡ goes [] t) is e in absurd cc)
-    (λ is. div_clash (s.x == 0) (record s { place = s.place + 1; a = apply Div s.a s.x }) t
-    (subst (λ (j : Insn). insn_progress d s j ≡ goes [] t) is e))
+nothing_taken code place taken pre i d s t pending at e = grind (arith, common_steps, none_pending, div_clash)
 
 -- where the instruction leads, the state with the same scratch words is reachable
 pub safe_moved : (code : List Insn) (s t : State) (i : Insn) → IsLawfulProgram code → IsReachable code s
     → IsAt code s.place i
     → Contains (successors s.place i) t.place → stored_by i ≡ None → t.scratch ≡ s.scratch → IsReachable code t
 safe_moved code s t i lawful safe at leads none same = record {
-  inside = below_in (length code) (successors s.place i) t.place
-      (successors_inside code s.place i at (lawful.inside s.place i at) lawful.ends) leads;
+  inside = search (arith, below_in, successors_inside);
   sixteen = ap length same ∙ safe.sixteen;
   earlier = s.place ∷ safe.earlier;
   path = ((i, at, leads), safe.path);
   set_words = λ k any. elim (any_cons (Stores code k) s.place safe.earlier any) [
-    | inl here ↦ let clash : None ≡ Some k = sym none ∙ ap stored_by (at_same code s.place i here.0 at here.1)
-        ∙ here.2 in absurd cc
+    | inl here ↦ let clash : None ≡ Some k = search (arith, at_same) in absurd cc
     | inr later ↦ let old = safe.set_words k later in (old.0, ap (λ (l : List (Option ℕ)). slice_get l k) same ∙ old.1)
   ];
 }
@@ -86,25 +81,11 @@ pub assembled : (p : PieceData) (name : List Bool) (cs : List Cond) (m : Symboli
     ≡ is_prefix name (trace_of p.stack d))
     → (rest : List (List Insn)) (base pre : List Bool) → StandsAt (made p name cs m fs) rest base pre
     → IsPiece (made p name cs m fs)
-assembled p name cs m fs h bounded nodes zero_is covers known members rest base pre stands = record {
-  lawful = h.lawful;
-  pool = h.pool;
-  bounded = bounded;
-  nodes = nodes;
-  zero = λ d. ap (λ (n : NodeId). value_of p.pool d n.0) zero_is ∙ h.zero d;
-  covers = covers;
-  known = known;
-  members = members;
-  rest = rest;
-  base = base;
-  pre = pre;
-  stands = stands;
-}
+assembled p name cs m fs h bounded nodes zero_is covers known members rest base pre stands = grind (arith, common_steps)
 
 pub same_members : (p : PieceData) (m : SymbolicMachine) → IsContinuation p (made p p.name p.conditions m p.facts)
 unfolding is_member
-same_members p m =
-    record { of = refl; conditions = refl; on = []; name = sym (append-nil p.name); members = λ d inp. refl }
+same_members p m = grind (arith, common_steps, append-nil)
 
 abbrev pub gone : PieceData → SymbolicMachine → PieceData
 gone p m = made p p.name p.conditions m p.facts
@@ -112,8 +93,7 @@ gone p m = made p p.name p.conditions m p.facts
 kept : (p : PieceData) (m : SymbolicMachine) → IsPiece p → AreNodesBelow (length p.pool) m → m.zero ≡ p.machine.zero
     → (rest : List (List Insn)) (base pre : List Bool) → StandsAt (gone p m) rest base pre → IsPiece (gone p m)
 unfolding is_member
-kept p m h nodes zero_is rest base pre stands =
-    assembled p p.name p.conditions m p.facts h h.bounded nodes zero_is h.covers h.known h.members rest base pre stands
+kept p m h nodes zero_is rest base pre stands = search (arith, assembled)
 
 div_taken : (b : Bool) (u t : State) → false ∷ []
     ≡ take 1 (met_of (if b then returns (true ∷ []) 0 else goes (false ∷ []) u)) → t ≡ u
@@ -242,10 +222,7 @@ return_stands p i v h s (inr (is, full, same)) =
           (λ d inp member.
           let a = value_of p.pool d p.machine.a.0 in
           let f = (s.stands.runs d inp member).taken in
-          let met : s.pre ≡ bits 32 a =
-          f ∙ ap (λ (k : ℕ). take k (met_of (step s.code d (concrete_state p.pool p.machine d))))
-          full ∙ ap (λ (q : Progress). take 32 (met_of q))
-          (step_is s.code d (concrete_state p.pool p.machine d) ReturnA at) in
+          let met : s.pre ≡ bits 32 a = search (arith, step_is) in
           let word : a < 2 ^ 32 = value-small p.pool d p.machine.a.0 h.pool inp in
           let spelt : number_from 0 (bits 32 a) ≡ 0 * 2 ^ 32 + a % 2 ^ 32 = number_bits 32 0 a in
           let value : v ≡ a = same ∙ s.stands.number ∙ ap (number_from 0) met ∙ spelt ∙ omega arith in
@@ -280,7 +257,4 @@ return_piece p i v h s r =
 
 pub return_gone : (p : PieceData) (i : Insn) (v : ℕ) → IsPiece p → HasAtHand p i
     → HasAdvanced p (gone p (after_return p.machine v))
-return_gone p i v h s =
-    let few : p.machine.taken ≤ 32 = s.taken in
-    let more : p.machine.program < length p.stack = s.running in
-    record { is_on = same_members p (after_return p.machine v); falls = omega arith }
+return_gone p i v h s = search (arith, same_members)

@@ -1,6 +1,7 @@
 -- Pieces stay lawful: the symbolic run stands where it should, and on a plain stack nothing is lost.
-use Rattle.std.proofs.Common.{◌≡◌, ℕ, zero, suc, ◌^◌, ◌<◌, Bool, List, [], ◌∷◌, ◌++◌, length, replicate, refl, ap, ◌∙◌, arith}
-use Rattle.std.specs.Prelude.{slice_index, Option, Some, None, IfSome, MatchOption}
+use Rattle.std.proofs.lemmas.Grind.{common_steps}
+use Rattle.std.proofs.Common.{◌≡◌, ℕ, ◌<◌, Bool, List, [], ◌∷◌, ◌++◌, length, replicate, refl, ap, ◌∙◌, arith}
+use Rattle.std.specs.Prelude.{Option, Some, None, IfSome, MatchOption}
 use Rattle.std.proofs.lemmas.Bool.{false_from_ne_true}
 use Rattle.std.proofs.lemmas.List.Elements.{All-nil}
 use Rattle.sf_insn.specs.declared.input.Input.{Input}
@@ -10,7 +11,6 @@ use Rattle.sf_insn.specs.declared.ops.Test.{Test}
 use Rattle.sf_check.specs.declared.insn.Insn.{Insn}
 use Rattle.sf_check.specs.declared.insn.Operand.{Operand}
 use Rattle.sf_check.specs.declared.insn.Operand.TheVariants.{Constant}
-use Rattle.sf_run.specs.Machine.{operand_of}
 use Rattle.sf_check.specs.Stacks.{IsLawfulStack, IsPlain}
 use Rattle.sf_sym.specs.declared.pool.Node.{Node}
 use Rattle.sf_sym.specs.declared.pool.NodeId.{NodeId}
@@ -24,7 +24,7 @@ use Rattle.sf_dom.specs.Facts.{IsPlainCondition as IsPlainCond}
 use Rattle.sf_piece.specs.declared.machine.SymbolicMachine.{SymbolicMachine}
 use Rattle.sf_piece.specs.Pieces.{PieceData, is_member}
 use Rattle.sf_piece.specs.PlainPieces.{IsPlainPiece}
-use Rattle.sf_piece.specs.SymbolicRun.{IsPiece, IsLawfulPiece, concrete_state}
+use Rattle.sf_piece.specs.SymbolicRun.{IsPiece, IsLawfulPiece}
 use Rattle.sf_piece.specs.Works.{HasAtHand, GoesTo, ReturnsNow, IsQuery, IsForeseen, PassesAlways, IsOperandNumber, AfterTruthValue, AreChildFacts, IsChild, IsNever, with_sense}
 use Rattle.sf_piece.specs.Machines.{after_return}
 use Rattle.sf_piece.proofs.Kept.{gone, go_piece, return_piece}
@@ -74,10 +74,7 @@ pub told_of_known : (p : PieceData) (test : Test) (other : Operand) (n : ℕ) (k
     → other ≡ Constant n → known ≡ known_at p.facts.known p.machine.a.0
     → ((x : ℕ) → Admits known x → passes test x n ≡ b) → PassesAlways p test other b
 unfolding Agrees
-told_of_known p test other n known b h e is told = foretold p test other n (Some b) h
-    (λ d inp agrees. ap (operand_of (concrete_state p.pool p.machine d)) e) (λ d inp agrees.
-    told (value_of p.pool d p.machine.a.0)
-    (rw is (agrees p.machine.a.0 (omega (arith, h.nodes.a, h.covers.count))).admitted))
+told_of_known p test other n known b h e is told = search (arith, foretold)
 
 -- what is learnt from the piece's facts
 pub learnt_child : (p : PieceData) (cond : Cond) (b : Bool) (o : Option FactsView) → IsPiece p
@@ -100,8 +97,7 @@ pub right_child : (p : PieceData) (i : Insn) (cond : Cond) (b : Bool) (m : Symbo
     → IsLawfulPiece p
     → HasAtHand p i → IsQuery p i cond → AreChildFacts p cond b fs → AfterTruthValue p i b m
     → IsChild p cond b (child_of p cond b m fs)
-right_child p i cond b m fs h s e facts after =
-    child_is p cond b m fs facts (lawful_child p i cond b m fs h s e facts after)
+right_child p i cond b m fs h s e facts after = search (arith, child_is, lawful_child)
 
 pub lawful_grown : (p : PieceData) (added : List Node) (fs : FactsView) → IsLawfulPiece p → IsPool (p.pool ++ added)
     → TakesIn p.facts fs p.pool (p.pool ++ added)
@@ -117,12 +113,7 @@ zeros = record { words = replicate 16 0 }
 
 zeros_input : IsInput zeros
 unfolding zeros
-zeros_input = record { sixteen = refl; each = λ i. small 16 i }
-  where
-    small : (n i : ℕ) → slice_index (replicate n 0) i < 2 ^ 32
-    small zero i = omega arith
-    small (suc n) zero = omega arith
-    small (suc n) (suc i) = small n i
+zeros_input = grind (arith, common_steps)
 
 pub lawful_first : (stack : List (List Insn)) (pool : List Node) (zero_id : NodeId) (fs : FactsView)
     → IsLawfulStack stack → IsPool pool → zero_id.0 < length pool → ((d : Input) → value_of pool d zero_id.0 ≡ 0)

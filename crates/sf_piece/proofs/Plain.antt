@@ -1,11 +1,12 @@
 -- Pieces of plain stacks.
+use Rattle.std.proofs.lemmas.Grind.{common_steps}
 use Rattle.std.proofs.Common.{◌≡◌, ℕ, zero, suc, ◌-◌, ◌<◌, ◌&&◌, Bool, true, false, List, [], ◌∷◌, ◌++◌, length, drop, reverse, Some, slice_get, refl, sym, subst, ◌∙◌, inl, inr, arith}
 use Rattle.std.specs.Prelude.{All}
 use Rattle.std.specs.List.{AllByRecursion}
 use Rattle.std.proofs.lemmas.List.{get_or_append_left, get_or-reverse, length-reverse}
 use Rattle.std.proofs.lemmas.Option.{same_Some}
 use Rattle.std.proofs.lemmas.Bool.{cases_lt}
-use Rattle.std.proofs.lemmas.List.Elements.{All-push, All-head, All-tail, All-drop, All-from_recursion, recursion_from_All}
+use Rattle.std.proofs.lemmas.List.Elements.{All-push, All-head, All-tail, All-drop, recursion_from_All}
 use Rattle.sf_insn.specs.declared.input.Input.{Input}
 use Rattle.sf_insn.specs.Inputs.{IsInput}
 use Rattle.sf_insn.specs.declared.ops.Test.{Test}
@@ -21,7 +22,7 @@ use Rattle.sf_sym.specs.declared.pool.Node.{Node}
 use Rattle.sf_sym.specs.declared.pool.Node.TheVariants.{Const, Word, Bin, Neg}
 use Rattle.sf_sym.specs.declared.pool.NodeId.{NodeId}
 use Rattle.sf_sym.specs.declared.pool.Cond.{Cond}
-use Rattle.sf_sym.specs.Pool.{IsPool, ArePlainNodes, OperandsBelow, folded_node, node_at, is_met, IsCondBelow}
+use Rattle.sf_sym.specs.Pool.{IsPool, ArePlainNodes, OperandsBelow, folded_node, node_at, IsCondBelow}
 use Rattle.sf_dom.specs.Facts.{FactsView, Agrees, KeepsOnly, TakesIn, IsWordOrConst, IsPlainTest}
 use Rattle.sf_dom.specs.Propagation.{Meets}
 use Rattle.sf_dom.specs.FactsLaws.{some-input}
@@ -38,9 +39,7 @@ use Rattle.sf_piece.proofs.Children.{child_of, child_members}
 -- ---- the instruction at hand
 
 all_reverse : {X : Type 0} (P : X → Type 0) (xs : List X) → All P xs → All P (reverse xs)
-all_reverse P xs h k d less =
-    let inside : k < length xs = omega (arith, length-reverse xs) in
-    subst P (sym (get_or-reverse xs k d inside)) (h (length xs - 1 - k) d (omega arith))
+all_reverse P xs h k d less = search (arith, length-reverse, get_or-reverse)
 
 all_at : {X : Type 0} (P : X → Type 0) (xs : List X) (k : ℕ) (x : X) → All P xs → slice_get xs k ≡ Some x → P x
 all_at P [] k x h at = absurd cc
@@ -82,22 +81,11 @@ pushed_plain old new (Neg a) pool below is plain constant again = absurd is
 
 cond_grown : (ns added : List Node) (c : Cond) → IsCondBelow (length ns) c → IsPlainCond ns c
     → IsPlainCond (ns ++ added) c
-cond_grown ns added c below h = record {
-  node = subst IsWordOrConst (sym (get_or_append_left ns added (Const 0) c.node.0 below.0)) h.node;
-  number = h.number;
-  other = get_or_append_left ns added (Const 0) c.other.0 below.1 ∙ h.other;
-  test = h.test;
-}
+cond_grown ns added c below h = grind (arith, common_steps, get_or_append_left)
 
 conds_grown : (ns added : List Node) (cs : List Cond) → AllByRecursion (IsCondBelow (length ns)) cs
     → All (IsPlainCond ns) cs → All (IsPlainCond (ns ++ added)) cs
-conds_grown ns added cs below h = All-from_recursion (IsPlainCond (ns ++ added)) cs
-    (by cs below (recursion_from_All (IsPlainCond ns) cs h))
-  where
-    by : (cs : List Cond) → AllByRecursion (IsCondBelow (length ns)) cs → AllByRecursion (IsPlainCond ns) cs
-        → AllByRecursion (IsPlainCond (ns ++ added)) cs
-    by [] below h = tt
-    by (c ∷ cs) below h = (cond_grown ns added c below.0 h.0, by cs below.1 h.1)
+conds_grown ns added cs below h = grind (arith, common_steps, recursion_from_All, cond_grown)
 
 -- ---- what becomes of a plain piece
 
@@ -109,12 +97,7 @@ plain_kept p name m h = record { nodes = h.nodes; conditions = h.conditions; exa
 
 pub plain_grown : (p : PieceData) (added : List Node) (fs : FactsView) → IsPiece p → IsPlainPiece p
     → ArePlainNodes (p.pool ++ added) → TakesIn p.facts fs p.pool (p.pool ++ added) → IsPlainPiece (grown p added fs)
-plain_grown p added fs k h nodes takes = record {
-  nodes = nodes;
-  conditions = conds_grown p.pool added p.conditions k.bounded h.conditions;
-  exact = λ d inp agrees. members_grown p added fs d k.bounded ∙ h.exact d inp (takes.only d inp agrees);
-  some = (h.some.0, h.some.1, members_grown p added fs h.some.0 k.bounded ∙ h.some.2);
-}
+plain_grown p added fs k h nodes takes = grind (arith, common_steps, conds_grown, members_grown)
 
 pub sensed_plain : (ns : List Node) (cond : Cond) (b : Bool) → IsPlainCond ns cond → IsPlainCond ns (with_sense cond b)
 sensed_plain ns cond b h = record { node = h.node; number = h.number; other = h.other; test = h.test }
@@ -129,10 +112,7 @@ pub plain_child : (p : PieceData) (cond : Cond) (b : Bool) (m : SymbolicMachine)
 plain_child p cond b m fs h plain f only =
     let some = some-input fs p.pool f.covers h.nodes in
     let member : (d : Input) → IsInput d → Agrees fs p.pool d → is_member (child_of p cond b m fs) d ≡ true
-    = λ d inp agrees.
-    let both = only d inp agrees in
-    child_members p cond b m fs d ∙ and_is (is_member p d) (is_met p.pool d (with_sense cond b))
-    (h.exact d inp both.0) both.1 in
+    = search (arith, child_members, and_is) in
     record {
       nodes = h.nodes;
       conditions = All-push (IsPlainCond p.pool) p.conditions (with_sense cond b) h.conditions

@@ -1,4 +1,5 @@
 -- Pieces that take a truth value of the trace into their names.
+use Rattle.std.proofs.lemmas.Grind.{common_steps}
 use Rattle.std.proofs.Common.{◌≡◌, ℕ, zero, suc, ◌+◌, ◌-◌, ◌*◌, ◌<◌, Bool, true, false, List, [], ◌∷◌, ◌++◌, length, take, drop, map, Option, Some, None, slice_get, refl, sym, ap, subst, ◌∙◌, inl, inr, arith, append_assoc, append-nil}
 use Rattle.std.specs.Prelude.{if◌then◌else◌, ◌==◌, Contains, IsSome}
 use Rattle.std.specs.List.{flat_map, list_all}
@@ -56,15 +57,11 @@ take_there (x ∷ l) (suc k) e h = ap (λ (t : List Bool). x ∷ t) (take_there 
 
 regroup : (base pre dr more flat : List Bool) (e : Bool) → base ++ (((pre ++ e ∷ dr) ++ more) ++ flat) ≡ (base ++ pre)
     ++ e ∷ (dr ++ (more ++ flat))
-regroup base pre dr more flat e =
-    ap (λ (l : List Bool). base ++ l) (append_assoc (pre ++ e ∷ dr) more flat
-    ∙ append_assoc pre (e ∷ dr) (more ++ flat)) ∙ sym (append_assoc base pre (e ∷ (dr ++ (more ++ flat))))
+regroup base pre dr more flat e = grind (arith, common_steps, append_assoc)
 
 pub taken_is : (p : PieceData) (i : Insn) (s : HasAtHand p i) (d : Input) → IsInput d → is_member p d ≡ true
     → s.pre ≡ take p.machine.taken (met_of (insn_progress d (concrete_state p.pool p.machine d) i))
-taken_is p i s d inp member =
-    (s.stands.runs d inp member).taken ∙ ap (λ (q : Progress). take p.machine.taken (met_of q))
-    (step_is s.code d (concrete_state p.pool p.machine d) i s.at)
+taken_is p i s d inp member = grind (arith, common_steps, step_is)
 
 pub entry_trace : (p : PieceData) (i : Insn) (b : Bool) → (s : HasAtHand p i) → (d : Input)
     → NextIs (insn_progress d (concrete_state p.pool p.machine d) i) p.machine.taken b → IsInput d
@@ -87,8 +84,7 @@ entry_trace p i b s d next inp member = by (run_for (length s.code) s.code d st)
         let flat = flat_map (λ (q : List Insn). met_by q d) s.later in
         let all = (s.stands.runs d inp member).ends (o.0 ++ flat) (o.1 ∷ map (λ (q : List Insn). return_of q d) s.later)
         (length s.code, o, ran, refl, refl) in
-        let whole : l ≡ s.pre ++ b ∷ drop (suc k) l = split_there l k b next
-        ∙ ap (λ (t : List Bool). t ++ b ∷ drop (suc k) l) (sym (taken_is p i s d inp member)) in
+        let whole : l ≡ s.pre ++ b ∷ drop (suc k) l = search (arith, split_there, taken_is) in
         let met : o.0 ≡ (s.pre ++ b ∷ drop (suc k) l) ++ first.0 =
         first.1 ∙ ap (λ (t : List Bool). t ++ first.0) whole in (
           drop (suc k) l ++ (first.0 ++ flat),
@@ -221,13 +217,7 @@ return_turned p b cs fs h s more narrow =
         at_same s.code p.machine.place (Alu Div X) ReturnA q.0 s.at in absurd cc
 
 div_pending : (p : PieceData) (s : HasAtHand p (Alu Div X)) → p.machine.taken ≡ 0 → s.pre ≡ []
-div_pending p s none = by s.stands.inside.pending
-  where
-    by : IsPending s.code p.machine.place p.machine.taken s.pre → s.pre ≡ []
-    by (inl q) = q.1
-    by (inr (inl q)) = let clash : ReturnA ≡ Alu Div X =
-        at_same s.code p.machine.place ReturnA (Alu Div X) q.0 s.at in absurd cc
-    by (inr (inr q)) = absurd (omega (arith, q.1))
+div_pending p s none = grind (arith, common_steps, at_same)
 
 pub zero_turned : (p : PieceData) (cs : List Cond) (fs : FactsView)
     → AreNodesBelow (length p.pool) (after_return p.machine 0) → IsPiece p → (s : HasAtHand p (Alu Div X))

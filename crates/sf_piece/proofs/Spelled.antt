@@ -1,4 +1,5 @@
 -- Names by their runs of false: what is added to one, and how two compare.
+use Rattle.std.proofs.lemmas.Grind.{common_steps}
 use Rattle.std.proofs.Common.{◌≡◌, ℕ, zero, suc, ◌+◌, ◌<◌, Bool, true, false, List, [], ◌∷◌, ◌++◌, length, replicate, refl, sym, ap, ◌∙◌, arith, append_assoc, take, get_or, ◌-◌}
 use Rattle.std.specs.declared.cmp.Ordering.{Ordering}
 use Rattle.std.specs.declared.cmp.Reverse.{Reverse}
@@ -34,15 +35,7 @@ with_rest runs n = let e : n ≡ 0 + n = omega arith in ap (λ k. spelled runs k
 pub with_run : (runs : List (Reverse ℕ)) (i : ℕ) (run : Reverse ℕ) (xs ys : List Bool) → i < length runs
     → ys ≡ xs ++ spelled (take i runs) 0
     → (ys ++ replicate (get_or runs i run).0 false) ++ true ∷ [] ≡ xs ++ spelled (take (i + 1) runs) 0
-with_run runs i run xs ys l so_far =
-    let before = spelled (take i runs) 0 in
-    let n = (get_or runs i run).0 in
-    let next : spelled (take (i + 1) runs) 0 ≡ (before ++ replicate n false) ++ true ∷ [] =
-    ap (λ rs. spelled rs 0) (take_more runs i run l) ∙ run_more (take i runs) (get_or runs i run)
-    ∙ ap (λ l. l ++ true ∷ []) (with_rest (take i runs) n) in
-    ap (λ l. (l ++ replicate n false) ++ true ∷ []) so_far
-    ∙ ap (λ l. l ++ true ∷ []) (append_assoc xs before (replicate n false))
-    ∙ append_assoc xs (before ++ replicate n false) (true ∷ []) ∙ ap (λ l. xs ++ l) (sym next)
+with_run runs i run xs ys l so_far = grind (arith, common_steps, take_more, run_more, with_rest, append_assoc)
 
 -- ---- how two compare
 

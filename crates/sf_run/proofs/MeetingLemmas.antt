@@ -1,5 +1,6 @@
 -- The truth values that the code's steps meet.
-use Rattle.std.proofs.Common.{◌≡◌, ℕ, suc, ◌+◌, ◌-◌, ◌/◌, ◌^◌, ◌<◌, Bool, true, false, List, [], ◌∷◌, ◌++◌, Option, Some, None, slice_get, bit_and, refl, ◌∙◌, arith, append_assoc}
+use Rattle.std.proofs.lemmas.Grind.{common_steps}
+use Rattle.std.proofs.Common.{◌≡◌, ℕ, suc, ◌+◌, ◌-◌, ◌/◌, ◌^◌, ◌<◌, Bool, true, false, List, [], ◌∷◌, ◌++◌, Option, bit_and, refl, arith, append_assoc}
 use Rattle.std.specs.Prelude.{if◌then◌else◌, ◌==◌}
 use Rattle.std.proofs.lemmas.Nat.Bits.{shr_and_one}
 use Rattle.sf_insn.specs.declared.input.Input.{Input}
@@ -29,12 +30,7 @@ Meets expected (returns met value) = met ≡ expected
 Meets expected stuck = Unit {0}
 
 loaded_meets : (s : State) (k : ℕ) (f : ℕ → Progress) → ((n : ℕ) → Meets [] (f n)) → Meets [] (load_progress s k f)
-loaded_meets s k f none = by (slice_get s.scratch k) refl
-  where
-    by : (w : Option (Option ℕ)) → slice_get s.scratch k ≡ w → Meets [] (load_progress s k f)
-    by (Some (Some n)) at = rw at (none n)
-    by (Some None) at = rw at tt
-    by None at = rw at tt
+loaded_meets s k f none = grind (arith, common_steps)
 
 step_meets : (d : Input) (s : State) (i : Insn) → Meets (met_at s i) (insn_progress d s i)
 step_meets d s (LoadScratch k) = loaded_meets s k (with_a s) (λ n. refl)
@@ -79,9 +75,7 @@ pub met_goes_on : (code : List Insn) (d : Input) (place a x : ℕ) (scratch : Li
     → ys ≡ xs ++ met_at (record { place = 0; a = a; x = x; scratch = scratch }) i → xs ++ (met ++ more) ≡ whole
     → ys ++ more ≡ whole
 met_goes_on code d place a x scratch i met next xs ys more whole e pushed so_far =
-    let same = goes_meets d (record { place = place; a = a; x = x; scratch = scratch }) i met next e
-    ∙ met_anywhere place 0 a x scratch i in
-    rw (pushed, ← same, append_assoc xs met more) so_far
+    grind (arith, common_steps, goes_meets, met_anywhere, append_assoc)
 
 pub met_ends : (code : List Insn) (d : Input) (place a x : ℕ) (scratch : List (Option ℕ)) (i : Insn) (met : List Bool)
     (value : ℕ) (xs ys whole : List Bool) → insn_progress d
@@ -89,6 +83,4 @@ pub met_ends : (code : List Insn) (d : Input) (place a x : ℕ) (scratch : List 
     ≡ returns met value → ys ≡ xs ++ met_at (record { place = 0; a = a; x = x; scratch = scratch }) i
     → xs ++ met ≡ whole → ys ≡ whole
 met_ends code d place a x scratch i met value xs ys whole e pushed so_far =
-    let same = returns_meets d (record { place = place; a = a; x = x; scratch = scratch }) i met value e
-    ∙ met_anywhere place 0 a x scratch i in
-    rw (pushed, ← same) so_far
+    grind (arith, common_steps, returns_meets, met_anywhere)

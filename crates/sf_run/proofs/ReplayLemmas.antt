@@ -1,5 +1,6 @@
 -- The code's replays, step by step.
-use Rattle.std.proofs.Common.{◌≡◌, ℕ, zero, suc, ◌+◌, ◌-◌, ◌*◌, ◌^◌, ◌<◌, ◌≤◌, Bool, true, false, List, ◌∷◌, length, Option, Some, None, get_or, drop, refl, sym, ap, subst, ◌∙◌, arith}
+use Rattle.std.proofs.lemmas.Grind.{common_steps}
+use Rattle.std.proofs.Common.{◌≡◌, ℕ, zero, suc, ◌+◌, ◌-◌, ◌*◌, ◌^◌, ◌<◌, ◌≤◌, Bool, true, false, List, ◌∷◌, length, Option, Some, None, get_or, drop, refl, sym, ap, ◌∙◌, arith}
 use Rattle.std.specs.Prelude.{option_map, if◌then◌else◌}
 use Rattle.std.specs.List.{fold}
 use Rattle.std.specs.Int.{from_bool}
@@ -29,14 +30,7 @@ bit_taken i number r bit left rest whole lt first is so_far =
     rw (is, ← bit_is bit) (rw (one, first) at so_far)
 
 pub bit_fits : (i number r : ℕ) (bit : Bool) → r ≡ from_bool bit → number < 2 ^ i → 2 * number + r < 2 ^ (i + 1)
-bit_fits i number r bit is fits = by bit is
-  where
-    double : 2 ^ (i + 1) ≡ 2 ^ i * 2
-    double = subst (λ (k : ℕ). 2 ^ k ≡ 2 ^ i * 2) (omega arith) (pow-suc 2 i)
-
-    by : (bit : Bool) → r ≡ from_bool bit → 2 * number + r < 2 ^ (i + 1)
-    by true is = omega (arith, double)
-    by false is = omega (arith, double)
+bit_fits i number r bit is fits = grind (arith, common_steps, pow-suc)
 
 -- ---- instructions
 
@@ -83,14 +77,7 @@ onward a met codes = option_map (λ o. (fold folded_answer a o.0, o.1)) (returns
 
 pub onward_more : (a : Answer) (met left : List Bool) (code : List Insn) (codes : List (List Insn)) (v : ℕ)
     → replay_of code met ≡ Some (v, left) → onward a met (code ∷ codes) ≡ onward (folded_answer a v) left codes
-onward_more a met left code codes v e = rw e (by (returns_along codes left))
-  where
-    by : (others : Option (List ℕ × List Bool))
-        → option_map {U = Answer × List Bool} (λ o. (fold folded_answer a o.0, o.1))
-        (option_map {U = List ℕ × List Bool} (λ o. (v ∷ o.0, o.1)) others)
-        ≡ option_map (λ o. (fold folded_answer (folded_answer a v) o.0, o.1)) others
-    by None = refl
-    by (Some o) = refl
+onward_more a met left code codes v e = grind (arith, common_steps)
 
 pub onward_stops : (a : Answer) (met : List Bool) (code : List Insn) (codes : List (List Insn))
     → replay_of code met ≡ None → onward a met (code ∷ codes) ≡ None
@@ -99,6 +86,4 @@ onward_stops a met code codes e = rw e refl
 -- at the next program
 pub onward_at : (a : Answer) (met : List Bool) (codes : List (List Insn)) (k : ℕ) (code : List Insn) → k < length codes
     → code ≡ get_or codes k code → onward a met (drop k codes) ≡ onward a met (code ∷ drop (k + 1) codes)
-onward_at a met codes k code lt is =
-    at_drop_more (onward a met) codes k code lt
-    ∙ ap (λ (p : List Insn). onward a met (p ∷ drop (k + 1) codes)) (sym is)
+onward_at a met codes k code lt is = grind (arith, common_steps, at_drop_more)

@@ -1,3 +1,4 @@
+use Rattle.std.proofs.lemmas.Grind.{common_steps}
 use Rattle.std.proofs.Common.{◌≡◌, ◌<◌, ℕ, inr, length, get_or, sym, subst, List, arith, Ok, Err}
 use Rattle.std.proofs.lemmas.Option.{slice_get-get_or}
 use Rattle.std.proofs.lemmas.Bool.Decides.{nat_tests}
@@ -5,8 +6,7 @@ use Rattle.sf_insn.specs.declared.raw.RawInsn.{RawInsn}
 use Rattle.sf_check.specs.declared.insn.Insn.{Insn}
 use Rattle.sf_check.specs.declared.read.Unreadable.TheVariants.{UnknownCode, BadField}
 use Rattle.sf_check.specs.Codes.{insn_of}
-use Rattle.sf_check.specs.Insns.{successors}
-use Rattle.sf_check.specs.Programs.{AllBelow, IsAt, EndsInReturn, IsSetAt, IsUnsetAt}
+use Rattle.sf_check.specs.Programs.{EndsInReturn, IsSetAt, IsUnsetAt}
 use Rattle.sf_check.specs.ProgramLaws.{successors_inside}
 use Rattle.sf_check.proofs.Reading.{read_more, all_spelled, all_fine, lawful, size_is}
 use Rattle.sf_check.specs.EqualTests.{LeadInside}
@@ -85,17 +85,7 @@ returns-then-not-ends_in_return-clause-refused c =
     )
 
 pub first_unset-requires-clause-inside : goal.first_unset-requires-clause-inside
-first_unset-requires-clause-inside c =
-    let raws = c.args.raws.now in
-    let code = c.loop-place.insns.items in
-    let place = c.loop-place.place in
-    let ends : EndsInReturn code = subst EndsInReturn c.deref.ensures.value
-    (c.ends_in_return.ensures.0 c.if-not-ends_in_return.false) in
-    let size = size_is raws code place c.loop-place.invariant (omega arith) (omega arith) in
-    let inside : (at : ℕ) (i : Insn) → IsAt code at i → AllBelow (length code) (successors at i) =
-    λ at i h. successors_inside code at i h (rw size (c.loop-place.invariant.inside at i h)) ends in
-    subst (λ (p : List Insn). (at : ℕ) (i : Insn) → IsAt p at i → AllBelow (length p) (successors at i))
-    (sym c.deref-2.ensures.value) inside
+first_unset-requires-clause-inside c = grind (arith, common_steps, size_is, successors_inside)
 
 pub returns-in-Some-clause-refused : goal.returns-in-Some-clause-refused
 returns-in-Some-clause-refused c =
@@ -103,8 +93,7 @@ returns-in-Some-clause-refused c =
     let code = c.loop-place.insns.items in
     let place = c.loop-place.place in
     let some : 0 < length raws = grind (arith, nat_tests) in
-    let ends : EndsInReturn code = subst EndsInReturn c.deref.ensures.value
-    (c.ends_in_return.ensures.0 c.if-not-ends_in_return.false) in
+    let ends : EndsInReturn code = search arith in
     let at = c.in-Some.place in
     let found : IsUnsetAt c.deref-2.result.now at × ((j : ℕ) → j < at → IsSetAt c.deref-2.result.now j) =
     rw c.in-Some.is at c.in_ok-place.ensures.some in

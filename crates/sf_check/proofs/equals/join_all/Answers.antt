@@ -1,3 +1,5 @@
+use Rattle.std.proofs.Common.{arith}
+use Rattle.std.proofs.lemmas.Grind.{common_steps}
 use Rattle.std.proofs.lemmas.Option.{slice_get-get_or}
 use Rattle.sf_check.proofs.EqualLemmas.{test_here}
 use Rattle.sf_check.proofs.equals.join_all.Goals as goal
@@ -9,9 +11,4 @@ join-requires-clause-inside c =
     (test_here c.args.insns.now c.loop-place.place c.in-Some.test.number c.in-Some.test.skips _ here c.in-Some.ensures)
 
 pub join-requires-clause-test : goal.join-requires-clause-test
-join-requires-clause-test c =
-    let here = slice_get-get_or c.args.insns.now c.loop-place.place _ c.loop-place-test.true in (
-      c.in-Some.test.number,
-      test_here c.args.insns.now c.loop-place.place c.in-Some.test.number c.in-Some.test.skips _ here
-          c.in-Some.ensures,
-    )
+join-requires-clause-test c = grind (arith, common_steps, slice_get-get_or, test_here)

@@ -1,3 +1,4 @@
+use Rattle.std.proofs.lemmas.Grind.{common_steps}
 use Rattle.std.proofs.Common.{arith}
 use Rattle.std.proofs.lemmas.Option.{slice_get-get_or}
 use Rattle.sf_check.proofs.EqualLemmas.{none_here, test_here, only_number}
@@ -9,15 +10,7 @@ returns-in_default-clause-none c k next t =
     absurd (none_here c.args.insns.now c.args.place _ here c.in_default.ensures k next t)
 
 pub returns-then-test-number-clause-none : goal.returns-then-test-number-clause-none
-returns-then-test-number-clause-none c k next t =
-    let here = slice_get-get_or c.args.insns.now c.args.place _ c.requires.inside in
-    only_number c.args.insns.now c.args.place c.args.number c.in-Some.test.number c.in-Some.test.skips _ here
-    c.in-Some.ensures (omega (arith, c.if-test-number.true)) k next t
+returns-then-test-number-clause-none c k next t = grind (arith, common_steps, slice_get-get_or, only_number)
 
 pub returns-else-test-number-clause-some : goal.returns-else-test-number-clause-some
-returns-else-test-number-clause-some c =
-    let here = slice_get-get_or c.args.insns.now c.args.place _ c.requires.inside in (
-      c.in-Some.test.number,
-      λ e. omega (arith, c.if-test-number.false, e),
-      test_here c.args.insns.now c.args.place c.in-Some.test.number c.in-Some.test.skips _ here c.in-Some.ensures,
-    )
+returns-else-test-number-clause-some c = grind (arith, common_steps, slice_get-get_or, test_here)

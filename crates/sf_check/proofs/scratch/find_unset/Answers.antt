@@ -1,3 +1,4 @@
+use Rattle.std.proofs.lemmas.Grind.{common_steps}
 use Rattle.std.proofs.Common.{arith, refl, length}
 use Rattle.std.proofs.lemmas.Option.{slice_get-get_or, slice_get_within}
 use Rattle.sf_check.proofs.MaskLemmas.{known_start, known_step, load_is_unset}
@@ -7,17 +8,13 @@ pub loop-place-init : goal.loop-place-init
 loop-place-init c = rw c.requires.start (known_start c.args.code.now (length c.args.code.now) refl c.requires.some)
 
 pub loads_unset-requires : goal.loads_unset-requires
-loads_unset-requires c = c.requires.in_range c.loop-place.place _
-    (slice_get-get_or c.args.code.now c.loop-place.place _ c.loop-place-test.true)
+loads_unset-requires c = search (arith, slice_get-get_or)
 
 pub set_after-after-requires : goal.set_after-after-requires
-set_after-after-requires c = c.requires.in_range c.loop-place.place _
-    (slice_get-get_or c.args.code.now c.loop-place.place _ c.loop-place-test.true)
+set_after-after-requires c = search (arith, slice_get-get_or)
 
 pub propagate-requires-clause-inside : goal.propagate-requires-clause-inside
-propagate-requires-clause-inside c =
-    rw c.loop-place.invariant.size (c.requires.inside c.loop-place.place _
-    (slice_get-get_or c.args.code.now c.loop-place.place _ c.loop-place-test.true))
+propagate-requires-clause-inside c = grind (arith, common_steps, slice_get-get_or)
 
 pub returns-then-loads_unset-clause-some : goal.returns-then-loads_unset-clause-some
 returns-then-loads_unset-clause-some c =
@@ -29,13 +26,7 @@ returns-then-loads_unset-clause-some c =
     )
 
 pub loop-place-preserved : goal.loop-place-preserved
-loop-place-preserved c =
-    let at = slice_get-get_or c.args.code.now c.loop-place.place _ c.loop-place-test.true in
-    let inside = c.requires.inside c.loop-place.place _ at in
-    let after = c.set_after-after.ensures in
-    rw c.propagate.ensures (known_step c.args.code.now c.loop-place.masks c.loop-place.place _ c.set_after-after.result
-    c.loop-place.invariant c.loop-place-test.true at inside (c.loads_unset.ensures.fine c.if-loads_unset.false)
-    after.more after.stored after.only)
+loop-place-preserved c = search (arith, slice_get-get_or, known_step)
 
 pub returns-clause-none : goal.returns-clause-none
 returns-clause-none c at k earlier loads path =

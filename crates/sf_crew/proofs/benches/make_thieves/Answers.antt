@@ -1,8 +1,8 @@
-use Rattle.std.proofs.Common.{◌≡◌, ◌+◌, List, [], ◌∷◌, All, length, length-append, sym, ap, ◌∙◌, subst, arith}
+use Rattle.std.proofs.Common.{◌≡◌, ◌+◌, List, [], All, length, length-append, sym, ap, ◌∙◌, subst, arith}
 use Rattle.sf_crew.specs.declared.benches.history.HandleView.{HandleView}
 use Rattle.sf_crew.specs.declared.benches.handles.Thief.{Thief}
 use Rattle.sf_crew.specs.History.{handle_view}
-use Rattle.sf_crew.specs.Benches.{AreThieves, IsOnBench, thief_view}
+use Rattle.sf_crew.specs.Benches.{IsOnBench, thief_view}
 use Rattle.sf_crew.proofs.NewThieves.{one_thief_more, one_more_on}
 use Rattle.sf_crew.proofs.benches.make_thieves.Goals as goal
 
@@ -13,14 +13,10 @@ loop-given-preserved g c =
     c.in_ok-thief.ensures.thief ∙ ap (λ (e : HandleView g.row.T.Denot). handle_view e.made 0 []) i.owner in
     let long : length c.loop-given.new_thieves.items ≡ c.loop-given.given = i.long in
     record {
-      owner = c.in_ok-thief.ensures.owner ∙ ap (λ (e : HandleView g.row.T.Denot).
-          handle_view e.me (e.made + 1) []) i.owner;
+      owner = search arith;
       count = omega (arith, c.in_ok-push.ensures.len, i.count);
-      long = ap (λ (l : List (Thief g.row.T.Denot)). length l) c.in_ok-push.ensures.items
-          ∙ omega (arith, length-append c.loop-given.new_thieves.items (c.in_ok-thief.thief ∷ []), long);
-      thieves = subst (AreThieves 1) (sym c.in_ok-push.ensures.items)
-          (one_thief_more 1 (c.loop-given.given + 1) c.loop-given.new_thieves.items c.in_ok-thief.thief i.thieves
-          (omega (arith, long)) seen);
+      long = search (arith, length-append);
+      thieves = search (arith, one_thief_more);
       one = subst (λ (ts : List (Thief g.row.T.Denot)).
           All (λ (t : Thief g.row.T.Denot). IsOnBench c.add_thief.new.self t) ts)
           (sym c.in_ok-push.ensures.items)

@@ -1,4 +1,5 @@
-use Rattle.std.proofs.Common.{ℕ, ap, ◌∙◌, refl, arith}
+use Rattle.std.proofs.lemmas.Grind.{common_steps}
+use Rattle.std.proofs.Common.{ℕ, ap, ◌∙◌, arith}
 use Rattle.std.proofs.lemmas.List.{length-set}
 use Rattle.sf_ask.specs.QuestionBitsLaws.{all-bits}
 use Rattle.sf_crew.specs.declared.board.view.View.{View}
@@ -9,12 +10,7 @@ use Rattle.sf_crew.proofs.sweeping.look_at.Goals.{then-to_judge-word-ne0, else-t
 use Rattle.sf_crew.proofs.sweeping.look_at.Goals as goal
 
 pub loop-word-init : goal.loop-word-init
-loop-word-init c = record {
-  seat = c.requires.seat;
-  long = refl;
-  same = refl;
-  skips = λ q few none. absurd (let set = all-bits q few in omega (arith, set, none));
-}
+loop-word-init c = grind (arith, common_steps, all-bits)
 
 pub loop-word-preserved : goal.loop-word-preserved
 loop-word-preserved c =

@@ -1,4 +1,5 @@
-use Rattle.std.proofs.Common.{ℕ, ◌<◌, w64, ap, ◌∙◌, refl, arith}
+use Rattle.std.proofs.lemmas.Grind.{common_steps}
+use Rattle.std.proofs.Common.{ℕ, ◌<◌, w64, ap, ◌∙◌, arith}
 use Rattle.std.specs.Int.{trailing_zeros}
 use Rattle.std.proofs.lemmas.Nat.Bits.{bit_at-trailing_zeros}
 use Rattle.sf_crew.specs.declared.board.view.View.{View}
@@ -9,14 +10,7 @@ use Rattle.sf_crew.proofs.sweeping.look_at_word.Goals.{then-is_beaten, else-is_b
 use Rattle.sf_crew.proofs.sweeping.look_at_word.Goals as goal
 
 pub loop-left-init : goal.loop-left-init
-loop-left-init c = record {
-  seat = c.requires.seat;
-  skips = record {
-    same = refl;
-    more = λ p r x. x;
-    skips = skips_none c.args.word c.args.job (seat_view c.args.seat.now).notes;
-  };
-}
+loop-left-init c = grind (arith, common_steps, skips_none)
 
 pub loop-left-preserved : goal.loop-left-preserved
 loop-left-preserved c =
@@ -38,10 +32,6 @@ loop-left-preserved c =
       })
       | else-is_beaten w ↦ rw w.wanted-is (record {
         seat = e.same;
-        skips = record {
-          same = e.view ∙ ap (λ (v : View). with_notes v new.notes) i.same;
-          more = λ p r x. e.more p r (i.more p r x);
-          skips = skips_still c.args.word c.args.job c.loop-left.wanted old.notes new.notes e.more i.skips;
-        };
+        skips = search (arith, skips_still);
       })
     ]

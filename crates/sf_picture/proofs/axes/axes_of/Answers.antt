@@ -18,6 +18,4 @@ returns-clause-words c =
     c.loop-one.invariant.words
 
 pub returns-clause-each : goal.returns-clause-each
-returns-clause-each c =
-    axes-sorted c.args.held.now c.loop-one.axes.items c.sort_unstable_by_key.new.self.items c.loop-one.one-index
-    (omega arith) c.sort_unstable_by_key.ensures.permutation c.loop-one.invariant.has
+returns-clause-each c = search (arith, axes-sorted)

@@ -1,11 +1,10 @@
-use Rattle.std.proofs.Common.{true}
+use Rattle.std.proofs.lemmas.Grind.{common_steps}
+use Rattle.std.proofs.Common.{arith, true}
 use Rattle.sf_picture.proofs.SpanLemmas.{one-confines, one-only, ok-holds}
 use Rattle.sf_picture.proofs.confining.confine_masked.Goals as goal
 
 pub returns-clause-confined : goal.returns-clause-confined
-returns-clause-confined c =
-    one-confines c.in_ok-confine_bits.field-0 c.args.facts.now c.confine_bits.new.self c.args.pool.now c.args.axis
-    c.args.first c.args.last c.in-Some.number c.in-Some.ensures.one c.in_ok-confine_bits.ensures.confined
+returns-clause-confined c = grind (arith, common_steps, one-confines)
 
 pub returns-in_default-clause-only : goal.returns-in_default-clause-only
 returns-in_default-clause-only c = λ e bit. absurd (c.in_default.ensures.bit bit)

@@ -4,18 +4,7 @@ use Rattle.sf_picture.proofs.ConditionLemmas.{plain-condition, lie-from, lie-all
 use Rattle.sf_picture.proofs.cuts.cuts_of.Goals as goal
 
 pub loop-place-init : goal.loop-place-init
-loop-place-init c = rw c.new-tested.ensures.items (record {
-  within = omega (arith, c.cond_count-end.ensures.value);
-  between = λ plain j x le at. absurd (omega (
-    arith,
-    le,
-    c.cond_count-end.ensures.value,
-    slice_get_within c.args.piece.now.conditions j x at,
-  ));
-  single = λ plain. tt;
-  words = λ k d lt. absurd (omega arith);
-  plain = λ plain k d lt. absurd (omega arith);
-})
+loop-place-init c = search (arith, slice_get_within)
 
 pub loop-place-preserved : goal.loop-place-preserved
 loop-place-preserved c =

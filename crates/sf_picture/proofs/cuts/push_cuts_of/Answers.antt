@@ -29,11 +29,7 @@ returns-in-GreaterOrEqual-clause-between c = IfOk-weaker c.push_cut_below.result
     (ap (λ (t : Test). passes t n c.args.number) (sym c.in-GreaterOrEqual.is) ∙ unmet) has) c.push_cut_below.ensures.has
 
 pub returns-in-AnyBit-clause-between : goal.returns-in-AnyBit-clause-between
-returns-in-AnyBit-clause-between c = IfOk-weaker c.push_cut-in-AnyBit.result _ _
-    (λ _ has whole m n lm ln met unmet. bits-between c.args.axis c.args.number m n c.push_cut-in-AnyBit.new.cuts.items
-    whole (omega arith)
-    (ap (λ (t : Test). passes t m c.args.number) (sym c.in-AnyBit.is) ∙ met)
-    (ap (λ (t : Test). passes t n c.args.number) (sym c.in-AnyBit.is) ∙ unmet) has) c.push_cut-in-AnyBit.ensures.has
+returns-in-AnyBit-clause-between c = search (arith, bits-between)
 
 pub returns-in-AnyBit-clause-plain : goal.returns-in-AnyBit-clause-plain
 returns-in-AnyBit-clause-plain c = IfOk-weaker c.push_cut-in-AnyBit.result _ _

@@ -1,14 +1,10 @@
-use Rattle.std.proofs.Common.{subst, sym, ap}
+use Rattle.std.proofs.Common.{arith}
 use Rattle.std.proofs.lemmas.Option.{none-some, same_Some}
-use Rattle.sf_dom.specs.Facts.{IsPlainTest}
-use Rattle.sf_picture.specs.declared.cuts.NumberTest.{NumberTest}
-use Rattle.sf_picture.specs.declared.axis.Axis.{Axis}
 use Rattle.sf_picture.proofs.CutLemmas.{cond-axis, cond-between, none-between}
 use Rattle.sf_picture.proofs.cuts.push_cuts_of_cond.Goals as goal
 
 pub returns-in_default-clause-between : goal.returns-in_default-clause-between
-returns-in_default-clause-between c = λ p.
-    absurd (none-some _ (c.in_default.ensures.same p.number p.other p.node))
+returns-in_default-clause-between c = search (arith, none-some)
 
 pub returns-in_default-axis_of-clause-between : goal.returns-in_default-axis_of-clause-between
 returns-in_default-axis_of-clause-between c = λ p.
@@ -25,9 +21,4 @@ returns-clause-between c = λ p.
     c.in-Some-axis_of.ensures.whole c.in-Some-axis_of.ensures.constant c.in_ok-push_cuts_of.ensures.between
 
 pub returns-clause-plain : goal.returns-clause-plain
-returns-clause-plain c = λ p all.
-    let is = same_Some c.in-Some.tested _ (c.in-Some.ensures.same p.number p.other p.node) in
-    let a = cond-axis c.args.pool.now c.args.cond.now c.in-Some.tested c.in-Some-axis_of.axis p is
-    c.in-Some-axis_of.ensures.whole c.in-Some-axis_of.ensures.constant in
-    c.in_ok-push_cuts_of.ensures.plain (ap (λ (x : Axis). x.mask) a.2) c.in-Some-axis_of.ensures.inside
-    (subst (λ (t : NumberTest). IsPlainTest t.test t.number) (sym is) p.test) all
+returns-clause-plain c = search (arith, same_Some, cond-axis)

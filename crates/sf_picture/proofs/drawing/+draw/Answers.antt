@@ -1,3 +1,4 @@
+use Rattle.std.proofs.lemmas.Grind.{common_steps}
 use Rattle.std.proofs.Common.{◌≡◌, ℕ, ◌<◌, ◌≤◌, ◌+◌, List, ◌∷◌, length, get_or, refl, sym, ap, subst, ◌∙◌, arith}
 use Rattle.std.specs.Prelude.{slice_index}
 use Rattle.std.proofs.lemmas.List.{get_or_default}
@@ -16,10 +17,7 @@ use Rattle.sf_picture.proofs.AttainLemmas.{short-none, short-more, short-same, a
 use Rattle.sf_picture.proofs.drawing.+draw.Goals as goal
 
 pub draw_span-returns-then-is_past-clause-drawn : goal.draw_span-returns-then-is_past-clause-drawn
-draw_span-returns-then-is_past-clause-drawn t c = λ held part.
-    let span = c.args.span in
-    draws-none c.args.sketch.now c.args.runs.now.items held span.axis span.first span.last c.requires.right
-    c.requires.runs c.requires.short (c.if-is_past.ensures.past refl)
+draw_span-returns-then-is_past-clause-drawn t c = grind (arith, common_steps, draws-none)
 
 pub draw_span-returns-then-is_past-clause-short : goal.draw_span-returns-then-is_past-clause-short
 draw_span-returns-then-is_past-clause-short t c = λ held s labels box part task span. short-none c.args.sketch.now
@@ -87,16 +85,7 @@ draw_span-returns-clause-attained t c = λ held s labels box from part task is b
     ahead.0 ahead.1 part.only))) before
 
 pub draw-loop-last-init : goal.draw-loop-last-init
-draw-loop-last-init t c = record {
-  grows = grows-none c.args.sketch.now;
-  right = c.requires.right;
-  runs = rw c.new-runs.ensures.items (record { rising = tt; apart = tt; lead = tt; ends = tt });
-  found = λ k x lt d is below. absurd (omega arith);
-  short = omega arith;
-  passed = λ k lt. absurd (omega arith);
-  keeps_short = λ s labels box task. short-none c.args.sketch.now;
-  attained = λ s labels box task place above lt. absurd (omega arith);
-}
+draw-loop-last-init t c = grind (arith, common_steps, grows-none, short-none)
 
 pub draw-loop-last-preserved : goal.draw-loop-last-preserved
 draw-loop-last-preserved t c =
@@ -175,9 +164,7 @@ draw-fork_of-requires-clause-runs t c =
     runs-whole _ _ _ _ _ passed i.short i.runs
 
 pub draw-returns-clause-grows : goal.draw-returns-clause-grows
-draw-returns-clause-grows t c =
-    grows-more c.args.sketch.now c.loop-last.sketch c.fork_of.new.sketch c.loop-last.invariant.grows
-    c.in_ok-drawn.ensures.grows
+draw-returns-clause-grows t c = grind (arith, common_steps, grows-more)
 
 pub draw-returns-clause-drawn : goal.draw-returns-clause-drawn
 draw-returns-clause-drawn t c =

@@ -1,3 +1,5 @@
+use Rattle.std.proofs.Common.{arith}
+use Rattle.std.proofs.lemmas.Grind.{common_steps}
 use Rattle.sf_picture.proofs.DrawLemmas.{drawn-leaf}
 use Rattle.sf_picture.proofs.AttainLemmas.{short-drawn, attained-drawn}
 use Rattle.sf_picture.proofs.drawing.leaf_of_left.Goals as goal
@@ -8,9 +10,7 @@ returns-clause-drawn c =
     c.in_ok-labels.ensures.labels c.in_ok-leaf.ensures.leaf
 
 pub returns-clause-short : goal.returns-clause-short
-returns-clause-short c = λ one.
-    short-drawn c.in_ok-leaf.leaf c.args.sketch.now c.leaf_of.new.sketch c.in_ok-labels.labels.items
-    (c.in_ok-labels.ensures.one one) c.in_ok-leaf.ensures.spent c.in_ok-leaf.ensures.added
+returns-clause-short c = grind (arith, common_steps, short-drawn)
 
 pub returns-clause-attained : goal.returns-clause-attained
 returns-clause-attained c = λ s labels box all.

@@ -1,16 +1,10 @@
-use Rattle.std.proofs.Common.{◌∙◌, arith}
+use Rattle.std.proofs.Common.{arith}
 use Rattle.std.proofs.lemmas.List.{length_push}
 use Rattle.sf_picture.proofs.HoldingLemmas.{ends-more}
 use Rattle.sf_picture.proofs.held.all_ends.Goals as goal
 
 pub loop-one-preserved : goal.loop-one-preserved
-loop-one-preserved c =
-    let i = c.loop-one.invariant in
-    rw c.in_ok-push.ensures.items (record {
-      count = length_push c.loop-one.ends.items c.ends_on.result ∙ omega (arith, i.count);
-      each = ends-more c.args.held.now c.args.axis c.loop-one.ends.items c.loop-one.one-index c.one-item.result
-          c.ends_on.result i.count c.one-item.is c.ends_on.ensures.ends i.each (omega arith);
-    })
+loop-one-preserved c = search (arith, length_push, ends-more)
 
 pub returns-clause-ends : goal.returns-clause-ends
 returns-clause-ends c =

@@ -35,6 +35,4 @@ loop-i-preserved-then-miss c =
     }
 
 pub returns-clause-kept : goal.returns-clause-kept
-returns-clause-kept c =
-    kept-all c.args.held.now c.loop-i.inside.items c.args.axis c.args.first c.args.last c.loop-i.i (omega arith)
-    c.loop-i.invariant.kept
+returns-clause-kept c = search (arith, kept-all)

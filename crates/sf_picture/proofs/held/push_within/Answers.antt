@@ -1,10 +1,10 @@
+use Rattle.std.proofs.Common.{arith}
+use Rattle.std.proofs.lemmas.Grind.{common_steps}
 use Rattle.sf_picture.proofs.HoldingLemmas.{kept-push, kept-last, kept-none, from-push}
 use Rattle.sf_picture.proofs.held.push_within.Goals as goal
 
 pub returns-in_default-clause-adds : goal.returns-in_default-clause-adds
-returns-in_default-clause-adds c =
-    kept-none c.args.inside.now.items c.args.axis c.args.first c.args.last c.args.one.now
-    (rw c.in_default.is at c.in_ok-next.ensures.confined)
+returns-in_default-clause-adds c = grind (arith, common_steps, kept-none)
 
 pub returns-clause-keeps : goal.returns-clause-keeps
 returns-clause-keeps c = λ h kept.

@@ -21,9 +21,7 @@ loop-one-preserved c =
     }
 
 pub returns-clause-labels : goal.returns-clause-labels
-returns-clause-labels c =
-    labelled-sorted c.args.held.now c.loop-one.labels.items c.sort_unstable.new.self.items c.loop-one.one-index
-    (omega arith) c.sort_unstable.ensures.permutation c.loop-one.invariant.labels
+returns-clause-labels c = search (arith, labelled-sorted)
 
 pub returns-clause-one : goal.returns-clause-one
 returns-clause-one c = λ one.

@@ -8,17 +8,7 @@ pub returns-in_default : goal.returns-in_default
 returns-in_default c = rw (← c.run.view_is) (over_none _ (rw (← c.run.view_is) at c.requires.lawful))
 
 pub loop-skips-init : goal.loop-skips-init
-loop-skips-init c =
-    let passed = c.skip_others-count.result in
-    record {
-      gone = rw (← c.run.view_is) (over_failing _ c.in-Some.program.now c.args.known passed.count passed.behind
-          (rw (← c.run.view_is) at c.requires.lawful) (rw (← c.run.view_is) at c.in-Some.ensures)
-          (rw (← c.run.view_is) at c.requires.known) c.skip_others-count.ensures);
-      few = omega (
-        arith,
-        few_failing c.in-Some.program.now c.args.known passed.count _ passed.behind c.skip_others-count.ensures,
-      );
-    }
+loop-skips-init c = search (arith, over_failing, few_failing)
 
 pub bounds-code-behind : goal.bounds-code-behind
 bounds-code-behind c =

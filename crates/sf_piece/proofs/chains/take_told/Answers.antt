@@ -19,10 +19,6 @@ loop-insn-preserved c =
     let taken = c.in_ok-take_test.ensures in
     let more = c.in_ok-take_failing-2.ensures in
     record {
-      gone = record {
-        is_on = on_trans _ _ _ (on_trans _ _ _ inv.gone.is_on taken.gone.is_on) more.gone.is_on;
-        left = omega (arith, inv.gone.left, taken.gone.falls, more.gone.left);
-        lawful = more.gone.lawful;
-      };
+      gone = search (arith, on_trans);
       known = rw (more.facts, more.a, taken.facts, taken.a) inv.known;
     }

@@ -1,4 +1,5 @@
-use Rattle.std.proofs.Common.{◌≡◌, ◌∙◌, ◌++◌, Bool, List, Option, Some, refl, sym, subst}
+use Rattle.std.proofs.lemmas.Grind.{common_steps}
+use Rattle.std.proofs.Common.{arith, ◌≡◌, ◌++◌, Bool, List, Option, Some, refl, sym, subst}
 use Rattle.std.specs.Prelude.{◌↔◌, IfSome, IsSome}
 use Rattle.sf_insn.specs.declared.input.Input.{Input}
 use Rattle.sf_check.specs.declared.insn.Insn.{Insn}
@@ -14,9 +15,7 @@ use Rattle.sf_run.proofs.replaying.replay.Goals as goal
 -- exactly the whole routes have answers
 whole_of : (older newer : List (List Insn)) (route : List Bool) (result : Option PartAnswers)
     → result ≡ answers_along older newer route → IsWholeRoute (older ++ newer) route ↔ IsSome result
-whole_of older newer route result same =
-    subst (λ (o : Option PartAnswers). IsWholeRoute (older ++ newer) route ↔ IsSome o) (sym same)
-    (whole_routes_have_answers older newer route)
+whole_of older newer route result same = grind (arith, common_steps, whole_routes_have_answers)
 
 -- the answers along the trace of an input are those to it
 right_of : (older newer : List (List Insn)) (route : List Bool) (result : Option PartAnswers)
@@ -24,8 +23,7 @@ right_of : (older newer : List (List Insn)) (route : List Bool) (result : Option
     → trace_of (older ++ newer) d ≡ route → IfSome result (ArePartAnswers older newer d)
 right_of older newer route result same d lawful trace =
     let a = answers_are_right older newer d lawful in
-    let is : result ≡ Some a.0 = same
-    ∙ subst (λ (l : List Bool). answers_along older newer l ≡ Some a.0) trace a.1 in
+    let is : result ≡ Some a.0 = search arith in
     subst (λ (o : Option PartAnswers). IfSome o (ArePartAnswers older newer d)) (sym is) a.2
 
 pub returns-in_err-newer-clause-same : goal.returns-in_err-newer-clause-same
@@ -37,16 +35,14 @@ returns-in_err-newer-clause-whole c = whole_of _ _ _ _ (returns-in_err-newer-cla
 
 pub returns-in_err-older-clause-same : goal.returns-in_err-older-clause-same
 unfolding answers_along
-returns-in_err-older-clause-same c =
-    rw (c.from_residual-in_err-older.ensures, ← c.in_ok-newer.ensures, ← c.in_err-older.ensures) refl
+returns-in_err-older-clause-same c = grind (arith, common_steps)
 
 pub returns-in_err-older-clause-whole : goal.returns-in_err-older-clause-whole
 returns-in_err-older-clause-whole c = whole_of _ _ _ _ (returns-in_err-older-clause-same c)
 
 pub returns-clause-same : goal.returns-clause-same
 unfolding answers_along
-returns-clause-same c =
-    rw (c.then_some.ensures, c.is_empty.ensures, ← c.in_ok-newer.ensures, ← c.in_ok-older.ensures) refl
+returns-clause-same c = grind (arith, common_steps)
 
 pub returns-clause-whole : goal.returns-clause-whole
 returns-clause-whole c = whole_of _ _ _ _ (returns-clause-same c)

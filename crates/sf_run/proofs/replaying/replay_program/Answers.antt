@@ -1,5 +1,5 @@
-use Rattle.std.proofs.Common.{◌∙◌, ◌-◌, List, length, refl, sym, ap, arith}
-use Rattle.sf_check.specs.declared.insn.Insn.{Insn}
+use Rattle.std.proofs.lemmas.Grind.{common_steps}
+use Rattle.std.proofs.Common.{◌∙◌, ◌-◌, length, refl, sym, arith}
 use Rattle.sf_run.specs.Replays.{replay_of}
 use Rattle.sf_run.proofs.ReplayLemmas.{goes_on, goes_out, here, replay_outside, replay_stops}
 use Rattle.sf_run.proofs.replaying.replay_program.Goals as goal
@@ -9,20 +9,10 @@ unfolding replay_of
 steps-init c = record { steps = length c.insns-code.result.now; enough = omega arith; same = refl }
 
 pub returns-in_err-insn : goal.returns-in_err-insn
-returns-in_err-insn c =
-    let none = replay_outside c.steps.invariant.steps c.insns-code.result.now c.steps.place c.steps.left.now
-    c.in_err-insn.ensures.lookup.3 in
-    rw c.from_residual.ensures (sym none ∙ c.steps.invariant.same
-    ∙ ap (λ (p : List Insn). replay_of p c.args.met.now) c.insns-code.ensures.same)
+returns-in_err-insn c = grind (arith, common_steps, replay_outside)
 
 pub returns-in_err-next : goal.returns-in_err-next
-returns-in_err-next c =
-    let found = c.in_ok-insn.ensures.lookup in
-    let at = here c.insns-code.result.now c.steps.place c.in_ok-insn.insn.now found.3.0 found.1 in
-    let none = replay_stops c.steps.invariant.steps c.insns-code.result.now c.steps.place c.in_ok-insn.insn.now
-    c.steps.left.now at (sym c.in_err-next.ensures) in
-    rw c.from_residual-in_err-next.ensures (sym none ∙ c.steps.invariant.same
-    ∙ ap (λ (p : List Insn). replay_of p c.args.met.now) c.insns-code.ensures.same)
+returns-in_err-next c = grind (arith, common_steps, here, replay_stops)
 
 pub steps-preserved : goal.steps-preserved
 steps-preserved c =
@@ -39,11 +29,4 @@ steps-preserved c =
     }
 
 pub returns-in-Returns : goal.returns-in-Returns
-returns-in-Returns c =
-    let before = c.steps.invariant in
-    let found = c.in_ok-insn.ensures.lookup in
-    let at = here c.insns-code.result.now c.steps.place c.in_ok-insn.insn.now found.3.0 found.1 in
-    let lead = rw c.in-Returns.is at c.in_ok-next.ensures in
-    goes_out before.steps c.insns-code.result.now c.steps.place c.in_ok-insn.insn.now c.steps.left.now
-    c.in-Returns.value c.in_ok-next.rest.now (omega (arith, before.enough, found.3.0)) at (sym lead) ∙ before.same
-    ∙ ap (λ (p : List Insn). replay_of p c.args.met.now) c.insns-code.ensures.same
+returns-in-Returns c = search (arith, here, goes_out)

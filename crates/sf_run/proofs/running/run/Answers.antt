@@ -1,4 +1,4 @@
-use Rattle.std.proofs.Common.{◌∙◌, suc, List, ◌++◌, ap}
+use Rattle.std.proofs.Common.{arith, ◌∙◌, suc, List, ◌++◌, ap}
 use Rattle.sf_check.specs.declared.insn.Insn.{Insn}
 use Rattle.sf_run.specs.Machine.{return_of}
 use Rattle.sf_run.specs.Code.{state_of}
@@ -7,13 +7,7 @@ use Rattle.sf_run.proofs.Steps.{lent_lawful, at_hand, goes_on, goes_out}
 use Rattle.sf_run.proofs.running.run.Goals as goal
 
 pub loop-next-init : goal.loop-next-init
-loop-next-init c =
-    let code = c.insns-code.result.now in
-    let lawful = lent_lawful _ code c.insns-code.ensures.same c.insns-code.ensures.lawful in
-    record {
-      safe = rw c.start-machine.ensures (safe_start code lawful.some);
-      same = λ n o e. value_is n code c.args.input.now o lawful (rw c.start-machine.ensures at e);
-    }
+loop-next-init c = search (arith, lent_lawful, safe_start, value_is)
 
 pub execute-requires-clause-in_range : goal.execute-requires-clause-in_range
 execute-requires-clause-in_range c =

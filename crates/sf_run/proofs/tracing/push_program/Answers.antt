@@ -1,4 +1,4 @@
-use Rattle.std.proofs.Common.{◌∙◌, suc, List, Bool, ◌++◌, ap}
+use Rattle.std.proofs.Common.{arith, ◌∙◌, suc, List, ◌++◌, ap}
 use Rattle.sf_check.specs.declared.insn.Insn.{Insn}
 use Rattle.sf_run.specs.Machine.{met_by}
 use Rattle.sf_run.specs.Code.{state_of}
@@ -8,14 +8,7 @@ use Rattle.sf_run.proofs.MeetingLemmas.{met_goes_on, met_ends}
 use Rattle.sf_run.proofs.tracing.push_program.Goals as goal
 
 pub loop-machine-init : goal.loop-machine-init
-loop-machine-init c =
-    let code = c.insns-code.result.now in
-    let lawful = lent_lawful _ code c.insns-code.ensures.same c.insns-code.ensures.lawful in
-    record {
-      safe = rw c.start-machine.ensures (safe_start code lawful.some);
-      same = λ n o e. ap (λ (l : List Bool). c.args.met.now.items ++ l)
-          (met_is n code c.args.input.now o lawful (rw c.start-machine.ensures at e));
-    }
+loop-machine-init c = search (arith, lent_lawful, safe_start, met_is)
 
 pub execute-requires-clause-in_range : goal.execute-requires-clause-in_range
 execute-requires-clause-in_range c =

@@ -1,4 +1,5 @@
-use Rattle.std.proofs.Common.{◌≡◌, ◌+◌, ◌<◌, length, map, sym, ◌∙◌, arith, []}
+use Rattle.std.proofs.lemmas.Grind.{common_steps}
+use Rattle.std.proofs.Common.{◌≡◌, ◌+◌, map, sym, ◌∙◌, arith}
 use Rattle.std.specs.Arc.{arc_slice_items}
 use Rattle.std.specs.Cmp.Lexicographic.{slice_cmp}
 use Rattle.std.specs.Ordering.{ordering_then}
@@ -16,34 +17,13 @@ step : (g : Over) (c : After-is_ne g)
     (slice_cmp g.T.Ord.cmp
     (from (map arc_slice_items c.blocks_of-left.result.now) c.self.inside.tail.items (c.loop-place.place + 1))
     (from (map arc_slice_items c.blocks_of-right.result.now) c.other.inside.tail.items (c.loop-place.place + 1)))
-step g c =
-    let k = c.loop-place.place in
-    let ls = c.blocks_of-left.result.now in
-    let rs = c.blocks_of-right.result.now in
-    let full_left : AllFull (map arc_slice_items ls) = rw c.blocks_of-left.ensures c.self.invariant.0 in
-    let full_right : AllFull (map arc_slice_items rs) = rw c.blocks_of-right.ensures c.other.invariant.0 in
-    let in_left : k < length ls = omega arith in
-    let in_right : k < length rs = omega arith in
-    let left = get_or-map_at arc_slice_items ls k c.index-left-place.result [] in_left c.index-left-place.is in
-    let right = get_or-map_at arc_slice_items rs k c.index-right-place.result [] in_right c.index-right-place.is in
-    let blocks = by_blocks g.T.Ord.cmp (map arc_slice_items ls) (map arc_slice_items rs) c.self.inside.tail.items
-    c.other.inside.tail.items full_left full_right k (omega (arith, in_left, length-map_of arc_slice_items ls))
-    (omega (arith, in_right, length-map_of arc_slice_items rs)) in
-    let order = rw (
-      c.as_slice.ensures.value,
-      c.as_slice-in-loop-place.ensures.value,
-      ← left,
-      ← right,
-    ) at c.order_of-order.ensures in
-    c.loop-place.invariant ∙ rw (← order) at blocks
+step g c = search (arith, get_or-map_at, by_blocks, length-map_of)
 
 pub returns-then-is_ne : goal.returns-then-is_ne
-returns-then-is_ne g c =
-    sym (step g c.before ∙ decided c.order_of-order.result _ (rw c.is_ne.ensures at c.if-is_ne.true))
+returns-then-is_ne g c = grind (arith, common_steps, step, decided)
 
 pub loop-place-preserved : goal.loop-place-preserved
-loop-place-preserved g c =
-    step g c.before ∙ undecided c.order_of-order.result _ (rw c.is_ne.ensures at c.if-is_ne.false)
+loop-place-preserved g c = grind (arith, common_steps, step, undecided)
 
 pub returns : goal.returns
 returns g c =

@@ -1,6 +1,7 @@
+use Rattle.std.proofs.Common.{arith}
+use Rattle.std.proofs.lemmas.Grind.{common_steps}
 use Rattle.sf_book.proofs.OutstandingLists.{piece_place}
 use Rattle.sf_book.proofs.outstanding.OutstandingPieces.at.Goals as goal
 
 pub returns : goal.returns
-returns c = rw (← c.self.view_is, c.piece.ensures)
-    (piece_place c.self.inside.by_id.entries c.self.inside.by_name.entries c.args.i _ c.key_at.ensures)
+returns c = grind (arith, common_steps, piece_place)

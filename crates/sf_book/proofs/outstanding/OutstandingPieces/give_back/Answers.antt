@@ -1,4 +1,4 @@
-use Rattle.std.proofs.Common.{◌≡◌, false, sym, ◌∙◌, refl, Some}
+use Rattle.std.proofs.Common.{arith, ◌≡◌, false, sym, Some}
 use Rattle.sf_book.proofs.MapLemmas.{leased_maps, marked_view, entry_at_is}
 use Rattle.sf_book.proofs.OutstandingLists.{same_none}
 use Rattle.sf_book.specs.OutstandingMaps.{piece_at}
@@ -13,15 +13,7 @@ invariant_of-self c =
     c.self.invariant at n.1)
 
 pub returns-in-Some : goal.returns-in-Some
-returns-in-Some c =
-    let at : piece_at c.self.inside.by_id.entries c.args.id ≡ Some c.in-Some.named.now = sym c.in-Some.ensures.value in
-    let n = c.self.invariant.named c.args.id c.in-Some.named.now at in
-    let e = rw n.1 at c.set_leased.ensures in
-    rw (← c.self.view_is, e) (marked_view c.self.inside.by_id.entries c.self.inside.by_name.entries c.args.id
-    c.in-Some.named.now n.0 false c.self.invariant at n.1)
+returns-in-Some c = search (arith, marked_view)
 
 pub returns-in_default : goal.returns-in_default
-returns-in_default c =
-    rw (← c.self.view_is)
-    (sym (same_none _ c.args.id false (entry_at_is c.self.inside.by_id.entries c.self.inside.by_name.entries
-    c.args.id ∙ rw (← c.in_default.ensures.value) refl)))
+returns-in_default c = search (arith, same_none, entry_at_is)

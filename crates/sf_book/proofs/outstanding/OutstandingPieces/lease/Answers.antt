@@ -1,14 +1,12 @@
-use Rattle.std.proofs.Common.{◌≡◌, sym, ◌∙◌, refl, true}
+use Rattle.std.proofs.lemmas.Grind.{common_steps}
+use Rattle.std.proofs.Common.{arith, ◌≡◌, sym, ◌∙◌, true}
 use Rattle.sf_book.specs.OutstandingMaps.{piece_at}
 use Rattle.sf_book.proofs.MapLemmas.{leased_maps, some_inj}
 use Rattle.sf_book.proofs.OutstandingLeases.{first_piece, leases_entry, all_leased, none_some}
 use Rattle.sf_book.proofs.outstanding.OutstandingPieces.lease.Goals as goal
 
 pub returns-in_default-clause-ok : goal.returns-in_default-clause-ok
-returns-in_default-clause-ok c = rw (← c.self.view_is) (
-  refl,
-  all_leased c.self.inside.by_id.entries c.self.inside.by_name.entries (c.in_default.ensures),
-)
+returns-in_default-clause-ok c = grind (arith, common_steps, all_leased)
 
 pub unreachable-requires : goal.unreachable-requires
 unreachable-requires c =

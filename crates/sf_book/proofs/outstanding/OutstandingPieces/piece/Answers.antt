@@ -1,4 +1,4 @@
-use Rattle.std.proofs.Common.{sym, ◌∙◌, ap}
+use Rattle.std.proofs.Common.{arith, sym, ◌∙◌, ap}
 use Rattle.std.specs.Option.{option_map}
 use Rattle.sf_book.proofs.MapLemmas.{entry_at_is}
 use Rattle.sf_book.specs.OutstandingMaps.{outstanding_of}
@@ -14,7 +14,4 @@ returns-in-Some c =
     )
 
 pub returns-in-None : goal.returns-in-None
-returns-in-None c =
-    let names = c.self.inside.by_name.entries in
-    rw (← c.self.view_is) (entry_at_is c.self.inside.by_id.entries names c.args.id
-    ∙ ap (option_map (λ (p : PieceData). outstanding_of names (c.args.id, p))) (sym c.in-None.ensures.value))
+returns-in-None c = search (arith, entry_at_is)

@@ -1,9 +1,7 @@
-use Rattle.std.proofs.Common.{sym, ◌∙◌, ap}
-use Rattle.std.specs.Option.{option_map}
+use Rattle.std.proofs.lemmas.Grind.{common_steps}
+use Rattle.std.proofs.Common.{arith, sym, ◌∙◌}
 use Rattle.sf_book.proofs.MapLemmas.{entry_at_is}
 use Rattle.sf_book.proofs.OutstandingLists.{taken_maps, taken_view, without_none}
-use Rattle.sf_book.specs.OutstandingMaps.{outstanding_of}
-use Rattle.sf_piece.specs.Pieces.{PieceData}
 use Rattle.sf_book.proofs.outstanding.OutstandingPieces.take.Goals as goal
 
 pub invariant_of-self : goal.invariant_of-self
@@ -29,10 +27,4 @@ returns-in-Some c =
     }) c.remove.ensures.entries)
 
 pub returns-in_default : goal.returns-in_default
-returns-in_default c =
-    let ids = c.self.inside.by_id.entries in
-    let names = c.self.inside.by_name.entries in
-    let none = entry_at_is ids names c.args.id
-    ∙ ap (option_map (λ (p : PieceData). outstanding_of names (c.args.id, p)))
-    (sym c.in_default.ensures.value) in
-    rw (← c.self.view_is, c.in_default.ensures.unchanged) (sym (without_none _ c.args.id none))
+returns-in_default c = grind (arith, common_steps, entry_at_is, without_none)

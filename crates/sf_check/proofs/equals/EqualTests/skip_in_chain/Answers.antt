@@ -1,3 +1,5 @@
+use Rattle.std.proofs.Common.{arith}
+use Rattle.std.proofs.lemmas.Grind.{common_steps}
 use Rattle.sf_check.proofs.EqualLemmas.{passed_to}
 use Rattle.sf_check.proofs.equals.EqualTests.skip_in_chain.Goals as goal
 
@@ -9,12 +11,7 @@ steps_between-requires-clause-forward c =
     (rw c.deref-2.ensures.value at c.find_behind-behind.ensures)).forward
 
 pub returns-clause-passed : goal.returns-clause-passed
-returns-clause-passed c =
-    let t = c.args.self.now in
-    rw c.steps_between.ensures (passed_to c.args.insns.now t.chains.items t.steps.items t.lasts.items
-    c.args.place c.args.number
-    c.find_behind-behind.result c.requires.tables.chains_are
-    (rw c.deref-2.ensures.value at c.find_behind-behind.ensures)).passed
+returns-clause-passed c = grind (arith, common_steps, passed_to)
 
 pub returns-clause-on : goal.returns-clause-on
 returns-clause-on c =

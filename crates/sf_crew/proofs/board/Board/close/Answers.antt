@@ -1,4 +1,4 @@
-use Rattle.std.proofs.Common.{◌≡◌, ℕ, List, length, slice_index, subst, sym, ap, ◌∙◌}
+use Rattle.std.proofs.Common.{arith, ◌≡◌, ℕ, List, length, slice_index, sym, ap, ◌∙◌}
 use mathlib.Core.Option.{some}
 use lib.ListN.{get_elem?}
 use Rattle.std.specs.Mem.Slots.{slots_items}
@@ -19,8 +19,6 @@ returns c =
     let entered : c.word-entered.result ≡ slice_index last.0.words 1 =
     sym (elem_index words 1 _ c.word-entered.ensures) ∙ ap (λ (y : List ℕ). slice_index y 1) (sym same) in
     let least : LeastIs last.0.words (count_of_regions (about c.args.self))
-    (length (questions_of (about c.args.self))) c.least_places-least.result =
-    subst (λ (y : List ℕ × ℕ × ℕ). LeastIs y.0 y.1 y.2 c.least_places-least.result)
-    (λ i. (sym same i, c.args.self.sized.0 i, c.args.self.sized.1 i)) c.least_places-least.ensures in
+    (length (questions_of (about c.args.self))) c.least_places-least.result = search arith in
     close_right (about c.args.self) last.0 c.args.seat.seat.id c.args.seat.seat.me.0 _ c.args.self.few last.1.0 last.1.1
     c.args.seat.unmarked doubts entered least

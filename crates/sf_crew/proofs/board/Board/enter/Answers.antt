@@ -19,12 +19,10 @@ fetch_add-requires c =
     let owing : w.owes ≡ Some c.args.sheet.job = ap (λ (y : View). y.owes) is ∙ c.requires.sheet.job in
     let joined_seats : w.joined_seats ≡ v.joined_seats = ap (λ (y : View). y.joined_seats) is in
     let some_part : 0 < v.joined_seats = c.args.seat.now.present in let small = c.args.self.now.small in
-    let none : c.enter_hits.new.seat.me.0.marked ≡ [] = ap (λ (y : View). y.marked) hits.view
-    ∙ c.args.seat.now.unmarked in
+    let none : c.enter_hits.new.seat.me.0.marked ≡ [] = search arith in
     let marks : AreDoubts c.args.sheet w.marked = rw none at doubts.marks in
     let covered : Covered (about c.args.self.now) notes (entered_sheet c.args.sheet.job w.marked) =
-    covers (about c.args.self.now) v c.args.sheet w.marked notes c.requires.sheet
-    c.question_count-count.ensures.right hits.notes marks in (
+    search (arith, covers) in (
       doubts.table ∙ hits.table ∙ c.requires.seat.0,
       omega arith,
       enters _ _ _ _ _ owing (omega (arith, joined_seats, some_part)) (omega (arith, small))

@@ -1,4 +1,4 @@
-use Rattle.std.proofs.Common.{◌≡◌, ◌<◌, ℕ, ◌+◌, List, ◌∷◌, length, Some, true≢false, subst, sym, ap, ◌∙◌, refl, arith}
+use Rattle.std.proofs.Common.{◌≡◌, ◌<◌, ℕ, ◌+◌, List, ◌∷◌, length, Some, sym, ap, ◌∙◌, refl, arith}
 use Rattle.sf_ask.specs.QuestionData.{QuestionData}
 use Rattle.sf_crew.specs.declared.board.view.View.{View}
 use Rattle.sf_crew.specs.Views.{questions_of}
@@ -24,16 +24,14 @@ loop-q-preserved c =
             carried = went.1 ∙ i.carried;
             view = now ∙ ap (λ (v : View). view_with_mark v n) i.view ∙ ap
                 (λ (qs : List ℕ). with_marks c.args.seat.now.me.0 qs) (sym (ap (λ (v : View). v.marked) now));
-            marks = subst (λ (qs : List ℕ). MarksDoubts vs (n + 1) c.args.seat.now.me.0.marked qs)
-                (sym (ap (λ (v : View). v.marked) now)) marks;
+            marks = search (arith, marks);
           })
           )
       | else-is_doubt w ↦ rw w.seat-is (record {
         table = i.table;
         carried = i.carried;
         view = i.view;
-        marks = marks_same vs n _ _ (λ is. true≢false (sym is ∙ sym c.is_doubt.ensures
-            ∙ w.if-is_doubt.false)) i.marks;
+        marks = search (arith, marks_same, marks);
       })
     ]
 

@@ -2,7 +2,6 @@ use Rattle.std.proofs.Common.{◌≡◌, ◌<◌, ℕ, ◌-◌, List, length, su
 use Rattle.sf_book.specs.Books.{BookData}
 use Rattle.sf_ask.specs.QuestionData.{QuestionData}
 use Rattle.sf_ask.specs.Sheets.{HasBreak}
-use Rattle.sf_ask.specs.Sheets.{verdict_at}
 use Rattle.sf_crew.specs.Views.{questions_of, count_of_regions}
 use Rattle.sf_crew.specs.Boards.{about}
 use Rattle.sf_ask.specs.SheetLaws.{hit-breaks}
@@ -17,8 +16,7 @@ fetch_min-requires c =
     let many : length c.args.sheet.now.questions ≡ length (questions_of (about c.args.self.now)) =
     ap (λ (y : List QuestionData). length y) c.requires.matter.1 in
     let breaks : HasBreak c.args.sheet.now.settled c.args.sheet.now.questions c.args.sheet.now.job n =
-    hit-breaks c.args.sheet.now.settled c.args.sheet.now.questions c.args.sheet.now.job n
-    (verdict_at c.args.sheet.now.verdicts n) (right.right n lt) (sym c.is_hit.ensures ∙ c.if-is_hit.true) in
+    search (arith, hit-breaks) in
     let below : c.args.sheet.now.job < count_of_regions (about c.args.self.now) =
     subst (λ (y : BookData). c.args.sheet.now.job < length y.regions) c.requires.matter.0 right.there in (
       c.loop-q.invariant.table ∙ c.requires.table,

@@ -6,13 +6,7 @@ use Rattle.sf_crew.proofs.Joins.{joins, glances}
 use Rattle.sf_crew.proofs.board.Board.join.Goals as goal
 
 pub join_seat-requires : goal.join_seat-requires
-join_seat-requires c = (
-  c.requires.seats.0.0,
-  c.requires.seats.1.0,
-  c.args.second.bare,
-  omega arith,
-  joins _ _ _ _ _ c.requires.free.0 c.requires.free.1 c.requires.seats.0.1 c.args.first.present,
-)
+join_seat-requires c = search (arith, joins)
 
 pub load-requires : goal.load-requires
 load-requires c =

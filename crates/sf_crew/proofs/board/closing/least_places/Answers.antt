@@ -20,7 +20,6 @@ loop-q-preserved c =
       })
       | else-place-regions w ↦ rw w.least-is (record {
         long = c.loop-q.invariant.long;
-        is = least_skip words c.args.regions m c.loop-q.least (omega (arith, found, w.if-place-regions.false))
-            c.loop-q.invariant.is;
+        is = search (arith, least_skip);
       })
     ]

@@ -1,26 +1,19 @@
+use Rattle.std.proofs.Common.{arith}
+use Rattle.std.proofs.lemmas.Grind.{common_steps}
 use Rattle.sf_crew.proofs.Replies.{reply_allowed, tally_unbroken, tally_doubtful, tally_first, tally_passed, question_there, place_there}
 use Rattle.sf_crew.proofs.sweeping.replying.reply_of.Goals as goal
 
 pub reply_without_hit-requires-clause-unbroken : goal.reply_without_hit-requires-clause-unbroken
-reply_without_hit-requires-clause-unbroken c = tally_unbroken _ _ c.args.tally.now c.args.q _ _ c.requires.tally
-    c.requires.question.0 (question_there _ c.args.q _ c.requires.question.0 c.index-questions-q.is) c.in_default.is
-    c.has_bit-doubt.ensures
+reply_without_hit-requires-clause-unbroken c = search (arith, tally_unbroken, question_there)
 
 pub reply_without_hit-requires-clause-doubtful : goal.reply_without_hit-requires-clause-doubtful
-reply_without_hit-requires-clause-doubtful c =
-    tally_doubtful _ _ c.args.tally.now c.args.q _ _ c.requires.tally c.requires.question.0
-    (question_there _ c.args.q _ c.requires.question.0 c.index-questions-q.is) c.has_bit-doubt.ensures
+reply_without_hit-requires-clause-doubtful c = search (arith, tally_doubtful, question_there)
 
 pub returns-in_default-clause-ok : goal.returns-in_default-clause-ok
-returns-in_default-clause-ok c = record {
-  question = c.index-questions-q.result;
-  asked = question_there _ c.args.q _ c.requires.question.0 c.index-questions-q.is;
-  replies = c.reply_without_hit.ensures;
-}
+returns-in_default-clause-ok c = grind (arith, common_steps, question_there)
 
 pub judge-requires : goal.judge-requires
-judge-requires c = let b = c.requires.tally.breaks c.args.q c.in-Some.place
-    (place_there _ c.args.q c.in-Some.place c.in-Some.is) in b.0
+judge-requires c = search (arith, place_there)
 
 pub returns-in-Hit-clause-ok : goal.returns-in-Hit-clause-ok
 returns-in-Hit-clause-ok c =

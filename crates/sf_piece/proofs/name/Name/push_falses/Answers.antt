@@ -1,6 +1,7 @@
+use Rattle.std.proofs.Common.{arith}
+use Rattle.std.proofs.lemmas.Grind.{common_steps}
 use Rattle.sf_piece.proofs.Spelled.{falses_more}
 use Rattle.sf_piece.proofs.name.Name.push_falses.Goals as goal
 
 pub returns-clause-ok : goal.returns-clause-ok
-returns-clause-ok c =
-    rw (← c.self.view_is) (falses_more c.self.inside.runs c.self.inside.rest c.args.count)
+returns-clause-ok c = grind (arith, common_steps, falses_more)
