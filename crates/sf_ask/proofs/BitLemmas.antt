@@ -1,4 +1,5 @@
 -- The bits of questions.
+use Rattle.std.proofs.lemmas.Grind.{common_steps}
 use Rattle.std.proofs.Common.{◌≡◌, ℕ, ◌*◌, ◌/◌, ◌%◌, ◌^◌, ◌<◌, ◌==◌, min, bit_and, bit_or, true, false, List, slice_index, set, length, w64, sym, ap, ◌∙◌, subst, arith, if◌then◌else◌}
 use Rattle.std.specs.Int.{bit_at}
 use Rattle.std.proofs.lemmas.Bool.Decides.{nat_tests}
@@ -36,5 +37,4 @@ apart-at a b i none set =
 pub apart : (first second : List ℕ) (q : ℕ)
     → bit_and (slice_index first (q / 64)) (slice_index second (q / 64)) ≡ 0 → has_bit second q ≡ true
     → has_bit first q ≡ false
-apart first second q none set =
-    apart-at (slice_index first (q / 64)) (slice_index second (q / 64)) (q % 64) none set
+apart first second q none set = grind (arith, common_steps, apart-at)

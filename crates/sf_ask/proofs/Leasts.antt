@@ -1,5 +1,5 @@
 -- The input that has in each word the least number that facts leave for it.
-use Rattle.std.proofs.Common.{ℕ, ◌<◌, ◌≤◌, List}
+use Rattle.std.proofs.Common.{arith, ℕ, ◌<◌, ◌≤◌, List}
 use Rattle.std.specs.Prelude.{slice_index}
 use Rattle.sf_insn.specs.declared.input.Input.{Input}
 use Rattle.sf_sym.specs.Pool.{ArePlainNodes}
@@ -24,8 +24,7 @@ least-admitted f ns d covers h word w = rw (h.is word w) (low-left f ns word cov
 -- no input that agrees with the facts has a smaller number in any word
 pub least-below : (f : FactsView) (ns : List Node) (d other : Input) → Covers f ns → IsLeastInput f d
     → Agrees f ns other → (word : ℕ) → word < 16 → slice_index d.words word ≤ slice_index other.words word
-least-below f ns d other covers h agrees word w =
-    rw (h.is word w) (agreeing-word f ns other word covers w agrees).admitted.above
+least-below f ns d other covers h agrees word w = search (arith, agreeing-word)
 
 -- where a pool has only words and constants, the least input agrees with the facts
 pub least-agrees : (f : FactsView) (ns : List Node) (d : Input) → Covers f ns → ArePlainNodes ns

@@ -88,14 +88,8 @@ pub found-between : (probes : List Probe) (low high from to : ℕ)
     → Contains (slice_range probes (min from to) to) p
 found-between probes low high from to starts ends inside p there above below =
     let k : ℕ = there.0 in
-    let a : from ≤ k = elim (cases_lt k from) [
-      | inl l ↦ absurd (let t = ltb-true p.low low (rw there.2 at (starts.0 k p (omega arith) l)) in omega arith)
-      | inr r ↦ r
-    ] in
-    let b : k < to = elim (cases_lt k to) [
-      | inl l ↦ l
-      | inr r ↦ absurd (let t = leb-false p.low high (rw there.2 at (ends.1 k p r there.1)) in omega arith)
-    ] in
+    let a : from ≤ k = search (arith, cases_lt, ltb-true) in
+    let b : k < to = search (arith, cases_lt, leb-false) in
     let m : ℕ = min from to in
     let i : ℕ = k - m in
     let long : length (slice_range probes m to) ≡ to - m =
@@ -113,12 +107,4 @@ found-between probes low high from to starts ends inside p there above below =
 pub call-misses : (f : FactsView) (questions : List QuestionData) (action : Action) (p : Probe) → IsProbeIn questions p
     → has_one_call p ≡ true → (p.low < (known_at f.known 0).low) ⊎ ((known_at f.known 0).high < p.low)
     → IsRuledOutIfAsked f questions action p.question
-call-misses f questions action p is one outside = λ question there asks pool covers.
-    let of = is.of question there in
-    let same : p.low ≡ p.high = eqb-true _ _ one in
-    let low = ap (λ r. r.0) of in
-    let high = ap (λ r. r.1) of in
-    elim outside [
-      | inl l ↦ above-range question 0 f pool (omega arith) (omega (arith, high, same, l)) covers
-      | inr r ↦ below-range question 0 f pool (omega arith) (omega (arith, low, r)) covers
-    ]
+call-misses f questions action p is one outside = search (arith, eqb-true, above-range, below-range)

@@ -1,5 +1,6 @@
 -- What a search for a member in a question tells.
-use Rattle.std.proofs.Common.{◌≡◌, ℕ, ◌+◌, ◌<◌, ◌≤◌, Bool, true, false, List, length, get_or, take, arith, refl, sym, ap, subst, ◌∙◌, Some}
+use Rattle.std.proofs.lemmas.Grind.{common_steps}
+use Rattle.std.proofs.Common.{◌≡◌, ℕ, ◌+◌, ◌<◌, ◌≤◌, Bool, true, false, List, length, get_or, take, arith, refl, sym, ap, ◌∙◌, Some}
 use Rattle.std.specs.Prelude.{slice_index, slice_get}
 use Rattle.std.specs.List.{list_all}
 use Rattle.std.proofs.lemmas.List.{ext_get_or}
@@ -10,8 +11,6 @@ use Rattle.sf_insn.specs.Inputs.{IsInput}
 use Rattle.sf_sym.specs.declared.pool.Node.{Node}
 use Rattle.sf_sym.specs.declared.pool.Cond.{Cond}
 use Rattle.sf_dom.specs.Facts.{FactsView, Agrees, AreConfined, NoInput}
-use Rattle.sf_run.specs.declared.action.Answer.{Answer}
-use Rattle.sf_run.specs.Machine.{returns_of}
 use Rattle.sf_run.specs.AnswerLaws.{one}
 use Rattle.sf_book.specs.Books.{BookData, RegionData, IsRightRegion}
 use Rattle.sf_ask.specs.declared.verdict.Verdict.{Verdict}
@@ -47,8 +46,7 @@ MembersAgree p f ns = (d : Input) → IsInput d → is_member p d ≡ true → A
 -- the least input that confined facts leave is in the question
 pub least-inside : (q : QuestionData) (f g : FactsView) (ns : List Node) (d : Input)
     → AreConfined f g ns (IsInQuestion q) (IsNumberBefore q 16) → IsLeastInput g d → IsInQuestion q d
-least-inside q f g ns d a h = λ word w. a.numbers word (slice_index d.words word) w (h.input.each word)
-    (least-admitted g ns d a.covers h word w) w
+least-inside q f g ns d a h = search (arith, least-admitted)
 
 -- where the low input is a member, it is the least input that confined facts leave
 pub low-is-least : (p : PieceData) (q : QuestionData) (f g : FactsView) (ns : List Node) (d low : Input)
@@ -60,8 +58,7 @@ low-is-least p q f g ns d low known a h input is member =
     let inside = least-inside q f g ns d a h in
     let below = least-below g ns d low a.covers h agrees in
     let same : (word : ℕ) → word < 16 → slice_index d.words word ≡ slice_index low.words word
-    = λ word w. let under = below word w in let over =
-    is.least word (slice_index d.words word) w (inside word w) in omega arith in
+    = search arith in
     ap (λ (words : List ℕ). let e : Input = record { words = words } in
     e) (same_words d.words low.words h.input.sixteen input.sixteen same)
   where
@@ -87,34 +84,24 @@ pub least-hit : (p : PieceData) (q : QuestionData) (f g : FactsView) (ns : List 
     → AreConfined f g ns (IsInQuestion q) (IsNumberBefore q 16) → IsLeastInput g d
     → (other : Input) → IsInput other → is_member p other ≡ true → IsInQuestion q other → (word : ℕ) → word < 16
     → slice_index d.words word ≤ slice_index other.words word
-least-hit p q f g ns d known a h other input member inside =
-    least-below g ns d other a.covers h (a.keeps other input (known other input member) inside)
+least-hit p q f g ns d known a h other input member inside = search (arith, least-below)
 
 -- where a pool has only words and constants, the least input is a member
 pub exact-hit : (p : PieceData) (q : QuestionData) (g : FactsView) (d : Input) → IsPlainPiece p
     → AreConfined p.facts g p.pool (IsInQuestion q) (IsNumberBefore q 16) → IsLeastInput g d → is_member p d ≡ true
-exact-hit p q g d exact a h = exact.exact d h.input
-    (a.only d h.input (least-agrees g p.pool d a.covers exact.nodes h)).0
+exact-hit p q g d exact a h = grind (arith, common_steps, least-agrees)
 
 -- ---- from a piece to its region
 
 pub not-asked : (s : BookData) (place : ℕ) (q : QuestionData) (r : RegionData) → slice_get s.regions place ≡ Some r
     → IsRightRegion s.stack r → has_action q.actions r.answer.action ≡ false
     → (d : Input) → ¬ IsBreakAt s place q d
-not-asked s place q r there right none d h =
-    let member = h.member in
-    let same : member.region ≡ r = cc (member.there, there) in
-    let answers = right.answers d member.input
-    (subst (λ (x : RegionData). is_member x.piece d ≡ true) same member.member) in
-    let answer = one (returns_of s.stack d) h.breaks.answer r.answer h.breaks.answers answers in
-    cc (h.breaks.asked, none, ap (λ (a : Answer). has_action q.actions a.action) answer)
+not-asked s place q r there right none d h = grind (arith, common_steps, one)
 
 -- what is known of a member of the region at a place is known of a member of its piece
 in-piece : (s : BookData) (place : ℕ) (r : RegionData) (d : Input) → slice_get s.regions place ≡ Some r
     → (member : IsMemberAt s place d) → is_member r.piece d ≡ true
-in-piece s place r d there member =
-    let same : member.region ≡ r = cc (member.there, there) in
-    subst (λ (x : RegionData). is_member x.piece d ≡ true) same member.member
+in-piece s place r d there member = grind (arith, common_steps)
 
 pub region-right : (s : BookData) (place : ℕ) (q : QuestionData) (r : RegionData) (v : Verdict)
     → slice_get s.regions place ≡ Some r → IsRightRegion s.stack r → has_action q.actions r.answer.action ≡ true

@@ -1,4 +1,5 @@
 -- The verdicts on questions that are clear at once.
+use Rattle.std.proofs.lemmas.Grind.{common_steps}
 use Rattle.std.proofs.Common.{◌≡◌, ℕ, zero, suc, ◌<◌, ◌≤◌, not, Bool, true, false, List, [], ◌∷◌, length, Some, None, refl, ap, subst, ◌∙◌, inl, inr, ◌⊎◌, arith, length-append}
 use Rattle.std.specs.Prelude.{slice_get, if◌then◌else◌}
 use Rattle.std.specs.List.{list_all}
@@ -54,35 +55,24 @@ first-clear wanted (suc n) =
     ∙ rw (first-clear wanted n, of-clear (has_bit wanted n)) refl
 
 pub skipped : (wanted : List ℕ) (q : ℕ) → is_skipped (clear_if_wanted wanted q) ≡ not (has_bit wanted q)
-skipped wanted q = by (has_bit wanted q)
-  where
-    by : (b : Bool) → is_skipped (if b then Some Clear else None) ≡ not b
-    by true = refl
-    by false = refl
+skipped wanted q = grind (arith, common_steps)
 
 -- a verdict that is clear tells all that a sheet's verdicts tell
 pub clear-is-right : (s : BookData) (questions : List QuestionData) (job q : ℕ) (question : QuestionData)
     → slice_get questions q ≡ Some question → IsRightVerdict s job question Clear → IsRightOn s questions job q Clear
-clear-is-right s questions job q question asked right =
-    record { question = question; asked = asked; right = right; tried = tt; decisive = λ p. tt }
+clear-is-right s questions job q question asked right = search arith
 
 pub right-if-wanted : (s : BookData) (questions : List QuestionData) (job q : ℕ) (wanted : List ℕ)
     → (has_bit wanted q ≡ true → IsRightOn s questions job q Clear)
     → IsRightWhereGiven s questions job q (clear_if_wanted wanted q)
-right-if-wanted s questions job q wanted right = by (has_bit wanted q) right
-  where
-    by : (b : Bool) → (b ≡ true → IsRightOn s questions job q Clear)
-        → IsRightWhereGiven s questions job q (if b then Some Clear else None)
-    by true right = right refl
-    by false right = tt
+right-if-wanted s questions job q wanted right = grind (arith, common_steps)
 
 -- ---- what probes tell
 
 clear-unasked : (s : BookData) (questions : List QuestionData) (job q : ℕ) (r : RegionData) (x : QuestionData)
     → slice_get s.regions job ≡ Some r → IsRightRegion s.stack r → slice_get questions q ≡ Some x
     → has_action x.actions r.answer.action ≡ false → IsRightOn s questions job q Clear
-clear-unasked s questions job q r x there right asking none =
-    clear-is-right s questions job q x asking (not-asked s job x r there right none)
+clear-unasked s questions job q r x there right asking none = search (arith, clear-is-right, not-asked)
 
 clear-ruled-out : (s : BookData) (questions : List QuestionData) (job q : ℕ) (r : RegionData) (x : QuestionData)
     → slice_get s.regions job ≡ Some r → IsRightRegion s.stack r → slice_get questions q ≡ Some x

@@ -1,4 +1,5 @@
 -- Facts confined to a question, word by word.
+use Rattle.std.proofs.lemmas.Grind.{common_steps}
 use Rattle.std.proofs.Common.{◌≡◌, ℕ, ◌+◌, ◌<◌, ◌^◌, Bool, true, false, List, arith, sym, ap, subst, inl, inr, ◌∙◌, MatchBool}
 use Rattle.std.specs.Prelude.{slice_index, bit_and, ◌==◌}
 use Rattle.std.proofs.lemmas.Bool.{cases_eq, and_parts, eqb-true}
@@ -20,28 +21,13 @@ of-true B false e h = cc
 
 -- nothing is lost where nothing changes
 pub narrower-refl : (f : FactsView) → AreNarrower f f
-narrower-refl f = record {
-  known = λ i l. record {
-    low = omega arith;
-    high = omega arith;
-    zeros = λ j. omega arith;
-    ones = λ j. omega arith;
-  };
-  excluded = λ w m l k. k;
-}
+narrower-refl f = grind (arith, common_steps)
 
 -- where every input passes, the facts are confined as they stand
 pub stays : (f : FactsView) (ns : List Node) (passes : Input → Type 0) (may_have : ℕ → ℕ → Type 0) → Covers f ns
     → ((d : Input) → IsInput d → passes d) → ((word n : ℕ) → word < 16 → n < 2 ^ 32 → may_have word n)
     → AreConfined f f ns passes may_have
-stays f ns passes may_have of all any = record {
-  covers = of;
-  narrower = narrower-refl f;
-  keeps = λ d p a h. a;
-  only = λ d p a. (a, all d p);
-  some = λ plain. let s = some-input f ns of plain in (s.0, s.1, s.2, all s.0 s.1);
-  numbers = λ word n w l a. any word n w l;
-}
+stays f ns passes may_have of all any = search (arith, narrower-refl, some-input)
 
 -- facts that are confined twice are confined by both
 pub again : (f g h : FactsView) (ns : List Node) (one two both : Input → Type 0)
@@ -55,8 +41,7 @@ again f g h ns one two both first second may_have of a b to_one to_two to_both j
     let words = of.pool.words in
     let count = of.count in
     let same = a.covers.count in
-    let only : KeepsOnly f h ns both = λ d i agrees. let back = b.only d i agrees in
-    let first = a.only d i back.0 in (first.0, to_both d first.1 back.1) in
+    let only : KeepsOnly f h ns both = search arith in
     record {
       covers = b.covers;
       narrower = record {
@@ -82,8 +67,7 @@ again f g h ns one two both first second may_have of a b to_one to_two to_both j
 pub none-again : (f g : FactsView) (ns : List Node) (one two both : Input → Type 0) (first : ℕ → ℕ → Type 0)
     → AreConfined f g ns one first → NoInput g ns two → ((d : Input) → both d → one d)
     → ((d : Input) → both d → two d) → NoInput f ns both
-none-again f g ns one two both first a none to_one to_two =
-    λ d i agrees passes. none d i (a.keeps d i agrees (to_one d passes)) (to_two d passes)
+none-again f g ns one two both first a none to_one to_two = grind (arith, common_steps)
 
 -- ---- one word
 
@@ -125,32 +109,20 @@ word-confines false q at f g h ns of a none = none-again f g ns (HasIn at (IsInR
 -- where all numbers that a word may have are below a range, or all are above it, no input has one of the range there
 pub below-misses : (at low high : ℕ) (f : FactsView) (ns : List Node) → at < 16 → (known_at f.known at).high < low
     → Covers f ns → NoInput f ns (HasIn at (LiesIn low high))
-below-misses at low high f ns l below covers = λ d i agrees inside.
-    let left = (agreeing-word f ns d at covers l agrees).admitted.below in
-    let above = inside.0 in
-    omega arith
+below-misses at low high f ns l below covers = grind (arith, common_steps, agreeing-word)
 
 pub above-misses : (at low high : ℕ) (f : FactsView) (ns : List Node) → at < 16 → high < (known_at f.known at).low
     → Covers f ns → NoInput f ns (HasIn at (LiesIn low high))
-above-misses at low high f ns l over covers = λ d i agrees inside.
-    let left = (agreeing-word f ns d at covers l agrees).admitted.above in
-    let below = inside.1 in
-    omega arith
+above-misses at low high f ns l over covers = grind (arith, common_steps, agreeing-word)
 
 -- where all numbers that a word may have are below its range, the question is ruled out
 pub below-range : (q : QuestionData) (at : ℕ) (f : FactsView) (ns : List Node) → at < 16
     → (known_at f.known at).high < (range_at q at).0 → Covers f ns → NoInput f ns (IsInQuestion q)
-below-range q at f ns l below covers = λ d i agrees inside.
-    let left = (agreeing-word f ns d at covers l agrees).admitted.below in
-    let above = (inside at l).above in
-    omega arith
+below-range q at f ns l below covers = search (arith, agreeing-word)
 
 pub above-range : (q : QuestionData) (at : ℕ) (f : FactsView) (ns : List Node) → at < 16
     → (range_at q at).1 < (known_at f.known at).low → Covers f ns → NoInput f ns (IsInQuestion q)
-above-range q at f ns l over covers = λ d i agrees inside.
-    let left = (agreeing-word f ns d at covers l agrees).admitted.above in
-    let below = (inside at l).below in
-    omega arith
+above-range q at f ns l over covers = search (arith, agreeing-word)
 
 -- ---- one word after the other
 

@@ -116,7 +116,7 @@ fn confine_word(
 }
 
 /// The facts, confined to the question; none where no input that agrees with them is in it.
-pub(crate) fn facts_in(
+pub(crate) fn facts_in_question(
     alloc: Global,
     facts: &Facts,
     pool: &Pool,

@@ -13,7 +13,7 @@ ghost use Rattle.sf_ask.specs.Verdicts.{IsRightVerdict, TellsTriedAt, IsDecisive
 ghost use Rattle.sf_ask.specs.Searches.{IsRightSearch, TellsTried};
 ghost use Rattle.sf_ask.specs.Trying.{IsLeastInput};
 
-use crate::confining::{facts_in, rules_out};
+use crate::confining::{facts_in_question, rules_out};
 use crate::fault::Fault;
 use crate::question::Question;
 use crate::verdict::Verdict;
@@ -38,11 +38,11 @@ pub(crate) fn least_input(facts: &Facts) -> Option<Input>
 
 /// Whether the input meets every condition; none where a condition is on a computed word. Most conditions are on words
 /// of the input and numbers only: no other node is computed for them.
-fn meets_leaves(piece: &Piece, input: &Input) -> Option<bool>
+fn meets_without_computing(piece: &Piece, input: &Input) -> Option<bool>
     ensures { IfSome result (λ b. b ≡ is_member piece.now input.now) }
 {
     for i in 0..piece.cond_count() {
-        if !piece.pool().holds_of_leaves(&piece.cond(i), input)? {
+        if !piece.pool().holds_without_computing(&piece.cond(i), input)? {
             return Some(false);
         }
     }
@@ -75,7 +75,7 @@ pub(crate) fn is_member_of(alloc: Global, piece: &Piece, input: &Input) -> Resul
     ensures tells { IfOk result (λ b. b ≡ is_member piece.now input.now) }
     ensures err { IfErr result (λ f. f ≡ Memory) }
 {
-    if let Some(is_member) = meets_leaves(piece, input) {
+    if let Some(is_member) = meets_without_computing(piece, input) {
         return Ok(is_member);
     }
     let unmet = first_unmet(alloc, piece, input)?;
@@ -94,7 +94,7 @@ fn try_least(alloc: Global, piece: &Piece, question: &Question) -> Result<Verdic
     ensures err { IfErr result (λ f. f ≡ Memory) }
 {
     let known = piece.facts();
-    let Some(facts) = facts_in(alloc, known, piece.pool(), question)? else {
+    let Some(facts) = facts_in_question(alloc, known, piece.pool(), question)? else {
         return Ok(Verdict::Clear);
     };
     let Some(input) = least_input(&facts) else {

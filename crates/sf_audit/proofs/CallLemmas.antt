@@ -1,12 +1,12 @@
 -- The calls of a file of names, one more at a time; and no tree is refused as `Syntax`.
-use Rattle.std.proofs.Common.{◌≡◌, ℕ, Bool, true, false, List, ◌++◌, codes, Option, Some, None, Result, Ok, Err, refl, ap, sym, ◌∙◌, if◌then◌else◌}
+use Rattle.std.proofs.lemmas.Grind.{common_steps}
+use Rattle.std.proofs.Common.{arith, ◌≡◌, ℕ, Bool, true, false, List, ◌++◌, Option, Some, None, Result, Ok, Err, refl, ap, sym, ◌∙◌, if◌then◌else◌}
 use Rattle.std.proofs.lemmas.Bool.{false≢true}
-use Rattle.toml.specs.Data.{Data, string, integer, float, boolean, datetime, array, table, Members, no_members, member, get_member}
+use Rattle.toml.specs.Data.{Data, string, integer, float, boolean, datetime, array, table, Members, no_members, member}
 use Rattle.sf_audit.specs.declared.fault.Fault.{Fault}
 use Rattle.sf_audit.specs.declared.fault.Fault.TheVariants as faults
-use Rattle.sf_audit.specs.Keys.{has_only}
 use Rattle.sf_audit.specs.Encoding.{word_in}
-use Rattle.sf_audit.specs.Names.{CallData, GivesNames, NamesData, arch_at, arch_of_value, arch_where_word, call_cons, call_of_value, call_where_word, calls_at, calls_of, calls_of_value, is_call_name, names_keys, names_of, names_of_parts}
+use Rattle.sf_audit.specs.Names.{CallData, GivesNames, NamesData, arch_at, arch_of_value, arch_where_word, call_cons, call_of_value, call_where_word, calls_at, calls_of, calls_of_value, is_call_name, names_of, names_of_parts}
 use Rattle.sf_audit.proofs.NeverSyntax.{is_syntax}
 
 -- the calls that were read, in front of those that are left
@@ -81,8 +81,7 @@ of_parts (Ok arch) (Err fault) p q = q
 of_parts (Err fault) calls p q = p
 
 of_tree : (ms : Members) → is_syntax (names_of ms) ≡ false
-of_tree ms = choice (has_only names_keys ms) _ _
-    (of_parts _ _ (of_arch (get_member (codes "arch") ms)) (of_calls (get_member (codes "calls") ms))) refl
+of_tree ms = grind (arith, common_steps, choice, of_parts, of_arch, of_calls)
 
 -- a function that gives the names of a tree never answers `Syntax`
 pub no_syntax : (r : Result NamesData Fault) (ms : Members) → GivesNames r (names_of ms) → r ≡ Err faults.Syntax → ⊥

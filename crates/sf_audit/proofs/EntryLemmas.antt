@@ -1,5 +1,5 @@
 -- What `Question::of_masked` gives for the parts of an entry is what is due for the entry.
-use Rattle.std.proofs.Common.{◌≡◌, ℕ, ◌+◌, ◌++◌, Bool, true, false, not, ◌&&◌, ◌||◌, List, [], ◌∷◌, map, refl, ap, Option, Some, None, Result, Ok, Err, ◌⊎◌, codes, option_map, if◌then◌else◌}
+use Rattle.std.proofs.Common.{arith, ◌≡◌, ℕ, ◌+◌, ◌++◌, Bool, true, false, not, ◌&&◌, ◌||◌, List, [], ◌∷◌, map, refl, ap, Option, Some, None, Result, Ok, Err, ◌⊎◌, codes, option_map, if◌then◌else◌}
 use Rattle.std.proofs.Common.{inl, inr}
 use Rattle.std.specs.List.{list_all}
 use Rattle.sf_ask.specs.declared.fault.Fault.{Fault as AskFault}
@@ -64,12 +64,7 @@ some_of_nine : (a b c d e f g h i a' b' c' d' e' f' g' h' i' : Bool)
     → (a || (b || (c || (d || (e || (f || (g || (h || (i || false))))))))) ≡ true
     → not ((a || a') || (b || b') || (c || c') || (d || d') || (e || e') || (f || f') || (g || g') || (h || h') ||
     (i || i')) ≡ false
-some_of_nine a b c d e f g h i a' b' c' d' e' f' g' h' i' some =
-    elim (one_more _ i i' false (one_more _ h h' _ (one_more _ g g' _ (one_more _ f f' _ (one_more _ e e' _
-    (one_more _ d d' _ (one_more _ c c' _ (one_more _ b b' _ (one_more false a a' _ (inr some)))))))))) [
-      | inl named ↦ ap not named
-      | inr none ↦ cc
-    ]
+some_of_nine a b c d e f g h i a' b' c' d' e' f' g' h' i' some = search (arith, one_more)
 
 some_action : (texts : List (List ℕ)) → are_actions texts ≡ true → is_no_action (set_of texts) ≡ false
 some_action [] h = cc

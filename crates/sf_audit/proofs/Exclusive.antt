@@ -1,5 +1,5 @@
 -- An audit and a refusal exclude each other.
-use Rattle.std.proofs.Common.{◌≡◌, ℕ, ◌<◌, ◌≤◌, ◌⊎◌, List, length, inl, inr, ⊎_elim, arith}
+use Rattle.std.proofs.Common.{◌≡◌, ℕ, ◌<◌, ◌≤◌, ◌⊎◌, List, inl, inr, arith}
 use Rattle.sf_check.specs.declared.insn.Insn.{Insn}
 use Rattle.sf_ask.specs.QuestionData.{QuestionData}
 use Rattle.sf_audit.specs.declared.fault.Fault.{Fault}
@@ -27,7 +27,4 @@ never_both n h (inr many) = let few = h.1 in omega arith
 pub audited_not_refused : NoStack → (files : List (List ℕ)) (questions : List QuestionData) (budget : ℕ)
     (o : Found) (e : Fault)
     → IsAudit files questions budget o → IsAuditRefusal files questions e → ⊥
-audited_not_refused none files questions budget o e audit refused = ⊎_elim
-    (λ (m : IsMiscounted files questions). never_both (length questions) audit.counted m.count)
-    (λ (r : IsFirstRefusal files e). none files e o.settled.stack r audit.stack)
-    (by_kind files questions e refused)
+audited_not_refused none files questions budget o e audit refused = search (arith, never_both, by_kind)

@@ -1,5 +1,6 @@
 -- What the bytes of filter files spell, and why they are refused.
-use Rattle.std.proofs.Common.{◌≡◌, ◌==◌, false, ◌⊎◌, inl, inr, ℕ, ◌+◌, ◌<◌, ◌≤◌, List, [], ◌∷◌, ◌++◌, length, take, map, suc, Vec, Global, Ok, Err, Result, MatchResult, IfErr, IsErrAnd, get_or, ◌∙◌, refl, ap, sym, subst, arith}
+use Rattle.std.proofs.lemmas.Grind.{common_steps}
+use Rattle.std.proofs.Common.{◌≡◌, ◌==◌, false, ◌⊎◌, inl, inr, ℕ, ◌+◌, ◌<◌, ◌≤◌, List, [], ◌∷◌, ◌++◌, length, take, map, Vec, Global, Ok, Err, Result, MatchResult, IfErr, IsErrAnd, get_or, ◌∙◌, refl, ap, sym, subst, arith}
 use Rattle.std.proofs.lemmas.List.{take_more, get_or-map, length-map}
 use Rattle.std.proofs.lemmas.Option.{slice_get_read}
 use Rattle.std.proofs.lemmas.Result.{err_from_is_err_and}
@@ -15,6 +16,7 @@ use Rattle.sf_check.specs.Refusals.{IsFirstFault}
 use Rattle.sf_audit.specs.declared.fault.Fault.{Fault}
 use Rattle.sf_audit.specs.declared.fault.Fault.TheVariants as faults
 use Rattle.sf_audit.specs.FaultPlaces.{check_fault}
+use Rattle.sf_audit.specs.FiltersLaws.{as_many}
 use Rattle.sf_audit.specs.Filters.{SpellPrograms, IsRefusalOf, AreFew, IsFileRefusal, IsFirstRefusal}
 
 -- what holds of an error after `map_err` made another one of it
@@ -57,13 +59,6 @@ one_more_program (f ∷ files) (g ∷ programs) file program h p = (h.0, one_mor
 one_more_program [] (g ∷ programs) file program h p = absurd h
 one_more_program (f ∷ files) [] file program h p = absurd h
 
-pub as_many : (files : List (List ℕ)) (programs : List (List Insn)) → SpellPrograms files programs
-    → length programs ≡ length files
-as_many [] [] h = refl
-as_many (f ∷ files) (g ∷ programs) h = ap suc (as_many files programs h.1)
-as_many [] (g ∷ programs) h = absurd h
-as_many (f ∷ files) [] h = absurd h
-
 -- the bytes of files
 abbrev pub bytes_of : List (Vec ℕ Global) → List (List ℕ)
 bytes_of files = map (λ f. f.items) files
@@ -79,9 +74,7 @@ pub one_more_file : (files : List (Vec ℕ Global)) (programs : List (List Insn)
     → SpellPrograms (take i (bytes_of files)) programs → SpellsProgram file.items program
     → SpellPrograms (take (i + 1) (bytes_of files)) (programs ++ program ∷ [])
 one_more_file files programs i file program h is before spelled =
-    let below : i < length (bytes_of files) = rw length-map h in
-    rw (take_more (bytes_of files) i [] below, file_at files i file h is)
-    (one_more_program _ programs file.items program before spelled)
+    grind (arith, common_steps, length-map, take_more, file_at, one_more_program)
 
 -- A file is refused, after files that spell lawful programs.
 pub one_file_refused : (files : List (Vec ℕ Global)) (programs : List (List Insn)) (i : ℕ)
@@ -112,20 +105,7 @@ pub stack_refused : (files : List (List ℕ)) (programs : List (List Insn)) (num
     → (r ≡ Err check.TooMany → 64 < length programs)
     → (r ≡ Err check.PathLength → (length programs ≤ 64) × (32768 < path_length programs))
     → (check_fault number e ≡ faults.Memory) ⊎ IsFirstRefusal files (check_fault number e)
-stack_refused files programs number r e few spelled is only none many long =
-    let count = as_many files programs spelled in
-    let some = few.some in
-    let most = few.few in
-    elim only [
-      | inl empty ↦ let zero : length programs ≡ 0 = none (is ∙ ap (λ f. Err f) empty) in absurd (omega arith)
-      | inr other ↦ elim other [
-        | inl too ↦ let above : 64 < length programs = many (is ∙ ap (λ f. Err f) too) in absurd (omega arith)
-        | inr path ↦ rw path (inr (
-          few,
-          record { programs = programs; spelled = spelled; long = (long (is ∙ ap (λ f. Err f) path)).1 },
-        ))
-      ]
-    ]
+stack_refused files programs number r e few spelled is only none many long = grind (arith, common_steps, as_many)
 
 pub few_files : (files : List (Vec ℕ Global)) → (length files == 0) ≡ false → length files ≤ 64
     → AreFew (bytes_of files)

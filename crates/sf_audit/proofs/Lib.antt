@@ -4,7 +4,7 @@ pub mod EntryLemmas
 pub mod NeverSyntax
 pub mod FilterLemmas
 pub mod PlaceLemmas
-pub mod JoinedLemmas
+pub mod RegionLines
 pub mod RefusalLemmas
 pub mod OneRefusal
 pub mod Exclusive

@@ -1,17 +1,14 @@
 -- No tree is refused as `Syntax`.
-use Rattle.std.proofs.Common.{◌≡◌, ℕ, ◌+◌, Bool, true, false, not, ◌&&◌, List, [], ◌∷◌, codes, length, Option, Some, None, Result, Ok, Err, refl, sym, ap, ◌∙◌, if◌then◌else◌, nat_le}
+use Rattle.std.proofs.lemmas.Grind.{common_steps}
+use Rattle.std.proofs.Common.{arith, ◌≡◌, ℕ, ◌+◌, Bool, true, false, ◌&&◌, List, [], ◌∷◌, codes, length, Option, Some, None, Result, Ok, Err, refl, sym, ap, ◌∙◌, if◌then◌else◌, nat_le}
 use Rattle.std.proofs.lemmas.Bool.{false≢true}
-use Rattle.std.specs.List.{list_all}
 use Rattle.toml.specs.Data.{Members, get_member}
 use Rattle.sf_ask.specs.QuestionData.{QuestionData}
-use Rattle.sf_ask.specs.Questions.{is_name}
 use Rattle.sf_audit.specs.declared.fault.Fault.{Fault}
 use Rattle.sf_audit.specs.declared.fault.Fault.TheVariants as faults
 use Rattle.sf_audit.specs.declared.policy.Version.{Version}
 use Rattle.sf_audit.specs.Keys.{top_keys, has_only}
 use Rattle.sf_audit.specs.Trees.{number_at}
-use Rattle.sf_audit.specs.Words.{has_range, has_mask}
-use Rattle.sf_audit.specs.Actions.{are_actions}
 use Rattle.sf_audit.specs.Faults.{Gives}
 use Rattle.sf_audit.specs.Policies.{Entry, question_of_entry, question_where_read, entry_of_question, question_cons, questions_from, questions_where_tables, tables_at, version_of, policy_where_version, policy_of}
 
@@ -26,11 +23,7 @@ choice true x y p q = p
 choice false x y p q = q
 
 of_entry : (number : ℕ) (e : Entry) → is_syntax (question_of_entry number e) ≡ false
-of_entry number e =
-    choice (not (is_name e.name)) _ _ refl
-    (choice (not (list_all has_range e.words)) _ _ refl
-    (choice (not (list_all has_mask e.words)) _ _ refl
-    (choice (not (are_actions e.actions)) _ _ refl refl)))
+of_entry number e = grind (arith, common_steps, choice)
 
 where_read : (number : ℕ) (e : Option Entry) → is_syntax (question_where_read number e) ≡ false
 where_read number (Some e) = of_entry number e

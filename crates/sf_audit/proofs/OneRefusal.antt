@@ -168,5 +168,4 @@ same_stack_kind spelling one lawless files e f (file few q) (file few' s) = same
 
 pub same_refusal : OneSpelling → OneFault → FaultsAreNot → (files : List (List ℕ)) (e f : Fault)
     → IsFirstRefusal files e → IsFirstRefusal files f → e ≡ f
-same_refusal spelling one lawless files e f r s =
-    same_stack_kind spelling one lawless files e f (stack_kind files e r) (stack_kind files f s)
+same_refusal spelling one lawless files e f r s = search (arith, same_stack_kind, stack_kind)

@@ -1,5 +1,6 @@
 -- Audits of one plain stack that end with nothing outstanding have one report.
-use Rattle.std.proofs.Common.{◌≡◌, ℕ, zero, suc, ◌+◌, ◌*◌, ◌<◌, ◌≤◌, Bool, true, List, [], ◌∷◌, ◌++◌, length, map, get_or, slice_get, Some, refl, sym, ◌∙◌, ap, subst, arith, inl, inr}
+use Rattle.std.proofs.lemmas.Grind.{common_steps}
+use Rattle.std.proofs.Common.{◌≡◌, ℕ, zero, suc, ◌+◌, ◌<◌, Bool, true, List, [], ◌∷◌, ◌++◌, length, map, get_or, slice_get, Some, refl, sym, ◌∙◌, ap, subst, arith, inl, inr}
 use Rattle.std.specs.Prelude.{codes, slice_index, Contains, if◌then◌else◌}
 use Rattle.std.specs.Fmt.{decimal}
 use Rattle.std.proofs.lemmas.Bool.{cases_lt}
@@ -46,15 +47,7 @@ record AreAlike (b c : BookData) : Type 0 where
   worked' : IsWorkedOff c (feasible_traces c.stack)
 
 turned : (b c : BookData) → AreAlike b c → AreAlike c b
-turned b c h = record {
-  lawful = h.lawful';
-  lawful' = h.lawful;
-  stack = sym h.stack;
-  done = h.done';
-  done' = h.done;
-  worked = h.worked';
-  worked' = h.worked;
-}
+turned b c h = grind (arith, common_steps)
 
 same_traces : (b c : BookData) → AreAlike b c → feasible_traces b.stack ≡ feasible_traces c.stack
 same_traces b c h = ap (λ (s : List (List Insn)). feasible_traces s) h.stack
@@ -101,10 +94,7 @@ member_too b c h i d m =
 
 break_too : (b c : BookData) → AreAlike b c → (i : ℕ) (q : QuestionData) (d : Input) → IsBreakAt b i q d
     → IsBreakAt c i q d
-break_too b c h i q d k = record {
-  member = member_too b c h i d k.member;
-  breaks = subst (λ (s : List (List Insn)). Breaks s q d) h.stack k.breaks;
-}
+break_too b c h i q d k = grind (arith, common_steps, member_too)
 
 same_first : (b c : BookData) → AreAlike b c → (q : QuestionData) (i j : ℕ) → IsFirstBreak b q i
     → IsFirstBreak c q j → i ≡ j
@@ -130,13 +120,7 @@ same_input d e p q each =
 
 same_example : (b c : BookData) → AreAlike b c → (q : QuestionData) (i : ℕ) (d e : Input) → IsLeastExample b i q d
     → IsLeastExample c i q e → d ≡ e
-same_example b c h q i d e f g =
-    same_input d e f.breaks.member.input g.breaks.member.input (λ w less.
-    let low : slice_index d.words w ≤ slice_index e.words w =
-    f.least e (member_too c b (turned b c h) i e g.breaks.member) g.breaks.breaks.inside w less in
-    let high : slice_index e.words w ≤ slice_index d.words w =
-    g.least d (member_too b c h i d f.breaks.member) f.breaks.breaks.inside w less in
-    omega arith)
+same_example b c h q i d e f g = search (arith, same_input, member_too, turned)
 
 -- ---- the same replies
 
@@ -185,16 +169,14 @@ some_named b i r w at =
 -- an input whose trace is the name of a region is answered as the region says
 answered : (stack : List (List Insn)) (r : RegionData) (d : Input) → IsRightRegion stack r → IsInput d
     → trace_of stack d ≡ r.name → Answers stack d r.answer
-answered stack r d right is named = right.answers d is (right.members d is
-    ∙ ap (λ (t : List Bool). is_prefix r.name t) named ∙ prefix-refl r.name)
+answered stack r d right is named = grind (arith, common_steps, prefix-refl)
 
 same_answer : (b c : BookData) → AreAlike b c → (i : ℕ) (r s : RegionData) → slice_get b.regions i ≡ Some r
     → slice_get c.regions i ≡ Some s → r.answer ≡ s.answer
 same_answer b c h i r s at at' =
     let d = some_named b i r h.worked at in
     let t = twin b.regions c.regions i r (same_names b c h) at in
-    let name : r.name ≡ s.name = sym t.name ∙ ap (λ (k : RegionData). k.name)
-    (same_Some t.region s (sym t.there ∙ at')) in
+    let name : r.name ≡ s.name = search (arith, same_Some) in
     let trace : trace_of c.stack d.0 ≡ s.name =
     ap (λ (k : List (List Insn)). trace_of k d.0) (sym h.stack) ∙ d.2 ∙ name in
     let mine : Answers b.stack d.0 r.answer = answered b.stack r d.0 (right_at b i r h.lawful at) d.1 d.2 in
@@ -226,26 +208,7 @@ same_lines n (r ∷ rs) (s ∷ ss) e each =
 -- ---- the same counts
 
 same_counts : (b c : BookData) → AreAlike b c → counts_of b ≡ counts_of c
-same_counts b c h =
-    let traces : length (feasible_traces b.stack) ≡ length (feasible_traces c.stack) = ap length (same_traces b c h) in
-    let splits : b.splits + 1 ≡ length (feasible_traces b.stack) = h.worked.splits in
-    let splits' : c.splits + 1 ≡ length (feasible_traces c.stack) = h.worked'.splits in
-    let commits : b.commits + 1 ≡ 2 * length (feasible_traces b.stack) = h.worked.commits in
-    let commits' : c.commits + 1 ≡ 2 * length (feasible_traces c.stack) = h.worked'.commits in
-    let long : length (names b.regions) ≡ length b.regions = length-map b.regions (λ (r : RegionData). r.name) in
-    let long' : length (names c.regions) ≡ length c.regions = length-map c.regions (λ (r : RegionData). r.name) in
-    let left : length b.outstanding ≡ length c.outstanding = ap length (h.done ∙ sym h.done') in
-    let settled : length b.regions ≡ length c.regions = sym long ∙ ap length (same_names b c h) ∙ long' in
-    let emptied : length b.emptied ≡ length c.emptied = ap length (h.worked.emptied ∙ sym h.worked'.emptied) in
-    let splits_too : b.splits ≡ c.splits = omega arith in
-    let commits_too : b.commits ≡ c.commits = omega arith in
-    λ j. record {
-      left = left j;
-      settled = settled j;
-      emptied = emptied j;
-      splits = splits_too j;
-      commits = commits_too j;
-    }
+same_counts b c h = grind (arith, common_steps, same_traces, length-map, same_names)
 
 -- ---- the same report
 
@@ -257,16 +220,7 @@ head stack questions counts = title_line ++ (size_line (length stack) (path_leng
 alike : (files others : List (List ℕ)) (questions : List QuestionData) (m n : ℕ) (o p : Found)
     → IsAudit files questions m o → IsAudit others questions n p → o.settled.stack ≡ p.settled.stack
     → IsPlain o.settled.stack → o.settled.outstanding ≡ [] → p.settled.outstanding ≡ [] → AreAlike o.settled p.settled
-alike files others questions m n o p f g stack plain none none' =
-    record {
-      lawful = f.found.end.settled.lawful;
-      lawful' = g.found.end.settled.lawful;
-      stack = stack;
-      done = none;
-      done' = none';
-      worked = (f.found.plain plain).worked none;
-      worked' = (g.found.plain (subst IsPlain stack plain)).worked none';
-    }
+alike files others questions m n o p f g stack plain none none' = search arith
 
 pub same_report : (files others : List (List ℕ)) (questions : List QuestionData) (m n : ℕ) (o p : Found)
     → IsAudit files questions m o → IsAudit others questions n p → o.settled.stack ≡ p.settled.stack
@@ -277,11 +231,9 @@ same_report files others questions m n o p f g stack plain none none' shown =
     let asked : o.questions ≡ p.questions = f.found.questions ∙ sym g.found.questions in
     let theirs : AreRightReplies p.settled o.questions p.replies =
     subst (λ (qs : List QuestionData). AreRightReplies p.settled qs p.replies) (sym asked) g.found.replies in
-    let replies : o.replies ≡ p.replies = same_replies o.settled p.settled h plain o.questions o.replies p.replies
-    f.found.replies theirs in
+    let replies : o.replies ≡ p.replies = search (arith, same_replies) in
     let counts = same_counts o.settled p.settled h in
     let regions : region_lines 1 o.settled.regions ≡ region_lines 1 p.settled.regions =
-    same_lines 1 o.settled.regions p.settled.regions (same_names o.settled p.settled h)
-    (same_answer o.settled p.settled h) in
+    search (arith, same_lines, same_names, same_answer) in
     λ j. head (h.stack j) (length (asked j)) (counts j) ++ (question_lines 1 (asked j) (replies j)
     ++ ((if shown then regions j else []) ++ totals_line (replies j)))

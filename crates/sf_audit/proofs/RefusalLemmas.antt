@@ -1,4 +1,5 @@
 -- Files that are refused spell no lawful stack.
+use Rattle.std.proofs.lemmas.Grind.{common_steps}
 use Rattle.std.proofs.Common.{◌≡◌, ℕ, ◌+◌, ◌*◌, ◌%◌, ◌<◌, List, [], ◌∷◌, length, Ok, Some, slice_get, zero, suc, refl, ap, sym, subst, ◌∙◌, arith, length-append}
 use Rattle.std.proofs.lemmas.List.{length-map}
 use Rattle.std.proofs.lemmas.Option.{same_Some}
@@ -13,7 +14,7 @@ use Rattle.sf_check.specs.Stacks.{path_length}
 use Rattle.sf_audit.specs.declared.fault.Fault.{Fault}
 use Rattle.sf_audit.specs.declared.fault.Fault.TheVariants as faults
 use Rattle.sf_audit.specs.Filters.{SpellPrograms, SpellStack, SpellsFault, IsRefusalOf, IsFileRefusal, IsFirstRefusal}
-use Rattle.sf_audit.proofs.FilterLemmas.{as_many}
+use Rattle.sf_audit.specs.FiltersLaws.{as_many}
 
 abbrev pub OneSpelling : Type 0
 OneSpelling = (a b : List RawInsn) → AreInsns a → AreInsns b → spelling a ≡ spelling b → a ≡ b
@@ -49,8 +50,7 @@ as_long raws program spells = sym (length-map raws insn_of) ∙ ap length spells
 
 -- the bytes of a lawful program are 8 for each instruction
 eight_each : (bytes : List ℕ) (program : List Insn) → SpellsProgram bytes program → length bytes ≡ 8 * length program
-eight_each bytes program p = ap length p.spelled ∙ length_spelling p.raws
-    ∙ ap (λ n. 8 * n) (as_long p.raws program p.read)
+eight_each bytes program p = grind (arith, common_steps, length_spelling, as_long)
 
 faulty : OneSpelling → FaultsAreNot → (bytes : List ℕ) (e : CheckFault) (program : List Insn) → SpellsFault bytes e
     → SpellsProgram bytes program → ⊥

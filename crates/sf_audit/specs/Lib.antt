@@ -12,3 +12,5 @@ pub mod Reports
 pub mod Names
 pub mod NamesLaws
 pub mod Audits
+pub mod TextLaws
+pub mod FiltersLaws

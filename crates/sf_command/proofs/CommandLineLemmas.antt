@@ -1,9 +1,10 @@
 -- What is known of the form of the command line, and what a parse by it reads.
+use Rattle.std.proofs.lemmas.Grind.{common_steps}
 use Rattle.std.proofs.Common.{◌≡◌, ◌≢◌, ◌&&◌, ◌⊎◌, inl, inr, ◌<◌, ◌^◌, ◌∙◌, ap, ℕ, List, [], Bool, true, false, map, refl, subst, arith}
 use Rattle.std.specs.Prelude.{Option, Result, Some, None, Ok, Err, not, option_map, unwrap_or}
 use Rattle.std.specs.Borrow.{Bor}
 use Rattle.std.specs.Str.Parse.{ParsesUnsigned}
-use Rattle.clap.specs.Words.{App, HasKind, HasMatchesOf, IsAmong, Kinds, ReadsOne, Text, all_of, fault_of, is_simple, is_simple_and_free, kind_of, matched_of, one_of, one_text, raw_values, rows_of, subcommand_of, subcommand_rows_of}
+use Rattle.clap.specs.Words.{App, HasKind, HasMatchesOf, IsAmong, Kinds, ReadsOne, Text, fault_of, is_simple, is_simple_and_free, kind_of, matched_of, one_of, one_text, raw_values, rows_of, subcommand_rows_of}
 use Rattle.clap.specs.declared.error.Error.{Error}
 use Rattle.clap.specs.declared.error.kind.ErrorKind.TheVariants.{OutOfMemory}
 use Rattle.clap.specs.declared.parser.matches.ArgMatches.{ArgMatches}
@@ -67,9 +68,7 @@ read_or f (Some y) p x e = rw (← e) refl
 pub paths_found : (f : Found) (id : Text) (r : Option (Bor (List (Bor Text)))) (none : Bor (List (Bor Text)))
     → option_map (λ s. map (λ v. v.now) s.now) r ≡ option_map raw_values (matched_of f id) → none.now ≡ []
     → ArePaths id (rows_of f) (unwrap_or r none).now
-paths_found f id r none is empty =
-    read_or (λ s. map (λ v. v.now) s.now) r _ none (is ∙ raw_values-rows f id)
-    ∙ ap (λ (vs : List (Bor Text)). unwrap_or (all_of id (rows_of f)) (map (λ v. v.now) vs)) empty
+paths_found f id r none is empty = grind (arith, common_steps, read_or, raw_values-rows)
 
 -- the two readings of one thing that may be absent, joined in a pair
 pub joined : {X A B : Type 0} (f : X → A) (g : X → B) (o : Option X) (a : A) (b : B) → Some a ≡ option_map f o
@@ -82,8 +81,7 @@ joined f g (Some x) a b is_a is_b = cc
 pub told_subcommand : (a : App) (words : List Text) (m : ArgMatches) → a ≡ command_line → HasMatchesOf a words m
     → subcommand_rows_of m ≡ subcommand_at words
 unfolding subcommand_at
-told_subcommand a words m is has = (has (ap is_simple is ∙ form_is_simple)).1
-    ∙ ap (λ (x : App). subcommand_of x words) is
+told_subcommand a words m is has = grind (arith, common_steps, form_is_simple)
 
 -- what a parse by the form says of its errors holds of those that the words may give
 pub told_errors : (P : Kinds → Type 0) (a : App) (words : List Text) → a ≡ command_line

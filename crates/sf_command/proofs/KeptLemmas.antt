@@ -99,11 +99,7 @@ module _ (before after next : List ℕ → Option (List ℕ)) (paths : List (Bor
 pub all_kept : (before after : List ℕ → Option (List ℕ)) (paths : List (Bor (List ℕ))) (place : ℕ)
     (kept : List (List ℕ)) → KeptSoFar before after paths place kept → length paths ≤ place → place ≤ length paths
     → AreKept before paths kept
-all_kept before after paths place kept so_far over under = record {
-  files = so_far.all;
-  read = paired_all _ _ _ _ _ (λ path file h. h) so_far.paired over under;
-  first = so_far.first;
-}
+all_kept before after paths place kept so_far over under = search (arith, paired_all)
 
 -- What refuses the kept files refuses all files: the kept ones are all files if they are at most 64, and else there are
 -- more than 64.

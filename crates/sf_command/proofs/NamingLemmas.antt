@@ -1,5 +1,5 @@
 -- What the answers of `read_names` say of files of names; and files that are read after these.
-use Rattle.std.proofs.Common.{◌≡◌, ◌⊎◌, inl, inr, ℕ, ◌+◌, ◌≤◌, ◌∙◌, Bool, List, [], ◌∷◌, ◌++◌, Option, Some, None, Result, Ok, Err, Bor, length, slice_get, sym, subst}
+use Rattle.std.proofs.Common.{arith, ◌≡◌, ◌⊎◌, inl, inr, ℕ, ◌+◌, ◌≤◌, ◌∙◌, Bool, List, [], ◌∷◌, ◌++◌, Option, Some, None, Result, Ok, Err, Bor, length, slice_get, sym, subst}
 use Rattle.std.specs.Prelude.{IfOk}
 use Rattle.toml.specs.Data.{Members}
 use Rattle.toml.specs.Parse.{parse_document}
@@ -50,8 +50,7 @@ one_named before after next paths place names more path one so_far here meant sa
 pub all_named : (before after : List ℕ → Option (List ℕ)) (paths : List (Bor (List ℕ))) (place : ℕ)
     (names : List NamesData) → NamedSoFar before after paths place names → length paths ≤ place → place ≤ length paths
     → AreNamesRead before paths names
-all_named before after paths place names so_far over under =
-    paired_all _ _ _ _ _ (λ path n h. h) so_far.paired over under
+all_named before after paths place names so_far over under = search (arith, paired_all)
 
 -- a file is refused
 pub naming_why : (before after : List ℕ → Option (List ℕ)) (paths : List (Bor (List ℕ))) (n : ℕ)

@@ -1,5 +1,6 @@
 -- Two lists that belong together, place by place, where the second one grows.
-use Rattle.std.proofs.Common.{◌≡◌, ℕ, zero, suc, ◌+◌, ◌<◌, ◌≤◌, List, [], ◌∷◌, ◌++◌, length, Some, slice_get, refl, sym, ◌∙◌, ap, inl, inr, arith}
+use Rattle.std.proofs.lemmas.Grind.{common_steps}
+use Rattle.std.proofs.Common.{◌≡◌, ℕ, zero, suc, ◌+◌, ◌<◌, ◌≤◌, List, [], ◌∷◌, ◌++◌, length, Some, slice_get, refl, arith}
 use Rattle.std.proofs.lemmas.Bool.{cases_eq}
 use Rattle.std.proofs.lemmas.Option.{same_Some, slice_get_within}
 use Rattle.std.proofs.lemmas.List.{length_push}
@@ -22,29 +23,10 @@ pub record PairedSoFar {X Y : Type 0} (Holds : X → Y → Type 0) (xs : List X)
 pub paired_more : {X Y : Type 0} (Holds : X → Y → Type 0) (xs : List X) (ys ys' : List Y) (place : ℕ) (x : X) (y : Y)
     → PairedSoFar Holds xs ys place → slice_get xs place ≡ Some x → Holds x y → ys' ≡ ys ++ y ∷ []
     → PairedSoFar Holds xs ys' (place + 1)
-paired_more {X} {Y} Holds xs ys ys' place x y so_far here holds pushed = rw pushed (record {
-  count = length_push ys y ∙ ap (λ (n : ℕ). n + 1) so_far.count;
-  each = each;
-})
-  where
-    each : (n : ℕ) (a : X) → n < place + 1 → slice_get xs n ≡ Some a → (b : Y)
-        × (slice_get (ys ++ y ∷ []) n ≡ Some b) × Holds a b
-    each n a lt h = elim (cases_eq n place) [
-      | inl e ↦
-          let same : a ≡ x = same_Some a x (sym h ∙ ap (λ (k : ℕ). slice_get xs k) e ∙ here) in
-          (y, rw (e, sym so_far.count) (get_last ys y), rw same holds)
-      | inr ne ↦
-          let (b, at, old) = so_far.each n a (omega arith) h in
-          (b, get_front ys (y ∷ []) n b at, old)
-    ]
+paired_more {X} {Y} Holds xs ys ys' place x y so_far here holds pushed =
+    grind (arith, common_steps, length_push, cases_eq, same_Some, get_last, get_front)
 
 pub paired_all : {X Y : Type 0} (Holds Weaker : X → Y → Type 0) (xs : List X) (ys : List Y) (place : ℕ)
     → ((x : X) (y : Y) → Holds x y → Weaker x y) → PairedSoFar Holds xs ys place → length xs ≤ place → place ≤ length xs
     → Pairwise Weaker xs ys
-paired_all Holds Weaker xs ys place weaker so_far over under = record {
-  same = omega (arith, so_far.count);
-  each = λ n x h.
-      let within = slice_get_within xs n x h in
-      let (y, at, holds) = so_far.each n x (omega arith) h in
-      (y, at, weaker x y holds);
-}
+paired_all Holds Weaker xs ys place weaker so_far over under = grind (arith, common_steps, slice_get_within)

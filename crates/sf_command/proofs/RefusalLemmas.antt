@@ -1,5 +1,6 @@
 -- Why an audit, a comparison or a listing of files is refused.
-use Rattle.std.proofs.Common.{◌≡◌, ◌⊎◌, ◌∙◌, inl, inr, ℕ, List, None, Option, Bor, Result, Ok, Err, sym, subst}
+use Rattle.std.proofs.lemmas.Grind.{common_steps}
+use Rattle.std.proofs.Common.{arith, ◌≡◌, ◌⊎◌, inl, inr, ℕ, List, None, Option, Bor, Result, Ok, Err, sym, subst}
 use Rattle.std.specs.Result.{IfErr, IsErrAnd}
 use Rattle.sf_ask.specs.QuestionData.{QuestionData}
 use Rattle.sf_audit.specs.declared.fault.Fault.{Fault}
@@ -27,12 +28,7 @@ policy_why holds policy paths e (inr (inr why)) = inr (inr (inr (inl why)))
 -- a file whose bytes aren't known after others were read wasn't known before
 pub still_unknown : (before after : List ℕ → Option (List ℕ)) (paths : List (Bor (List ℕ)))
     → ((p : List ℕ) → after p ≡ before p) → HasUnknown after paths → HasUnknown before paths
-still_unknown before after paths same left = record {
-  place = left.place;
-  path = left.path;
-  at = left.at;
-  unknown = sym (same left.path.now) ∙ left.unknown;
-}
+still_unknown before after paths same left = grind (arith, common_steps)
 
 -- where the comparison of what the files hold is refused, that of the files is
 pub comparison_why : (holds : List ℕ → Option (List ℕ)) (old new : List (Bor (List ℕ))) (files : List (List ℕ))

@@ -1,11 +1,12 @@
 -- Which subcommand the words of a command line name that fits its form.
-use Rattle.std.proofs.Common.{◌≡◌, ◌⊎◌, inl, inr, ap, List, [], ◌∷◌, Bool, true, false, refl}
+use Rattle.std.proofs.lemmas.Grind.{common_steps}
+use Rattle.std.proofs.Common.{arith, ◌≡◌, ◌⊎◌, inl, inr, ap, List, [], ◌∷◌, Bool, true, false, refl}
 use Rattle.std.specs.Prelude.{if◌then◌else◌, Option, Some, None, find, is_some, option_map}
 use Rattle.clap.specs.Words.{App, Kinds, Row, Shape, Text}
 use Rattle.clap.specs.Kinds.{or_else}
-use Rattle.clap.specs.Faults.{built_fault, check_fault, defaults_fault, entered_fault, settle_fault, walk_fault}
+use Rattle.clap.specs.Faults.{built_fault, check_fault}
 use Rattle.clap.specs.Simple.{argument_words, built, entered, label_of, names_of, rows_at}
-use Rattle.clap.specs.Walk.{answers_to, finished, nothing_held, settled, stop_after, walk, walk_from}
+use Rattle.clap.specs.Walk.{answers_to, nothing_held, stop_after}
 use Rattle.clap.specs.declared.error.kind.ErrorKind.{ErrorKind}
 use Rattle.sf_command.specs.CommandLine.{command_line}
 use Rattle.sf_command.specs.Runs.{IsKnown, errors_at, subcommand_at}
@@ -30,47 +31,21 @@ check_needs s rows false needed none = absurd (one_or_other _ _ _ (rw needed at 
 pub needs_subcommand : (a : App) (words : List Text) → a.top.subcommand_required ≡ true
     → built_fault a nothing_held words ≡ []
     → is_some (entered a (stop_after a.top.rules (names_of a) words)) ≡ true
-needs_subcommand a words needed none =
-    let end = walk a.top.rules (names_of a) nothing_held words in
-    let settled_none = second_none (entered_fault a end.stopped) _
-    (second_none (walk_fault a.top (names_of a) (walk_from nothing_held) words) _ none) in
-    let last_none = second_none (defaults_fault (settled a.top.rules end.held).rows a.top.rules) _
-    (second_none (settle_fault a.top.rules a.top.args_override_self end.held) _ settled_none) in
-    check_needs a.top (finished a.top.rules end.held) _ needed last_none
+needs_subcommand a words needed none = grind (arith, common_steps, second_none, check_needs)
 
 -- the first of three that has a property is one of them
 first_of_three : (p : Shape → Bool) (x y z s : Shape) → find p (x ∷ y ∷ z ∷ []) ≡ Some s → (s ≡ x) ⊎ (s ≡ y) ⊎ (s ≡ z)
-first_of_three p x y z s found = go (p x) refl
-  where
-    third : (b : Bool) → p z ≡ b → find p (z ∷ []) ≡ Some s → s ≡ z
-    third true is e = let h : Some z ≡ Some s = rw is at e in cc
-    third false is e = let h : None ≡ Some s = rw is at e in cc
-
-    second : (b : Bool) → p y ≡ b → find p (y ∷ z ∷ []) ≡ Some s → (s ≡ y) ⊎ (s ≡ z)
-    second true is e = let h : Some y ≡ Some s = rw is at e in inl cc
-    second false is e = inr (third (p z) refl (rw is at e))
-
-    go : (b : Bool) → p x ≡ b → (s ≡ x) ⊎ (s ≡ y) ⊎ (s ≡ z)
-    go true is = let h : Some x ≡ Some s = rw is at found in inl cc
-    go false is = inr (second (p y) refl (rw is at found))
+first_of_three p x y z s found = grind (arith, common_steps)
 
 -- the first of four that has a property is one of them
 first_of_four : (p : Shape → Bool) (w x y z s : Shape) → find p (w ∷ x ∷ y ∷ z ∷ []) ≡ Some s
     → (s ≡ w) ⊎ (s ≡ x) ⊎ (s ≡ y) ⊎ (s ≡ z)
-first_of_four p w x y z s found = go (p w) refl
-  where
-    go : (b : Bool) → p w ≡ b → (s ≡ w) ⊎ (s ≡ x) ⊎ (s ≡ y) ⊎ (s ≡ z)
-    go true is = let h : Some w ≡ Some s = rw is at found in inl cc
-    go false is = inr (first_of_three p x y z s (rw is at found))
+first_of_four p w x y z s found = grind (arith, common_steps, first_of_three)
 
 -- the first of five
 first_of_five : (p : Shape → Bool) (v w x y z s : Shape) → find p (v ∷ w ∷ x ∷ y ∷ z ∷ []) ≡ Some s
     → (s ≡ v) ⊎ (s ≡ w) ⊎ (s ≡ x) ⊎ (s ≡ y) ⊎ (s ≡ z)
-first_of_five p v w x y z s found = go (p v) refl
-  where
-    go : (b : Bool) → p v ≡ b → (s ≡ v) ⊎ (s ≡ w) ⊎ (s ≡ x) ⊎ (s ≡ y) ⊎ (s ≡ z)
-    go true is = let h : Some v ≡ Some s = rw is at found in inl cc
-    go false is = inr (first_of_four p w x y z s (rw is at found))
+first_of_five p v w x y z s found = grind (arith, common_steps, first_of_four)
 
 -- a subcommand that was entered has the name of one of the five
 pub entered_name : (a : App) (v w x y z : Shape) → a.subs ≡ v ∷ w ∷ x ∷ y ∷ z ∷ [] → (stop : Option (Text × List Text))

@@ -1,5 +1,6 @@
 -- The text of a trace with one filter more, or one line.
-use Rattle.std.proofs.Common.{◌≡◌, ℕ, suc, ◌+◌, ◌<◌, Bool, List, [], ◌∷◌, ◌++◌, codes, Option, Some, None, drop, get_or, length, slice_get, unwrap_or, append_assoc, ap, sym, ◌∙◌, refl}
+use Rattle.std.proofs.lemmas.Grind.{common_steps}
+use Rattle.std.proofs.Common.{arith, ◌≡◌, ℕ, suc, ◌+◌, ◌<◌, Bool, List, [], ◌∷◌, ◌++◌, codes, Option, Some, None, drop, get_or, length, slice_get, unwrap_or, append_assoc, refl}
 use Rattle.std.proofs.lemmas.List.{drop_more}
 use Rattle.std.proofs.lemmas.Option.{slice_get-get_or}
 use Rattle.std.specs.Prelude.{not, ◌&&◌, ◌||◌, ◌==◌}
@@ -36,9 +37,7 @@ one_more_meeting brief number words met place d word old new whole below pushed 
 -- the program that was read from a place of the list stands at that place
 pub program_at : (programs : List (List Insn)) (n k : ℕ) (code : List Insn) → code ≡ get_or programs k code → k ≡ n
     → n < length programs → slice_get programs n ≡ Some code
-program_at programs n k code read same within =
-    let read' : code ≡ get_or programs n code = rw same at read in
-    slice_get-get_or programs n code within ∙ ap (λ (c : List Insn). Some c) (sym read')
+program_at programs n k code read same within = grind (arith, common_steps, slice_get-get_or)
 
 -- the line of a comparison, whose parts were added one after the other
 pub test_parts : (old head named worded new number place name word rest : List ℕ)

@@ -14,7 +14,7 @@ ghost use Rattle.sf_audit.specs.declared.fault.Fault.TheVariants.{Memory as Memo
 use crate::explaining::Notes;
 use crate::files::{Files, read_all};
 use crate::texts::{answer_text, check_text};
-use crate::tracing::push_trace;
+use crate::tracing::{Trace, push_trace};
 use hex::FromHex;
 use sf_audit::{Fault, Names, stack_of, write_bytes};
 use sf_check::Stack;
@@ -74,7 +74,14 @@ fn eval_text(
     if !traced && !brief {
         return Ok(text);
     }
-    push_trace(alloc, &mut text, stack, input, answer, brief, names)?;
+    let trace = Trace {
+        stack,
+        input,
+        answer,
+        brief,
+        names,
+    };
+    push_trace(alloc, &mut text, &trace)?;
     Ok(text)
 }
 

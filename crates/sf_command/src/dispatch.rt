@@ -272,7 +272,7 @@ fn reply<R: Threads + Wait + Sync, F: Files, O: Write, E: Write>(
     ensures refused { IfErr result (RefusesAsTold (F.holds files.old)
         (map string_bytes words.now)) }
 {
-    match words::form(alloc)?.try_get_matches_from(words) {
+    match words::command_form(alloc)?.try_get_matches_from(words) {
         Ok(matches) => {
             let ran = run(rt, alloc, &matches, files, notes, out);
             notes.explain(alloc, &matches, &ran, files.reason());

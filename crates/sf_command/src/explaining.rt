@@ -1,7 +1,7 @@
 //! What `--explain-errors` shows of a fault under its line. It is for a person: contracts say only when it may be
 //! shown.
 
-ghost use Rattle.std.specs.Prelude.{◌≡◌, None};
+ghost use Rattle.std.specs.Prelude.{◌≡◌, [], IfOk, None};
 ghost use Rattle.clap.specs.Words.{subcommand_rows_of};
 ghost use Rattle.sf_audit.specs.Faults.{without_place};
 ghost use Rattle.sf_command.specs.Runs.{IsUnasked};
@@ -30,7 +30,11 @@ pub struct Notes {
 
 impl Notes {
     /// The notes before any file is read.
-    pub fn new(alloc: Global) -> Notes {
+    pub fn new(alloc: Global) -> Notes
+        ensures nothing_read { (result.policy.items ≡ []) × (result.refusal ≡ None)
+            × (result.files ≡ 0) }
+        ensures unexplained { result.explanation ≡ None }
+    {
         Notes {
             policy: Vec::new(alloc),
             refusal: None,
@@ -64,7 +68,13 @@ impl Notes {
         matches: &ArgMatches<'_>,
         ran: &Result<u8, Fault>,
         reason: &str,
-    ) {
+    )
+        ensures ok { IfOk ran.now (λ _. self.new ≡ self.old) }
+        ensures unasked { IsUnasked (subcommand_rows_of matches.now)
+            → self.old.explanation ≡ None → self.new.explanation ≡ None }
+        ensures kept { (self.new.policy ≡ self.old.policy)
+            × (self.new.refusal ≡ self.old.refusal) × (self.new.files ≡ self.old.files) }
+    {
         if let Err(fault) = ran {
             self.explanation = explanation(alloc, matches, fault, self, reason);
         }

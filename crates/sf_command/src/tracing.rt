@@ -224,84 +224,78 @@ fn push_return(
     write!(text, " {info} instruction {place}{mark}\n")
 }
 
+/// What a trace shows.
+#[derive(Clone, Copy, Drop)]
+pub struct Trace<'a> {
+    /// The stack that is run.
+    pub stack: &'a Stack,
+    /// The input that it is run on.
+    pub input: &'a Input,
+    /// The answer of the stack.
+    pub answer: Answer,
+    /// Whether only what is true is shown.
+    pub brief: bool,
+    /// Names of calls, which are shown beside their numbers.
+    pub names: &'a [Names],
+}
+
 /// Adds the lines of a filter, and says whether its answer stands: it returns the action of the stack's answer, and the
 /// answer of no newer filter stood.
 fn push_filter(
     alloc: Global,
     text: &mut String,
-    brief: bool,
+    trace: &Trace<'_>,
     number: usize,
     program: &Program,
-    input: &Input,
-    action: u32,
     stood: bool,
 ) -> Result<bool, Fault>
-    ensures { IfOk result (λ b. (w : CourseData) × (walk_of program.now input.now ≡ Some w)
-        × (b ≡ (not stood && (action_bits w.value == action)))
+    ensures { IfOk result (λ b. (w : CourseData)
+        × (walk_of program.now trace.now.input.now ≡ Some w)
+        × (b ≡ (not stood && (action_bits w.value == action_number trace.now.answer.action)))
         × (string_bytes text.new ≡ string_bytes text.old
-        ++ walk_text brief number b program.now w)) }
+        ++ walk_text trace.now.brief number b program.now w)) }
 {
-    let run = walk(alloc, program, input)?;
-    let stands = !stood && run.value & 0xffff0000 == action;
-    let action_met = Action::of_number(run.value & 0xffff0000);
+    let run = walk(alloc, program, trace.input)?;
+    let action = run.value & 0xffff0000;
+    let stands = !stood && action == trace.answer.action.number();
     push_return(
         text,
         number,
         run.place,
-        action_met,
+        Action::of_number(action),
         run.value & 0xffff,
         stands,
     )?;
     let words = words_at(alloc, program.insns(), &run.met)?;
-    push_meetings(text, brief, number, &words, &run.met)?;
+    push_meetings(text, trace.brief, number, &words, &run.met)?;
     Ok(stands)
 }
 
-/// Whether one of the two is true. For the prover: its contract is the step of a loop.
-fn is_any_true(one: bool, other: bool) -> bool
-    ensures { result ≡ (one || other) }
-{
-    one || other
-}
-
-/// Adds the lines of all filters, newest first. `action` is that of the stack's answer.
-fn push_filters(
-    alloc: Global,
-    text: &mut String,
-    brief: bool,
-    programs: &[Program],
-    input: &Input,
-    action: u32,
-) -> Result<(), Fault>
+/// Adds the lines of all filters, newest first.
+fn push_filters(alloc: Global, text: &mut String, trace: &Trace<'_>) -> Result<(), Fault>
     ensures { OnOk result (string_bytes text.new ≡ string_bytes text.old
-        ++ filters_text brief (length programs.now) action programs.now input.now false) }
+        ++ filters_text trace.now.brief (length trace.now.stack.now)
+        (action_number trace.now.answer.action) trace.now.stack.now trace.now.input.now false) }
 {
+    let programs = trace.stack.programs();
     let mut stood = false;
     for i in 0..programs.len() {
         let number = programs.len() - i;
         let program = &programs[number - 1];
-        let stands = push_filter(alloc, text, brief, number, program, input, action, stood)?;
-        stood = is_any_true(stood, stands);
+        let stands = push_filter(alloc, text, trace, number, program, stood)?;
+        stood = stood || stands;
     }
     Ok(())
 }
 
-/// Adds the lines of `eval --trace`. First come the fields of the input, with these names of calls. Then comes each filter, newest first: what it
-/// returns and at which instruction, whether its answer is the stack's, and under it all that it met, in order; in
-/// brief without what is false. `Memory` where an allocation is refused.
-pub fn push_trace(
-    alloc: Global,
-    text: &mut String,
-    stack: &Stack,
-    input: &Input,
-    answer: Answer,
-    brief: bool,
-    names: &[Names],
-) -> Result<(), Fault>
+/// Adds the lines of `eval --trace`. First come the fields of the input, with the names of calls. Then comes each
+/// filter, newest first: what it returns and at which instruction, whether its answer is the stack's, and under it all
+/// that it met, in order; in brief without what is false. `Memory` where an allocation is refused.
+pub fn push_trace(alloc: Global, text: &mut String, trace: &Trace<'_>) -> Result<(), Fault>
     ensures { OnOk result (string_bytes text.new ≡ string_bytes text.old
-        ++ trace_text brief names.now stack.now input.now answer) }
+        ++ trace_text trace.now.brief trace.now.names.now trace.now.stack.now
+        trace.now.input.now trace.now.answer) }
 {
-    push_input(text, names, input)?;
-    let action = answer.action.number();
-    push_filters(alloc, text, brief, stack.programs(), input, action)
+    push_input(text, trace.names, trace.input)?;
+    push_filters(alloc, text, trace)
 }

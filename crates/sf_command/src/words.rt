@@ -282,7 +282,7 @@ fn program<'a>(alloc: Global) -> Result<Command<'a>, AllocError>
 
 /// The form of the command line: the program, its subcommands and what each takes. An error where an allocation is
 /// refused.
-pub(crate) fn form<'a>(alloc: Global) -> Result<Command<'a>, AllocError>
+pub(crate) fn command_form<'a>(alloc: Global) -> Result<Command<'a>, AllocError>
     ensures { IfOk result (λ c. app_of c ≡ command_line) }
 {
     program(alloc)?

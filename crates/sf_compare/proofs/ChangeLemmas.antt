@@ -1,5 +1,6 @@
 -- Why what is found of two stacks is right.
-use Rattle.std.proofs.Common.{◌≡◌, ℕ, zero, suc, ◌+◌, ◌-◌, ◌<◌, ◌++◌, true, List, [], ◌∷◌, length, take, drop, Some, slice_get, refl, sym, ap, subst, ◌∙◌, inl, inr, arith, length-drop}
+use Rattle.std.proofs.lemmas.Grind.{common_steps}
+use Rattle.std.proofs.Common.{◌≡◌, ℕ, zero, suc, ◌+◌, ◌-◌, ◌<◌, ◌++◌, true, List, [], ◌∷◌, length, take, drop, Some, slice_get, refl, sym, subst, inl, inr, arith, length-drop}
 use Rattle.std.proofs.lemmas.Bool.{cases_eq}
 use Rattle.std.proofs.lemmas.Option.{same_Some}
 use Rattle.std.proofs.lemmas.List.{take-append-drop, take_all}
@@ -32,8 +33,7 @@ both_parts s older = take-append-drop older s.stack
 -- the programs after the first ones, as a slice has them
 pub last_part : (older : ℕ) (programs : List (List Insn))
     → take (length programs - older) (drop older programs) ≡ drop older programs
-last_part older programs = take_all (length programs - older) (drop older programs)
-    (omega (arith, length-drop older programs))
+last_part older programs = grind (arith, common_steps, take_all, length-drop)
 
 -- what a replay along an input's trace answers
 abbrev AnswersAlong : BookData → ℕ → RegionData → PartAnswers → Type 0
@@ -45,16 +45,7 @@ AnswersAlong s older r both =
 -- the answers along a region's name are those to its members
 pub region_answers : (s : BookData) (older : ℕ) (r : RegionData) (both : PartAnswers) → IsLawfulStack s.stack
     → IsRightRegion s.stack r → AnswersAlong s older r both → AreAnswersOf s older r both
-region_answers s older r both lawful right along = record {
-  before = λ d is m. (at d is m).0;
-  after = λ d is m. (at d is m).1;
-}
-  where
-    at : (d : Input) → IsInput d → is_member r.piece d ≡ true
-        → Answers (old_of s older) d both.older × Answers (new_of s older) d both.newer
-    at d is m = along d (subst IsLawfulStack (sym (both_parts s older)) lawful)
-        (ap (λ (k : List (List Insn)). trace_of k d) (both_parts s older)
-        ∙ sym (member_trace s.stack r d lawful right is m))
+region_answers s older r both lawful right along = grind (arith, common_steps, both_parts, member_trace)
 
 -- where the two answers aren't so related, no member is changed so
 pub unrelated : (s : BookData) (older : ℕ) (relation : Relation) (place : ℕ) (both : PartAnswers)
@@ -73,12 +64,7 @@ unrelated s older relation place both told none = λ d before after m change.
 pub changed : (s : BookData) (older : ℕ) (relation : Relation) (r : RegionData) (both : PartAnswers) (d : Input)
     → AreAnswersOf s older r both → AreRelated relation both.older both.newer → IsInput d
     → is_member r.piece d ≡ true → IsChange (old_of s older) (new_of s older) relation d both.older both.newer
-changed s older relation r both d answers related is m = record {
-  input = is;
-  answered_before = answers.before d is m;
-  answered_after = answers.after d is m;
-  related = related;
-}
+changed s older relation r both d answers related is m = grind (arith, common_steps)
 
 none_left : {X : Type 0} (xs : List X) → length xs ≡ 0 → xs ≡ []
 none_left [] e = refl

@@ -15,12 +15,7 @@ use Rattle.sf_dom.specs.Ascending.{AreAscending, IsBetweenEnds}
 -- a number that isn't at the place where it would stand is nowhere in the list
 absent : (xs : List ℕ) (n at : ℕ) → ((k : ℕ) → k < at → get_or xs k 0 < n)
     → ((k : ℕ) → at ≤ k → k < length xs → n < get_or xs k 0) → ¬ Contains xs n
-absent xs n at below above w =
-    let here : get_or xs w.0 0 ≡ n = get_or_default xs w.0 0 n w.1 ∙ w.2 in
-    elim (cases_lt w.0 at) [
-      | inl l ↦ absurd (omega (arith, below w.0 l, here))
-      | inr g ↦ absurd (omega (arith, above w.0 g w.1, here))
-    ]
+absent xs n at below above w = search (arith, get_or_default, cases_lt)
 
 pub stands : (xs : List ℕ) (n : ℕ) (r : Result ℕ ℕ) → AreAscending xs → IsBinarySearchResult (λ y. nat_cmp y n) xs r
     → IsTrue (is_ok r) ↔ Contains xs n
@@ -33,12 +28,7 @@ stands xs n (Err i) rising found =
 
 -- what stands in an ascending list is between its ends
 pub between-ends : (xs : List ℕ) (n : ℕ) → AreAscending xs → Contains xs n → IsBetweenEnds xs n
-between-ends xs n rising w =
-    let here : get_or xs w.0 0 ≡ n = get_or_default xs w.0 0 n w.1 ∙ w.2 in
-    let within = w.1 in
-    let above = rising 0 w.0 (omega arith) w.1 in
-    let below = rising w.0 (length xs - 1) (omega (arith, within)) (omega (arith, within)) in
-    (omega (arith, within), omega (arith, above, here), omega (arith, below, here))
+between-ends xs n rising w = search (arith, get_or_default)
 
 -- two lists, one behind the other, where the second gets one more number
 pub more-behind : (xs ys ys' : List ℕ) (n : ℕ) → ((m : ℕ) → Contains ys' m ↔ (Contains ys m ⊎ (m ≡ n)))

@@ -1,3 +1,4 @@
+use Rattle.std.proofs.lemmas.Grind.{common_steps}
 use Rattle.std.proofs.Common.{◌≡◌, ◌≢◌, ℕ, ◌<◌, ◌↔◌, List, [], length, set, Bool, true, false, arith, refl, sym, ap, ◌∙◌, ◌⊎◌, inl, inr}
 use Rattle.std.proofs.lemmas.Bool.{cases_eq}
 use Rattle.std.proofs.lemmas.List.{get_or-set_same, get_or-set_other, length-set}
@@ -5,19 +6,16 @@ use Rattle.std.specs.Prelude.{Option, Some, None, MatchOption, MatchBool, Contai
 use Rattle.sf_insn.specs.Inputs.{IsInput}
 use Rattle.sf_insn.specs.Words.{apply}
 use Rattle.sf_insn.specs.declared.ops.BinOp.{BinOp}
-use Rattle.sf_insn.specs.declared.ops.BinOp.TheVariants.{Add, Sub, Mul, Div, Or, And, Lsh, Rsh, Xor}
-use Rattle.sf_sym.specs.Pool.{IsPool, node_at, node_value, values_of, value_of}
+use Rattle.sf_sym.specs.Pool.{IsPool, node_at, value_of}
 use Rattle.sf_sym.specs.declared.pool.Node.{Node}
-use Rattle.sf_sym.specs.declared.pool.NodeId.{NodeId}
 use Rattle.sf_sym.specs.declared.pool.Node.TheVariants.{Const, Word, Bin, Neg}
-use Rattle.sf_sym.specs.ValueLaws.{value-node, value-constant}
-use Rattle.std.proofs.lemmas.Nat.{or_comm, and_comm, xor_comm}
+use Rattle.sf_sym.specs.ValueLaws.{value-node}
 use Rattle.sf_insn.specs.declared.input.Input.{Input}
 use Rattle.sf_dom.specs.declared.known.Known.{Known}
 use Rattle.sf_dom.specs.Known.{Admits, Leaves, IsNarrower, IsDecided, IsConsistent, IsTight, known_of}
 use Rattle.sf_dom.specs.Propagation.{IsReady, IsPropagatedAt, IsReducedNode, IsLeft, AreTightWords, KeepsTight, AreOthersTight, AddsNumber, AreExcluded, AreBothExcluded, IsAssumed, IsRestricted, IsPropagated, IsSharp, IsMovedPast, Tells, TestGives, AllNarrower, KeepsAgreeing, NoneAgreesWith, KeepsAgreeingOn, NoneAgreesOn, LeavesPair, HasGoneBack, Holds}
 use Rattle.sf_dom.specs.Conditions.{AreLeftAlone}
-use Rattle.sf_dom.specs.Backward.{IsSwappable, IsPropagatedBack}
+use Rattle.sf_dom.specs.Backward.{IsPropagatedBack}
 use Rattle.sf_dom.proofs.Propagations.{AllNarrower-trans, AllNarrower-set, AllNarrower-refl, propagate-set, word-below, operands-below}
 use Rattle.sf_dom.proofs.GuardLemmas.{gives-differs}
 use Rattle.sf_dom.proofs.Reductions.{IsNarrower-trans, IsNarrower-refl}
@@ -32,9 +30,7 @@ use Rattle.sf_dom.specs.Reduction.{IsMeet}
 pub met-left : (ks : List Known) (ex : List (List ℕ)) (ns : List Node) (d : Input) (i : ℕ) (more both : Known)
     → i < length ks → AgreesWith ks ex ns d → Admits more (value_of ns d i) → IsMeet (known_at ks i) more both
     → Leaves both (excluded_of ex (node_at ns i)) (value_of ns d i)
-met-left ks ex ns d i more both l a h m =
-    let here = a i l in
-    record { admitted = m.both (value_of ns d i) here.admitted h; kept = here.kept }
+met-left ks ex ns d i more both l a h m = search arith
 
 pub narrower-at : (ks : List Known) (i : ℕ) (more next : Known) → i < length ks → IsNarrower more next
     → IsNarrower more (known_at (set ks i next) i)
@@ -61,44 +57,14 @@ pub values-left : (ks : List Known) (ex : List (List ℕ)) (ns : List Node) (con
     → LeavesPair (known_at ks cond.node.0) (known_at ks cond.other.0) v' w' (λ x y. TestGives cond.test x y cond.sense)
     → (d : Input) → IsInput d → AgreesWith ks ex ns d → Holds ns cond d → Admits v' (value_of ns d cond.node.0)
     × Admits w' (value_of ns d cond.other.0)
-values-left ks ex ns cond v' w' lv lw pair d p a h =
-    pair (value_of ns d cond.node.0) (value_of ns d cond.other.0) (a cond.node.0 lv).admitted
-    (a cond.other.0 lw).admitted h
-
-pub apply-swap : (op : BinOp) (a b : ℕ) → IsSwappable op → apply op a b ≡ apply op b a
-apply-swap Add a b s = elim s [ ]
-apply-swap Sub a b s = elim s [ ]
-apply-swap Mul a b s = elim s [ ]
-apply-swap Div a b s = elim s [ ]
-apply-swap Or a b s = or_comm a b
-apply-swap And a b s = and_comm a b
-apply-swap Lsh a b s = elim s [ ]
-apply-swap Rsh a b s = elim s [ ]
-apply-swap Xor a b s = xor_comm a b
-
--- the value of a node that has a constant operand
-pub value-right : (ns : List Node) (d : Input) (i : ℕ) (op : BinOp) (a b : NodeId) (c : ℕ) → IsPool ns → i < length ns
-    → b.0 < length ns
-    → node_at ns i ≡ Bin op a b → node_at ns b.0 ≡ Const c → value_of ns d i ≡ apply op (value_of ns d a.0) c
-value-right ns d i op a b c p l lb e k =
-    value-node ns d i p l ∙ ap (node_value d (values_of ns d)) e
-    ∙ ap (apply op (value_of ns d a.0)) (value-constant ns d b.0 c p lb k)
-
-pub value-left : (ns : List Node) (d : Input) (i : ℕ) (op : BinOp) (a b : NodeId) (c : ℕ) → IsPool ns → i < length ns
-    → a.0 < length ns → IsSwappable op
-    → node_at ns i ≡ Bin op a b → node_at ns a.0 ≡ Const c → value_of ns d i ≡ apply op (value_of ns d b.0) c
-value-left ns d i op a b c p l la s e k =
-    value-node ns d i p l ∙ ap (node_value d (values_of ns d)) e
-    ∙ apply-swap op (value_of ns d a.0) (value_of ns d b.0) s
-    ∙ ap (apply op (value_of ns d b.0)) (value-constant ns d a.0 c p la k)
+values-left ks ex ns cond v' w' lv lw pair d p a h = search arith
 
 -- the operand of a node with more bits known
 pub walked : (ks : List Known) (ex : List (List ℕ)) (ns : List Node) (d : Input) (i x c : ℕ) (op : BinOp)
     (node gained : Known) → x < length ks → AgreesWith ks ex ns d → value_of ns d i ≡ apply op (value_of ns d x) c
     → ((n : ℕ) → Admits (known_at ks x) n → Admits node (apply op n c) → Admits gained n)
     → Admits node (value_of ns d i) → Leaves gained (excluded_of ex (node_at ns x)) (value_of ns d x)
-walked ks ex ns d i x c op node gained lx a e g admitted =
-    record { admitted = g (value_of ns d x) (a x lx).admitted (rw e at admitted); kept = (a x lx).kept }
+walked ks ex ns d i x c op node gained lx a e g admitted = search arith
 
 -- one more number in the list of a word
 pub added-at : (ex : List (List ℕ)) (w : ℕ) (xs : List ℕ) (number : ℕ) → w < length ex
@@ -158,8 +124,7 @@ exclude-keeps ks ex ex' ns d v w p len lv lw h ne adm a j lj =
       kept = kept-still ex ex' (node_at ns v) (node_at ns j) (known_at ks w) (value_of ns d j) h
           (word-below j (node_at ns j) (operands-below ns j p (omega arith)))
           (λ i e f dec same.
-          let here : value_of ns d j ≡ value_of ns d v = value-node ns d j p (omega arith)
-          ∙ ap (node_value d (values_of ns d)) (e ∙ sym f) ∙ sym (value-node ns d v p (omega arith)) in
+          let here : value_of ns d j ≡ value_of ns d v = search (arith, value-node) in
           ne (sym here ∙ same ∙ sym (decided-value (known_at ks w) (value_of ns d w) adm dec)))
           (a j lj).kept;
     }
@@ -186,15 +151,11 @@ both-excluded ks ex mid ex' ns cond p len lv lw h k et es = record {
     ]
   ];
   added_other = λ i e dec et2 es2. k.added i e dec;
-  added = λ i e dec et2 es2. k.more i _ (word-below cond.node.0 (node_at ns cond.node.0)
-      (operands-below ns cond.node.0 p (omega arith)) i e) (h.added i e dec);
+  added = search (arith, word-below, operands-below);
 }
 
 moved-on : (other old a c : Known) → IsNarrower a c → IsMovedPast other old a → IsMovedPast other old c
-moved-on other old a c n m = record {
-  low = λ d s. omega (arith, n.low, m.low d s);
-  high = λ d s. omega (arith, n.high, m.high d s);
-}
+moved-on other old a c n m = grind (arith, common_steps)
 
 -- what a test says of two words is known where more is known of them
 pub tells-narrower : (test : Test) (sense : Bool) (v w a b c e : Known) → IsNarrower a c → IsNarrower b e
@@ -226,8 +187,7 @@ left-alone ks ex ns cond v' w' node other lv lw pair tells sharp decided one two
       ((one.kept d p a q.0).admitted, (two.kept d p a q.1).admitted);
   narrower = one.narrower;
   consistent = one.consistent;
-  tells = tells-narrower cond.test cond.sense (known_at ks cond.node.0) (known_at ks cond.other.0) v' w' node other
-      one.told two.told tells;
+  tells = search (arith, tells-narrower);
   sharp = λ d s x h. sharp d s x (narrower-admits v' node x one.told h);
   decided = λ s d1 d2 x h. decided s d1 d2 x (narrower-admits v' node x one.told h);
 }
@@ -247,9 +207,7 @@ alone-set ks ex ns cond node other l h = (
 -- what is known of the first node leaves the other words as tight as they are
 pub others-set : (ks : List Known) (ex : List (List ℕ)) (ns : List Node) (cond : Cond) (node : Known) → IsPool ns
     → AreOthersTight ks ex ns cond → AreOthersTight (set ks cond.node.0 node) ex ns cond
-others-set ks ex ns cond node p h w l one two =
-    let apart : w ≢ cond.node.0 = λ e. one (ap (node_at ns) (sym e) ∙ p.word w l) in
-    rw (get_or-set_other ks cond.node.0 w node (known_of 0 0 0 0) apart) (h w l one two)
+others-set ks ex ns cond node p h w l one two = search (arith, get_or-set_other)
 
 -- a node is a word, or it isn't
 pub is-word : (n : Node) (w : ℕ) → (n ≡ Word w) ⊎ (n ≢ Word w)
@@ -305,14 +263,7 @@ steps-keep o a b c e ex ns cond v' w' s d p agrees h =
 assume-steps : (o a b c e : List Known) (ex : List (List ℕ)) (ns : List Node) (cond : Cond) (v' w' : Known)
     → AreSteps o a b c e ex ns cond v' w' → (n : List Known) → AllNarrower b n
     → AllNarrower o n × IsNarrower v' (known_at n cond.node.0) × IsNarrower w' (known_at n cond.other.0)
-assume-steps o a b c e ex ns cond v' w' s n bn =
-    let an = AllNarrower-trans a b n (omega (arith, s.node_set, s.other_met)) s.meets_other.1 bn in (
-      AllNarrower-trans o a n (omega (arith, s.first, s.node_set)) s.sets_node.1 an,
-      IsNarrower-trans v' (known_at a cond.node.0) (known_at n cond.node.0) s.sets_node.2
-          (an cond.node.0 (omega (arith, s.node, s.node_set))),
-      IsNarrower-trans w' (known_at b cond.other.0) (known_at n cond.other.0) s.meets_other.2
-          (bn cond.other.0 (omega (arith, s.other, s.other_met))),
-    )
+assume-steps o a b c e ex ns cond v' w' s n bn = search arith
 
 pub assumed-all : (r : Bool) (o a b c e n : List Known) (ex : List (List ℕ)) (ns : List Node)
     (cond : Cond) (v' w' : Known) → AreSteps o a b c e ex ns cond v' w'
@@ -338,8 +289,7 @@ assumed-all true o a b c e n ex ns cond v' w' s tells b1 b2 sharp decided propag
       between = m;
       count = lm;
       before = step.0;
-      tells = tells-narrower cond.test cond.sense (known_at o cond.node.0) (known_at o cond.other.0) v' w'
-          (known_at m cond.node.0) (known_at m cond.other.0) step.1 step.2 tells;
+      tells = search (arith, tells-narrower);
       walked = walks;
       after = mn;
     } in
@@ -348,8 +298,7 @@ assumed-all true o a b c e n ex ns cond v' w' s tells b1 b2 sharp decided propag
       keeps = λ d p agrees h. propagate.keeps d p (steps-keep o a b c e ex ns cond v' w' s d p agrees h);
       narrower = k.0;
       passed = propagate.passed;
-      tells = tells-narrower cond.test cond.sense (known_at o cond.node.0) (known_at o cond.other.0) v' w'
-          (known_at n cond.node.0) (known_at n cond.other.0) k.1 k.2 tells;
+      tells = search (arith, tells-narrower);
       back_node = back cond.node.0 c s.node_back bc cn b1;
       back_other = back cond.other.0 e s.other_back (AllNarrower-trans b c e counts bc ce) propagate.narrower b2;
       sharp = λ d s x h. sharp d s x (narrower-admits v' (known_at n cond.node.0) x k.1 h);
@@ -361,41 +310,14 @@ assumed-all false o a b c e n ex ns cond v' w' s tells b1 b2 sharp decided none 
 -- what holds of each node where facts are ready and as tight as they get
 pub already-passed : (o : List Known) (ex : List (List ℕ)) (ns : List Node) → IsReady o ns → KnowDecided o ns
     → AreTightWords o ex → (i : ℕ) → i < length ns → IsPropagatedAt o ex ns i
-already-passed o ex ns ready decided tight i l =
-    let count = ready.count in
-    record {
-      consistent = ready.consistent i (omega arith);
-      tight = λ small. tight i small;
-      decided = decided i (omega arith);
-      constant = λ c e. ready.constants i c (omega arith) e;
-    }
+already-passed o ex ns ready decided tight i l = search arith
 
 -- a condition that changes nothing is taken in
 pub assumed-nothing : (o : List Known) (ex : List (List ℕ)) (ns : List Node) (cond : Cond) → IsReady o ns
     → KnowDecided o ns → AreLeftAlone o ex ns cond (known_at o cond.node.0) (known_at o cond.other.0)
     → ((m : ℕ) → IsPropagatedBack m o ns cond.node.0) → ((m : ℕ) → IsPropagatedBack m o ns cond.other.0)
     → AreTightWords o ex → IsAssumed o o ex ns cond
-assumed-nothing o ex ns cond ready decided left b1 b2 tight =
-    let back : (at : ℕ) → ((m : ℕ) → IsPropagatedBack m o ns at) → HasGoneBack o o ns cond at
-    = λ at walks. record {
-      between = o;
-      count = ready.count;
-      before = AllNarrower-refl o;
-      tells = left.tells;
-      walked = walks;
-      after = AllNarrower-refl o;
-    } in
-    record {
-      count = ready.count;
-      keeps = λ d p a h. a;
-      narrower = AllNarrower-refl o;
-      passed = already-passed o ex ns ready decided tight;
-      tells = left.tells;
-      back_node = back cond.node.0 b1;
-      back_other = back cond.other.0 b2;
-      sharp = left.sharp;
-      decided = left.decided;
-    }
+assumed-nothing o ex ns cond ready decided left b1 b2 tight = search (arith, walked, already-passed)
 
 -- what is left of a word is known of it
 pub left-set : (o : List Known) (ex : List (List ℕ)) (ns : List Node) (w : ℕ) (more next : Known) → w < length o

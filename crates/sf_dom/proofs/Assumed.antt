@@ -1,5 +1,5 @@
 -- What a condition that is taken in leaves, and what else is known of a word.
-use Rattle.std.proofs.Common.{◌≡◌, ℕ, ◌<◌, ◌^◌, length, List, Bool, true, false, Result, Ok, Err, arith, subst}
+use Rattle.std.proofs.Common.{◌≡◌, ℕ, ◌<◌, ◌^◌, length, List, Bool, true, false, Result, Ok, Err, arith}
 use Rattle.std.specs.Prelude.{slice_index, IfOk, MatchBool}
 use Rattle.sf_sym.specs.Pool.{IsPool, IsCondBelow}
 use Rattle.sf_sym.specs.ValueLaws.{met-passes, passes-met}
@@ -7,7 +7,7 @@ use Rattle.sf_sym.specs.declared.pool.Cond.{Cond}
 use Rattle.sf_sym.specs.declared.pool.Node.{Node}
 use Rattle.sf_dom.specs.declared.known.Known.{Known}
 use Rattle.sf_dom.specs.Known.{Admits}
-use Rattle.sf_dom.specs.Facts.{FactsView, known_at, Agrees, Covers, KeepsOnly, NoInput, HasIn, ConfinesWord, IsPlainCondition}
+use Rattle.sf_dom.specs.Facts.{FactsView, Agrees, Covers, KeepsOnly, NoInput, HasIn, ConfinesWord, IsPlainCondition}
 use Rattle.sf_dom.specs.FactsLaws.{narrower-admits, some-such}
 use Rattle.sf_dom.specs.Conditions.{AreLeftAlone}
 use Rattle.sf_dom.specs.Propagation.{AreTightWords, AreOthersTight, AreBothExcluded, IsLearnt, IsRestricted, Meets, Learns}
@@ -16,18 +16,7 @@ use Rattle.sf_dom.proofs.Sampled.{propagate-facts, agrees-back, agrees-with-fewe
 -- the words that are no nodes of a condition are as tight as they were, since it excludes no number for them
 pub others-tight : (ks : List Known) (ex ex' : List (List ℕ)) (ns : List Node) (cond : Cond) → AreTightWords ks ex
     → AreBothExcluded ks ex ex' ns cond → AreOthersTight ks ex' ns cond
-others-tight ks ex ex' ns cond tight both w l one two =
-    let h = tight w l in
-    record {
-      low = record {
-        admitted = h.low.admitted;
-        kept = λ k. h.low.kept (both.others w (known_at ks w).low l one two k);
-      };
-      high = record {
-        admitted = h.high.admitted;
-        kept = λ k. h.high.kept (both.others w (known_at ks w).high l one two k);
-      };
-    }
+others-tight ks ex ex' ns cond tight both w l one two = search arith
 
 -- what a condition leaves of its nodes it leaves where more numbers are excluded
 pub alone-with-more : (ks : List Known) (ex ex' : List (List ℕ)) (ns : List Node) (cond : Cond) (node other : Known)
@@ -68,14 +57,7 @@ assumed-learns old new ex ex' ns cond h below t =
           t.consistent.keeps d i (t.both.keeps d i a holds) holds;
       only = only;
       some = λ plain. some-such before facts ns (Meets ns cond) covers (only plain);
-      told = record {
-        tells = t.consistent.tells;
-        back_node = t.consistent.back_node;
-        back_other = t.consistent.back_other;
-        sharp = t.consistent.sharp;
-        excluded = t.both.added;
-        excluded_other = t.both.added_other;
-      };
+      told = search arith;
       decided = decides-test old new ex' ns cond consistent below.0 count t.consistent;
     }
 
@@ -101,8 +83,7 @@ restricted-word old new ex ns w more h l n =
       keeps = n.keeps;
       only = only;
       some = some-such before facts ns (HasIn w (Admits more)) covers only;
-      numbers = λ v m b f a e. narrower-admits more (known_at new w) m n.word
-          (subst (λ (i : ℕ). Admits (known_at new i) m) e a);
+      numbers = search (arith, narrower-admits);
     }
 
 -- Facts that are confined by one property of a word's numbers are confined by another one that is true of the same

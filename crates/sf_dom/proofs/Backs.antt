@@ -9,7 +9,8 @@ use Rattle.sf_sym.specs.declared.pool.Node.{Node}
 use Rattle.sf_dom.specs.declared.known.Known.{Known}
 use Rattle.sf_dom.specs.Known.{IsNarrower, known_of}
 use Rattle.sf_dom.specs.Facts.{known_at}
-use Rattle.sf_dom.specs.Backward.{IsSwappable, constant_operand_of, HandsOn, IsPropagatedBack, Carries}
+use Rattle.sf_sym.specs.Operands.{IsSwappable, constant_operand_of}
+use Rattle.sf_dom.specs.Backward.{HandsOn, IsPropagatedBack, Carries}
 use Rattle.sf_dom.proofs.Reductions.{IsNarrower-refl}
 
 -- more is known of the operand

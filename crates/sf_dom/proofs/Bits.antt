@@ -1,3 +1,4 @@
+use Rattle.std.proofs.lemmas.Grind.{common_steps}
 use Rattle.std.proofs.Common.{◌≡◌, ℕ, ◌<◌, ◌≤◌, ◌^◌, ◌-◌, ◌+◌, ◌*◌, ◌/◌, ◌%◌, min, max, arith, sym, ap, ◌∙◌, inl, inr}
 use Rattle.std.proofs.lemmas.Bool.{cases_lt}
 use Rattle.std.specs.Prelude.{bit_and, bit_or, bit_xor}
@@ -58,69 +59,32 @@ back_xor_one x c k z o lx lc l h m = omega arith
 -- both operands' known bits
 pub and-bits : (a b za oa zb ob : ℕ) → HasBits a za oa → HasBits b zb ob
     → HasBits (bit_and a b) (bit_or za zb) (bit_and oa ob)
-and-bits a b za oa zb ob ha hb = record {
-  zero = λ i. rw (bit_at_and a b i, bit_at_or za zb i) (and_zero _ _ _ _ (ha.zero i) (hb.zero i));
-  one = λ i. rw (bit_at_and a b i, bit_at_and oa ob i) (and_one _ _ _ _ (ha.one i) (hb.one i));
-}
+and-bits a b za oa zb ob ha hb = grind (arith, common_steps, bit_at_and, bit_at_or, and_zero, and_one)
 
 pub or-bits : (a b za oa zb ob : ℕ) → HasBits a za oa → HasBits b zb ob
     → HasBits (bit_or a b) (bit_and za zb) (bit_or oa ob)
-or-bits a b za oa zb ob ha hb = record {
-  zero = λ i. rw (bit_at_or a b i, bit_at_and za zb i)
-      (or_zero _ _ _ _ (bit_at-lt a i) (bit_at-lt b i) (ha.zero i) (hb.zero i));
-  one = λ i. rw (bit_at_or a b i, bit_at_or oa ob i) (or_one _ _ _ _ (ha.one i) (hb.one i));
-}
+or-bits a b za oa zb ob ha hb = search (arith, bit_at_or, bit_at_and, or_zero, bit_at-lt, or_one)
 
 pub xor-bits : (a b za oa zb ob : ℕ) → HasBits a za oa → HasBits b zb ob
     → HasBits (bit_xor a b) (bit_or (bit_and za zb) (bit_and oa ob)) (bit_or (bit_and za ob) (bit_and oa zb))
-xor-bits a b za oa zb ob ha hb = record {
-  zero = λ i. rw (bit_at_xor a b i, bit_at_or (bit_and za zb) (bit_and oa ob) i, bit_at_and za zb i, bit_at_and oa ob i)
-      (xor_zero _ _ _ _ _ _ (bit_at-lt a i) (bit_at-lt b i) (ha.zero i) (ha.one i) (hb.zero i) (hb.one i));
-  one = λ i. rw (bit_at_xor a b i, bit_at_or (bit_and za ob) (bit_and oa zb) i, bit_at_and za ob i, bit_at_and oa zb i)
-      (xor_one _ _ _ _ _ _ (bit_at-lt a i) (bit_at-lt b i) (ha.zero i) (ha.one i) (hb.zero i) (hb.one i));
-}
+xor-bits a b za oa zb ob ha hb = search (arith, bit_at_xor, bit_at_or, bit_at_and, xor_zero, bit_at-lt, xor_one)
 
 -- known bits of both kinds of knowledge
 pub join-bits : (n z o y p : ℕ) → HasBits n z o → HasBits n y p → HasBits n (bit_or z y) (bit_or o p)
-join-bits n z o y p h k = record {
-  zero = λ i. rw (bit_at_or z y i) (join_zero _ _ _ (h.zero i) (k.zero i));
-  one = λ i. rw (bit_at_or o p i) (join_one _ _ _ (h.one i) (k.one i));
-}
+join-bits n z o y p h k = grind (arith, common_steps, bit_at_or, join_zero, join_one)
 
 -- back through an operation with a constant
 pub backward-and : (x c z o : ℕ) → HasBits (bit_and x c) z o → HasBits x (bit_and z c) o
-backward-and x c z o h = record {
-  zero = λ i. rw (bit_at_and z c i) (back_and_zero _ _ _ (bit_at-lt x i) (bit_at-lt c i)
-      (rw (bit_at_and x c i) at (h.zero i)));
-  one = λ i. back_and_one _ _ _ (rw (bit_at_and x c i) at (h.one i));
-}
+backward-and x c z o h = grind (arith, common_steps, bit_at_and, back_and_zero, bit_at-lt, back_and_one)
 
 pub backward-or : (x c z o : ℕ) → c < 2 ^ 32 → HasBits (bit_or x c) z o → HasBits x z (bit_and o (4294967295 - c))
-backward-or x c z o l h = record {
-  zero = λ i. back_or_zero _ _ _ (rw (bit_at_or x c i) at (h.zero i));
-  one = λ i. rw (bit_at_and o (4294967295 - c) i)
-      (back_or_one _ _ _ _ (bit_at-complement c i l) (rw (bit_at_or x c i) at (h.one i)));
-}
+backward-or x c z o l h =
+    grind (arith, common_steps, back_or_zero, bit_at_or, bit_at_and, back_or_one, bit_at-complement)
 
 pub backward-xor : (x c z o : ℕ) → c < 2 ^ 32 → HasBits (bit_xor x c) z o
     → HasBits x (bit_or (bit_and z (4294967295 - c)) (bit_and o c)) (bit_or (bit_and o (4294967295 - c)) (bit_and z c))
 backward-xor x c z o l h =
-    let zx : (i : ℕ) → bit_at z i + (bit_at x i + bit_at c i) % 2 ≤ 1 = λ i. rw (bit_at_xor x c i) at (h.zero i) in
-    let ox : (i : ℕ) → bit_at o i ≤ (bit_at x i + bit_at c i) % 2 = λ i. rw (bit_at_xor x c i) at (h.one i) in
-    record {
-      zero = λ i. rw (
-        bit_at_or (bit_and z (4294967295 - c)) (bit_and o c) i,
-        bit_at_and z (4294967295 - c) i,
-        bit_at_and o c i,
-      )
-          (back_xor_zero _ _ _ _ _ (bit_at-lt x i) (bit_at-lt c i) (bit_at-complement c i l) (zx i) (ox i));
-      one = λ i. rw (
-        bit_at_or (bit_and o (4294967295 - c)) (bit_and z c) i,
-        bit_at_and o (4294967295 - c) i,
-        bit_at_and z c i,
-      )
-          (back_xor_one _ _ _ _ _ (bit_at-lt x i) (bit_at-lt c i) (bit_at-complement c i l) (zx i) (ox i));
-    }
+    search (arith, bit_at_xor, bit_at_or, bit_at_and, back_xor_zero, bit_at-lt, bit_at-complement, back_xor_one)
 
 -- the known ones are at most the number
 pub ones-le : (n z o : ℕ) → HasBits n z o → o ≤ n
@@ -187,25 +151,8 @@ shl-bits a za oa s h =
     let past : (n i : ℕ) → 32 ≤ i → bit_at (n * 2 ^ s % 2 ^ 32) i ≡ 0 =
     λ n i l. bit_at_above (n * 2 ^ s % 2 ^ 32) 32 i (omega arith) l in
     record {
-      zero = λ i. elim (cases_lt i 32) [
-        | inl l ↦ elim (cases_lt i s) [
-          | inl m ↦ rw (low a i l m) (zero_right _ (bit_at-lt _ i))
-          | inr m ↦ rw (
-            bit_at_or (za * 2 ^ s % 2 ^ 32) (2 ^ s - 1) i,
-            high a i l m,
-            high za i l m,
-            bit_at_ones_above s i m,
-          ) (max_zero _ _ (h.zero (i - s)))
-        ]
-        | inr l ↦ rw (past a i l) (zero_right _ (bit_at-lt _ i))
-      ];
-      one = λ i. elim (cases_lt i 32) [
-        | inl l ↦ elim (cases_lt i s) [
-          | inl m ↦ rw (low oa i l m) (omega arith)
-          | inr m ↦ rw (high a i l m, high oa i l m) (h.one (i - s))
-        ]
-        | inr l ↦ rw (past oa i l) (omega arith)
-      ];
+      zero = search (arith, cases_lt, bit_at-lt, bit_at_or, bit_at_ones_above);
+      one = search (arith, cases_lt);
     }
   where
     zero_right : (b : ℕ) → b < 2 → b + 0 ≤ 1

@@ -1,13 +1,13 @@
-use Rattle.std.proofs.Common.{◌≢◌, ℕ, ◌<◌, ◌≤◌, arith, sym, ◌∙◌, inl, inr}
-use Rattle.std.proofs.lemmas.Bool.{cases_lt, false≢true}
-use Rattle.std.proofs.lemmas.Bool.Decides.{Decides-ltb, nat_tests}
+use Rattle.std.proofs.lemmas.Grind.{common_steps}
+use Rattle.std.proofs.Common.{◌≢◌, ℕ, ◌<◌, ◌≤◌, arith}
+use Rattle.std.proofs.lemmas.Bool.{cases_lt}
+use Rattle.std.proofs.lemmas.Bool.Decides.{nat_tests}
 use Rattle.std.specs.Prelude.{true, false}
 use Rattle.sf_insn.specs.declared.ops.Test.TheVariants.{Equal, Greater, GreaterOrEqual}
 use Rattle.sf_dom.specs.Propagation.{TestGives}
 
 pub gives-not_greater : (x y : ℕ) → TestGives Greater x y false → x ≤ y
-gives-not_greater x y h =
-    elim (cases_lt y x) [ inl l ↦ absurd (false≢true (sym h ∙ (Decides-ltb y x).1 l)) | inr l ↦ l ]
+gives-not_greater x y h = grind (arith, common_steps, cases_lt)
 
 pub gives-at_least : (x y : ℕ) → TestGives GreaterOrEqual x y true → y ≤ x
 gives-at_least x y h = grind (arith, nat_tests)

@@ -1,4 +1,5 @@
-use Rattle.std.proofs.Common.{◌≡◌, ◌≢◌, ℕ, Bool, true, false, ◌<◌, ◌≤◌, ◌-◌, ◌+◌, min, max, List, [], ◌∷◌, ◌++◌, length, set, arith, sym, ap, ◌∙◌, ◌⊎◌, inl, inr}
+use Rattle.std.proofs.lemmas.Grind.{common_steps}
+use Rattle.std.proofs.Common.{◌≡◌, ◌≢◌, ℕ, Bool, true, false, ◌<◌, ◌≤◌, ◌-◌, ◌+◌, min, max, List, [], ◌∷◌, ◌++◌, length, set, arith, sym, ap, ◌⊎◌, inl, inr}
 use Rattle.std.proofs.lemmas.Bool.{cases_lt, cases_eq}
 use Rattle.std.proofs.lemmas.Nat.{or_comm}
 use Rattle.std.proofs.lemmas.List.{get_or-set_same, get_or-set_other, length-set, get_or_append_left, get_or_push, length_push}
@@ -12,7 +13,7 @@ use Rattle.sf_dom.specs.Known.{Admits, Leaves, IsNarrower, IsConsistent, IsTight
 use Rattle.sf_dom.proofs.Reductions.{narrowed}
 use Rattle.sf_dom.specs.Nodes.{NodesView, IsLaidOut}
 use Rattle.sf_dom.specs.Propagation.{AreConsistentOperands, IsReducedNode, IsReady, IsPropagated, IsPropagatedAt, AllNarrower, AreTightWords, KeepsAgreeing, KeepsTight, NoneAgreesWith}
-use Rattle.sf_dom.proofs.Reductions.{IsNarrower-trans, IsNarrower-refl}
+use Rattle.sf_dom.proofs.Reductions.{IsNarrower-refl}
 use Rattle.sf_sym.specs.Pool.{OperandsBelow}
 use Rattle.sf_sym.specs.declared.pool.Node.TheVariants.{Const, Word, Bin, Neg}
 use Rattle.sf_sym.specs.ValueLaws.{OperandsBelow-at}
@@ -27,12 +28,7 @@ meet-is a b low high el eh = record {
   left = narrowed a low high b.zeros b.ones (omega arith) (omega arith);
   right = rw (or_comm a.zeros b.zeros, or_comm a.ones b.ones)
       (narrowed b low high a.zeros a.ones (omega arith) (omega arith));
-  both = λ n p q. let x = p.above in let y = p.below in let z = q.above in let w = q.below in
-      record {
-        above = omega arith;
-        below = omega arith;
-        bits = join-bits n a.zeros a.ones b.zeros b.ones p.bits q.bits;
-      };
+  both = search (arith, join-bits);
 }
 
 -- the value of a node is left by what was known of it and by its transfer function
@@ -41,22 +37,12 @@ pub propagate-left : (ks : List Known) (ex : List (List ℕ)) (ns : List Node) (
     → Admits by_rule (node_value d (values_of ns d) (node_at ns i))
     → IsMeet (known_at ks i) by_rule met
     → Leaves met (excluded_of ex (node_at ns i)) (value_of ns d i)
-propagate-left ks ex ns d i by_rule met p len l a r m =
-    let here = a i l in
-    let e = value-node ns d i p (omega arith) in
-    record {
-      admitted = m.both (value_of ns d i) here.admitted (rw e r);
-      kept = here.kept;
-    }
+propagate-left ks ex ns d i by_rule met p len l a r m = search (arith, value-node)
 
 pub propagate-set : (ks : List Known) (ex : List (List ℕ)) (ns : List Node) (d : Input) (i : ℕ) (next : Known)
     → i < length ks → AgreesWith ks ex ns d → Leaves next (excluded_of ex (node_at ns i)) (value_of ns d i)
     → AgreesWith (set ks i next) ex ns d
-propagate-set ks ex ns d i next l a h j lj =
-    elim (cases_eq j i) [
-      | inl e ↦ rw (e, get_or-set_same ks i next (known_of 0 0 0 0) l) h
-      | inr ne ↦ rw (get_or-set_other ks i j next (known_of 0 0 0 0) ne) (a j (omega (arith, length-set ks i next)))
-    ]
+propagate-set ks ex ns d i next l a h j lj = search (arith, cases_eq, get_or-set_same, get_or-set_other, length-set)
 
 -- operands are older
 pub operands-below : (ns : List Node) (i : ℕ) → IsPool ns → i < length ns → OperandsBelow i (node_at ns i)
@@ -89,28 +75,12 @@ consistent-operands ks k (Neg a) o h = h a.0 o
 -- what was propagated stays so where nothing up to it is changed
 pub IsPropagatedAt-same : (ks js : List Known) (ex : List (List ℕ)) (ns : List Node) (k : ℕ) → IsPool ns → k < length ns
     → ((j : ℕ) → j ≤ k → known_at ks j ≡ known_at js j) → IsPropagatedAt ks ex ns k → IsPropagatedAt js ex ns k
-IsPropagatedAt-same ks js ex ns k p l e h =
-    let here : known_at ks k ≡ known_at js k = e k (omega arith) in
-    let lower = operands-below ns k p l in
-    record {
-      consistent = rw here at h.consistent;
-      tight = λ b. rw here at (h.tight b);
-      decided = λ o.
-          rw here at (h.decided (AreDecidedOperands-same js ks k (node_at ns k) lower
-          (λ j b. sym (e j (omega arith))) o));
-      constant = λ c n. rw here at (h.constant c n);
-    }
+IsPropagatedAt-same ks js ex ns k p l e h = search (arith, operands-below)
 
 pub forced-decided : (r met next : Known) (ex : List (List ℕ)) (n : Node) → IsNarrower r met
     → IsReducedNode met next ex n
     → IsForced r → IsDecided next
-forced-decided r met next ex n h t f =
-    let a = h.low in let b = h.high in let c = bits-le r.zeros met.zeros h.zeros in
-    let d = bits-le r.ones met.ones h.ones in
-    let a2 = t.narrower.low in let b2 = t.narrower.high in
-    let c2 = bits-le met.zeros next.zeros t.narrower.zeros in let d2 = bits-le met.ones next.ones t.narrower.ones in
-    let o = t.consistent.ordered in let ol = t.ones_low in let hz = t.high_zeros in
-    elim f [ inl l ↦ omega arith | inr l ↦ omega arith ]
+forced-decided r met next ex n h t f = grind (arith, common_steps, bits-le)
 
 -- a node that forward propagation has just gone through
 pub IsPropagatedAt-new : (ks : List Known) (ex : List (List ℕ)) (ns : List Node) (i : ℕ)
@@ -123,12 +93,7 @@ IsPropagatedAt-new ks ex ns i r met next p e forced constant h t = record {
   consistent = rw e t.consistent;
   tight = λ b. rw e (t.tight i (p.word i b));
   decided = λ o. rw e (forced-decided r met next ex (node_at ns i) h t (forced o));
-  constant = λ c n.
-      let k = constant c n in
-      let a = h.low in let b = h.high in
-      let a2 = t.narrower.low in let b2 = t.narrower.high in
-      let o = t.consistent.ordered in
-      rw e (omega arith, omega arith);
+  constant = search arith;
 }
 
 -- one step of forward propagation
@@ -154,19 +119,13 @@ passed-set ks ex ns i r met next p len l older forced constant h t k lk =
 
 pub AllNarrower-set : (old ks : List Known) (i : ℕ) (next : Known) → length old ≡ length ks → i < length ks
     → AllNarrower old ks → IsNarrower (known_at ks i) next → AllNarrower old (set ks i next)
-AllNarrower-set old ks i next len l h n j b =
-    elim (cases_eq j i) [
-      | inl e ↦ rw (e, get_or-set_same ks i next (known_of 0 0 0 0) l)
-          (IsNarrower-trans (known_at old i) (known_at ks i) next (h i (omega arith)) n)
-      | inr ne ↦ rw (get_or-set_other ks i j next (known_of 0 0 0 0) ne) (h j b)
-    ]
+AllNarrower-set old ks i next len l h n j b = search (arith, cases_eq, get_or-set_same, get_or-set_other)
 
 pub AllNarrower-refl : (ks : List Known) → AllNarrower ks ks
 AllNarrower-refl ks i l = IsNarrower-refl (known_at ks i)
 
 pub AllNarrower-trans : (a b c : List Known) → length a ≡ length b → AllNarrower a b → AllNarrower b c → AllNarrower a c
-AllNarrower-trans a b c len h k i l = IsNarrower-trans (known_at a i) (known_at b i) (known_at c i) (h i l)
-    (k i (omega arith))
+AllNarrower-trans a b c len h k i l = search arith
 
 -- a new node at the end
 pub passed-push : (ks : List Known) (ex : List (List ℕ)) (ns : List Node) (from i : ℕ) (r next : Known) → IsPool ns
@@ -199,8 +158,7 @@ kept-node ks ex ns d (Neg x) v p o e h a w = absurd (omega (arith, w.1))
 kept-node ks ex ns d (Word i) v p o e (inl l) a w =
     let words = p.words in
     let here : node_at ns i ≡ Word i = p.word i o in
-    let value : value_of ns d i ≡ v = value-node ns d i p (omega arith)
-    ∙ ap (node_value d (values_of ns d)) here ∙ sym e in
+    let value : value_of ns d i ≡ v = search (arith, value-node) in
     (rw (here, value) at (a i (omega arith)).kept) w
 kept-node ks ex ns d (Word i) v p o e (inr none) a w = let z = (rw (none i) at w) in absurd (omega (arith, z.1))
 
@@ -222,12 +180,7 @@ grown-left ks ex ns d i r p l h a adm =
 pub agrees-push : (ks : List Known) (ex : List (List ℕ)) (ns : List Node) (d : Input) (i : ℕ) (next : Known)
     → length ks ≡ i → AgreesWith ks ex ns d
     → Leaves next (excluded_of ex (node_at ns i)) (value_of ns d i) → AgreesWith (ks ++ next ∷ []) ex ns d
-agrees-push ks ex ns d i next len a h j lj =
-    elim (cases_lt j (length ks)) [
-      | inl b ↦ rw (get_or_append_left ks (next ∷ []) (known_of 0 0 0 0) j b) (a j b)
-      | inr g ↦ (let e : j ≡ i = omega (arith, length_push ks next) in
-          rw (e, get_or_push ks next (known_of 0 0 0 0) i len) h)
-    ]
+agrees-push ks ex ns d i next len a h j lj = search (arith, cases_lt, get_or_append_left, length_push, get_or_push)
 
 -- the condition under which new nodes are taken in goes on to hold
 pub still-none : (old ks : List Known) (ex : List (List ℕ)) → length old ≤ length ks
@@ -239,35 +192,17 @@ still-none old ks ex l (inr n) = inr n
 pub unlisted-passed : (n : NodesView) (ex : List (List ℕ)) (ns : List Node) (k : ℕ) → IsReady n.known ns → IsLaidOut n
     → k < length n.known
     → ((j : ℕ) → j < length n.variables → slice_index n.variables j ≢ k) → IsPropagatedAt n.known ex ns k
-unlisted-passed n ex ns k ready laid l none = elim (laid.rest k l) [
-  | inl o ↦ absurd (none o.0 o.1 o.2)
-  | inr o ↦ (let past = o.0 in record {
-    consistent = ready.consistent k l;
-    tight = λ b. absurd (omega arith);
-    decided = λ d. o.1;
-    constant = λ c e. ready.constants k c l e;
-  })
-]
+unlisted-passed n ex ns k ready laid l none = search arith
 
 -- a variable stands before all later ones
 pub variable-before : (n : NodesView) (r j k : ℕ) → IsLaidOut n → r ≤ j → j < length n.variables
     → k < slice_index n.variables r → k < slice_index n.variables j
-variable-before n r j k laid b l h = elim (cases_eq j r) [
-  | inl e ↦ rw e h
-  | inr ne ↦ omega (arith, laid.rising r j (omega arith) l)
-]
+variable-before n r j k laid b l h = search (arith, cases_eq)
 
 -- a word whose ends are left for it needs no step of forward propagation
 pub tight-passed : (ks : List Known) (ex : List (List ℕ)) (ns : List Node) (i : ℕ) → IsPool ns → i < 16
     → IsConsistent (known_at ks i) → IsTight (known_at ks i) (numbers_at ex i) → IsPropagatedAt ks ex ns i
-tight-passed ks ex ns i p l consistent tight =
-    let here = p.word i l in
-    record {
-      consistent = consistent;
-      tight = λ b. tight;
-      decided = λ o. absurd (rw here at o);
-      constant = λ c n. let clash : Const c ≡ Word i = sym n ∙ here in absurd cc;
-    }
+tight-passed ks ex ns i p l consistent tight = search arith
 
 -- the first variables are the words
 pub words-first : (n : NodesView) (m j : ℕ) → IsLaidOut n → 16 ≤ length n.known → m ≤ 16 → j < m
@@ -292,15 +227,7 @@ pub words-passed : (n : NodesView) (ex : List (List ℕ)) (ns : List Node) → I
     → AreTightWords n.known ex → (k : ℕ) → k < length n.known
     → ((j : ℕ) → 16 ≤ j → j < length n.variables → k < slice_index n.variables j) → IsPropagatedAt n.known ex ns k
 words-passed n ex ns p ready laid tight k l before =
-    let words = p.words in
-    let count = ready.count in
-    elim (cases_lt k 16) [
-      | inl b ↦ tight-passed n.known ex ns k p b (ready.consistent k l) (tight k b)
-      | inr g ↦ unlisted-passed n ex ns k ready laid l (λ j lj e. elim (cases_lt j 16) [
-        | inl s ↦ absurd (omega (arith, words-first n 16 j laid (omega arith) (omega arith) s lj, e))
-        | inr t ↦ absurd (omega (arith, before j (omega arith) lj, e))
-      ])
-    ]
+    search (arith, cases_lt, tight-passed, unlisted-passed, words-first)
 
 -- a reduced node leaves the words as tight as they are
 pub tight-set : (ks : List Known) (ex : List (List ℕ)) (ns : List Node) (i : ℕ) (next : Known) → IsPool ns
@@ -346,17 +273,4 @@ passed-up_to n m ex ns rank i ready ln lm same l at up k lk before = elim (cases
 -- what is ready stays so where a node is restricted
 pub IsReady-set : (ks : List Known) (ns : List Node) (i : ℕ) (next : Known) → i < length ks → IsReady ks ns
     → IsNarrower (known_at ks i) next → IsConsistent next → IsReady (set ks i next) ns
-IsReady-set ks ns i next l h n s = record {
-  count = length-set ks i next ∙ h.count;
-  consistent = λ j b. elim (cases_eq j i) [
-    | inl e ↦ rw (e, get_or-set_same ks i next (known_of 0 0 0 0) l) s
-    | inr ne ↦ rw (get_or-set_other ks i j next (known_of 0 0 0 0) ne)
-        (h.consistent j (omega (arith, length-set ks i next)))
-  ];
-  constants = λ j c b e. elim (cases_eq j i) [
-    | inl f ↦ (let k = h.constants i c l (rw f at e) in let a = n.low in let z = n.high in let o = s.ordered in
-        rw (f, get_or-set_same ks i next (known_of 0 0 0 0) l) (omega (arith, k.0, k.1), omega (arith, k.0, k.1)))
-    | inr ne ↦ rw (get_or-set_other ks i j next (known_of 0 0 0 0) ne)
-        (h.constants j c (omega (arith, length-set ks i next)) e)
-  ];
-}
+IsReady-set ks ns i next l h n s = search (arith, length-set, cases_eq, get_or-set_same, get_or-set_other)

@@ -1,3 +1,4 @@
+use Rattle.std.proofs.lemmas.Grind.{common_steps}
 use Rattle.std.proofs.Common.{◌≡◌, ℕ, ◌<◌, ◌≤◌, ◌^◌, ◌-◌, ◌+◌, ◌/◌, min, max, List, arith, refl, sym, ap, ◌∙◌, inl, inr, Bool, true, false, ◌&&◌, eqb, eq-eqb}
 use Rattle.std.proofs.lemmas.Bool.{cases_lt, false≢true}
 use Rattle.std.specs.Prelude.{bit_and, bit_or, Contains}
@@ -14,12 +15,7 @@ use Rattle.sf_dom.specs.Reduction.{AreApart, freedom, IsReductionRound, IsReduce
 -- the numbers that are admitted lie between the ends that the bits give
 pub inside_bits : (k : Known) (n : ℕ) → k.high < 2 ^ 32 → k.zeros < 2 ^ 32 → Admits k n → (max k.low k.ones ≤ n)
     × (n ≤ min k.high (4294967295 - k.zeros))
-inside_bits k n fh fz h =
-    let low = h.above in
-    let high = h.below in
-    let ones = ones-le n k.zeros k.ones h.bits in
-    let zeros = zeros-le n k.zeros k.ones (omega arith) fz h.bits in
-    (omega arith, omega arith)
+inside_bits k n fh fz h = grind (arith, common_steps, ones-le, zeros-le)
 
 -- the leading bits of two ends are those of every number between
 pub led : (k : Known) (low high mask n : ℕ) → low < 2 ^ 32 → low ≤ n → n ≤ high → HasBits n k.zeros k.ones
@@ -30,55 +26,19 @@ led k low high mask n fl a b h j = join-bits n k.zeros k.ones _ _ h (rw j.2 (lea
 -- no bound and no known bit is lost
 pub narrowed : (k : Known) (low high y p : ℕ) → k.low ≤ low → high ≤ k.high
     → IsNarrower k (record { low = low; high = high; zeros = bit_or k.zeros y; ones = bit_or k.ones p })
-narrowed k low high y p a b = record {
-  low = a;
-  high = b;
-  zeros = bits-of-or k.zeros y;
-  ones = bits-of-or k.ones p;
-}
+narrowed k low high y p a b = grind (arith, common_steps, bits-of-or)
 
 pub IsNarrower-trans : (a b c : Known) → IsNarrower a b → IsNarrower b c → IsNarrower a c
-IsNarrower-trans a b c h k = record {
-  low = let x = h.low in let y = k.low in omega arith;
-  high = let x = h.high in let y = k.high in omega arith;
-  zeros = λ i. omega (arith, h.zeros i, k.zeros i);
-  ones = λ i. omega (arith, h.ones i, k.ones i);
-}
+IsNarrower-trans a b c h k = grind (arith, common_steps)
 
 pub IsNarrower-refl : (a : Known) → IsNarrower a a
-IsNarrower-refl a = record {
-  low = omega arith;
-  high = omega arith;
-  zeros = λ i. omega arith;
-  ones = λ i. omega arith;
-}
+IsNarrower-refl a = grind (arith, common_steps)
 
 -- a round that changes something lessens what is not known
 pub freedom-falls : (new old : Known) → IsNarrower old new → new.low ≤ new.high → new.zeros < 2 ^ 32 → new.ones < 2 ^ 32
     → false ≡ (eqb new.low old.low && (eqb new.high old.high && (eqb new.zeros old.zeros && eqb new.ones old.ones)))
     → freedom new < freedom old
-freedom-falls new old h ordered fz fo ne =
-    let low = h.low in
-    let high = h.high in
-    let zeros = bits-le old.zeros new.zeros h.zeros in
-    let ones = bits-le old.ones new.ones h.ones in
-    elim (cases_lt (freedom new) (freedom old)) [
-      | inl l ↦ l
-      | inr l ↦
-          let e0 : new.low ≡ old.low = omega arith in
-          let e1 : new.high ≡ old.high = omega arith in
-          let e2 : new.zeros ≡ old.zeros = omega arith in
-          let e3 : new.ones ≡ old.ones = omega arith in
-          let same : (eqb new.low old.low && (eqb new.high old.high
-          && (eqb new.zeros old.zeros && eqb new.ones old.ones))) ≡ true
-          = rw (
-            eq-eqb new.low old.low e0,
-            eq-eqb new.high old.high e1,
-            eq-eqb new.zeros old.zeros e2,
-            eq-eqb new.ones old.ones e3,
-          ) refl in
-          absurd (false≢true (ne ∙ same))
-    ]
+freedom-falls new old h ordered fz fo ne = search (arith, bits-le, cases_lt, eq-eqb)
 
 -- where all 0s of a number are known zeros and all its 1s known ones, no other bits are known
 pub all_bits : (n z o y p : ℕ) → n < 2 ^ 32 → z < 2 ^ 32 → o < 2 ^ 32 → HasBits n z o
@@ -174,17 +134,7 @@ consistent-reduce_once k r fh fz fo h same =
 pub settled_word : (k : Known) (xs : List ℕ) (y p mask : ℕ) → k.high < 2 ^ 32 → k.zeros < 2 ^ 32 → k.ones < 2 ^ 32
     → IsTight k xs → (k.low ≡ k.high → mask ≡ 4294967295)
     → k.zeros ≡ bit_or y (bit_and (4294967295 - k.low) mask) → k.ones ≡ bit_or p (bit_and k.low mask) → IsConsistent k
-settled_word k xs y p mask fh fz fo t em ez eo =
-    let below = t.low.admitted.below in
-    let l : k.low < 2 ^ 32 = omega arith in
-    let bits : k.low ≡ k.high → (k.zeros ≡ 4294967295 - k.low) × (k.ones ≡ k.low)
-    = λ e. all_bits k.low k.zeros k.ones y p l fz fo t.low.admitted.bits (rw (em e) at ez) (rw (em e) at eo) in
-    record {
-      ordered = t.low.admitted.below;
-      fits = fh;
-      zeros = λ e. (bits e).0;
-      ones = λ e. (bits e).1;
-    }
+settled_word k xs y p mask fh fz fo t em ez eo = search (arith, all_bits)
 
 pub AreApart-and : (z o : ℕ) → bit_and z o ≡ 0 → AreApart z o
 AreApart-and z o e i =
@@ -236,24 +186,8 @@ tight-word k xs lo hi mask a o b fh fz fo fm bl kl up bh kh down j whole =
     let zf : z < 2 ^ 32 = or_lt 32 k.zeros (bit_and (4294967295 - lo) mask) fz
     (and_lt 32 (4294967295 - lo) mask (omega arith) fm) in
     let pf : p < 2 ^ 32 = or_lt 32 k.ones (bit_and lo mask) fo (and_lt 32 lo mask fl fm) in
-    let tl : Leaves new xs lo =
-    record {
-      admitted = record {
-        above = omega arith;
-        below = o;
-        bits = led k lo hi mask lo fl (omega arith) o bl j;
-      };
-      kept = kl;
-    } in
-    let th : Leaves new xs hi =
-    record {
-      admitted = record {
-        above = o;
-        below = omega arith;
-        bits = led k lo hi mask hi fl o (omega arith) bh j;
-      };
-      kept = kh;
-    } in
+    let tl : Leaves new xs lo = search (arith, led) in
+    let th : Leaves new xs hi = search (arith, led) in
     let tight : IsTight new xs = record { low = tl; high = th } in
     record {
       same = λ n h.

@@ -19,7 +19,7 @@ use Rattle.sf_dom.specs.Facts.{FactsView, known_at, numbers_at, excluded_of, Agr
 use Rattle.sf_dom.specs.FactsLaws.{narrower-admits, sampled, words-agree, value-word, decided-admits}
 use Rattle.sf_dom.specs.Propagation.{IsPropagatedAt, AllNarrower, IsGrown, NoneAgreesWith, IsAssumed, AreBothExcluded, IsSharp, TestGives, Holds}
 use Rattle.sf_dom.proofs.GuardLemmas.{differs-gives}
-use Rattle.sf_dom.proofs.Propagations.{AreDecidedOperands-same, operands-below, word-below}
+use Rattle.sf_dom.proofs.Propagations.{operands-below, word-below}
 
 -- The number of a node where only one is left: where there is one, where there is none, and how the ends say which.
 pub decided-some : (o : Option ℕ) (k : Known) (n : ℕ) → MatchOption o (¬ IsDecided k) (λ m. IsDecided k × (m ≡ k.low))
@@ -53,37 +53,16 @@ undecided f ns i n h plain l ne all = elim (cases_lt i 16) [
 pub propagate-facts : (ks : List Known) (ex : List (List ℕ)) (ns : List Node) → IsPool ns → length ks ≡ length ns
     → length ex ≡ 16 → ((i : ℕ) → i < length ns → IsPropagatedAt ks ex ns i)
     → Covers (record { known = ks; excluded = ex }) ns
-propagate-facts ks ex ns p len lex passed =
-    let words = p.words in
-    record {
-      pool = p;
-      lawful = record {
-        count = omega arith;
-        words = lex;
-        consistent = λ i l. (passed i (omega arith)).consistent;
-        tight = λ w l. (passed w (omega arith)).tight l;
-      };
-      count = len;
-      constants = λ i c l e. (passed i (omega arith)).constant c e;
-      decided = λ i l o. (passed i (omega arith)).decided o;
-    }
+propagate-facts ks ex ns p len lex passed = search arith
 
 pub agrees-back : (old new : List Known) (ex : List (List ℕ)) (ns : List Node) (d : Input) → length old ≡ length new
     → AllNarrower old new → AgreesWith new ex ns d → AgreesWith old ex ns d
-agrees-back old new ex ns d len h a i l = let k = a i (omega arith) in
-    record {
-      admitted = narrower-admits (known_at old i) (known_at new i) (value_of ns d i)
-          (h i l) k.admitted;
-      kept = k.kept;
-    }
+agrees-back old new ex ns d len h a i l = search (arith, narrower-admits)
 
 pub admits-word : (ks : List Known) (ex : List (List ℕ)) (ns : List Node) (d : Input) (w : ℕ) (more : Known) → IsPool ns
     → w < 16 → length ks ≡ length ns → IsNarrower more (known_at ks w)
     → AgreesWith ks ex ns d → Admits more (slice_index d.words w)
-admits-word ks ex ns d w more p l len h a =
-    let words = p.words in
-    rw (value-word ns d w p l) at (narrower-admits more (known_at ks w) (value_of ns d w) h
-    (a w (omega arith)).admitted)
+admits-word ks ex ns d w more p l len h a = search (arith, value-word, narrower-admits)
 
 -- a node of the older pool
 pub node-older : (before ns : List Node) (i : ℕ) → Extends before ns → i < length before
@@ -93,49 +72,23 @@ node-older before ns i more l = ap (λ xs. node_at xs i) more.1 ∙ get_or_appen
 -- an input agrees on a pool where it agrees on the beginning that the facts speak of
 agrees-before : (ks : List Known) (ex : List (List ℕ)) (before ns : List Node) (d : Input) → length ks ≡ length before
     → Extends before ns → AgreesWith ks ex ns d → AgreesWith ks ex before d
-agrees-before ks ex before ns d len more a i l =
-    let value : value_of ns d i ≡ value_of before d i = ap (λ xs. value_of xs d i) more.1
-    ∙ value-older before more.0 d i (omega arith) in
-    rw (node-older before ns i more (omega arith), value) at (a i l)
+agrees-before ks ex before ns d len more a i l = search (arith, value-older, node-older)
 
 agrees-after : (ks : List Known) (ex : List (List ℕ)) (before ns : List Node) (d : Input) → length ks ≡ length before
     → Extends before ns → AgreesWith ks ex before d → AgreesWith ks ex ns d
-agrees-after ks ex before ns d len more a i l =
-    let value : value_of ns d i ≡ value_of before d i = ap (λ xs. value_of xs d i) more.1
-    ∙ value-older before more.0 d i (omega arith) in
-    rw (node-older before ns i more (omega arith), value) (a i l)
+agrees-after ks ex before ns d len more a i l = search (arith, value-older, node-older)
 
 -- an input that agrees after new nodes are taken in agreed before
 agrees-kept : (old new : List Known) (ex : List (List ℕ)) (ns : List Node) (d : Input) → take (length old) new ≡ old
     → length old ≤ length new → AgreesWith new ex ns d → AgreesWith old ex ns d
-agrees-kept old new ex ns d kept le a i l =
-    let same : known_at old i ≡ known_at new i = ap (λ xs. known_at xs i) (sym kept)
-    ∙ get_or-take (length old) new i (record { low = 0; high = 0; zeros = 0; ones = 0 }) l in
-    rw same (a i (omega arith))
+agrees-kept old new ex ns d kept le a i l = search (arith, get_or-take)
 
 -- what is known after new nodes are taken in
 pub grown-facts : (old new : List Known) (ex : List (List ℕ)) (ns : List Node) → IsPool ns
     → AreFacts (record { known = old; excluded = ex })
     → length old ≤ length ns → IsGrown old new ex ns
     → AreFacts (record { known = new; excluded = ex }) × ((i : ℕ) → i < length old → known_at old i ≡ known_at new i)
-grown-facts old new ex ns p h le g =
-    let covers = g.covers in
-    let kept = g.kept in
-    let count = h.count in
-    let same : (i : ℕ) → i < length old → known_at old i ≡ known_at new i
-    = λ i l. ap (λ xs. known_at xs i) (sym kept) ∙ get_or-take (length old) new i
-    (record { low = 0; high = 0; zeros = 0; ones = 0 }) l in (
-      record {
-        count = omega arith;
-        words = h.words;
-        consistent = λ i l. elim (cases_lt i (length old)) [
-          | inl b ↦ rw (same i b) at (h.consistent i b)
-          | inr o ↦ (g.passed h.consistent i o (omega arith)).consistent
-        ];
-        tight = λ w l. rw (same w (omega arith)) at (h.tight w l);
-      },
-      same,
-    )
+grown-facts old new ex ns p h le g = search (arith, get_or-take, cases_lt)
 
 pub grown-of : (old new : List Known) (ex : List (List ℕ)) (before ns : List Node) → IsPool ns
     → Covers (record { known = old; excluded = ex }) before → Extends before ns
@@ -151,16 +104,8 @@ grown-of old new ex before ns p h more le g =
       pool = p;
       lawful = facts.0;
       count = g.covers;
-      constants = λ i c l e. elim (cases_lt i (length old)) [
-        | inl b ↦ rw (same i b) at (h.constants i c b (sym (older i b) ∙ e))
-        | inr o ↦ (g.passed h.lawful.consistent i o (omega arith)).constant c e
-      ];
-      decided = λ i l d. elim (cases_lt i (length old)) [
-        | inl b ↦ rw (same i b) at (h.decided i b
-            (rw (older i b) at (AreDecidedOperands-same new old i (node_at ns i) (operands-below ns i p (omega arith))
-            (λ j m. sym (same j (omega arith))) d)))
-        | inr o ↦ (g.passed h.lawful.consistent i o (omega arith)).decided d
-      ];
+      constants = search (arith, cases_lt);
+      decided = search (arith, cases_lt, operands-below);
     }
 
 -- Where the new nodes of a longer pool are taken in, the inputs that agreed on its beginning agree, and no others;
@@ -207,12 +152,7 @@ pub decides-test : (old new : List Known) (ex : List (List ℕ)) (ns : List Node
     → IsConsistent (known_at old cond.node.0) → cond.node.0 < length ns → length old ≡ length ns
     → IsAssumed old new ex ns cond → IsDecided (known_at old cond.node.0) → IsDecided (known_at old cond.other.0)
     → TestGives cond.test (known_at old cond.node.0).low (known_at old cond.other.0).low cond.sense
-decides-test old new ex ns cond s l len h dv dw =
-    let n = h.narrower cond.node.0 (omega arith) in
-    let t = (h.passed cond.node.0 l).consistent in
-    let o = t.ordered in let a = n.low in let b = n.high in
-    h.decided s dv dw (known_at old cond.node.0).low
-    (decided-admits (known_at new cond.node.0) (known_at old cond.node.0).low t (omega arith) (omega arith))
+decides-test old new ex ns cond s l len h dv dw = search (arith, decided-admits)
 
 -- of words and constants against constants, the facts keep the tests exactly
 pub plain-gives : (old new : List Known) (ex ex' : List (List ℕ)) (ns : List Node) (cond : Cond) (d : Input) → IsPool ns
@@ -240,9 +180,7 @@ plain-gives old new ex ex' ns cond d p lo ln lv lw s h b plain know a =
         → Leaves (known_at new cond.node.0) (excluded_of ex' (node_at ns cond.node.0)) x → IsSharp t sense low
         → TestGives t x low sense
     by_sharp t sense et es dw leaves sh =
-        let before : IsSharp cond.test cond.sense low =
-        subst (λ (u : Test). IsSharp u cond.sense low) (sym et)
-        (subst (λ (b : Bool). IsSharp t b low) (sym es) sh) in
+        let before : IsSharp cond.test cond.sense low = search arith in
         let given = h.sharp dw before x leaves.admitted in
         subst (λ (b : Bool). TestGives t x low b) es (subst (λ (u : Test). TestGives u x low cond.sense) et given)
 

@@ -1,4 +1,5 @@
 -- How what is known of nodes is kept: constants in their slots, the others in a list of variables.
+use Rattle.std.proofs.lemmas.Grind.{common_steps}
 use Rattle.std.proofs.Common.{◌≡◌, ◌≢◌, ℕ, ◌-◌, ◌<◌, ◌≤◌, List, [], ◌∷◌, ◌++◌, length, get_or, set, arith, refl, sym, ap, ◌∙◌, ◌⊎◌, inl, inr}
 use Rattle.std.proofs.lemmas.Bool.{cases_lt, cases_eq}
 use Rattle.std.proofs.lemmas.List.{get_or-set_same, get_or-set_other, length-set, length-map, length_push, get_or-map, get_or_read, get_or_append_left, get_or_push, map-append, map-set, set-get_or, ext_get_or}
@@ -33,8 +34,7 @@ place-at os r l = get_or-map (λ o. o.place) os r (variable_of 0 (known_of 0 0 0
 -- a variable that is read has its place
 pub place-read : (os : List Variable) (r i : ℕ) (o : Variable) → r < length os → o ≡ get_or os r o
     → slice_index (places_of os) r ≡ i → o.place ≡ i
-place-read os r i o l read e = ap (λ (v : Variable). v.place) (get_or_read os r o l read
-    (variable_of 0 (known_of 0 0 0 0))) ∙ sym (place-at os r l) ∙ e
+place-read os r i o l read e = grind (arith, common_steps, get_or_read, place-at)
 
 -- a variable's place is no less than its rank
 pub rank-below : (slots : List Slot) (os : List Variable) (r : ℕ) → AreKept slots os → r < length os
@@ -72,8 +72,7 @@ laid-out slots os k = record {
 -- the variables keep their places
 pub places-set : (os : List Variable) (r i : ℕ) (x : Known) → slice_index (places_of os) r ≡ i
     → places_of (set os r (variable_of i x)) ≡ places_of os
-places-set os r i x e = map-set (λ (o : Variable). o.place) os r (variable_of i x) ∙ ap (set (places_of os) r) (sym e)
-    ∙ set-get_or (places_of os) r 0
+places-set os r i x e = grind (arith, common_steps, map-set, set-get_or)
 
 pub kept-set : (slots : List Slot) (os : List Variable) (r i : ℕ) (x : Known) → slice_index (places_of os) r ≡ i
     → AreKept slots os → AreKept slots (set os r (variable_of i x))
@@ -143,12 +142,8 @@ kept-number slots os c past k = record {
   ];
   within = λ r l. omega (arith, k.within r l, length_push slots (Number c));
   rising = k.rising;
-  told = λ r l. get_or_append_left slots (Number c ∷ []) (Number 0) (slice_index (places_of os) r) (k.within r l)
-      ∙ k.told r l;
-  numbers = λ i d l e. elim (cases_lt i (length slots)) [
-    | inl b ↦ k.numbers i d b (rw (get_or_append_left slots (Number c ∷ []) (Number 0) i b) at e)
-    | inr g ↦ omega arith
-  ];
+  told = search (arith, get_or_append_left);
+  numbers = search (arith, cases_lt, get_or_append_left);
 }
 
 -- one more slot, of a variable
@@ -206,12 +201,7 @@ kept-variable slots os x k = record {
     | inr g ↦ (let rank : r ≡ length os = omega (arith, length_push os v) in
         rw (rank, newest) (get_or_push slots (VariableAt (length os)) (Number 0) (length slots) refl))
   ];
-  numbers = λ i d l e. elim (cases_lt i (length slots)) [
-    | inl b ↦ k.numbers i d b (rw (get_or_append_left slots (VariableAt (length os) ∷ []) (Number 0) i b) at e)
-    | inr g ↦ (let here = get_or_push slots (VariableAt (length os)) (Number 0) i
-        (omega (arith, length_push slots (VariableAt (length os)))) in
-        let clash : VariableAt (length os) ≡ Number d = sym here ∙ e in absurd cc)
-  ];
+  numbers = search (arith, cases_lt, get_or_append_left, get_or_push, length_push);
 }
   where
     v : Variable

@@ -1,32 +1,13 @@
 -- How known bits go back from a node to its operand, where the other operand is a constant.
-use Rattle.std.specs.Prelude.{◌≡◌, ℕ, zero, suc, ◌<◌, ◌-◌, List, Option, Some, None, IfSome, bit_and, bit_or}
+use Rattle.std.specs.Prelude.{◌≡◌, ℕ, zero, suc, ◌<◌, ◌-◌, List, IfSome, bit_and, bit_or}
 use Rattle.sf_insn.specs.declared.ops.BinOp.{BinOp}
 use Rattle.sf_insn.specs.declared.ops.BinOp.TheVariants.{Or, And, Xor}
-use Rattle.sf_sym.specs.Pool.{node_at, constant_number}
+use Rattle.sf_sym.specs.Pool.{node_at}
+use Rattle.sf_sym.specs.Operands.{IsSwappable, constant_operand_of}
 use Rattle.sf_sym.specs.declared.pool.Node.{Node}
-use Rattle.sf_sym.specs.declared.pool.Node.TheVariants.{Bin}
 use Rattle.sf_dom.specs.declared.known.Known.{Known}
 use Rattle.sf_dom.specs.Known.{AreBitsOf, IsNarrower}
 use Rattle.sf_dom.specs.Facts.{known_at}
-
--- an operation that works bit by bit, whose operands may be swapped
-abbrev pub IsSwappable : BinOp → Type 0
-IsSwappable Or = Unit {0}
-IsSwappable And = Unit {0}
-IsSwappable Xor = Unit {0}
-IsSwappable _ = ⊥
-
--- where exactly one of two operands is a constant: the operation, the place of the other operand and the constant
-abbrev pub one_constant : BinOp → ℕ → ℕ → Option ℕ → Option ℕ → Option (BinOp × ℕ × ℕ)
-one_constant op a b None (Some c) = Some (op, a, c)
-one_constant op a b (Some c) None = Some (op, b, c)
-one_constant op a b _ _ = None
-
--- where exactly one operand of a node is a constant: the operation, the place of the other operand and the constant
-abbrev pub constant_operand_of : List Node → Node → Option (BinOp × ℕ × ℕ)
-constant_operand_of ns (Bin op a b) = one_constant op a.0 b.0 (constant_number (node_at ns a.0))
-    (constant_number (node_at ns b.0))
-constant_operand_of ns _ = None
 
 -- what the known bits of a node `x op c` say of the bits of x is known of x
 abbrev pub HandsOn : BinOp → ℕ → Known → Known → Type 0

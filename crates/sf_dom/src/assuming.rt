@@ -8,7 +8,8 @@ ghost use Rattle.sf_insn.specs.declared.input.Input.{Input};
 ghost use Rattle.sf_dom.specs.Known.{AreBitsOf, HasBits, Admits, Leaves, IsNarrower, IsConsistent, IsDecided, IsTight};
 ghost use Rattle.sf_dom.specs.Propagation.{KeepsAgreeing, NoneAgreesWith, KeepsAgreeingOn, NoneAgreesOn, LeavesPair, LeavesNoPair, IsSharp, Tells, TestGives, AllNarrower, IsReady, IsLeft, IsAssumed, AreExcluded, AreBothExcluded, Holds, IsPropagated, KeepsTight, AreOthersTight};
 ghost use Rattle.sf_dom.specs.Conditions.{AreLeftAlone};
-ghost use Rattle.sf_dom.specs.Backward.{IsSwappable, HandsOn, constant_operand_of, IsPropagatedBack};
+ghost use Rattle.sf_sym.specs.Operands.{IsSwappable};
+ghost use Rattle.sf_dom.specs.Backward.{HandsOn, IsPropagatedBack};
 ghost use Rattle.sf_dom.specs.Facts.{known_at, numbers_at, excluded_of, AgreesWith, KnowDecided};
 
 use crate::exclusions::Excluded;
@@ -19,7 +20,7 @@ use crate::nodes::Nodes;
 use crate::propagation::{is_tight_at, propagate, reduce_node, tighten};
 use crate::telling::are_propagated_back;
 use sf_insn::{BinOp, Test};
-use sf_sym::{Cond, Node, NodeId, Pool, constant_of};
+use sf_sym::{Cond, Node, NodeId, Pool, constant_operand};
 use std::alloc::Global;
 
 /// What is known, with more known bits.
@@ -55,24 +56,6 @@ pub(crate) fn backward(op: BinOp, node: Known, c: u32, operand: Known) -> Option
             (node.zeros & !c) | (node.ones & c),
             (node.ones & !c) | (node.zeros & c),
         )),
-        _ => None,
-    }
-}
-
-/// Where exactly one operand of a node is a constant: the operation, the place of the other operand, and the constant.
-pub(crate) fn constant_operand(pool: &Pool, at: usize) -> Option<(BinOp, usize, u32)>
-    requires { at < length pool.now }
-    ensures told { result ≡ constant_operand_of pool.now (node_at pool.now at) }
-    ensures smaller { IfSome result (λ o. o.1 < at) }
-    ensures value { IfSome result (λ o. (d : Input) → IsInput d → IsSwappable o.0
-        → value_of pool.now d at ≡ apply o.0 (value_of pool.now d o.1) o.2) }
-{
-    match pool.node_at(at) {
-        Node::Bin(op, a, b) => match (constant_of(pool.node(a)), constant_of(pool.node(b))) {
-            (None, Some(c)) => Some((op, a.0 as usize, c)),
-            (Some(c), None) => Some((op, b.0 as usize, c)),
-            _ => None,
-        },
         _ => None,
     }
 }

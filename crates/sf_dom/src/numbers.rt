@@ -49,8 +49,8 @@ impl Near {
         self.place.wrapping_add(self.step)
     }
 
-    /// The number stood here.
-    fn found(&mut self, place: usize) {
+    /// Goes to the place where a number was found.
+    fn move_to(&mut self, place: usize) {
         self.step = place.wrapping_sub(self.place);
         self.place = place;
     }
@@ -115,7 +115,7 @@ fn stands_near(list: &[u32], near: &mut Near, number: u32) -> bool
 {
     let guess = near.next();
     if guess < list.len() && list[guess] == number {
-        near.found(guess);
+        near.move_to(guess);
         return true;
     }
     if !is_between_ends(list, number) {
@@ -123,7 +123,7 @@ fn stands_near(list: &[u32], near: &mut Near, number: u32) -> bool
     }
     match list.binary_search(&number) {
         Ok(place) => {
-            near.found(place);
+            near.move_to(place);
             true
         }
         Err(_) => false,

@@ -13,12 +13,12 @@ ghost use Rattle.sf_dom.specs.Backward.{IsPropagatedBack};
 ghost use Rattle.sf_dom.specs.Facts.{known_at, excluded_of, AgreesWith};
 ghost use Rattle.sf_dom.specs.Telling.{IsOpen, IsOpenAt};
 
-use crate::assuming::{backward, constant_operand};
+use crate::assuming::backward;
 use crate::exclusions::Excluded;
 use crate::known::{Known, is_same};
 use crate::nodes::Nodes;
 use sf_insn::Test;
-use sf_sym::{Node, Pool};
+use sf_sym::{Node, Pool, constant_operand};
 
 /// Whether a word equals a number, where its interval tells it.
 fn tell_equal(known: Known, number: u32) -> Option<bool>

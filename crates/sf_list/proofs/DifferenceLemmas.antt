@@ -1,6 +1,7 @@
 -- Which rows show that two stacks answer differently.
-use Rattle.std.proofs.Common.{◌≡◌, ◌≢◌, ℕ, zero, suc, ◌<◌, ◌≤◌, ◌+◌, ◌==◌, not, Bool, true, false, true≢false, List, [], ◌∷◌, ◌++◌, length, get_or, Option, Some, slice_get, refl, sym, ap, subst, ◌∙◌, arith, inl, inr}
-use Rattle.std.specs.Prelude.{Contains, MatchOption, count_by, slice_index}
+use Rattle.std.proofs.lemmas.Grind.{common_steps}
+use Rattle.std.proofs.Common.{◌≡◌, ◌≢◌, ℕ, zero, suc, ◌<◌, ◌≤◌, ◌+◌, not, Bool, true, false, List, [], ◌∷◌, ◌++◌, length, get_or, Option, Some, slice_get, refl, sym, ap, subst, ◌∙◌, arith, inl, inr}
+use Rattle.std.specs.Prelude.{Contains, count_by, slice_index}
 use Rattle.std.specs.List.{filter}
 use Rattle.std.proofs.lemmas.Bool.Decides.{nat_tests}
 use Rattle.std.proofs.lemmas.List.Elements.{All-contains, All-contains_itself, All-filter, filter_passes}
@@ -77,10 +78,7 @@ shown count label (l ∷ m ∷ ls) there lt = refl
 
 -- a single label of a row with a difference
 no-count : (count label : ℕ) → is_unchanged count (label ∷ []) ≡ false → label ≢ count
-no-count count label h e = true≢false (sym (same e) ∙ h)
-  where
-    same : label ≡ count → (label == count) ≡ true
-    same e = grind (arith, nat_tests, e)
+no-count count label h e = grind (arith, common_steps, nat_tests)
 
 -- the labels of pairs, with one more
 pub labels-more : (answers pairs : List PartAnswers) (labels next : List ℕ) (i label : ℕ) (one : PartAnswers)
@@ -89,17 +87,7 @@ pub labels-more : (answers pairs : List PartAnswers) (labels next : List ℕ) (i
     → IsLabelOf pairs both (slice_index labels n)) → (n : ℕ) (both : PartAnswers) → n < i + 1
     → slice_get answers n ≡ Some both → IsLabelOf pairs both (slice_index next n)
 labels-more answers pairs labels next i label one count pushed here is before n both lt there =
-    elim (cases_eq n i) [
-      | inl e ↦
-          let same : one ≡ both = same_Some one both (sym here ∙ (ap (slice_get answers) (sym e) ∙ there)) in
-          let at : slice_index next n ≡ label = rw (pushed, e ∙ sym count) (get_or-append_seam labels label [] 0) in
-          rw at (subst (λ (b : PartAnswers). IsLabelOf pairs b label) same is)
-      | inr ne ↦
-          let below : n < length labels = omega arith in
-          let at : slice_index next n ≡ slice_index labels n =
-          rw pushed (get_or-append labels (label ∷ []) 0 n below) in
-          rw at (before n both (omega arith) there)
-    ]
+    search (arith, cases_eq, one, same_Some, get_or-append_seam, get_or-append)
 
 -- the labels of pairs are those of the regions
 pub tell-pairs : (s : BookData) (older : ℕ) (answers pairs : List PartAnswers) (labels : List ℕ)
@@ -127,30 +115,16 @@ pub record IsTold (s : BookData) (older : ℕ) (x : DifferencesData) (p : Pictur
 -- what was drawn
 drawn : (s : BookData) (older : ℕ) (x : DifferencesData) (p : PictureData) → AreDifferences s older x
     → x.picture ≡ Some p → ArePictured s older x.pairs p
-drawn s older x p h some =
-    subst (λ (o : Option PictureData). MatchOption o (0 < length s.outstanding) (ArePictured s older x.pairs)) some
-    h.picture
+drawn s older x p h some = grind (arith, common_steps)
 
 told : (s : BookData) (older : ℕ) (x : DifferencesData) (p : PictureData) (d : Input) → IsSettled s
     → ArePictured s older x.pairs p → IsInput d → IsTold s older x p d
-told s older x p d settled h input =
-    let m = in_some_region s settled h.none_left d input in
-    let at = m.2 in
-    let t = h.tell.each m.0 at.region at.there in
-    record {
-      label = slice_index h.labels m.0;
-      both = t.0;
-      shown = h.shows m.0 at.region d at.there input at.member;
-      is = t.2;
-      before = t.1.before d input at.member;
-      after = t.1.after d input at.member;
-    }
+told s older x p d settled h input = search (arith, in_some_region, shown)
 
 -- the labels of the row in which an input lies
 in-row : (p : PictureData) (d : Input) (r : RowData) → IsPicture p → IsInput d → Contains (rows_of p) r
     → is_in_scope r.scope d ≡ true → r.labels ≡ labels_at p d
-in-row p d r h input there on =
-    row-labels d (labels_at p d) (rows_of p) (one-of-all p d h input).labels there.0 r there.1 there.2 on
+in-row p d r h input there on = grind (arith, common_steps, row-labels, one-of-all)
 
 pub row-differences : (s : BookData) (older : ℕ) (x : DifferencesData) (p : PictureData) (d : Input) (r : RowData)
     → IsSettled s → AreDifferences s older x → x.picture ≡ Some p → IsInput d → Contains (rows_of p) r

@@ -1,4 +1,5 @@
 -- In how many parts of a fork a number lies: in one.
+use Rattle.std.proofs.lemmas.Grind.{common_steps}
 use Rattle.std.proofs.Common.{◌≡◌, ◌≢◌, ℕ, ◌<◌, ◌≤◌, ◌+◌, Bool, true, false, List, [], ◌∷◌, ◌++◌, length, Some, refl, sym, ap, subst, ◌∙◌, arith, inl, inr, true≢false}
 use Rattle.std.specs.Prelude.{count_by, if◌then◌else◌}
 use Rattle.std.proofs.lemmas.Bool.{cases_lt, le-leb, lt-leb}
@@ -8,8 +9,8 @@ use Rattle.sf_picture.specs.declared.picture.Branch.{Branch}
 use Rattle.sf_picture.specs.declared.picture.Run.{Run}
 use Rattle.sf_picture.specs.PictureData.{ForkData}
 use Rattle.sf_picture.specs.Pictures.{next_of, RiseFrom, end_of, IsBelow, LeadBelow}
-use Rattle.sf_list.specs.Parts.{PartData, same_branch, span_of, has_branch, branches_after, largest_of, part_to, parts_but, parts_to, fork_parts, run_parts}
-use Rattle.sf_list.specs.Rows.{is_in_spans, is_in_part, is_whole, parts_at}
+use Rattle.sf_list.specs.Parts.{PartData, same_branch, span_of, has_branch, branches_after, largest_of, part_to, parts_but, parts_to, run_parts}
+use Rattle.sf_list.specs.Rows.{is_in_spans, is_in_part, parts_at}
 use Rattle.sf_list.proofs.SpanLemmas.{in-part, same-is, same-self}
 
 -- one more or none, by a test
@@ -69,18 +70,7 @@ with-branch bs b = if has_branch bs b then bs else bs ++ b ∷ []
 -- one that is there once stays so
 stays : (bs : List Branch) (b c : Branch) → count_by (is-branch c) bs ≡ 1
     → count_by (is-branch c) (with-branch bs b) ≡ 1
-stays bs b c one = by-test (has_branch bs b) refl
-  where
-    by-other : (t : Bool) → same_branch b c ≡ t → has_branch bs b ≡ false
-        → count_by (is-branch c) (bs ++ b ∷ []) ≡ 1
-    by-other true t none =
-        let none-c : has_branch bs c ≡ false = ap (has_branch bs) (sym (same-is b c t)) ∙ none in
-        absurd (omega (arith, hasnt-counted bs c none-c, one))
-    by-other false t none = count-push (is-branch c) bs b ∙ rw t (omega (arith, one))
-
-    by-test : (t : Bool) → has_branch bs b ≡ t → count_by (is-branch c) (if t then bs else bs ++ b ∷ []) ≡ 1
-    by-test true t = one
-    by-test false t = by-other (same_branch b c) refl t
+stays bs b c one = grind (arith, common_steps, same-is, hasnt-counted, count-push)
 
 all-stay : (bs : List Branch) (rs : List Run) (c : Branch) → count_by (is-branch c) bs ≡ 1
     → count_by (is-branch c) (branches_after bs rs) ≡ 1
@@ -90,26 +80,11 @@ all-stay bs (r ∷ rs) c one = all-stay (with-branch bs r.next) rs c (stays bs r
 -- one that is there at most once stays so
 at-most : (bs : List Branch) (b c : Branch) → count_by (is-branch c) bs ≤ 1
     → count_by (is-branch c) (with-branch bs b) ≤ 1
-at-most bs b c few = by-test (has_branch bs b) refl
-  where
-    by-other : (t : Bool) → same_branch b c ≡ t → has_branch bs b ≡ false
-        → count_by (is-branch c) (bs ++ b ∷ []) ≤ 1
-    by-other true t none =
-        let none-c : has_branch bs c ≡ false = ap (has_branch bs) (sym (same-is b c t)) ∙ none in
-        rw (count-push (is-branch c) bs b, t, hasnt-counted bs c none-c) (omega arith)
-    by-other false t none = rw (count-push (is-branch c) bs b, t) (omega (arith, few))
-
-    by-test : (t : Bool) → has_branch bs b ≡ t → count_by (is-branch c) (if t then bs else bs ++ b ∷ []) ≤ 1
-    by-test true t = few
-    by-test false t = by-other (same_branch b c) refl t
+at-most bs b c few = grind (arith, common_steps, same-is, count-push, hasnt-counted)
 
 -- one that is added is there once
 added : (bs : List Branch) (c : Branch) → count_by (is-branch c) bs ≤ 1 → count_by (is-branch c) (with-branch bs c) ≡ 1
-added bs c few = by-test (has_branch bs c) refl
-  where
-    by-test : (t : Bool) → has_branch bs c ≡ t → count_by (is-branch c) (if t then bs else bs ++ c ∷ []) ≡ 1
-    by-test true t = omega (arith, has-counted bs c t, few)
-    by-test false t = rw (count-push (is-branch c) bs c, same-self c, hasnt-counted bs c t) refl
+added bs c few = grind (arith, common_steps, has-counted, count-push, same-self, hasnt-counted)
 
 -- where a number leads is among the branches once
 once : (bs : List Branch) (rs : List Run) (n : ℕ) (c : Branch) → count_by (is-branch c) bs ≤ 1 → next_of rs n ≡ Some c
@@ -132,15 +107,7 @@ once bs (r ∷ rs) n c few e = elim (cases_lt r.last n) [
 -- ---- parts
 
 same-flip : (a b : Branch) → same_branch a b ≡ same_branch b a
-same-flip a b = by-tests (same_branch a b) (same_branch b a) refl refl
-  where
-    by-tests : (s t : Bool) → same_branch a b ≡ s → same_branch b a ≡ t → s ≡ t
-    by-tests true true p q = refl
-    by-tests false false p q = refl
-    by-tests true false p q =
-        absurd (true≢false (sym (same-self a) ∙ ap (λ (x : Branch). same_branch x a) (same-is a b p) ∙ q))
-    by-tests false true p q =
-        absurd (true≢false (sym (same-self b) ∙ ap (λ (x : Branch). same_branch x b) (same-is b a q) ∙ p))
+same-flip a b = grind (arith, common_steps, same-self, same-is)
 
 -- a number, or none where the number is that of the rest
 abbrev unless : Bool → ℕ → ℕ
@@ -257,13 +224,7 @@ runs-one first (r ∷ rs) n c rise le e = elim (cases_lt r.last n) [
 -- each number that leads somewhere lies in one part
 pub fork-one : (f : ForkData) (n : ℕ) (c : Branch) → RiseFrom 0 f.runs → next_of f.runs n ≡ Some c
     → count_by (λ p. is_in_part p n) (parts_at f) ≡ 1
-fork-one f n c rise e = by-test (is_whole f.axis 0)
-  where
-    by-test : (t : Bool)
-        → count_by (λ p. is_in_part p n) (if t then run_parts 0 f.runs else fork_parts f.runs) ≡ 1
-    by-test true = runs-one 0 f.runs n c rise (omega arith) e
-    by-test false =
-        parts-one f.runs (branches_after [] f.runs) n c rise e (once [] f.runs n c (omega arith) e)
+fork-one f n c rise e = search (arith, runs-one, parts-one, once)
 
 -- the parts in which a number lies lead there
 abbrev pub LeadTo : ℕ → Branch → List PartData → Type 0
@@ -323,11 +284,7 @@ runs-lead first (r ∷ rs) n c rise e = elim (cases_lt r.last n) [
 
 pub fork-leads : (f : ForkData) (n : ℕ) (c : Branch) → RiseFrom 0 f.runs → next_of f.runs n ≡ Some c
     → LeadTo n c (parts_at f)
-fork-leads f n c rise e = by-test (is_whole f.axis 0)
-  where
-    by-test : (t : Bool) → LeadTo n c (if t then run_parts 0 f.runs else fork_parts f.runs)
-    by-test true = runs-lead 0 f.runs n c rise e
-    by-test false = to-lead f.runs (branches_after [] f.runs) n c rise e
+fork-leads f n c rise e = grind (arith, common_steps, runs-lead, to-lead)
 
 -- ---- where a number leads
 

@@ -1,5 +1,6 @@
 -- Spans, runs and branches, one more at a time.
-use Rattle.std.proofs.Common.{◌≡◌, ℕ, zero, suc, ◌<◌, ◌≤◌, ◌+◌, ◌-◌, ◌==◌, Bool, true, false, List, [], ◌∷◌, ◌++◌, length, drop, get_or, set, refl, sym, ap, subst, arith, eq-eqb}
+use Rattle.std.proofs.lemmas.Grind.{common_steps}
+use Rattle.std.proofs.Common.{◌≡◌, ℕ, zero, suc, ◌<◌, ◌≤◌, ◌+◌, ◌-◌, ◌==◌, Bool, true, false, List, [], ◌∷◌, ◌++◌, length, drop, get_or, set, refl, ap, arith, eq-eqb}
 use Rattle.std.specs.Prelude.{if◌then◌else◌, nat_lt}
 use Rattle.std.specs.List.{flat_map}
 use Rattle.std.proofs.lemmas.List.{drop_more}
@@ -11,7 +12,7 @@ use Rattle.sf_picture.specs.PictureData.{ForkData, PictureData}
 use Rattle.sf_picture.specs.Pictures.{IsBelow, LeadBelow, fork_at}
 use Rattle.sf_list.specs.declared.parts.Span.{Span}
 use Rattle.sf_list.specs.Parts.{EndsApart, PartData, same_branch, span_of, with_span, spans_after, count_after, has_branch, branches_after, largest_of, part_to, parts_but, parts_to, fork_parts, run_parts}
-use Rattle.sf_list.specs.Rows.{ScopeData, is_whole, parts_at, rows_along, scope_within}
+use Rattle.sf_list.specs.Rows.{ScopeData, parts_at, rows_along, scope_within}
 
 -- ---- runs that rise
 
@@ -29,9 +30,7 @@ span_goes_on (t ∷ u ∷ ts) (suc k) d s e touch = ap (λ l. t ∷ l) (span_goe
 -- the last span, as it was read, goes on
 pub goes_on_from : (ts : List Span) (k : ℕ) (t s : Span) → k + 1 ≡ length ts → t ≡ get_or ts k t → t.last + 1 ≡ s.first
     → set ts k (span_of t.first s.last) ≡ with_span ts s
-goes_on_from ts k t s e is =
-    subst (λ (x : Span). x.last + 1 ≡ s.first → set ts k (span_of x.first s.last) ≡ with_span ts s) (sym is)
-    (span_goes_on ts k t s e)
+goes_on_from ts k t s e is = grind (arith, common_steps, span_goes_on)
 
 -- a span is added apart
 pub span_apart : (ts : List Span) (s : Span)
@@ -149,14 +148,10 @@ below-more leaves place n (Fork i) le h = omega (arith, h)
 -- a part of a fork leads below each number that isn't less than the fork's place
 pub part_below : (leaves place n : ℕ) (f : ForkData) (i : ℕ) (d : PartData) → LeadBelow leaves place f.runs
     → place ≤ n → i < length (parts_at f) → IsBelow leaves n (get_or (parts_at f) i d).next
-part_below leaves place n f i d lead le lt =
-    below-more leaves place n (get_or (parts_at f) i d).next le
-    (below-at leaves place (parts_at f) i d (either-below leaves place (is_whole f.axis 0) f.runs lead) lt)
+part_below leaves place n f i d lead le lt = grind (arith, common_steps, below-more, below-at, either-below)
 
 -- the rows from a fork on are those of its parts
 pub rows_at_fork : (p : PictureData) (n place : ℕ) (f : ForkData) (scope : ScopeData) → fork_at p.forks place ≡ f
     → rows_along p (suc n) (Fork place) scope
     ≡ flat_map (λ (part : PartData). rows_along p n part.next (scope_within scope f.axis part)) (parts_at f)
-rows_at_fork p n place f scope is =
-    ap (λ (g : ForkData). flat_map (λ (part : PartData). rows_along p n part.next (scope_within scope g.axis part))
-    (parts_at g)) is
+rows_at_fork p n place f scope is = grind (arith, common_steps)

@@ -1,4 +1,5 @@
 -- Each input lies in one row of a picture.
+use Rattle.std.proofs.lemmas.Grind.{common_steps}
 use Rattle.std.proofs.Common.{◌≡◌, ◌≢◌, ℕ, zero, suc, ◌<◌, ◌≤◌, ◌+◌, ◌^◌, ◌==◌, ◌&&◌, Bool, true, false, List, [], ◌∷◌, ◌++◌, length, get_or, Option, Some, None, refl, sym, ap, subst, ◌∙◌, arith, true≢false}
 use Rattle.std.specs.Prelude.{bit_and, count_by, slice_index, if◌then◌else◌}
 use Rattle.std.specs.List.{flat_map}
@@ -98,18 +99,12 @@ is-number : (m n : ℕ) → (m == n) ≡ true → m ≡ n
 is-number m n e = grind (arith, nat_tests)
 
 whole-word : (a : Axis) (w : ℕ) (d : Input) → IsInput d → is_whole a w ≡ true → number_on a d ≡ slice_index d.words w
-whole-word a w d input e =
-    let both = and-both (a.word == w) (a.mask == 4294967295) e in
-    let word : a.word ≡ w = is-number a.word w both.0 in
-    let mask : a.mask ≡ 4294967295 = is-number a.mask 4294967295 both.1 in
-    rw (word, mask) (whole-number (slice_index d.words w) (input.each w))
+whole-word a w d input e = grind (arith, common_steps, and-both, is-number, whole-number)
 
 -- an input is in a narrowed scope where it is in the scope and has its number in the part
 pub in-within : (scope : ScopeData) (a : Axis) (p : PartData) (d : Input) → IsInput d
     → is_in_scope (scope_within scope a p) d ≡ (is_in_scope scope d && is_in_part p (number_on a d))
-in-within scope a p d input =
-    into-by (is_whole a 1) (is_whole a 0) scope.arch scope.nr scope.conditions a p d (whole-word a 1 d input)
-    (whole-word a 0 d input)
+in-within scope a p d input = grind (arith, common_steps, into-by, whole-word)
 
 -- ---- rows
 

@@ -1,3 +1,4 @@
+use Rattle.std.proofs.lemmas.Grind.{common_steps}
 use Rattle.std.proofs.Common.{◌≡◌, arith, sym, ◌∙◌, ap}
 use Rattle.std.proofs.lemmas.List.{take_all}
 use Rattle.sf_sym.specs.Pool.{is_met, is_met_by}
@@ -7,16 +8,7 @@ use Rattle.sf_ask.proofs.judging.first_unmet.Goals as goal
 
 pub returns-then-not-is_met-clause-unmet : goal.returns-then-not-is_met-clause-unmet
 unfolding is_member
-returns-then-not-is_met-clause-unmet c =
-    let p = c.args.piece.now in
-    let cond = c.cond-cond.result in
-    let on = rw c.pool.ensures.value at (c.as_slice.ensures.value ∙ c.in_ok-values.ensures.values) in
-    let met : c.is_met.result ≡ is_met p.pool c.args.input.now cond =
-    c.is_met.ensures ∙ ap (λ v. is_met_by v cond) on in (
-      not-met (is_met p.pool c.args.input.now) p.conditions c.loop-i.i cond c.cond-cond.ensures.value
-          (sym met ∙ c.if-not-is_met.true),
-      c.cond-cond.ensures.below,
-    )
+returns-then-not-is_met-clause-unmet c = search (arith, not-met)
 
 pub loop-i-preserved : goal.loop-i-preserved
 loop-i-preserved c =
@@ -30,6 +22,4 @@ loop-i-preserved c =
 
 pub returns-clause-unmet : goal.returns-clause-unmet
 unfolding is_member
-returns-clause-unmet c =
-    let p = c.args.piece.now in
-    rw (take_all c.loop-i.i p.conditions (omega (arith, c.cond_count-i-end.ensures.value))) at c.loop-i.invariant
+returns-clause-unmet c = grind (arith, common_steps, take_all)

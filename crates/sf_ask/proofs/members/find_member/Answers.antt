@@ -1,12 +1,10 @@
-use Rattle.std.proofs.Common.{true≢false, sym, ◌∙◌}
+use Rattle.std.proofs.lemmas.Grind.{common_steps}
+use Rattle.std.proofs.Common.{arith, true≢false, sym, ◌∙◌}
 use Rattle.sf_ask.proofs.MemberLemmas.{least-member, plain-least}
 use Rattle.sf_ask.proofs.members.find_member.Goals as goal
 
 pub returns-then-branch-clause-plain : goal.returns-then-branch-clause-plain
-returns-then-branch-clause-plain c = λ plain.
-    least-member c.args.piece.now c.in-Some.least
-    (record { covers = c.facts.ensures.covers; agree = c.facts.ensures.known })
-    (rw c.facts.ensures.value at c.in-Some.ensures) (sym c.in_ok-is_member_of.ensures.tells ∙ c.if-branch.true)
+returns-then-branch-clause-plain c = grind (arith, common_steps, least-member)
 
 pub returns-in-Some-3-clause-plain : goal.returns-in-Some-3-clause-plain
 returns-in-Some-3-clause-plain c = λ plain.

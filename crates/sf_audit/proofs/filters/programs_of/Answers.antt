@@ -1,3 +1,5 @@
+use Rattle.std.proofs.Common.{arith}
+use Rattle.std.proofs.lemmas.Grind.{common_steps}
 use Rattle.std.proofs.lemmas.Result.{err_from_is_err_and}
 use Rattle.sf_audit.proofs.FilterLemmas.{one_more_file, one_file_refused}
 use Rattle.sf_audit.proofs.filters.programs_of.Goals as goal
@@ -12,9 +14,4 @@ returns-in_err-program-clause-refused c =
     (rw c.deref.ensures.value at c.in_err-program.ensures.refused))
 
 pub loop-i-preserved : goal.loop-i-preserved
-loop-i-preserved c =
-    rw c.in_ok-push.ensures.items
-    (one_more_file c.args.filters.now c.loop-i.programs.items c.loop-i.i c.index-filters-i.result
-    c.in_ok-program.program
-    c.loop-i-test.true c.index-filters-i.is c.loop-i.invariant
-    (rw c.deref.ensures.value at c.in_ok-program.ensures.accepted))
+loop-i-preserved c = grind (arith, common_steps, one_more_file)

@@ -7,21 +7,21 @@ use Rattle.sf_command.proofs.dispatch.reply.Goals as goal
 
 pub returns-in-Ok-clause-done : goal.returns-in-Ok-clause-done
 returns-in-Ok-clause-done g c =
-    let fits = told_errors (λ (ks : Kinds). ks ≡ []) _ _ c.in_ok-form.ensures c.in-Ok.ensures.kinds in
-    let entered = told_subcommand _ _ c.in-Ok.matches c.in_ok-form.ensures c.in-Ok.ensures.matches in
+    let fits = told_errors (λ (ks : Kinds). ks ≡ []) _ _ c.in_ok-command_form.ensures c.in-Ok.ensures.kinds in
+    let entered = told_subcommand _ _ c.in-Ok.matches c.in_ok-command_form.ensures c.in-Ok.ensures.matches in
     IfOk-weaker c.run-ran.result _ _ (λ s done small. let (found, named, does) = done small in
     inl (fits, (found, sym entered ∙ named, does))) c.run-ran.ensures.done
 
 pub returns-in-Err-clause-done : goal.returns-in-Err-clause-done
 returns-in-Err-clause-done g c =
-    let failed = told_errors (λ (ks : Kinds). HasKind ks c.in-Err.error) _ _ c.in_ok-form.ensures
+    let failed = told_errors (λ (ks : Kinds). HasKind ks c.in-Err.error) _ _ c.in_ok-command_form.ensures
     c.in-Err.ensures.kinds in
     IfOk-weaker c.explain-in-Err.result _ _ (λ s done small. inr (helps _ c.in-Err.error s _ _ failed (done small)))
     c.explain-in-Err.ensures.done
 
 pub returns-in-Ok-clause-usage : goal.returns-in-Ok-clause-usage
 returns-in-Ok-clause-usage g c =
-    let entered = told_subcommand _ _ c.in-Ok.matches c.in_ok-form.ensures c.in-Ok.ensures.matches in
+    let entered = told_subcommand _ _ c.in-Ok.matches c.in_ok-command_form.ensures c.in-Ok.ensures.matches in
     IfOk-weaker c.run-ran.result _ _ (λ s usage four. (
       (λ fits. let (found, named, known) = known_subcommand _ fits in
           (usage four).0 (found, entered ∙ named, known)),
@@ -31,7 +31,7 @@ returns-in-Ok-clause-usage g c =
 
 pub returns-in-Err-clause-usage : goal.returns-in-Err-clause-usage
 returns-in-Err-clause-usage g c =
-    let failed = told_errors (λ (ks : Kinds). HasKind ks c.in-Err.error) _ _ c.in_ok-form.ensures
+    let failed = told_errors (λ (ks : Kinds). HasKind ks c.in-Err.error) _ _ c.in_ok-command_form.ensures
     c.in-Err.ensures.kinds in
     IfOk-weaker c.explain-in-Err.result _ _ (λ s usage four. (
       some_error _ c.in-Err.error failed (usage four).0,
@@ -41,7 +41,7 @@ returns-in-Err-clause-usage g c =
 
 pub returns-in-Ok-clause-refused : goal.returns-in-Ok-clause-refused
 returns-in-Ok-clause-refused g c =
-    let fits = told_errors (λ (ks : Kinds). ks ≡ []) _ _ c.in_ok-form.ensures c.in-Ok.ensures.kinds in
-    let entered = told_subcommand _ _ c.in-Ok.matches c.in_ok-form.ensures c.in-Ok.ensures.matches in
+    let fits = told_errors (λ (ks : Kinds). ks ≡ []) _ _ c.in_ok-command_form.ensures c.in-Ok.ensures.kinds in
+    let entered = told_subcommand _ _ c.in-Ok.matches c.in_ok-command_form.ensures c.in-Ok.ensures.matches in
     IfErr-weaker c.run-ran.result _ _ (λ e why. let (found, named, refuses) = why in
     inr (inr (fits, (found, sym entered ∙ named, refuses)))) c.run-ran.ensures.refused

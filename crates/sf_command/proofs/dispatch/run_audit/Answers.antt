@@ -1,20 +1,12 @@
-use Rattle.std.proofs.Common.{codes, refl}
+use Rattle.std.proofs.lemmas.Grind.{common_steps}
+use Rattle.std.proofs.Common.{arith, codes, refl}
 use Rattle.clap.specs.Words.{found_of}
 use Rattle.sf_command.proofs.CommandLineLemmas.{paths_found}
-use Rattle.std.proofs.lemmas.Result.{IfErr-weaker, IfOk-weaker}
+use Rattle.std.proofs.lemmas.Result.{IfErr-weaker}
 use Rattle.sf_command.proofs.dispatch.run_audit.Goals as goal
 
 pub returns-clause-done : goal.returns-clause-done
-returns-clause-done g c = IfOk-weaker c.audit.result _ _ (λ s written. record {
-  paths = c.unwrap_or-paths.result.now;
-  named = rw c.unwrap_or-paths.ensures (paths_found (found_of c.args.found.now) (codes "filters") c.get_strs.result _
-      c.get_strs.ensures refl);
-  budget = c.budget_of.result;
-  counted = c.budget_of.ensures;
-  regions = c.regions_of.result;
-  listed = c.regions_of.ensures;
-  audited = rw c.text_of-policy.ensures at written;
-}) c.audit.ensures.written
+returns-clause-done g c = grind (arith, common_steps, paths_found)
 
 pub returns-clause-refused : goal.returns-clause-refused
 returns-clause-refused g c = IfErr-weaker c.audit.result _ _ (λ e why. (

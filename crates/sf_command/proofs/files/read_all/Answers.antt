@@ -24,5 +24,4 @@ loop-path-preserved g c =
     ]
 
 pub returns-clause-read : goal.returns-clause-read
-returns-clause-read g c = all_kept _ _ _ _ _ c.loop-path.invariant c.loop-path-test.false
-    c.loop-path.auto.path-index-end
+returns-clause-read g c = search (arith, all_kept)

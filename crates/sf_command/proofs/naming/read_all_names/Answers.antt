@@ -1,4 +1,4 @@
-use Rattle.std.proofs.Common.{List, [], ℕ, Bor}
+use Rattle.std.proofs.Common.{arith, List, [], ℕ, Bor}
 use Rattle.std.proofs.lemmas.Option.{slice_get-get_or}
 use Rattle.sf_command.proofs.NamingLemmas.{all_named, naming_why, one_named}
 use Rattle.sf_command.proofs.RefusalLemmas.{handed_on}
@@ -22,5 +22,4 @@ returns-in_err-names-clause-refused g c =
     (naming_why _ _ _ _ _ _ c.loop-path.invariant.same here c.in_err-names.ensures.refused)
 
 pub returns-clause-meant : goal.returns-clause-meant
-returns-clause-meant g c =
-    all_named _ _ _ _ _ c.loop-path.invariant c.loop-path-test.false c.loop-path.auto.path-index-end
+returns-clause-meant g c = search (arith, all_named)

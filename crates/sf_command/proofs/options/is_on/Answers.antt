@@ -1,9 +1,7 @@
-use Rattle.std.proofs.Common.{◌∙◌}
-use Rattle.clap.specs.Words.{found_of}
+use Rattle.std.proofs.lemmas.Grind.{common_steps}
+use Rattle.std.proofs.Common.{arith}
 use Rattle.clap.proofs.WalkLemmas.{one_text-rows}
 use Rattle.sf_command.proofs.options.is_on.Goals as goal
 
 pub returns : goal.returns
-returns c =
-    let by_rows = one_text-rows (found_of c.args.found.now) c.args.name.now in
-    (λ on. c.get_flag.ensures.value (by_rows ∙ on), λ off. c.get_flag.ensures.other (by_rows ∙ off))
+returns c = grind (arith, common_steps, one_text-rows)

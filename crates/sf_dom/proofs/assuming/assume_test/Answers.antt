@@ -1,4 +1,4 @@
-use Rattle.std.proofs.Common.{◌≡◌, sym, ◌∙◌}
+use Rattle.std.proofs.Common.{arith, ◌≡◌, sym, ◌∙◌}
 use Rattle.std.specs.Prelude.{Option, Some, None}
 use Rattle.sf_dom.specs.declared.known.Known.{Known}
 use Rattle.sf_dom.proofs.GuardLemmas.{gives-not_greater, gives-at_least, gives-less}
@@ -25,11 +25,4 @@ not-none : (o : Option Known) (n : Known) → o ≡ Some n → o ≡ None → �
 not-none o n is none = let clash : Some n ≡ None = sym is ∙ none in absurd cc
 
 pub returns-in_ok-node-in-Some-decided-2-clause-tells : goal.returns-in_ok-node-in-Some-decided-2-clause-tells
-returns-in_ok-node-in-Some-decided-2-clause-tells c =
-    let e = c.common_bit.ensures in
-    let bits = c.in-Some-decided-2.ensures.1 in
-    rw (c.in-AnyBit-true.is-0, c.in-AnyBit-true.is-1) (
-      (λ d h. not-none c.common_bit.result c.in_ok-node-in-Some-decided-2.node c.in_ok-node-in-Some-decided-2.was
-          (e.none (rw bits h))),
-      (λ d one. rw (← bits) (c.in_ok-node-in-Some-decided-2.ensures.told (rw bits one))),
-    )
+returns-in_ok-node-in-Some-decided-2-clause-tells c = search (arith, not-none)

@@ -1,3 +1,4 @@
+use Rattle.std.proofs.lemmas.Grind.{common_steps}
 use Rattle.std.proofs.Common.{arith, sym}
 use Rattle.sf_sym.specs.Pool.{value_of}
 use Rattle.sf_dom.proofs.Propagations.{propagate-set, AllNarrower-set, IsReady-set, tight-set}
@@ -35,7 +36,7 @@ loop-op-preserved c =
           (omega (arith, o.ensures.smaller)) t.tight w b (inv.tight w b h);
       ready = IsReady-set ks ns o.x next (omega (arith, o.ensures.smaller)) inv.ready narrower t.consistent;
       carries = carries-step ks ns c.args.from c.loop-op.at o.x o.c o.op next o.ensures.smaller
-          (omega (arith, o.ensures.smaller)) (sym o.ensures.told)
+          (omega (arith, o.ensures.smaller)) (sym o.ensures.operand)
           (hands-on-narrower o.op o.c (known_at ks c.loop-op.at) c.in-Some-backward.gained next t.narrower
           (rw c.get.ensures at c.in-Some-backward.ensures.told)) inv.carries;
     })
@@ -46,11 +47,7 @@ returns-in-None-clause-backward c = λ t.
     let ns = c.args.pool.now in
     let o = c.in-Some in
     carried ks ns c.args.from c.loop-op.at c.loop-op.invariant.carries
-    (walked-other ks ns c.loop-op.at o.x o.c o.op (sym o.ensures.told) (c.backward.ensures.none c.in-None.is))
+    (walked-other ks ns c.loop-op.at o.x o.c o.op (sym o.ensures.operand) (c.backward.ensures.none c.in-None.is))
 
 pub returns-clause-backward : goal.returns-clause-backward
-returns-clause-backward c = λ t.
-    let ks = c.loop-op.nodes.known in
-    let ns = c.args.pool.now in
-    carried ks ns c.args.from c.loop-op.at c.loop-op.invariant.carries
-    (walked-end ks ns c.loop-op.at (sym c.in_default.ensures.told))
+returns-clause-backward c = grind (arith, common_steps, carried, walked-end)

@@ -1,10 +1,9 @@
+use Rattle.std.proofs.Common.{arith}
 use Rattle.sf_dom.proofs.Assumed.{alone-with-more, others-tight}
 use Rattle.sf_dom.proofs.changes.learn_cond.Goals as goal
 
 pub assume_cond-requires-clause-left : goal.assume_cond-requires-clause-left
-assume_cond-requires-clause-left c = rw c.in_ok-left.ensures (alone-with-more c.args.nodes.now.known
-    c.args.excluded.now c.in_ok-lists.lists c.args.pool.now c.args.cond.now _ _ c.len-count.ensures.lawful
-    c.requires.ready.count c.in_ok-lists.ensures.told c.in-Some.ensures)
+assume_cond-requires-clause-left c = search (arith, alone-with-more)
 
 pub assume_cond-requires-clause-tight : goal.assume_cond-requires-clause-tight
 assume_cond-requires-clause-tight c = rw c.in_ok-left.ensures (others-tight c.args.nodes.now.known
@@ -18,9 +17,7 @@ returns-then-not-assume_cond c =
     λ d p a h. told d p (both.keeps d p a h) h
 
 pub changes_nothing-requires-clause-left : goal.changes_nothing-requires-clause-left
-changes_nothing-requires-clause-left c = alone-with-more c.args.nodes.now.known
-    c.args.excluded.now c.in_ok-lists.lists c.args.pool.now c.args.cond.now _ _ c.len-count.ensures.lawful
-    c.requires.ready.count c.in_ok-lists.ensures.told c.in-Some.ensures
+changes_nothing-requires-clause-left c = search (arith, alone-with-more)
 
 pub changes_nothing-requires-clause-tight : goal.changes_nothing-requires-clause-tight
 changes_nothing-requires-clause-tight c = others-tight c.args.nodes.now.known

@@ -6,8 +6,7 @@ use Rattle.sf_dom.proofs.Propagations.{tight-set}
 use Rattle.sf_dom.proofs.changes.restrict.Goals as goal
 
 pub returns-in_default : goal.returns-in_default
-returns-in_default c = λ d p a h. c.in_default.ensures d p a
-    (rw (value-word c.args.pool.now d c.args.word c.len-count.ensures.lawful c.requires.word) h)
+returns-in_default c = search (arith, value-word)
 
 pub propagate-requires-clause-tight : goal.propagate-requires-clause-tight
 propagate-requires-clause-tight c = λ w l.

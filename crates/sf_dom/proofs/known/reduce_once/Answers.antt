@@ -1,3 +1,4 @@
+use Rattle.std.proofs.lemmas.Grind.{common_steps}
 use Rattle.std.proofs.Common.{◌-◌, arith, ap}
 use Rattle.std.specs.Prelude.{bit_or, bit_and}
 use Rattle.sf_dom.proofs.Bits.{bits-apart}
@@ -5,9 +6,7 @@ use Rattle.sf_dom.proofs.Reductions.{inside_bits, led, narrowed}
 use Rattle.sf_dom.proofs.known.reduce_once.Goals as goal
 
 pub returns-then-high-low : goal.returns-then-high-low
-returns-then-high-low c = λ n h.
-    let inside = inside_bits c.args.known n (omega arith) (omega arith) h in
-    omega (arith, c.max-low.ensures, c.min-high.ensures)
+returns-then-high-low c = grind (arith, common_steps, inside_bits)
 
 pub returns-then-known-ne0 : goal.returns-then-known-ne0
 returns-then-known-ne0 c = λ n h. c.if-known-ne0.true (bits-apart n c.args.known.zeros c.args.known.ones h.bits)

@@ -1,11 +1,11 @@
+use Rattle.std.proofs.lemmas.Grind.{common_steps}
 use Rattle.std.proofs.Common.{arith}
 use Rattle.sf_dom.proofs.Bits.{bits-apart}
 use Rattle.sf_dom.proofs.Reductions.{AreApart-and, tight-word}
 use Rattle.sf_dom.proofs.known.reduce_word.Goals as goal
 
 pub returns-then-known-ne0 : goal.returns-then-known-ne0
-returns-then-known-ne0 c = λ n h. c.if-known-ne0.true
-    (bits-apart n c.args.known.zeros c.args.known.ones h.admitted.bits)
+returns-then-known-ne0 c = grind (arith, common_steps, bits-apart)
 
 pub least_left-requires : goal.least_left-requires
 least_left-requires c = record { apart = AreApart-and c.args.known.zeros c.args.known.ones c.if-known-ne0.false }

@@ -1,8 +1,7 @@
-use Rattle.std.proofs.Common.{◌≡◌, length, arith, ◌∷◌, [], ◌∙◌, sym, ap, inl, inr}
+use Rattle.std.proofs.Common.{◌≡◌, length, arith, ◌∷◌, [], ◌∙◌, inl, inr}
 use Rattle.std.proofs.lemmas.Bool.{cases_lt}
 use Rattle.std.proofs.lemmas.List.{length_push, take-append-le, get_or-take}
 use Rattle.sf_sym.specs.Pool.{values_of, value_of}
-use Rattle.sf_dom.specs.Known.{known_of}
 use Rattle.sf_dom.proofs.Propagations.{grown-left, agrees-push, passed-push, still-none}
 use Rattle.sf_dom.proofs.propagation.append.Goals as goal
 use Rattle.sf_dom.specs.Facts.{known_at}
@@ -50,8 +49,8 @@ loop-i-preserved c =
       passed = λ consistent.
           passed-push ks ex ns (length old) i c.transfer-known.result next lawful count (omega arith) (omega arith)
           (λ k l. elim (cases_lt k (length old)) [
-            | inl b ↦ (let same : known_at old k ≡ known_at ks k = ap (λ xs. known_at xs k) (sym inv.kept)
-                ∙ get_or-take (length old) ks k (known_of 0 0 0 0) b in rw same at (consistent k b))
+            | inl b ↦ (let same : known_at old k ≡ known_at ks k = search (arith, get_or-take) in
+                rw same at (consistent k b))
             | inr g ↦ (inv.passed consistent k g l).consistent
           ])
           (inv.passed consistent)

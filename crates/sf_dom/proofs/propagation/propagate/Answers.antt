@@ -1,22 +1,14 @@
-use Rattle.std.proofs.Common.{◌≡◌, ◌<◌, length, arith, refl, sym, ap, ◌∙◌}
+use Rattle.std.proofs.Common.{◌≡◌, ◌<◌, length, arith, sym, ap, ◌∙◌}
 use Rattle.std.specs.Prelude.{slice_index}
 use Rattle.sf_sym.specs.Pool.{values_of, value_of}
 use Rattle.sf_dom.specs.Facts.{known_at}
 use Rattle.sf_dom.specs.Propagation.{IsReady}
-use Rattle.sf_dom.proofs.Propagations.{variable-before, passed-up_to, words-passed, AllNarrower-refl, propagate-left, propagate-set, passed-set, AllNarrower-set, IsReady-set}
+use Rattle.sf_dom.proofs.Propagations.{variable-before, passed-up_to, words-passed, propagate-left, propagate-set, passed-set, AllNarrower-set, IsReady-set}
 use Rattle.sf_dom.proofs.Reductions.{IsNarrower-trans}
 use Rattle.sf_dom.proofs.propagation.propagate.Goals as goal
 
 pub loop-rank-init : goal.loop-rank-init
-loop-rank-init c = record {
-  keeps = λ d p a. a;
-  narrower = AllNarrower-refl c.args.nodes.now.known;
-  ready = c.requires.ready;
-  variables = refl;
-  laid_out = c.variable_count-rank-end.ensures.laid_out;
-  passed = words-passed c.args.nodes.now c.args.excluded.now c.args.pool.now c.len-count.ensures.lawful
-      c.requires.ready c.variable_count-rank-end.ensures.laid_out c.requires.tight;
-}
+loop-rank-init c = search (arith, words-passed)
 
 pub returns-in-None : goal.returns-in-None
 returns-in-None c = λ d p a.

@@ -1,11 +1,11 @@
-use Rattle.std.proofs.Common.{◌<◌}
+use Rattle.std.proofs.lemmas.Grind.{common_steps}
+use Rattle.std.proofs.Common.{arith, ◌<◌}
 use Rattle.std.specs.Prelude.{slice_index}
 use Rattle.sf_dom.specs.FactsLaws.{constant-admits}
 use Rattle.sf_dom.proofs.propagation.transfer.Goals as goal
 
 pub returns-in-Const-clause-value : goal.returns-in-Const-clause-value
-returns-in-Const-clause-value c = λ d older p h. rw (c.in-Const.is, c.of_number.ensures)
-    (constant-admits c.in-Const.c (rw c.in-Const.is at c.requires))
+returns-in-Const-clause-value c = grind (arith, common_steps, constant-admits)
 
 pub returns-in-Word-clause-value : goal.returns-in-Word-clause-value
 returns-in-Word-clause-value c = λ d older p h.

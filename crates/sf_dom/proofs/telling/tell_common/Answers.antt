@@ -1,3 +1,4 @@
+use Rattle.std.proofs.lemmas.Grind.{common_steps}
 use Rattle.std.proofs.Common.{not, ap, ◌∙◌, arith, eq-eqb}
 use Rattle.std.proofs.lemmas.Bool.{ne_eqb}
 use Rattle.std.specs.Prelude.{bit_and}
@@ -5,9 +6,7 @@ use Rattle.sf_dom.proofs.CommonBits.{common-known, common-open, none-open, and-z
 use Rattle.sf_dom.proofs.telling.tell_common.Goals as goal
 
 pub returns-then-known-number-ne0 : goal.returns-then-known-number-ne0
-returns-then-known-number-ne0 c = λ x h.
-    ap not (ne_eqb (bit_and x c.args.number) 0
-    (common-known x c.args.number c.args.known.zeros c.args.known.ones h.bits c.if-known-number-ne0.true))
+returns-then-known-number-ne0 c = grind (arith, common_steps, ne_eqb, common-known)
 
 pub returns-then-number-known-eq0 : goal.returns-then-number-known-eq0
 returns-then-number-known-eq0 c = λ x h.
@@ -16,8 +15,4 @@ returns-then-number-known-eq0 c = λ x h.
     ∙ ap (bit_and x) c.if-number-known-eq0.true ∙ and-zero x))
 
 pub returns : goal.returns
-returns c = (
-  c.if-known-number-ne0.false,
-  λ all. c.if-number-known-eq0.false
-      (none-open c.args.number c.args.known.zeros (omega arith) all),
-)
+returns c = grind (arith, common_steps, none-open)

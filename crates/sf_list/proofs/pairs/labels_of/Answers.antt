@@ -13,7 +13,4 @@ loop-both-preserved c = record {
 }
 
 pub returns-clause-tell : goal.returns-clause-tell
-returns-clause-tell c = λ place both at.
-    let within = slice_get_within c.args.answers.now place both at in
-    let past = c.loop-both-test.false in
-    c.loop-both.invariant.told place both (omega (arith, within, past)) at
+returns-clause-tell c = search (arith, slice_get_within)

@@ -1,3 +1,4 @@
+use Rattle.std.proofs.lemmas.Grind.{common_steps}
 use Rattle.std.proofs.Common.{◌<◌, Option, length, map, sym, subst, ◌∙◌, arith}
 use Rattle.std.proofs.lemmas.List.{length-map}
 use Rattle.sf_ask.specs.declared.verdict.Verdict.{Verdict}
@@ -6,11 +7,7 @@ use Rattle.sf_ask.proofs.SheetLemmas.{first-at}
 use Rattle.sf_ask.proofs.sheet.Sheet.verdict.Goals as goal
 
 pub returns-in-None-clause-value : goal.returns-in-None-clause-value
-returns-in-None-clause-value c =
-    let below : c.args.q < length c.self.inside.questions.items =
-    omega (arith, rw (← c.self.view_is) at c.requires, length-map c.self.inside.questions.items (λ q. q.value)) in
-    rw (← c.self.view_is, c.in-None.is) (c.clear_verdict.ensures ∙ sym (first-at c.self.inside.wanted
-    (length c.self.inside.questions.items) c.args.q below))
+returns-in-None-clause-value c = grind (arith, common_steps, length-map, first-at)
 
 pub returns-in-None-clause-right : goal.returns-in-None-clause-right
 returns-in-None-clause-right c =

@@ -1,5 +1,5 @@
+use Rattle.std.proofs.Common.{arith}
 use Rattle.sf_audit.proofs.report.text.push_question.Goals as goal
 
 pub returns-in_ok-digits-in-Allowed : goal.returns-in_ok-digits-in-Allowed
-returns-in_ok-digits-in-Allowed c = rw (c.in-Allowed.is, ← c.in_ok-digits-in-Allowed.ensures)
-    c.write-in-Allowed.ensures.bytes
+returns-in_ok-digits-in-Allowed c = search arith

@@ -6,13 +6,7 @@ use Rattle.sf_dom.proofs.facts.Facts.decided.Goals as goal
 
 pub returns-clause-some : goal.returns-clause-some
 unfolding Agrees
-returns-clause-some c =
-    let covers = rw (← c.self.view_is) at c.requires.covers in
-    let told = rw (c.get-known.ensures, c.deref.ensures) at c.decided.ensures in
-    rw (← c.self.view_is) (λ n e d p a.
-    let one = decided-some c.decided.result (known_at (arc_value c.self.inside.nodes).known c.args.node.0) n told e in
-    let admitted = (a c.args.node.0 (omega (arith, c.requires.node, covers.count))).admitted in
-    omega (arith, admitted.above, admitted.below, one.0, one.1))
+returns-clause-some c = search (arith, decided-some)
 
 pub returns-clause-none : goal.returns-clause-none
 unfolding Agrees

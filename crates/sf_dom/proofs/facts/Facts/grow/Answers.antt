@@ -1,3 +1,4 @@
+use Rattle.std.proofs.lemmas.Grind.{common_steps}
 use Rattle.std.proofs.Common.{length, arith, ap}
 use Rattle.std.specs.Arc.{arc_value}
 use Rattle.sf_dom.specs.Nodes.{NodesView}
@@ -5,14 +6,7 @@ use Rattle.sf_dom.proofs.Sampled.{grown-facts, grown-takes-in, none-agreed}
 use Rattle.sf_dom.proofs.facts.Facts.grow.Goals as goal
 
 pub invariant_of-self-2 : goal.invariant_of-self-2
-invariant_of-self-2 c =
-    let grown = rw c.if-not-branch.false at c.in_ok-extend.ensures.grown in
-    (grown-facts (arc_value c.self.inside.nodes).known (arc_value c.extend.new.nodes).known
-    c.self.inside.excluded c.args.pool.now
-    c.len.ensures.lawful c.self.invariant (omega (
-      arith,
-      ap (λ (n : NodesView). length n.known) c.deref.ensures,
-    )) grown).0
+invariant_of-self-2 c = grind (arith, common_steps, grown-facts)
 
 pub returns-clause-grown : goal.returns-clause-grown
 returns-clause-grown c =

@@ -1,10 +1,10 @@
+use Rattle.std.proofs.Common.{arith}
 use Rattle.sf_dom.specs.Facts.{Agrees}
 use Rattle.sf_dom.specs.FactsLaws.{agreeing-word, sampled, words-agree}
 use Rattle.sf_dom.proofs.facts.Facts.least.Goals as goal
 
 pub returns-clause-lower : goal.returns-clause-lower
-returns-clause-lower c = λ ns h d input a.
-    (agreeing-word c.args.self.now ns d c.args.word h c.requires a).admitted.above
+returns-clause-lower c = search (arith, agreeing-word)
 
 pub returns-clause-attained : goal.returns-clause-attained
 unfolding Agrees

@@ -1,11 +1,11 @@
+use Rattle.std.proofs.Common.{arith}
 use Rattle.sf_dom.specs.Facts.{Agrees}
 use Rattle.sf_dom.proofs.Assumed.{restricted-word}
 use Rattle.sf_dom.proofs.facts.Facts.restrict_word.Goals as goal
 
 pub returns-in-None-clause-confined : goal.returns-in-None-clause-confined
 unfolding Agrees
-returns-in-None-clause-confined c =
-    rw (← c.self.view_is) (rw (c.in-None.is, c.deref.ensures) at c.in_ok-restrict.ensures)
+returns-in-None-clause-confined c = search arith
 
 pub returns-in_ok-excluded-in-Some-clause-confined : goal.returns-in_ok-excluded-in-Some-clause-confined
 returns-in_ok-excluded-in-Some-clause-confined c =

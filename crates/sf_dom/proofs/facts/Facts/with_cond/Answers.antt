@@ -1,3 +1,4 @@
+use Rattle.std.proofs.Common.{arith}
 use Rattle.sf_sym.specs.ValueLaws.{met-passes}
 use Rattle.sf_dom.specs.Facts.{Agrees}
 use Rattle.sf_dom.proofs.Assumed.{assumed-learns}
@@ -5,9 +6,7 @@ use Rattle.sf_dom.proofs.facts.Facts.with_cond.Goals as goal
 
 pub returns-in-None : goal.returns-in-None
 unfolding Agrees
-returns-in-None c =
-    let told = rw (c.in-None.is, c.deref.ensures) at c.in_ok-learn_cond.ensures in
-    rw (← c.self.view_is) (λ d p a m. told d p a (met-passes c.args.pool.now d c.args.cond.now m))
+returns-in-None c = grind (arith, met-passes)
 
 pub returns-in_ok-nodes-in-Some : goal.returns-in_ok-nodes-in-Some
 returns-in_ok-nodes-in-Some c =

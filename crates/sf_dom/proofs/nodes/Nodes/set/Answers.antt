@@ -1,3 +1,4 @@
+use Rattle.std.proofs.lemmas.Grind.{common_steps}
 use Rattle.std.proofs.Common.{◌≡◌, arith}
 use Rattle.std.specs.Arc.{arc_value}
 use Rattle.sf_dom.proofs.Slots.{IsVariable, place-read, laid-out, known-set, kept-set, places-set, variable-here}
@@ -40,5 +41,4 @@ pub returns-in-Variable-clause-laid_out : goal.returns-in-Variable-clause-laid_o
 returns-in-Variable-clause-laid_out c = laid-out (arc_value c.self.inside.slots) _ (invariant_of-self c)
 
 pub returns-in_default-clause-laid_out : goal.returns-in_default-clause-laid_out
-returns-in_default-clause-laid_out c = rw (← c.self.view_is)
-    (laid-out (arc_value c.self.inside.slots) c.self.inside.variables.items c.self.invariant)
+returns-in_default-clause-laid_out c = grind (arith, common_steps, laid-out)

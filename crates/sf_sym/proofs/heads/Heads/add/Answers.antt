@@ -1,7 +1,7 @@
-use Rattle.std.proofs.Common.{◌≡◌, ◌+◌, ◌*◌, ◌/◌, ◌%◌, length, map, get_or, set, arith, ap, sym, ◌∙◌}
+use Rattle.std.proofs.lemmas.Grind.{common_steps}
+use Rattle.std.proofs.Common.{◌≡◌, ◌+◌, ◌*◌, ◌/◌, ◌%◌, length, set, arith, ap, ◌∙◌}
 use Rattle.std.proofs.Math.Seq.{map-set_same}
 use Rattle.std.proofs.lemmas.Result.{on_ok_weaker, on_err_weaker}
-use Rattle.sf_blocks.specs.Blocks.{joined_blocks}
 use Rattle.sf_sym.specs.Heads.{block_heads}
 use Rattle.sf_sym.proofs.HeadLemmas.{joined-set}
 use Rattle.sf_sym.proofs.heads.Heads.add.Goals as goal
@@ -21,9 +21,4 @@ returns-clause-head c =
     rw parts at at ∙ ap (λ xs. set xs hash head) c.self.view_is) c.add_in.ensures.head
 
 pub returns-clause-err_heads : goal.returns-clause-err_heads
-returns-clause-err_heads c =
-    let bs = c.self.inside.blocks.items in
-    let b = c.index_mut.result.now in
-    on_err_weaker c.add_in.result (λ e.
-    ap joined_blocks (map-set_same block_heads bs (c.args.hash / 128) c.add_in.new.block b
-    (e ∙ ap block_heads c.index_mut.ensures.value)) ∙ c.self.view_is) c.add_in.ensures.err_heads
+returns-clause-err_heads c = grind (arith, common_steps, on_err_weaker, map-set_same)

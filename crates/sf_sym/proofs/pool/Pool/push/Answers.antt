@@ -1,8 +1,9 @@
+use Rattle.std.proofs.lemmas.Grind.{common_steps}
 use Rattle.std.proofs.Common.{◌≡◌, length, arith, ap, refl, ◌∙◌}
 use Rattle.std.specs.Arc.{arc_value}
 use Rattle.sf_sym.specs.ValueLaws.{IsPool-push, ArePlainNodes-push, value-node, value-pushed}
 use Rattle.sf_sym.proofs.Folds.{folded_node-value, folded_node-operands}
-use Rattle.sf_sym.specs.Pool.{OperandsBelow, node_value, values_of, folded_node}
+use Rattle.sf_sym.specs.Pool.{OperandsBelow, folded_node}
 use Rattle.sf_sym.proofs.pool.Pool.push.Goals as goal
 
 pub returns-in-Some-clause-within : goal.returns-in-Some-clause-within
@@ -11,15 +12,7 @@ returns-in-Some-clause-within c =
     omega (arith, ap length c.self.view_is, there.0)
 
 pub returns-in-Some-clause-value : goal.returns-in-Some-clause-value
-returns-in-Some-clause-value c = λ d.
-    let ns = arc_value c.self.inside.nodes in
-    let lawful = c.self.invariant in
-    let there = rw c.deref-3.ensures at c.in-Some.ensures.found c.in-Some.at refl in
-    let folds = c.fold-node.ensures ∙ ap (λ ms. folded_node ms c.args.node) c.deref-2.ensures in
-    let operands : OperandsBelow (length ns) c.args.node = rw (← c.self.view_is) at c.requires in
-    rw (← c.self.view_is) (value-node ns d c.in-Some.at lawful there.0
-    ∙ ap (node_value d (values_of ns d)) (there.1 ∙ folds)
-    ∙ folded_node-value ns d c.args.node lawful operands)
+returns-in-Some-clause-value c = search (arith, value-node, folded_node-value)
 
 pub returns-in-Some-clause-added : goal.returns-in-Some-clause-added
 returns-in-Some-clause-added c = λ absent.
@@ -36,12 +29,7 @@ invariant_of-self-2 c =
     (folded_node-operands ns c.args.node c.self.invariant given))
 
 pub returns-clause-value : goal.returns-clause-value
-returns-clause-value c = λ d.
-    let ns = arc_value c.self.inside.nodes in
-    let given : OperandsBelow (length ns) c.args.node = rw (← c.self.view_is) at c.requires in
-    let at : c.in_ok-at.at ≡ length ns = c.in_ok-at.ensures.place in
-    rw (← c.self.view_is, c.in_ok-at.ensures.ok, c.fold-node.ensures, c.deref-2.ensures, at)
-    (value-pushed ns (folded_node ns c.args.node) d ∙ folded_node-value ns d c.args.node c.self.invariant given)
+returns-clause-value c = grind (arith, common_steps, value-pushed, folded_node-value)
 
 pub returns-clause-plain : goal.returns-clause-plain
 returns-clause-plain c = λ k e plain.

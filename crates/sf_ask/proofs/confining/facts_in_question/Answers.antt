@@ -1,6 +1,6 @@
 use Rattle.std.proofs.Common.{arith}
 use Rattle.sf_ask.proofs.Words.{of-true, before-none, before-more, before-all}
-use Rattle.sf_ask.proofs.confining.facts_in.Goals as goal
+use Rattle.sf_ask.proofs.confining.facts_in_question.Goals as goal
 
 pub loop-word-init : goal.loop-word-init
 loop-word-init c =

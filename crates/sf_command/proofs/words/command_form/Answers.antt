@@ -1,9 +1,9 @@
-use Rattle.std.proofs.Common.{◌≡◌, ap, ap₂, ◌∙◌}
+use Rattle.std.proofs.Common.{ap, ap₂, ◌∙◌}
 use Rattle.std.proofs.lemmas.Result.{IfOk-weaker}
 use Rattle.clap.specs.Words.{App, with_subcommand}
 use Rattle.sf_command.specs.CommandLine.{command_line}
 use Rattle.sf_command.proofs.CommandLineLemmas.{third_is_off}
-use Rattle.sf_command.proofs.words.form.Goals as goal
+use Rattle.sf_command.proofs.words.command_form.Goals as goal
 
 pub returns : goal.returns
 unfolding command_line

@@ -1,0 +1,32 @@
+-- Operations on a node and a constant.
+use Rattle.std.specs.Prelude.{◌≡◌, ℕ, zero, suc, List, Option, Some, None}
+use Rattle.sf_insn.specs.declared.ops.BinOp.{BinOp}
+use Rattle.sf_insn.specs.declared.ops.BinOp.TheVariants.{Or, And, Xor}
+use Rattle.sf_sym.specs.Pool.{node_at, constant_number}
+use Rattle.sf_sym.specs.declared.pool.Node.{Node}
+use Rattle.sf_sym.specs.declared.pool.Node.TheVariants.{Bin, Word}
+
+-- an operation that works bit by bit, whose operands may be swapped
+abbrev pub IsSwappable : BinOp → Type 0
+IsSwappable Or = Unit {0}
+IsSwappable And = Unit {0}
+IsSwappable Xor = Unit {0}
+IsSwappable _ = ⊥
+
+-- where exactly one of two operands is a constant: the operation, the place of the other operand and the constant
+abbrev pub one_constant : BinOp → ℕ → ℕ → Option ℕ → Option ℕ → Option (BinOp × ℕ × ℕ)
+one_constant op a b None (Some c) = Some (op, a, c)
+one_constant op a b (Some c) None = Some (op, b, c)
+one_constant op a b _ _ = None
+
+-- where exactly one operand of a node is a constant: the operation, the place of the other operand and the constant
+abbrev pub constant_operand_of : List Node → Node → Option (BinOp × ℕ × ℕ)
+constant_operand_of ns (Bin op a b) = one_constant op a.0 b.0 (constant_number (node_at ns a.0))
+    (constant_number (node_at ns b.0))
+constant_operand_of ns _ = None
+
+-- the node at a place is a word of the input, or so many ANDs of one with constants, one after the other
+abbrev pub IsAndsOf : ℕ → List Node → ℕ → ℕ → Type 0
+IsAndsOf zero ns at w = node_at ns at ≡ Word w
+IsAndsOf (suc n) ns at w =
+    (x c : ℕ) × (constant_operand_of ns (node_at ns at) ≡ Some (And, x, c)) × IsAndsOf n ns x w
