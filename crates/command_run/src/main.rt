@@ -8,13 +8,13 @@
 //! the same. A line that begins with `#` is a comment.
 #![tactic(auto)]
 
+mod fragments;
 mod limited;
-mod pieces;
+mod memory_files;
 mod running;
-mod shelf;
 
+use crate::memory_files::MemoryFiles;
 use crate::running::{count, interrupt, limit, run};
-use crate::shelf::Shelf;
 use std::sync::Wait;
 use std::test::Fail;
 use std::thread::Threads;
@@ -22,26 +22,26 @@ use std::thread::Threads;
 /// Does what one line of the script says.
 fn take<R: Print + Threads + Wait + Sync + AllocGlobal>(
     rt: &R,
-    shelf: &mut Shelf,
+    files: &mut MemoryFiles,
     line: &str,
 ) -> Result<(), Fail> {
     let (word, rest) = line.split_once(' ').unwrap_or((line, ""));
     match word {
-        "file" => shelf.put_digits(rest),
-        "text" => shelf.put_lines(rest),
-        "run" => run(rt, shelf, rest),
-        "count" => count(rt, shelf, rest),
-        "limit" => limit(rt, shelf, rest),
-        "interrupt" => interrupt(rt, shelf, rest),
+        "file" => files.put_digits(rest),
+        "text" => files.put_lines(rest),
+        "run" => run(rt, files, rest),
+        "count" => count(rt, files, rest),
+        "limit" => limit(rt, files, rest),
+        "interrupt" => interrupt(rt, files, rest),
         "#" | "" => Ok(()),
         _ => Ok(println!(rt; "unknown line {line}")?),
     }
 }
 
 fn main(rt: HostRuntime) -> Result<(), Fail> {
-    let mut shelf = Shelf::new(rt.alloc());
+    let mut files = MemoryFiles::new(rt.alloc());
     for line in rt.lines(rt.alloc()) {
-        take(&rt, &mut shelf, line?.as_str())?;
+        take(&rt, &mut files, line?.as_str())?;
     }
     Ok(())
 }

@@ -1,8 +1,8 @@
 //! Runs command lines, and shows what they write.
 
+use crate::fragments::words_of;
 use crate::limited::{Counted, Full, Limited};
-use crate::pieces::words_of;
-use crate::shelf::Shelf;
+use crate::memory_files::MemoryFiles;
 use sf_command::command;
 use std::alloc::Global;
 use std::sync::Wait;
@@ -41,7 +41,7 @@ struct Ended {
 /// Runs a command line over a writer that takes at most `most` bytes a call and `limit` bytes in all.
 fn run_over<R: Print + Threads + Wait + Sync + AllocGlobal>(
     rt: &R,
-    shelf: &mut Shelf,
+    files: &mut MemoryFiles,
     words: &[String],
     most: usize,
     limit: usize,
@@ -55,29 +55,29 @@ fn run_over<R: Print + Threads + Wait + Sync + AllocGlobal>(
         full,
     };
     let mut err = no_errors(alloc);
-    let status = command(rt, alloc, words, shelf, &mut out, &mut err);
+    let status = command(rt, alloc, words, files, &mut out, &mut err);
     Ended { out, err, status }
 }
 
 /// Shows a command line, and runs it over a writer that takes all.
 fn run_whole<R: Print + Threads + Wait + Sync + AllocGlobal>(
     rt: &R,
-    shelf: &mut Shelf,
+    files: &mut MemoryFiles,
     line: &str,
 ) -> Result<Ended, Fail> {
     let words = words_of(rt.alloc(), line)?;
     println!(rt; "$ {line}")?;
     let all = usize::MAX;
-    Ok(run_over(rt, shelf, &words, all, all, Full::Fails))
+    Ok(run_over(rt, files, &words, all, all, Full::Fails))
 }
 
 /// Runs a command line and shows what it writes.
 pub fn run<R: Print + Threads + Wait + Sync + AllocGlobal>(
     rt: &R,
-    shelf: &mut Shelf,
+    files: &mut MemoryFiles,
     line: &str,
 ) -> Result<(), Fail> {
-    let Ended { out, err, status } = run_whole(rt, shelf, line)?;
+    let Ended { out, err, status } = run_whole(rt, files, line)?;
     print!(rt; "{}", std::str::from_utf8(&out.held)?)?;
     show_end(rt, &err, status)
 }
@@ -85,10 +85,10 @@ pub fn run<R: Print + Threads + Wait + Sync + AllocGlobal>(
 /// Runs a command line and shows how many bytes it writes.
 pub fn count<R: Print + Threads + Wait + Sync + AllocGlobal>(
     rt: &R,
-    shelf: &mut Shelf,
+    files: &mut MemoryFiles,
     line: &str,
 ) -> Result<(), Fail> {
-    let Ended { out, err, status } = run_whole(rt, shelf, line)?;
+    let Ended { out, err, status } = run_whole(rt, files, line)?;
     println!(rt; "{} bytes", out.held.len())?;
     show_end(rt, &err, status)
 }
@@ -104,17 +104,17 @@ fn end_alike(left: &Ended, right: &Ended) -> bool {
 /// writers that take five and seven bytes a call it has to end in the same way. True where the limit was enough.
 fn run_limited<R: Print + Threads + Wait + Sync + AllocGlobal>(
     rt: &R,
-    shelf: &mut Shelf,
+    files: &mut MemoryFiles,
     words: &[String],
     limit: usize,
     full: Full,
 ) -> Result<bool, Fail> {
-    let ended = run_over(rt, shelf, words, 1, limit, full);
+    let ended = run_over(rt, files, words, 1, limit, full);
     let held = std::str::from_utf8(&ended.out.held)?;
     println!(rt; "{limit} bytes, {full:?}: {held:?}")?;
     show_end(rt, &ended.err, ended.status)?;
     for most in [5, 7] {
-        let other = run_over(rt, shelf, words, most, limit, full);
+        let other = run_over(rt, files, words, most, limit, full);
         if !end_alike(&ended, &other) {
             println!(rt; "by {most} bytes a call it ends otherwise")?;
         }
@@ -125,12 +125,12 @@ fn run_limited<R: Print + Threads + Wait + Sync + AllocGlobal>(
 /// Runs a command line over a writer that takes five bytes, is interrupted by a signal once, and then takes all.
 pub fn interrupt<R: Print + Threads + Wait + Sync + AllocGlobal>(
     rt: &R,
-    shelf: &mut Shelf,
+    files: &mut MemoryFiles,
     line: &str,
 ) -> Result<(), Fail> {
     let words = words_of(rt.alloc(), line)?;
     println!(rt; "$ {line}")?;
-    run_limited(rt, shelf, &words, 5, Full::Interrupted)?;
+    run_limited(rt, files, &words, 5, Full::Interrupted)?;
     Ok(())
 }
 
@@ -138,14 +138,14 @@ pub fn interrupt<R: Print + Threads + Wait + Sync + AllocGlobal>(
 /// tried twice: with a writer that then takes nothing more, and with one that then fails.
 pub fn limit<R: Print + Threads + Wait + Sync + AllocGlobal>(
     rt: &R,
-    shelf: &mut Shelf,
+    files: &mut MemoryFiles,
     line: &str,
 ) -> Result<(), Fail> {
     let words = words_of(rt.alloc(), line)?;
     println!(rt; "$ {line}")?;
     for most in 0..1000 {
-        let one = run_limited(rt, shelf, &words, most, Full::TakesNothing)?;
-        let other = run_limited(rt, shelf, &words, most, Full::Fails)?;
+        let one = run_limited(rt, files, &words, most, Full::TakesNothing)?;
+        let other = run_limited(rt, files, &words, most, Full::Fails)?;
         if one && other {
             break;
         }

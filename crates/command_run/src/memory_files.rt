@@ -1,6 +1,6 @@
 //! Files in memory, by name.
 
-use crate::pieces::push_digits;
+use crate::fragments::push_digits;
 use sf_audit::Fault;
 use sf_command::{Files, MOST_BYTES};
 use std::alloc::{AllocError, Global};
@@ -8,15 +8,15 @@ use std::test::Fail;
 
 /// Files by name, the newest last. Of files with one name the newest is read.
 #[derive(Drop)]
-pub struct Shelf {
+pub struct MemoryFiles {
     alloc: Global,
     files: Vec<(String, Vec<u8>)>,
 }
 
-impl Shelf {
-    /// A shelf without files.
-    pub fn new(alloc: Global) -> Shelf {
-        Shelf {
+impl MemoryFiles {
+    /// No files.
+    pub fn new(alloc: Global) -> MemoryFiles {
+        MemoryFiles {
             alloc,
             files: Vec::new(alloc),
         }
@@ -29,12 +29,12 @@ impl Shelf {
         Ok(())
     }
 
-    /// Adds a file from a line with its name and pieces of hexadecimal digits.
+    /// Adds a file from a line with its name and fragments of hexadecimal digits.
     pub fn put_digits(&mut self, line: &str) -> Result<(), Fail> {
-        let (name, pieces) = line.split_once(' ').unwrap_or((line, ""));
+        let (name, fragments) = line.split_once(' ').unwrap_or((line, ""));
         let mut digits = String::new(self.alloc);
-        for piece in pieces.split_whitespace() {
-            push_digits(&mut digits, piece)?;
+        for fragment in fragments.split_whitespace() {
+            push_digits(&mut digits, fragment)?;
         }
         let bytes = hex::decode(self.alloc, digits.as_str())?;
         self.put(name, bytes)?;
@@ -54,7 +54,7 @@ impl Shelf {
     }
 }
 
-impl Files for Shelf {
+impl Files for MemoryFiles {
     fn read(&mut self, path: &str) -> Result<Vec<u8>, Fault> {
         for (name, bytes) in self.files.iter().rev() {
             if name.as_str() == path {
@@ -70,6 +70,6 @@ impl Files for Shelf {
     }
 
     fn reason(&self) -> &str {
-        "not on the shelf"
+        "not in memory"
     }
 }

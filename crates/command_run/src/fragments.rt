@@ -1,20 +1,20 @@
-//! What a script writes in short form. A piece here is a part of a script's text: `00*64` stands for `00` sixty-four
-//! times, and `15000000+5+2*3` for `15000000` three times, with the number 5, 7 or 9 behind it, each in four bytes with
-//! the lowest first.
+//! Fragments of a script's text, which are in short form: `00*64` stands for `00` sixty-four times, and
+//! `15000000+5+2*3` for `15000000` three times, with the number 5, 7 or 9 behind it, each in four bytes with the lowest
+//! first.
 
 use std::alloc::{AllocError, Global};
 
-/// The text of a piece, and how often it is repeated.
-fn parts_of(piece: &str) -> (&str, usize) {
-    match piece.split_once('*') {
+/// The text of a fragment, and how often it is repeated.
+fn parts_of(fragment: &str) -> (&str, usize) {
+    match fragment.split_once('*') {
         Some((text, count)) => (text, count.parse::<usize>().unwrap_or(1)),
-        None => (piece, 1),
+        None => (fragment, 1),
     }
 }
 
-/// Adds what a piece stands for.
-fn push_piece(text: &mut String, piece: &str) -> Result<(), AllocError> {
-    let (part, count) = parts_of(piece);
+/// Adds what a fragment stands for.
+fn push_fragment(text: &mut String, fragment: &str) -> Result<(), AllocError> {
+    let (part, count) = parts_of(fragment);
     for _ in 0..count {
         text.push_str(part)?;
     }
@@ -39,10 +39,10 @@ fn push_numbered(
     Ok(())
 }
 
-/// Adds the digits that a piece of a file stands for.
-pub fn push_digits(text: &mut String, piece: &str) -> Result<(), AllocError> {
-    let Some((head, numbers)) = piece.split_once('+') else {
-        return push_piece(text, piece);
+/// Adds the digits that a fragment of a file stands for.
+pub fn push_digits(text: &mut String, fragment: &str) -> Result<(), AllocError> {
+    let Some((head, numbers)) = fragment.split_once('+') else {
+        return push_fragment(text, fragment);
     };
     let (numbers, count) = parts_of(numbers);
     let (first, step) = numbers.split_once('+').unwrap_or((numbers, "1"));
@@ -50,19 +50,19 @@ pub fn push_digits(text: &mut String, piece: &str) -> Result<(), AllocError> {
     push_numbered(text, head, first.unwrap_or(0), step.unwrap_or(1), count)
 }
 
-/// What pieces stand for that are separated by commas, as one text.
-fn join(alloc: Global, pieces: &str) -> Result<String, AllocError> {
+/// What fragments stand for that are separated by commas, as one text.
+fn join(alloc: Global, fragments: &str) -> Result<String, AllocError> {
     let mut text = String::new(alloc);
-    for piece in pieces.split(',') {
-        push_piece(&mut text, piece)?;
+    for fragment in fragments.split(',') {
+        push_fragment(&mut text, fragment)?;
     }
     Ok(text)
 }
 
 /// Adds the words that a word of a script stands for: `allow*64` is sixty-four words, and `@00*63,02` is one.
 fn push_words(alloc: Global, words: &mut Vec<String>, word: &str) -> Result<(), AllocError> {
-    if let Some(pieces) = word.strip_prefix('@') {
-        let text = join(alloc, pieces)?;
+    if let Some(fragments) = word.strip_prefix('@') {
+        let text = join(alloc, fragments)?;
         words.push(text)?;
         return Ok(());
     }
