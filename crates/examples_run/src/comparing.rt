@@ -18,7 +18,7 @@ const BUDGET: u32 = 100_000;
 const LEAVES: usize = 20_000;
 
 /// What a comparison by this many workers writes. The first `older` filters are the old stack.
-fn text_of<R: Threads + Wait + Sync>(
+fn comparison_text<R: Threads + Wait + Sync>(
     rt: &R,
     alloc: Global,
     filters: &[Vec<u8>],
@@ -45,11 +45,11 @@ pub fn show_comparison<R: Threads + Wait + Sync + Print>(
 ) -> Result<(), Fail>
     requires { older ≤ length filters.now }
 {
-    let alone = text_of(rt, alloc, filters, older, 1)?;
+    let alone = comparison_text(rt, alloc, filters, older, 1)?;
     print!(rt; "{}", std::str::from_utf8(&alone)?)?;
-    let two = text_of(rt, alloc, filters, older, 2)?;
-    let eight = text_of(rt, alloc, filters, older, 8)?;
-    let many = text_of(rt, alloc, filters, older, 64)?;
+    let two = comparison_text(rt, alloc, filters, older, 2)?;
+    let eight = comparison_text(rt, alloc, filters, older, 8)?;
+    let many = comparison_text(rt, alloc, filters, older, 64)?;
     if alone == two && alone == eight && alone == many {
         println!(rt; "the same with 1, 2, 8 and 64 workers")?;
     } else {

@@ -16,7 +16,7 @@ const BUDGET: u32 = 100_000;
 const LEAVES: usize = 20_000;
 
 /// The rows that this many workers find.
-fn text_of<R: Threads + Wait + Sync>(
+fn listing_text<R: Threads + Wait + Sync>(
     rt: &R,
     alloc: Global,
     filters: &[Vec<u8>],
@@ -36,11 +36,11 @@ pub fn show_listing<R: Threads + Wait + Sync + Print>(
     alloc: Global,
     filters: &[Vec<u8>],
 ) -> Result<(), Fail> {
-    let alone = text_of(rt, alloc, filters, 1)?;
+    let alone = listing_text(rt, alloc, filters, 1)?;
     print!(rt; "{}", std::str::from_utf8(&alone)?)?;
-    let two = text_of(rt, alloc, filters, 2)?;
-    let eight = text_of(rt, alloc, filters, 8)?;
-    let many = text_of(rt, alloc, filters, 64)?;
+    let two = listing_text(rt, alloc, filters, 2)?;
+    let eight = listing_text(rt, alloc, filters, 8)?;
+    let many = listing_text(rt, alloc, filters, 64)?;
     if alone == two && alone == eight && alone == many {
         println!(rt; "the same with 1, 2, 8 and 64 workers")?;
     } else {

@@ -11,7 +11,7 @@ use Rattle.sf_ask.specs.QuestionData.{QuestionData}
 abbrev pub is_printable : ℕ → Bool
 is_printable byte = nat_le 0x21 byte && nat_le byte 0x7e
 
--- a name has 1 to 64 printable characters
+-- a name has 1 to 64 of these
 abbrev pub is_name : List ℕ → Bool
 is_name text = nat_le 1 (length text) && nat_le (length text) 64 && list_all is_printable text
 

@@ -111,8 +111,7 @@ fn confine_word(
     if !confine_range(alloc, facts, pool, question, word)? {
         return Ok(false);
     }
-    let kept = confine_mask(alloc, facts, pool, question, word)?;
-    Ok(kept)
+    confine_mask(alloc, facts, pool, question, word)
 }
 
 /// The facts, confined to the question; none where no input that agrees with them is in it.

@@ -24,7 +24,7 @@ use sf_piece::Piece;
 use sf_sym::Cond;
 use std::alloc::Global;
 
-/// The input that has in each word the least number that the facts leave for it. None where they tell no least number.
+/// The input that has in each word the least number that the facts leave for it. Never `None`, since they leave one.
 pub(crate) fn least_input(facts: &Facts) -> Option<Input>
     ensures { MatchOption result ⊥ (λ d. IsLeastInput facts.now d) }
 {

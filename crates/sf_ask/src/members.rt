@@ -54,8 +54,9 @@ fn lowest_bit(bits: u32) -> Option<u32> {
 }
 
 /// A number in place of `number`, with which the masked word may meet the condition against `wanted`; none where no way
-/// is tried. It is only a guess: the caller looks at the input again. A word that equals `wanted` under the mask, or has
-/// none of its bits, needs no mending: its bits are known, and each number that is tried has them.
+/// is tried. It is only a guess: the caller looks at the input again. A condition that the word equals `wanted` under the
+/// mask, or has none of its bits, needs no mending: it is known of the word's bits, so each number that is tried meets
+/// it.
 fn mended_number(number: u32, mask: u32, known: Known, cond: &Cond, wanted: u32) -> Option<u32> {
     match (cond.test, cond.sense) {
         (Test::Equal, false) => {

@@ -24,7 +24,7 @@ pub struct Sheet {
     questions: Vec<Snapshot<Question>>,
     job: usize,
     wanted: [u64; 4],
-    // None where each verdict that is asked for is clear, as on most sheets.
+    // None where it was known before judging that each verdict that is asked for is clear, as on most sheets.
     verdicts: Option<Vec<Option<Verdict>>>,
     finds_nothing: bool,
 }

@@ -43,9 +43,9 @@ fn outcome_of<R: Threads + Wait + Sync, G: Gate>(
 /// most `budget` works, and replies to each question. The gate sees each work before it is committed, and each sheet of
 /// verdicts before it is entered.
 ///
-/// The caller's conditions: a budget from 1 to 1,000,000 and 1 to 64 workers, each a thread of its own where there
-/// are more than one. Refusals, tried in this order: those of `stack_of`; `Count` where there are no questions or more
-/// than 256. `Memory` can come anywhere. Waits for the workers.
+/// The caller's conditions: a budget from 1 to 1,000,000, and 1 to 64 workers (where there are more than one, each gets
+/// a thread, if it can be started). Refusals, tried in this order: those of `stack_of`; `Count` where there are no
+/// questions or more than 256. `Memory` can come anywhere. Waits for the workers.
 pub fn audit<R: Threads + Wait + Sync, G: Gate>(
     rt: &R,
     alloc: Global,

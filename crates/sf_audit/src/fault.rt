@@ -1,4 +1,4 @@
-//! Why a policy, a filter or a report was refused.
+//! Why a policy, a filter, a file of names, an input or a report was refused.
 
 ghost use Rattle.std.specs.Prelude.{◌≡◌};
 ghost use Rattle.sf_audit.specs.declared.fault.Fault.TheVariants.{Memory};
@@ -7,8 +7,9 @@ ghost use Rattle.sf_audit.specs.Faults.{fault_number};
 use std::alloc::{AllocError, AllocFailed};
 use thiserror::Error;
 
-/// Why a policy, a filter or a report was refused. Filters and questions are numbered from 1 in the order in which
-/// they were given, instructions from 0. The text of a fault is its number, its name and its place.
+/// Why a policy, a filter, a file of names, an input or a report was refused. Filters and questions are numbered from 1
+/// in the order in which they were given, instructions from 0. The text of a fault is its number, its name and its
+/// place.
 #[derive(Clone, Copy, Debug, PartialEq, Eq, Error)]
 pub enum Fault {
     /// The length of a filter's bytes is no multiple of 8.
@@ -110,16 +111,14 @@ impl Fault {
             Fault::TooMany => 26,
             Fault::PathLength => 27,
             Fault::Version => 40,
-            Fault::TopKey | Fault::Key { .. } => 41,
-            Fault::Range { .. } => 42,
+            Fault::TopKey | Fault::Key { .. } | Fault::NamesKey => 41,
+            Fault::Range { .. } | Fault::NamesRange => 42,
             Fault::Actions { .. } => 43,
             Fault::Name { .. } => 44,
             Fault::Count => 45,
             Fault::Syntax => 46,
             Fault::Input => 47,
             Fault::Mask { .. } => 48,
-            Fault::NamesKey => 41,
-            Fault::NamesRange => 42,
             Fault::Read => 50,
             Fault::Write => 51,
             Fault::Memory => 60,

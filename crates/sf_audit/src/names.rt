@@ -185,7 +185,7 @@ fn put_by_number(calls: &mut Vec<Call>) -> Result<(), AllocError>
 }
 
 /// The names, with the calls by their numbers. `Memory` where an allocation is refused.
-fn ordered(names: Names) -> Result<Names, Fault>
+fn put_in_order(names: Names) -> Result<Names, Fault>
     ensures ok { IfOk result (AreOrdered names) }
     ensures err { IfErr result (λ e. e ≡ MemoryFault) }
 {
@@ -199,15 +199,17 @@ fn ordered_names(alloc: Global, table: &Table) -> Result<Names, Fault>
     ensures { GivesNames result (names_of (table_view table.now)) }
 {
     let names = names_in(alloc, table)?;
-    ordered(names)
+    put_in_order(names)
 }
 
 /// The names of calls of a file, which is TOML: the number of an architecture at the key `arch`, and at the key `calls` a
 /// table, with a number for each name.
 ///
-/// Refusals, tried in this order: `Syntax` where the text is no TOML; `NamesKey` where a key at the top is unknown; `NamesKey`
-/// or `NamesRange` of the architecture, and then of the calls, in the order of their names: the key where it is missing or no
-/// name, or its value no whole number, and the range where this number hasn't 32 bits. `Memory` can come anywhere.
+/// Refusals, tried in this order: `Syntax` where the text is no TOML; `NamesKey` where a key at the top is unknown;
+/// `NamesKey` where the architecture is missing or no whole number, and `NamesRange` where it hasn't 32 bits; `NamesKey`
+/// where the calls are missing or no table; then, call after call in the order of the names, `NamesKey` where the name
+/// isn't 1 to 64 letters, digits and `_`, or the value is no whole number, and `NamesRange` where the number hasn't 32
+/// bits. `Memory` can come anywhere.
 pub fn read_names(alloc: Global, text: &str) -> Result<Names, Fault>
     // Where the text is TOML, the names or the refusal are those of its tree.
     ensures read { (tree : Members) → parse_document text.now ≡ Some tree

@@ -1,4 +1,5 @@
-//! The outstanding pieces of a book, in two maps: the pieces by their ids, and what is on lease by their names.
+//! The outstanding pieces of a book, in two maps: the pieces by their ids; and by their names the ids, and whether they
+//! are on lease.
 
 ghost use Rattle.std.specs.Prelude.{slice_get, ◌≡◌, ◌≢◌, ◌<◌, ◌∷◌, [], ◌++◌, All, IfOk, IfErr, OnOk, MatchOption, length, map, true, false, None, Some, find, not, option_map, Bool};
 ghost use Rattle.std.specs.Arc.{arc_value};
@@ -19,7 +20,7 @@ use std::collections::BTreeMap;
 use std::marker::Model;
 use std::sync::Arc;
 
-/// Which outstanding piece has a name, by its id, and whether it is on lease.
+/// What stands under a name: the id of its piece, and whether that is on lease.
 #[derive(Clone, Copy, Debug, PartialEq, Eq)]
 pub(crate) struct LeaseState {
     pub(crate) id: u64,

@@ -53,7 +53,7 @@ impl Region {
         }
     }
 
-    /// The piece that settled: its path condition and its facts are those of the region.
+    /// The piece that settled: its path conditions and its facts are those of the region.
     pub fn piece(&self) -> &Arc<Piece>
         ensures { arc_value result.now ≡ self.now.piece }
     {

@@ -112,7 +112,8 @@ impl Settled {
         self.emptied.len()
     }
 
-    /// The name of a piece that turned out to have no member, in the order in which they did.
+    /// The name of the piece at this place, among those that turned out to have no member, in the order in which they
+    /// did.
     pub fn emptied(&self, i: usize) -> &Name
         requires { i < length self.now.emptied }
         ensures value { slice_get self.now.emptied i ≡ Some result.now }

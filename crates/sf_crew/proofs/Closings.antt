@@ -15,9 +15,9 @@ use Rattle.sf_crew.specs.declared.board.view.EnteredSheet.{EnteredSheet}
 use Rattle.sf_crew.specs.declared.board.view.Note.{Note}
 use Rattle.sf_crew.specs.declared.board.Tally.{Tally}
 use Rattle.sf_ask.specs.QuestionBits.{bit_of}
-use Rattle.sf_crew.specs.Views.{has, has_doubt, IsInDoubt, regions_of, questions_of, count_of_regions, jobs, owed_jobs, Noted, Covered, once_below, top, doubt_at}
+use Rattle.sf_crew.specs.Views.{entered_jobs, has, has_doubt, IsInDoubt, regions_of, questions_of, count_of_regions, jobs, owed_jobs, Noted, Covered, once_below, top, doubt_at}
 use Rattle.sf_crew.specs.BoardRule.{Kept, BoardKept, least_in, doubts_in}
-use Rattle.sf_crew.specs.Tallies.{RightTally, IsBelow, IsCleared, entered_jobs}
+use Rattle.sf_crew.specs.Tallies.{RightTally, IsBelow, IsCleared}
 use Rattle.sf_crew.specs.LeastWords.{LeastIs}
 use Rattle.sf_crew.proofs.Doubts.{bit_most, has_most}
 use Rattle.sf_crew.proofs.Totals.{times, total_at, total_only, top_at, top_only, times_append}

@@ -18,7 +18,7 @@ view_of k p n o m es ns = record {
   notes = ns;
 }
 
--- the seat that has all parts of a board, and has done nothing there
+-- the first seat of a board, in which all seats are joined, and which has done nothing there
 abbrev pub first_view : BoardKey → View
 first_view k = view_of (Some k) k.seats 0 None [] [] []
 
@@ -61,7 +61,7 @@ joined_view v w = view_of v.about (v.joined_seats + w.joined_seats) (v.exhausted
     (v.entered_sheets ++ w.entered_sheets)
     (v.notes ++ w.notes)
 
--- a view with every part has each job
+-- a view in which all seats are joined has each job
 abbrev pub HasAllJobs : BoardKey → View → Type 0
 HasAllJobs k v = v.joined_seats ≡ k.seats → (length (jobs v) ≡ count_of_regions k)
     × ((x : ℕ) → count_by (λ j. x == j) (jobs v) ≡ once_below x (count_of_regions k))
@@ -78,16 +78,16 @@ abbrev pub Looks : View → ℕ → ℕ → View → Type 0
 Looks v q r w = (w ≡ view_with_note v q r) × ((s : ℕ) → Noted v.notes q s → r ≤ s)
     × IfSome v.about (λ k. RightPlace k q r)
 
--- each job stands in the view at most once; where the view found that no job is left, it has each job if it has every
--- part
+-- each job stands in the view at most once; where the view found that no job is left, it has each job if all seats
+-- are joined in it
 abbrev pub Knows : View → Type 0
 Knows v = ((x : ℕ) → count_by (λ j. x == j) (jobs v) ≤ 1) × IfSome v.about (λ k. 0 < v.exhausted_seats → HasAllJobs k v)
 
--- what a seat keeps of its parts when it gives one away
+-- what a seat keeps when one of its joined seats is split off
 abbrev pub kept_view : View → View
 kept_view v = view_of v.about (v.joined_seats - 1) v.exhausted_seats v.owes v.marked v.entered_sheets v.notes
 
--- the new seat with the part that was given away, which has done nothing
+-- the new seat that was split off, which has done nothing
 abbrev pub shared_view : View → View
 shared_view v = view_of v.about 1 0 None [] [] []
 

@@ -1,16 +1,12 @@
 -- What the tally says with which a seat closes a board.
-use Rattle.std.specs.Prelude.{◌≡◌, ℕ, ◌<◌, ◌≤◌, ◌⊎◌, ◌==◌, List, map, All, count_by, length, Some, slice_get}
+use Rattle.std.specs.Prelude.{◌≡◌, ℕ, ◌<◌, ◌≤◌, ◌⊎◌, ◌==◌, List, All, count_by, length, Some, slice_get}
 use Rattle.sf_ask.specs.Sheets.{HasBreak, HasNoBreak}
 use Rattle.sf_crew.specs.declared.board.view.BoardKey.{BoardKey}
 use Rattle.sf_crew.specs.declared.board.view.View.{View}
 use Rattle.sf_crew.specs.declared.board.view.EnteredSheet.{EnteredSheet}
 use Rattle.sf_crew.specs.declared.board.Tally.{Tally}
 use Rattle.sf_ask.specs.QuestionBits.{bit_of}
-use Rattle.sf_crew.specs.Views.{regions_of, questions_of, count_of_regions, has, has_doubt, IsInDoubt, once_below}
-
--- the jobs of the sheets that a seat, and those joined into it, have entered
-abbrev pub entered_jobs : View → List ℕ
-entered_jobs v = map (λ e. e.job) v.entered_sheets
+use Rattle.sf_crew.specs.Views.{regions_of, questions_of, count_of_regions, entered_jobs, has, has_doubt, IsInDoubt, once_below}
 
 -- the region j lies below the question's least place, which may be none
 abbrev pub IsBelow : Tally → ℕ → ℕ → Type 0

@@ -9,7 +9,7 @@ use Rattle.sf_crew.specs.declared.board.view.EnteredSheet.{EnteredSheet}
 use Rattle.sf_crew.specs.declared.board.view.Note.{Note}
 use Rattle.sf_crew.specs.declared.board.view.View.{View}
 
--- the regions and the questions that a board is about
+-- the exploration whose regions a board is about
 abbrev pub regions_of : BoardKey → BookData
 regions_of k = k.settled.value
 
@@ -34,9 +34,13 @@ abbrev pub owed_jobs : Option ℕ → List ℕ
 owed_jobs None = []
 owed_jobs (Some j) = j ∷ []
 
+-- the jobs of the sheets that a seat, and those joined into it, have entered
+abbrev pub entered_jobs : View → List ℕ
+entered_jobs v = map (λ e. e.job) v.entered_sheets
+
 -- the jobs that a seat has drawn: it owes one of them at most, and has entered the others
 abbrev pub jobs : View → List ℕ
-jobs v = owed_jobs v.owes ++ map (λ e. e.job) v.entered_sheets
+jobs v = owed_jobs v.owes ++ entered_jobs v
 
 -- 1 where x stands in the list, else 0
 abbrev pub has : ℕ → List ℕ → ℕ

@@ -209,8 +209,7 @@ pub(crate) fn tally<R: Threads + Sync, G: Gate>(
     ensures ok { IfOk result (λ t. IsFullTally settled.now questions.now t) }
     ensures err { IfErr result (λ f. f ≡ Memory) }
 {
-    let made = Probes::of(alloc, questions)?;
-    let probes = &made;
+    let probes = &Probes::of(alloc, questions)?;
     let (board, mut seats) = Board::new(alloc, settled, questions, workers + 1)?;
     let Some(mine) = seats.pop() else {
         unreachable!()

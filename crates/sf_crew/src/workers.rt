@@ -253,10 +253,11 @@ fn run_all<N: Naming, R: Threads + Wait + Sync, G: Gate>(
 }
 
 /// Explores a stack: works at most `budget` pieces, and gives what is settled and what is left. The gate sees each work
-/// between its making and its commit. With 1 worker no thread is started. With more, each has a thread, with the
-/// numbers from 0; when they have ended, the calling thread takes what is left on lease back and works it off, under
-/// the next number. The caller's conditions: 1 to 64 workers, and a budget from 1 to 1,000,000; the contract holds for
-/// others too. `Memory` where an allocation is refused to the calling thread.
+/// between its making and its commit. With 1 worker no thread is started. With more, each gets a thread, unless it can't
+/// be started or nothing is left to do. They have the numbers from 0. When they have ended, the calling thread takes all
+/// pieces off lease and works off what is outstanding, under the next number. The caller's conditions: 1 to 64 workers,
+/// and a budget from 1 to 1,000,000; the contract holds for other budgets too. `Memory` where an allocation is refused
+/// to the calling thread.
 pub fn explore<R: Threads + Wait + Sync, G: Gate>(
     rt: &R,
     alloc: Global,

@@ -8,8 +8,8 @@ use Rattle.std.proofs.lemmas.List.Sorted.{searched, IsNonDecreasingBy-insert, Is
 use Rattle.std.specs.List.{insert}
 use Rattle.std.specs.List.Sorted.{IsBinarySearchResult, IsSorted}
 use Rattle.std.specs.Ordering.{nat_cmp}
-use Rattle.std.specs.Prelude.{Contains, Result, Ok, Err}
-use Rattle.std.specs.Result.{is_ok}
+use Rattle.std.specs.Prelude.{Contains, MatchOption, Result, Ok, Err}
+use Rattle.std.specs.Result.{result_ok}
 use Rattle.sf_dom.specs.Ascending.{AreAscending, IsBetweenEnds}
 
 -- a number that isn't at the place where it would stand is nowhere in the list
@@ -17,14 +17,13 @@ absent : (xs : List ℕ) (n at : ℕ) → ((k : ℕ) → k < at → get_or xs k 
     → ((k : ℕ) → at ≤ k → k < length xs → n < get_or xs k 0) → ¬ Contains xs n
 absent xs n at below above w = search (arith, get_or_default, cases_lt)
 
-pub stands : (xs : List ℕ) (n : ℕ) (r : Result ℕ ℕ) → AreAscending xs → IsBinarySearchResult (λ y. nat_cmp y n) xs r
-    → IsTrue (is_ok r) ↔ Contains xs n
-stands xs n (Ok i) rising found =
-    let at = searched xs n (Ok i) found rising in
-    ((λ _. (i, at.0, get_or_default xs i n 0 at.0 ∙ at.1)), (λ _. refl))
-stands xs n (Err i) rising found =
+pub place-found : (xs : List ℕ) (n : ℕ) (r : Result ℕ ℕ) → AreAscending xs
+    → IsBinarySearchResult (λ y. nat_cmp y n) xs r
+    → MatchOption (result_ok r) (¬ Contains xs n) (λ at. (at < length xs) × (get_or xs at 0 ≡ n))
+place-found xs n (Ok i) rising found = searched xs n (Ok i) found rising
+place-found xs n (Err i) rising found =
     let at = searched xs n (Err i) found rising in
-    ((λ t. absurd (false≢true t)), (λ w. absurd (absent xs n i at.1 at.2 w)))
+    absent xs n i at.1 at.2
 
 -- what stands in an ascending list is between its ends
 pub between-ends : (xs : List ℕ) (n : ℕ) → AreAscending xs → Contains xs n → IsBetweenEnds xs n

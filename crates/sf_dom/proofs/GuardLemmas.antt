@@ -12,9 +12,6 @@ gives-not_greater x y h = grind (arith, common_steps, cases_lt)
 pub gives-at_least : (x y : ℕ) → TestGives GreaterOrEqual x y true → y ≤ x
 gives-at_least x y h = grind (arith, nat_tests)
 
-pub gives-less : (x y : ℕ) → TestGives GreaterOrEqual x y false → x < y
-gives-less x y h = grind (arith, nat_tests)
-
 pub gives-differs : (x y : ℕ) → TestGives Equal x y false → x ≢ y
 gives-differs x y h e = grind (arith, nat_tests)
 

@@ -13,7 +13,7 @@ use Rattle.sf_insn.specs.declared.ops.Test.TheVariants.{Equal, Greater, GreaterO
 use Rattle.sf_dom.specs.declared.known.Known.{Known}
 use Rattle.sf_dom.specs.Known.{AreBitsOf, Admits, Leaves, IsNarrower, IsConsistent, IsTight, IsDecided}
 use Rattle.sf_dom.specs.Backward.{IsPropagatedBack}
-use Rattle.sf_dom.specs.Facts.{known_at, numbers_at, excluded_of, AgreesWith, AreDecidedOperands, FactsView, Agrees, Covers, AreNarrower, KeepsInputs, KeepsOnly, SomeInput, IsPlainCondition, DecidesTest}
+use Rattle.sf_dom.specs.Facts.{KnowConstants, known_at, numbers_at, excluded_of, AgreesWith, AreDecidedOperands, FactsView, Agrees, Covers, AreNarrower, KeepsInputs, KeepsOnly, SomeInput, IsPlainCondition, DecidesTest}
 
 -- every input that agreed agrees still
 abbrev pub KeepsAgreeing : List Known → List Known → List (List ℕ) → List Node → Type 0
@@ -42,8 +42,7 @@ pub record IsReducedNode (old new : Known) (ex : List (List ℕ)) (n : Node) : T
 pub record IsReady (ks : List Known) (ns : List Node) : Type 0 where
   pub count : length ks ≡ length ns
   pub consistent : (i : ℕ) → i < length ks → IsConsistent (known_at ks i)
-  pub constants : (i c : ℕ) → i < length ks → node_at ns i ≡ Const c → ((known_at ks i).low ≡ c)
-      × ((known_at ks i).high ≡ c)
+  pub constants : KnowConstants ks ns
 
 -- what holds of a node that forward propagation has gone through
 pub record IsPropagatedAt (ks : List Known) (ex : List (List ℕ)) (ns : List Node) (i : ℕ) : Type 0 where
@@ -242,7 +241,7 @@ Meets ns cond d = is_met ns d cond ≡ true
 
 -- every condition is met on an input
 abbrev pub AllMet : List Node → List Cond → Input → Type 0
-AllMet ns conds d = All (λ c. is_met ns d c ≡ true) conds
+AllMet ns conds d = All (λ c. Meets ns c d) conds
 
 -- Facts of conditions: each input that meets them agrees. Where they are plain, no other input does, and where the pool
 -- has only words and constants, there is one then.

@@ -33,7 +33,7 @@ pub record IsReductionRound (old new : Known) : Type 0 where
   pub zeros_more : new.low ≡ new.high → new.zeros ≡ bit_or old.zeros (bit_and (4294967295 - new.low) 4294967295)
   pub ones_more : new.low ≡ new.high → new.ones ≡ bit_or old.ones (bit_and new.low 4294967295)
 
--- every bound and bit that follows is known, and the same numbers are admitted
+-- every end and bit that follows is known, and the same numbers are admitted
 pub record IsReducedKnown (old new : Known) : Type 0 where
   pub same : (n : ℕ) → Admits old n → Admits new n
   pub narrower : IsNarrower old new

@@ -1,16 +1,14 @@
 //! A condition taken into what is known of the nodes of a pool.
 
-ghost use Rattle.std.specs.Prelude.{◌≡◌, ◌≢◌, ℕ, ◌+◌, ◌-◌, ◌*◌, ◌/◌, ◌%◌, ◌<◌, ◌≤◌, ◌^◌, ◌⊎◌, List, length, Contains, MatchOption, MatchBool, IfSome, IfOk, OnErr, IsTrue, bit_and, bit_or, bit_xor, true, false, None};
-ghost use Rattle.sf_insn.specs.Inputs.{IsInput};
+ghost use Rattle.std.specs.Prelude.{◌≡◌, ◌≢◌, ℕ, ◌+◌, ◌-◌, ◌*◌, ◌/◌, ◌%◌, ◌<◌, ◌≤◌, ◌^◌, ◌⊎◌, length, MatchOption, MatchBool, IfSome, IfOk, IsTrue, true, false, None};
 ghost use Rattle.sf_insn.specs.Words.{apply};
-ghost use Rattle.sf_sym.specs.Pool.{OperandsBelow, IsPool, node_at, node_value, values_of, value_of};
-ghost use Rattle.sf_insn.specs.declared.input.Input.{Input};
-ghost use Rattle.sf_dom.specs.Known.{AreBitsOf, HasBits, Admits, Leaves, IsNarrower, IsConsistent, IsDecided, IsTight};
+ghost use Rattle.sf_sym.specs.Pool.{node_at, value_of};
+ghost use Rattle.sf_dom.specs.Known.{AreBitsOf, HasBits, Admits, IsNarrower, IsConsistent, IsDecided, IsTight};
 ghost use Rattle.sf_dom.specs.Propagation.{KeepsAgreeing, NoneAgreesWith, KeepsAgreeingOn, NoneAgreesOn, LeavesPair, LeavesNoPair, IsSharp, Tells, TestGives, AllNarrower, IsReady, IsLeft, IsAssumed, AreExcluded, AreBothExcluded, Holds, IsPropagated, KeepsTight, AreOthersTight};
 ghost use Rattle.sf_dom.specs.Conditions.{AreLeftAlone};
 ghost use Rattle.sf_sym.specs.Operands.{IsSwappable};
 ghost use Rattle.sf_dom.specs.Backward.{HandsOn, IsPropagatedBack};
-ghost use Rattle.sf_dom.specs.Facts.{known_at, numbers_at, excluded_of, AgreesWith, KnowDecided};
+ghost use Rattle.sf_dom.specs.Facts.{known_at, numbers_at, KnowDecided};
 
 use crate::exclusions::Excluded;
 use crate::fault::Fault;
@@ -143,21 +141,9 @@ fn assume_test(v: Known, w: Known, test: Test, sense: bool) -> Option<Pair>
             },
         }),
         (Test::Greater, true) => greater(v, w),
-        (Test::Greater, false) => {
-            let swapped = at_least(w, v);
-            Some(Pair {
-                node: swapped.other,
-                other: swapped.node,
-            })
-        }
+        (Test::Greater, false) => Some(at_least(w, v).swap()),
         (Test::GreaterOrEqual, true) => Some(at_least(v, w)),
-        (Test::GreaterOrEqual, false) => {
-            let swapped = greater(w, v)?;
-            Some(Pair {
-                node: swapped.other,
-                other: swapped.node,
-            })
-        }
+        (Test::GreaterOrEqual, false) => Some(greater(w, v)?.swap()),
         (Test::AnyBit, true) => {
             let node = match w.decided() {
                 Some(bits) => common_bit(v, bits)?,
@@ -360,19 +346,14 @@ pub(crate) fn assume_cond(
 
 /// Excludes the number of another node, if that is decided, for a node that is a word. `other` is what is known of the
 /// other node. `Memory` where an allocation is refused.
-pub(crate) fn exclude(
-    alloc: Global,
-    excluded: &mut Excluded,
-    node: Node,
-    other: Known,
-) -> Result<(), Fault>
+fn exclude(alloc: Global, excluded: &mut Excluded, node: Node, other: Known) -> Result<(), Fault>
     requires word { (i : ℕ) → node ≡ Node.Word i → i < 16 }
     ensures { IfOk result (λ _. AreExcluded excluded.old excluded.new node other) }
 {
     if let Node::Word(i) = node
-        && other.low == other.high
+        && let Some(number) = other.decided()
     {
-        excluded.add(alloc, i as usize, other.low)?;
+        excluded.add(alloc, i as usize, number)?;
     }
     Ok(())
 }

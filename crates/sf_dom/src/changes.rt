@@ -1,7 +1,7 @@
 //! What is left of the facts of a pool where a condition is met, or where more is known of a word. The facts that are
 //! handed in stay as they are.
 
-ghost use Rattle.std.specs.Prelude.{◌≡◌, ℕ, ◌<◌, ◌≤◌, length, slice_index, MatchOption, IfOk, IfSome, unwrap_or};
+ghost use Rattle.std.specs.Prelude.{◌≡◌, ◌<◌, ◌≤◌, length, slice_index, MatchOption, IfOk, unwrap_or};
 ghost use Rattle.sf_sym.specs.Pool.{IsCondBelow};
 ghost use Rattle.sf_dom.specs.Known.{Admits};
 ghost use Rattle.sf_dom.specs.Facts.{KnowDecided};
@@ -24,7 +24,7 @@ pub(crate) type Changed = Option<Nodes>;
 
 /// The excluded numbers, with those that a condition adds: it adds some only where it says that its two nodes differ.
 /// `Memory` where an allocation is refused.
-fn with_told(
+fn with_excluded_by(
     alloc: Global,
     excluded: &Excluded,
     nodes: &Nodes,
@@ -78,7 +78,7 @@ pub(crate) fn learn_cond(
     if contradicts_back(nodes, excluded, pool, cond, alone) {
         return Ok(None);
     }
-    let lists = with_told(alloc, excluded, nodes, pool, cond)?;
+    let lists = with_excluded_by(alloc, excluded, nodes, pool, cond)?;
     if changes_nothing(nodes, &lists, pool, cond, alone) {
         return Ok(Some((None, lists)));
     }

@@ -1,6 +1,6 @@
 //! The numbers that a word does not have.
 
-ghost use Rattle.std.specs.Prelude.{◌≡◌, ℕ, ◌<◌, ◌≤◌, ◌↔◌, ◌⊎◌, [], length, IfOk, IsTrue, Contains, OnErr, IfSome, MatchOption};
+ghost use Rattle.std.specs.Prelude.{◌≡◌, ℕ, ◌<◌, ◌≤◌, ◌↔◌, ◌⊎◌, [], length, IfOk, IsTrue, Contains, OnErr, MatchOption};
 ghost use Rattle.std.specs.Arc.{arc_value};
 ghost use Rattle.sf_dom.specs.Known.{AreSameNumbers};
 ghost use Rattle.sf_dom.specs.Facts.{numbers_at};
@@ -9,7 +9,7 @@ ghost use Rattle.sf_dom.specs.Ascending.{shared_numbers};
 
 use crate::fault::Fault;
 use crate::nodes::WORDS;
-use crate::numbers::{Near, Numbers};
+use crate::numbers::{Lookup, Numbers};
 use std::alloc::Global;
 use std::marker::Model;
 use std::sync::Arc;
@@ -64,22 +64,22 @@ fn with_number(alloc: Global, numbers: &Option<Arc<Numbers>>, number: u32) -> Re
 }
 
 impl Exclusions {
+    /// A lookup in these numbers.
+    pub(crate) fn lookup(&self) -> Lookup<'_>
+        ensures { result ≡ self.now }
+    {
+        match &self.numbers {
+            Some(numbers) => numbers.lookup(),
+            None => Lookup::new(&[], &[]),
+        }
+    }
+
     /// Whether a number is there.
     pub(crate) fn has(&self, number: u32) -> bool
         ensures { IsTrue result ↔ Contains self.now number }
     {
         match &self.numbers {
             Some(numbers) => numbers.has(number),
-            None => false,
-        }
-    }
-
-    /// Whether a number is there, where others were looked up before.
-    pub(crate) fn has_near(&self, near: &mut Near, number: u32) -> bool
-        ensures { IsTrue result ↔ Contains self.now number }
-    {
-        match &self.numbers {
-            Some(numbers) => numbers.has_near(near, number),
             None => false,
         }
     }

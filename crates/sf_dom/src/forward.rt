@@ -18,9 +18,7 @@ fn add(a: Known, b: Known) -> Known
 {
     let fits = a.high <= u32::MAX - b.high;
     let wraps = a.low > u32::MAX - b.low;
-    if fits {
-        Known::interval(a.low.wrapping_add(b.low), a.high.wrapping_add(b.high))
-    } else if wraps {
+    if fits || wraps {
         Known::interval(a.low.wrapping_add(b.low), a.high.wrapping_add(b.high))
     } else {
         Known::top()
@@ -34,9 +32,7 @@ fn sub(a: Known, b: Known) -> Known
     ensures forced { IsConsistent a → IsConsistent b → IsDecided a → IsDecided b
         → IsForced result }
 {
-    if a.low >= b.high {
-        Known::interval(a.low.wrapping_sub(b.high), a.high.wrapping_sub(b.low))
-    } else if a.high < b.low {
+    if a.low >= b.high || a.high < b.low {
         Known::interval(a.low.wrapping_sub(b.high), a.high.wrapping_sub(b.low))
     } else {
         Known::top()

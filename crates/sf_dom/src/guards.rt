@@ -1,7 +1,7 @@
 //! The guards: what is known of two words once the result of a test of them is known.
 
-ghost use Rattle.std.specs.Prelude.{◌≡◌, ◌≢◌, ℕ, ◌+◌, ◌-◌, ◌*◌, ◌/◌, ◌%◌, ◌<◌, ◌≤◌, ◌^◌, MatchOption, IfSome, None, bit_and, bit_or};
-ghost use Rattle.sf_dom.specs.Known.{AreBitsOf, HasBits, Admits, IsConsistent, IsDecided};
+ghost use Rattle.std.specs.Prelude.{◌≡◌, ◌≢◌, ℕ, ◌+◌, ◌-◌, ◌*◌, ◌/◌, ◌%◌, ◌<◌, ◌≤◌, ◌^◌, MatchOption, IfSome, None, bit_and};
+ghost use Rattle.sf_dom.specs.Known.{AreBitsOf, Admits, IsConsistent, IsDecided};
 ghost use Rattle.sf_dom.specs.Propagation.{LeavesPair, LeavesNoPair};
 ghost use Rattle.sf_dom.specs.Reduction.{IsMeet};
 ghost use Rattle.sf_insn.specs.Words.{IsOneBit};
@@ -15,6 +15,18 @@ pub(crate) struct Pair {
     pub(crate) node: Known,
     /// Of the second word.
     pub(crate) other: Known,
+}
+
+impl Pair {
+    /// The same of the two words in the other order.
+    pub(crate) fn swap(self) -> Pair
+        ensures { (result.node ≡ self.other) × (result.other ≡ self.node) }
+    {
+        Pair {
+            node: self.other,
+            other: self.node,
+        }
+    }
 }
 
 /// What is known of two equal words: of each of them, all that is known of either.
@@ -75,7 +87,7 @@ pub(crate) fn at_least(v: Known, w: Known) -> Pair
     }
 }
 
-/// What is known of a word that doesn't have this number: a bound that is the number moves past it. `None` where no
+/// What is known of a word that doesn't have this number: an end that is the number moves past it. `None` where no
 /// number is left.
 pub(crate) fn differs(v: Known, number: u32) -> Option<Known>
     ensures kept { MatchOption result ((x : ℕ) → Admits v x

@@ -1,6 +1,6 @@
 //! What is known of each node of a pool, kept so that forks share what can no longer change.
 
-ghost use Rattle.std.specs.Prelude.{◌≡◌, ℕ, ◌<◌, ◌∷◌, ◌++◌, [], length, set, slice_index, IsTrue, IfOk, OnOk, OnErr, ◌-◌};
+ghost use Rattle.std.specs.Prelude.{◌≡◌, ◌<◌, ◌∷◌, ◌++◌, [], length, set, slice_index, IsTrue, IfOk, OnOk, OnErr, ◌-◌};
 ghost use Rattle.std.specs.Arc.{arc_value};
 ghost use Rattle.sf_dom.specs.Known.{IsDecided, known_of};
 ghost use Rattle.sf_dom.specs.Facts.{known_at};
@@ -18,7 +18,7 @@ pub(crate) const WORDS: usize = 16;
 
 /// Where to find what is known of a node.
 #[derive(Clone, Copy)]
-pub(crate) enum Slot {
+enum Slot {
     /// In the slot itself: the node has this number.
     Number(u32),
     /// In the list of variables, at this place.
@@ -33,7 +33,7 @@ impl Default for Slot {
 
 /// A node that may have several numbers.
 #[derive(Clone, Copy)]
-pub(crate) struct Variable {
+struct Variable {
     /// Its place in the pool.
     pub(crate) place: u32,
     /// What is known of it.

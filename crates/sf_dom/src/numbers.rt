@@ -1,6 +1,6 @@
 //! Lists of numbers that a word does not have. Copies share most of a list.
 
-ghost use Rattle.std.specs.Prelude.{◌≡◌, ℕ, ◌<◌, ◌≤◌, ◌↔◌, ◌⊎◌, ◌∷◌, ◌++◌, [], length, slice_index, IfOk, IsTrue, Contains};
+ghost use Rattle.std.specs.Prelude.{◌≡◌, ℕ, ◌<◌, ◌≤◌, ◌↔◌, ◌⊎◌, ◌∷◌, ◌++◌, [], length, slice_index, IfOk, IsTrue, Contains, MatchOption};
 ghost use Rattle.std.specs.Arc.{arc_slice_items};
 ghost use Rattle.std.specs.List.{insert};
 ghost use Rattle.sf_dom.specs.Ascending.{AreAscending, IsBetweenEnds, shared_items};
@@ -35,25 +35,26 @@ impl Model for Numbers {
     ghost invariant = { λ n. AreAscending (shared_items n.older) × AreAscending n.newer.items };
 }
 
-/// Where the last number stood that was looked up and found, and how far it was from the one before. Numbers that are
-/// looked up one after the other often stand equally far apart.
-#[derive(Clone, Copy, Default)]
-pub(crate) struct Near {
+/// Numbers that are looked up one after the other, in two ascending lists. Those of the older list often stand equally
+/// far apart, so a number is first looked for where the last two lead.
+#[derive(Drop)]
+pub(crate) struct Lookup<'a> {
+    older: &'a [u32],
+    newer: &'a [u32],
+    // Where the last number that was found stands in the older list, and how far that is from the one before.
     place: usize,
     step: usize,
 }
 
-impl Near {
-    /// Where the next number may stand. This is only a guess.
-    fn next(self) -> usize {
-        self.place.wrapping_add(self.step)
-    }
+impl<'a> Model for Lookup<'a> {
+    ghost use Rattle.std.specs.Prelude.{List, ℕ, ◌++◌};
+    ghost use Rattle.sf_dom.specs.Ascending.{AreAscending};
 
-    /// Goes to the place where a number was found.
-    fn move_to(&mut self, place: usize) {
-        self.step = place.wrapping_sub(self.place);
-        self.place = place;
-    }
+    ghost Value = { List ℕ };
+
+    ghost view = { λ l. l.older.now ++ l.newer.now };
+
+    ghost invariant = { λ l. AreAscending l.older.now × AreAscending l.newer.now };
 }
 
 /// The items of a list that is shared; none where there is no list.
@@ -66,12 +67,25 @@ fn items_of(list: &Option<ArcSlice<u32>>) -> &[u32]
     }
 }
 
+/// The place of a number in an ascending list; `None` where it isn't there.
+fn place_in(list: &[u32], number: u32) -> Option<usize>
+    requires { AreAscending list.now }
+    ensures { MatchOption result (¬ Contains list.now number) (λ at. (at < length list.now)
+        × (slice_index list.now at ≡ number)) }
+{
+    if is_between_ends(list, number) {
+        list.binary_search(&number).ok()
+    } else {
+        None
+    }
+}
+
 /// Whether a number stands in an ascending list.
 fn stands_in(list: &[u32], number: u32) -> bool
     requires { AreAscending list.now }
     ensures { IsTrue result ↔ Contains list.now number }
 {
-    is_between_ends(list, number) && list.binary_search(&number).is_ok()
+    place_in(list, number).is_some()
 }
 
 /// Whether a number lies between the first number of a list and its last. Most that are looked for don't, and need no
@@ -108,28 +122,6 @@ fn with_number(alloc: Global, list: &[u32], number: u32) -> Result<Newer, Fault>
     }
 }
 
-/// Whether a number stands in an ascending list. Where the guess is right, no search is needed.
-fn stands_near(list: &[u32], near: &mut Near, number: u32) -> bool
-    requires { AreAscending list.now }
-    ensures { IsTrue result ↔ Contains list.now number }
-{
-    let guess = near.next();
-    if guess < list.len() && list[guess] == number {
-        near.move_to(guess);
-        return true;
-    }
-    if !is_between_ends(list, number) {
-        return false;
-    }
-    match list.binary_search(&number) {
-        Ok(place) => {
-            near.move_to(place);
-            true
-        }
-        Err(_) => false,
-    }
-}
-
 /// Two ascending lists as one. `Memory` where an allocation is refused.
 fn merge(alloc: Global, older: &[u32], newer: &[u32]) -> Result<ArcSlice<u32>, Fault>
     ensures rising { IfOk result (λ m. AreAscending (arc_slice_items m)) }
@@ -152,6 +144,52 @@ fn share(list: &Option<ArcSlice<u32>>) -> Result<Option<ArcSlice<u32>>, Fault>
     }
 }
 
+impl<'a> Lookup<'a> {
+    /// A lookup in these lists.
+    pub(crate) fn new(older: &'a [u32], newer: &'a [u32]) -> Lookup<'a>
+        requires older { AreAscending older.now }
+        requires newer { AreAscending newer.now }
+        ensures { result ≡ older.now ++ newer.now }
+    {
+        Lookup {
+            older,
+            newer,
+            place: 0,
+            step: 0,
+        }
+    }
+
+    /// Whether a number is one of them.
+    #[inline]
+    pub(crate) fn has(&mut self, number: u32) -> bool
+        ensures has { IsTrue result ↔ Contains self.old number }
+        ensures same { self.new ≡ self.old }
+    {
+        let guess = self.place.wrapping_add(self.step);
+        if guess < self.older.len() && self.older[guess] == number {
+            self.place = guess;
+            return true;
+        }
+        self.search(number)
+    }
+
+    /// Whether a number is one of them, where the guess was wrong. Not inlined, so that `has` can be.
+    #[inline(never)]
+    fn search(&mut self, number: u32) -> bool
+        ensures has { IsTrue result ↔ Contains self.old number }
+        ensures same { self.new ≡ self.old }
+    {
+        match place_in(self.older, number) {
+            Some(place) => {
+                self.step = place.wrapping_sub(self.place);
+                self.place = place;
+                true
+            }
+            None => stands_in(self.newer, number),
+        }
+    }
+}
+
 impl Numbers {
     /// A list of one number. `Memory` where an allocation is refused.
     pub(crate) fn of(alloc: Global, number: u32) -> Result<Numbers, Fault>
@@ -169,11 +207,11 @@ impl Numbers {
         stands_in(items_of(&self.older), number) || stands_in(self.newer.as_slice(), number)
     }
 
-    /// Whether a number is one of them, where others were looked up before.
-    pub(crate) fn has_near(&self, near: &mut Near, number: u32) -> bool
-        ensures { IsTrue result ↔ Contains self.now number }
+    /// A lookup in these numbers.
+    pub(crate) fn lookup(&self) -> Lookup<'_>
+        ensures { result ≡ self.now }
     {
-        stands_near(items_of(&self.older), near, number) || stands_in(self.newer.as_slice(), number)
+        Lookup::new(items_of(&self.older), self.newer.as_slice())
     }
 
     /// These numbers and one more, which may be among them already. `Memory` where an allocation is refused.

@@ -1,13 +1,13 @@
 //! Forward propagation: what is known of each node, met with what follows from its operands.
 
-ghost use Rattle.std.specs.Prelude.{◌≡◌, ℕ, ◌+◌, ◌-◌, ◌*◌, ◌/◌, ◌%◌, ◌<◌, ◌≤◌, ◌↔◌, ◌⊎◌, ◌^◌, List, [], ◌∷◌, ◌++◌, length, slice_index, MatchBool, MatchOption, true, false, bit_or, max, min, IfOk, OnErr, IsTrue, Ok, take};
+ghost use Rattle.std.specs.Prelude.{◌≡◌, ℕ, ◌+◌, ◌-◌, ◌*◌, ◌/◌, ◌%◌, ◌<◌, ◌≤◌, ◌↔◌, ◌⊎◌, ◌^◌, List, [], ◌∷◌, ◌++◌, length, slice_index, MatchBool, MatchOption, true, false, IfOk, OnErr, IsTrue, Ok};
 ghost use Rattle.std.specs.Arc.{arc_value};
 ghost use Rattle.sf_insn.specs.Inputs.{IsInput};
-ghost use Rattle.sf_sym.specs.Pool.{OperandsBelow, IsPool, node_at, node_value, value_of};
+ghost use Rattle.sf_sym.specs.Pool.{OperandsBelow, node_at, node_value};
 ghost use Rattle.sf_insn.specs.declared.input.Input.{Input};
-ghost use Rattle.sf_dom.specs.Known.{Admits, Leaves, IsConsistent, IsTight, known_of};
+ghost use Rattle.sf_dom.specs.Known.{Admits, Leaves, IsTight};
 ghost use Rattle.sf_dom.specs.Propagation.{KeepsAgreeing, NoneAgreesWith, AreConsistentOperands, IsReducedNode, IsReady, IsPropagated, IsGrown, AllNarrower, AreTightWords, KeepsTight};
-ghost use Rattle.sf_dom.specs.Facts.{known_at, numbers_at, excluded_of, AgreesWith, AreDecidedOperands};
+ghost use Rattle.sf_dom.specs.Facts.{known_at, numbers_at, excluded_of, AreDecidedOperands};
 ghost use Rattle.sf_dom.specs.Reduction.{IsForced};
 
 use crate::exclusions::Excluded;
@@ -34,7 +34,7 @@ pub(crate) fn reduce_node(known: Known, node: Node, excluded: &Excluded) -> Opti
 }
 
 /// What is known of a node by its operation, from what is known of its operands.
-pub(crate) fn transfer(nodes: &Nodes, node: Node) -> Known
+fn transfer(nodes: &Nodes, node: Node) -> Known
     requires { OperandsBelow (length nodes.now.known) node }
     ensures value { (d : Input) (older : List ℕ) → IsInput d
         → ((i : ℕ) → i < length nodes.now.known

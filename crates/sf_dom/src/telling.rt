@@ -1,16 +1,15 @@
 //! Which tests of a node against a number are told: what is known of the node tells the result, and nothing could be
 //! learnt from it.
 
-ghost use Rattle.std.specs.Prelude.{◌≡◌, ◌≢◌, ℕ, ◌<◌, ◌≤◌, ◌-◌, ◌↔◌, ◌⊎◌, length, Contains, MatchBool, MatchOption, IfSome, IfNone, IsTrue, bit_and, true, false};
+ghost use Rattle.std.specs.Prelude.{◌≡◌, ◌≢◌, ℕ, ◌<◌, ◌≤◌, ◌-◌, ◌↔◌, ◌⊎◌, length, Contains, MatchOption, IfSome, IfNone, IsTrue, true, false};
 ghost use Rattle.sf_insn.specs.Inputs.{IsInput};
 ghost use Rattle.sf_insn.specs.Words.{passes};
 ghost use Rattle.sf_insn.specs.declared.input.Input.{Input};
-ghost use Rattle.sf_sym.specs.declared.pool.Node.{Node as ANode};
-ghost use Rattle.sf_sym.specs.Pool.{OperandsBelow, node_at, value_of};
-ghost use Rattle.sf_dom.specs.Known.{Admits, HasBits};
+ghost use Rattle.sf_sym.specs.Pool.{value_of};
+ghost use Rattle.sf_dom.specs.Known.{Admits};
 ghost use Rattle.sf_dom.specs.Propagation.{TestGives};
 ghost use Rattle.sf_dom.specs.Backward.{IsPropagatedBack};
-ghost use Rattle.sf_dom.specs.Facts.{known_at, excluded_of, AgreesWith};
+ghost use Rattle.sf_dom.specs.Facts.{excluded_of, AgreesWith};
 ghost use Rattle.sf_dom.specs.Telling.{IsOpen, IsOpenAt};
 
 use crate::assuming::backward;
@@ -162,7 +161,7 @@ fn tell_at(
 }
 
 /// The result of a test of a node against a number, where it is told: every input that agrees has it, the other result
-/// leaves the node no number, and this one changes nothing that is known.
+/// leaves the node no number, and this one changes nothing that is known, except that the number may become an excluded one.
 pub(crate) fn tell_node(
     nodes: &Nodes,
     excluded: &Excluded,

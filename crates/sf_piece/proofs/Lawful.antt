@@ -20,7 +20,7 @@ use Rattle.sf_dom.specs.declared.known.Known.{Known}
 use Rattle.sf_dom.specs.Known.{Admits}
 use Rattle.sf_dom.specs.Facts.{FactsView, known_at, Covers, Agrees, NoInput, TakesIn}
 use Rattle.sf_dom.specs.Propagation.{Meets, Learns}
-use Rattle.sf_dom.specs.Facts.{IsPlainCondition as IsPlainCond}
+use Rattle.sf_dom.specs.Facts.{IsPlainCondition}
 use Rattle.sf_piece.specs.declared.machine.SymbolicMachine.{SymbolicMachine}
 use Rattle.sf_piece.specs.Pieces.{PieceData, is_member}
 use Rattle.sf_piece.specs.PlainPieces.{IsPlainPiece}
@@ -78,7 +78,7 @@ told_of_known p test other n known b h e is told = search (arith, foretold)
 
 -- what is learnt from the piece's facts
 pub learnt_child : (p : PieceData) (cond : Cond) (b : Bool) (o : Option FactsView) → IsPiece p
-    → (IsPlain p.stack → IsPlainCond p.pool cond)
+    → (IsPlain p.stack → IsPlainCondition p.pool cond)
     → MatchOption o (NoInput p.facts p.pool (Meets p.pool (with_sense cond b)))
     (λ fs. Learns p.facts fs p.pool (with_sense cond b))
     → MatchOption o (IsNever p cond b) (λ fs. AreChildFacts p cond b fs)
@@ -124,7 +124,7 @@ lawful_first stack pool zero_id fs stacked is within value covers known nodes =
     lawful (first_piece stack pool zero_id fs) (first_is stack pool zero_id fs stacked is within value covers known)
     (λ plain. record {
       nodes = nodes;
-      conditions = All-nil (IsPlainCond pool);
+      conditions = All-nil (IsPlainCondition pool);
       exact = λ d inp agrees. refl;
       some = (zeros, zeros_input, refl);
     })

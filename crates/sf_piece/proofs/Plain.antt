@@ -26,7 +26,7 @@ use Rattle.sf_sym.specs.Pool.{IsPool, ArePlainNodes, OperandsBelow, folded_node,
 use Rattle.sf_dom.specs.Facts.{FactsView, Agrees, KeepsOnly, TakesIn, IsWordOrConst, IsPlainTest}
 use Rattle.sf_dom.specs.Propagation.{Meets}
 use Rattle.sf_dom.specs.FactsLaws.{some-input}
-use Rattle.sf_dom.specs.Facts.{IsPlainCondition as IsPlainCond}
+use Rattle.sf_dom.specs.Facts.{IsPlainCondition}
 use Rattle.sf_piece.specs.declared.machine.SymbolicMachine.{SymbolicMachine}
 use Rattle.sf_piece.specs.Pieces.{PieceData, is_member, HasNoMember, IsRightAnswer}
 use Rattle.sf_piece.specs.SymbolicRun.{IsPiece}
@@ -79,12 +79,12 @@ pushed_plain old new (Word i) pool below is plain constant again =
 pushed_plain old new (Bin op a b) pool below is plain constant again = absurd is
 pushed_plain old new (Neg a) pool below is plain constant again = absurd is
 
-cond_grown : (ns added : List Node) (c : Cond) → IsCondBelow (length ns) c → IsPlainCond ns c
-    → IsPlainCond (ns ++ added) c
+cond_grown : (ns added : List Node) (c : Cond) → IsCondBelow (length ns) c → IsPlainCondition ns c
+    → IsPlainCondition (ns ++ added) c
 cond_grown ns added c below h = grind (arith, common_steps, get_or_append_left)
 
 conds_grown : (ns added : List Node) (cs : List Cond) → AllByRecursion (IsCondBelow (length ns)) cs
-    → All (IsPlainCond ns) cs → All (IsPlainCond (ns ++ added)) cs
+    → All (IsPlainCondition ns) cs → All (IsPlainCondition (ns ++ added)) cs
 conds_grown ns added cs below h = grind (arith, common_steps, recursion_from_All, cond_grown)
 
 -- ---- what becomes of a plain piece
@@ -99,7 +99,8 @@ pub plain_grown : (p : PieceData) (added : List Node) (fs : FactsView) → IsPie
     → ArePlainNodes (p.pool ++ added) → TakesIn p.facts fs p.pool (p.pool ++ added) → IsPlainPiece (grown p added fs)
 plain_grown p added fs k h nodes takes = grind (arith, common_steps, conds_grown, members_grown)
 
-pub sensed_plain : (ns : List Node) (cond : Cond) (b : Bool) → IsPlainCond ns cond → IsPlainCond ns (with_sense cond b)
+pub sensed_plain : (ns : List Node) (cond : Cond) (b : Bool) → IsPlainCondition ns cond
+    → IsPlainCondition ns (with_sense cond b)
 sensed_plain ns cond b h = record { node = h.node; number = h.number; other = h.other; test = h.test }
 
 and_is : (a b : Bool) → a ≡ true → b ≡ true → (a && b) ≡ true
@@ -107,7 +108,7 @@ and_is a b e f = rw (e, f) refl
 
 -- the piece of the members that have this truth value is plain, where the facts learnt are exact and some input agrees
 pub plain_child : (p : PieceData) (cond : Cond) (b : Bool) (m : SymbolicMachine) (fs : FactsView) → IsPlainPiece p
-    → IsPlainCond p.pool cond → AreChildFacts p cond b fs
+    → IsPlainCondition p.pool cond → AreChildFacts p cond b fs
     → KeepsOnly p.facts fs p.pool (Meets p.pool (with_sense cond b)) → IsPlainPiece (child_of p cond b m fs)
 plain_child p cond b m fs h plain f only =
     let some = some-input fs p.pool f.covers h.nodes in
@@ -115,7 +116,7 @@ plain_child p cond b m fs h plain f only =
     = search (arith, child_members, and_is) in
     record {
       nodes = h.nodes;
-      conditions = All-push (IsPlainCond p.pool) p.conditions (with_sense cond b) h.conditions
+      conditions = All-push (IsPlainCondition p.pool) p.conditions (with_sense cond b) h.conditions
           (sensed_plain p.pool cond b plain);
       exact = member;
       some = (some.0, some.1, member some.0 some.1 some.2);
@@ -140,7 +141,7 @@ plain_test AnyBit k t f h = h
 
 pub plain_asked : (q : PieceData) (test : Test) (o : Operand) (t f : ℕ) (id : NodeId) → IsPiece q → IsPlainPiece q
     → IsPlainInsn (Branch test o t f) → ((k : ℕ) → o ≡ Constant k → node_at q.pool id.0 ≡ Const k)
-    → IsPlainCond q.pool (record { node = q.machine.a; test = test; other = id; sense = true })
+    → IsPlainCondition q.pool (record { node = q.machine.a; test = test; other = id; sense = true })
 plain_asked q test (Constant k) t f id h plain insn constant = record {
   node = word_or_const q.pool q.machine.a.0 h.pool plain.nodes h.nodes.a;
   number = k;

@@ -8,14 +8,14 @@ use Rattle.sf_check.specs.Stacks.{IsPlain}
 use Rattle.sf_run.specs.Machine.{trace_of}
 use Rattle.sf_sym.specs.Pool.{ArePlainNodes}
 use Rattle.sf_dom.specs.Facts.{Agrees}
-use Rattle.sf_dom.specs.Facts.{IsPlainCondition as IsPlainCond}
+use Rattle.sf_dom.specs.Facts.{IsPlainCondition}
 use Rattle.sf_piece.specs.Pieces.{PieceData, StepData, Split, Settled, Empty, WorkData, is_member, IsRightWork}
 
 -- The pool has only words of the input and constants. Each path condition compares one of these with a constant, by a
 -- plain test. The facts are exact: an input that agrees with them is a member. And some input is a member.
 pub record IsPlainPiece (p : PieceData) : Type 0 where
   pub nodes : ArePlainNodes p.pool
-  pub conditions : All (IsPlainCond p.pool) p.conditions
+  pub conditions : All (IsPlainCondition p.pool) p.conditions
   pub exact : (d : Input) → IsInput d → Agrees p.facts p.pool d → is_member p d ≡ true
   pub some : (d : Input) × IsInput d × (is_member p d ≡ true)
 

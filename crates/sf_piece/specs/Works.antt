@@ -26,7 +26,7 @@ use Rattle.sf_dom.specs.Known.{Admits}
 use Rattle.sf_dom.specs.Facts.{FactsView, Covers, Agrees, AreNarrower, DecidesTest, KeepsOnly}
 use Rattle.sf_dom.specs.Propagation.{IsTold, Meets}
 use Rattle.sf_dom.specs.Backward.{IsPropagatedBack}
-use Rattle.sf_dom.specs.Facts.{IsPlainCondition as IsPlainCond}
+use Rattle.sf_dom.specs.Facts.{IsPlainCondition}
 use Rattle.sf_piece.specs.declared.machine.SymbolicMachine.{SymbolicMachine}
 use Rattle.sf_piece.specs.Machines.{after_return}
 use Rattle.sf_piece.specs.Pieces.{PieceData, is_member, IsTrulyNamed}
@@ -198,7 +198,7 @@ pub record IsQuery (p : PieceData) (i : Insn) (cond : Cond) : Type 0 where
   pub below : IsCondBelow (length p.pool) cond
   pub next : (d : Input) → NextIs (insn_progress d (concrete_state p.pool p.machine d) i) p.machine.taken
       (is_met p.pool d cond)
-  pub plain : IsPlain p.stack → IsPlainCond p.pool cond
+  pub plain : IsPlain p.stack → IsPlainCondition p.pool cond
 
 -- A passes a test against an operand, or doesn't, on every member
 abbrev pub PassesAlways : PieceData → Test → Operand → Bool → Type 0

@@ -5,7 +5,7 @@ ghost use Rattle.sf_piece.specs.SymbolicRun.{IsLawfulPiece};
 ghost use Rattle.sf_piece.specs.Works.{HasAtHand, IsOperandNumber, NothingGoesBack, PassesAlways, divides_at};
 ghost use Rattle.sf_piece.specs.SmallSteps.{IsSmallStep};
 
-use crate::chains::take_told;
+use crate::chains::take_failing;
 use crate::deciding::{SmallStep, decide, take};
 use crate::executing::{leave_program, set_a};
 use crate::fault::Fault;
@@ -92,8 +92,8 @@ pub(crate) fn alu(
     }
 }
 
-/// A test of A. Where the facts tell it, its truth value is added to the name, with those of the told tests behind it.
-/// Else it is learnt as false and as true.
+/// A test of A. Where the facts tell it, its truth value is added to the name, with the falses of the tests behind it
+/// that are told to fail. Else it is learnt as false and as true.
 pub(crate) fn branch(
     alloc: Global,
     run: &mut Run,
@@ -108,7 +108,7 @@ pub(crate) fn branch(
 {
     if let Some(sense) = foresee(run, test, other) {
         take(run, insn, sense)?;
-        take_told(run)?;
+        take_failing(run)?;
         return Ok(SmallStep::On);
     }
     let Some(right) = operand(alloc, run, other)? else {

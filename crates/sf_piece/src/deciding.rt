@@ -4,12 +4,11 @@ ghost use Rattle.std.specs.Prelude.{◌≡◌, ◌<◌, if◌then◌else◌, IfO
 ghost use Rattle.std.specs.Arc.{arc_value};
 ghost use Rattle.sf_check.specs.Stacks.{IsPlain};
 ghost use Rattle.sf_sym.specs.Pool.{IsCondBelow};
-ghost use Rattle.sf_dom.specs.Facts.{IsPlainCondition as IsPlainCond};
+ghost use Rattle.sf_dom.specs.Facts.{IsPlainCondition};
 ghost use Rattle.sf_piece.specs.SymbolicRun.{IsLawfulPiece};
 ghost use Rattle.sf_piece.specs.Works.{HasAtHand, IsQuery, AfterTruthValue, HasAdvanced, IsChild, IsForeseen, Asks, AreChildFacts, IsNever};
 ghost use Rattle.sf_piece.specs.SmallSteps.{IsSmallStep};
 
-use crate::chains::take_test;
 use crate::fault::Fault;
 use crate::machine::SymbolicMachine;
 use crate::piece::Piece;
@@ -35,7 +34,7 @@ pub(crate) enum SmallStep {
 }
 
 /// How many instructions a test skips.
-pub(crate) fn skip_count(on_true: u8, on_false: u8, sense: bool) -> u8
+fn skip_count(on_true: u8, on_false: u8, sense: bool) -> u8
     ensures { result ≡ (if sense then on_true else on_false) }
 {
     if sense { on_true } else { on_false }
@@ -80,7 +79,10 @@ pub(crate) fn take(run: &mut Run, insn: Insn, sense: bool) -> Result<(), Fault>
     ensures lawful { IfOk result (λ _. IsLawfulPiece run.new) }
 {
     if let Insn::Branch(_, _, on_true, on_false) = insn {
-        return take_test(run, insn, on_true, on_false, sense);
+        let next = skip_count(on_true, on_false, sense);
+        run.name.push(sense)?;
+        run.machine.place = run.machine.place + 1 + next as usize;
+        return Ok(());
     }
     let to = machine_after(run, insn, sense);
     run.name.push(sense)?;
@@ -143,7 +145,7 @@ fn become_child(run: &mut Run, insn: Insn, cond: Cond, facts: Facts) -> Result<(
 fn child_facts(alloc: Global, run: &Run, cond: Cond, sense: bool) -> Result<Option<Facts>, Fault>
     requires lawful { IsLawfulPiece run.now }
     requires below { IsCondBelow (length run.now.pool) cond }
-    requires plain { IsPlain run.now.stack → IsPlainCond run.now.pool cond }
+    requires plain { IsPlain run.now.stack → IsPlainCondition run.now.pool cond }
     ensures { IfOk result (λ o. MatchOption o (IsNever run.now cond sense)
         (λ fs. AreChildFacts run.now cond sense fs)) }
 {

@@ -1,6 +1,6 @@
 //! Symbolic execution: one instruction on symbolic words, or one truth value of it.
 
-ghost use Rattle.std.specs.Prelude.{◌≡◌, ℕ, IfOk, length, slice_get, slice_set, Some, ◌<◌};
+ghost use Rattle.std.specs.Prelude.{◌≡◌, IfOk, length, slice_get, slice_set, Some, ◌<◌};
 ghost use Rattle.sf_sym.specs.declared.pool.NodeId.{NodeId as ANodeId};
 ghost use Rattle.sf_check.specs.Stacks.{IsPlain};
 ghost use Rattle.sf_sym.specs.Pool.{OperandsBelow};

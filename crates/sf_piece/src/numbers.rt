@@ -1,5 +1,5 @@
-//! The numbers of a stack's instructions, put into the pool of the first piece. So no piece below has to add them, and
-//! all pieces share one pool until one of them makes an operation's node that isn't there.
+//! The numbers of a stack's instructions, put into the pool of the first piece, up to 4,096 nodes. So later pieces
+//! needn't add these numbers, and all pieces share one pool until one of them makes a node that isn't there.
 
 ghost use Rattle.std.specs.Prelude.{IfOk};
 ghost use Rattle.sf_sym.specs.Pool.{ArePlainNodes};

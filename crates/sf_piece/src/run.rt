@@ -14,7 +14,7 @@ use std::alloc::Global;
 use std::marker::Model;
 use std::sync::Arc;
 
-/// Path conditions, the oldest first; full blocks of 16 are shared with the pieces below.
+/// Path conditions, the oldest first; full blocks of 16 are shared with the pieces that come of this one.
 pub(crate) type Conditions = SharedList<Cond, 1>;
 
 /// The run behind a piece: what is in its name and its conditions so far, where the machine stands, and what is known

@@ -112,8 +112,8 @@ fn set_in(value: &Value) -> Option<ActionSet>
     }
 }
 
-/// The set of the actions that a question names: ALLOW and LOG where it has no key `actions`. Empty where a name isn't
-/// that of an action; none where the value isn't an array of texts.
+/// The set of the actions that a question names: ALLOW and LOG where it has no key `actions`. Empty where there is no
+/// name, or one of them isn't that of an action; none where the value isn't an array of texts.
 pub(super) fn actions_in(table: &Table) -> Option<ActionSet>
     ensures { result ≡ option_map encoded_set
         (names_at (get_member (codes "actions") (table_view table.now))) }

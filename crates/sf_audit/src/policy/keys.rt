@@ -1,4 +1,4 @@
-//! The keys of a policy file, and the values at them.
+//! The keys of policy files and of files of names, and the values at them.
 
 ghost use Rattle.std.specs.Prelude.{◌≡◌, string_bytes, option_map};
 ghost use Rattle.std.specs.BTreeMap.{keys};

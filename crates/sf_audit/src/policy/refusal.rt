@@ -74,9 +74,9 @@ impl Refusal {
         text_in(self.table()?, "name")
     }
 
-    /// The key that is refused. In a question it is the first one, in alphabetical order, that is refused for the same
-    /// fault where only this key and a name stand in a question; where there is none, `name`, which must be there.
-    /// Otherwise it is a key at the top. Empty where there is no tree. An error where an allocation is refused.
+    /// The key that is refused. In a question it is the first key, in alphabetical order, for which a question of only
+    /// a name and this key is refused for the same fault; where there is none, `name`, which must be there. Otherwise
+    /// it is a key at the top. Empty where there is no tree. An error where an allocation is refused.
     pub fn key(&self, alloc: Global) -> Result<&str, AllocError> {
         let (Some(table), Ok(tree)) = (self.table(), &self.read) else {
             return Ok("");

@@ -13,14 +13,14 @@ use sf_insn::{Input, bytes_of_input};
 use std::alloc::{AllocError, Global};
 
 /// A region's name: a letter for each truth value, or a dash where it has none.
-fn push_trace(text: &mut String, name: &[bool]) -> Result<(), AllocError>
+fn push_truth_values(text: &mut String, name: &[bool]) -> Result<(), AllocError>
     ensures { OnOk result (string_bytes text.new ≡ string_bytes text.old ++ name_text name.now) }
 {
     if name.is_empty() {
         return text.push_str("-");
     }
-    for direction in name {
-        text.push_str(if *direction { "T" } else { "F" })?;
+    for value in name {
+        text.push_str(if *value { "T" } else { "F" })?;
     }
     Ok(())
 }
@@ -37,7 +37,7 @@ fn push_region(
 {
     write!(text, "region {number} ")?;
     let name = region.name().values(alloc)?;
-    push_trace(text, &name)?;
+    push_truth_values(text, &name)?;
     text.push_str(" ")?;
     let answer = region.answer();
     push_action(text, answer.action)?;
