@@ -14,7 +14,7 @@ const AFTER_HELP: &str = "Exit status:
   0  every question is never; compare: looser is never; list: each row has one answer; check, eval and help: done
   1  some question is allowed; compare: looser is allowed
   2  some question is unsettled, and none allowed; compare: looser is unsettled; list: a row has several answers
-  3  a filter, the stack, the policy or the input is refused
+  3  a filter, the stack, the policy, a file of names or the input is refused
   4  the command line is refused
   5  a file can't be read, standard output can't be written, or memory ran out
 
