@@ -1,6 +1,6 @@
 //! Runs command lines over files in memory, and shows what each writes and its exit status.
 //!
-//! A script comes on standard input, one command a line. `file NAME PIECE ..` makes a file from hexadecimal digits, and
+//! A script comes on standard input, one command a line. `file NAME FRAGMENT ..` makes a file from hexadecimal digits, and
 //! `text NAME LINE | LINE ..` one from lines; of files with one name the newest counts. `run WORD ..` runs a command
 //! line, and `count WORD ..` runs one and shows how many bytes it writes. `limit WORD ..` runs one over writers that
 //! take no byte, one byte, two, and so on, until one takes all. `interrupt WORD ..` runs one over a writer that a signal

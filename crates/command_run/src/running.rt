@@ -143,9 +143,9 @@ pub fn limit<R: Print + Threads + Wait + Sync + AllocGlobal>(
 ) -> Result<(), Fail> {
     let words = words_of(rt.alloc(), line)?;
     println!(rt; "$ {line}")?;
-    for most in 0..1000 {
-        let one = run_limited(rt, files, &words, most, Full::TakesNothing)?;
-        let other = run_limited(rt, files, &words, most, Full::Fails)?;
+    for limit in 0..1000 {
+        let one = run_limited(rt, files, &words, limit, Full::TakesNothing)?;
+        let other = run_limited(rt, files, &words, limit, Full::Fails)?;
         if one && other {
             break;
         }

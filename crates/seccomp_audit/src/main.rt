@@ -11,13 +11,13 @@ use std::process::ExitCode;
 use std::rt::Files as FileSystem;
 use std::{env, io, mem};
 
-/// The most bytes of the system's reason that are kept.
+/// The most bytes of a reason that are kept.
 const REASON: usize = 256;
 
 /// The files of the system, read through `rt`.
 struct Disk<'a, R> {
     rt: &'a R,
-    /// Why the last file that was refused could not be read, in the system's words; empty before one is.
+    /// Why the last file that was refused could not be read, in words for a person; empty before one is.
     reason: InlineText<REASON>,
 }
 

@@ -28,7 +28,7 @@ pub struct Terms {
     pub asked: Relation,
     /// Whether the rows in which the answers differ are written too.
     pub rows: bool,
-    /// The most leaves of these rows that are drawn, 1 to 1,000,000.
+    /// After how many leaves no fork of their picture is begun any more, 1 to 1,000,000.
     pub leaves: u32,
 }
 

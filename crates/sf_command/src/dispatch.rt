@@ -19,8 +19,8 @@ use crate::files::Files;
 use crate::listing::{Limits, list};
 use crate::naming::read_all_names;
 use crate::options::{
-    brief_of, budget_of, leaves_of, regions_of, relation_of, text_of, wants_trace, with_rows_of,
-    workers_of,
+    budget_of, leaves_of, relation_of, text_of, wants_brief, wants_regions, wants_rows,
+    wants_trace, workers_of,
 };
 use crate::telling::tell;
 use crate::words;
@@ -53,7 +53,7 @@ fn run_audit<R: Threads + Wait + Sync, F: Files, O: Write>(
     let options = Options {
         budget: budget_of(found),
         workers: workers_of(found),
-        regions: regions_of(found),
+        regions: wants_regions(found),
     };
     let policy = text_of(found, "policy");
     audit(rt, alloc, policy, paths, options, files, notes, out)
@@ -118,7 +118,7 @@ fn run_eval<F: Files, O: Write>(
     let _input = input_of(digits)?;
     let names = names_of(alloc, found, files, notes)?;
     let traced = wants_trace(found);
-    let brief = brief_of(found);
+    let brief = wants_brief(found);
     evaluate(
         alloc, digits, traced, brief, &names, paths, files, notes, out,
     )?;
@@ -151,13 +151,13 @@ fn run_compare<R: Threads + Wait + Sync, F: Files, O: Write>(
         budget: budget_of(found),
         workers: workers_of(found),
         asked: relation_of(found),
-        rows: with_rows_of(found),
+        rows: wants_rows(found),
         leaves: leaves_of(found),
     };
     compare(rt, alloc, old, new, &names, terms, files, notes, out)
 }
 
-/// Lists as the matches of the subcommand say.
+/// Runs `list` as the matches of the subcommand say.
 fn run_list<R: Threads + Wait + Sync, F: Files, O: Write>(
     rt: &R,
     alloc: Global,
@@ -219,7 +219,7 @@ fn run<R: Threads + Wait + Sync, F: Files, O: Write>(
 /// Writes the help or the version to standard output, with status 0, where that was asked for. Otherwise writes to
 /// standard error why the command line is refused, with status 4. `Memory` where an allocation was refused, `Write`
 /// where standard output can't be written.
-fn explain<O: Write, E: Write>(
+fn write_usage<O: Write, E: Write>(
     alloc: Global,
     error: &clap::Error,
     out: &mut O,
@@ -278,7 +278,7 @@ fn reply<R: Threads + Wait + Sync, F: Files, O: Write, E: Write>(
             notes.explain(alloc, &matches, &ran, files.reason());
             ran
         }
-        Err(error) => explain(alloc, &error, out, err),
+        Err(error) => write_usage(alloc, &error, out, err),
     }
 }
 
@@ -287,8 +287,9 @@ fn reply<R: Threads + Wait + Sync, F: Files, O: Write, E: Write>(
 /// - 0: done; after an audit each question is never, after a comparison the relation that is asked for is never, and after a
 ///   listing each row has one answer.
 /// - 1: some question of an audit, or the relation that is asked for, is allowed.
-/// - 2: none is allowed, and some is unsettled; after a listing some row has several answers, or the budget was spent.
-/// - 3: the filters, the policy or the input are refused. Standard output is left as it was.
+/// - 2: none is allowed, and some is unsettled; after a listing some row has several answers, or a piece is
+///   outstanding.
+/// - 3: the filters, the policy, a file of names or the input are refused. Standard output is left as it was.
 /// - 4: the command line is refused. No file was read, standard output is left as it was, and standard error has the
 ///   text of `clap`.
 /// - 5: reading, writing or memory failed. Standard output is left as it was, unless writing failed.

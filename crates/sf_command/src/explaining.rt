@@ -7,7 +7,7 @@ ghost use Rattle.sf_audit.specs.Faults.{without_place};
 ghost use Rattle.sf_command.specs.Runs.{IsUnasked};
 
 use crate::meanings::meaning_of;
-use crate::options::explains_of;
+use crate::options::wants_explanation;
 use crate::places::position_of;
 use crate::policies::Page;
 use clap::ArgMatches;
@@ -61,7 +61,7 @@ impl Notes {
     }
 
     /// Keeps the lines that explain a fault, if the run ended with one and the matches ask for them. `reason` says why
-    /// the last file was refused, in the system's words.
+    /// the last file was refused, in words for a person.
     pub fn explain(
         &mut self,
         alloc: Global,
@@ -117,8 +117,7 @@ fn push_names(text: &mut String, found: &ArgMatches<'_>, notes: &Notes) -> Resul
     write!(text, "names {path:?}\n")
 }
 
-/// Adds the line of the policy file, and where the policy is refused, as far as that is known; or of the file of names,
-/// where there is no policy.
+/// Adds what `push_policy` adds, or for a command line without a policy what `push_names` adds.
 fn push_asked(
     alloc: Global,
     text: &mut String,
@@ -131,7 +130,7 @@ fn push_asked(
     }
 }
 
-/// Adds the line of a file that can't be read, with the system's reason where it is known.
+/// Adds the line of a file that can't be read, with the reason where it is known.
 fn push_unread(text: &mut String, path: &str, reason: &str) -> Result<(), AllocError> {
     if reason.is_empty() {
         return write!(text, "file {path:?}\n");
@@ -241,7 +240,7 @@ fn explanation(
     ensures { IsUnasked (subcommand_rows_of matches.now) → result ≡ None }
 {
     let (_, found) = matches.subcommand()?;
-    if !explains_of(found) {
+    if !wants_explanation(found) {
         return None;
     }
     fault_text(alloc, found, fault, notes, reason).ok()

@@ -29,8 +29,7 @@ pub trait Files {
             ⊎ (e ≡ Memory)) }
         ensures same { (p : List ℕ) → holds self.new p ≡ holds self.old p };
 
-    /// Why the last file was refused, in the system's words; empty where they aren't known. It is for a person, so no
-    /// contract speaks of it.
+    /// Why the last file was refused, in words for a person; empty where that isn't known. No contract speaks of it.
     fn reason(&self) -> &str;
 
     /// Takes over what was found, once it is written. By default its memory is given back, one allocation after the

@@ -22,7 +22,7 @@ pub struct Limits {
     pub budget: u32,
     /// The number of workers, 1 to 64.
     pub workers: u8,
-    /// The most leaves that are drawn, 1 to 1,000,000.
+    /// After how many leaves no fork of the picture is begun any more, 1 to 1,000,000.
     pub leaves: u32,
 }
 

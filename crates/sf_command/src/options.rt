@@ -47,7 +47,7 @@ fn is_on(found: &ArgMatches<'_>, name: &str) -> bool
 }
 
 /// Whether the report of an audit lists the settled regions.
-pub fn regions_of(found: &ArgMatches<'_>) -> bool
+pub fn wants_regions(found: &ArgMatches<'_>) -> bool
     ensures { IsSwitch (one_of (codes "regions") (rows_of (found_of found.now))) result }
 {
     is_on(found, "regions")
@@ -61,7 +61,7 @@ pub fn wants_trace(found: &ArgMatches<'_>) -> bool
 }
 
 /// Whether an evaluation shows where its answer comes from, without what is false.
-pub fn brief_of(found: &ArgMatches<'_>) -> bool
+pub fn wants_brief(found: &ArgMatches<'_>) -> bool
     ensures { IsSwitch (one_of (codes "trace-true") (rows_of (found_of found.now))) result }
 {
     is_on(found, "trace-true")
@@ -79,20 +79,20 @@ pub fn relation_of(found: &ArgMatches<'_>) -> Relation
 }
 
 /// Whether a comparison lists the rows in which the answers differ.
-pub fn with_rows_of(found: &ArgMatches<'_>) -> bool
+pub fn wants_rows(found: &ArgMatches<'_>) -> bool
     ensures { IsSwitch (one_of (codes "rows") (rows_of (found_of found.now))) result }
 {
     is_on(found, "rows")
 }
 
 /// Whether a fault is explained under its line.
-pub fn explains_of(found: &ArgMatches<'_>) -> bool
+pub fn wants_explanation(found: &ArgMatches<'_>) -> bool
     ensures { IsSwitch (one_of (codes "explain-errors") (rows_of (found_of found.now))) result }
 {
     is_on(found, "explain-errors")
 }
 
-/// The most leaves of a picture that are drawn.
+/// After how many leaves no fork of a picture is begun any more.
 pub fn leaves_of(found: &ArgMatches<'_>) -> u32
     ensures { IsOptionNumber (one_of (codes "leaves") (rows_of (found_of found.now)))
         1000000 20000 result }

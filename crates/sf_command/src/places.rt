@@ -25,9 +25,8 @@ struct Reading<'a> {
 }
 
 /// The part of a dotted key at a place, counted from 0; the last part where it has fewer.
-fn part_of(key: &Key, place: usize) -> Option<&str> {
-    let part = key.path.get(place).unwrap_or(&key.last);
-    Some(part.as_str())
+fn part_of(key: &Key, place: usize) -> &str {
+    key.path.get(place).unwrap_or(&key.last).as_str()
 }
 
 /// Whether a key is `question`, which begins the questions.
@@ -52,8 +51,8 @@ impl Reading<'_> {
     }
 
     /// Whether this key at the top is looked for.
-    fn is_at_top(&self, key: Option<&str>) -> bool {
-        self.question.is_none() && self.key == key
+    fn is_at_top(&self, key: &str) -> bool {
+        self.question.is_none() && self.key == Some(key)
     }
 
     /// Reads a key that stands before a value, and says whether it is looked for.
@@ -62,7 +61,7 @@ impl Reading<'_> {
             self.depth_of_questions = if is_question(key) { Some(2) } else { None };
             return self.is_at_top(part_of(key, 0));
         }
-        self.depth_of_questions == Some(self.depth) && self.is_of_question(part_of(key, 0))
+        self.depth_of_questions == Some(self.depth) && self.is_of_question(Some(part_of(key, 0)))
     }
 
     /// Reads the key of a header, and says whether it is looked for, or the question that begins there is.
@@ -74,7 +73,7 @@ impl Reading<'_> {
             return self.begin_question();
         }
         self.is_at_top(part_of(key, 0))
-            || part_of(key, 0) == Some("question") && self.is_of_question(part_of(key, 1))
+            || part_of(key, 0) == "question" && self.is_of_question(Some(part_of(key, 1)))
     }
 
     /// Begins a question, and says whether it is looked for.

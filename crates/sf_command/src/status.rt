@@ -8,8 +8,8 @@ use sf_ask::Reply;
 use sf_audit::{Fault, count_allowed, count_unsettled};
 use sf_compare::Change;
 
-/// The exit status of a fault: 3 where the filters, the policy or the input are refused, 5 where reading, writing or
-/// memory fails.
+/// The exit status of a fault: 3 where the filters, the policy, a file of names or the input are refused, 5 where reading,
+/// writing or memory fails.
 pub fn status_of(fault: &Fault) -> u8
     ensures { result ≡ fault_status (fault_number fault.now) }
 {

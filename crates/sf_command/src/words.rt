@@ -83,7 +83,7 @@ fn workers<'a>(alloc: Global) -> Arg<'a>
         .help("The number of workers, 1 to 64: 1 is as fast, and answers more under a budget")
 }
 
-/// `--leaves`: how many leaves of a picture are drawn at most.
+/// `--leaves`: after how many leaves no fork of a picture is begun any more.
 fn leaves<'a>(alloc: Global) -> Arg<'a>
     ensures rule { rule_of result ≡ number_rule (codes "leaves") 1000000 (codes "20000") }
     ensures own { result.global ≡ false }
@@ -249,7 +249,7 @@ fn compare<'a>(alloc: Global) -> Result<Command<'a>, AllocError>
         .arg(explain(alloc))
 }
 
-/// What `list` takes.
+/// The subcommand `list` and what it takes.
 fn list<'a>(alloc: Global) -> Result<Command<'a>, AllocError>
     ensures { IfOk result (λ c. app_of c ≡ list_line) }
 {

@@ -27,7 +27,7 @@ fn words_of(alloc: Global, answer: Answer) -> Result<String, AllocError>
     Ok(text)
 }
 
-/// The line of a relation: what was found of it, and the example with both answers.
+/// Adds the line of a relation: what was found of it, and the example with both answers.
 fn push_change(
     alloc: Global,
     text: &mut String,
@@ -49,7 +49,7 @@ fn push_change(
     }
 }
 
-/// The lines of the relations.
+/// Adds the lines of the relations.
 fn push_changes(alloc: Global, text: &mut String, comparison: &Comparison) -> Result<(), AllocError>
     ensures { OnOk result (string_bytes text.new ≡ string_bytes text.old
         ++ changes_text comparison.now) }
@@ -64,7 +64,7 @@ fn push_changes(alloc: Global, text: &mut String, comparison: &Comparison) -> Re
     )
 }
 
-/// The line that tells the size of one of the two stacks.
+/// Adds the line that tells the size of one of the two stacks.
 fn push_part(text: &mut String, which: &str, programs: &[Program]) -> Result<(), AllocError>
     requires { length programs.now ≤ 64 }
     ensures { OnOk result (string_bytes text.new ≡ string_bytes text.old
@@ -75,7 +75,7 @@ fn push_part(text: &mut String, which: &str, programs: &[Program]) -> Result<(),
     write!(text, "{which} filters {filters} path {path}\n")
 }
 
-/// What stands above the relations: the version of the text, the sizes of both stacks, and the counts.
+/// Adds what stands above the relations: the version of the text, the sizes of both stacks, and the counts.
 fn push_sizes(text: &mut String, settled: &Settled, older: usize) -> Result<(), AllocError>
     requires { older ≤ length settled.now.stack }
     ensures { OnOk result (string_bytes text.new ≡ string_bytes text.old

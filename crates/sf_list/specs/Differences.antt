@@ -11,10 +11,10 @@ use Rattle.sf_picture.specs.Pictures.{IsAttainedEverywhere, IsDetermined, IsPict
 use Rattle.sf_audit.specs.Names.{NamesData}
 use Rattle.sf_audit.specs.Reports.{line}
 use Rattle.sf_compare.specs.Changes.{AreAnswersOf}
-use Rattle.sf_compare.specs.Comparisons.{Compared, comparison_text}
+use Rattle.sf_compare.specs.Comparisons.{Compared, answer_words, comparison_text}
 use Rattle.sf_list.specs.Answers.{answer_order}
 use Rattle.sf_list.specs.Rows.{RowData}
-use Rattle.sf_list.specs.Lines.{answer_words, is_undetermined, row_line}
+use Rattle.sf_list.specs.Lines.{is_undetermined, row_line}
 use Rattle.sf_list.specs.Listings.{listed_rows}
 
 -- the two answers differ: in the action or in its data

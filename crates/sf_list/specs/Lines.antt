@@ -2,10 +2,8 @@
 use Rattle.std.specs.Prelude.{ℕ, ◌^◌, ◌-◌, ◌==◌, Bool, true, false, List, [], ◌∷◌, ◌++◌, codes, length, slice_index_or, Option, Some, None, nat_lt, if◌then◌else◌}
 use Rattle.std.specs.List.{flat_map}
 use Rattle.std.specs.Fmt.{decimal, digits, padded_integral, format_spec}
-use Rattle.sf_run.specs.declared.action.Answer.{Answer}
 use Rattle.sf_audit.specs.Keys.{word_keys}
 use Rattle.sf_audit.specs.Names.{NamesData, names_between, names_words}
-use Rattle.sf_audit.specs.Reports.{action_text}
 use Rattle.sf_picture.specs.declared.axis.Axis.{Axis}
 use Rattle.sf_list.specs.declared.parts.Span.{Span}
 use Rattle.sf_list.specs.declared.conditions.Style.{Style}
@@ -52,12 +50,12 @@ abbrev pub arch_start : PartData → List ℕ
 arch_start p = if p.is_rest then (if is_one_number p.spans then codes "!= " else codes "not in ")
     else (if is_one_number p.spans then [] else codes "in ")
 
--- the architectures, where not all are meant by the numbers of a part
+-- the architectures: `any`, or the numbers of a part
 abbrev pub arch_words : Option PartData → List ℕ
 arch_words None = codes "any"
 arch_words (Some p) = arch_start p ++ spans_words Long p.spans
 
--- the call numbers, where not all are meant by the numbers of a part
+-- The call numbers: `any`, or those of a part. It is never a rest, since each run of call numbers is a part by itself.
 abbrev pub nr_words : Option PartData → List ℕ
 nr_words None = codes "any"
 nr_words (Some p) = spans_words Call p.spans
@@ -80,10 +78,6 @@ condition_words c = axis_words c.axis ++ (part_start c.part ++ spans_words Short
 abbrev pub conditions_words : List ℕ → List ConditionData → List ℕ
 conditions_words before [] = []
 conditions_words before (c ∷ cs) = before ++ (condition_words c ++ conditions_words (codes " and ") cs)
-
--- an action and its data
-abbrev pub answer_words : Answer → List ℕ
-answer_words a = action_text a.action ++ 32 ∷ decimal a.info
 
 -- the words of labels, with ` | ` between them
 abbrev pub labels_words : List (List ℕ) → List ℕ → List ℕ
@@ -113,7 +107,8 @@ names_in_span names arch s = names_between names arch s.first s.last
 abbrev pub names_in_spans : List NamesData → ℕ → List Span → List (List ℕ)
 names_in_spans names arch spans = flat_map (names_in_span names arch) spans
 
--- the names of the calls of an architecture whose numbers are in a part; none where all numbers are meant
+-- the names of the calls of an architecture whose numbers are in a part; none for a rest, or where all numbers are
+-- meant
 abbrev pub names_in_part : List NamesData → ℕ → Option PartData → List (List ℕ)
 names_in_part names arch None = []
 names_in_part names arch (Some p) = if p.is_rest then [] else names_in_spans names arch p.spans

@@ -16,7 +16,8 @@ use Rattle.sf_audit.specs.Names.{NamesData}
 use Rattle.sf_audit.specs.Reports.{counts_line, line}
 use Rattle.sf_list.specs.Answers.{AreFirstPlaces, answer_order}
 use Rattle.sf_list.specs.Rows.{RowData, rows_of}
-use Rattle.sf_list.specs.Lines.{answer_words, row_line, is_undetermined}
+use Rattle.sf_compare.specs.Comparisons.{answer_words}
+use Rattle.sf_list.specs.Lines.{row_line, is_undetermined}
 
 -- How an exploration ended, the answers of its regions, and where no piece is outstanding its picture, whose labels are
 -- places of the answers.

@@ -6,7 +6,7 @@ ghost use Rattle.sf_run.specs.declared.action.Answer.{Answer as AnAnswer};
 ghost use Rattle.sf_book.specs.Books.{RegionData};
 ghost use Rattle.sf_picture.specs.Answering.{TellAnswers};
 ghost use Rattle.sf_list.specs.Answers.{AreFirstPlaces, answer_order};
-ghost use Rattle.sf_list.specs.Lines.{answer_words};
+ghost use Rattle.sf_compare.specs.Comparisons.{answer_words};
 
 use sf_audit::push_action;
 use sf_book::Settled;

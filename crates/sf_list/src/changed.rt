@@ -49,7 +49,7 @@ fn rows_of(alloc: Global, differences: &Differences) -> Result<Vec<Row>, Fault>
     Ok(rows)
 }
 
-/// The line that tells how many rows there are, and how many of them have several labels.
+/// Adds the line that tells how many rows there are, and how many of them have several labels.
 fn push_total(text: &mut String, rows: &[Row]) -> Result<(), AllocError>
     ensures { OnOk result (string_bytes text.new ≡ string_bytes text.old
         ++ changed_line rows.now) }
@@ -96,8 +96,8 @@ fn text_of(
 /// Writes the text of a comparison, then the rows in which the answers of the two stacks differ, with these names of calls,
 /// and a line that counts them: how many there are, and how many of them have several labels.
 ///
-/// `Write` where a write fails or takes no byte, `Memory` where the text can't be built. After either a beginning of the text
-/// was written, after `Memory` nothing.
+/// `Write` where a write fails or takes no byte: a beginning of the text was written then. `Memory` where the text can't be
+/// built: nothing was written then.
 pub fn write_differences<W: Write>(
     alloc: Global,
     comparison: &Comparison,

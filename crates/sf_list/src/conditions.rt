@@ -119,7 +119,7 @@ pub(crate) fn push_arch(text: &mut String, arch: &Option<Part>) -> Result<(), Al
     }
 }
 
-/// Adds the call numbers.
+/// Adds the call numbers. Their part is never a rest, since each run of call numbers is a part by itself.
 pub(crate) fn push_nr(text: &mut String, nr: &Option<Part>) -> Result<(), AllocError>
     ensures { OnOk result (string_bytes text.new ≡ string_bytes text.old ++ nr_words nr.now) }
 {

@@ -112,8 +112,8 @@ fn differences_by(
     })
 }
 
-/// Draws what differs between the answers of the two stacks of a comparison, with at most so many leaves, unless a piece is
-/// outstanding. `Memory` where an allocation is refused.
+/// Draws what differs between the answers of the two stacks of a comparison, unless a piece is outstanding. Once `leaves`
+/// leaves are drawn, no fork is begun any more. `Memory` where an allocation is refused.
 pub fn draw_differences(
     alloc: Global,
     comparison: &Comparison,

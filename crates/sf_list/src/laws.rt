@@ -60,7 +60,7 @@ pub fn each_row_has_its_differences()
         × Answers (old_of s older) d both.older × Answers (new_of s older) d both.newer }
 {}
 
-/// On plain stacks, where leaves weren't spent, a row that is shown has one pair of answers. They differ, and the two stacks
+/// On plain stacks, where the picture isn't spent, a row that is shown has one pair of answers. They differ, and the two stacks
 /// give them to each input of the row.
 pub fn each_plain_row_has_one_difference()
     ensures { (s : BookData) (older : ℕ) (x : DifferencesData) (p : PictureData) (d : Input)

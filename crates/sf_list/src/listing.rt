@@ -105,11 +105,11 @@ fn listing_of(alloc: Global, settled: Settled, leaves: usize) -> Result<Listing,
     })
 }
 
-/// Explores the stack that filter files spell, by at most `budget` works, and draws its picture, with at most so many leaves,
-/// unless a piece is outstanding.
+/// Explores the stack that filter files spell, by at most `budget` works, and draws its picture, unless a piece is
+/// outstanding. Once `leaves` leaves are drawn, no fork is begun any more.
 ///
-/// The caller's conditions: a budget from 1 to 1,000,000 and 1 to 64 workers, each a thread of its own where there are more
-/// than one. Refusals: those of `stack_of`. `Memory` can come anywhere. Waits for the workers.
+/// The caller's conditions: a budget from 1 to 1,000,000, and 1 to 64 workers (where there are more than one, each gets a
+/// thread, if it can be started). Refusals: those of `stack_of`. `Memory` can come anywhere. Waits for the workers.
 pub fn list<R: Threads + Wait + Sync, G: Gate>(
     rt: &R,
     alloc: Global,

@@ -57,7 +57,8 @@ fn push_names_in_spans(
     Ok(())
 }
 
-/// Adds the names of the calls of an architecture whose numbers are in a part.
+/// Adds the names of the calls of an architecture whose numbers are in a part; none for a rest, or where all numbers are
+/// meant.
 fn push_names_in_part(
     text: &mut String,
     names: &[Names],

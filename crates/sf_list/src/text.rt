@@ -27,7 +27,7 @@ fn push_stack(text: &mut String, programs: &[Program]) -> Result<(), AllocError>
     write!(text, "filters {filters} path {path}\n")
 }
 
-/// What stands above the rows: the version of the text, the size of the stack, and the counts.
+/// Adds what stands above the rows: the version of the text, the size of the stack, and the counts.
 fn push_head(text: &mut String, settled: &Settled) -> Result<(), AllocError>
     ensures { OnOk result (string_bytes text.new ≡ string_bytes text.old
         ++ head_text settled.now) }
@@ -37,7 +37,7 @@ fn push_head(text: &mut String, settled: &Settled) -> Result<(), AllocError>
     push_counts(text, settled.counts())
 }
 
-/// The line that tells how many rows there are, and how many of them have several answers.
+/// Adds the line that tells how many rows there are, and how many of them have several answers.
 fn push_total(text: &mut String, rows: &[Row]) -> Result<(), AllocError>
     ensures { OnOk result (string_bytes text.new ≡ string_bytes text.old ++ total_line rows.now) }
 {
@@ -75,8 +75,8 @@ fn is_whole(listing: &Listing, rows: &[Row]) -> bool
 /// Writes the text of a listing, with these names of calls, and answers whether each input lies in a row with one answer: no
 /// piece is outstanding, and no row has several.
 ///
-/// `Write` where a write fails or takes no byte, `Memory` where the text can't be built. After either a beginning of the text
-/// was written, after `Memory` nothing.
+/// `Write` where a write fails or takes no byte: a beginning of the text was written then. `Memory` where the text can't be
+/// built: nothing was written then.
 pub fn write_listing<W: Write>(
     alloc: Global,
     listing: &Listing,

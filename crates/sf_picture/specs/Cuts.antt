@@ -90,7 +90,7 @@ pub record IsWindow (w : Window) (low high : ℕ) : Type 0 where
   pub first : (w.first ≡ 0) ⊎ (w.first < low)
   pub last : high ≤ w.last
 
--- Between each member of the piece and each input that is none, one of the cuts lies.
+-- Between each member of the piece and each input that is none, one of the cuts lies; and each cut is plain.
 pub record AreCutsOf (p : PieceData) (cuts : List Cut) : Type 0 where
   pub between : (d e : Input) → IsInput d → IsInput e → is_member p d ≡ true → is_member p e ≡ false
       → SomeLiesBetween cuts d e

@@ -94,8 +94,8 @@ pub record AreAllEnds (held : List HeldData) (axis : Axis) (ends : List Ends) : 
   pub each : (i : ℕ) (h : HeldData) (e : Ends) → i < length held
       → AreEndsOf (slice_index_or held i h) axis (slice_index_or ends i e)
 
--- Some of it is held in the span: each member with a number of the span is, and nothing else. (Of a span that isn't
--- ahead the first is not asked.)
+-- What is held in the span: each member with a number of the span, and only what is narrowed from what is held. (The
+-- first is asked only of a span of which something is left to be drawn.)
 pub record AreHeldIn (held : List HeldData) (span : Span) (inside : List HeldData) : Type 0 where
   pub kept : span.first ≤ span.last → span.last ≤ span.axis.mask
       → All (IsKeptIn inside span.axis span.first span.last) held

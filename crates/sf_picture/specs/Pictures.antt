@@ -62,8 +62,9 @@ abbrev pub LeadBelow : ℕ → ℕ → List Run → Type 0
 LeadBelow leaves place [] = Unit {0}
 LeadBelow leaves place (r ∷ rs) = IsBelow leaves place r.next × LeadBelow leaves place rs
 
--- The fork at a place is right: its runs are at least two, their last numbers rise to the greatest number of the axis,
--- no two neighbours lead to the same, and each leads to a leaf or to a fork at a lower place.
+-- The fork at a place is right: its axis is of a word of the input, its runs are at least two, their last numbers rise
+-- to the greatest number of the axis, no two neighbours lead to the same, and each leads to a leaf or to a fork at a
+-- lower place.
 pub record IsRightFork (leaves place : ℕ) (f : ForkData) : Type 0 where
   pub word : f.axis.word < 16
   pub several : 2 ≤ length f.runs

@@ -207,8 +207,8 @@ fn needs_no_cut(single: Option<NodeId>, cond: &Cond) -> bool
     single == Some(cond.node) && cond.test != Test::AnyBit
 }
 
-/// The place of the newest condition before `end` that needs a cut, where these are those beside the only number of a word:
-/// long paths are gone over here, and nothing else is done meanwhile.
+/// The place of the newest condition before `end` that needs a cut, as `needs_no_cut` tells. Paths can be long, so this loop
+/// does nothing else.
 fn newest_to_cut(piece: &Piece, single: Option<NodeId>, end: usize) -> Option<usize>
     requires { end ≤ length piece.now.conditions }
     ensures { MatchOption result (NeedNoCut piece.now single 0 end)
@@ -273,7 +273,7 @@ fn is_among_newest(cuts: &Vec<Cut>, cut: Cut) -> bool
     has(&all[newest..], cut)
 }
 
-/// Adds a cut of a piece, moved into the window of its word.
+/// Adds a cut of a piece, moved into the window of its word, unless it is one of the last two.
 fn push_moved(cuts: &mut Vec<Cut>, piece: &Piece, bits: &[FixedBits], cut: Cut) -> Result<(), Fault>
     requires bits { length bits.now ≡ 16 }
     requires word { cut.axis.word < 16 }

@@ -103,8 +103,8 @@ fn early_leaf_of(alloc: Global, sketch: &mut Sketch, held: &[Held]) -> Result<Op
     leaf_of_all(alloc, sketch, held)
 }
 
-/// A fork of these runs, of which the last one goes on to the greatest number of the axis. Where there is one run, it is what
-/// it leads to, and none where there is no run. `Memory` where an allocation is refused.
+/// A fork of these runs; the last one goes on to the greatest number of the axis. Of one run it is the branch to which the
+/// run leads, and none where there is no run. `Memory` where an allocation is refused.
 fn fork_of(sketch: &mut Sketch, axis: Axis, mut runs: Vec<Run>) -> Result<Option<Branch>, Fault>
     requires word { axis.word < 16 }
     requires right { IsRightSketch sketch.old }
@@ -327,8 +327,10 @@ fn root_of(alloc: Global, sketch: &mut Sketch, held: &[Held]) -> Result<Branch, 
 /// The picture of an exploration, with a label for each region: each member of a region is shown the region's label. Where
 /// nothing is outstanding, each input is a member of one region, and so lies at a leaf with its label.
 ///
-/// Axes come in a fixed order, each cut where the regions' conditions change their results. At most `leaves` leaves are
-/// drawn, equal ones counted again: what is left then are leaves with all their labels, and the picture is spent.
+/// Axes come in a fixed order, each cut where the regions' conditions change their results. Once `leaves` leaves are drawn,
+/// equal ones counted again, no fork is begun any more. Each branch that is left gets a leaf with all its labels, and the
+/// picture is spent if such a leaf has forks left out.
+///
 /// On a plain stack no leaf of a picture that isn't spent has two labels, and some member of a region lies at each leaf. On
 /// another stack a leaf has several labels also where what is known of regions can't tell them apart.
 ///

@@ -33,7 +33,8 @@ fn push_label(labels: &mut Vec<usize>, label: usize) -> Result<(), Fault>
     Ok(())
 }
 
-/// Adds the label of what is held, unless conditions that are learnt once more rule it out. `Memory` where an allocation is refused.
+/// Adds the label of what is held, unless it is there, or conditions that are learnt once more rule it out. `Memory` where
+/// an allocation is refused.
 fn push_label_left(alloc: Global, labels: &mut Vec<usize>, one: &Held) -> Result<(), Fault>
     ensures has { IfOk result (λ _. (d : AnInput) → IsHeldBy one.now d
         → Contains labels.new.items one.now.label) }

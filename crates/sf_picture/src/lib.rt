@@ -1,4 +1,4 @@
-//! Pictures of stacks: what an exploration found, as a tree of forks on words of the input, with labels at its leaves.
+//! Pictures of stacks: what an exploration found, as forks on words of the input, with labels at the leaves.
 #![tactic(auto)]
 
 mod axes;

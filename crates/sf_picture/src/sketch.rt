@@ -14,7 +14,7 @@ use std::marker::Model;
 pub(crate) struct Sketch {
     leaves: Vec<Labels>,
     forks: Vec<Fork>,
-    // How many leaves may still be drawn. Those that are equal to others count too.
+    // How many leaves may still be drawn before no fork is begun any more. Those that are equal to others count too.
     left: usize,
     // Whether a leaf was drawn early, since the budget of leaves was spent.
     spent: bool,
@@ -72,7 +72,7 @@ impl Sketch {
     ghost use Rattle.sf_picture.specs.PictureData.{ForkData};
     ghost use Rattle.sf_picture.specs.Drawing.{Grows, AddsLeaf, IsLeafOf, IsForkOf, IsRightSketch};
 
-    /// Nothing is drawn yet, and at most this many leaves are to be.
+    /// Nothing is drawn yet. After this many leaves no fork is to be begun.
     pub(crate) fn new(alloc: Global, most: usize) -> Sketch
         ensures right { IsRightSketch result }
         ensures empty { result.leaves ≡ [] }
@@ -85,7 +85,7 @@ impl Sketch {
         }
     }
 
-    /// Whether as many leaves were drawn as are allowed.
+    /// Whether as many leaves were drawn as forks are begun for.
     pub(crate) fn is_full(&self) -> bool {
         self.left == 0
     }

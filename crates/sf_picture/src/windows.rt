@@ -46,9 +46,9 @@ impl FixedBits {
 }
 
 /// A window of a word, for a piece: the cuts of the word that lie in it stay where they are. It begins with the last number
-/// below those of the piece, and ends with the last number of the piece. A cut before it or behind it is moved to its end:
-/// there the piece has a cut anyway, unless tests of bits rule out the number next to it. Then the window goes on to the
-/// end of all numbers, since the piece may have its cut anywhere beyond.
+/// below those of the piece, and ends with the last number of the piece. A cut before it is moved to its first number, and
+/// one behind it to its last: there the piece has a cut anyway, unless tests of bits rule out the number next to it. Then
+/// the window goes on to the end of all numbers, since the piece may have its cut anywhere beyond.
 #[derive(Clone, Copy)]
 pub(crate) struct Window {
     first: u32,

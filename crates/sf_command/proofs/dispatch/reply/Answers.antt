@@ -16,8 +16,8 @@ pub returns-in-Err-clause-done : goal.returns-in-Err-clause-done
 returns-in-Err-clause-done g c =
     let failed = told_errors (λ (ks : Kinds). HasKind ks c.in-Err.error) _ _ c.in_ok-command_form.ensures
     c.in-Err.ensures.kinds in
-    IfOk-weaker c.explain-in-Err.result _ _ (λ s done small. inr (helps _ c.in-Err.error s _ _ failed (done small)))
-    c.explain-in-Err.ensures.done
+    IfOk-weaker c.write_usage.result _ _ (λ s done small. inr (helps _ c.in-Err.error s _ _ failed (done small)))
+    c.write_usage.ensures.done
 
 pub returns-in-Ok-clause-usage : goal.returns-in-Ok-clause-usage
 returns-in-Ok-clause-usage g c =
@@ -33,11 +33,11 @@ pub returns-in-Err-clause-usage : goal.returns-in-Err-clause-usage
 returns-in-Err-clause-usage g c =
     let failed = told_errors (λ (ks : Kinds). HasKind ks c.in-Err.error) _ _ c.in_ok-command_form.ensures
     c.in-Err.ensures.kinds in
-    IfOk-weaker c.explain-in-Err.result _ _ (λ s usage four. (
+    IfOk-weaker c.write_usage.result _ _ (λ s usage four. (
       some_error _ c.in-Err.error failed (usage four).0,
       refl,
       (usage four).1,
-    )) c.explain-in-Err.ensures.usage
+    )) c.write_usage.ensures.usage
 
 pub returns-in-Ok-clause-refused : goal.returns-in-Ok-clause-refused
 returns-in-Ok-clause-refused g c =

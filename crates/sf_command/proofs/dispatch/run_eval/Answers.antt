@@ -13,8 +13,8 @@ returns-clause-done g c = record {
       c.get_strs.ensures refl);
   traced = c.wants_trace-traced.result;
   in_full = c.wants_trace-traced.ensures;
-  brief = c.brief_of-brief.result;
-  in_brief = c.brief_of-brief.ensures;
+  brief = c.wants_brief-brief.result;
+  in_brief = c.wants_brief-brief.ensures;
   names = c.in_ok-names.names.items;
   called = c.in_ok-names.ensures.called;
   evaluated = evaluated_same _ _ c.names_of.ensures.same (text_of (codes "input") (rows_of (found_of c.args.found.now)))

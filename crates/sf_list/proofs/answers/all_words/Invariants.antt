@@ -1,5 +1,5 @@
 use Rattle.std.proofs.Common.{◌≡◌, map, take, string_bytes}
-use Rattle.sf_list.specs.Lines.{answer_words}
+use Rattle.sf_compare.specs.Comparisons.{answer_words}
 use Rattle.sf_list.proofs.answers.all_words.Given as goal
 
 abbrev pub invariant-loop-answer : goal.invariant-loop-answer
