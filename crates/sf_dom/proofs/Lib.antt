@@ -1,7 +1,9 @@
 pub mod Bits
 pub mod Reductions
 pub mod ForwardLemmas
-pub mod Slots
+pub mod VariableLemmas
+pub mod KeptNodes
+pub mod Apart
 pub mod Propagations
 pub mod Halves
 pub mod NextFitting

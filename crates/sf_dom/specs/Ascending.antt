@@ -1,8 +1,10 @@
 -- Numbers in ascending order, and numbers that are shared.
-use Rattle.std.specs.Prelude.{ℕ, ◌-◌, ◌<◌, ◌≤◌, List, [], length, slice_index, Option, Some, None}
+use Rattle.std.specs.Prelude.{◌≡◌, ℕ, ◌-◌, ◌<◌, ◌≤◌, List, [], ◌++◌, length, slice_index, Contains, Option, Some, None}
 use Rattle.std.specs.Arc.{arc_value, arc_slice_items}
 use Rattle.std.specs.declared.sync.Arc.{Arc}
 use Rattle.std.specs.declared.sync.ArcSlice.{ArcSlice}
+use Rattle.sf_dom.specs.declared.numbers.Found.{Found}
+use Rattle.sf_dom.specs.declared.numbers.Found.TheVariants.{Older, Newer, Nowhere}
 
 -- none is less than one before it
 abbrev pub AreAscending : List ℕ → Type 0
@@ -11,6 +13,12 @@ AreAscending xs = (i j : ℕ) → i ≤ j → j < length xs → slice_index xs i
 -- n is neither below the first number nor above the last one
 abbrev pub IsBetweenEnds : List ℕ → ℕ → Type 0
 IsBetweenEnds xs n = (0 < length xs) × (slice_index xs 0 ≤ n) × (n ≤ slice_index xs (length xs - 1))
+
+-- in which of two lists, an older and a newer one, a number was found
+abbrev pub IsFound : List ℕ → List ℕ → ℕ → Found → Type 0
+IsFound xs ys n (Older i) = (i < length xs) × (slice_index xs i ≡ n)
+IsFound xs ys n Newer = Contains ys n
+IsFound xs ys n Nowhere = ¬ Contains (xs ++ ys) n
 
 -- the numbers that are shared, and none where nothing is
 abbrev pub shared_numbers : {Z : Type 0} → Option (Arc (List ℕ) Z) → List ℕ

@@ -1,11 +1,12 @@
 -- How what is known of the nodes of a pool is kept, and of which nodes more can become known.
 use Rattle.std.specs.Prelude.{◌≡◌, ℕ, ◌-◌, ◌<◌, ◌≤◌, ◌⊎◌, List, length, map, slice_index, slice_index_or}
 use Rattle.sf_dom.specs.declared.known.Known.{Known}
-use Rattle.sf_dom.specs.declared.nodes.Variable.{Variable}
-use Rattle.sf_dom.specs.declared.nodes.Slot.{Slot}
-use Rattle.sf_dom.specs.declared.nodes.Slot.TheVariants.{Number, Variable as VariableAt}
+use Rattle.sf_dom.specs.declared.variables.Variable.{Variable}
+use Rattle.sf_dom.specs.declared.slots.Slot.{Slot}
+use Rattle.sf_dom.specs.declared.slots.Slot.TheVariants.{Number, Variable as VariableAt}
 use Rattle.sf_dom.specs.Known.{IsDecided, known_of}
 use Rattle.sf_dom.specs.Facts.{known_at}
+use Rattle.sf_dom.specs.Variables.{variable_at}
 
 -- what is known of each node, and the places of the variables: those that had more than one number when they came
 pub record NodesView : Type 0 where
@@ -19,10 +20,16 @@ pub record IsLaidOut (n : NodesView) : Type 0 where
   pub rest : (i : ℕ) → i < length n.known → ((j : ℕ) × (j < length n.variables) × (slice_index n.variables j ≡ i))
       ⊎ ((16 ≤ i) × IsDecided (known_at n.known i))
 
+-- so many variables stand before a place, and no others do
+pub record IsRankFrom (places : List ℕ) (place rank : ℕ) : Type 0 where
+  pub within : rank ≤ length places
+  pub before : (j : ℕ) → j < rank → slice_index places j < place
+  pub behind : (j : ℕ) → rank ≤ j → j < length places → place ≤ slice_index places j
+
 -- what is known of the node of a slot: its number, or what stands among the variables
 abbrev pub slot_known : List Variable → Slot → Known
 slot_known os (Number c) = known_of c c (4294967295 - c) c
-slot_known os (VariableAt r) = (slice_index_or os r (record { place = 0; known = known_of 0 0 0 0 })).known
+slot_known os (VariableAt r) = (variable_at os r).known
 
 -- what is known of each node, by its slot
 abbrev pub known_by : List Variable → List Slot → List Known

@@ -1,12 +1,13 @@
 //! A condition taken into what is known of the nodes of a pool.
 
-ghost use Rattle.std.specs.Prelude.{◌≡◌, ◌≢◌, ℕ, ◌+◌, ◌-◌, ◌*◌, ◌/◌, ◌%◌, ◌<◌, ◌≤◌, ◌^◌, ◌⊎◌, length, MatchOption, MatchBool, IfSome, IfOk, IsTrue, true, false, None};
+ghost use Rattle.std.specs.Prelude.{◌≡◌, ◌≢◌, ℕ, ◌+◌, ◌-◌, ◌*◌, ◌/◌, ◌%◌, ◌<◌, ◌≤◌, ◌^◌, ◌⊎◌, length, MatchOption, MatchBool, IfSome, IfOk, IsTrue, Ok, true, false, None, bit_or};
 ghost use Rattle.sf_insn.specs.Words.{apply};
 ghost use Rattle.sf_sym.specs.Pool.{node_at, value_of};
 ghost use Rattle.sf_dom.specs.Known.{AreBitsOf, HasBits, Admits, IsNarrower, IsConsistent, IsDecided, IsTight};
-ghost use Rattle.sf_dom.specs.Propagation.{KeepsAgreeing, NoneAgreesWith, KeepsAgreeingOn, NoneAgreesOn, LeavesPair, LeavesNoPair, IsSharp, Tells, TestGives, AllNarrower, IsReady, IsLeft, IsAssumed, AreExcluded, AreBothExcluded, Holds, IsPropagated, KeepsTight, AreOthersTight};
+ghost use Rattle.sf_dom.specs.Propagation.{KeepsAgreeing, NoneAgreesWith, KeepsAgreeingOn, NoneAgreesOn, LeavesPair, LeavesNoPair, IsSharp, Tells, TestGives, AllNarrower, IsReady, IsLeft, IsAssumed, AreExcluded, AreBothExcluded, Holds, IsPropagated, KeepsTight, AreOthersTight, KnowDecidedApart, KeepsDecidedApart};
 ghost use Rattle.sf_dom.specs.Conditions.{AreLeftAlone};
 ghost use Rattle.sf_sym.specs.Operands.{IsSwappable};
+ghost use Rattle.sf_sym.specs.Support.{support_of};
 ghost use Rattle.sf_dom.specs.Backward.{HandsOn, IsPropagatedBack};
 ghost use Rattle.sf_dom.specs.Facts.{known_at, numbers_at, KnowDecided};
 
@@ -59,32 +60,40 @@ pub(crate) fn backward(op: BinOp, node: Known, c: u32, operand: Known) -> Option
 }
 
 /// Takes the known bits of a node back to its operand beside a constant, and so on from operand to operand. `false`: no
-/// input agrees.
-fn propagate_back(nodes: &mut Nodes, excluded: &Excluded, pool: &Pool, from: usize) -> bool
+/// input agrees. `Memory` where an allocation is refused.
+fn propagate_back(
+    nodes: &mut Nodes,
+    excluded: &Excluded,
+    pool: &Pool,
+    from: usize,
+) -> Result<bool, Fault>
     requires ready { IsReady nodes.old.known pool.now }
     requires start { from < length pool.now }
-    ensures kept { MatchBool result
+    ensures kept { IfOk result (λ b. MatchBool b
         (KeepsAgreeing nodes.old.known nodes.new.known excluded.now pool.now
         × AllNarrower nodes.old.known nodes.new.known)
-        (NoneAgreesWith nodes.old.known excluded.now pool.now) }
-    ensures tight { IsTrue result → KeepsTight nodes.old.known nodes.new.known excluded.now }
-    ensures backward { IsTrue result → (n : ℕ) → IsPropagatedBack n
+        (NoneAgreesWith nodes.old.known excluded.now pool.now)) }
+    ensures tight { result ≡ Ok true
+        → KeepsTight nodes.old.known nodes.new.known excluded.now }
+    ensures backward { result ≡ Ok true → (n : ℕ) → IsPropagatedBack n
         nodes.new.known pool.now from }
-    ensures ready { IsReady nodes.new.known pool.now }
+    ensures ready { IfOk result (λ _. IsReady nodes.new.known pool.now) }
+    ensures decided { result ≡ Ok true
+        → KeepsDecidedApart nodes.old.known nodes.new.known pool.now from }
 {
     let mut at = from;
     while let Some((op, x, c)) = constant_operand(pool, at) {
         let node = pool.node_at(x);
         match backward(op, nodes.get(at), c, nodes.get(x)) {
-            None => return true,
+            None => return Ok(true),
             Some(gained) => match reduce_node(gained, node, excluded) {
-                None => return false,
-                Some(next) => nodes.set(x, next),
+                None => return Ok(false),
+                Some(next) => nodes.set(x, next)?,
             },
         }
         at = x;
     }
-    true
+    Ok(true)
 }
 
 /// Whether `known`, of a node, contradicts: its bits, taken back from operand to operand as `propagate_back` does,
@@ -180,27 +189,37 @@ pub(crate) fn known_left(
     reduce_node(nodes.get(at).meet(more), node, excluded)
 }
 
-/// Adds `more` to what is known of a node. `false`: no input that agrees has such a number there.
-fn meet_node(nodes: &mut Nodes, excluded: &Excluded, pool: &Pool, at: usize, more: Known) -> bool
+/// Adds `more` to what is known of a node. `false`: no input that agrees has such a number there. `Memory` where an
+/// allocation is refused.
+fn meet_node(
+    nodes: &mut Nodes,
+    excluded: &Excluded,
+    pool: &Pool,
+    at: usize,
+    more: Known,
+) -> Result<bool, Fault>
     requires ready { IsReady nodes.old.known pool.now }
     requires place { at < length pool.now }
-    ensures kept { MatchBool result
+    ensures kept { IfOk result (λ b. MatchBool b
         (KeepsAgreeingOn nodes.old.known nodes.new.known excluded.now pool.now
         (λ d. Admits more (value_of pool.now d at))
         × AllNarrower nodes.old.known nodes.new.known
         × IsNarrower more (known_at nodes.new.known at))
         (NoneAgreesOn nodes.old.known excluded.now pool.now
-        (λ d. Admits more (value_of pool.now d at))) }
-    ensures tight { IsTrue result → KeepsTight nodes.old.known nodes.new.known excluded.now }
-    ensures ready { IsReady nodes.new.known pool.now }
+        (λ d. Admits more (value_of pool.now d at)))) }
+    ensures tight { result ≡ Ok true
+        → KeepsTight nodes.old.known nodes.new.known excluded.now }
+    ensures ready { IfOk result (λ _. IsReady nodes.new.known pool.now) }
+    ensures decided { result ≡ Ok true
+        → KeepsDecidedApart nodes.old.known nodes.new.known pool.now at }
 {
     // For the prover: the pool is lawful.
     let _count = pool.len();
     match known_left(nodes, excluded, pool, at, more) {
-        None => false,
+        None => Ok(false),
         Some(next) => {
-            nodes.set(at, next);
-            true
+            nodes.set(at, next)?;
+            Ok(true)
         }
     }
 }
@@ -229,23 +248,31 @@ pub(crate) fn pair_left(
 }
 
 /// Forward propagation after a condition. Of the words, only its two nodes may not be tight, so these are made so
-/// first. `false`: no input agrees.
-fn propagate_on(nodes: &mut Nodes, excluded: &Excluded, pool: &Pool, cond: &Cond) -> bool
+/// first. `false`: no input agrees. `Memory` where an allocation is refused.
+fn propagate_on(
+    nodes: &mut Nodes,
+    excluded: &Excluded,
+    pool: &Pool,
+    cond: &Cond,
+) -> Result<bool, Fault>
     requires ready { IsReady nodes.old.known pool.now }
     requires node { cond.now.node.0 < length pool.now }
     requires other { cond.now.other.0 < length pool.now }
     requires tight { AreOthersTight nodes.old.known excluded.now pool.now cond.now }
-    ensures { MatchBool result
+    requires decided { KnowDecidedApart nodes.old.known pool.now
+        (bit_or (support_of pool.now cond.now.node.0) (support_of pool.now cond.now.other.0)) }
+    ensures { IfOk result (λ b. MatchBool b
         (IsPropagated nodes.old.known nodes.new.known excluded.now pool.now)
-        (NoneAgreesWith nodes.old.known excluded.now pool.now) }
+        (NoneAgreesWith nodes.old.known excluded.now pool.now)) }
 {
-    if !tighten(nodes, excluded, pool, cond.node) {
-        return false;
+    if !tighten(nodes, excluded, pool, cond.node)? {
+        return Ok(false);
     }
-    if !tighten(nodes, excluded, pool, cond.other) {
-        return false;
+    if !tighten(nodes, excluded, pool, cond.other)? {
+        return Ok(false);
     }
-    propagate(nodes, excluded, pool)
+    let words = pool.support(cond.node) | pool.support(cond.other);
+    propagate(nodes, excluded, pool, words)
 }
 
 /// Whether a condition is ruled out by the bits that go back from one of its two nodes. `alone` is what it leaves of
@@ -309,37 +336,39 @@ pub(crate) fn changes_nothing(
 }
 
 /// Takes a condition into what is known. `alone` is what it leaves of its two nodes, each by itself. `false`: no input
-/// that agrees meets it. Both may be one node, so what is left of the second is added to what is known by then.
+/// that agrees meets it. `Memory` where an allocation is refused. Both may be one node, so what is left of the second is
+/// added to what is known by then.
 pub(crate) fn assume_cond(
     nodes: &mut Nodes,
     excluded: &Excluded,
     pool: &Pool,
     cond: &Cond,
     alone: Pair,
-) -> bool
+) -> Result<bool, Fault>
     requires ready { IsReady nodes.old.known pool.now }
     requires node { cond.now.node.0 < length pool.now }
     requires other { cond.now.other.0 < length pool.now }
     requires left { AreLeftAlone nodes.old.known excluded.now pool.now cond.now
         alone.node alone.other }
     requires tight { AreOthersTight nodes.old.known excluded.now pool.now cond.now }
-    ensures { MatchBool result
+    requires decided { KnowDecided nodes.old.known pool.now }
+    ensures { IfOk result (λ b. MatchBool b
         (IsAssumed nodes.old.known nodes.new.known excluded.now pool.now cond.now)
-        (NoneAgreesOn nodes.old.known excluded.now pool.now (Holds pool.now cond.now)) }
+        (NoneAgreesOn nodes.old.known excluded.now pool.now (Holds pool.now cond.now))) }
 {
     // For the prover: the pool is lawful.
     let _count = pool.len();
     let v = cond.node.0 as usize;
     let w = cond.other.0 as usize;
-    nodes.set(v, alone.node);
-    if !meet_node(nodes, excluded, pool, w, alone.other) {
-        return false;
+    nodes.set(v, alone.node)?;
+    if !meet_node(nodes, excluded, pool, w, alone.other)? {
+        return Ok(false);
     }
-    if !propagate_back(nodes, excluded, pool, v) {
-        return false;
+    if !propagate_back(nodes, excluded, pool, v)? {
+        return Ok(false);
     }
-    if !propagate_back(nodes, excluded, pool, w) {
-        return false;
+    if !propagate_back(nodes, excluded, pool, w)? {
+        return Ok(false);
     }
     propagate_on(nodes, excluded, pool, cond)
 }

@@ -16,7 +16,7 @@ use crate::known::{Known, is_same};
 use crate::nodes::Nodes;
 use crate::propagation::propagate;
 use sf_insn::Test;
-use sf_sym::{Cond, Pool};
+use sf_sym::{Cond, NodeId, Pool};
 use std::alloc::Global;
 
 /// The nodes with what is known of them after a change; `None` where nothing changed.
@@ -83,7 +83,7 @@ pub(crate) fn learn_cond(
         return Ok(Some((None, lists)));
     }
     let mut left = nodes.fork(alloc)?;
-    if !assume_cond(&mut left, &lists, pool, cond, alone) {
+    if !assume_cond(&mut left, &lists, pool, cond, alone)? {
         return Ok(None);
     }
     Ok(Some((Some(left), lists)))
@@ -120,8 +120,8 @@ pub(crate) fn restrict(
         return Ok(Some(None));
     }
     let mut next = nodes.fork(alloc)?;
-    next.set(word, left);
-    if !propagate(&mut next, excluded, pool) {
+    next.set(word, left)?;
+    if !propagate(&mut next, excluded, pool, pool.support(NodeId(word as u32)))? {
         return Ok(None);
     }
     Ok(Some(Some(next)))

@@ -1,55 +1,30 @@
-//! What is known of each node of a pool, kept so that forks share what can no longer change.
+//! What is known of each node of a pool, kept so that forks share what doesn't change.
 
 ghost use Rattle.std.specs.Prelude.{◌≡◌, ◌<◌, ◌∷◌, ◌++◌, [], length, set, slice_index, IsTrue, IfOk, OnOk, OnErr, ◌-◌};
 ghost use Rattle.std.specs.Arc.{arc_value};
 ghost use Rattle.sf_dom.specs.Known.{IsDecided, known_of};
 ghost use Rattle.sf_dom.specs.Facts.{known_at};
-ghost use Rattle.sf_dom.specs.Nodes.{IsLaidOut, slot_at};
+ghost use Rattle.sf_dom.specs.Nodes.{IsLaidOut, IsRankFrom};
 
 use crate::fault::Fault;
-use crate::known::Known;
+use crate::known::{Known, is_same};
+use crate::slots::{Slot, Slots, add_slot, slot_of};
+use crate::variables::{Variable, Variables};
 use sf_blocks::shared::SharedList;
-use std::alloc::{AllocError, Global};
+use std::alloc::Global;
 use std::marker::Model;
 use std::sync::Arc;
 
 /// How many words an input has. They are the first nodes of each pool.
 pub(crate) const WORDS: usize = 16;
 
-/// Where to find what is known of a node.
-#[derive(Clone, Copy)]
-enum Slot {
-    /// In the slot itself: the node has this number.
-    Number(u32),
-    /// In the list of variables, at this place.
-    Variable(u32),
-}
-
-impl Default for Slot {
-    fn default() -> Self {
-        Slot::Number(0)
-    }
-}
-
-/// A node that may have several numbers.
-#[derive(Clone, Copy)]
-struct Variable {
-    /// Its place in the pool.
-    pub(crate) place: u32,
-    /// What is known of it.
-    pub(crate) known: Known,
-}
-
-/// The slots of the nodes, oldest first.
-type Slots = SharedList<Slot, 1>;
-
 /// What is known of the nodes of a pool, oldest first. A node that comes with only one number, as each constant does,
 /// has it in its slot. Forks share the slots until one of them gets another node. The other nodes are the variables:
-/// only of them more can become known, so forward propagation goes through them only.
+/// only of them more can become known. Forks share the blocks of variables of which nothing more has become known.
 #[derive(Drop)]
 pub(crate) struct Nodes {
     slots: Arc<Slots>,
-    variables: Vec<Variable>,
+    variables: Variables,
 }
 
 impl Model for Nodes {
@@ -59,11 +34,11 @@ impl Model for Nodes {
     ghost Value = { NodesView };
 
     ghost view = { λ n. record {
-      known = known_by n.variables.items (arc_value n.slots);
-      variables = places_of n.variables.items;
+      known = known_by n.variables (arc_value n.slots);
+      variables = places_of n.variables;
     } };
 
-    ghost invariant = { λ n. AreKept (arc_value n.slots) n.variables.items };
+    ghost invariant = { λ n. AreKept (arc_value n.slots) n.variables };
 }
 
 /// Whether a number is known, with all its bits.
@@ -74,38 +49,6 @@ fn is_number(known: Known) -> bool
     known == Known::of_number(known.low)
 }
 
-/// The slot at a place.
-fn slot_of(slots: &Slots, i: usize) -> Slot
-    requires { i < length slots.now }
-    ensures { result ≡ slot_at slots.now i }
-{
-    slots.get(i)
-}
-
-/// A copy with one more slot. `AllocError` where an allocation is refused.
-fn with_slot(alloc: Global, slots: &Slots, slot: Slot) -> Result<Arc<Slots>, AllocError>
-    ensures { IfOk result (λ r. arc_value r ≡ slots.now ++ slot ∷ []) }
-{
-    let mut copy = slots.fork()?;
-    copy.push(slot)?;
-    Ok(Arc::new(alloc, copy)?)
-}
-
-/// Adds a slot. Where forks share the slots, it is added to a copy, and theirs stay as they are. `AllocError` where an
-/// allocation is refused; nothing is added then.
-fn add_slot(alloc: Global, slots: &mut Arc<Slots>, slot: Slot) -> Result<(), AllocError>
-    ensures ok { OnOk result (arc_value slots.new ≡ arc_value slots.old ++ slot ∷ []) }
-    ensures err { OnErr result (arc_value slots.new ≡ arc_value slots.old) }
-{
-    match Arc::get_mut(slots) {
-        Some(alone) => alone.push(slot),
-        None => {
-            *slots = with_slot(alloc, slots, slot)?;
-            Ok(())
-        }
-    }
-}
-
 impl Nodes {
     /// No nodes. `Memory` where an allocation is refused.
     pub(crate) fn new(alloc: Global) -> Result<Nodes, Fault>
@@ -113,7 +56,7 @@ impl Nodes {
     {
         Ok(Nodes {
             slots: Arc::new(alloc, SharedList::new(alloc)?)?,
-            variables: Vec::new(alloc),
+            variables: Variables::new(alloc),
         })
     }
 
@@ -131,7 +74,7 @@ impl Nodes {
     {
         match slot_of(&self.slots, i) {
             Slot::Number(c) => Known::of_number(c),
-            Slot::Variable(rank) => self.variables[rank as usize].known,
+            Slot::Variable(rank) => self.variables.get(rank as usize).known,
         }
     }
 
@@ -143,34 +86,62 @@ impl Nodes {
         self.variables.len()
     }
 
-    /// The place of a variable, the oldest at 0.
-    pub(crate) fn variable(&self, rank: usize) -> usize
+    /// A variable, the oldest at 0: its place, and what is known of it, which is what `get` gives for the place.
+    pub(crate) fn variable(&self, rank: usize) -> Variable
         requires { rank < length self.now.variables }
-        ensures { result ≡ slice_index self.now.variables rank }
+        ensures place { result.place ≡ slice_index self.now.variables rank }
+        ensures known { result.known
+            ≡ known_at self.now.known (slice_index self.now.variables rank) }
     {
-        self.variables[rank].place as usize
+        self.variables.get(rank)
     }
 
-    /// What is known of a variable, the oldest at 0. It is what `get` gives for its place, in fewer steps.
-    pub(crate) fn variable_known(&self, rank: usize) -> Known
-        requires { rank < length self.now.variables }
-        ensures { result ≡ known_at self.now.known (slice_index self.now.variables rank) }
+    /// How many variables stand before a place.
+    pub(crate) fn rank_from(&self, place: usize) -> usize
+        ensures { IsRankFrom self.now.variables place result }
     {
-        self.variables[rank].known
+        let mut low = 0;
+        let mut high = self.variables.len();
+        while low < high {
+            let middle = low + (high - low) / 2;
+            if (self.variable(middle).place as usize) < place {
+                low = middle + 1;
+            } else {
+                high = middle;
+            }
+        }
+        low
     }
 
-    /// Writes what is known of a node. The caller's condition: a node that has only one number keeps it.
-    pub(crate) fn set(&mut self, i: usize, known: Known)
+    /// Writes what is known of a variable, the oldest at 0. `Memory` where an allocation is refused; what is known then
+    /// stays as it was.
+    pub(crate) fn set_variable(&mut self, rank: usize, known: Known) -> Result<(), Fault>
+        requires { rank < length self.old.variables }
+        ensures known { IfOk result (λ _. self.new.known
+            ≡ set self.old.known (slice_index self.old.variables rank) known) }
+        ensures variables { self.new.variables ≡ self.old.variables }
+        ensures laid_out { IsLaidOut self.new }
+        ensures err { OnErr result (self.new ≡ self.old) }
+    {
+        self.variables.set(rank, known)?;
+        Ok(())
+    }
+
+    /// Writes what is known of a node. The caller's condition: a node that has only one number keeps it. `Memory` where an
+    /// allocation is refused; what is known then stays as it was.
+    pub(crate) fn set(&mut self, i: usize, known: Known) -> Result<(), Fault>
         requires within { i < length self.old.known }
         requires decided { IsDecided (known_at self.old.known i)
             → known ≡ known_at self.old.known i }
-        ensures known { self.new.known ≡ set self.old.known i known }
-        ensures variables { self.new.variables ≡ self.old.variables }
-        ensures laid_out { IsLaidOut self.new }
+        ensures known { IfOk result (λ _. self.new.known ≡ set self.old.known i known) }
+        ensures err { OnErr result (self.new ≡ self.old) }
     {
-        if let Slot::Variable(rank) = slot_of(&self.slots, i) {
-            self.variables[rank as usize].known = known;
+        if let Slot::Variable(rank) = slot_of(&self.slots, i)
+            && !is_same(known, self.variables.get(rank as usize).known)
+        {
+            self.variables.set(rank as usize, known)?;
         }
+        Ok(())
     }
 
     /// Adds what is known of the next node. `Memory` where an allocation is refused; what is known then stays as it
@@ -179,7 +150,7 @@ impl Nodes {
         ensures ok { IfOk result (λ _. self.new.known ≡ self.old.known ++ known ∷ []) }
         ensures err { OnErr result (self.new ≡ self.old) }
     {
-        let alloc = *self.variables.allocator();
+        let alloc = self.variables.allocator();
         let place = self.slots.len();
         if place >= WORDS && is_number(known) {
             add_slot(alloc, &mut self.slots, Slot::Number(known.low))?;
@@ -190,21 +161,18 @@ impl Nodes {
             place: place as u32,
             known,
         };
-        self.variables.push(variable)?;
-        if let Err(error) = add_slot(alloc, &mut self.slots, Slot::Variable(rank as u32)) {
-            self.variables.truncate(rank);
-            return Err(error.into());
-        }
+        self.variables
+            .add(variable, &mut self.slots, Slot::Variable(rank as u32))?;
         Ok(())
     }
 
-    /// A copy, which shares the slots. `Memory` where an allocation is refused.
+    /// A copy, which shares the slots, and the blocks of variables. `Memory` where an allocation is refused.
     pub(crate) fn fork(&self, alloc: Global) -> Result<Nodes, Fault>
         ensures { IfOk result (λ n. n ≡ self.now) }
     {
         Ok(Nodes {
             slots: Arc::try_clone(&self.slots)?,
-            variables: Vec::from_slice(alloc, self.variables.as_slice())?,
+            variables: self.variables.fork(alloc)?,
         })
     }
 }

@@ -3,7 +3,7 @@
 ghost use Rattle.std.specs.Prelude.{◌≡◌, ℕ, ◌<◌, ◌≤◌, ◌↔◌, ◌⊎◌, ◌∷◌, ◌++◌, [], length, slice_index, IfOk, IsTrue, Contains, MatchOption};
 ghost use Rattle.std.specs.Arc.{arc_slice_items};
 ghost use Rattle.std.specs.List.{insert};
-ghost use Rattle.sf_dom.specs.Ascending.{AreAscending, IsBetweenEnds, shared_items};
+ghost use Rattle.sf_dom.specs.Ascending.{AreAscending, IsBetweenEnds, IsFound, shared_items};
 
 use crate::fault::Fault;
 use smallvec::SmallVec;
@@ -57,6 +57,16 @@ impl<'a> Model for Lookup<'a> {
     ghost invariant = { λ l. AreAscending l.older.now × AreAscending l.newer.now };
 }
 
+/// In which of two lists a number stands.
+enum Found {
+    /// In the older one, at this place.
+    Older(usize),
+    /// In the newer one.
+    Newer,
+    /// In neither.
+    Nowhere,
+}
+
 /// The items of a list that is shared; none where there is no list.
 fn items_of(list: &Option<ArcSlice<u32>>) -> &[u32]
     ensures { result.now ≡ shared_items list.now }
@@ -67,7 +77,8 @@ fn items_of(list: &Option<ArcSlice<u32>>) -> &[u32]
     }
 }
 
-/// The place of a number in an ascending list; `None` where it isn't there.
+/// The place of a number in an ascending list; `None` where it isn't there. Most numbers that are looked for lie outside
+/// the list, and need no search.
 fn place_in(list: &[u32], number: u32) -> Option<usize>
     requires { AreAscending list.now }
     ensures { MatchOption result (¬ Contains list.now number) (λ at. (at < length list.now)
@@ -88,8 +99,26 @@ fn stands_in(list: &[u32], number: u32) -> bool
     place_in(list, number).is_some()
 }
 
-/// Whether a number lies between the first number of a list and its last. Most that are looked for don't, and need no
-/// search.
+/// In which of two ascending lists a number stands. Not inlined, so that `Lookup::has` can be.
+#[inline(never)]
+fn find(older: &[u32], newer: &[u32], number: u32) -> Found
+    requires older { AreAscending older.now }
+    requires newer { AreAscending newer.now }
+    ensures { IsFound older.now newer.now number result }
+{
+    match place_in(older, number) {
+        Some(place) => Found::Older(place),
+        None => {
+            if stands_in(newer, number) {
+                Found::Newer
+            } else {
+                Found::Nowhere
+            }
+        }
+    }
+}
+
+/// Whether a number lies between the first number of a list and its last.
 fn is_between_ends(list: &[u32], number: u32) -> bool
     ensures { IsTrue result ↔ IsBetweenEnds list.now number }
 {
@@ -170,22 +199,14 @@ impl<'a> Lookup<'a> {
             self.place = guess;
             return true;
         }
-        self.search(number)
-    }
-
-    /// Whether a number is one of them, where the guess was wrong. Not inlined, so that `has` can be.
-    #[inline(never)]
-    fn search(&mut self, number: u32) -> bool
-        ensures has { IsTrue result ↔ Contains self.old number }
-        ensures same { self.new ≡ self.old }
-    {
-        match place_in(self.older, number) {
-            Some(place) => {
+        match find(self.older, self.newer, number) {
+            Found::Older(place) => {
                 self.step = place.wrapping_sub(self.place);
                 self.place = place;
                 true
             }
-            None => stands_in(self.newer, number),
+            Found::Newer => true,
+            Found::Nowhere => false,
         }
     }
 }

@@ -6,19 +6,25 @@ ghost use Rattle.sf_insn.specs.Inputs.{IsInput};
 ghost use Rattle.sf_sym.specs.Pool.{OperandsBelow, node_at, node_value};
 ghost use Rattle.sf_insn.specs.declared.input.Input.{Input};
 ghost use Rattle.sf_dom.specs.Known.{Admits, Leaves, IsTight};
-ghost use Rattle.sf_dom.specs.Propagation.{KeepsAgreeing, NoneAgreesWith, AreConsistentOperands, IsReducedNode, IsReady, IsPropagated, IsGrown, AllNarrower, AreTightWords, KeepsTight};
+ghost use Rattle.sf_dom.specs.Propagation.{KeepsAgreeing, NoneAgreesWith, AreConsistentOperands, IsReducedNode, IsReady, IsPropagated, IsGrown, AllNarrower, AreTightWords, KeepsTight, KnowDecidedApart, KeepsDecidedApart, ArePassedBefore, PropagatesThrough};
 ghost use Rattle.sf_dom.specs.Facts.{known_at, numbers_at, excluded_of, AreDecidedOperands};
 ghost use Rattle.sf_dom.specs.Reduction.{IsForced};
+ghost use Rattle.sf_dom.specs.Nodes.{IsLaidOut};
 
 use crate::exclusions::Excluded;
 use crate::fault::Fault;
 use crate::fitting::is_tight;
 use crate::forward::{forward, negate};
-use crate::known::{Known, reduce_known, reduce_word};
+use crate::known::{Known, is_same, reduce_known, reduce_word};
 use crate::nodes::{Nodes, WORDS};
 use sf_sym::{Node, NodeId, Pool};
 use std::alloc::Global;
+use std::ops::Range;
 use std::sync::Arc;
+
+/// How many variables are looked at, one after the other, before it is asked again where the next one stands that is
+/// computed from some words.
+const CHUNK: usize = 64;
 
 /// What is known of a node, reduced; `None` where no number is left.
 pub(crate) fn reduce_node(known: Known, node: Node, excluded: &Excluded) -> Option<Known>
@@ -68,58 +74,114 @@ pub(crate) fn is_tight_at(nodes: &Nodes, excluded: &Excluded, pool: &Pool, at: N
 }
 
 /// Makes a node that is a word tight: both ends of its interval become numbers that are left for it. `false`: no input
-/// agrees.
-pub(crate) fn tighten(nodes: &mut Nodes, excluded: &Excluded, pool: &Pool, at: NodeId) -> bool
+/// agrees. `Memory` where an allocation is refused.
+pub(crate) fn tighten(
+    nodes: &mut Nodes,
+    excluded: &Excluded,
+    pool: &Pool,
+    at: NodeId,
+) -> Result<bool, Fault>
     requires ready { IsReady nodes.old.known pool.now }
     requires place { at.0 < length pool.now }
-    ensures kept { MatchBool result
+    ensures kept { IfOk result (λ b. MatchBool b
         (KeepsAgreeing nodes.old.known nodes.new.known excluded.now pool.now
         × AllNarrower nodes.old.known nodes.new.known)
-        (NoneAgreesWith nodes.old.known excluded.now pool.now) }
-    ensures ready { IsReady nodes.new.known pool.now }
-    ensures tight { IsTrue result → KeepsTight nodes.old.known nodes.new.known excluded.now }
-    ensures word { IsTrue result → (i : ℕ) → node_at pool.now at.0 ≡ Node.Word i
+        (NoneAgreesWith nodes.old.known excluded.now pool.now)) }
+    ensures ready { IfOk result (λ _. IsReady nodes.new.known pool.now) }
+    ensures tight { result ≡ Ok true
+        → KeepsTight nodes.old.known nodes.new.known excluded.now }
+    ensures word { result ≡ Ok true → (i : ℕ) → node_at pool.now at.0 ≡ Node.Word i
         → IsTight (known_at nodes.new.known i) (numbers_at excluded.now i) }
+    ensures decided { result ≡ Ok true
+        → KeepsDecidedApart nodes.old.known nodes.new.known pool.now at.0 }
 {
     let Node::Word(i) = pool.node(at) else {
-        return true;
+        return Ok(true);
     };
     let known = nodes.get(i as usize);
     if is_tight(known, excluded.of_word(i as usize)) {
-        return true;
+        return Ok(true);
     }
     match reduce_node(known, Node::Word(i), excluded) {
-        None => false,
+        None => Ok(false),
         Some(next) => {
-            nodes.set(i as usize, next);
-            true
+            nodes.set(i as usize, next)?;
+            Ok(true)
         }
     }
 }
 
-/// Adds to what is known of each variable what follows from its operands, the oldest variable first. `false`: no input
-/// agrees. The first sixteen variables are the words of the input. They are left out: they are tight, and have no
-/// operands.
-pub(crate) fn propagate(nodes: &mut Nodes, excluded: &Excluded, pool: &Pool) -> bool
+/// Adds to what is known of the variables of these ranks what follows from their operands, the oldest first. Those that
+/// aren't computed from any of these words are left out. `false`: no input agrees. `Memory` where an allocation is
+/// refused.
+fn propagate_through(
+    nodes: &mut Nodes,
+    excluded: &Excluded,
+    pool: &Pool,
+    words: u16,
+    ranks: Range<usize>,
+) -> Result<bool, Fault>
+    requires ready { IsReady nodes.old.known pool.now }
+    requires laid_out { IsLaidOut nodes.old }
+    requires decided { KnowDecidedApart nodes.old.known pool.now words }
+    requires words { 16 ≤ ranks.start }
+    requires order { ranks.start ≤ ranks.end }
+    requires within { ranks.end ≤ length nodes.old.variables }
+    requires passed { ArePassedBefore nodes.old excluded.now pool.now ranks.start }
+    ensures { IfOk result (λ b. MatchBool b
+        (PropagatesThrough nodes.old nodes.new excluded.now pool.now words ranks.end)
+        (NoneAgreesWith nodes.old.known excluded.now pool.now)) }
+{
+    for rank in ranks.start..ranks.end {
+        let here = nodes.variable(rank);
+        if let Some(node) = pool.dependent_at(here.place as usize, words) {
+            let known = here.known.meet(transfer(nodes, node));
+            match reduce_node(known, node, excluded) {
+                None => return Ok(false),
+                Some(next) => {
+                    if !is_same(next, here.known) {
+                        nodes.set_variable(rank, next)?;
+                    }
+                }
+            }
+        }
+    }
+    Ok(true)
+}
+
+/// Adds to what is known of the variables what follows from their operands, the oldest variable first. `words` has bit i
+/// where more may have become known of word i, or of a node that is computed from it. Variables that are computed from
+/// none of these words are left out: nothing more is known of their operands. So are the first sixteen, the words
+/// themselves: they are tight, and have no operands. `false`: no input agrees. `Memory` where an allocation is refused.
+pub(crate) fn propagate(
+    nodes: &mut Nodes,
+    excluded: &Excluded,
+    pool: &Pool,
+    words: u16,
+) -> Result<bool, Fault>
     requires ready { IsReady nodes.old.known pool.now }
     requires tight { AreTightWords nodes.old.known excluded.now }
-    ensures { MatchBool result
+    requires decided { KnowDecidedApart nodes.old.known pool.now words }
+    ensures { IfOk result (λ b. MatchBool b
         (IsPropagated nodes.old.known nodes.new.known excluded.now pool.now)
-        (NoneAgreesWith nodes.old.known excluded.now pool.now) }
+        (NoneAgreesWith nodes.old.known excluded.now pool.now)) }
 {
     // For the prover: the pool is lawful.
     let _count = pool.len();
-    for rank in WORDS..nodes.variable_count() {
-        let i = nodes.variable(rank);
-        let before = nodes.variable_known(rank);
-        let node = pool.node_at(i);
-        let known = before.meet(transfer(nodes, node));
-        match reduce_node(known, node, excluded) {
-            None => return false,
-            Some(next) => nodes.set(i, next),
+    let count = nodes.variable_count();
+    let mut rank = WORDS;
+    while rank < count {
+        let Some(place) = pool.next_dependent(nodes.variable(rank).place as usize, words) else {
+            return Ok(true);
+        };
+        let first = nodes.rank_from(place);
+        let end = first + CHUNK.min(count - first);
+        if !propagate_through(nodes, excluded, pool, words, first..end)? {
+            return Ok(false);
         }
+        rank = end;
     }
-    true
+    Ok(true)
 }
 
 /// Takes in the new nodes of a pool. `false`: no input agrees. `Memory` where an allocation is refused. In both cases a

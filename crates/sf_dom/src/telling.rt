@@ -161,7 +161,8 @@ fn tell_at(
 }
 
 /// The result of a test of a node against a number, where it is told: every input that agrees has it, the other result
-/// leaves the node no number, and this one changes nothing that is known, except that the number may become an excluded one.
+/// leaves the node no number, and this one changes nothing that is known, except that the number may become an excluded
+/// one.
 pub(crate) fn tell_node(
     nodes: &Nodes,
     excluded: &Excluded,

@@ -1,4 +1,3 @@
-use Rattle.std.proofs.lemmas.Grind.{common_steps}
 use Rattle.std.proofs.Common.{◌≡◌, ◌≢◌, ℕ, suc, ◌+◌, ◌<◌, ◌≤◌, List, [], ◌∷◌, ◌++◌, length, get_or, set, sym, ap, ◌∙◌, arith}
 use Rattle.std.proofs.lemmas.List.{get_or_append_left, get_or_push, get_or-map, length-map, map-append, length_push, get_or-set_same, get_or-set_other, length-set}
 use Rattle.std.proofs.Math.Nat.{eq-or-lt_of_le}
@@ -10,7 +9,7 @@ use Rattle.sf_sym.specs.declared.pool.Node.{Node}
 use Rattle.sf_sym.specs.declared.pool.Node.TheVariants.{Const}
 
 abbrev pub blank : Interned
-blank = record { node = Const 0; link = 0 }
+blank = record { node = Const 0; link = 0; support = 0; group = 0 }
 
 pub length-nodes : (es : List Interned) → length (nodes_of es) ≡ length es
 length-nodes es = length-map es (λ e. e.node)

@@ -3,3 +3,4 @@ pub mod HeadLemmas
 pub mod IndexLemmas
 pub mod MaskLemmas
 pub mod OperandLemmas
+pub mod SupportLemmas

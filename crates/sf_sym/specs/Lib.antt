@@ -4,3 +4,5 @@ pub mod ValueLaws
 pub mod SizeLaws
 pub mod Heads
 pub mod Operands
+pub mod Support
+pub mod SupportLaws

@@ -85,7 +85,8 @@ fn add_in(
 }
 
 impl Heads {
-    /// Room for the heads of 2,048 buckets, all without nodes. The index has 2,039 buckets, and uses the first of them. `AllocError` where an allocation is refused.
+    /// Room for the heads of 2,048 buckets, all without nodes. The index has 2,039 buckets, and uses the first of them.
+    /// `AllocError` where an allocation is refused.
     pub fn new(alloc: Global) -> Result<Heads, AllocError>
         ensures count { IfOk result (λ h. length h ≡ 2048) }
         ensures empty { IfOk result (λ h. (i : ℕ) → i < 2048 → slice_index h i ≡ 0) }

@@ -1,9 +1,10 @@
 use Rattle.std.proofs.lemmas.Grind.{common_steps}
-use Rattle.std.proofs.Common.{arith, sym}
+use Rattle.std.proofs.Common.{arith, sym, set}
 use Rattle.sf_sym.specs.Pool.{value_of}
 use Rattle.sf_dom.proofs.Propagations.{propagate-set, AllNarrower-set, IsReady-set, tight-set}
 use Rattle.sf_dom.proofs.Reductions.{IsNarrower-trans}
 use Rattle.sf_dom.specs.Facts.{known_at}
+use Rattle.sf_dom.proofs.Apart.{keeps-apart-set, keeps-apart-on, operand-behind}
 use Rattle.sf_dom.proofs.AssumeLemmas.{walked}
 use Rattle.sf_dom.proofs.Backs.{carries-step, hands-on-narrower, carried, walked-end, walked-other}
 use Rattle.sf_dom.proofs.assuming.propagate_back.Goals as goal
@@ -20,9 +21,11 @@ loop-op-preserved c =
     let next = c.in-Some-reduce_node.next in
     let t = rw c.node_at-node.ensures.node at c.in-Some-reduce_node.ensures in
     let bits = rw (c.get.ensures, c.get-in-Some.ensures) at c.in-Some-backward.ensures.bits in
+    let p = c.node_at-node.ensures.lawful in
+    let behind = operand-behind ns c.loop-op.at o.x o.c o.op p (omega arith) (sym o.ensures.operand) in
     let gained = rw c.get-in-Some.ensures at c.in-Some-backward.ensures.narrower in
     let narrower = IsNarrower-trans (known_at ks o.x) c.in-Some-backward.gained next gained t.narrower in
-    rw c.set.ensures.known (record {
+    rw c.in_ok-set-in-Some-reduce_node.ensures.known (record {
       within = omega (arith, o.ensures.smaller);
       keeps = λ d p a.
           let agrees = inv.keeps d p a in
@@ -39,6 +42,10 @@ loop-op-preserved c =
           (omega (arith, o.ensures.smaller)) (sym o.ensures.operand)
           (hands-on-narrower o.op o.c (known_at ks c.loop-op.at) c.in-Some-backward.gained next t.narrower
           (rw c.get.ensures at c.in-Some-backward.ensures.told)) inv.carries;
+      behind = λ k. omega (arith, behind k, inv.behind k);
+      decided = keeps-apart-on c.args.nodes.now.known ks (set ks o.x next) ns c.args.from o.x
+          (λ k. omega (arith, behind k, inv.behind k)) inv.decided
+          (keeps-apart-set ks ns o.x next p inv.ready (omega (arith, o.ensures.smaller)) narrower t.consistent);
     })
 
 pub returns-in-None-clause-backward : goal.returns-in-None-clause-backward

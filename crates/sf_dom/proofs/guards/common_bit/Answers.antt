@@ -1,5 +1,5 @@
 use Rattle.std.proofs.lemmas.Grind.{common_steps}
-use Rattle.std.proofs.Common.{◌-◌, arith, ap, ◌∙◌}
+use Rattle.std.proofs.Common.{arith, ap, ◌∙◌}
 use Rattle.std.specs.Prelude.{bit_and}
 use Rattle.sf_dom.proofs.CommonBits.{common-open, none-open, open-known, and-zero, common-bits, common-some, common-decided, open-one, lowest-place}
 use Rattle.sf_dom.proofs.guards.common_bit.Goals as goal

@@ -1,5 +1,10 @@
+use Rattle.std.proofs.lemmas.Result.{IfOk-weaker}
 use Rattle.sf_book.proofs.Kept.{memory_refuses}
 use Rattle.sf_book.proofs.book.Book.commit_of_stack.Goals as goal
+
+pub returns-clause-ok : goal.returns-clause-ok
+returns-clause-ok c = IfOk-weaker c.commit_own.result _ _ (λ ids h.
+    (c.in_ok-admit.ensures.ok.0, c.in_ok-admit.ensures.ok.1, h)) c.commit_own.ensures.ok
 
 pub returns-clause-err : goal.returns-clause-err
 returns-clause-err c = memory_refuses c.commit_own.result c.args.self.now c.commit_own.new.self c.args.id c.args.work

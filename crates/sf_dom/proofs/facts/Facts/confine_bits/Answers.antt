@@ -1,4 +1,4 @@
-use Rattle.std.proofs.Common.{arith, ◌-◌}
+use Rattle.std.proofs.Common.{arith}
 use Rattle.sf_dom.proofs.Assumed.{word-as}
 use Rattle.sf_dom.proofs.Masks.{masked-admits, admits-masked}
 use Rattle.sf_dom.proofs.facts.Facts.confine_bits.Goals as goal

@@ -1,4 +1,4 @@
-use Rattle.std.proofs.Common.{◌≡◌, List, replicate, ap, arith, ◌∙◌}
+use Rattle.std.proofs.Common.{◌≡◌, replicate, ap, arith, ◌∙◌}
 use Rattle.std.specs.Prelude.{vec_items}
 use Rattle.std.specs.List.{All}
 use Rattle.sf_sym.specs.Heads.{block_heads}

@@ -2,15 +2,16 @@
 use Rattle.std.proofs.lemmas.Grind.{common_steps}
 use Rattle.std.proofs.Common.{◌≡◌, ◌≢◌, ℕ, ◌-◌, ◌<◌, ◌≤◌, List, [], ◌∷◌, ◌++◌, length, get_or, set, arith, refl, sym, ap, ◌∙◌, ◌⊎◌, inl, inr}
 use Rattle.std.proofs.lemmas.Bool.{cases_lt, cases_eq}
-use Rattle.std.proofs.lemmas.List.{get_or-set_same, get_or-set_other, length-set, length-map, length_push, get_or-map, get_or_read, get_or_append_left, get_or_push, map-append, map-set, set-get_or, ext_get_or}
+use Rattle.std.proofs.lemmas.List.{get_or-set_same, get_or-set_other, length-set, length-map, length_push, get_or-map, get_or_append_left, get_or_push, map-append, map-set, set-get_or, ext_get_or}
 use Rattle.std.specs.Prelude.{slice_index, zero, suc}
 use Rattle.sf_dom.specs.declared.known.Known.{Known}
-use Rattle.sf_dom.specs.declared.nodes.Variable.{Variable}
-use Rattle.sf_dom.specs.declared.nodes.Slot.{Slot}
-use Rattle.sf_dom.specs.declared.nodes.Slot.TheVariants.{Number, Variable as VariableAt}
+use Rattle.sf_dom.specs.declared.variables.Variable.{Variable}
+use Rattle.sf_dom.specs.declared.slots.Slot.{Slot}
+use Rattle.sf_dom.specs.declared.slots.Slot.TheVariants.{Number, Variable as VariableAt}
 use Rattle.sf_dom.specs.Known.{IsDecided, known_of}
 use Rattle.sf_dom.specs.Facts.{known_at}
 use Rattle.sf_dom.specs.Nodes.{IsLaidOut, AreKept, slot_known, slot_at, known_by, places_of}
+use Rattle.sf_dom.specs.Variables.{variable_at, set_known}
 
 -- a place and what is known there
 abbrev pub variable_of : ℕ → Known → Variable
@@ -30,11 +31,6 @@ places-length os = length-map os (λ o. o.place)
 pub place-at : (os : List Variable) (r : ℕ) → r < length os → slice_index (places_of os) r
     ≡ (get_or os r (variable_of 0 (known_of 0 0 0 0))).place
 place-at os r l = get_or-map (λ o. o.place) os r (variable_of 0 (known_of 0 0 0 0)) 0 l
-
--- a variable that is read has its place
-pub place-read : (os : List Variable) (r i : ℕ) (o : Variable) → r < length os → o ≡ get_or os r o
-    → slice_index (places_of os) r ≡ i → o.place ≡ i
-place-read os r i o l read e = grind (arith, common_steps, get_or_read, place-at)
 
 -- a variable's place is no less than its rank
 pub rank-below : (slots : List Slot) (os : List Variable) (r : ℕ) → AreKept slots os → r < length os
@@ -130,6 +126,26 @@ known-set slots os r i x k l e =
         let apart : q ≢ r = λ same. ne (sym v.1 ∙ ap (slice_index (places_of os)) same ∙ w.1) in
         ap (λ (o : Variable). o.known) (get_or-set_other os r q (variable_of i x)
         (variable_of 0 (known_of 0 0 0 0)) apart)
+
+-- a variable is at its place
+pub place-of : (os : List Variable) (r : ℕ) → r < length os → (variable_at os r).place ≡ slice_index (places_of os) r
+place-of os r l = sym (place-at os r l)
+
+-- what is written of a variable is known at its place
+pub known-set_known : (slots : List Slot) (os : List Variable) (r : ℕ) (x : Known) → AreKept slots os → r < length os
+    → known_by (set_known os r x) slots ≡ set (known_by os slots) (slice_index (places_of os) r) x
+known-set_known slots os r x k l =
+    rw (place-of os r l) (known-set slots os r (slice_index (places_of os) r) x k (k.within r l) (k.told r l))
+
+-- the variables keep their places
+pub places-set_known : (os : List Variable) (r : ℕ) (x : Known) → r < length os
+    → places_of (set_known os r x) ≡ places_of os
+places-set_known os r x l = rw (place-of os r l) (places-set os r (slice_index (places_of os) r) x refl)
+
+-- and are kept as before
+pub kept-set_known : (slots : List Slot) (os : List Variable) (r : ℕ) (x : Known) → AreKept slots os → r < length os
+    → AreKept slots (set_known os r x)
+kept-set_known slots os r x k l = rw (place-of os r l) (kept-set slots os r (slice_index (places_of os) r) x refl k)
 
 -- one more slot, with a number
 pub kept-number : (slots : List Slot) (os : List Variable) (c : ℕ) → 16 ≤ length slots → AreKept slots os

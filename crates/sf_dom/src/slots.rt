@@ -1,0 +1,59 @@
+//! Where to find what is known of each node of a pool.
+
+ghost use Rattle.std.specs.Prelude.{◌≡◌, ◌<◌, ◌∷◌, ◌++◌, [], length, IfOk, OnOk, OnErr};
+ghost use Rattle.std.specs.Arc.{arc_value};
+ghost use Rattle.sf_dom.specs.Nodes.{slot_at};
+
+use sf_blocks::shared::SharedList;
+use std::alloc::{AllocError, Global};
+use std::sync::Arc;
+
+/// Where to find what is known of a node.
+#[derive(Clone, Copy)]
+pub(crate) enum Slot {
+    /// In the slot itself: the node has this number.
+    Number(u32),
+    /// In the list of variables, at this place.
+    Variable(u32),
+}
+
+impl Default for Slot {
+    fn default() -> Self {
+        Slot::Number(0)
+    }
+}
+
+/// The slots of the nodes, oldest first.
+pub(crate) type Slots = SharedList<Slot, 1>;
+
+/// The slot at a place.
+pub(crate) fn slot_of(slots: &Slots, i: usize) -> Slot
+    requires { i < length slots.now }
+    ensures { result ≡ slot_at slots.now i }
+{
+    slots.get(i)
+}
+
+/// A copy with one more slot. `AllocError` where an allocation is refused.
+fn with_slot(alloc: Global, slots: &Slots, slot: Slot) -> Result<Arc<Slots>, AllocError>
+    ensures { IfOk result (λ r. arc_value r ≡ slots.now ++ slot ∷ []) }
+{
+    let mut copy = slots.fork()?;
+    copy.push(slot)?;
+    Ok(Arc::new(alloc, copy)?)
+}
+
+/// Adds a slot. Where forks share the slots, it is added to a copy, and theirs stay as they are. `AllocError` where an
+/// allocation is refused; nothing is added then.
+pub(crate) fn add_slot(alloc: Global, slots: &mut Arc<Slots>, slot: Slot) -> Result<(), AllocError>
+    ensures ok { OnOk result (arc_value slots.new ≡ arc_value slots.old ++ slot ∷ []) }
+    ensures err { OnErr result (arc_value slots.new ≡ arc_value slots.old) }
+{
+    match Arc::get_mut(slots) {
+        Some(alone) => alone.push(slot),
+        None => {
+            *slots = with_slot(alloc, slots, slot)?;
+            Ok(())
+        }
+    }
+}
