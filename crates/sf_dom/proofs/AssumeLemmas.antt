@@ -14,9 +14,11 @@ use Rattle.sf_insn.specs.declared.input.Input.{Input}
 use Rattle.sf_dom.specs.declared.known.Known.{Known}
 use Rattle.sf_dom.specs.Known.{Admits, Leaves, IsNarrower, IsDecided, IsConsistent, IsTight, known_of}
 use Rattle.sf_dom.specs.Propagation.{IsReady, IsPropagatedAt, IsReducedNode, IsLeft, AreTightWords, KeepsTight, AreOthersTight, AddsNumber, AreExcluded, AreBothExcluded, IsAssumed, IsRestricted, IsPropagated, IsSharp, IsMovedPast, Tells, TestGives, AllNarrower, KeepsAgreeing, NoneAgreesWith, KeepsAgreeingOn, NoneAgreesOn, LeavesPair, HasGoneBack, Holds}
-use Rattle.sf_dom.specs.Conditions.{AreLeftAlone}
+use Rattle.sf_dom.specs.Conditions.{AreLeftAlone, AreSet, IsTold}
 use Rattle.sf_dom.specs.Backward.{IsPropagatedBack}
-use Rattle.sf_dom.proofs.Propagations.{AllNarrower-trans, AllNarrower-set, AllNarrower-refl, propagate-set, word-below, operands-below}
+use Rattle.sf_dom.proofs.Propagations.{AllNarrower-trans, AllNarrower-set, AllNarrower-refl, IsReady-set, propagate-set, word-below, operands-below}
+use Rattle.sf_dom.proofs.Apart.{know-apart, keeps-apart-set, left-behind, right-behind}
+use Rattle.sf_sym.specs.Support.{support_of}
 use Rattle.sf_dom.proofs.GuardLemmas.{gives-differs}
 use Rattle.sf_dom.proofs.Reductions.{IsNarrower-trans, IsNarrower-refl}
 use Rattle.sf_dom.specs.FactsLaws.{narrower-admits, value-word}
@@ -169,8 +171,25 @@ tells-narrower GreaterOrEqual false v w a b c e h k t = (omega (arith, h.high, t
 tells-narrower AnyBit true v w a b c e h k t = (t.0, λ d one i. omega (arith, h.ones i, t.1 d one i))
 tells-narrower AnyBit false v w a b c e h k t = λ d i. omega (arith, h.zeros i, t d i)
 
--- what is left of both nodes of a condition, by what its test leaves of them
-pub left-alone : (ks : List Known) (ex : List (List ℕ)) (ns : List Node) (cond : Cond) (v' w' node other : Known)
+-- the value of the second node of a condition is as it is told
+value-told : (ns : List Node) (cond : Cond) (w' node told : Known) (d : Input) → IsTold cond w' node told
+    → Admits w' (value_of ns d cond.other.0) → Admits node (value_of ns d cond.node.0)
+    → Admits told (value_of ns d cond.other.0)
+value-told ns cond w' node told d t h k = t.admits (value_of ns d cond.other.0) h (λ e. rw (← e) k)
+
+-- what is left of the second node is narrower than what is known of it once the first is written
+other-narrower : (ks : List Known) (ex : List (List ℕ)) (ns : List Node) (cond : Cond) (told node other : Known)
+    → cond.node.0 < length ks → (cond.node.0 ≡ cond.other.0 → IsNarrower node told)
+    → IsLeft ks ex ns cond.other.0 told other
+    → IsNarrower (known_at (set ks cond.node.0 node) cond.other.0) other
+other-narrower ks ex ns cond told node other l one left = elim (cases_eq cond.other.0 cond.node.0) [
+  | inl e ↦ rw (e, get_or-set_same ks cond.node.0 node (known_of 0 0 0 0) l)
+      (IsNarrower-trans node told other (one (sym e)) left.told)
+  | inr ne ↦ rw (get_or-set_other ks cond.node.0 cond.other.0 node (known_of 0 0 0 0) ne) left.narrower
+]
+
+-- what is left of both nodes of a condition, by what its test leaves of them and is told of the second
+pub left-alone : (ks : List Known) (ex : List (List ℕ)) (ns : List Node) (cond : Cond) (v' w' told node other : Known)
     → cond.node.0 < length ks → cond.other.0 < length ks
     → LeavesPair (known_at ks cond.node.0) (known_at ks cond.other.0) v' w' (λ x y. TestGives cond.test x y cond.sense)
     → Tells cond.test cond.sense (known_at ks cond.node.0) (known_at ks cond.other.0) v' w'
@@ -179,35 +198,64 @@ pub left-alone : (ks : List Known) (ex : List (List ℕ)) (ns : List Node) (cond
     → (IsConsistent (known_at ks cond.node.0) → IsDecided (known_at ks cond.node.0)
     → IsDecided (known_at ks cond.other.0)
     → (x : ℕ) → Admits v' x → TestGives cond.test x (known_at ks cond.other.0).low cond.sense)
-    → IsLeft ks ex ns cond.node.0 v' node → IsLeft ks ex ns cond.other.0 w' other
+    → IsTold cond w' node told
+    → IsLeft ks ex ns cond.node.0 v' node → IsLeft ks ex ns cond.other.0 told other
     → AreLeftAlone ks ex ns cond node other
-left-alone ks ex ns cond v' w' node other lv lw pair tells sharp decided one two = record {
+left-alone ks ex ns cond v' w' told node other lv lw pair tells sharp decided more one two = record {
   admits = λ d p a h.
       let q = values-left ks ex ns cond v' w' lv lw pair d p a h in
-      ((one.kept d p a q.0).admitted, (two.kept d p a q.1).admitted);
+      let first = (one.kept d p a q.0).admitted in
+      (first, (two.kept d p a (value-told ns cond w' node told d more q.1 first)).admitted);
   narrower = one.narrower;
   consistent = one.consistent;
-  tells = search (arith, tells-narrower);
+  other_narrower = other-narrower ks ex ns cond told node other lv more.one two;
+  other_consistent = two.consistent;
+  tells = tells-narrower cond.test cond.sense (known_at ks cond.node.0) (known_at ks cond.other.0) v' w' node other
+      one.told (IsNarrower-trans w' told other more.narrower two.told) tells;
   sharp = λ d s x h. sharp d s x (narrower-admits v' node x one.told h);
   decided = λ s d1 d2 x h. decided s d1 d2 x (narrower-admits v' node x one.told h);
 }
 
--- the first node gets what is left of it
-pub alone-set : (ks : List Known) (ex : List (List ℕ)) (ns : List Node) (cond : Cond) (node other : Known)
-    → cond.node.0 < length ks → AreLeftAlone ks ex ns cond node other
-    → KeepsAgreeingOn ks (set ks cond.node.0 node) ex ns (λ d. Admits node (value_of ns d cond.node.0))
-    × AllNarrower ks (set ks cond.node.0 node) × IsNarrower node (known_at (set ks cond.node.0 node) cond.node.0)
-alone-set ks ex ns cond node other l h = (
-  (λ d p a m. propagate-set ks ex ns d cond.node.0 node l a
-      (record { admitted = m; kept = (a cond.node.0 l).kept })),
-  AllNarrower-set ks ks cond.node.0 node refl l (AllNarrower-refl ks) h.narrower,
-  narrower-at ks cond.node.0 node node l (IsNarrower-refl node),
-)
+-- what is known of the two nodes of a condition leaves the other words as tight as they are
+others-set : (ks : List Known) (ex : List (List ℕ)) (ns : List Node) (cond : Cond) (i : ℕ) (next : Known) → IsPool ns
+    → i < length ns → ((w : ℕ) → w < 16 → node_at ns cond.node.0 ≢ Word w → node_at ns cond.other.0 ≢ Word w → w ≢ i)
+    → AreOthersTight ks ex ns cond → AreOthersTight (set ks i next) ex ns cond
+others-set ks ex ns cond i next p l apart h w b one two =
+    rw (get_or-set_other ks i w next (known_of 0 0 0 0) (apart w b one two)) (h w b one two)
 
--- what is known of the first node leaves the other words as tight as they are
-pub others-set : (ks : List Known) (ex : List (List ℕ)) (ns : List Node) (cond : Cond) (node : Known) → IsPool ns
-    → AreOthersTight ks ex ns cond → AreOthersTight (set ks cond.node.0 node) ex ns cond
-others-set ks ex ns cond node p h w l one two = search (arith, get_or-set_other)
+-- what a condition leaves of its two nodes is written
+pub set-both : (ks : List Known) (ex : List (List ℕ)) (ns : List Node) (cond : Cond) (node other : Known) → IsPool ns
+    → IsReady ks ns → cond.node.0 < length ns → cond.other.0 < length ns → AreLeftAlone ks ex ns cond node other
+    → AreOthersTight ks ex ns cond → KnowDecided ks ns
+    → AreSet ks (set (set ks cond.node.0 node) cond.other.0 other) ex ns cond node other
+set-both ks ex ns cond node other p ready lv lw left tight decided =
+    let count = ready.count in
+    let v = cond.node.0 in
+    let w = cond.other.0 in
+    let none : Known = known_of 0 0 0 0 in
+    let first = set ks v node in
+    let iv : v < length ks = omega (arith, lv) in
+    let iw : w < length first = omega (arith, lw, length-set ks v node) in
+    let step = AllNarrower-set ks ks v node refl iv (AllNarrower-refl ks) left.narrower in
+    let step-2 = AllNarrower-set first first w other refl iw (AllNarrower-refl first) left.other_narrower in
+    let ready-1 = IsReady-set ks ns v node iv ready left.narrower left.consistent in
+    let s = support_of ns v in
+    let t = support_of ns w in
+    record {
+      ready = IsReady-set first ns w other iw ready-1 left.other_narrower left.other_consistent;
+      keeps = λ d i a holds.
+          let q = left.admits d i a holds in
+          let b = propagate-set ks ex ns d v node iv a (record { admitted = q.0; kept = (a v iv).kept }) in
+          propagate-set first ex ns d w other iw b (record { admitted = q.1; kept = (b w iw).kept });
+      narrower = AllNarrower-trans ks first (set first w other) (sym (length-set ks v node)) step step-2;
+      node = rw (get_or-set_same ks v node none iv) at (step-2 v (omega (arith, iv, length-set ks v node)));
+      other = rw (get_or-set_same first w other none iw) (IsNarrower-refl other);
+      tight = others-set first ex ns cond w other p lw (λ x b one two e. two (rw e (p.word w (rw e at b))))
+          (others-set ks ex ns cond v node p lv (λ x b one two e. one (rw e (p.word v (rw e at b)))) tight);
+      decided = keeps-apart-set first ns w other p ready-1 iw left.other_narrower left.other_consistent _
+          (right-behind s t) (keeps-apart-set ks ns v node p ready iv left.narrower left.consistent _
+          (left-behind s t) (know-apart ks ns _ decided));
+    }
 
 -- a node is a word, or it isn't
 pub is-word : (n : Node) (w : ℕ) → (n ≡ Word w) ⊎ (n ≢ Word w)
@@ -232,41 +280,41 @@ tight-all o a b ex ns cond h k m one two w l = elim (is-word (node_at ns cond.ot
   ])
 ]
 
--- how a condition is taken in: what is known at first, after each of its nodes is met, and after bits have gone back
+-- how a condition is taken in: what is known at first, once its two nodes are written, and after bits have gone back
 -- from each
-pub record AreSteps (o a b c e : List Known) (ex : List (List ℕ)) (ns : List Node) (cond : Cond) (v' w' : Known)
+pub record AreSteps (o b c e : List Known) (ex : List (List ℕ)) (ns : List Node) (cond : Cond) (v' w' : Known)
     : Type 0 where
   pub first : length o ≡ length ns
-  pub node_set : length a ≡ length ns
-  pub other_met : length b ≡ length ns
+  pub written : AreSet o b ex ns cond v' w'
   pub node_back : length c ≡ length ns
   pub other_back : length e ≡ length ns
   pub node : cond.node.0 < length ns
   pub other : cond.other.0 < length ns
-  pub admits : (d : Input) → IsInput d → AgreesWith o ex ns d → Holds ns cond d
-      → Admits v' (value_of ns d cond.node.0) × Admits w' (value_of ns d cond.other.0)
-  pub sets_node : KeepsAgreeingOn o a ex ns (λ d. Admits v' (value_of ns d cond.node.0)) × AllNarrower o a
-      × IsNarrower v' (known_at a cond.node.0)
-  pub meets_other : KeepsAgreeingOn a b ex ns (λ d. Admits w' (value_of ns d cond.other.0)) × AllNarrower a b
-      × IsNarrower w' (known_at b cond.other.0)
   pub from_node : KeepsAgreeing b c ex ns × AllNarrower b c
   pub from_other : KeepsAgreeing c e ex ns × AllNarrower c e
 
 -- no input is lost on the way
-steps-keep : (o a b c e : List Known) (ex : List (List ℕ)) (ns : List Node) (cond : Cond) (v' w' : Known)
-    → AreSteps o a b c e ex ns cond v' w' → KeepsAgreeingOn o e ex ns (Holds ns cond)
-steps-keep o a b c e ex ns cond v' w' s d p agrees h =
-    let q = s.admits d p agrees h in
-    s.from_other.0 d p (s.from_node.0 d p (s.meets_other.0 d p (s.sets_node.0 d p agrees q.0) q.1))
+steps-keep : (o b c e : List Known) (ex : List (List ℕ)) (ns : List Node) (cond : Cond) (v' w' : Known)
+    → AreSteps o b c e ex ns cond v' w' → KeepsAgreeingOn o e ex ns (Holds ns cond)
+steps-keep o b c e ex ns cond v' w' s d p agrees h =
+    s.from_other.0 d p (s.from_node.0 d p (s.written.keeps d p agrees h))
 
--- what is narrower than what is known once both nodes are met
-assume-steps : (o a b c e : List Known) (ex : List (List ℕ)) (ns : List Node) (cond : Cond) (v' w' : Known)
-    → AreSteps o a b c e ex ns cond v' w' → (n : List Known) → AllNarrower b n
+-- what is narrower than what is known once both nodes are written
+assume-steps : (o b c e : List Known) (ex : List (List ℕ)) (ns : List Node) (cond : Cond) (v' w' : Known)
+    → AreSteps o b c e ex ns cond v' w' → (n : List Known) → AllNarrower b n
     → AllNarrower o n × IsNarrower v' (known_at n cond.node.0) × IsNarrower w' (known_at n cond.other.0)
-assume-steps o a b c e ex ns cond v' w' s n bn = search arith
+assume-steps o b c e ex ns cond v' w' s n bn =
+    let count = s.first in
+    let ready = s.written.ready.count in (
+      AllNarrower-trans o b n (omega arith) s.written.narrower bn,
+      IsNarrower-trans v' (known_at b cond.node.0) (known_at n cond.node.0) s.written.node
+          (bn cond.node.0 (omega (arith, s.node))),
+      IsNarrower-trans w' (known_at b cond.other.0) (known_at n cond.other.0) s.written.other
+          (bn cond.other.0 (omega (arith, s.other))),
+    )
 
-pub assumed-all : (r : Bool) (o a b c e n : List Known) (ex : List (List ℕ)) (ns : List Node)
-    (cond : Cond) (v' w' : Known) → AreSteps o a b c e ex ns cond v' w'
+pub assumed-all : (r : Bool) (o b c e n : List Known) (ex : List (List ℕ)) (ns : List Node)
+    (cond : Cond) (v' w' : Known) → AreSteps o b c e ex ns cond v' w'
     → Tells cond.test cond.sense (known_at o cond.node.0) (known_at o cond.other.0) v' w'
     → ((m : ℕ) → IsPropagatedBack m c ns cond.node.0) → ((m : ℕ) → IsPropagatedBack m e ns cond.other.0)
     → (IsDecided (known_at o cond.other.0) → IsSharp cond.test cond.sense (known_at o cond.other.0).low → (x : ℕ)
@@ -275,16 +323,16 @@ pub assumed-all : (r : Bool) (o a b c e n : List Known) (ex : List (List ℕ)) (
     → (x : ℕ) → Admits v' x → TestGives cond.test x (known_at o cond.other.0).low cond.sense)
     → MatchBool r (IsPropagated e n ex ns) (NoneAgreesWith e ex ns)
     → MatchBool r (IsAssumed o n ex ns cond) (NoneAgreesOn o ex ns (Holds ns cond))
-assumed-all true o a b c e n ex ns cond v' w' s tells b1 b2 sharp decided propagate =
+assumed-all true o b c e n ex ns cond v' w' s tells b1 b2 sharp decided propagate =
     let ce = s.from_other.1 in
     let cn = AllNarrower-trans c e n (omega (arith, s.node_back, s.other_back)) ce propagate.narrower in
     let bc = s.from_node.1 in
-    let counts : length b ≡ length c = omega (arith, s.other_met, s.node_back) in
-    let k = assume-steps o a b c e ex ns cond v' w' s n (AllNarrower-trans b c n counts bc cn) in
+    let counts : length b ≡ length c = omega (arith, s.written.ready.count, s.node_back) in
+    let k = assume-steps o b c e ex ns cond v' w' s n (AllNarrower-trans b c n counts bc cn) in
     let back : (at : ℕ) (m : List Known) → length m ≡ length ns → AllNarrower b m → AllNarrower m n
     → ((j : ℕ) → IsPropagatedBack j m ns at) → HasGoneBack o n ns cond at
     = λ at m lm bm mn walks.
-    let step = assume-steps o a b c e ex ns cond v' w' s m bm in
+    let step = assume-steps o b c e ex ns cond v' w' s m bm in
     record {
       between = m;
       count = lm;
@@ -295,7 +343,7 @@ assumed-all true o a b c e n ex ns cond v' w' s tells b1 b2 sharp decided propag
     } in
     record {
       count = propagate.count;
-      keeps = λ d p agrees h. propagate.keeps d p (steps-keep o a b c e ex ns cond v' w' s d p agrees h);
+      keeps = λ d p agrees h. propagate.keeps d p (steps-keep o b c e ex ns cond v' w' s d p agrees h);
       narrower = k.0;
       passed = propagate.passed;
       tells = search (arith, tells-narrower);
@@ -304,8 +352,8 @@ assumed-all true o a b c e n ex ns cond v' w' s tells b1 b2 sharp decided propag
       sharp = λ d s x h. sharp d s x (narrower-admits v' (known_at n cond.node.0) x k.1 h);
       decided = λ s d1 d2 x h. decided s d1 d2 x (narrower-admits v' (known_at n cond.node.0) x k.1 h);
     }
-assumed-all false o a b c e n ex ns cond v' w' s tells b1 b2 sharp decided none =
-    λ d p agrees h. none d p (steps-keep o a b c e ex ns cond v' w' s d p agrees h)
+assumed-all false o b c e n ex ns cond v' w' s tells b1 b2 sharp decided none =
+    λ d p agrees h. none d p (steps-keep o b c e ex ns cond v' w' s d p agrees h)
 
 -- what holds of each node where facts are ready and as tight as they get
 pub already-passed : (o : List Known) (ex : List (List ℕ)) (ns : List Node) → IsReady o ns → KnowDecided o ns

@@ -5,7 +5,7 @@ ghost use Rattle.sf_insn.specs.Words.{apply};
 ghost use Rattle.sf_sym.specs.Pool.{node_at, value_of};
 ghost use Rattle.sf_dom.specs.Known.{AreBitsOf, HasBits, Admits, IsNarrower, IsConsistent, IsDecided, IsTight};
 ghost use Rattle.sf_dom.specs.Propagation.{KeepsAgreeing, NoneAgreesWith, KeepsAgreeingOn, NoneAgreesOn, LeavesPair, LeavesNoPair, IsSharp, Tells, TestGives, AllNarrower, IsReady, IsLeft, IsAssumed, AreExcluded, AreBothExcluded, Holds, IsPropagated, KeepsTight, AreOthersTight, KnowDecidedApart, KeepsDecidedApart};
-ghost use Rattle.sf_dom.specs.Conditions.{AreLeftAlone};
+ghost use Rattle.sf_dom.specs.Conditions.{AreLeftAlone, AreSet, IsTold};
 ghost use Rattle.sf_sym.specs.Operands.{IsSwappable};
 ghost use Rattle.sf_sym.specs.Support.{support_of};
 ghost use Rattle.sf_dom.specs.Backward.{HandsOn, IsPropagatedBack};
@@ -189,43 +189,20 @@ pub(crate) fn known_left(
     reduce_node(nodes.get(at).meet(more), node, excluded)
 }
 
-/// Adds `more` to what is known of a node. `false`: no input that agrees has such a number there. `Memory` where an
-/// allocation is refused.
-fn meet_node(
-    nodes: &mut Nodes,
-    excluded: &Excluded,
-    pool: &Pool,
-    at: usize,
-    more: Known,
-) -> Result<bool, Fault>
-    requires ready { IsReady nodes.old.known pool.now }
-    requires place { at < length pool.now }
-    ensures kept { IfOk result (λ b. MatchBool b
-        (KeepsAgreeingOn nodes.old.known nodes.new.known excluded.now pool.now
-        (λ d. Admits more (value_of pool.now d at))
-        × AllNarrower nodes.old.known nodes.new.known
-        × IsNarrower more (known_at nodes.new.known at))
-        (NoneAgreesOn nodes.old.known excluded.now pool.now
-        (λ d. Admits more (value_of pool.now d at)))) }
-    ensures tight { result ≡ Ok true
-        → KeepsTight nodes.old.known nodes.new.known excluded.now }
-    ensures ready { IfOk result (λ _. IsReady nodes.new.known pool.now) }
-    ensures decided { result ≡ Ok true
-        → KeepsDecidedApart nodes.old.known nodes.new.known pool.now at }
+/// What is told of the second node of a condition: what its test tells, and where both are one node, also what is left
+/// of the first.
+fn told_of_other(cond: &Cond, told: Known, node: Known) -> Known
+    ensures { IsTold cond.now told node result }
 {
-    // For the prover: the pool is lawful.
-    let _count = pool.len();
-    match known_left(nodes, excluded, pool, at, more) {
-        None => Ok(false),
-        Some(next) => {
-            nodes.set(at, next)?;
-            Ok(true)
-        }
+    if cond.node.0 == cond.other.0 {
+        told.meet(node)
+    } else {
+        told
     }
 }
 
-/// What a condition leaves of its two nodes, each by itself; `None` where it leaves one no number. This is asked before
-/// facts are copied.
+/// What a condition leaves of its two nodes; `None` where it leaves one no number. This is asked before facts are
+/// copied.
 pub(crate) fn pair_left(
     nodes: &Nodes,
     excluded: &Excluded,
@@ -243,8 +220,34 @@ pub(crate) fn pair_left(
     let w = cond.other.0 as usize;
     let pair = assume_test(nodes.get(v), nodes.get(w), cond.test, cond.sense)?;
     let node = known_left(nodes, excluded, pool, v, pair.node)?;
-    let other = known_left(nodes, excluded, pool, w, pair.other)?;
+    let told = told_of_other(cond, pair.other, node);
+    let other = known_left(nodes, excluded, pool, w, told)?;
     Some(Pair { node, other })
+}
+
+/// Writes what a condition leaves of its two nodes. `Memory` where an allocation is refused.
+fn set_both(
+    nodes: &mut Nodes,
+    excluded: &Excluded,
+    pool: &Pool,
+    cond: &Cond,
+    alone: Pair,
+) -> Result<(), Fault>
+    requires ready { IsReady nodes.old.known pool.now }
+    requires node { cond.now.node.0 < length pool.now }
+    requires other { cond.now.other.0 < length pool.now }
+    requires left { AreLeftAlone nodes.old.known excluded.now pool.now cond.now
+        alone.node alone.other }
+    requires tight { AreOthersTight nodes.old.known excluded.now pool.now cond.now }
+    requires decided { KnowDecided nodes.old.known pool.now }
+    ensures { IfOk result (λ _. AreSet nodes.old.known nodes.new.known excluded.now pool.now
+        cond.now alone.node alone.other) }
+{
+    // For the prover: the pool is lawful.
+    let _count = pool.len();
+    nodes.set(cond.node.0 as usize, alone.node)?;
+    nodes.set(cond.other.0 as usize, alone.other)?;
+    Ok(())
 }
 
 /// Forward propagation after a condition. Of the words, only its two nodes may not be tight, so these are made so
@@ -360,10 +363,7 @@ pub(crate) fn assume_cond(
     let _count = pool.len();
     let v = cond.node.0 as usize;
     let w = cond.other.0 as usize;
-    nodes.set(v, alone.node)?;
-    if !meet_node(nodes, excluded, pool, w, alone.other)? {
-        return Ok(false);
-    }
+    set_both(nodes, excluded, pool, cond, alone)?;
     if !propagate_back(nodes, excluded, pool, v)? {
         return Ok(false);
     }

@@ -19,6 +19,9 @@ use sf_insn::Test;
 use sf_sym::{Cond, NodeId, Pool};
 use std::alloc::Global;
 
+/// Up to this many variables, to copy them takes less than to see first whether their facts will contradict.
+const FEW: usize = 64;
+
 /// The nodes with what is known of them after a change; `None` where nothing changed.
 pub(crate) type Changed = Option<Nodes>;
 
@@ -52,8 +55,8 @@ fn with_excluded_by(
 /// What a condition leaves of the facts; `None` where no input that agrees meets it. `Memory` where an allocation is
 /// refused.
 ///
-/// Nodes are copied only where something that is known changes. To see that, the condition is first tried without a
-/// copy: on its two nodes, and on the bits that go back from them.
+/// Nodes are copied only where something that is known changes. To see that, the condition is first tried on its two
+/// nodes without a copy. Where there are many variables, the bits that go back from the two are tried as well.
 pub(crate) fn learn_cond(
     alloc: Global,
     nodes: &Nodes,
@@ -75,7 +78,7 @@ pub(crate) fn learn_cond(
     let Some(alone) = pair_left(nodes, excluded, pool, cond) else {
         return Ok(None);
     };
-    if contradicts_back(nodes, excluded, pool, cond, alone) {
+    if nodes.variable_count() > FEW && contradicts_back(nodes, excluded, pool, cond, alone) {
         return Ok(None);
     }
     let lists = with_excluded_by(alloc, excluded, nodes, pool, cond)?;

@@ -7,7 +7,7 @@ ghost use Rattle.sf_dom.specs.Facts.{known_at};
 ghost use Rattle.sf_dom.specs.Nodes.{IsLaidOut, IsRankFrom};
 
 use crate::fault::Fault;
-use crate::known::{Known, is_same};
+use crate::known::Known;
 use crate::slots::{Slot, Slots, add_slot, slot_of};
 use crate::variables::{Variable, Variables};
 use sf_blocks::shared::SharedList;
@@ -134,12 +134,11 @@ impl Nodes {
         requires decided { IsDecided (known_at self.old.known i)
             → known ≡ known_at self.old.known i }
         ensures known { IfOk result (λ _. self.new.known ≡ set self.old.known i known) }
+        ensures variables { self.new.variables ≡ self.old.variables }
         ensures err { OnErr result (self.new ≡ self.old) }
     {
-        if let Slot::Variable(rank) = slot_of(&self.slots, i)
-            && !is_same(known, self.variables.get(rank as usize).known)
-        {
-            self.variables.set(rank as usize, known)?;
+        if let Slot::Variable(rank) = slot_of(&self.slots, i) {
+            self.set_variable(rank as usize, known)?;
         }
         Ok(())
     }

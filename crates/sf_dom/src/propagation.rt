@@ -15,7 +15,7 @@ use crate::exclusions::Excluded;
 use crate::fault::Fault;
 use crate::fitting::is_tight;
 use crate::forward::{forward, negate};
-use crate::known::{Known, is_same, reduce_known, reduce_word};
+use crate::known::{Known, reduce_known, reduce_word};
 use crate::nodes::{Nodes, WORDS};
 use sf_sym::{Node, NodeId, Pool};
 use std::alloc::Global;
@@ -138,11 +138,7 @@ fn propagate_through(
             let known = here.known.meet(transfer(nodes, node));
             match reduce_node(known, node, excluded) {
                 None => return Ok(false),
-                Some(next) => {
-                    if !is_same(next, here.known) {
-                        nodes.set_variable(rank, next)?;
-                    }
-                }
+                Some(next) => nodes.set_variable(rank, next)?,
             }
         }
     }

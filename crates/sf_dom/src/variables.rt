@@ -2,9 +2,10 @@
 
 ghost use Rattle.std.specs.Prelude.{◌≡◌, ◌+◌, ◌*◌, ◌<◌, ◌≤◌, [], ◌∷◌, ◌++◌, length, IfOk, OnOk, OnErr};
 ghost use Rattle.std.specs.Arc.{arc_value};
-ghost use Rattle.sf_dom.specs.Variables.{block_items, variable_at, set_known};
+ghost use Rattle.sf_blocks.specs.Blocks.{block_items};
+ghost use Rattle.sf_dom.specs.Variables.{variable_at, set_known};
 
-use crate::known::Known;
+use crate::known::{Known, is_same};
 use crate::slots::{Slot, Slots, add_slot};
 use std::alloc::{AllocError, Global};
 use std::marker::Model;
@@ -37,17 +38,15 @@ pub(crate) struct Variables {
 }
 
 impl Model for Variables {
-    ghost use Rattle.std.specs.Prelude.{◌≡◌, ◌≤◌, ◌++◌, List, length};
-    ghost use Rattle.std.specs.List.{All};
+    ghost use Rattle.std.specs.Prelude.{◌≤◌, ◌++◌, List, length};
     ghost use Rattle.sf_dom.specs.declared.variables.Variable.{Variable};
-    ghost use Rattle.sf_dom.specs.Variables.{block_items, joined};
+    ghost use Rattle.sf_blocks.specs.Blocks.{joined, AreWide};
 
     ghost Value = { List Variable };
 
     ghost view = { λ v. joined v.full.items ++ v.last.items };
 
-    ghost invariant = { λ v. All (λ b. length (block_items b) ≡ 64) v.full.items
-        × (length v.full.items ≤ 67108864) };
+    ghost invariant = { λ v. AreWide 64 v.full.items × (length v.full.items ≤ 67108864) };
 }
 
 /// A copy of a block in which this is known of the variable at a place. `AllocError` where an allocation is refused.
@@ -65,14 +64,18 @@ fn with_known(
     Ok(Arc::new(alloc, copy)?)
 }
 
-/// Writes what is known of a variable of a block. Where forks share the block, they keep it, and a copy is written.
-/// `AllocError` where an allocation is refused; the block is then as it was.
+/// Writes what is known of a variable of a block. Where forks share the block, they keep it, and a copy is written. Where
+/// it is known already, nothing is written, so that forks go on sharing the block. `AllocError` where an allocation is
+/// refused; the block is then as it was.
 fn set_in(block: &mut Block, place: usize, known: Known) -> Result<(), AllocError>
     requires { place < length (block_items block.old) }
     ensures ok { OnOk result (block_items block.new
         ≡ set_known (block_items block.old) place known) }
     ensures err { OnErr result (block_items block.new ≡ block_items block.old) }
 {
+    if is_same(known, block.as_slice()[place].known) {
+        return Ok(());
+    }
     match Arc::get_mut(block) {
         Some(alone) => alone[place].known = known,
         None => *block = with_known(*block.allocator(), block.as_slice(), place, known)?,

@@ -1,5 +1,4 @@
 pub mod Folds
-pub mod HeadLemmas
 pub mod IndexLemmas
 pub mod MaskLemmas
 pub mod OperandLemmas

@@ -1,7 +1,7 @@
 //! The heads of an index's buckets, in blocks that copies share until one of them changes.
 
 ghost use Rattle.std.specs.Prelude.{◌≡◌, ℕ, ◌+◌, ◌<◌, [], ◌∷◌, ◌++◌, length, slice_index, slice_set, OnOk, OnErr, IfOk};
-ghost use Rattle.sf_sym.specs.Heads.{block_heads};
+ghost use Rattle.sf_blocks.specs.Blocks.{block_items};
 
 use crate::index::{Interned, InternedNodes};
 use std::alloc::{AllocError, Global};
@@ -24,22 +24,21 @@ pub struct Heads {
 }
 
 impl Model for Heads {
-    ghost use Rattle.std.specs.Prelude.{◌≡◌, ℕ, List, All, length};
+    ghost use Rattle.std.specs.Prelude.{◌≡◌, ℕ, List, length};
 
     ghost Value = { List ℕ };
 
-    ghost use Rattle.sf_sym.specs.Heads.{block_heads, heads_of};
+    ghost use Rattle.sf_blocks.specs.Blocks.{joined, AreWide};
 
-    ghost view = { λ h. heads_of h.blocks.items };
+    ghost view = { λ h. joined h.blocks.items };
 
-    ghost invariant = { λ h. All (λ b. length (block_heads b) ≡ 128) h.blocks.items
-        × (length h.blocks.items ≡ 16) };
+    ghost invariant = { λ h. AreWide 128 h.blocks.items × (length h.blocks.items ≡ 16) };
 }
 
 /// The head at a place of a block.
 fn head_in(block: &Block, place: usize) -> u32
-    requires { place < length (block_heads block.now) }
-    ensures { result ≡ slice_index (block_heads block.now) place }
+    requires { place < length (block_items block.now) }
+    ensures { result ≡ slice_index (block_items block.now) place }
 {
     block.as_slice()[place]
 }
@@ -47,7 +46,7 @@ fn head_in(block: &Block, place: usize) -> u32
 /// A copy of a block with another head at a place. `AllocError` where an allocation is refused.
 fn with_head(alloc: Global, block: &[u32], place: usize, head: u32) -> Result<Block, AllocError>
     requires { place < length block.now }
-    ensures { IfOk result (λ b. block_heads b ≡ slice_set block.now place head) }
+    ensures { IfOk result (λ b. block_items b ≡ slice_set block.now place head) }
 {
     let mut copy = Vec::from_slice(alloc, block)?;
     copy[place] = head;
@@ -62,12 +61,12 @@ fn add_in(
     nodes: &mut InternedNodes,
     node: Interned,
 ) -> Result<(), AllocError>
-    requires { place < length (block_heads block.old) }
+    requires { place < length (block_items block.old) }
     ensures node { OnOk result (nodes.new ≡ nodes.old ++ node ∷ []) }
-    ensures head { OnOk result (block_heads block.new
-        ≡ slice_set (block_heads block.old) place (length nodes.old + 1)) }
+    ensures head { OnOk result (block_items block.new
+        ≡ slice_set (block_items block.old) place (length nodes.old + 1)) }
     ensures err_nodes { OnErr result (nodes.new ≡ nodes.old) }
-    ensures err_heads { OnErr result (block_heads block.new ≡ block_heads block.old) }
+    ensures err_heads { OnErr result (block_items block.new ≡ block_items block.old) }
 {
     let head = nodes.len() as u32 + 1;
     match Arc::get_mut(block) {

@@ -2,7 +2,7 @@
 
 ghost use Rattle.std.specs.Prelude.{◌≡◌, ◌≢◌, ℕ, ◌<◌, ◌≤◌, ◌*◌, ◌^◌, [], ◌∷◌, ◌++◌, length, bit_and, OnOk, OnErr, IfOk, IsTrue, false, MatchOption};
 ghost use Rattle.std.specs.Arc.{arc_value};
-ghost use Rattle.sf_sym.specs.Pool.{OperandsBelow, node_at};
+ghost use Rattle.sf_sym.specs.Pool.{OperandsBelow, AreOrdered, node_at};
 ghost use Rattle.sf_sym.specs.Index.{hash_of, nodes_of, IsIndexed};
 ghost use Rattle.sf_sym.specs.Support.{all_if_none, node_support, support_of, computed_support, kept_supports, KeepsSupports, HasAll, IsInterned, IsApartFrom, IsNextDependent};
 
@@ -67,16 +67,30 @@ fn is_same(a: Node, b: Node) -> bool
     a == b
 }
 
-/// The place of a node that is equal to this one, if there is one: its bucket is gone through, the newest first.
+/// The first place at which a node with these operands may stand: they are older.
+fn place_behind_operands(node: Node) -> usize
+    ensures { (i : ℕ) → OperandsBelow i node → result ≤ i }
+{
+    match node {
+        Node::Const(_) | Node::Word(_) => 0,
+        Node::Bin(_, a, b) => a.0.max(b.0) as usize + 1,
+        Node::Neg(a) => a.0 as usize + 1,
+    }
+}
+
+/// The place of a node that is equal to this one, if there is one: its bucket is gone through, the newest first, down to
+/// the place behind its operands.
 fn place_of(interned_nodes: &InternedNodes, heads: &Heads, node: Node) -> Option<usize>
-    requires { IsIndexed interned_nodes.now heads.now }
+    requires indexed { IsIndexed interned_nodes.now heads.now }
+    requires ordered { AreOrdered 0 (nodes_of interned_nodes.now) }
     ensures found { (i : ℕ) → result ≡ Some i → (i < length (nodes_of interned_nodes.now))
         × (node_at (nodes_of interned_nodes.now) i ≡ node) }
     ensures absent { result ≡ None → (i : ℕ) → i < length (nodes_of interned_nodes.now)
         → node_at (nodes_of interned_nodes.now) i ≢ node }
 {
+    let first = place_behind_operands(node);
     let mut next = heads.get(hash(node)) as usize;
-    while next > 0 {
+    while next > first {
         let interned = interned_nodes.get(next - 1);
         if is_same(interned.node, node) {
             return Some(next - 1);
@@ -217,8 +231,10 @@ impl Indexed {
         self.interned_nodes.get(i).node
     }
 
-    /// The place of a node that is equal to this one, if there is one.
+    /// The place of a node that is equal to this one, if there is one. The caller's condition: each node's operands are
+    /// older than it.
     pub fn find(&self, node: Node) -> Option<usize>
+        requires { AreOrdered 0 self.now }
         ensures found { (i : ℕ) → result ≡ Some i → (i < length self.now)
             × (node_at self.now i ≡ node) }
         ensures absent { result ≡ None → (i : ℕ) → i < length self.now

@@ -1,4 +1,4 @@
-use Rattle.std.proofs.Common.{◌≤◌, ◌-◌}
+use Rattle.std.proofs.Common.{◌≡◌, ◌≤◌, ◌-◌, length}
 use Rattle.sf_dom.specs.Propagation.{PropagatesThrough}
 use Rattle.sf_dom.proofs.propagation.propagate.Given as goal
 
@@ -6,6 +6,7 @@ use Rattle.sf_dom.proofs.propagation.propagate.Given as goal
 abbrev pub invariant-loop-rank : goal.invariant-loop-rank
 invariant-loop-rank l = record {
   begun : 16 ≤ l.rank;
+  counted : l.count ≡ length l.nodes.variables;
   through : PropagatesThrough l.fn.nodes l.nodes l.excluded l.pool l.words l.rank;
 }
 

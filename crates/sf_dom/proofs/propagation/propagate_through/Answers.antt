@@ -7,7 +7,7 @@ use Rattle.sf_dom.specs.Known.{known_of}
 use Rattle.sf_dom.proofs.Apart.{through-skip, through-step}
 use Rattle.sf_dom.proofs.Propagations.{propagate-left}
 use Rattle.sf_dom.proofs.propagation.propagate_through.Goals as goal
-use Rattle.sf_dom.proofs.propagation.propagate_through.Goals.{in-Some+in-Some-reduce_node+then-not-is_same+in_ok-set_variable-in-Some-reduce_node, in-Some+in-Some-reduce_node+else-not-is_same, in_default}
+use Rattle.sf_dom.proofs.propagation.propagate_through.Goals.{in-Some+in-Some-reduce_node+in_ok-set_variable-in-Some-reduce_node, in_default}
 
 pub returns-in-None : goal.returns-in-None
 returns-in-None c = λ d p a.
@@ -54,7 +54,7 @@ loop-rank-preserved c =
     record {
       begun = omega (arith, c.loop-rank.invariant.begun);
       through = elim c.match-dependent_at.branch [
-        | in-Some+in-Some-reduce_node+then-not-is_same+in_ok-set_variable-in-Some-reduce_node w ↦
+        | in-Some+in-Some-reduce_node+in_ok-set_variable-in-Some-reduce_node w ↦
             let node = w.in-Some.ensures.apart.0 in
             let before = c.variable-here.ensures.known ∙ ap (known_at n.known) at in
             let m = w.set_variable.new.self in
@@ -66,19 +66,6 @@ loop-rank-preserved c =
             (rw node at w.transfer.ensures.forced) (rw node at w.transfer.ensures.constant)
             (rw before at w.meet-known.ensures) (rw node at w.in-Some-reduce_node.ensures)
             (rw (← c.variable-here.ensures.place) at set.known) set.variables set.laid_out)
-        | in-Some+in-Some-reduce_node+else-not-is_same w ↦
-            let node = w.in-Some.ensures.apart.0 in
-            let before = c.variable-here.ensures.known ∙ ap (known_at n.known) at in
-            let here : i < length n.known = omega (arith, t.laid_out.within rank told, at) in
-            rw w.nodes-is (through-step c.args.nodes.now n n ex ns c.args.words rank i w.transfer.result
-            w.meet-known.result w.in-Some-reduce_node.next w.in-Some.ensures.lawful c.requires.ready.count t told at
-            w.in-Some.ensures.apart.1
-            (λ d p a. rw node at (w.transfer.ensures.value d (values_of ns d) p (λ j l. (a j l).admitted)))
-            (rw node at w.transfer.ensures.forced) (rw node at w.transfer.ensures.constant)
-            (rw before at w.meet-known.ensures) (rw node at w.in-Some-reduce_node.ensures)
-            (sym (ap (set n.known i) (w.if-not-is_same.ensures.0 refl ∙ before)
-            ∙ set-get_or n.known i (known_of 0 0 0 0)))
-            refl t.laid_out)
         | in_default w ↦
             rw w.nodes-is (through-skip c.args.nodes.now n ex ns c.args.words rank i t
             (omega (arith, c.requires.words, c.loop-rank.invariant.begun)) told at w.in_default.ensures.apart)

@@ -7,6 +7,9 @@ use Rattle.sf_piece.proofs.chains.failing_chain.Goals as goal
 pub returns-in_default : goal.returns-in_default
 returns-in_default c = rw (← c.run.view_is) (over_none _ (rw (← c.run.view_is) at c.requires.lawful))
 
+pub returns-then-is_none : goal.returns-then-is_none
+returns-then-is_none c = rw (← c.run.view_is) (over_none _ (rw (← c.run.view_is) at c.requires.lawful))
+
 pub loop-skips-init : goal.loop-skips-init
 loop-skips-init c = search (arith, over_failing, few_failing)
 

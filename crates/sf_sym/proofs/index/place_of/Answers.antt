@@ -1,4 +1,7 @@
-use Rattle.std.proofs.Common.{◌≡◌, ◌+◌, ◌<◌, ◌-◌, length, arith, ap, sym, ◌∙◌}
+use Rattle.std.proofs.Common.{◌≡◌, ◌+◌, ◌<◌, ◌-◌, length, arith, ap, sym, ◌∙◌, inl, inr}
+use Rattle.std.proofs.lemmas.Bool.{cases_lt}
+use Rattle.sf_sym.specs.Pool.{OperandsBelow}
+use Rattle.sf_sym.specs.ValueLaws.{OperandsBelow-at}
 use Rattle.sf_sym.specs.Index.{nodes_of, link_at}
 use Rattle.sf_sym.proofs.IndexLemmas.{IsSearched-step, node-read, length-nodes, blank}
 use Rattle.sf_sym.proofs.index.place_of.Goals as goal
@@ -22,4 +25,16 @@ loop-next-preserved c =
     let read = node-read es p c.get-interned.result within (c.get-interned.ensures blank) in
     let next : c.loop-next.next ≡ p + 1 = omega arith in
     rw link (IsSearched-step (nodes_of es) c.args.node p (link_at es p) (rw next at c.loop-next.invariant)
-    (λ e. c.is_same.ensures.differ c.if-is_same.false (sym read ∙ e)) (c.requires.linked p within))
+    (λ e. c.is_same.ensures.differ c.if-is_same.false (sym read ∙ e)) (c.requires.indexed.linked p within))
+
+pub returns-clause-absent : goal.returns-clause-absent
+returns-clause-absent c = λ _ i h e.
+    let ns = nodes_of c.args.interned_nodes.now in
+    elim (cases_lt i c.loop-next.next) [
+      | inr later ↦ c.loop-next.invariant.absent i later h e
+      | inl before ↦
+          let place : 0 + i ≡ i = omega arith in
+          let below : OperandsBelow i c.args.node = rw (place, e) at (OperandsBelow-at 0 ns i c.requires.ordered h) in
+          let first = c.place_behind_operands-first.ensures i below in
+          absurd (omega arith)
+    ]

@@ -1,13 +1,13 @@
 use Rattle.std.proofs.lemmas.Grind.{common_steps}
-use Rattle.std.proofs.Common.{◌≡◌, ◌+◌, map, sym, ◌∙◌, arith}
+use Rattle.std.proofs.Common.{◌≡◌, ◌+◌, length, map, sym, ◌∙◌, arith}
 use Rattle.std.specs.Arc.{arc_slice_items}
 use Rattle.std.specs.Cmp.Lexicographic.{slice_cmp}
-use Rattle.std.specs.Ordering.{ordering_then}
+use Rattle.std.specs.Ordering.{ordering_then, nat_cmp}
 use Rattle.sf_blocks.specs.Blocks.{AllFull}
 use Rattle.sf_blocks.proofs.BlockLemmas.{get_or-map_at, length-map_of}
 use Rattle.sf_blocks.proofs.OrderLemmas.{from, by_blocks, decided, undecided, at_end}
 use Rattle.sf_blocks.proofs.shared.SharedList.order.Given.{Over}
-use Rattle.sf_blocks.proofs.shared.SharedList.order.Goals.{After-is_ne}
+use Rattle.sf_blocks.proofs.shared.SharedList.order.Goals.{After-is_ne, After-is_ne-2}
 use Rattle.sf_blocks.proofs.shared.SharedList.order.Goals as goal
 
 -- two blocks at one place, as the code compares them
@@ -25,8 +25,11 @@ returns-then-is_ne g c = grind (arith, common_steps, step, decided)
 pub loop-place-preserved : goal.loop-place-preserved
 loop-place-preserved g c = grind (arith, common_steps, step, undecided)
 
-pub returns : goal.returns
-returns g c =
+-- what is behind the blocks that both lists have, as the code compares it
+ends : (g : Over) (c : After-is_ne-2 g)
+    → slice_cmp g.T.Ord.cmp c.args.self.now c.args.other.now
+    ≡ ordering_then c.order_of-order-2.result (nat_cmp (length c.args.self.now) (length c.args.other.now))
+ends g c =
     let ls = c.blocks_of-left.result.now in
     let rs = c.blocks_of-right.result.now in
     let full_left : AllFull (map arc_slice_items ls) = rw c.blocks_of-left.ensures c.self.invariant.0 in
@@ -47,5 +50,10 @@ returns g c =
     let right : c.args.other.now ≡ from (map arc_slice_items rs) c.other.inside.tail.items 0 =
     rw c.blocks_of-right.ensures (sym c.other.view_is) in
     let last : c.loop-place.place ≡ c.min-both.result = omega arith in
-    rw (c.then.ensures, c.order_of.ensures, c.cmp.ensures, c.len.ensures.value, c.len-2.ensures.value)
-    (sym (rw last at c.loop-place.invariant ∙ rw (← left, ← right) at end))
+    rw c.order_of-order-2.ensures (rw last at c.loop-place.invariant ∙ rw (← left, ← right) at end)
+
+pub returns-then-is_ne-2 : goal.returns-then-is_ne-2
+returns-then-is_ne-2 g c = grind (arith, common_steps, ends, decided)
+
+pub returns : goal.returns
+returns g c = grind (arith, common_steps, ends, undecided)

@@ -1,7 +1,7 @@
 use Rattle.std.proofs.lemmas.Grind.{common_steps}
 use Rattle.std.proofs.Common.{arith}
 use Rattle.std.proofs.lemmas.List.{append-nil}
-use Rattle.sf_dom.proofs.VariableLemmas.{joined-push}
+use Rattle.sf_blocks.specs.BlockLaws.{joined-push}
 use Rattle.sf_dom.proofs.variables.Variables.seal.Goals as goal
 
 pub returns-in_ok-push : goal.returns-in_ok-push

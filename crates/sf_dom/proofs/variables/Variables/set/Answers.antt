@@ -5,14 +5,16 @@ use Rattle.std.proofs.lemmas.Result.{on_ok_weaker, on_err_weaker}
 use Rattle.std.proofs.lemmas.List.{get_or_read}
 use Rattle.sf_dom.specs.declared.variables.Variable.{Variable}
 use Rattle.sf_dom.specs.Known.{known_of}
-use Rattle.sf_dom.specs.Variables.{block_items, joined, set_known}
-use Rattle.sf_dom.proofs.VariableLemmas.{length-joined, set-in-block, set-in-last}
+use Rattle.sf_blocks.specs.Blocks.{block_items, joined}
+use Rattle.sf_blocks.specs.BlockLaws.{length-joined}
+use Rattle.sf_dom.specs.Variables.{set_known}
+use Rattle.sf_dom.proofs.VariableLemmas.{set-in-block, set-in-last}
 use Rattle.sf_dom.proofs.variables.Variables.set.Goals as goal
 
 pub index_mut-requires-else-rank-shared : goal.index_mut-requires-else-rank-shared
 index_mut-requires-else-rank-shared c = omega (
   arith,
-  length-joined block_items c.self.inside.full.items c.self.invariant.0,
+  length-joined 64 c.self.inside.full.items c.self.invariant.0,
   length-append (joined c.self.inside.full.items) c.self.inside.last.items,
   ap length c.self.view_is,
 )
@@ -37,7 +39,7 @@ returns-else-rank-shared-clause-ok c =
     let rank = c.args.rank in
     let known = c.args.known in
     let none : Variable = record { place = 0; known = known_of 0 0 0 0 } in
-    let long = length-joined block_items bs c.self.invariant.0 in
+    let long = length-joined 64 bs c.self.invariant.0 in
     let inside : rank - n < length ys = omega (arith, long, length-append (joined bs) ys, ap length c.self.view_is) in
     let read = get_or_read ys (rank - n) c.index_mut-else-rank-shared.result.now inside
     c.index_mut-else-rank-shared.ensures.value none in

@@ -1,12 +1,11 @@
-use Rattle.std.proofs.Common.{ap, arith, ◌∙◌}
-use Rattle.sf_blocks.specs.Blocks.{joined_blocks}
-use Rattle.sf_sym.proofs.HeadLemmas.{heads-cloned, AreWide-cloned}
+use Rattle.std.proofs.Common.{arith, ◌∙◌}
+use Rattle.sf_blocks.specs.BlockLaws.{joined-cloned, AreWide-cloned}
 use Rattle.sf_sym.proofs.heads.Heads.fork.Goals as goal
 
 pub invariant_of-result : goal.invariant_of-result
 invariant_of-result c =
     let zip = rw c.as_slice.ensures.value at c.in_ok-blocks.ensures.items in (
-      AreWide-cloned c.self.inside.blocks.items c.in_ok-blocks.blocks.items zip c.self.invariant.0,
+      AreWide-cloned 128 c.self.inside.blocks.items c.in_ok-blocks.blocks.items zip c.self.invariant.0,
       omega (
         arith,
         c.in_ok-blocks.blocks.ok.0,
@@ -20,4 +19,4 @@ invariant_of-result c =
 pub returns : goal.returns
 returns c =
     let zip = rw c.as_slice.ensures.value at c.in_ok-blocks.ensures.items in
-    ap joined_blocks (heads-cloned c.self.inside.blocks.items c.in_ok-blocks.blocks.items zip) ∙ c.self.view_is
+    joined-cloned c.self.inside.blocks.items c.in_ok-blocks.blocks.items zip ∙ c.self.view_is

@@ -1,0 +1,9 @@
+use Rattle.sf_dom.proofs.AssumeLemmas.{set-both}
+use Rattle.sf_dom.proofs.assuming.set_both.Goals as goal
+
+pub returns : goal.returns
+returns c =
+    rw (c.in_ok-set-2.ensures.known, c.in_ok-set.ensures.known)
+    (set-both c.args.nodes.now.known c.args.excluded.now c.args.pool.now c.args.cond.now c.args.alone.node
+    c.args.alone.other c.len-count.ensures.lawful c.requires.ready c.requires.node c.requires.other c.requires.left
+    c.requires.tight c.requires.decided)
