@@ -17,8 +17,6 @@ use Rattle.sf_dom.specs.Propagation.{IsReady, IsPropagatedAt, IsReducedNode, IsL
 use Rattle.sf_dom.specs.Conditions.{AreLeftAlone, AreSet, IsTold}
 use Rattle.sf_dom.specs.Backward.{IsPropagatedBack}
 use Rattle.sf_dom.proofs.Propagations.{AllNarrower-trans, AllNarrower-set, AllNarrower-refl, IsReady-set, propagate-set, word-below, operands-below}
-use Rattle.sf_dom.proofs.Apart.{know-apart, keeps-apart-set, left-behind, right-behind}
-use Rattle.sf_sym.specs.Support.{support_of}
 use Rattle.sf_dom.proofs.GuardLemmas.{gives-differs}
 use Rattle.sf_dom.proofs.Reductions.{IsNarrower-trans, IsNarrower-refl}
 use Rattle.sf_dom.specs.FactsLaws.{narrower-admits, value-word}
@@ -224,11 +222,12 @@ others-set ks ex ns cond i next p l apart h w b one two =
     rw (get_or-set_other ks i w next (known_of 0 0 0 0) (apart w b one two)) (h w b one two)
 
 -- what a condition leaves of its two nodes is written
-pub set-both : (ks : List Known) (ex : List (List ℕ)) (ns : List Node) (cond : Cond) (node other : Known) → IsPool ns
-    → IsReady ks ns → cond.node.0 < length ns → cond.other.0 < length ns → AreLeftAlone ks ex ns cond node other
-    → AreOthersTight ks ex ns cond → KnowDecided ks ns
+pub set-both : (ks : List Known) (ex : List (List ℕ)) (ns : List Node) (cond : Cond) (node other : Known)
+    → IsPool ns → IsReady ks ns → cond.node.0 < length ns → cond.other.0 < length ns
+    → AreLeftAlone ks ex ns cond node other
+    → AreOthersTight ks ex ns cond
     → AreSet ks (set (set ks cond.node.0 node) cond.other.0 other) ex ns cond node other
-set-both ks ex ns cond node other p ready lv lw left tight decided =
+set-both ks ex ns cond node other p ready lv lw left tight =
     let count = ready.count in
     let v = cond.node.0 in
     let w = cond.other.0 in
@@ -239,8 +238,6 @@ set-both ks ex ns cond node other p ready lv lw left tight decided =
     let step = AllNarrower-set ks ks v node refl iv (AllNarrower-refl ks) left.narrower in
     let step-2 = AllNarrower-set first first w other refl iw (AllNarrower-refl first) left.other_narrower in
     let ready-1 = IsReady-set ks ns v node iv ready left.narrower left.consistent in
-    let s = support_of ns v in
-    let t = support_of ns w in
     record {
       ready = IsReady-set first ns w other iw ready-1 left.other_narrower left.other_consistent;
       keeps = λ d i a holds.
@@ -252,9 +249,6 @@ set-both ks ex ns cond node other p ready lv lw left tight decided =
       other = rw (get_or-set_same first w other none iw) (IsNarrower-refl other);
       tight = others-set first ex ns cond w other p lw (λ x b one two e. two (rw e (p.word w (rw e at b))))
           (others-set ks ex ns cond v node p lv (λ x b one two e. one (rw e (p.word v (rw e at b)))) tight);
-      decided = keeps-apart-set first ns w other p ready-1 iw left.other_narrower left.other_consistent _
-          (right-behind s t) (keeps-apart-set ks ns v node p ready iv left.narrower left.consistent _
-          (left-behind s t) (know-apart ks ns _ decided));
     }
 
 -- a node is a word, or it isn't

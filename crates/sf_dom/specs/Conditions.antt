@@ -1,15 +1,14 @@
 -- What a condition leaves of its two nodes, before it is taken into what is known of all nodes.
-use Rattle.std.specs.Prelude.{◌≡◌, ℕ, List, set, bit_or}
+use Rattle.std.specs.Prelude.{◌≡◌, ℕ, List, set}
 use Rattle.sf_insn.specs.Inputs.{IsInput}
 use Rattle.sf_insn.specs.declared.input.Input.{Input}
 use Rattle.sf_sym.specs.Pool.{value_of}
-use Rattle.sf_sym.specs.Support.{support_of}
 use Rattle.sf_sym.specs.declared.pool.Cond.{Cond}
 use Rattle.sf_sym.specs.declared.pool.Node.{Node}
 use Rattle.sf_dom.specs.declared.known.Known.{Known}
 use Rattle.sf_dom.specs.Known.{Admits, IsNarrower, IsConsistent, IsDecided}
 use Rattle.sf_dom.specs.Facts.{known_at, AgreesWith}
-use Rattle.sf_dom.specs.Propagation.{Holds, IsSharp, Tells, TestGives, IsReady, AllNarrower, AreOthersTight, KnowDecidedApart}
+use Rattle.sf_dom.specs.Propagation.{Holds, IsSharp, Tells, TestGives, IsReady, AllNarrower, AreOthersTight}
 
 -- what a condition leaves of its two nodes: of the first by itself, and of the second once this is known of the first
 -- (both may be one node)
@@ -43,4 +42,3 @@ pub record AreSet (old new : List Known) (ex : List (List ℕ)) (ns : List Node)
   pub node : IsNarrower one (known_at new cond.node.0)
   pub other : IsNarrower two (known_at new cond.other.0)
   pub tight : AreOthersTight new ex ns cond
-  pub decided : KnowDecidedApart new ns (bit_or (support_of ns cond.node.0) (support_of ns cond.other.0))

@@ -14,7 +14,8 @@ use Rattle.sf_dom.specs.declared.known.Known.{Known}
 use Rattle.sf_dom.specs.Known.{AreBitsOf, Admits, Leaves, IsNarrower, IsConsistent, IsTight, IsDecided}
 use Rattle.sf_dom.specs.Backward.{IsPropagatedBack}
 use Rattle.sf_dom.specs.Nodes.{NodesView, IsLaidOut}
-use Rattle.sf_sym.specs.Support.{support_of, IsApartFrom}
+use Rattle.sf_sym.specs.Users.{UsesNone}
+use Rattle.sf_sym.specs.declared.places.Places.{Places}
 use Rattle.sf_dom.specs.Facts.{KnowConstants, known_at, numbers_at, excluded_of, AgreesWith, AreDecidedOperands, FactsView, Agrees, Covers, AreNarrower, KeepsInputs, KeepsOnly, SomeInput, IsPlainCondition, DecidesTest}
 
 -- every input that agreed agrees still
@@ -53,16 +54,11 @@ pub record IsPropagatedAt (ks : List Known) (ex : List (List ℕ)) (ns : List No
   pub decided : AreDecidedOperands ks (node_at ns i) → IsDecided (known_at ks i)
   pub constant : (c : ℕ) → node_at ns i ≡ Const c → ((known_at ks i).low ≡ c) × ((known_at ks i).high ≡ c)
 
--- Of the nodes that aren't computed from any of these words: where the operands of one are decided, it is decided too,
--- where its operation keeps that.
-abbrev pub KnowDecidedApart : List Known → List Node → ℕ → Type 0
-KnowDecidedApart ks ns words = (i : ℕ) → i < length ks → IsApartFrom ns words i
+-- Of the nodes that use none of these places: where the operands of one are decided, it is decided too, where its
+-- operation keeps that.
+abbrev pub KnowDecidedApart : List Known → List Node → Places → Type 0
+KnowDecidedApart ks ns places = (i : ℕ) → i < length ks → UsesNone ns places i
     → AreDecidedOperands ks (node_at ns i) → IsDecided (known_at ks i)
-
--- this stays so for all words from which the node at a place may be computed
-abbrev pub KeepsDecidedApart : List Known → List Known → List Node → ℕ → Type 0
-KeepsDecidedApart old new ns at = (words : ℕ) → AreBitsOf (support_of ns at) words
-    → KnowDecidedApart old ns words → KnowDecidedApart new ns words
 
 -- forward propagation has gone through all nodes before the variable at a rank
 abbrev pub ArePassedBefore : NodesView → List (List ℕ) → List Node → ℕ → Type 0
@@ -95,15 +91,36 @@ pub record IsPropagated (old new : List Known) (ex : List (List ℕ)) (ns : List
   pub narrower : AllNarrower old new
   pub passed : (i : ℕ) → i < length ns → IsPropagatedAt new ex ns i
 
--- forward propagation as far as the variable at a rank
-pub record PropagatesThrough (old new : NodesView) (ex : List (List ℕ)) (ns : List Node) (words rank : ℕ) : Type 0 where
+-- forward propagation as far as the variable at a rank; more has become known of these places alone
+pub record PropagatesThrough (old new : NodesView) (ex : List (List ℕ)) (ns : List Node)
+    (places : Places) (rank : ℕ) : Type 0 where
   pub keeps : KeepsAgreeing old.known new.known ex ns
   pub narrower : AllNarrower old.known new.known
   pub ready : IsReady new.known ns
   pub variables : new.variables ≡ old.variables
   pub laid_out : IsLaidOut new
-  pub decided : KnowDecidedApart new.known ns words
+  pub decided : KnowDecidedApart new.known ns places
   pub passed : ArePassedBefore new ex ns rank
+
+-- A node that is a word has been made tight. More has become known of these places alone.
+pub record IsTightened (old new : List Known) (ex : List (List ℕ)) (ns : List Node) (at : ℕ)
+    (places : Places) : Type 0 where
+  pub keeps : KeepsAgreeing old new ex ns
+  pub narrower : AllNarrower old new
+  pub ready : IsReady new ns
+  pub tight : KeepsTight old new ex
+  pub word : (i : ℕ) → node_at ns at ≡ Word i → IsTight (known_at new i) (numbers_at ex i)
+  pub decided : KnowDecidedApart new ns places
+
+-- Known bits have gone back from a node, from operand to operand. More has become known of these places alone.
+pub record GoesBack (old new : List Known) (ex : List (List ℕ)) (ns : List Node) (at : ℕ)
+    (places : Places) : Type 0 where
+  pub keeps : KeepsAgreeing old new ex ns
+  pub narrower : AllNarrower old new
+  pub ready : IsReady new ns
+  pub tight : KeepsTight old new ex
+  pub backward : (n : ℕ) → IsPropagatedBack n new ns at
+  pub decided : KnowDecidedApart new ns places
 
 -- the new nodes are taken in
 pub record IsGrown (old new : List Known) (ex : List (List ℕ)) (ns : List Node) : Type 0 where

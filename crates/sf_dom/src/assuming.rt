@@ -1,13 +1,12 @@
 //! A condition taken into what is known of the nodes of a pool.
 
-ghost use Rattle.std.specs.Prelude.{◌≡◌, ◌≢◌, ℕ, ◌+◌, ◌-◌, ◌*◌, ◌/◌, ◌%◌, ◌<◌, ◌≤◌, ◌^◌, ◌⊎◌, length, MatchOption, MatchBool, IfSome, IfOk, IsTrue, Ok, true, false, None, bit_or};
+ghost use Rattle.std.specs.Prelude.{◌≡◌, ◌≢◌, ℕ, ◌+◌, ◌-◌, ◌*◌, ◌/◌, ◌%◌, ◌<◌, ◌≤◌, ◌^◌, ◌⊎◌, length, MatchOption, MatchBool, IfSome, IfOk, IsTrue, false, None};
 ghost use Rattle.sf_insn.specs.Words.{apply};
 ghost use Rattle.sf_sym.specs.Pool.{node_at, value_of};
 ghost use Rattle.sf_dom.specs.Known.{AreBitsOf, HasBits, Admits, IsNarrower, IsConsistent, IsDecided, IsTight};
-ghost use Rattle.sf_dom.specs.Propagation.{KeepsAgreeing, NoneAgreesWith, KeepsAgreeingOn, NoneAgreesOn, LeavesPair, LeavesNoPair, IsSharp, Tells, TestGives, AllNarrower, IsReady, IsLeft, IsAssumed, AreExcluded, AreBothExcluded, Holds, IsPropagated, KeepsTight, AreOthersTight, KnowDecidedApart, KeepsDecidedApart};
+ghost use Rattle.sf_dom.specs.Propagation.{NoneAgreesWith, KeepsAgreeingOn, NoneAgreesOn, LeavesPair, LeavesNoPair, IsSharp, Tells, TestGives, IsReady, IsLeft, IsAssumed, AreExcluded, AreBothExcluded, Holds, IsPropagated, AreOthersTight, KnowDecidedApart, GoesBack};
 ghost use Rattle.sf_dom.specs.Conditions.{AreLeftAlone, AreSet, IsTold};
 ghost use Rattle.sf_sym.specs.Operands.{IsSwappable};
-ghost use Rattle.sf_sym.specs.Support.{support_of};
 ghost use Rattle.sf_dom.specs.Backward.{HandsOn, IsPropagatedBack};
 ghost use Rattle.sf_dom.specs.Facts.{known_at, numbers_at, KnowDecided};
 
@@ -19,7 +18,7 @@ use crate::nodes::Nodes;
 use crate::propagation::{is_tight_at, propagate, reduce_node, tighten};
 use crate::telling::are_propagated_back;
 use sf_insn::{BinOp, Test};
-use sf_sym::{Cond, Node, NodeId, Pool, constant_operand};
+use sf_sym::{Cond, Node, NodeId, Places, Pool, constant_operand};
 use std::alloc::Global;
 
 /// What is known, with more known bits.
@@ -59,41 +58,40 @@ pub(crate) fn backward(op: BinOp, node: Known, c: u32, operand: Known) -> Option
     }
 }
 
-/// Takes the known bits of a node back to its operand beside a constant, and so on from operand to operand. `false`: no
-/// input agrees. `Memory` where an allocation is refused.
+/// Takes the known bits of a node back to its operand beside a constant, and so on from operand to operand. `places` are
+/// those of which more has become known. They are given back, with those of the operands. `None`: no input agrees. `Memory`
+/// where an allocation is refused.
 fn propagate_back(
     nodes: &mut Nodes,
     excluded: &Excluded,
     pool: &Pool,
     from: usize,
-) -> Result<bool, Fault>
+    places: Places,
+) -> Result<Option<Places>, Fault>
     requires ready { IsReady nodes.old.known pool.now }
     requires start { from < length pool.now }
-    ensures kept { IfOk result (λ b. MatchBool b
-        (KeepsAgreeing nodes.old.known nodes.new.known excluded.now pool.now
-        × AllNarrower nodes.old.known nodes.new.known)
-        (NoneAgreesWith nodes.old.known excluded.now pool.now)) }
-    ensures tight { result ≡ Ok true
-        → KeepsTight nodes.old.known nodes.new.known excluded.now }
-    ensures backward { result ≡ Ok true → (n : ℕ) → IsPropagatedBack n
-        nodes.new.known pool.now from }
-    ensures ready { IfOk result (λ _. IsReady nodes.new.known pool.now) }
-    ensures decided { result ≡ Ok true
-        → KeepsDecidedApart nodes.old.known nodes.new.known pool.now from }
+    requires decided { KnowDecidedApart nodes.old.known pool.now places }
+    ensures { IfOk result (λ o. MatchOption o
+        (NoneAgreesWith nodes.old.known excluded.now pool.now)
+        (GoesBack nodes.old.known nodes.new.known excluded.now pool.now from)) }
 {
     let mut at = from;
+    let mut changed = places;
     while let Some((op, x, c)) = constant_operand(pool, at) {
         let node = pool.node_at(x);
         match backward(op, nodes.get(at), c, nodes.get(x)) {
-            None => return Ok(true),
+            None => return Ok(Some(changed)),
             Some(gained) => match reduce_node(gained, node, excluded) {
-                None => return Ok(false),
-                Some(next) => nodes.set(x, next)?,
+                None => return Ok(None),
+                Some(next) => {
+                    nodes.set(x, next)?;
+                }
             },
         }
+        changed = changed.with(x);
         at = x;
     }
-    Ok(true)
+    Ok(Some(changed))
 }
 
 /// Whether `known`, of a node, contradicts: its bits, taken back from operand to operand as `propagate_back` does,
@@ -225,14 +223,15 @@ pub(crate) fn pair_left(
     Some(Pair { node, other })
 }
 
-/// Writes what a condition leaves of its two nodes. `Memory` where an allocation is refused.
+/// Writes what a condition leaves of its two nodes. Gives the places of those that may have become narrower. `Memory`
+/// where an allocation is refused.
 fn set_both(
     nodes: &mut Nodes,
     excluded: &Excluded,
     pool: &Pool,
     cond: &Cond,
     alone: Pair,
-) -> Result<(), Fault>
+) -> Result<Places, Fault>
     requires ready { IsReady nodes.old.known pool.now }
     requires node { cond.now.node.0 < length pool.now }
     requires other { cond.now.other.0 < length pool.now }
@@ -240,42 +239,49 @@ fn set_both(
         alone.node alone.other }
     requires tight { AreOthersTight nodes.old.known excluded.now pool.now cond.now }
     requires decided { KnowDecided nodes.old.known pool.now }
-    ensures { IfOk result (λ _. AreSet nodes.old.known nodes.new.known excluded.now pool.now
-        cond.now alone.node alone.other) }
+    ensures written { IfOk result (λ _. AreSet nodes.old.known nodes.new.known excluded.now
+        pool.now cond.now alone.node alone.other) }
+    ensures decided { IfOk result (KnowDecidedApart nodes.new.known pool.now) }
 {
     // For the prover: the pool is lawful.
     let _count = pool.len();
-    nodes.set(cond.node.0 as usize, alone.node)?;
-    nodes.set(cond.other.0 as usize, alone.other)?;
-    Ok(())
+    let v = cond.node.0 as usize;
+    let w = cond.other.0 as usize;
+    let is_written = nodes.set(v, alone.node)?;
+    let is_other_written = nodes.set(w, alone.other)?;
+    Ok(
+        Places::none()
+            .with_if(v, is_written)
+            .with_if(w, is_other_written),
+    )
 }
 
-/// Forward propagation after a condition. Of the words, only its two nodes may not be tight, so these are made so
-/// first. `false`: no input agrees. `Memory` where an allocation is refused.
+/// Forward propagation after a condition. `places` are those of which more has become known. Of the words, only the
+/// condition's two nodes may not be tight, so these are made so first. `false`: no input agrees. `Memory` where an
+/// allocation is refused.
 fn propagate_on(
     nodes: &mut Nodes,
     excluded: &Excluded,
     pool: &Pool,
     cond: &Cond,
+    places: Places,
 ) -> Result<bool, Fault>
     requires ready { IsReady nodes.old.known pool.now }
     requires node { cond.now.node.0 < length pool.now }
     requires other { cond.now.other.0 < length pool.now }
     requires tight { AreOthersTight nodes.old.known excluded.now pool.now cond.now }
-    requires decided { KnowDecidedApart nodes.old.known pool.now
-        (bit_or (support_of pool.now cond.now.node.0) (support_of pool.now cond.now.other.0)) }
+    requires decided { KnowDecidedApart nodes.old.known pool.now places }
     ensures { IfOk result (λ b. MatchBool b
         (IsPropagated nodes.old.known nodes.new.known excluded.now pool.now)
         (NoneAgreesWith nodes.old.known excluded.now pool.now)) }
 {
-    if !tighten(nodes, excluded, pool, cond.node)? {
+    let Some(more) = tighten(nodes, excluded, pool, cond.node, places)? else {
         return Ok(false);
-    }
-    if !tighten(nodes, excluded, pool, cond.other)? {
+    };
+    let Some(all) = tighten(nodes, excluded, pool, cond.other, more)? else {
         return Ok(false);
-    }
-    let words = pool.support(cond.node) | pool.support(cond.other);
-    propagate(nodes, excluded, pool, words)
+    };
+    propagate(nodes, excluded, pool, all)
 }
 
 /// Whether a condition is ruled out by the bits that go back from one of its two nodes. `alone` is what it leaves of
@@ -363,14 +369,14 @@ pub(crate) fn assume_cond(
     let _count = pool.len();
     let v = cond.node.0 as usize;
     let w = cond.other.0 as usize;
-    set_both(nodes, excluded, pool, cond, alone)?;
-    if !propagate_back(nodes, excluded, pool, v)? {
+    let places = set_both(nodes, excluded, pool, cond, alone)?;
+    let Some(more) = propagate_back(nodes, excluded, pool, v, places)? else {
         return Ok(false);
-    }
-    if !propagate_back(nodes, excluded, pool, w)? {
+    };
+    let Some(all) = propagate_back(nodes, excluded, pool, w, more)? else {
         return Ok(false);
-    }
-    propagate_on(nodes, excluded, pool, cond)
+    };
+    propagate_on(nodes, excluded, pool, cond, all)
 }
 
 /// Excludes the number of another node, if that is decided, for a node that is a word. `other` is what is known of the

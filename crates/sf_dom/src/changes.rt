@@ -16,7 +16,7 @@ use crate::known::{Known, is_same};
 use crate::nodes::Nodes;
 use crate::propagation::propagate;
 use sf_insn::Test;
-use sf_sym::{Cond, NodeId, Pool};
+use sf_sym::{Cond, Places, Pool};
 use std::alloc::Global;
 
 /// Up to this many variables, to copy them takes less than to see first whether their facts will contradict.
@@ -124,7 +124,7 @@ pub(crate) fn restrict(
     }
     let mut next = nodes.fork(alloc)?;
     next.set(word, left)?;
-    if !propagate(&mut next, excluded, pool, pool.support(NodeId(word as u32)))? {
+    if !propagate(&mut next, excluded, pool, Places::none().with(word))? {
         return Ok(None);
     }
     Ok(Some(Some(next)))

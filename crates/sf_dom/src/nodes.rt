@@ -1,6 +1,6 @@
 //! What is known of each node of a pool, kept so that forks share what doesn't change.
 
-ghost use Rattle.std.specs.Prelude.{◌≡◌, ◌<◌, ◌∷◌, ◌++◌, [], length, set, slice_index, IsTrue, IfOk, OnOk, OnErr, ◌-◌};
+ghost use Rattle.std.specs.Prelude.{◌≡◌, ◌<◌, ◌∷◌, ◌++◌, [], length, set, slice_index, IsTrue, IfOk, OnOk, OnErr, Ok, false, ◌-◌};
 ghost use Rattle.std.specs.Arc.{arc_value};
 ghost use Rattle.sf_dom.specs.Known.{IsDecided, known_of};
 ghost use Rattle.sf_dom.specs.Facts.{known_at};
@@ -127,20 +127,24 @@ impl Nodes {
         Ok(())
     }
 
-    /// Writes what is known of a node. The caller's condition: a node that has only one number keeps it. `Memory` where an
-    /// allocation is refused; what is known then stays as it was.
-    pub(crate) fn set(&mut self, i: usize, known: Known) -> Result<(), Fault>
+    /// Writes what is known of a node. `false`: it has only one number, and nothing is written. The caller's condition:
+    /// such a node keeps its number. `Memory` where an allocation is refused; what is known then stays as it was.
+    pub(crate) fn set(&mut self, i: usize, known: Known) -> Result<bool, Fault>
         requires within { i < length self.old.known }
         requires decided { IsDecided (known_at self.old.known i)
             → known ≡ known_at self.old.known i }
         ensures known { IfOk result (λ _. self.new.known ≡ set self.old.known i known) }
+        ensures unwritten { result ≡ Ok false → self.new ≡ self.old }
         ensures variables { self.new.variables ≡ self.old.variables }
         ensures err { OnErr result (self.new ≡ self.old) }
     {
-        if let Slot::Variable(rank) = slot_of(&self.slots, i) {
-            self.set_variable(rank as usize, known)?;
+        match slot_of(&self.slots, i) {
+            Slot::Number(_) => Ok(false),
+            Slot::Variable(rank) => {
+                self.set_variable(rank as usize, known)?;
+                Ok(true)
+            }
         }
-        Ok(())
     }
 
     /// Adds what is known of the next node. `Memory` where an allocation is refused; what is known then stays as it

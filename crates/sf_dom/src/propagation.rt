@@ -6,25 +6,19 @@ ghost use Rattle.sf_insn.specs.Inputs.{IsInput};
 ghost use Rattle.sf_sym.specs.Pool.{OperandsBelow, node_at, node_value};
 ghost use Rattle.sf_insn.specs.declared.input.Input.{Input};
 ghost use Rattle.sf_dom.specs.Known.{Admits, Leaves, IsTight};
-ghost use Rattle.sf_dom.specs.Propagation.{KeepsAgreeing, NoneAgreesWith, AreConsistentOperands, IsReducedNode, IsReady, IsPropagated, IsGrown, AllNarrower, AreTightWords, KeepsTight, KnowDecidedApart, KeepsDecidedApart, ArePassedBefore, PropagatesThrough};
+ghost use Rattle.sf_dom.specs.Propagation.{NoneAgreesWith, AreConsistentOperands, IsReducedNode, IsReady, IsPropagated, IsGrown, AreTightWords, KnowDecidedApart, IsTightened};
 ghost use Rattle.sf_dom.specs.Facts.{known_at, numbers_at, excluded_of, AreDecidedOperands};
 ghost use Rattle.sf_dom.specs.Reduction.{IsForced};
-ghost use Rattle.sf_dom.specs.Nodes.{IsLaidOut};
 
 use crate::exclusions::Excluded;
 use crate::fault::Fault;
 use crate::fitting::is_tight;
 use crate::forward::{forward, negate};
-use crate::known::{Known, reduce_known, reduce_word};
+use crate::known::{Known, is_same, reduce_known, reduce_word};
 use crate::nodes::{Nodes, WORDS};
-use sf_sym::{Node, NodeId, Pool};
+use sf_sym::{Node, NodeId, Places, Pool};
 use std::alloc::Global;
-use std::ops::Range;
 use std::sync::Arc;
-
-/// How many variables are looked at, one after the other, before it is asked again where the next one stands that is
-/// computed from some words.
-const CHUNK: usize = 64;
 
 /// What is known of a node, reduced; `None` where no number is left.
 pub(crate) fn reduce_node(known: Known, node: Node, excluded: &Excluded) -> Option<Known>
@@ -73,91 +67,52 @@ pub(crate) fn is_tight_at(nodes: &Nodes, excluded: &Excluded, pool: &Pool, at: N
     }
 }
 
-/// Makes a node that is a word tight: both ends of its interval become numbers that are left for it. `false`: no input
-/// agrees. `Memory` where an allocation is refused.
+/// Makes a node that is a word tight: both ends of its interval become numbers that are left for it. `places` are those of
+/// which more has become known. They are given back, with the word's own if it was not tight. `None`: no input agrees.
+/// `Memory` where an allocation is refused.
 pub(crate) fn tighten(
     nodes: &mut Nodes,
     excluded: &Excluded,
     pool: &Pool,
     at: NodeId,
-) -> Result<bool, Fault>
+    places: Places,
+) -> Result<Option<Places>, Fault>
     requires ready { IsReady nodes.old.known pool.now }
     requires place { at.0 < length pool.now }
-    ensures kept { IfOk result (λ b. MatchBool b
-        (KeepsAgreeing nodes.old.known nodes.new.known excluded.now pool.now
-        × AllNarrower nodes.old.known nodes.new.known)
-        (NoneAgreesWith nodes.old.known excluded.now pool.now)) }
-    ensures ready { IfOk result (λ _. IsReady nodes.new.known pool.now) }
-    ensures tight { result ≡ Ok true
-        → KeepsTight nodes.old.known nodes.new.known excluded.now }
-    ensures word { result ≡ Ok true → (i : ℕ) → node_at pool.now at.0 ≡ Node.Word i
-        → IsTight (known_at nodes.new.known i) (numbers_at excluded.now i) }
-    ensures decided { result ≡ Ok true
-        → KeepsDecidedApart nodes.old.known nodes.new.known pool.now at.0 }
+    requires decided { KnowDecidedApart nodes.old.known pool.now places }
+    ensures { IfOk result (λ o. MatchOption o
+        (NoneAgreesWith nodes.old.known excluded.now pool.now)
+        (IsTightened nodes.old.known nodes.new.known excluded.now pool.now at.0)) }
 {
     let Node::Word(i) = pool.node(at) else {
-        return Ok(true);
+        return Ok(Some(places));
     };
     let known = nodes.get(i as usize);
     if is_tight(known, excluded.of_word(i as usize)) {
-        return Ok(true);
+        return Ok(Some(places));
     }
     match reduce_node(known, Node::Word(i), excluded) {
-        None => Ok(false),
+        None => Ok(None),
         Some(next) => {
             nodes.set(i as usize, next)?;
-            Ok(true)
+            Ok(Some(places.with(i as usize)))
         }
     }
 }
 
-/// Adds to what is known of the variables of these ranks what follows from their operands, the oldest first. Those that
-/// aren't computed from any of these words are left out. `false`: no input agrees. `Memory` where an allocation is
-/// refused.
-fn propagate_through(
-    nodes: &mut Nodes,
-    excluded: &Excluded,
-    pool: &Pool,
-    words: u16,
-    ranks: Range<usize>,
-) -> Result<bool, Fault>
-    requires ready { IsReady nodes.old.known pool.now }
-    requires laid_out { IsLaidOut nodes.old }
-    requires decided { KnowDecidedApart nodes.old.known pool.now words }
-    requires words { 16 ≤ ranks.start }
-    requires order { ranks.start ≤ ranks.end }
-    requires within { ranks.end ≤ length nodes.old.variables }
-    requires passed { ArePassedBefore nodes.old excluded.now pool.now ranks.start }
-    ensures { IfOk result (λ b. MatchBool b
-        (PropagatesThrough nodes.old nodes.new excluded.now pool.now words ranks.end)
-        (NoneAgreesWith nodes.old.known excluded.now pool.now)) }
-{
-    for rank in ranks.start..ranks.end {
-        let here = nodes.variable(rank);
-        if let Some(node) = pool.dependent_at(here.place as usize, words) {
-            let known = here.known.meet(transfer(nodes, node));
-            match reduce_node(known, node, excluded) {
-                None => return Ok(false),
-                Some(next) => nodes.set_variable(rank, next)?,
-            }
-        }
-    }
-    Ok(true)
-}
-
-/// Adds to what is known of the variables what follows from their operands, the oldest variable first. `words` has bit i
-/// where more may have become known of word i, or of a node that is computed from it. Variables that are computed from
-/// none of these words are left out: nothing more is known of their operands. So are the first sixteen, the words
-/// themselves: they are tight, and have no operands. `false`: no input agrees. `Memory` where an allocation is refused.
+/// Adds to what is known of the variables what follows from their operands, the oldest variable first. At first more is
+/// known of the nodes at `places`. Variables without an operand of which more has become known are passed over: nothing
+/// new follows for them. So are the first sixteen, which are the words: they are tight, and have no operands. `false`: no
+/// input agrees. `Memory` where an allocation is refused.
 pub(crate) fn propagate(
     nodes: &mut Nodes,
     excluded: &Excluded,
     pool: &Pool,
-    words: u16,
+    places: Places,
 ) -> Result<bool, Fault>
     requires ready { IsReady nodes.old.known pool.now }
     requires tight { AreTightWords nodes.old.known excluded.now }
-    requires decided { KnowDecidedApart nodes.old.known pool.now words }
+    requires decided { KnowDecidedApart nodes.old.known pool.now places }
     ensures { IfOk result (λ b. MatchBool b
         (IsPropagated nodes.old.known nodes.new.known excluded.now pool.now)
         (NoneAgreesWith nodes.old.known excluded.now pool.now)) }
@@ -165,17 +120,28 @@ pub(crate) fn propagate(
     // For the prover: the pool is lawful.
     let _count = pool.len();
     let count = nodes.variable_count();
+    let mut changed = places;
     let mut rank = WORDS;
     while rank < count {
-        let Some(place) = pool.next_dependent(nodes.variable(rank).place as usize, words) else {
-            return Ok(true);
-        };
-        let first = nodes.rank_from(place);
-        let end = first + CHUNK.min(count - first);
-        if !propagate_through(nodes, excluded, pool, words, first..end)? {
-            return Ok(false);
+        let here = nodes.variable(rank);
+        let place = here.place as usize;
+        match pool.user_at(place, changed) {
+            None => match pool.next_user(place, changed) {
+                None => return Ok(true),
+                Some(next) => rank = nodes.rank_from(next),
+            },
+            Some(node) => {
+                let known = here.known.meet(transfer(nodes, node));
+                let Some(next) = reduce_node(known, node, excluded) else {
+                    return Ok(false);
+                };
+                if !is_same(next, here.known) {
+                    nodes.set_variable(rank, next)?;
+                    changed = changed.with(place);
+                }
+                rank += 1;
+            }
         }
-        rank = end;
     }
     Ok(true)
 }

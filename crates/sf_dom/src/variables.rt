@@ -5,7 +5,7 @@ ghost use Rattle.std.specs.Arc.{arc_value};
 ghost use Rattle.sf_blocks.specs.Blocks.{block_items};
 ghost use Rattle.sf_dom.specs.Variables.{variable_at, set_known};
 
-use crate::known::{Known, is_same};
+use crate::known::Known;
 use crate::slots::{Slot, Slots, add_slot};
 use std::alloc::{AllocError, Global};
 use std::marker::Model;
@@ -64,18 +64,14 @@ fn with_known(
     Ok(Arc::new(alloc, copy)?)
 }
 
-/// Writes what is known of a variable of a block. Where forks share the block, they keep it, and a copy is written. Where
-/// it is known already, nothing is written, so that forks go on sharing the block. `AllocError` where an allocation is
-/// refused; the block is then as it was.
+/// Writes what is known of a variable of a block. Where forks share the block, they keep it, and a copy is written.
+/// `AllocError` where an allocation is refused; the block is then as it was.
 fn set_in(block: &mut Block, place: usize, known: Known) -> Result<(), AllocError>
     requires { place < length (block_items block.old) }
     ensures ok { OnOk result (block_items block.new
         ≡ set_known (block_items block.old) place known) }
     ensures err { OnErr result (block_items block.new ≡ block_items block.old) }
 {
-    if is_same(known, block.as_slice()[place].known) {
-        return Ok(());
-    }
     match Arc::get_mut(block) {
         Some(alone) => alone[place].known = known,
         None => *block = with_known(*block.allocator(), block.as_slice(), place, known)?,

@@ -9,7 +9,7 @@ use Rattle.sf_sym.specs.declared.pool.Node.{Node}
 use Rattle.sf_sym.specs.declared.pool.Node.TheVariants.{Const}
 
 abbrev pub blank : Interned
-blank = record { node = Const 0; link = 0; support = 0; group = 0 }
+blank = record { node = Const 0; link = 0; operands = record { near = 0; far = 0 } }
 
 pub length-nodes : (es : List Interned) → length (nodes_of es) ≡ length es
 length-nodes es = length-map es (λ e. e.node)

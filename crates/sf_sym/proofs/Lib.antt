@@ -2,4 +2,5 @@ pub mod Folds
 pub mod IndexLemmas
 pub mod MaskLemmas
 pub mod OperandLemmas
-pub mod SupportLemmas
+pub mod PlaceLemmas
+pub mod UserLemmas

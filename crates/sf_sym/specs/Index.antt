@@ -18,7 +18,7 @@ nodes_of es = map (λ e. e.node) es
 
 -- where the last older node of the same hash stands, counted from 1; 0 where there is none
 abbrev pub link_at : List Interned → ℕ → ℕ
-link_at es i = (slice_index_or es i (record { node = Const 0; link = 0; support = 0; group = 0 })).link
+link_at es i = (slice_index_or es i (record { node = Const 0; link = 0; operands = record { near = 0; far = 0 } })).link
 
 -- Of the first n nodes the last one with this hash stands at place c - 1; where c is 0, none has it.
 pub record IsLastWithHash (ns : List Node) (n hash c : ℕ) : Type 0 where

@@ -3,5 +3,5 @@ pub mod Index
 pub mod ValueLaws
 pub mod SizeLaws
 pub mod Operands
-pub mod Support
-pub mod SupportLaws
+pub mod Places
+pub mod Users

@@ -1,13 +1,15 @@
 //! The nodes of a pool, with an index by which an equal node is found without going through all of them.
 
-ghost use Rattle.std.specs.Prelude.{◌≡◌, ◌≢◌, ℕ, ◌<◌, ◌≤◌, ◌*◌, ◌^◌, [], ◌∷◌, ◌++◌, length, bit_and, OnOk, OnErr, IfOk, IsTrue, false, MatchOption};
+ghost use Rattle.std.specs.Prelude.{◌≡◌, ◌≢◌, ℕ, ◌<◌, ◌≤◌, ◌*◌, ◌/◌, ◌-◌, ◌^◌, [], ◌∷◌, ◌++◌, length, ◌↔◌, OnOk, OnErr, IfOk, IsTrue, false, MatchBool, MatchOption};
 ghost use Rattle.std.specs.Arc.{arc_value};
 ghost use Rattle.sf_sym.specs.Pool.{OperandsBelow, AreOrdered, node_at};
 ghost use Rattle.sf_sym.specs.Index.{hash_of, nodes_of, IsIndexed};
-ghost use Rattle.sf_sym.specs.Support.{all_if_none, node_support, support_of, computed_support, kept_supports, KeepsSupports, HasAll, IsInterned, IsApartFrom, IsNextDependent};
+ghost use Rattle.sf_sym.specs.Places.{HasPlace, ArePlacesOf};
+ghost use Rattle.sf_sym.specs.Users.{CanNarrow, HasNoOperand, AreOperandsIn, KeepsOperands, IsInterned, UsesNone, IsNextUser};
 
 use crate::heads::Heads;
-use crate::pool::Node;
+use crate::places::{GROUP, Places};
+use crate::pool::{Node, NodeId, constant_of};
 use sf_blocks::shared::SharedList;
 use std::alloc::{AllocError, Global};
 use std::marker::Model;
@@ -16,20 +18,15 @@ use std::sync::Arc;
 /// How many buckets the index has. A hash is the number of a bucket.
 const BUCKETS: usize = 2039;
 
-/// How many nodes make a group: the nodes of one group are skipped together where none of them is asked for.
-const GROUP: usize = 16;
-
-/// A node, where to look next for a node of its hash, and what it and its group are computed from.
+/// A node, where to look next for a node of its hash, and which places its group uses.
 #[derive(Clone, Copy)]
 pub struct Interned {
     /// The node.
     pub node: Node,
     /// One more than the place of the newest older node of the same hash, or 0 where there is none.
     pub link: u32,
-    /// The input words that it is computed from: bit i is set where word i is one of them.
-    pub support: u16,
-    /// The input words that the computed nodes of its group are computed from, as far as they aren't newer than it.
-    pub group: u16,
+    /// The places of the operands of its group's nodes, as far as these nodes aren't newer than it.
+    pub operands: Places,
 }
 
 impl Default for Interned {
@@ -37,8 +34,7 @@ impl Default for Interned {
         Interned {
             node: Node::Const(0),
             link: 0,
-            support: 0,
-            group: 0,
+            operands: Places::none(),
         }
     }
 }
@@ -100,90 +96,93 @@ fn place_of(interned_nodes: &InternedNodes, heads: &Heads, node: Node) -> Option
     None
 }
 
-/// The input words that operands are computed from, or all words where the operands are constants. A pool has no such
-/// node, since it folds constants.
-fn words_or_all(support: u16) -> u16
-    ensures { result ≡ all_if_none support }
+/// Whether a node has an operand at one of these places.
+fn uses(node: Node, places: Places) -> bool
+    ensures { MatchBool result (¬ HasNoOperand node places) (HasNoOperand node places) }
 {
-    if support == 0 { u16::MAX } else { support }
+    match node {
+        Node::Const(_) | Node::Word(_) => false,
+        Node::Bin(_, a, b) => places.has(a.0 as usize) || places.has(b.0 as usize),
+        Node::Neg(a) => places.has(a.0 as usize),
+    }
 }
 
-/// The input words that a node is computed from, as bits.
-fn support_of(interned_nodes: &InternedNodes, node: Node) -> u16
+/// Whether the node at a place can narrow: it is no constant.
+fn can_narrow(interned_nodes: &InternedNodes, place: usize) -> bool
+    requires { place < length interned_nodes.now }
+    ensures { IsTrue result ↔ CanNarrow (nodes_of interned_nodes.now) place }
+{
+    constant_of(interned_nodes.get(place).node).is_none()
+}
+
+/// These places, and that of an operand if it can narrow.
+fn with_operand(interned_nodes: &InternedNodes, places: Places, operand: NodeId) -> Places
+    requires { operand.0 < length interned_nodes.now }
+    ensures kept { ArePlacesOf places result }
+    ensures added { CanNarrow (nodes_of interned_nodes.now) operand.0
+        → HasPlace result operand.0 }
+{
+    let place = operand.0 as usize;
+    places.with_if(place, can_narrow(interned_nodes, place))
+}
+
+/// These places, and those of a node's operands that can narrow.
+fn with_operands(interned_nodes: &InternedNodes, places: Places, node: Node) -> Places
     requires { OperandsBelow (length interned_nodes.now) node }
-    ensures { result ≡ node_support (kept_supports interned_nodes.now) node }
+    ensures kept { ArePlacesOf places result }
+    ensures operands { AreOperandsIn (nodes_of interned_nodes.now) node result }
 {
     match node {
-        Node::Const(_) => 0,
-        Node::Word(i) => 1u16 << i,
+        Node::Const(_) | Node::Word(_) => places,
         Node::Bin(_, a, b) => {
-            let left = interned_nodes.get(a.0 as usize).support;
-            let right = interned_nodes.get(b.0 as usize).support;
-            words_or_all(left | right)
+            let one = with_operand(interned_nodes, places, a);
+            with_operand(interned_nodes, one, b)
         }
-        Node::Neg(a) => words_or_all(interned_nodes.get(a.0 as usize).support),
+        Node::Neg(a) => with_operand(interned_nodes, places, a),
     }
 }
 
-/// The input words that a node is computed from, where it is a computed one: neither a word itself nor a number.
-fn support_if_computed(node: Node, support: u16) -> u16
-    ensures { result ≡ computed_support node support }
-{
-    match node {
-        Node::Const(_) | Node::Word(_) => 0,
-        Node::Bin(_, _, _) | Node::Neg(_) => support,
-    }
-}
-
-/// A node that comes next, with its link and what it and its group are computed from.
+/// A node that comes next, with its link and the operands of its group.
 fn intern(interned_nodes: &InternedNodes, link: u32, node: Node) -> Interned
     requires { OperandsBelow (length interned_nodes.now) node }
     ensures { IsInterned interned_nodes.now link node result }
 {
     let at = interned_nodes.len();
-    let support = support_of(interned_nodes, node);
-    let computed = support_if_computed(node, support);
-    let group = if at % GROUP == 0 {
-        computed
+    let older = if at % GROUP == 0 {
+        Places::none()
     } else {
-        interned_nodes.get(at - 1).group | computed
+        interned_nodes.get(at - 1).operands
     };
     Interned {
         node,
         link,
-        support,
-        group,
+        operands: with_operands(interned_nodes, older, node),
     }
 }
 
-/// Adds a node, and gives the words that the computed nodes of its group are computed from. `AllocError` where an
-/// allocation is refused; no node is added then.
-fn add(interned_nodes: &mut InternedNodes, heads: &mut Heads, node: Node) -> Result<u16, AllocError>
+/// Adds a node. `AllocError` where an allocation is refused; no node is added then.
+fn add(interned_nodes: &mut InternedNodes, heads: &mut Heads, node: Node) -> Result<(), AllocError>
     requires indexed { IsIndexed interned_nodes.old heads.old }
-    requires supports { KeepsSupports interned_nodes.old }
+    requires kept { KeepsOperands interned_nodes.old }
     requires operands { OperandsBelow (length interned_nodes.old) node }
     ensures indexed { IsIndexed interned_nodes.new heads.new }
-    ensures supports { KeepsSupports interned_nodes.new }
-    ensures group { IfOk result (λ group. (words : ℕ) → bit_and group words ≡ 0
-        → IsApartFrom (nodes_of interned_nodes.new) words (length interned_nodes.old)) }
+    ensures kept { KeepsOperands interned_nodes.new }
     ensures ok { OnOk result (nodes_of interned_nodes.new
         ≡ nodes_of interned_nodes.old ++ node ∷ []) }
     ensures err { OnErr result (interned_nodes.new ≡ interned_nodes.old) }
 {
     let hash = hash(node);
     let newest = intern(interned_nodes, heads.get(hash), node);
-    let group = newest.group;
     heads.add(hash, interned_nodes, newest)?;
-    Ok(group)
+    Ok(())
 }
 
-/// Nodes, oldest first, where the newest one of each bucket is, and the words that the computed nodes are computed
-/// from. Pools share them until one of them gets another node.
+/// Nodes, oldest first, and where the newest one of each bucket is. Pools share them until one of them gets another
+/// node.
 #[derive(Drop)]
 pub struct Indexed {
     interned_nodes: InternedNodes,
     heads: Heads,
-    support: u16,
 }
 
 impl Model for Indexed {
@@ -193,12 +192,12 @@ impl Model for Indexed {
     ghost Value = { List Node };
 
     ghost use Rattle.sf_sym.specs.Index.{nodes_of, IsIndexed};
-    ghost use Rattle.sf_sym.specs.Support.{KeepsSupports, HasAll};
+    ghost use Rattle.sf_sym.specs.Users.{KeepsOperands};
 
     ghost view = { λ n. nodes_of n.interned_nodes };
 
     ghost invariant = { λ n. IsIndexed n.interned_nodes n.heads
-        × KeepsSupports n.interned_nodes × HasAll (nodes_of n.interned_nodes) n.support };
+        × KeepsOperands n.interned_nodes };
 }
 
 impl Indexed {
@@ -211,7 +210,6 @@ impl Indexed {
         Ok(Indexed {
             interned_nodes,
             heads,
-            support: 0,
         })
     }
 
@@ -251,65 +249,56 @@ impl Indexed {
         ensures err { OnErr result (self.new ≡ self.old) }
     {
         let at = self.interned_nodes.len();
-        let group = add(&mut self.interned_nodes, &mut self.heads, node)?;
-        self.support |= group;
+        add(&mut self.interned_nodes, &mut self.heads, node)?;
         Ok(at)
     }
 
-    /// The input words that the node at a place is computed from, as bits.
-    pub fn support(&self, i: usize) -> u16
+    /// The node at a place, where it has an operand at one of these places.
+    pub fn user_at(&self, i: usize, places: Places) -> Option<Node>
         requires { i < length self.now }
-        ensures { result ≡ support_of self.now i }
+        ensures { MatchOption result (HasNoOperand (node_at self.now i) places)
+            (λ n. (n ≡ node_at self.now i) × ¬ HasNoOperand n places) }
     {
-        self.interned_nodes.get(i).support
+        let node = self.node(i);
+        if uses(node, places) { Some(node) } else { None }
     }
 
-    /// The node at a place, where it is a computed one and is computed from some of these words.
-    pub fn dependent_at(&self, i: usize, words: u16) -> Option<Node>
-        requires { i < length self.now }
-        ensures { MatchOption result (IsApartFrom self.now words i)
-            (λ n. (n ≡ node_at self.now i) × ¬ IsApartFrom self.now words i) }
-    {
-        let here = self.interned_nodes.get(i);
-        if support_if_computed(here.node, here.support) & words == 0 {
-            None
-        } else {
-            Some(here.node)
-        }
-    }
-
-    /// The place after `at`, or, where no computed node of its group depends on these words, the place after the group.
-    fn skip(&self, at: usize, words: u16) -> usize
-        requires place { at < length self.now }
-        requires apart { IsApartFrom self.now words at }
-        ensures above { at < result }
-        ensures within { result ≤ length self.now }
-        ensures apart { (j : ℕ) → at ≤ j → j < result → IsApartFrom self.now words j }
-    {
-        let last = (at - at % GROUP + (GROUP - 1)).min(self.len() - 1);
-        if self.interned_nodes.get(last).group & words == 0 {
-            last + 1
-        } else {
-            at + 1
-        }
-    }
-
-    /// The place of the first node, from a place on, that is computed from some of these words; `None` where there is
-    /// none.
-    pub fn next_dependent(&self, from: usize, words: u16) -> Option<usize>
+    /// The place of the first node of a part of a group, up to `end`, that has an operand at one of these places; `None`
+    /// where there is none.
+    fn user_in_group(&self, from: usize, end: usize, places: Places) -> Option<usize>
+        requires some { from < end }
+        requires within { end ≤ length self.now }
+        requires group { from / 32 ≡ (end - 1) / 32 }
         ensures { MatchOption result
-            ((j : ℕ) → from ≤ j → j < length self.now → IsApartFrom self.now words j)
-            (IsNextDependent self.now from words) }
+            ((j : ℕ) → from ≤ j → j < end → UsesNone self.now places j)
+            (IsNextUser self.now from places) }
     {
-        if self.support & words == 0 {
+        if self.interned_nodes.get(end - 1).operands.are_apart(places) {
             return None;
         }
+        for i in from..end {
+            if uses(self.node(i), places) {
+                return Some(i);
+            }
+        }
+        None
+    }
+
+    /// The place of the first node, from a place on, that has an operand at one of these places; `None` where there is
+    /// none.
+    pub fn next_user(&self, from: usize, places: Places) -> Option<usize>
+        ensures { MatchOption result
+            ((j : ℕ) → from ≤ j → j < length self.now → UsesNone self.now places j)
+            (IsNextUser self.now from places) }
+    {
         let mut at = from;
         while at < self.len() {
-            if self.dependent_at(at, words).is_some() {
-                return Some(at);
+            let end = (at - at % GROUP + GROUP).min(self.len());
+            let user = self.user_in_group(at, end, places);
+            if user.is_some() {
+                return user;
             }
-            at = self.skip(at, words);
+            at = end;
         }
         None
     }
@@ -324,7 +313,6 @@ impl Indexed {
         let mut copy = Indexed {
             interned_nodes: self.interned_nodes.fork()?,
             heads: self.heads.fork()?,
-            support: self.support,
         };
         let at = copy.add(node)?;
         Ok((Arc::new(alloc, copy)?, at))

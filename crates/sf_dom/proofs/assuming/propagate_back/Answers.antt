@@ -1,10 +1,10 @@
 use Rattle.std.proofs.lemmas.Grind.{common_steps}
-use Rattle.std.proofs.Common.{arith, sym, set}
+use Rattle.std.proofs.Common.{arith, sym}
 use Rattle.sf_sym.specs.Pool.{value_of}
 use Rattle.sf_dom.proofs.Propagations.{propagate-set, AllNarrower-set, IsReady-set, tight-set}
 use Rattle.sf_dom.proofs.Reductions.{IsNarrower-trans}
 use Rattle.sf_dom.specs.Facts.{known_at}
-use Rattle.sf_dom.proofs.Apart.{keeps-apart-set, keeps-apart-on, operand-behind}
+use Rattle.sf_dom.proofs.Apart.{decided-also}
 use Rattle.sf_dom.proofs.AssumeLemmas.{walked}
 use Rattle.sf_dom.proofs.Backs.{carries-step, hands-on-narrower, carried, walked-end, walked-other}
 use Rattle.sf_dom.proofs.assuming.propagate_back.Goals as goal
@@ -21,8 +21,6 @@ loop-op-preserved c =
     let next = c.in-Some-reduce_node.next in
     let t = rw c.node_at-node.ensures.node at c.in-Some-reduce_node.ensures in
     let bits = rw (c.get.ensures, c.get-in-Some.ensures) at c.in-Some-backward.ensures.bits in
-    let p = c.node_at-node.ensures.lawful in
-    let behind = operand-behind ns c.loop-op.at o.x o.c o.op p (omega arith) (sym o.ensures.operand) in
     let gained = rw c.get-in-Some.ensures at c.in-Some-backward.ensures.narrower in
     let narrower = IsNarrower-trans (known_at ks o.x) c.in-Some-backward.gained next gained t.narrower in
     rw c.in_ok-set-in-Some-reduce_node.ensures.known (record {
@@ -42,19 +40,25 @@ loop-op-preserved c =
           (omega (arith, o.ensures.smaller)) (sym o.ensures.operand)
           (hands-on-narrower o.op o.c (known_at ks c.loop-op.at) c.in-Some-backward.gained next t.narrower
           (rw c.get.ensures at c.in-Some-backward.ensures.told)) inv.carries;
-      behind = λ k. omega (arith, behind k, inv.behind k);
-      decided = keeps-apart-on c.args.nodes.now.known ks (set ks o.x next) ns c.args.from o.x
-          (λ k. omega (arith, behind k, inv.behind k)) inv.decided
-          (keeps-apart-set ks ns o.x next p inv.ready (omega (arith, o.ensures.smaller)) narrower t.consistent);
+      decided = decided-also ks ns c.loop-op.changed c.with-changed.result o.x next (omega (arith, o.ensures.smaller))
+          inv.ready.constants narrower t.consistent c.with-changed.ensures inv.decided;
     })
 
-pub returns-in-None-clause-backward : goal.returns-in-None-clause-backward
-returns-in-None-clause-backward c = λ t.
+pub returns-in-None : goal.returns-in-None
+returns-in-None c =
     let ks = c.loop-op.nodes.known in
     let ns = c.args.pool.now in
     let o = c.in-Some in
-    carried ks ns c.args.from c.loop-op.at c.loop-op.invariant.carries
-    (walked-other ks ns c.loop-op.at o.x o.c o.op (sym o.ensures.operand) (c.backward.ensures.none c.in-None.is))
+    let inv = c.loop-op.invariant in
+    record {
+      keeps = inv.keeps;
+      narrower = inv.narrower;
+      ready = inv.ready;
+      tight = inv.tight;
+      backward = carried ks ns c.args.from c.loop-op.at inv.carries
+          (walked-other ks ns c.loop-op.at o.x o.c o.op (sym o.ensures.operand) (c.backward.ensures.none c.in-None.is));
+      decided = inv.decided;
+    }
 
-pub returns-clause-backward : goal.returns-clause-backward
-returns-clause-backward c = grind (arith, common_steps, carried, walked-end)
+pub returns : goal.returns
+returns c = grind (arith, common_steps, carried, walked-end)

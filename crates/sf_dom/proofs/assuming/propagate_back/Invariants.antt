@@ -1,7 +1,5 @@
 use Rattle.std.proofs.Common.{◌<◌, length}
-use Rattle.sf_dom.specs.Propagation.{KeepsAgreeing, AllNarrower, KeepsTight, IsReady, KeepsDecidedApart}
-use Rattle.sf_dom.specs.Known.{AreBitsOf}
-use Rattle.sf_sym.specs.Support.{support_of}
+use Rattle.sf_dom.specs.Propagation.{KeepsAgreeing, AllNarrower, KeepsTight, IsReady, KnowDecidedApart}
 use Rattle.sf_dom.specs.Backward.{Carries}
 use Rattle.sf_dom.proofs.assuming.propagate_back.Given as goal
 
@@ -13,8 +11,7 @@ invariant-loop-op l = record {
   tight : KeepsTight l.fn.nodes.known l.nodes.known l.excluded;
   ready : IsReady l.nodes.known l.pool;
   carries : Carries l.nodes.known l.pool l.fn.from l.at;
-  behind : AreBitsOf (support_of l.pool l.at) (support_of l.pool l.fn.from);
-  decided : KeepsDecidedApart l.fn.nodes.known l.nodes.known l.pool l.fn.from;
+  decided : KnowDecidedApart l.nodes.known l.pool l.changed;
 }
 
 abbrev pub decreases-loop-op : goal.decreases-loop-op

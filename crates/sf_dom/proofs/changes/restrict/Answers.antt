@@ -1,7 +1,7 @@
 use Rattle.std.proofs.Common.{◌<◌, length, set, true, arith, ◌∙◌}
 use Rattle.std.proofs.lemmas.List.{length-set}
 use Rattle.sf_dom.specs.FactsLaws.{value-word}
-use Rattle.sf_dom.proofs.Apart.{know-apart, keeps-apart-set}
+use Rattle.sf_dom.proofs.Apart.{know-apart, decided-set}
 use Rattle.sf_dom.proofs.AssumeLemmas.{restricted-all, left-set}
 use Rattle.sf_dom.proofs.Propagations.{IsReady-set, tight-set}
 use Rattle.sf_dom.proofs.changes.restrict.Goals as goal
@@ -31,10 +31,11 @@ propagate-requires-clause-decided c =
     let count = c.requires.ready.count in
     let ks = c.args.nodes.now.known in
     let ns = c.args.pool.now in
-    rw (c.in_ok-set.ensures.known, c.in_ok-next.ensures, c.support.ensures)
-    (keeps-apart-set ks ns c.args.word c.in-Some.left c.len-count.ensures.lawful c.requires.ready
-    (omega (arith, c.requires.word)) c.in-Some.ensures.narrower c.in-Some.ensures.consistent _
-    (λ k. omega arith) (know-apart ks ns _ c.requires.decided))
+    rw (c.in_ok-set.ensures.known, c.in_ok-next.ensures)
+    (decided-set ks ns c.with.result c.args.word c.in-Some.left
+    (omega (arith, c.requires.word)) c.requires.ready.constants
+    c.in-Some.ensures.narrower c.in-Some.ensures.consistent c.with.ensures.added
+    (know-apart ks ns c.with.result c.requires.decided))
 
 pub returns-then-not-branch : goal.returns-then-not-branch
 returns-then-not-branch c = λ d p a h.

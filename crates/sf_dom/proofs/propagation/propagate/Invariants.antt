@@ -7,7 +7,7 @@ abbrev pub invariant-loop-rank : goal.invariant-loop-rank
 invariant-loop-rank l = record {
   begun : 16 ≤ l.rank;
   counted : l.count ≡ length l.nodes.variables;
-  through : PropagatesThrough l.fn.nodes l.nodes l.excluded l.pool l.words l.rank;
+  through : PropagatesThrough l.fn.nodes l.nodes l.excluded l.pool l.changed l.rank;
 }
 
 abbrev pub decreases-loop-rank : goal.decreases-loop-rank

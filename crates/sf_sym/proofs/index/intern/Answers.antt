@@ -1,19 +1,17 @@
 use Rattle.std.proofs.Common.{ap, refl}
 use Rattle.sf_sym.proofs.IndexLemmas.{blank}
-use Rattle.sf_sym.proofs.SupportLemmas.{or-zero_left, or-zero_right}
 use Rattle.sf_sym.proofs.index.intern.Goals as goal
+use Rattle.sf_sym.proofs.index.intern.Goals.{then-at-eq0, else-at-eq0}
 
-pub returns-else-at-eq0 : goal.returns-else-at-eq0
-returns-else-at-eq0 c =
-    let group = c.get.result.group in
-    let own = c.support_if_computed-computed.result in
-    record {
-      same_node = refl;
-      same_link = refl;
-      support = c.support_of-support.ensures;
-      own = λ words z. rw (← c.support_if_computed-computed.ensures) (or-zero_right group own words z);
-      older = λ words inner z.
-          let read = ap (λ e. e.group) (c.get.ensures blank) in
-          let apart = or-zero_left group own words z in
-          rw (← c.len-at.ensures.value, ← read) apart;
-    }
+pub returns : goal.returns
+returns c = record {
+  same_node = refl;
+  same_link = refl;
+  own = c.with_operands.ensures.operands;
+  older = elim c.if-at-eq0.branch [
+    | then-at-eq0 w ↦ λ inner. absurd (inner (rw c.len-at.ensures.value at w.if-at-eq0.true))
+    | else-at-eq0 w ↦ λ inner i h.
+        let read = ap (λ e. e.operands) (w.get.ensures blank) in
+        c.with_operands.ensures.kept i (rw (w.older-is, read, c.len-at.ensures.value) h)
+  ];
+}

@@ -10,11 +10,3 @@ set_variable-requires c =
     c.slot_of.result c.self.invariant (rw (← c.self.view_is) at c.requires.within)
     (rw c.deref.ensures at c.slot_of.ensures) c.in-Variable.is in
     rw (← c.self.view_is) (omega (arith, v.rank, places-length os))
-
-pub returns-in_ok-set_variable-clause-known : goal.returns-in_ok-set_variable-clause-known
-returns-in_ok-set_variable-clause-known c =
-    let os = c.self.inside.variables in
-    let v = variable-here (arc_value c.self.inside.slots) os c.args.i c.in-Variable.rank
-    c.slot_of.result c.self.invariant (rw (← c.self.view_is) at c.requires.within)
-    (rw c.deref.ensures at c.slot_of.ensures) c.in-Variable.is in
-    rw (c.in_ok-set_variable.ensures.known, ← c.self.view_is, v.place)
