@@ -91,7 +91,8 @@ pub record IsPropagated (old new : List Known) (ex : List (List ℕ)) (ns : List
   pub narrower : AllNarrower old new
   pub passed : (i : ℕ) → i < length ns → IsPropagatedAt new ex ns i
 
--- forward propagation as far as the variable at a rank; more has become known of these places alone
+-- Forward propagation as far as the variable at a rank. Nodes that use none of these places are decided where their
+-- operands are.
 pub record PropagatesThrough (old new : NodesView) (ex : List (List ℕ)) (ns : List Node)
     (places : Places) (rank : ℕ) : Type 0 where
   pub keeps : KeepsAgreeing old.known new.known ex ns
@@ -102,7 +103,7 @@ pub record PropagatesThrough (old new : NodesView) (ex : List (List ℕ)) (ns : 
   pub decided : KnowDecidedApart new.known ns places
   pub passed : ArePassedBefore new ex ns rank
 
--- A node that is a word has been made tight. More has become known of these places alone.
+-- A node that is a word has been made tight. Nodes that use none of these places are decided where their operands are.
 pub record IsTightened (old new : List Known) (ex : List (List ℕ)) (ns : List Node) (at : ℕ)
     (places : Places) : Type 0 where
   pub keeps : KeepsAgreeing old new ex ns
@@ -112,7 +113,8 @@ pub record IsTightened (old new : List Known) (ex : List (List ℕ)) (ns : List 
   pub word : (i : ℕ) → node_at ns at ≡ Word i → IsTight (known_at new i) (numbers_at ex i)
   pub decided : KnowDecidedApart new ns places
 
--- Known bits have gone back from a node, from operand to operand. More has become known of these places alone.
+-- Known bits have gone back from a node, from operand to operand. Nodes that use none of these places are decided where
+-- their operands are.
 pub record GoesBack (old new : List Known) (ex : List (List ℕ)) (ns : List Node) (at : ℕ)
     (places : Places) : Type 0 where
   pub keeps : KeepsAgreeing old new ex ns

@@ -46,14 +46,14 @@ interned_at es i = slice_index_or es i (record {
 abbrev pub AreOperandsIn : List Node → Node → Places → Type 0
 AreOperandsIn ns n places = (a : ℕ) → IsOperand a n → CanNarrow ns a → HasPlace places a
 
--- Operands are older than their node. What is kept with a node has the operands of its group's nodes, as far as these
--- aren't newer than it.
+-- Operands are older than their node. What is kept with a node has the places of the operands that can narrow, of its
+-- group's nodes, as far as these aren't newer than it.
 pub record KeepsOperands (es : List Interned) : Type 0 where
   pub ordered : AreOrdered 0 (nodes_of es)
   pub groups : (i j : ℕ) → i < length es → j ≤ i → j / 32 ≡ i / 32
       → AreOperandsIn (nodes_of es) (node_at (nodes_of es) j) (interned_at es i).operands
 
--- a node that comes next, with its link and the operands of its group
+-- a node that comes next, with its link and the places of its group's operands that can narrow
 pub record IsInterned (es : List Interned) (link : ℕ) (node : Node) (e : Interned) : Type 0 where
   pub same_node : e.node ≡ node
   pub same_link : e.link ≡ link

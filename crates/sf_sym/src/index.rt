@@ -25,7 +25,7 @@ pub struct Interned {
     pub node: Node,
     /// One more than the place of the newest older node of the same hash, or 0 where there is none.
     pub link: u32,
-    /// The places of the operands of its group's nodes, as far as these nodes aren't newer than it.
+    /// The places of the operands that can narrow, of its group's nodes, as far as these aren't newer than it.
     pub operands: Places,
 }
 
@@ -142,7 +142,7 @@ fn with_operands(interned_nodes: &InternedNodes, places: Places, node: Node) -> 
     }
 }
 
-/// A node that comes next, with its link and the operands of its group.
+/// A node that comes next, with its link and the places of its group's operands that can narrow.
 fn intern(interned_nodes: &InternedNodes, link: u32, node: Node) -> Interned
     requires { OperandsBelow (length interned_nodes.now) node }
     ensures { IsInterned interned_nodes.now link node result }
@@ -264,7 +264,7 @@ impl Indexed {
     }
 
     /// The place of the first node of a part of a group, up to `end`, that has an operand at one of these places; `None`
-    /// where there is none.
+    /// where there is none. A node of which only constants stand there may be passed over.
     fn user_in_group(&self, from: usize, end: usize, places: Places) -> Option<usize>
         requires some { from < end }
         requires within { end ≤ length self.now }
@@ -285,7 +285,7 @@ impl Indexed {
     }
 
     /// The place of the first node, from a place on, that has an operand at one of these places; `None` where there is
-    /// none.
+    /// none. A node of which only constants stand there may be passed over.
     pub fn next_user(&self, from: usize, places: Places) -> Option<usize>
         ensures { MatchOption result
             ((j : ℕ) → from ≤ j → j < length self.now → UsesNone self.now places j)
