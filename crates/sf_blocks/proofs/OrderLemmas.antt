@@ -1,6 +1,6 @@
 -- How two lists in full blocks compare, block by block.
 use Rattle.std.proofs.lemmas.Grind.{common_steps}
-use Rattle.std.proofs.Common.{◌≡◌, ℕ, zero, suc, ◌+◌, ◌*◌, ◌<◌, ◌≤◌, ◌⊎◌, inl, inr, List, [], ◌∷◌, ◌++◌, length, get_or, refl, sym, ap, ◌∙◌, arith, length-append, length-drop, append_assoc, drop, min, false, true}
+use Rattle.std.proofs.Common.{◌≡◌, ℕ, zero, suc, ◌+◌, ◌*◌, ◌<◌, ◌≤◌, ◌⊎◌, inl, inr, List, [], ◌∷◌, ◌++◌, length, map, get_or, refl, sym, ap, ◌∙◌, arith, length-append, length-drop, append_assoc, drop, min, false, true}
 use Rattle.std.specs.declared.cmp.Ordering.{Ordering}
 use Rattle.std.specs.declared.cmp.Ordering.TheVariants.{Less, Equal, Greater}
 use Rattle.std.specs.Ordering.{nat_cmp, ordering_then, is_ne}
@@ -9,8 +9,8 @@ use Rattle.std.proofs.lemmas.Bool.{cases_lt}
 use Rattle.std.proofs.lemmas.Bool.Decides.{nat_tests}
 use Rattle.std.proofs.lemmas.List.{drop_more}
 use Rattle.std.proofs.Math.ListN.{drop_of_length-le}
-use Rattle.sf_blocks.specs.Blocks.{joined_blocks, AllFull}
-use Rattle.sf_blocks.proofs.BlockLemmas.{AllFull-at}
+use Rattle.sf_blocks.specs.Blocks.{joined_by, AreWideBy}
+use Rattle.sf_blocks.specs.BlockLaws.{first-wide, rest-wide}
 
 -- an order on the same behind it
 then-assoc : (a b c : Ordering) → ordering_then a (ordering_then b c) ≡ ordering_then (ordering_then a b) c
@@ -119,29 +119,40 @@ module _ {T : Type 0} (R : T → T → Ordering) where
 
 -- the elements from a block on, and then the tail
 abbrev pub from : {T : Type 0} → List (List T) → List T → ℕ → List T
-from bs tail k = joined_blocks (drop k bs) ++ tail
+from bs tail k = joined_by (λ xs. xs) (drop k bs) ++ tail
 
 pub from-next : {T : Type 0} (bs : List (List T)) (tail : List T) (k : ℕ) (e : List T) → k < length bs
     → from bs tail k ≡ get_or bs k e ++ from bs tail (k + 1)
 from-next bs tail k e h = grind (arith, common_steps, drop_more, append_assoc)
 
+-- the elements of blocks, and those of the lists of their elements
+joined-map : {B T : Type 0} (items : B → List T) (bs : List B)
+    → joined_by items bs ≡ joined_by (λ xs. xs) (map items bs)
+joined-map items [] = refl
+joined-map items (b ∷ bs) = ap (λ ys. items b ++ ys) (joined-map items bs)
+
+-- a list that is kept so, from its first block on
+pub from-first : {B T : Type 0} (items : B → List T) (bs : List B) (tail xs : List T) → joined_by items bs ++ tail ≡ xs
+    → xs ≡ from (map items bs) tail 0
+from-first items bs tail xs is = sym is ∙ ap (λ ys. ys ++ tail) (joined-map items bs)
+
 -- how long the elements from a block on are
-pub length-from : {T : Type 0} (bs : List (List T)) (tail : List T) (k : ℕ) → AllFull bs → k ≤ length bs
+pub length-from : {T : Type 0} (bs : List (List T)) (tail : List T) (k : ℕ) → AreWideBy (λ xs. xs) 16 bs → k ≤ length bs
     → length (from bs tail 0) ≡ 16 * k + length (from bs tail k)
 length-from bs tail zero f h = omega arith
 length-from [] tail (suc k) f h = absurd (omega (arith, h))
 length-from (b ∷ bs) tail (suc k) f h =
     omega (
       arith,
-      length-append (b ++ joined_blocks bs) tail,
-      length-append b (joined_blocks bs),
-      length-append (joined_blocks bs) tail,
-      f.0,
-      length-from bs tail k f.1 (omega (arith, h)),
+      length-append (b ++ joined_by (λ xs. xs) bs) tail,
+      length-append b (joined_by (λ xs. xs) bs),
+      length-append (joined_by (λ xs. xs) bs) tail,
+      first-wide (λ xs. xs) 16 b bs f,
+      length-from bs tail k (rest-wide (λ xs. xs) 16 b bs f) (omega (arith, h)),
     )
 
-module _ {T : Type 0} (R : T → T → Ordering) (bs cs : List (List T)) (t u : List T) (f : AllFull bs)
-    (g : AllFull cs) where
+module _ {T : Type 0} (R : T → T → Ordering) (bs cs : List (List T)) (t u : List T) (f : AreWideBy (λ xs. xs) 16 bs)
+    (g : AreWideBy (λ xs. xs) 16 cs) where
   -- two blocks at one place
   pub by_blocks : (k : ℕ) → k < length bs → k < length cs
       → slice_cmp R (from bs t k) (from cs u k)
@@ -149,7 +160,7 @@ module _ {T : Type 0} (R : T → T → Ordering) (bs cs : List (List T)) (t u : 
       (slice_cmp R (from bs t (k + 1)) (from cs u (k + 1)))
   by_blocks k l m =
       rw (from-next bs t k [] l, from-next cs u k [] m)
-      (by_parts R (get_or bs k []) (get_or cs k []) _ _ (AllFull-at bs k [] f l ∙ sym (AllFull-at cs k [] g m)))
+      (by_parts R (get_or bs k []) (get_or cs k []) _ _ (f k [] l ∙ sym (g k [] m)))
 
   -- how long the whole lists are, where the same blocks stand before
   whole : (k : ℕ) → k ≤ length bs → k ≤ length cs
@@ -184,7 +195,7 @@ module _ {T : Type 0} (R : T → T → Ordering) (bs cs : List (List T)) (t u : 
             lu,
             ap length (nt q),
             ap length (mb p),
-            AllFull-at bs k [] f p,
+            f k [] p,
           ) in
           rw (← lengths, left, right) (goes_on_left R m (from bs t (k + 1)) n long)
       by (inr p) (inl q) =
@@ -195,7 +206,7 @@ module _ {T : Type 0} (R : T → T → Ordering) (bs cs : List (List T)) (t u : 
             lt,
             ap length (mt p),
             ap length (nb q),
-            AllFull-at cs k [] g q,
+            g k [] q,
           ) in
           rw (← lengths, left, right) (goes_on_right R m n (from cs u (k + 1)) long)
       by (inr p) (inr q) =

@@ -12,13 +12,13 @@ use Rattle.sf_sym.specs.declared.places.Places.{Places}
 use Rattle.sf_sym.specs.declared.pool.Node.{Node}
 use Rattle.sf_sym.specs.declared.pool.Node.TheVariants.{Const, Word, Bin, Neg}
 use Rattle.sf_dom.specs.declared.known.Known.{Known}
-use Rattle.sf_dom.specs.Known.{Admits, IsNarrower, IsConsistent, IsDecided, known_of}
-use Rattle.sf_dom.specs.Facts.{known_at, AgreesWith, KnowConstants, KnowDecided, AreDecidedOperands}
+use Rattle.sf_dom.specs.Known.{Admits, Leaves, IsNarrower, IsConsistent, IsDecided, IsTight, known_of}
+use Rattle.sf_dom.specs.Facts.{known_at, numbers_at, excluded_of, AgreesWith, KnowConstants, KnowDecided, AreDecidedOperands}
 use Rattle.sf_dom.specs.Reduction.{IsForced, IsMeet}
 use Rattle.sf_dom.specs.Nodes.{NodesView, IsLaidOut, IsRankFrom}
-use Rattle.sf_dom.specs.Propagation.{AreConsistentOperands, IsReducedNode, IsReady, IsPropagatedAt, KnowDecidedApart, ArePassedBefore, PropagatesThrough}
+use Rattle.sf_dom.specs.Propagation.{AreConsistentOperands, IsReducedNode, IsReady, IsPropagatedAt, KnowDecidedApart, IsNarrowed, ArePassedBefore, PropagatesThrough}
 use Rattle.sf_dom.proofs.Reductions.{IsNarrower-trans}
-use Rattle.sf_dom.proofs.Propagations.{propagate-left, propagate-set, passed-set, passed-up_to, unlisted-passed, variable-before, AllNarrower-set, IsReady-set}
+use Rattle.sf_dom.proofs.Propagations.{propagate-left, propagate-set, passed-set, passed-up_to, unlisted-passed, variable-before, AllNarrower-set, AllNarrower-refl, IsReady-set, tight-set}
 
 -- what is decided stays so where more is known
 still-decided : (a b : Known) → IsNarrower a b → IsConsistent b → IsDecided a → IsDecided b
@@ -83,6 +83,36 @@ pub decided-also : (ks : List Known) (ns : List Node) (places more : Places) (i 
 decided-also ks ns places more i next l constants narrower consistent also know =
     decided-set ks ns more i next l constants narrower consistent also.added
     (decided-more ks ns places more also.kept know)
+
+-- nothing has become known
+pub IsNarrowed-refl : (ks : List Known) (ex : List (List ℕ)) (ns : List Node) (places : Places) → IsReady ks ns
+    → KnowDecidedApart ks ns places → IsNarrowed ks ks ex ns places
+IsNarrowed-refl ks ex ns places ready know = record {
+  keeps = λ d p a. a;
+  narrower = AllNarrower-refl ks;
+  ready = ready;
+  tight = λ w b h. h;
+  decided = know;
+}
+
+-- and then more becomes known of the node at a place, which counts as changed
+pub IsNarrowed-set : (old ks : List Known) (ex : List (List ℕ)) (ns : List Node) (places more : Places) (i : ℕ)
+    (next : Known) → IsPool ns → length old ≡ length ns → i < length ns → IsNarrowed old ks ex ns places
+    → ((d : Input) → IsInput d → AgreesWith ks ex ns d → Leaves next (excluded_of ex (node_at ns i)) (value_of ns d i))
+    → IsNarrower (known_at ks i) next → IsConsistent next
+    → ((j : ℕ) → node_at ns i ≡ Word j → IsTight next (numbers_at ex j)) → IsWithPlace places i more
+    → IsNarrowed old (set ks i next) ex ns more
+IsNarrowed-set old ks ex ns places more i next p count l step left narrower consistent tight also =
+    let all = step.ready.count in
+    let here : i < length ks = omega arith in
+    record {
+      keeps = λ d v a. (let agrees = step.keeps d v a in
+          propagate-set ks ex ns d i next here agrees (left d v agrees));
+      narrower = AllNarrower-set old ks i next (omega arith) here step.narrower narrower;
+      ready = IsReady-set ks ns i next here step.ready narrower consistent;
+      tight = λ w b h. tight-set ks ex ns i next p here tight w b (step.tight w b h);
+      decided = decided-also ks ns places more i next here step.ready.constants narrower consistent also step.decided;
+    }
 
 -- The same where it is told whether the node was written. If it wasn't, it is as before.
 pub decided-written : (b : Bool) (ks : List Known) (ns : List Node) (places more : Places) (i : ℕ) (next : Known)

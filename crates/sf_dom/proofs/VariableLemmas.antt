@@ -16,15 +16,15 @@ pub set-in-block : {Y Z : Type 0} (bs : List (Arc (Vec Variable Y) Z)) (ys : Lis
     → block_items new ≡ set_known (block_items (get_or bs (rank / 64) d)) (rank % 64) x
     → joined (set bs (rank / 64) new) ++ ys ≡ set_known (joined bs ++ ys) rank x
 set-in-block bs ys rank x d new w h e =
-    let long = length-joined 64 bs w in
+    let long = length-joined block_items 64 bs w in
     let none : Variable = record { place = 0; known = known_of 0 0 0 0 } in
     let old : Variable = variable_at (block_items (get_or bs (rank / 64) d)) (rank % 64) in
     let after : Variable = record { place = old.place; known = x } in
     let parts : 64 * (rank / 64) + rank % 64 ≡ rank = omega arith in
-    let at = rw parts at (joined-at 64 bs (rank / 64) (rank % 64) d none w (omega arith) (omega arith)) in
+    let at = rw parts at (joined-at block_items 64 bs (rank / 64) (rank % 64) d none w (omega arith) (omega arith)) in
     let same : variable_at (joined bs ++ ys) rank ≡ old =
     get_or_append_left (joined bs) ys none rank (omega (arith, long)) ∙ at in
-    let written = rw parts at (joined-set 64 bs (rank / 64) (rank % 64) after d new w (omega arith)
+    let written = rw parts at (joined-set block_items 64 bs (rank / 64) (rank % 64) after d new w (omega arith)
     (omega arith) e) in
     ap (λ xs. xs ++ ys) written ∙ sym (set-append_left (joined bs) ys rank after (omega (arith, long)))
     ∙ ap (λ (o : Variable). set (joined bs ++ ys) rank (record { place = o.place; known = x })) (sym same)

@@ -103,26 +103,26 @@ pub record PropagatesThrough (old new : NodesView) (ex : List (List ℕ)) (ns : 
   pub decided : KnowDecidedApart new.known ns places
   pub passed : ArePassedBefore new ex ns rank
 
--- A node that is a word has been made tight. Nodes that use none of these places are decided where their operands are.
-pub record IsTightened (old new : List Known) (ex : List (List ℕ)) (ns : List Node) (at : ℕ)
-    (places : Places) : Type 0 where
+-- More has become known, and every input that agreed agrees still. Nodes that use none of these places are decided
+-- where their operands are.
+pub record IsNarrowed (old new : List Known) (ex : List (List ℕ)) (ns : List Node) (places : Places) : Type 0 where
   pub keeps : KeepsAgreeing old new ex ns
   pub narrower : AllNarrower old new
   pub ready : IsReady new ns
   pub tight : KeepsTight old new ex
-  pub word : (i : ℕ) → node_at ns at ≡ Word i → IsTight (known_at new i) (numbers_at ex i)
   pub decided : KnowDecidedApart new ns places
 
--- Known bits have gone back from a node, from operand to operand. Nodes that use none of these places are decided where
--- their operands are.
+-- a node that is a word has been made tight
+pub record IsTightened (old new : List Known) (ex : List (List ℕ)) (ns : List Node) (at : ℕ)
+    (places : Places) : Type 0 where
+  pub step : IsNarrowed old new ex ns places
+  pub word : (i : ℕ) → node_at ns at ≡ Word i → IsTight (known_at new i) (numbers_at ex i)
+
+-- known bits have gone back from a node, from operand to operand
 pub record GoesBack (old new : List Known) (ex : List (List ℕ)) (ns : List Node) (at : ℕ)
     (places : Places) : Type 0 where
-  pub keeps : KeepsAgreeing old new ex ns
-  pub narrower : AllNarrower old new
-  pub ready : IsReady new ns
-  pub tight : KeepsTight old new ex
+  pub step : IsNarrowed old new ex ns places
   pub backward : (n : ℕ) → IsPropagatedBack n new ns at
-  pub decided : KnowDecidedApart new ns places
 
 -- the new nodes are taken in
 pub record IsGrown (old new : List Known) (ex : List (List ℕ)) (ns : List Node) : Type 0 where

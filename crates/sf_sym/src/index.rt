@@ -1,14 +1,16 @@
 //! The nodes of a pool, with an index by which an equal node is found without going through all of them.
 
-ghost use Rattle.std.specs.Prelude.{◌≡◌, ◌≢◌, ℕ, ◌<◌, ◌≤◌, ◌*◌, ◌/◌, ◌-◌, ◌^◌, [], ◌∷◌, ◌++◌, length, ◌↔◌, OnOk, OnErr, IfOk, IsTrue, false, MatchBool, MatchOption};
+ghost use Rattle.std.specs.Prelude.{◌≡◌, ◌≢◌, ℕ, ◌<◌, ◌≤◌, ◌*◌, ◌/◌, ◌-◌, ◌^◌, List, [], ◌∷◌, ◌++◌, length, ◌↔◌, OnOk, OnErr, IfOk, IsTrue, false, MatchBool, MatchOption};
 ghost use Rattle.std.specs.Arc.{arc_value};
 ghost use Rattle.sf_sym.specs.Pool.{OperandsBelow, AreOrdered, node_at};
 ghost use Rattle.sf_sym.specs.Index.{hash_of, nodes_of, IsIndexed};
 ghost use Rattle.sf_sym.specs.Places.{HasPlace, ArePlacesOf};
-ghost use Rattle.sf_sym.specs.Users.{CanNarrow, HasNoOperand, AreOperandsIn, KeepsOperands, IsInterned, UsesNone, IsNextUser};
+ghost use Rattle.sf_sym.specs.declared.pool.Node.{Node as ANode};
+ghost use Rattle.sf_sym.specs.Users.{CanNarrow, HasNoOperand, AreOperandsIn, AreOperandsAt, KeepsOrigins, KeepsOperands, IsInterned, UsesNone, IsNextUser};
 
+use crate::areas::Areas;
 use crate::heads::Heads;
-use crate::places::{GROUP, Places};
+use crate::places::{AREA, GROUP, Places, Spots};
 use crate::pool::{Node, NodeId, constant_of};
 use sf_blocks::shared::SharedList;
 use std::alloc::{AllocError, Global};
@@ -18,15 +20,15 @@ use std::sync::Arc;
 /// How many buckets the index has. A hash is the number of a bucket.
 const BUCKETS: usize = 2039;
 
-/// A node, where to look next for a node of its hash, and which places its group uses.
+/// A node, where to look next for a node of its hash, and where the operands of its group stand.
 #[derive(Clone, Copy)]
 pub struct Interned {
     /// The node.
     pub node: Node,
     /// One more than the place of the newest older node of the same hash, or 0 where there is none.
     pub link: u32,
-    /// The places of the operands that can narrow, of its group's nodes, as far as these aren't newer than it.
-    pub operands: Places,
+    /// Where the operands that can narrow stand, of its group's nodes, as far as these aren't newer than it.
+    pub(crate) operands: Spots,
 }
 
 impl Default for Interned {
@@ -34,7 +36,7 @@ impl Default for Interned {
         Interned {
             node: Node::Const(0),
             link: 0,
-            operands: Places::none(),
+            operands: Spots::none(),
         }
     }
 }
@@ -96,14 +98,14 @@ fn place_of(interned_nodes: &InternedNodes, heads: &Heads, node: Node) -> Option
     None
 }
 
-/// Whether a node has an operand at one of these places.
-fn uses(node: Node, places: Places) -> bool
-    ensures { MatchBool result (¬ HasNoOperand node places) (HasNoOperand node places) }
+/// Whether an operand of a node stands there.
+fn uses(node: Node, spots: Spots) -> bool
+    ensures { MatchBool result (¬ HasNoOperand node spots) (HasNoOperand node spots) }
 {
     match node {
         Node::Const(_) | Node::Word(_) => false,
-        Node::Bin(_, a, b) => places.has(a.0 as usize) || places.has(b.0 as usize),
-        Node::Neg(a) => places.has(a.0 as usize),
+        Node::Bin(_, a, b) => spots.has(a.0 as usize) || spots.has(b.0 as usize),
+        Node::Neg(a) => spots.has(a.0 as usize),
     }
 }
 
@@ -130,7 +132,7 @@ fn with_operand(interned_nodes: &InternedNodes, places: Places, operand: NodeId)
 fn with_operands(interned_nodes: &InternedNodes, places: Places, node: Node) -> Places
     requires { OperandsBelow (length interned_nodes.now) node }
     ensures kept { ArePlacesOf places result }
-    ensures operands { AreOperandsIn (nodes_of interned_nodes.now) node result }
+    ensures operands { AreOperandsAt (nodes_of interned_nodes.now) node result }
 {
     match node {
         Node::Const(_) | Node::Word(_) => places,
@@ -142,38 +144,61 @@ fn with_operands(interned_nodes: &InternedNodes, places: Places, node: Node) -> 
     }
 }
 
-/// A node that comes next, with its link and the places of its group's operands that can narrow.
-fn intern(interned_nodes: &InternedNodes, link: u32, node: Node) -> Interned
-    requires { OperandsBelow (length interned_nodes.now) node }
+/// A node that comes next, with its link, and where its group's operands that can narrow stand. `own` tells where its
+/// own do.
+fn intern(interned_nodes: &InternedNodes, link: u32, node: Node, own: Spots) -> Interned
+    requires { AreOperandsIn (nodes_of interned_nodes.now) node own }
     ensures { IsInterned interned_nodes.now link node result }
 {
     let at = interned_nodes.len();
-    let older = if at % GROUP == 0 {
-        Places::none()
+    let operands = if at % GROUP == 0 {
+        own
     } else {
-        interned_nodes.get(at - 1).operands
+        interned_nodes.get(at - 1).operands.union(own)
     };
     Interned {
         node,
         link,
-        operands: with_operands(interned_nodes, older, node),
+        operands,
     }
 }
 
+/// Begins the area of the node that comes next, if it is the first of an area. `AllocError` where an allocation is
+/// refused.
+fn begin_area(areas: &mut Areas, next: usize) -> Result<(), AllocError>
+    requires { next ≤ 1024 * length areas.old }
+    ensures begun { OnOk result (next / 1024 < length areas.new) }
+    ensures kept { (ns : List ANode) → length ns ≡ next → KeepsOrigins ns areas.old
+        → KeepsOrigins ns areas.new }
+{
+    if next / AREA == areas.len() {
+        areas.begin()?;
+    }
+    Ok(())
+}
+
 /// Adds a node. `AllocError` where an allocation is refused; no node is added then.
-fn add(interned_nodes: &mut InternedNodes, heads: &mut Heads, node: Node) -> Result<(), AllocError>
+fn add(
+    interned_nodes: &mut InternedNodes,
+    heads: &mut Heads,
+    areas: &mut Areas,
+    node: Node,
+) -> Result<(), AllocError>
     requires indexed { IsIndexed interned_nodes.old heads.old }
-    requires kept { KeepsOperands interned_nodes.old }
+    requires kept { KeepsOperands interned_nodes.old areas.old }
     requires operands { OperandsBelow (length interned_nodes.old) node }
     ensures indexed { IsIndexed interned_nodes.new heads.new }
-    ensures kept { KeepsOperands interned_nodes.new }
+    ensures kept { KeepsOperands interned_nodes.new areas.new }
     ensures ok { OnOk result (nodes_of interned_nodes.new
         ≡ nodes_of interned_nodes.old ++ node ∷ []) }
     ensures err { OnErr result (interned_nodes.new ≡ interned_nodes.old) }
 {
+    begin_area(areas, interned_nodes.len())?;
+    let own = with_operands(interned_nodes, Places::none(), node);
     let hash = hash(node);
-    let newest = intern(interned_nodes, heads.get(hash), node);
+    let newest = intern(interned_nodes, heads.get(hash), node, own.spots);
     heads.add(hash, interned_nodes, newest)?;
+    areas.add(own.origins);
     Ok(())
 }
 
@@ -183,6 +208,7 @@ fn add(interned_nodes: &mut InternedNodes, heads: &mut Heads, node: Node) -> Res
 pub struct Indexed {
     interned_nodes: InternedNodes,
     heads: Heads,
+    areas: Areas,
 }
 
 impl Model for Indexed {
@@ -197,7 +223,7 @@ impl Model for Indexed {
     ghost view = { λ n. nodes_of n.interned_nodes };
 
     ghost invariant = { λ n. IsIndexed n.interned_nodes n.heads
-        × KeepsOperands n.interned_nodes };
+        × KeepsOperands n.interned_nodes n.areas };
 }
 
 impl Indexed {
@@ -210,6 +236,7 @@ impl Indexed {
         Ok(Indexed {
             interned_nodes,
             heads,
+            areas: Areas::new(alloc),
         })
     }
 
@@ -249,22 +276,31 @@ impl Indexed {
         ensures err { OnErr result (self.new ≡ self.old) }
     {
         let at = self.interned_nodes.len();
-        add(&mut self.interned_nodes, &mut self.heads, node)?;
+        add(
+            &mut self.interned_nodes,
+            &mut self.heads,
+            &mut self.areas,
+            node,
+        )?;
         Ok(at)
     }
 
-    /// The node at a place, where it has an operand at one of these places.
+    /// The node at a place, where it may have an operand at one of these places.
     pub fn user_at(&self, i: usize, places: Places) -> Option<Node>
         requires { i < length self.now }
-        ensures { MatchOption result (HasNoOperand (node_at self.now i) places)
-            (λ n. (n ≡ node_at self.now i) × ¬ HasNoOperand n places) }
+        ensures { MatchOption result (HasNoOperand (node_at self.now i) places.spots)
+            (λ n. (n ≡ node_at self.now i) × ¬ HasNoOperand n places.spots) }
     {
         let node = self.node(i);
-        if uses(node, places) { Some(node) } else { None }
+        if uses(node, places.spots) {
+            Some(node)
+        } else {
+            None
+        }
     }
 
-    /// The place of the first node of a part of a group, up to `end`, that has an operand at one of these places; `None`
-    /// where there is none. A node of which only constants stand there may be passed over.
+    /// The place of the first node of a part of a group, up to `end`, that may have an operand at one of these places;
+    /// `None` where there is none. A node of which only constants stand there may be passed over.
     fn user_in_group(&self, from: usize, end: usize, places: Places) -> Option<usize>
         requires some { from < end }
         requires within { end ≤ length self.now }
@@ -273,19 +309,51 @@ impl Indexed {
             ((j : ℕ) → from ≤ j → j < end → UsesNone self.now places j)
             (IsNextUser self.now from places) }
     {
-        if self.interned_nodes.get(end - 1).operands.are_apart(places) {
+        if self
+            .interned_nodes
+            .get(end - 1)
+            .operands
+            .are_apart(places.spots)
+        {
             return None;
         }
         for i in from..end {
-            if uses(self.node(i), places) {
+            if uses(self.node(i), places.spots) {
                 return Some(i);
             }
         }
         None
     }
 
-    /// The place of the first node, from a place on, that has an operand at one of these places; `None` where there is
-    /// none. A node of which only constants stand there may be passed over.
+    /// The place of the first node of a part of an area, up to `end`, that may have an operand at one of these places;
+    /// `None` where there is none. A node of which only constants stand there may be passed over.
+    fn user_in_area(&self, from: usize, end: usize, places: Places) -> Option<usize>
+        requires some { from < end }
+        requires within { end ≤ length self.now }
+        requires area { from / 1024 ≡ (end - 1) / 1024 }
+        ensures { MatchOption result
+            ((j : ℕ) → from ≤ j → j < end → UsesNone self.now places j)
+            (IsNextUser self.now from places) }
+    {
+        // For the prover: the pool is small.
+        let _count = self.len();
+        if self.areas.get(from / AREA).are_apart(places.origins) {
+            return None;
+        }
+        let mut at = from;
+        while at < end {
+            let next = (at - at % GROUP + GROUP).min(end);
+            let user = self.user_in_group(at, next, places);
+            if user.is_some() {
+                return user;
+            }
+            at = next;
+        }
+        None
+    }
+
+    /// The place of the first node, from a place on, that may have an operand at one of these places; `None` where there
+    /// is none. A node of which only constants stand there may be passed over.
     pub fn next_user(&self, from: usize, places: Places) -> Option<usize>
         ensures { MatchOption result
             ((j : ℕ) → from ≤ j → j < length self.now → UsesNone self.now places j)
@@ -293,8 +361,8 @@ impl Indexed {
     {
         let mut at = from;
         while at < self.len() {
-            let end = (at - at % GROUP + GROUP).min(self.len());
-            let user = self.user_in_group(at, end, places);
+            let end = (at - at % AREA + AREA).min(self.len());
+            let user = self.user_in_area(at, end, places);
             if user.is_some() {
                 return user;
             }
@@ -313,6 +381,7 @@ impl Indexed {
         let mut copy = Indexed {
             interned_nodes: self.interned_nodes.fork()?,
             heads: self.heads.fork()?,
+            areas: self.areas.copy()?,
         };
         let at = copy.add(node)?;
         Ok((Arc::new(alloc, copy)?, at))

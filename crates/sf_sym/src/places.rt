@@ -2,19 +2,41 @@
 
 ghost use Rattle.std.specs.Prelude.{◌≡◌, ℕ, ◌<◌, ◌≤◌, ◌↔◌, IsTrue};
 ghost use Rattle.std.specs.Int.{bit_at};
-ghost use Rattle.sf_sym.specs.Places.{HasPlace, ArePlacesOf, IsWithPlace};
+ghost use Rattle.sf_sym.specs.Places.{origin_of, no_origins, HasSpot, HasOrigin, HasPlace, AreSpotsOf, AreOriginsOf, ArePlacesOf, IsWithPlace};
 
 /// How many places make a group.
 pub(crate) const GROUP: usize = 32;
 
-/// A set of places of a pool, as a Bloom filter: it has each place that was added to it, and it may have others. Of a
-/// place, it keeps where that stands in its group, and which group it is, modulo 32.
+/// How many places make an area.
+pub(crate) const AREA: usize = 1024;
+
+/// How many words an input has. They are the first nodes of each pool.
+const WORDS: usize = 16;
+
+/// Where some places stand. Of each place it has two bits: that of the place in its group, and that of the group, modulo
+/// 32.
 #[derive(Clone, Copy)]
-pub struct Places {
+pub(crate) struct Spots {
     /// Bit i is set where place i of a group was added.
     near: u32,
     /// Bit i is set where a place was added of a group that is i modulo 32.
     far: u32,
+}
+
+/// From where some places come. Each word of the input has a bit of its own, and all other places of an area have one, by
+/// the number of the area, modulo 16.
+#[derive(Clone, Copy)]
+pub(crate) struct Origins {
+    bits: u32,
+}
+
+/// A set of places of a pool, as a Bloom filter: it has each place that was added to it, and it may have others.
+#[derive(Clone, Copy)]
+pub struct Places {
+    /// Where the places stand.
+    pub(crate) spots: Spots,
+    /// From where the places come.
+    pub(crate) origins: Origins,
 }
 
 /// Whether a bit is set.
@@ -34,12 +56,108 @@ fn with_bit(bits: u32, i: usize) -> u32
     bits | 1u32 << i
 }
 
+/// The bit of a place among origins.
+fn origin(place: usize) -> usize
+    ensures value { result ≡ origin_of place }
+    ensures within { result < 32 }
+{
+    if place < WORDS {
+        place
+    } else {
+        WORDS + place / AREA % 16
+    }
+}
+
+impl Spots {
+    /// No places.
+    pub(crate) fn none() -> Spots
+        ensures { (i : ℕ) → ¬ HasSpot result i }
+    {
+        Spots { near: 0, far: 0 }
+    }
+
+    /// These places, and one more.
+    fn with(self, place: usize) -> Spots
+        ensures kept { AreSpotsOf self result }
+        ensures added { HasSpot result place }
+    {
+        Spots {
+            near: with_bit(self.near, place % GROUP),
+            far: with_bit(self.far, place / GROUP % 32),
+        }
+    }
+
+    /// The places of both.
+    pub(crate) fn union(self, other: Spots) -> Spots
+        ensures these { AreSpotsOf self result }
+        ensures others { AreSpotsOf other result }
+    {
+        Spots {
+            near: self.near | other.near,
+            far: self.far | other.far,
+        }
+    }
+
+    /// Whether a place stands there.
+    pub(crate) fn has(self, place: usize) -> bool
+        ensures { IsTrue result ↔ HasSpot self place }
+    {
+        is_set(self.near, place % GROUP) && is_set(self.far, place / GROUP % 32)
+    }
+
+    /// Whether it can be told that no place stands at both. `false` where one may do so.
+    pub(crate) fn are_apart(self, other: Spots) -> bool
+        ensures { IsTrue result → (i : ℕ) → HasSpot self i → ¬ HasSpot other i }
+    {
+        self.near & other.near == 0 || self.far & other.far == 0
+    }
+}
+
+impl Origins {
+    /// No places.
+    pub(crate) fn none() -> Origins
+        ensures { result ≡ no_origins }
+    {
+        Origins { bits: 0 }
+    }
+
+    /// These origins, and that of one more place.
+    fn with(self, place: usize) -> Origins
+        ensures kept { AreOriginsOf self result }
+        ensures added { HasOrigin result place }
+    {
+        Origins {
+            bits: with_bit(self.bits, origin(place)),
+        }
+    }
+
+    /// The origins of both.
+    pub(crate) fn union(self, other: Origins) -> Origins
+        ensures these { AreOriginsOf self result }
+        ensures others { AreOriginsOf other result }
+    {
+        Origins {
+            bits: self.bits | other.bits,
+        }
+    }
+
+    /// Whether no place comes from both.
+    pub(crate) fn are_apart(self, other: Origins) -> bool
+        ensures { IsTrue result → (i : ℕ) → HasOrigin self i → ¬ HasOrigin other i }
+    {
+        self.bits & other.bits == 0
+    }
+}
+
 impl Places {
     /// No places.
     pub fn none() -> Places
         ensures { (i : ℕ) → ¬ HasPlace result i }
     {
-        Places { near: 0, far: 0 }
+        Places {
+            spots: Spots::none(),
+            origins: Origins::none(),
+        }
     }
 
     /// These places, and one more.
@@ -47,8 +165,8 @@ impl Places {
         ensures { IsWithPlace self place result }
     {
         Places {
-            near: with_bit(self.near, place % GROUP),
-            far: with_bit(self.far, place / GROUP % 32),
+            spots: self.spots.with(place),
+            origins: self.origins.with(place),
         }
     }
 
@@ -58,19 +176,5 @@ impl Places {
         ensures added { IsTrue is_added → HasPlace result place }
     {
         if is_added { self.with(place) } else { self }
-    }
-
-    /// Whether the set has a place.
-    pub(crate) fn has(self, place: usize) -> bool
-        ensures { IsTrue result ↔ HasPlace self place }
-    {
-        is_set(self.near, place % GROUP) && is_set(self.far, place / GROUP % 32)
-    }
-
-    /// Whether two sets can be told to have no place in common. `false` where they may have one.
-    pub(crate) fn are_apart(self, other: Places) -> bool
-        ensures { IsTrue result → (i : ℕ) → HasPlace self i → ¬ HasPlace other i }
-    {
-        self.near & other.near == 0 || self.far & other.far == 0
     }
 }

@@ -11,13 +11,13 @@ pub returns-in_default-2 : goal.returns-in_default-2
 returns-in_default-2 c = λ d p a h.
     let one = rw c.in-Some.is at c.in_ok-more.ensures in
     let none = rw c.in_default-2.is at c.in_ok-all.ensures in
-    none d p (one.keeps d p (c.in_ok-places.ensures.written.keeps d p a h))
+    none d p (one.step.keeps d p (c.in_ok-places.ensures.written.keeps d p a h))
 
 pub propagate_on-requires-clause-tight : goal.propagate_on-requires-clause-tight
 propagate_on-requires-clause-tight c = λ w l node other.
     let one = rw c.in-Some.is at c.in_ok-more.ensures in
     let two = rw c.in-Some-2.is at c.in_ok-all.ensures in
-    two.tight w l (one.tight w l (c.in_ok-places.ensures.written.tight w l node other))
+    two.step.tight w l (one.step.tight w l (c.in_ok-places.ensures.written.tight w l node other))
 
 pub returns : goal.returns
 returns c =
@@ -30,11 +30,11 @@ returns c =
     c.args.cond.now c.args.alone.node c.args.alone.other (record {
       first = c.requires.ready.count;
       written = c.in_ok-places.ensures.written;
-      node_back = one.ready.count;
-      other_back = two.ready.count;
+      node_back = one.step.ready.count;
+      other_back = two.step.ready.count;
       node = c.requires.node;
       other = c.requires.other;
-      from_node = (one.keeps, one.narrower);
-      from_other = (two.keeps, two.narrower);
+      from_node = (one.step.keeps, one.step.narrower);
+      from_other = (two.step.keeps, two.step.narrower);
     })
     left.tells one.backward two.backward left.sharp left.decided h) c.propagate_on.ensures

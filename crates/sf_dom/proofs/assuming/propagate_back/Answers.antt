@@ -1,10 +1,9 @@
 use Rattle.std.proofs.lemmas.Grind.{common_steps}
 use Rattle.std.proofs.Common.{arith, sym}
 use Rattle.sf_sym.specs.Pool.{value_of}
-use Rattle.sf_dom.proofs.Propagations.{propagate-set, AllNarrower-set, IsReady-set, tight-set}
 use Rattle.sf_dom.proofs.Reductions.{IsNarrower-trans}
 use Rattle.sf_dom.specs.Facts.{known_at}
-use Rattle.sf_dom.proofs.Apart.{decided-also}
+use Rattle.sf_dom.proofs.Apart.{IsNarrowed-set}
 use Rattle.sf_dom.proofs.AssumeLemmas.{walked}
 use Rattle.sf_dom.proofs.Backs.{carries-step, hands-on-narrower, carried, walked-end, walked-other}
 use Rattle.sf_dom.proofs.assuming.propagate_back.Goals as goal
@@ -17,7 +16,7 @@ loop-op-preserved c =
     let o = c.in-Some in
     let inv = c.loop-op.invariant in
     let within = inv.within in
-    let count = inv.ready.count in
+    let count = inv.step.ready.count in
     let next = c.in-Some-reduce_node.next in
     let t = rw c.node_at-node.ensures.node at c.in-Some-reduce_node.ensures in
     let bits = rw (c.get.ensures, c.get-in-Some.ensures) at c.in-Some-backward.ensures.bits in
@@ -25,23 +24,17 @@ loop-op-preserved c =
     let narrower = IsNarrower-trans (known_at ks o.x) c.in-Some-backward.gained next gained t.narrower in
     rw c.in_ok-set-in-Some-reduce_node.ensures.known (record {
       within = omega (arith, o.ensures.smaller);
-      keeps = λ d p a.
-          let agrees = inv.keeps d p a in
-          let left = walked ks ex ns d c.loop-op.at o.x o.c o.op (known_at ks c.loop-op.at) c.in-Some-backward.gained
-          (omega (arith, o.ensures.smaller)) agrees (o.ensures.value d p c.in-Some-backward.ensures.swappable) bits
-          (agrees c.loop-op.at (omega arith)).admitted in
-          propagate-set ks ex ns d o.x next (omega (arith, o.ensures.smaller)) agrees (t.same (value_of ns d o.x) left);
-      narrower = AllNarrower-set c.args.nodes.now.known ks o.x next (omega arith)
-          (omega (arith, o.ensures.smaller)) inv.narrower narrower;
-      tight = λ w b h. tight-set ks ex ns o.x next c.node_at-node.ensures.lawful
-          (omega (arith, o.ensures.smaller)) t.tight w b (inv.tight w b h);
-      ready = IsReady-set ks ns o.x next (omega (arith, o.ensures.smaller)) inv.ready narrower t.consistent;
+      step = IsNarrowed-set c.args.nodes.now.known ks ex ns c.loop-op.changed c.with-changed.result o.x next
+          c.node_at-node.ensures.lawful c.requires.ready.count (omega (arith, o.ensures.smaller)) inv.step
+          (λ d p agrees. t.same (value_of ns d o.x) (walked ks ex ns d c.loop-op.at o.x o.c o.op
+          (known_at ks c.loop-op.at) c.in-Some-backward.gained (omega (arith, o.ensures.smaller)) agrees
+          (o.ensures.value d p c.in-Some-backward.ensures.swappable) bits
+          (agrees c.loop-op.at (omega arith)).admitted))
+          narrower t.consistent t.tight c.with-changed.ensures;
       carries = carries-step ks ns c.args.from c.loop-op.at o.x o.c o.op next o.ensures.smaller
           (omega (arith, o.ensures.smaller)) (sym o.ensures.operand)
           (hands-on-narrower o.op o.c (known_at ks c.loop-op.at) c.in-Some-backward.gained next t.narrower
           (rw c.get.ensures at c.in-Some-backward.ensures.told)) inv.carries;
-      decided = decided-also ks ns c.loop-op.changed c.with-changed.result o.x next (omega (arith, o.ensures.smaller))
-          inv.ready.constants narrower t.consistent c.with-changed.ensures inv.decided;
     })
 
 pub returns-in-None : goal.returns-in-None
@@ -51,13 +44,9 @@ returns-in-None c =
     let o = c.in-Some in
     let inv = c.loop-op.invariant in
     record {
-      keeps = inv.keeps;
-      narrower = inv.narrower;
-      ready = inv.ready;
-      tight = inv.tight;
+      step = inv.step;
       backward = carried ks ns c.args.from c.loop-op.at inv.carries
           (walked-other ks ns c.loop-op.at o.x o.c o.op (sym o.ensures.operand) (c.backward.ensures.none c.in-None.is));
-      decided = inv.decided;
     }
 
 pub returns : goal.returns

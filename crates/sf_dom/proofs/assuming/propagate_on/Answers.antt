@@ -8,7 +8,7 @@ propagate-requires-clause-tight c =
     let one = rw c.in-Some.is at c.in_ok-more.ensures in
     let two = rw c.in-Some-2.is at c.in_ok-all.ensures in
     tight-all c.args.nodes.now.known c.tighten.new.nodes.known c.tighten-2.new.nodes.known c.args.excluded.now
-    c.args.pool.now c.args.cond.now c.requires.tight one.tight two.tight one.word two.word
+    c.args.pool.now c.args.cond.now c.requires.tight one.step.tight two.step.tight one.word two.word
 
 pub returns : goal.returns
 returns c =
@@ -16,7 +16,10 @@ returns c =
     let two = rw c.in-Some-2.is at c.in_ok-all.ensures in
     IfOk-weaker c.propagate.result _ _ (λ b h.
     propagated-after b c.args.nodes.now.known c.tighten.new.nodes.known c.propagate.new.nodes.known
-    c.args.excluded.now c.args.pool.now c.requires.ready.count one.ready.count (one.keeps, one.narrower)
+    c.args.excluded.now c.args.pool.now c.requires.ready.count one.step.ready.count (one.step.keeps, one.step.narrower)
     (propagated-after b c.tighten.new.nodes.known c.tighten-2.new.nodes.known c.propagate.new.nodes.known
-    c.args.excluded.now c.args.pool.now one.ready.count two.ready.count (two.keeps, two.narrower) h))
+    c.args.excluded.now c.args.pool.now one.step.ready.count two.step.ready.count (
+      two.step.keeps,
+      two.step.narrower,
+    ) h))
     c.propagate.ensures

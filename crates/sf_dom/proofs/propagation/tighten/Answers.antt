@@ -5,8 +5,7 @@ use Rattle.std.proofs.lemmas.List.{get_or-set_same}
 use Rattle.sf_dom.specs.Facts.{known_at}
 use Rattle.sf_dom.specs.Known.{known_of}
 use Rattle.sf_dom.specs.Propagation.{IsReducedNode}
-use Rattle.sf_dom.proofs.Apart.{decided-also}
-use Rattle.sf_dom.proofs.Propagations.{propagate-set, AllNarrower-set, AllNarrower-refl, IsReady-set, tight-set}
+use Rattle.sf_dom.proofs.Apart.{IsNarrowed-refl, IsNarrowed-set}
 use Rattle.sf_dom.proofs.propagation.tighten.Goals as goal
 
 pub returns-in_ok-set-in-Some : goal.returns-in_ok-set-in-Some
@@ -26,15 +25,11 @@ returns-in_ok-set-in-Some c =
     let t : IsReducedNode (known_at ks i) next ex (node_at ns i)
     = rw (← word, c.get-known.ensures) at c.in-Some.ensures in
     rw c.in_ok-set-in-Some.ensures.known (record {
-      keeps = λ d v a. propagate-set ks ex ns d i next here a (t.same (value_of ns d i) (a i here));
-      narrower = AllNarrower-set ks ks i next (omega arith) here (AllNarrower-refl ks) t.narrower;
-      ready = IsReady-set ks ns i next here c.requires.ready t.narrower t.consistent;
-      tight = tight-set ks ex ns i next p here t.tight;
+      step = IsNarrowed-set ks ks ex ns c.args.places c.with.result i next p count (omega arith)
+          (IsNarrowed-refl ks ex ns c.args.places c.requires.ready c.requires.decided)
+          (λ d v a. t.same (value_of ns d i) (a i here)) t.narrower t.consistent t.tight c.with.ensures;
       word = λ j e.
           let read = c.node.ensures.node in
           let same : i ≡ j = cc in
           rw (← same, get_or-set_same ks i next (known_of 0 0 0 0) here) (t.tight i word);
-      decided = decided-also ks ns c.args.places c.with.result i next here c.requires.ready.constants t.narrower
-          t.consistent c.with.ensures
-          c.requires.decided;
     })

@@ -1,14 +1,23 @@
 use Rattle.std.proofs.lemmas.Grind.{common_steps}
-use Rattle.std.proofs.Common.{◌≡◌, ◌+◌, length, map, sym, ◌∙◌, arith}
-use Rattle.std.specs.Arc.{arc_slice_items}
+use Rattle.std.proofs.Common.{◌≡◌, ◌+◌, length, map, refl, ◌∙◌, arith}
+use Rattle.std.specs.Arc.{arc_slice_items, arc_value}
 use Rattle.std.specs.Cmp.Lexicographic.{slice_cmp}
 use Rattle.std.specs.Ordering.{ordering_then, nat_cmp}
-use Rattle.sf_blocks.specs.Blocks.{AllFull}
-use Rattle.sf_blocks.proofs.BlockLemmas.{get_or-map_at, length-map_of}
-use Rattle.sf_blocks.proofs.OrderLemmas.{from, by_blocks, decided, undecided, at_end}
+use Rattle.sf_blocks.specs.Blocks.{AreWideBy}
+use Rattle.std.proofs.lemmas.List.Elements.{All-map}
+use Rattle.sf_blocks.proofs.MapLemmas.{get_or-map_at, length-map_of}
+use Rattle.sf_blocks.proofs.OrderLemmas.{from, from-first, by_blocks, decided, undecided, at_end}
 use Rattle.sf_blocks.proofs.shared.SharedList.order.Given.{Over}
 use Rattle.sf_blocks.proofs.shared.SharedList.order.Goals.{After-is_ne, After-is_ne-2}
 use Rattle.sf_blocks.proofs.shared.SharedList.order.Goals as goal
+
+pub loop-place-init : goal.loop-place-init
+loop-place-init g c =
+    let left = from-first arc_slice_items (arc_value c.self.inside.full).items c.self.inside.tail.items
+    c.args.self.now c.self.view_is in
+    let right = from-first arc_slice_items (arc_value c.other.inside.full).items c.other.inside.tail.items
+    c.args.other.now c.other.view_is in
+    rw (c.blocks_of-left.ensures, c.blocks_of-right.ensures, ← left, ← right) refl
 
 -- two blocks at one place, as the code compares them
 step : (g : Over) (c : After-is_ne g)
@@ -17,7 +26,11 @@ step : (g : Over) (c : After-is_ne g)
     (slice_cmp g.T.Ord.cmp
     (from (map arc_slice_items c.blocks_of-left.result.now) c.self.inside.tail.items (c.loop-place.place + 1))
     (from (map arc_slice_items c.blocks_of-right.result.now) c.other.inside.tail.items (c.loop-place.place + 1)))
-step g c = search (arith, get_or-map_at, by_blocks, length-map_of)
+step g c =
+    let left = All-map (λ xs. length xs ≡ 16) arc_slice_items (arc_value c.self.inside.full).items c.self.invariant.0 in
+    let right = All-map (λ xs. length xs ≡ 16) arc_slice_items (arc_value c.other.inside.full).items
+    c.other.invariant.0 in
+    search (arith, get_or-map_at, by_blocks, length-map_of, left, right)
 
 pub returns-then-is_ne : goal.returns-then-is_ne
 returns-then-is_ne g c = grind (arith, common_steps, step, decided)
@@ -32,8 +45,10 @@ ends : (g : Over) (c : After-is_ne-2 g)
 ends g c =
     let ls = c.blocks_of-left.result.now in
     let rs = c.blocks_of-right.result.now in
-    let full_left : AllFull (map arc_slice_items ls) = rw c.blocks_of-left.ensures c.self.invariant.0 in
-    let full_right : AllFull (map arc_slice_items rs) = rw c.blocks_of-right.ensures c.other.invariant.0 in
+    let full_left : AreWideBy (λ xs. xs) 16 (map arc_slice_items ls) = rw c.blocks_of-left.ensures
+    (All-map (λ xs. length xs ≡ 16) arc_slice_items (arc_value c.self.inside.full).items c.self.invariant.0) in
+    let full_right : AreWideBy (λ xs. xs) 16 (map arc_slice_items rs) = rw c.blocks_of-right.ensures
+    (All-map (λ xs. length xs ≡ 16) arc_slice_items (arc_value c.other.inside.full).items c.other.invariant.0) in
     let lefts = length-map_of arc_slice_items ls in
     let rights = length-map_of arc_slice_items rs in
     let end = at_end g.T.Ord.cmp (map arc_slice_items ls) (map arc_slice_items rs) c.self.inside.tail.items
@@ -46,9 +61,11 @@ ends g c =
     (λ l. c.block_or_tail-others.ensures.block (omega (arith, l, rights)))
     (λ l. c.block_or_tail-others.ensures.tail (omega (arith, l, rights)) ∙ c.as_slice-3.ensures) in
     let left : c.args.self.now ≡ from (map arc_slice_items ls) c.self.inside.tail.items 0 =
-    rw c.blocks_of-left.ensures (sym c.self.view_is) in
+    rw c.blocks_of-left.ensures (from-first arc_slice_items (arc_value c.self.inside.full).items
+    c.self.inside.tail.items c.args.self.now c.self.view_is) in
     let right : c.args.other.now ≡ from (map arc_slice_items rs) c.other.inside.tail.items 0 =
-    rw c.blocks_of-right.ensures (sym c.other.view_is) in
+    rw c.blocks_of-right.ensures (from-first arc_slice_items (arc_value c.other.inside.full).items
+    c.other.inside.tail.items c.args.other.now c.other.view_is) in
     let last : c.loop-place.place ≡ c.min-both.result = omega arith in
     rw c.order_of-order-2.ensures (rw last at c.loop-place.invariant ∙ rw (← left, ← right) at end)
 

@@ -11,7 +11,7 @@ use Rattle.sf_dom.proofs.variables.Variables.get.Goals as goal
 pub index-requires-else-rank-shared : goal.index-requires-else-rank-shared
 index-requires-else-rank-shared c = omega (
   arith,
-  length-joined 64 c.self.inside.full.items c.self.invariant.0,
+  length-joined block_items 64 c.self.inside.full.items c.self.invariant.0,
   length-append (joined c.self.inside.full.items) c.self.inside.last.items,
   ap length c.self.view_is,
 )
@@ -22,12 +22,12 @@ returns-then-rank-shared c =
     let rank = c.args.rank in
     let none : Variable = record { place = 0; known = known_of 0 0 0 0 } in
     let parts : 64 * (rank / 64) + rank % 64 ≡ rank = omega arith in
-    let at = rw parts at (joined-at 64 bs (rank / 64) (rank % 64) c.index.result.now none c.self.invariant.0
+    let at = rw parts at (joined-at block_items 64 bs (rank / 64) (rank % 64) c.index.result.now none c.self.invariant.0
     (omega arith) (omega arith)) in
     let block = c.as_slice.ensures.value ∙ ap vec_items c.deref.ensures ∙ ap block_items c.index.ensures in
     ap (λ xs. get_or xs (rank % 64) none) block ∙ sym at
     ∙ sym (get_or_append_left (joined bs) c.self.inside.last.items none rank
-    (omega (arith, length-joined 64 bs c.self.invariant.0)))
+    (omega (arith, length-joined block_items 64 bs c.self.invariant.0)))
     ∙ ap (λ xs. variable_at xs rank) c.self.view_is
 
 pub returns-else-rank-shared : goal.returns-else-rank-shared
@@ -35,7 +35,7 @@ returns-else-rank-shared c =
     let bs = c.self.inside.full.items in
     let none : Variable = record { place = 0; known = known_of 0 0 0 0 } in
     let n = c.len-shared.result * 64 in
-    let long = length-joined 64 bs c.self.invariant.0 in
+    let long = length-joined block_items 64 bs c.self.invariant.0 in
     get_or_read c.self.inside.last.items (c.args.rank - n) c.index-else-rank-shared.result.now
     (omega (arith, long, length-append (joined bs) c.self.inside.last.items, ap length c.self.view_is))
     c.index-else-rank-shared.ensures none

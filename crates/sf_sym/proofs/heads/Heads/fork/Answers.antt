@@ -1,11 +1,14 @@
 use Rattle.std.proofs.Common.{arith, ◌∙◌}
-use Rattle.sf_blocks.specs.BlockLaws.{joined-cloned, AreWide-cloned}
+use Rattle.sf_blocks.specs.Blocks.{block_items}
+use Rattle.sf_blocks.specs.BlockLaws.{block_items-cloned, joined-same, AreWide-same}
 use Rattle.sf_sym.proofs.heads.Heads.fork.Goals as goal
 
 pub invariant_of-result : goal.invariant_of-result
 invariant_of-result c =
-    let zip = rw c.as_slice.ensures.value at c.in_ok-blocks.ensures.items in (
-      AreWide-cloned 128 c.self.inside.blocks.items c.in_ok-blocks.blocks.items zip c.self.invariant.0,
+    let old = c.self.inside.blocks.items in
+    let new = c.in_ok-blocks.blocks.items in
+    let same = block_items-cloned old new (rw c.as_slice.ensures.value at c.in_ok-blocks.ensures.items) in (
+      AreWide-same block_items 128 old new same c.self.invariant.0,
       omega (
         arith,
         c.in_ok-blocks.blocks.ok.0,
@@ -18,5 +21,7 @@ invariant_of-result c =
 
 pub returns : goal.returns
 returns c =
-    let zip = rw c.as_slice.ensures.value at c.in_ok-blocks.ensures.items in
-    joined-cloned c.self.inside.blocks.items c.in_ok-blocks.blocks.items zip ∙ c.self.view_is
+    let old = c.self.inside.blocks.items in
+    let new = c.in_ok-blocks.blocks.items in
+    let same = block_items-cloned old new (rw c.as_slice.ensures.value at c.in_ok-blocks.ensures.items) in
+    joined-same block_items old new same ∙ c.self.view_is

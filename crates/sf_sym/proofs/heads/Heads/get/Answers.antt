@@ -9,7 +9,7 @@ returns c =
     let hash = c.args.hash in
     let b = c.index.result.now in
     let parts : 128 * (hash / 128) + hash % 128 ≡ hash = omega arith in
-    let at = joined-at 128 bs (hash / 128) (hash % 128) b 0 c.self.invariant.0
+    let at = joined-at block_items 128 bs (hash / 128) (hash % 128) b 0 c.self.invariant.0
     (omega (arith, c.requires, c.self.invariant.1)) (omega arith) in
     c.head_in.ensures ∙ ap (λ x. get_or (block_items x) (hash % 128) 0) c.index.ensures ∙ sym (rw parts at at)
     ∙ ap (λ xs. get_or xs hash 0) c.self.view_is

@@ -14,7 +14,7 @@ returns-clause-count c =
     let all : All (λ b. block_items b ≡ replicate 128 0) bs = λ k d h. same k d h ∙ zeros in
     omega (
       arith,
-      length-joined 128 bs (AreWide-filled 128 0 bs all),
+      length-joined block_items 128 bs (AreWide-filled block_items 128 0 bs all),
       c.in_ok-blocks.blocks.ok.0,
       c.in_ok-blocks.ensures.len,
     )
@@ -25,4 +25,4 @@ returns-clause-empty c = λ i h.
     let zeros : block_items c.in_ok-block.block ≡ replicate 128 0 =
     ap vec_items c.in_ok-block.ensures.ok ∙ c.in_ok-vec.ensures.items_if_clones_equal (λ y e. e) in
     let same = block_items-clones c.in_ok-block.block bs c.in_ok-blocks.ensures.items in
-    joined-filled 128 0 bs (λ k d l. same k d l ∙ zeros) i
+    joined-filled block_items 128 0 bs (λ k d l. same k d l ∙ zeros) i
