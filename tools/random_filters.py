@@ -92,6 +92,7 @@ def look_again(rng, left):
 
 
 def masked_filter(rng):
+    """A filter that ends with two returns, to which its tests may jump."""
     code, count = masks_kept(rng), 6 + rng.randrange(20)
     code += [look_again(rng, count - i) for i in range(count)]
     actions = (ALLOW, KILL, 0, ERRNO | 1, 0x7FFC0000)
@@ -119,12 +120,12 @@ def any_number(rng):
 
 
 def some_test(rng, of_x):
-    """A test whose ways aren't set yet, and how often it is one against X."""
+    """A test that doesn't jump yet. `of_x` is how often it is one against X."""
     return plain(rng.choice(TESTS) | (BY_X if rng.random() < of_x else 0), any_number(rng))
 
 
 def step(rng, stored, of_x):
-    """One thing that a filter does. `stored` are its scratch words; `of_x` is how often X is A and is then tested."""
+    """One thing that a filter does. `stored` are its scratch words; `of_x` is how often a new X is tested at once."""
     kind = rng.choices(
         ("load", "operation", "tax", "txa", "by X", "negate", "store", "restore", "test"), (14, 28, 6, 4, 5, 3, 4, 3, 33)
     )[0]
@@ -152,6 +153,7 @@ def way(rng, left):
 
 
 def mixed_filter(rng, of_x=0):
+    """A filter whose tests jump to a later instruction or to one of three returns."""
     stored, code = set(), [load(rng.choice((0, 0, 4, 5)))]
     for _ in range(rng.randrange(6, 22)):
         code += step(rng, stored, of_x)
@@ -224,6 +226,7 @@ def computed(rng, words, stored):
 
 
 def of_lengths(rng, lengths, tests):
+    """Filters of such lengths, with so many tests. All compute from the same words of the input."""
     words = rng.sample(range(16), rng.choice((1, 2, 2, 3, 5, 16)))
     if rng.random() < 0.7 and 0 not in words:
         words[0] = 0
