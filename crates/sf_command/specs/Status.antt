@@ -3,7 +3,7 @@ use Rattle.std.specs.Prelude.{ℕ, Bool, List, nat_lt, count_by, if◌then◌els
 use Rattle.sf_ask.specs.declared.verdict.Reply.{Reply}
 use Rattle.sf_audit.specs.Reports.{is_allowed, is_unsettled}
 use Rattle.sf_compare.specs.declared.changes.Change.{Change}
-use Rattle.sf_compare.specs.declared.changes.Change.TheVariants.{Never, Allowed, Unsettled}
+use Rattle.sf_compare.specs.declared.changes.Change.TheVariants.{Never, Found, Unsettled}
 
 -- the status of a fault by its number: 3 where what was given is refused, 5 where reading, writing or memory fails
 abbrev pub fault_status : ℕ → ℕ
@@ -19,7 +19,7 @@ replies_status replies =
 -- the status of what was found of a relation: 0 where no input is changed so, 1 where one is, 2 where it is unsettled
 abbrev pub change_status : Change → ℕ
 change_status Never = 0
-change_status (Allowed example) = 1
+change_status (Found example) = 1
 change_status Unsettled = 2
 
 -- the status of a listing: 0 where each input lies in a row with one answer, and else 2

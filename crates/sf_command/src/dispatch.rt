@@ -286,8 +286,8 @@ fn reply<R: Threads + Wait + Sync, F: Files, O: Write, E: Write>(
 ///
 /// - 0: done; after an audit each question is never, after a comparison the relation that is asked for is never, and after a
 ///   listing each row has one answer.
-/// - 1: some question of an audit, or the relation that is asked for, is allowed.
-/// - 2: none is allowed, and some is unsettled; after a listing some row has several answers, or a piece is
+/// - 1: some question of an audit is allowed, or the relation that is asked for is found.
+/// - 2: none is, and some is unsettled; after a listing some row has several answers, or a piece is
 ///   outstanding.
 /// - 3: the filters, the policy, a file of names or the input are refused. Standard output is left as it was.
 /// - 4: the command line is refused. No file was read, standard output is left as it was, and standard error has the

@@ -37,7 +37,7 @@ pub fn status_of_change(change: Change) -> u8
 {
     match change {
         Change::Never => 0,
-        Change::Allowed(_) => 1,
+        Change::Found(_) => 1,
         Change::Unsettled => 2,
     }
 }

@@ -7,12 +7,12 @@ use clap::{Arg, ArgAction, Command, value_parser};
 use std::alloc::{AllocError, Global};
 
 /// The version of the program, as `--version` shows it.
-const VERSION: &str = "1.0.0";
+const VERSION: &str = "1.1.0";
 
 /// What stands at the end of `--help`.
 const AFTER_HELP: &str = "Exit status:
   0  every question is never; compare: looser is never; list: each row has one answer; check, eval and help: done
-  1  some question is allowed; compare: looser is allowed
+  1  some question is allowed; compare: looser is found
   2  some question is unsettled, and none allowed; compare: looser is unsettled; list: a row has several answers
   3  a filter, the stack, the policy, a file of names or the input is refused
   4  the command line is refused

@@ -19,7 +19,7 @@ use Rattle.sf_book.specs.ExactLaws.{member_trace}
 use Rattle.sf_ask.specs.MemberLaws.{in_some_region}
 use Rattle.sf_compare.specs.declared.relation.Relation.{Relation}
 use Rattle.sf_compare.specs.declared.changes.Change.{Change}
-use Rattle.sf_compare.specs.declared.changes.Change.TheVariants.{Never, Allowed}
+use Rattle.sf_compare.specs.declared.changes.Change.TheVariants.{Never, Found}
 use Rattle.sf_compare.specs.declared.changes.Example.{Example}
 use Rattle.sf_compare.specs.declared.relation.Relation.TheVariants.{Looser, Tighter, Different}
 use Rattle.sf_compare.specs.Comparisons.{change_of}
@@ -92,12 +92,12 @@ one_more s older relation n before here r lt = elim (cases_eq r n) [
 ]
 
 -- an example from the first region that has a member that is changed so
-pub allowed : (s : BookData) (older : ℕ) (relation : Relation) (place : ℕ) (e : Example)
+pub found : (s : BookData) (older : ℕ) (relation : Relation) (place : ℕ) (e : Example)
     → IsChange (old_of s older) (new_of s older) relation e.input e.before e.after
     → (IsPlain s.stack → IsLeastAt s place e.input)
     → (IsPlain s.stack → (r : ℕ) → r < place → IsUnchangedAt s older relation r)
-    → IsChangeOf s older relation (Allowed e)
-allowed s older relation place e change least earlier = record {
+    → IsChangeOf s older relation (Found e)
+found s older relation place e change least earlier = record {
   right = change;
   plain = λ h. record { place = place; least = least h; none_earlier = earlier h };
 }

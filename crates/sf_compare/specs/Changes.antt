@@ -13,7 +13,7 @@ use Rattle.sf_ask.specs.Verdicts.{IsMemberAt}
 use Rattle.sf_ask.specs.Members.{IsLeastMember}
 use Rattle.sf_compare.specs.declared.relation.Relation.{Relation}
 use Rattle.sf_compare.specs.declared.changes.Change.{Change}
-use Rattle.sf_compare.specs.declared.changes.Change.TheVariants.{Never, Allowed, Unsettled}
+use Rattle.sf_compare.specs.declared.changes.Change.TheVariants.{Never, Found, Unsettled}
 use Rattle.sf_compare.specs.Relations.{AreRelated}
 
 -- An input is changed: the old stack answers it with the answer before, the new one with the answer after, and these
@@ -74,17 +74,17 @@ pub record IsLeastAt (s : BookData) (place : ℕ) (d : Input) : Type 0 where
 -- it is the least one; or the region is in doubt, which none is on a plain stack.
 abbrev pub TellsOfRegion : BookData → ℕ → Relation → ℕ → Change → Type 0
 TellsOfRegion s older relation place Never = IsUnchangedAt s older relation place
-TellsOfRegion s older relation place (Allowed e) =
+TellsOfRegion s older relation place (Found e) =
     IsChange (old_of s older) (new_of s older) relation e.input e.before e.after
     × (IsPlain s.stack → IsLeastAt s place e.input)
 TellsOfRegion s older relation place Unsettled = IsDoubtfulAt s older relation place × ¬ IsPlain s.stack
 
--- What is found of a relation is right: never, where nothing is outstanding and no input is changed so; allowed, with
+-- What is found of a relation is right: never, where nothing is outstanding and no input is changed so; found, with
 -- an input that is; and unsettled only where a piece is outstanding or a region is in doubt.
 abbrev pub IsRightChange : BookData → ℕ → Relation → Change → Type 0
 IsRightChange s older relation Never = (s.outstanding ≡ [])
     × ((d : Input) (before after : Answer) → IsChange (old_of s older) (new_of s older) relation d before after → ⊥)
-IsRightChange s older relation (Allowed e) =
+IsRightChange s older relation (Found e) =
     IsChange (old_of s older) (new_of s older) relation e.input e.before e.after
 IsRightChange s older relation Unsettled =
     (0 < length s.outstanding) ⊎ ((place : ℕ) × IsDoubtfulAt s older relation place)
@@ -98,7 +98,7 @@ pub record IsFirstExample (s : BookData) (older : ℕ) (relation : Relation) (d 
 -- on a plain stack an example is the first one, and a relation is unsettled only where a piece is outstanding
 abbrev pub IsPlainChange : BookData → ℕ → Relation → Change → Type 0
 IsPlainChange s older relation Never = Unit {0}
-IsPlainChange s older relation (Allowed e) = IsFirstExample s older relation e.input
+IsPlainChange s older relation (Found e) = IsFirstExample s older relation e.input
 IsPlainChange s older relation Unsettled = 0 < length s.outstanding
 
 -- what is found is right, and on a plain stack it is exact

@@ -11,7 +11,7 @@ use Rattle.sf_audit.specs.Reports.{action_text, counts_line, hex_text, line}
 use Rattle.sf_compare.specs.declared.relation.Relation.{Relation}
 use Rattle.sf_compare.specs.declared.relation.Relation.TheVariants.{Looser, Tighter, Different}
 use Rattle.sf_compare.specs.declared.changes.Change.{Change}
-use Rattle.sf_compare.specs.declared.changes.Change.TheVariants.{Never, Allowed, Unsettled}
+use Rattle.sf_compare.specs.declared.changes.Change.TheVariants.{Never, Found, Unsettled}
 use Rattle.sf_compare.specs.Changes.{IsChangeOf, new_of, old_of}
 
 -- how the exploration of both stacks as one ended, how many of its programs the old stack has, and what is found of
@@ -59,7 +59,7 @@ answer_words answer = action_text answer.action ++ 32 ∷ decimal answer.info
 -- what is found of a relation, and the example with the answers of the old stack and of the new one
 abbrev pub change_line : List ℕ → Change → List ℕ
 change_line relation Never = line (relation ∷ codes "never" ∷ [])
-change_line relation (Allowed e) = line (relation ∷ codes "allowed" ∷ hex_text e.input ∷ answer_words e.before
+change_line relation (Found e) = line (relation ∷ codes "found" ∷ hex_text e.input ∷ answer_words e.before
     ∷ codes "->" ∷ answer_words e.after ∷ [])
 change_line relation Unsettled = line (relation ∷ codes "unsettled" ∷ [])
 

@@ -29,7 +29,7 @@ pub enum Change {
     /// No input is changed so.
     Never,
     /// This input is changed so.
-    Allowed(Example),
+    Found(Example),
     /// Nothing was found, but a piece is outstanding or a region is in doubt.
     Unsettled,
 }
@@ -74,7 +74,7 @@ pub fn answers_of_regions(
     Ok(answers)
 }
 
-/// What is found of a relation in the region at a place: `Never` where no member is changed so, `Allowed` with a member
+/// What is found of a relation in the region at a place: `Never` where no member is changed so, `Found` with a member
 /// that is, and else `Unsettled`. `Memory` where an allocation is refused.
 fn look_at(
     alloc: Global,
@@ -97,7 +97,7 @@ fn look_at(
     match find_member(alloc, settled.region(place).piece())? {
         Membership::Empty => Ok(Change::Never),
         Membership::Doubt => Ok(Change::Unsettled),
-        Membership::Member(input) => Ok(Change::Allowed(Example {
+        Membership::Member(input) => Ok(Change::Found(Example {
             input,
             before: both.older,
             after: both.newer,
@@ -133,7 +133,7 @@ fn change_without_example(
 /// as one stack: its first `older` programs are the old stack, and the others the new one. The caller's condition: the
 /// stack has at least `older` programs, and `answers` are those of `answers_of_regions`.
 ///
-/// `Never` where nothing is outstanding and no input is changed so; `Allowed` with an input that is, a member of the
+/// `Never` where nothing is outstanding and no input is changed so; `Found` with an input that is, a member of the
 /// first region in which one was found; else `Unsettled`. On a plain stack the example is the least one of the first
 /// region that has any, and `Unsettled` comes only where a piece is outstanding. `Memory` where an allocation is
 /// refused.
@@ -151,7 +151,7 @@ pub fn find_change(
     let mut doubt = false;
     for place in 0..answers.len() {
         match look_at(alloc, settled, older, relation, place, answers[place])? {
-            Change::Allowed(example) => return Ok(Change::Allowed(example)),
+            Change::Found(example) => return Ok(Change::Found(example)),
             Change::Unsettled => doubt = true,
             Change::Never => {}
         }

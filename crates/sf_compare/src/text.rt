@@ -40,11 +40,11 @@ fn push_change(
     match change {
         Change::Never => write!(text, "{relation} never\n"),
         Change::Unsettled => write!(text, "{relation} unsettled\n"),
-        Change::Allowed(example) => {
+        Change::Found(example) => {
             let digits = hex_of(alloc, &example.input)?;
             let before = words_of(alloc, example.before)?;
             let after = words_of(alloc, example.after)?;
-            write!(text, "{relation} allowed {digits} {before} -> {after}\n")
+            write!(text, "{relation} found {digits} {before} -> {after}\n")
         }
     }
 }

@@ -1,5 +1,5 @@
 -- What differs between the answers of two stacks that were explored as one, and the rows that show it.
-use Rattle.std.specs.Prelude.{◌≡◌, ◌≢◌, ◌⊎◌, ℕ, ◌+◌, ◌*◌, ◌<◌, ◌^◌, ◌==◌, not, Bool, false, List, [], ◌∷◌, ◌++◌, codes, All, length, map, count_by, Option, Some, MatchOption, slice_get, slice_index}
+use Rattle.std.specs.Prelude.{◌≡◌, ◌≢◌, ◌⊎◌, ℕ, ◌+◌, ◌*◌, ◌<◌, ◌^◌, ◌==◌, not, Bool, false, List, [], ◌∷◌, ◌++◌, codes, All, length, map, count_by, Option, None, Some, MatchOption, slice_get, slice_index}
 use Rattle.std.specs.List.{filter, flat_map}
 use Rattle.std.specs.List.Sorted.{IsNonDecreasingBy}
 use Rattle.std.specs.Fmt.{decimal}
@@ -87,10 +87,16 @@ abbrev pub changed_line : List RowData → List ℕ
 changed_line rows = line (codes "total" ∷ codes "changed" ∷ decimal (length rows) ∷ codes "undetermined"
     ∷ decimal (count_by is_undetermined rows) ∷ [])
 
+-- The line that counts the rows, where they were drawn: where a piece is outstanding there is none, since nothing was
+-- looked for.
+abbrev pub drawn_line : Option PictureData → List RowData → List ℕ
+drawn_line None rows = []
+drawn_line (Some p) rows = changed_line rows
+
 -- the rows and the line that counts them, with these names of calls
 abbrev pub differences_text : List NamesData → DifferencesData → List ℕ
 differences_text names x =
-    flat_map (row_line names (pairs_words x.pairs)) (changed_rows x) ++ changed_line (changed_rows x)
+    flat_map (row_line names (pairs_words x.pairs)) (changed_rows x) ++ drawn_line x.picture (changed_rows x)
 
 -- the whole text: that of the comparison, and then the rows
 abbrev pub compared_text : List NamesData → Compared → DifferencesData → List ℕ

@@ -4,7 +4,7 @@ ghost use Rattle.std.specs.Prelude.{◌≡◌, ◌⊎◌, ◌++◌, IfErr, IfOk,
 ghost use Rattle.std.specs.Io.KnownBytes.{Appends};
 ghost use Rattle.sf_audit.specs.Reports.{AppendsFront};
 ghost use Rattle.sf_audit.specs.declared.fault.Fault.TheVariants.{Memory as MemoryFault, Write as WriteFault};
-ghost use Rattle.sf_list.specs.Differences.{changed_line, changed_of, changed_rows, compared_text, differences_text, is_unchanged};
+ghost use Rattle.sf_list.specs.Differences.{changed_line, changed_of, changed_rows, compared_text, differences_text, drawn_line, is_unchanged};
 
 use crate::differences::Differences;
 use crate::lines::push_rows;
@@ -59,6 +59,17 @@ fn push_total(text: &mut String, rows: &[Row]) -> Result<(), AllocError>
     write!(text, "total changed {count} undetermined {undetermined}\n")
 }
 
+/// Adds the line that counts the rows. Where a piece is outstanding, nothing was drawn, and there is no such line.
+fn push_drawn(text: &mut String, differences: &Differences, rows: &[Row]) -> Result<(), AllocError>
+    ensures { OnOk result (string_bytes text.new ≡ string_bytes text.old
+        ++ drawn_line differences.now.picture rows.now) }
+{
+    match differences.picture() {
+        Some(_) => push_total(text, rows),
+        None => Ok(()),
+    }
+}
+
 /// Adds the rows and the line that counts them, with these names of calls.
 fn push_differences(
     alloc: Global,
@@ -73,7 +84,7 @@ fn push_differences(
 {
     let words = all_words(alloc, differences.pairs())?;
     push_rows(text, names, words.as_slice(), rows)?;
-    push_total(text, rows)
+    push_drawn(text, differences, rows)
 }
 
 /// The whole text: that of the comparison, and then the rows.
@@ -94,7 +105,8 @@ fn text_of(
 }
 
 /// Writes the text of a comparison, then the rows in which the answers of the two stacks differ, with these names of calls,
-/// and a line that counts them: how many there are, and how many of them have several labels.
+/// and a line that counts them: how many there are, and how many of them have several labels. Where a piece is
+/// outstanding, there are no rows and no such line.
 ///
 /// `Write` where a write fails or takes no byte: a beginning of the text was written then. `Memory` where the text can't be
 /// built: nothing was written then.

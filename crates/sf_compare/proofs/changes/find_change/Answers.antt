@@ -1,13 +1,13 @@
 use Rattle.std.proofs.Common.{true≢false, arith}
-use Rattle.sf_compare.proofs.ChangeLemmas.{allowed, one_more}
+use Rattle.sf_compare.proofs.ChangeLemmas.{found, one_more}
 use Rattle.sf_compare.proofs.changes.find_change.Goals.{in-Unsettled, in-Never}
 use Rattle.sf_compare.proofs.changes.find_change.Goals as goal
 
-pub returns-in-Allowed-clause-ok : goal.returns-in-Allowed-clause-ok
-returns-in-Allowed-clause-ok c =
+pub returns-in-Found-clause-ok : goal.returns-in-Found-clause-ok
+returns-in-Found-clause-ok c =
     let i = c.loop-place.invariant in
-    let told = rw c.in-Allowed.is at c.in_ok-example.ensures.ok in
-    allowed c.args.settled.now c.args.older c.args.relation c.loop-place.place c.in-Allowed.example told.0 told.1
+    let told = rw c.in-Found.is at c.in_ok-example.ensures.ok in
+    found c.args.settled.now c.args.older c.args.relation c.loop-place.place c.in-Found.example told.0 told.1
     (λ plain. i.passed (i.plain plain))
 
 pub loop-place-preserved : goal.loop-place-preserved
