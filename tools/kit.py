@@ -1,0 +1,90 @@
+"""What the scripts here take of the Rattle kit beside its command `rt`, and where they put what they build."""
+import hashlib
+import importlib.machinery
+import importlib.util
+import os
+import shutil
+import subprocess
+import sys
+
+ROOT = os.path.dirname(os.path.dirname(os.path.abspath(__file__)))
+OUT = os.path.join(ROOT, "out")
+PROGRAM = "seccomp_audit"
+
+# The kits that the proofs were made with, and what they have in common: the logic that each proof is in.
+KITS = ("rattle-kit-13b", "rattle-kit-13f")
+LOGIC = "dac8208d650f15bf"
+
+
+class Refused(Exception):
+    """Why something can't be done, in one line, and what to do."""
+
+
+def found():
+    """The folder of the kit whose `rt` is on the path. Refused where there is none, or another one."""
+    command = shutil.which("rt")
+    if command is None:
+        raise Refused("there is no `rt` on the path: install the Rattle kit, or take the package, which needs none")
+    ran = subprocess.run([command, "version"], capture_output=True, text=True)
+    words = ran.stdout.split()
+    if ran.returncode or words[:1] != [k for k in KITS if k in words[:1]] or words[1:] != ["logic", LOGIC]:
+        told = " ".join(words) or "no version"
+        raise Refused(f"`rt version` says `{told}`: the proofs are for {' or '.join(KITS)}, logic {LOGIC}")
+    return os.path.dirname(os.path.dirname(os.path.realpath(command)))
+
+
+def loaded(kit, name):
+    """A Python file of the kit, as a module: `rtlib.py`, which knows crates, or `rt`, which is the gate."""
+    sys.dont_write_bytecode = True
+    path = os.path.join(kit, "bin", name)
+    spec = importlib.util.spec_from_loader(name.partition(".")[0], importlib.machinery.SourceFileLoader(name, path))
+    module = importlib.util.module_from_spec(spec)
+    sys.modules[spec.name] = module
+    spec.loader.exec_module(module)
+    return module
+
+
+def built(kind):
+    """Where the program of a kind stands: `proved` or `unproved`."""
+    return os.path.join(OUT, kind, PROGRAM)
+
+
+def shown(path):
+    """A path as it is told: from the repository's top where it is below it."""
+    return os.path.relpath(path, ROOT) if path.startswith(ROOT + os.sep) else path
+
+
+def crates_below(name=PROGRAM):
+    """A crate and the repository's libraries that it stands on."""
+    with open(os.path.join(ROOT, "crates.txt")) as file:
+        lines = [line.split(":") for line in file if ":" in line and not line.startswith("#")]
+    uses = {crate.strip(): words.split() for crate, words in lines}
+    found, left = set(), [name]
+    while left:
+        name = left.pop()
+        if name in uses and name not in found:
+            found.add(name)
+            left += uses[name]
+    return sorted(found)
+
+
+def sum_of_sources():
+    """A sum of all that the program is made of."""
+    whole = hashlib.sha256()
+    for crate in crates_below():
+        for part in ("src", "specs", "proofs"):
+            for at, folders, names in os.walk(os.path.join(ROOT, "crates", crate, part)):
+                folders.sort()
+                for path in (os.path.join(at, name) for name in sorted(names)):
+                    with open(path, "rb") as file:
+                        whole.update(repr((os.path.relpath(path, ROOT), file.read())).encode())
+    return whole.hexdigest()
+
+
+def is_current(kind):
+    """Whether the program of a kind stands, and was built of the sources that stand now."""
+    try:
+        with open(os.path.join(OUT, kind, "of")) as file:
+            return os.path.isfile(built(kind)) and file.read() == sum_of_sources()
+    except OSError:
+        return False

@@ -1,0 +1,85 @@
+"""Builds programs and tests without proofs, optimised.
+
+`rt try` makes a whole program for the kit's compiler, and then has it compiled without optimisation and with a sanitizer, runs
+it, and keeps nothing. So here it gets a copy of the kit whose compiler keeps what it is to compile. That is then compiled as
+a program is that is to be used.
+"""
+import os
+import shutil
+import subprocess
+
+from kit import Refused
+
+# The commands that run.
+RUNNING = set()
+
+# What stands in the place of the kit's compiler.
+KEEPS = """#!/bin/sh
+case " $* " in
+*" -fsanitize=address "*) cp module.bc '{room}/module.bc' && printf '%s\\n' "$@" > '{room}/words'; exit 1 ;;
+esac
+exec '{compiler}' "$@"
+"""
+
+
+def kit_that_keeps(kit, room):
+    """A copy of the kit, of links, whose compiler keeps what it is to compile."""
+    copied = os.path.join(room, "kit")
+    for folder in ("", "/bin", "/toolchain", "/toolchain/bin"):
+        os.mkdir(copied + folder)
+    # What is no link: files that look for the kit around them, and the compiler.
+    for folder, apart in (("", ("bin", "toolchain")), ("bin/", ("rt", "rtlib.py")), ("toolchain/", ("bin",)), ("toolchain/bin/", ("clang",))):
+        for name in set(os.listdir(f"{kit}/{folder}")) - {*apart}:
+            os.symlink(os.path.realpath(f"{kit}/{folder}{name}"), f"{copied}/{folder}{name}")
+    for name in ("rt", "rtlib.py"):
+        shutil.copy(f"{kit}/bin/{name}", f"{copied}/bin/{name}")
+    compiler = f"{copied}/toolchain/bin/clang"
+    with open(compiler, "w") as file:
+        file.write(KEEPS.format(room=room, compiler=f"{kit}/toolchain/bin/clang"))
+    os.chmod(compiler, 0o755)
+    return copied
+
+
+def said_by(words, **how):
+    """The status of a command, and what it says. Where this program is told to stop, `stop` ends the command too."""
+    how = {"stdin": subprocess.DEVNULL, "stdout": subprocess.PIPE, "stderr": subprocess.STDOUT, **how}
+    with subprocess.Popen(words, text=True, errors="replace", **how) as command:
+        RUNNING.add(command)
+        said = command.communicate()[0]
+        RUNNING.discard(command)
+    return command.returncode, said
+
+
+def stop():
+    """Ends the commands that run."""
+    for command in [*RUNNING]:
+        command.terminate()
+        command.wait()
+
+
+def run(words, what, **how):
+    """Runs a command. Refused with what it said first where it fails."""
+    status, said = said_by(words, **how)
+    if status:
+        told = [line for line in said.splitlines() if line.strip()]
+        raise Refused(f"{what} failed: {told[0] if told else f'status {status}'}")
+
+
+def link(kit, made, program):
+    """Links a program as `rt` does."""
+    words = [f"{kit}/bin/rattle-link", "--target", "x86_64-unknown-linux-gnu", "--toolchain", f"{kit}/toolchain"]
+    run([*words, "-o", program, made, f"{kit}/c/libos_c.a", f"{kit}/c/liblibc_c.a"], "to link the program")
+
+
+def make(kit, crate, room, tests=False):
+    """Makes the program in a crate's folder, or its tests, without proofs: a file in the folder `room`, which is empty."""
+    words = [f"{kit_that_keeps(kit, room)}/bin/rt", "try", *["--test"] * tests]
+    _, said = said_by(words, cwd=crate, env={**os.environ, "TMPDIR": room})
+    if not os.path.isfile(f"{room}/words"):
+        raise Refused(f"`rt try` made no program of {os.path.basename(crate)}:\n{said}")
+    with open(f"{room}/words") as file:
+        words = [{"-O0": "-O1"}.get(word, word) for word in file.read().splitlines() if word != "-fsanitize=address"]
+    run([f"{kit}/toolchain/bin/clang", *words], "to compile the program", cwd=room)
+    program = f"{room}/{os.path.basename(crate)}"
+    link(kit, f"{room}/module.o", program)
+    return program
