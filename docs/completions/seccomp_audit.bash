@@ -1,0 +1,26 @@
+# Completions of seccomp_audit for bash, made by tools/completions.
+
+_seccomp_audit() {
+    local word=${COMP_WORDS[COMP_CWORD]} before=${COMP_WORDS[COMP_CWORD - 1]} options="--help --version"
+    case ${COMP_WORDS[1]} in
+        audit) options="--policy --budget --workers --regions --explain-errors --help" ;;
+        check) options="--explain-errors --help" ;;
+        eval) options="--input --trace --trace-true --names --explain-errors --help" ;;
+        compare) options="--old --new --budget --workers --same --rows --leaves --names --explain-errors --help" ;;
+        list) options="--budget --workers --leaves --names --explain-errors --help" ;;
+    esac
+    COMPREPLY=()
+    case $before in
+        --budget|--input|--leaves|--workers) return ;;
+    esac
+    if [[ $word == -* ]]; then
+        mapfile -t COMPREPLY < <(compgen -W "$options" -- "$word")
+    elif ((COMP_CWORD == 1)); then
+        mapfile -t COMPREPLY < <(compgen -W "audit check eval compare list" -- "$word")
+    else
+        compopt -o filenames 2> /dev/null
+        mapfile -t COMPREPLY < <(compgen -f -- "$word")
+    fi
+}
+
+complete -F _seccomp_audit seccomp_audit

@@ -1,0 +1,45 @@
+# Completions of seccomp_audit for fish, made by tools/completions.
+
+complete -c seccomp_audit -f
+complete -c seccomp_audit -n __fish_use_subcommand -l help -d 'Print help'
+complete -c seccomp_audit -n __fish_use_subcommand -l version -d 'Print version'
+complete -c seccomp_audit -n __fish_use_subcommand -a audit -d 'Answer the questions of a policy about a stack of filters'
+complete -c seccomp_audit -n __fish_use_subcommand -a check -d 'Check whether files are lawful filters that make a lawful stack'
+complete -c seccomp_audit -n __fish_use_subcommand -a eval -d 'Show what a stack of filters answers to one input'
+complete -c seccomp_audit -n __fish_use_subcommand -a compare -d 'Tell for all inputs what a change of a stack of filters lets through'
+complete -c seccomp_audit -n __fish_use_subcommand -a list -d 'List for all inputs what a stack of filters answers'
+complete -c seccomp_audit -n '__fish_seen_subcommand_from audit' -F
+complete -c seccomp_audit -n '__fish_seen_subcommand_from audit' -l policy -r -F -d 'The policy file, which asks the questions'
+complete -c seccomp_audit -n '__fish_seen_subcommand_from audit' -l budget -x -d 'The most pieces that are worked on, 1 to 1000000 [default: 100000]'
+complete -c seccomp_audit -n '__fish_seen_subcommand_from audit' -l workers -x -d 'The number of workers, 1 to 64: 1 is as fast, and answers more under a budget [default: 4]'
+complete -c seccomp_audit -n '__fish_seen_subcommand_from audit' -l regions -d 'List the settled regions too'
+complete -c seccomp_audit -n '__fish_seen_subcommand_from audit' -l explain-errors -d 'Explain an error under its line: where it lies, and what its number means'
+complete -c seccomp_audit -n '__fish_seen_subcommand_from audit' -l help -d 'Print help'
+complete -c seccomp_audit -n '__fish_seen_subcommand_from check' -F
+complete -c seccomp_audit -n '__fish_seen_subcommand_from check' -l explain-errors -d 'Explain an error under its line: where it lies, and what its number means'
+complete -c seccomp_audit -n '__fish_seen_subcommand_from check' -l help -d 'Print help'
+complete -c seccomp_audit -n '__fish_seen_subcommand_from eval' -F
+complete -c seccomp_audit -n '__fish_seen_subcommand_from eval' -l input -x -d 'The 64 bytes of struct seccomp_data as 128 hexadecimal digits'
+complete -c seccomp_audit -n '__fish_seen_subcommand_from eval' -l trace -d 'Show what each filter meets and returns too'
+complete -c seccomp_audit -n '__fish_seen_subcommand_from eval' -l trace-true -d 'The same without the comparisons that are false'
+complete -c seccomp_audit -n '__fish_seen_subcommand_from eval' -l names -r -F -d 'A file of names of calls, which rows and traces show; once for each file'
+complete -c seccomp_audit -n '__fish_seen_subcommand_from eval' -l explain-errors -d 'Explain an error under its line: where it lies, and what its number means'
+complete -c seccomp_audit -n '__fish_seen_subcommand_from eval' -l help -d 'Print help'
+complete -c seccomp_audit -n '__fish_seen_subcommand_from compare' -F
+complete -c seccomp_audit -n '__fish_seen_subcommand_from compare' -l old -r -F -d 'The filter files before the change, in order of installation'
+complete -c seccomp_audit -n '__fish_seen_subcommand_from compare' -l new -r -F -d 'The filter files after the change'
+complete -c seccomp_audit -n '__fish_seen_subcommand_from compare' -l budget -x -d 'The most pieces that are worked on, 1 to 1000000 [default: 100000]'
+complete -c seccomp_audit -n '__fish_seen_subcommand_from compare' -l workers -x -d 'The number of workers, 1 to 64: 1 is as fast, and answers more under a budget [default: 4]'
+complete -c seccomp_audit -n '__fish_seen_subcommand_from compare' -l same -d 'Let the exit status tell of different, not of looser'
+complete -c seccomp_audit -n '__fish_seen_subcommand_from compare' -l rows -d 'List the rows whose answers differ too'
+complete -c seccomp_audit -n '__fish_seen_subcommand_from compare' -l leaves -x -d 'The most leaves that are drawn, 1 to 1000000 [default: 20000]'
+complete -c seccomp_audit -n '__fish_seen_subcommand_from compare' -l names -r -F -d 'A file of names of calls, which rows and traces show; once for each file'
+complete -c seccomp_audit -n '__fish_seen_subcommand_from compare' -l explain-errors -d 'Explain an error under its line: where it lies, and what its number means'
+complete -c seccomp_audit -n '__fish_seen_subcommand_from compare' -l help -d 'Print help'
+complete -c seccomp_audit -n '__fish_seen_subcommand_from list' -F
+complete -c seccomp_audit -n '__fish_seen_subcommand_from list' -l budget -x -d 'The most pieces that are worked on, 1 to 1000000 [default: 100000]'
+complete -c seccomp_audit -n '__fish_seen_subcommand_from list' -l workers -x -d 'The number of workers, 1 to 64: 1 is as fast, and answers more under a budget [default: 4]'
+complete -c seccomp_audit -n '__fish_seen_subcommand_from list' -l leaves -x -d 'The most leaves that are drawn, 1 to 1000000 [default: 20000]'
+complete -c seccomp_audit -n '__fish_seen_subcommand_from list' -l names -r -F -d 'A file of names of calls, which rows and traces show; once for each file'
+complete -c seccomp_audit -n '__fish_seen_subcommand_from list' -l explain-errors -d 'Explain an error under its line: where it lies, and what its number means'
+complete -c seccomp_audit -n '__fish_seen_subcommand_from list' -l help -d 'Print help'

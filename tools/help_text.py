@@ -1,0 +1,35 @@
+"""What the built program says of itself by `--help`, in parts."""
+import os
+import re
+import subprocess
+
+ROOT = os.path.dirname(os.path.dirname(os.path.abspath(__file__)))
+
+
+def sections_of(text):
+    """The parts of a help text, by their titles; what stands before the first one has none."""
+    sections, title = {"": []}, ""
+    for line in text.splitlines():
+        found = re.fullmatch(r"(Usage|[A-Z][a-z ]+):(.*)", line)
+        if found:
+            title = found[1]
+            sections[title] = [found[2].strip()] if found[2].strip() else []
+        elif line.startswith("  "):
+            sections[title].append(line.strip())
+        elif line:
+            sections.setdefault("end" if title else "", []).append(line)
+    return sections
+
+
+class Help:
+    """The help of a program: its name and version, the parts of `--help`, and those of each subcommand's."""
+
+    def __init__(self, program):
+        def said(*words):
+            return subprocess.run([program, *words], capture_output=True, text=True, check=True).stdout
+
+        self.name, self.version = said("--version").split()
+        self.top = sections_of(said("--help"))
+        lines = dict(re.split(r"  +", line, maxsplit=1) for line in self.top["Commands"])
+        self.abouts = lines
+        self.commands = {command: sections_of(said(command, "--help")) for command in lines}
