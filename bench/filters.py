@@ -122,15 +122,40 @@ def tests_above_masks(masks, tests):
     return code + b"".join(equal(call, 0, 1) + ALLOW for call in numbers(tests, 2 * tests, "tests")) + ERRNO
 
 
-def additions(count):
+def additions(count, seed="additions"):
     """Adds so many odd numbers to A."""
-    draw = random.Random("additions")
+    draw = random.Random(seed)
     return b"".join(insn(0x04, k=draw.getrandbits(31) | 1) for _ in range(count))
 
 
-def sums(count):
+def sums(count, seed="additions"):
     """One region, and so many sums of the call's number with constants."""
-    return LOAD_NR + additions(count) + ALLOW
+    return LOAD_NR + additions(count, seed) + ALLOW
+
+
+def contradicted_tests(count):
+    """So many tests, the same each time, of the call's number with bits flipped: those of an input whose number is 5 all pass."""
+    flipped = 0x1234567
+    return LOAD_NR + insn(0xA4, k=flipped) + equal(5 ^ flipped, 0, 0) * count + ALLOW
+
+
+def falling_numbers(count):
+    """Four filters of so many tests each, of odd numbers from the greatest down: each region keeps all that it is past. The one before
+    the newest tests a bit of another word too."""
+    calls = [2 * i + 1 for i in reversed(range(4 * count))]
+    tests = [LOAD_NR + b"".join(equal(call, 0, 0) for call in calls[i * count : (i + 1) * count]) + ALLOW for i in range(4)]
+    bit = load(ARG0_LO) + insn(0x45, 0, 0, 1)
+    return [tests[3], tests[2], bit + tests[1], tests[0]]
+
+
+def excluded_numbers(groups):
+    """250 even numbers a group, which are all killed, and then tests of four bits of another word."""
+    each = 250
+    code = LOAD_NR
+    for group in range(groups):
+        first = group * each
+        code += b"".join(equal(2 * (first + i), each - i, 0) for i in range(each)) + insn(0x05, k=1) + KILL
+    return code + b"".join(load(ARG0_LO) + insn(0x45, 0, 0, 1 << bit) for bit in range(4)) + ALLOW
 
 
 def implied_tests(count, beside):

@@ -17,6 +17,22 @@ PR_SET_CHILD_SUBREAPER = 36
 # The greatest budget that an audit takes.
 MOST_BUDGET = 1000000
 
+ROOT = os.path.dirname(os.path.dirname(os.path.abspath(__file__)))
+
+# Where a build leaves the proved program.
+PROVED = os.path.join(ROOT, "out", "proved", "seccomp_audit")
+
+# The sources of the plain program, which does the same without proofs.
+PLAIN = os.path.join(ROOT, "bench", "plain")
+
+
+def plain():
+    """The path of the plain program, which is built first where it isn't."""
+    target = os.path.join(PLAIN, "target")
+    manifest = os.path.join(PLAIN, "Cargo.toml")
+    subprocess.run(["cargo", "build", "--release", "--quiet", "--manifest-path", manifest, "--target-dir", target], check=True)
+    return os.path.join(target, "release", "plain")
+
 
 def adopt():
     """Makes orphans of this process's children its own children."""

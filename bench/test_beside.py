@@ -11,7 +11,7 @@ from importlib.machinery import SourceFileLoader
 from importlib.util import module_from_spec, spec_from_loader
 
 import filters
-from runs import run
+from runs import plain, run
 
 BESIDE = os.path.join(os.path.dirname(os.path.abspath(__file__)), "beside")
 LOADER = SourceFileLoader("beside", BESIDE)
@@ -40,7 +40,7 @@ class Told(unittest.TestCase):
         return path
 
     def beside(self, ours, peer, *options):
-        ran = subprocess.run([sys.executable, BESIDE, ours, peer, *ONE_CASE, *options], capture_output=True, text=True)
+        ran = subprocess.run([sys.executable, BESIDE, ours, "--peer", peer, *ONE_CASE, *options], capture_output=True, text=True)
         return ran.returncode, ran.stdout + ran.stderr
 
     def assert_told(self, peer, told, ours=PRINTS):
@@ -82,6 +82,18 @@ class Told(unittest.TestCase):
     def test_a_program_without_help_is_refused(self):
         status, text = self.beside(self.program("ours", PRINTS), self.program("peer", PRINTS, help_status=4))
         self.assertIn("peer --help ends with status 4", text)
+        self.assertEqual(status, 1)
+
+    @unittest.skipUnless(shutil.which("cargo"), "no cargo")
+    def test_the_plain_program_is_the_peer_if_none_is_given(self):
+        ran = subprocess.run([sys.executable, BESIDE, plain(), *ONE_CASE], capture_output=True, text=True)
+        self.assertIn("1 cases, 0 different or without a report", ran.stdout)
+        self.assertEqual(ran.returncode, 0)
+
+    def test_a_program_that_is_not_there_is_told(self):
+        ours = self.program("ours", PRINTS)
+        status, text = self.beside(os.path.join(self.folder.name, "none"), ours)
+        self.assertIn("there is no such program", text)
         self.assertEqual(status, 1)
 
     def test_no_case_is_a_failure(self):
