@@ -1,4 +1,4 @@
-"""Copies of the tree, for tools that try other texts."""
+"""Copies of the tree, for `try_edits`, which tries other texts."""
 import pathlib
 import shutil
 import subprocess
