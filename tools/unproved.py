@@ -4,8 +4,10 @@
 it, and keeps nothing. So here it gets a copy of the kit whose compiler keeps what it is to compile. That is then compiled as
 a program is that is to be used.
 """
+import contextlib
 import os
 import shutil
+import signal
 import subprocess
 
 from kit import Refused
@@ -51,10 +53,11 @@ def said_by(words, **how):
 
 
 def stop():
-    """Ends the commands that run."""
+    """Ends the commands that run. Called by a handler of a signal, so it takes no lock of `subprocess`."""
     for command in [*RUNNING]:
-        command.terminate()
-        command.wait()
+        os.kill(command.pid, signal.SIGTERM)
+        with contextlib.suppress(ChildProcessError):
+            os.waitpid(command.pid, 0)
 
 
 def run(words, what, **how):
