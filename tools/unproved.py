@@ -24,21 +24,32 @@ exec '{compiler}' "$@"
 """
 
 
+# What stands in the place of the prover, which `rt try` asks beside for hints: that would take as long again.
+PROVES_NOTHING = "#!/bin/sh\nexit 1\n"
+
+# Of each folder of the kit, what the copy has as its own.
+APART = {"": ("bin", "toolchain"), "bin/": ("rt", "rtlib.py", "rattle"), "toolchain/": ("bin",), "toolchain/bin/": ("clang",)}
+
+
+def write_script(path, text):
+    with open(path, "w") as file:
+        file.write(text)
+    os.chmod(path, 0o755)
+
+
 def kit_that_keeps(kit, room):
     """A copy of the kit, of links, whose compiler keeps what it is to compile."""
     copied = os.path.join(room, "kit")
     for folder in ("", "/bin", "/toolchain", "/toolchain/bin"):
         os.mkdir(copied + folder)
-    # What is no link: files that look for the kit around them, and the compiler.
-    for folder, apart in (("", ("bin", "toolchain")), ("bin/", ("rt", "rtlib.py")), ("toolchain/", ("bin",)), ("toolchain/bin/", ("clang",))):
+    # What is no link: files that look for the kit around them, the compiler, and the prover.
+    for folder, apart in APART.items():
         for name in set(os.listdir(f"{kit}/{folder}")) - {*apart}:
             os.symlink(os.path.realpath(f"{kit}/{folder}{name}"), f"{copied}/{folder}{name}")
     for name in ("rt", "rtlib.py"):
         shutil.copy(f"{kit}/bin/{name}", f"{copied}/bin/{name}")
-    compiler = f"{copied}/toolchain/bin/clang"
-    with open(compiler, "w") as file:
-        file.write(KEEPS.format(room=room, compiler=f"{kit}/toolchain/bin/clang"))
-    os.chmod(compiler, 0o755)
+    write_script(f"{copied}/toolchain/bin/clang", KEEPS.format(room=room, compiler=f"{kit}/toolchain/bin/clang"))
+    write_script(f"{copied}/bin/rattle", PROVES_NOTHING)
     return copied
 
 
@@ -74,14 +85,14 @@ def link(kit, made, program):
     run([*words, "-o", program, made, f"{kit}/c/libos_c.a", f"{kit}/c/liblibc_c.a"], "to link the program")
 
 
-def make(kit, crate, room, tests=False):
+def make(kit, crate, room, tests=False, level="-O1"):
     """Makes the program in a crate's folder, or its tests, without proofs: a file in the folder `room`, which is empty."""
     words = [f"{kit_that_keeps(kit, room)}/bin/rt", "try", *["--test"] * tests]
     _, said = said_by(words, cwd=crate, env={**os.environ, "TMPDIR": room})
     if not os.path.isfile(f"{room}/words"):
         raise Refused(f"`rt try` made no program of {os.path.basename(crate)}:\n{said}")
     with open(f"{room}/words") as file:
-        words = [{"-O0": "-O1"}.get(word, word) for word in file.read().splitlines() if word != "-fsanitize=address"]
+        words = [{"-O0": level}.get(word, word) for word in file.read().splitlines() if word != "-fsanitize=address"]
     run([f"{kit}/toolchain/bin/clang", *words], "to compile the program", cwd=room)
     program = f"{room}/{os.path.basename(crate)}"
     link(kit, f"{room}/module.o", program)

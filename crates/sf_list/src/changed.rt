@@ -1,6 +1,6 @@
 //! The text of what differs between the answers of two stacks.
 
-ghost use Rattle.std.specs.Prelude.{◌≡◌, ◌⊎◌, ◌++◌, IfErr, IfOk, OnErr, OnOk, not, string_bytes};
+ghost use Rattle.std.specs.Prelude.{◌≡◌, ◌⊎◌, ◌++◌, IfErr, IfOk, OnErr, OnOk, not, option_map, string_bytes};
 ghost use Rattle.std.specs.Io.KnownBytes.{Appends};
 ghost use Rattle.sf_audit.specs.Reports.{AppendsFront};
 ghost use Rattle.sf_audit.specs.declared.fault.Fault.TheVariants.{Memory as MemoryFault, Write as WriteFault};
@@ -12,6 +12,7 @@ use crate::pairs::all_words;
 use crate::rows::{Row, count_undetermined, rows_in};
 use sf_audit::{Fault, Names, write_bytes};
 use sf_compare::{Comparison, text_of_comparison};
+use sf_picture::Picture;
 use std::alloc::{AllocError, Global};
 use std::io::Write;
 
@@ -59,12 +60,12 @@ fn push_total(text: &mut String, rows: &[Row]) -> Result<(), AllocError>
     write!(text, "total changed {count} undetermined {undetermined}\n")
 }
 
-/// Adds the line that counts the rows. Where a piece is outstanding, nothing was drawn, and there is no such line.
-fn push_drawn(text: &mut String, differences: &Differences, rows: &[Row]) -> Result<(), AllocError>
+/// Adds the line that counts the rows of a picture. Where there is none, nothing was drawn, and there is no such line.
+fn push_drawn(text: &mut String, picture: Option<&Picture>, rows: &[Row]) -> Result<(), AllocError>
     ensures { OnOk result (string_bytes text.new ≡ string_bytes text.old
-        ++ drawn_line differences.now.picture rows.now) }
+        ++ drawn_line (option_map (λ p. p.now) picture.entry) rows.now) }
 {
-    match differences.picture() {
+    match picture {
         Some(_) => push_total(text, rows),
         None => Ok(()),
     }
@@ -84,7 +85,7 @@ fn push_differences(
 {
     let words = all_words(alloc, differences.pairs())?;
     push_rows(text, names, words.as_slice(), rows)?;
-    push_drawn(text, differences, rows)
+    push_drawn(text, differences.picture(), rows)
 }
 
 /// The whole text: that of the comparison, and then the rows.
