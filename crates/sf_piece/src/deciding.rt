@@ -24,9 +24,9 @@ use std::sync::Arc;
 pub(crate) enum SmallStep {
     /// The run goes on.
     On,
-    /// The facts leave both truth values open. This is the piece of the members on which the truth value is false; the
-    /// run has become that of the members on which it is true.
-    Split(Arc<Piece>),
+    /// The facts leave both truth values open. These are the piece of the members on which the truth value is false, and
+    /// that of the members on which it is true.
+    Split(Arc<Piece>, Arc<Piece>),
     /// The last program has returned: the name is whole, and the answer is that of all programs.
     Settled,
     /// There is no member.
@@ -90,55 +90,33 @@ pub(crate) fn take(run: &mut Run, insn: Insn, sense: bool) -> Result<(), Fault>
     Ok(())
 }
 
-/// The piece of the members on which the truth value is false.
+/// The piece of the members on which the condition has this truth value.
 fn child(
     alloc: Global,
     run: &Run,
     insn: Insn,
     cond: Cond,
+    sense: bool,
     facts: Facts,
 ) -> Result<Arc<Piece>, Fault>
     requires lawful { IsLawfulPiece run.now }
     requires standing { HasAtHand run.now insn }
     requires query { IsQuery run.now insn cond }
-    requires facts { AreChildFacts run.now cond false facts }
-    ensures { IfOk result (λ c. IsChild run.now cond false (arc_value c)) }
+    requires facts { AreChildFacts run.now cond sense facts }
+    ensures { IfOk result (λ c. IsChild run.now cond sense (arc_value c)) }
 {
-    let to = machine_after(run, insn, false);
+    let to = machine_after(run, insn, sense);
     let mut conditions = run.conditions.fork()?;
-    conditions.push(Cond {
-        sense: false,
-        ..cond
-    })?;
+    conditions.push(Cond { sense, ..cond })?;
     let next = Run {
         stack: Arc::try_clone(&run.stack)?,
-        name: run.name.with_truth(false)?,
+        name: run.name.with_truth(sense)?,
         pool: run.pool.fork()?,
         conditions,
         machine: to,
         facts,
     };
     Ok(Arc::new(alloc, Piece { run: next })?)
-}
-
-/// Makes the run that of the members on which the truth value is true. Nothing is copied for it.
-fn become_child(run: &mut Run, insn: Insn, cond: Cond, facts: Facts) -> Result<(), Fault>
-    requires lawful { IsLawfulPiece run.old }
-    requires standing { HasAtHand run.old insn }
-    requires query { IsQuery run.old insn cond }
-    requires facts { AreChildFacts run.old cond true facts }
-    ensures child { IfOk result (λ _. IsChild run.old cond true run.new) }
-    ensures lawful { IfOk result (λ _. IsLawfulPiece run.new) }
-{
-    let to = machine_after(run, insn, true);
-    run.name.push(true)?;
-    run.conditions.push(Cond {
-        sense: true,
-        ..cond
-    })?;
-    run.machine = to;
-    run.facts = facts;
-    Ok(())
 }
 
 /// The piece's facts, with what this truth value of the condition tells; none where that contradicts them.
@@ -179,7 +157,7 @@ pub(crate) fn decide(
         take(run, insn, false)?;
         return Ok(SmallStep::On);
     };
-    let apart = child(alloc, run, insn, cond, on_false)?;
-    become_child(run, insn, cond, on_true)?;
-    Ok(SmallStep::Split(apart))
+    let false_piece = child(alloc, run, insn, cond, false, on_false)?;
+    let true_piece = child(alloc, run, insn, cond, true, on_true)?;
+    Ok(SmallStep::Split(false_piece, true_piece))
 }

@@ -1,4 +1,3 @@
-use Rattle.std.proofs.Common.{false}
 use Rattle.sf_piece.proofs.Lawful.{lawful_child, right_child}
 use Rattle.sf_piece.proofs.deciding.child.Goals as goal
 
@@ -11,7 +10,7 @@ invariant_of-new c =
       c.in_ok-push.ensures.ok,
       c.in_ok-conditions.ensures,
     )
-    (lawful_child _ c.args.insn c.args.cond false c.machine_after-to.result c.args.facts
+    (lawful_child _ c.args.insn c.args.cond c.args.sense c.machine_after-to.result c.args.facts
     (rw (← c.run.view_is) at c.requires.lawful) (rw (← c.run.view_is) at c.requires.standing)
     (rw (← c.run.view_is) at c.requires.query) (rw (← c.run.view_is) at c.requires.facts)
     (rw (← c.run.view_is) at c.machine_after-to.ensures))
@@ -27,7 +26,7 @@ returns c =
       c.in_ok-push.ensures.ok,
       c.in_ok-conditions.ensures,
     )
-    (right_child _ c.args.insn c.args.cond false c.machine_after-to.result c.args.facts
+    (right_child _ c.args.insn c.args.cond c.args.sense c.machine_after-to.result c.args.facts
     (rw (← c.run.view_is) at c.requires.lawful) (rw (← c.run.view_is) at c.requires.standing)
     (rw (← c.run.view_is) at c.requires.query) (rw (← c.run.view_is) at c.requires.facts)
     (rw (← c.run.view_is) at c.machine_after-to.ensures))

@@ -11,5 +11,4 @@ take-requires-clause-foreseen c =
 
 pub returns : goal.returns
 returns c =
-    let split = split_right c.args.run.now c.args.cond _ _ c.in_ok-apart.ensures c.in_ok-become_child.ensures.child in
-    (split.0, split.1, c.in_ok-become_child.ensures.lawful)
+    split_right c.args.run.now c.args.cond _ _ c.in_ok-false_piece.ensures c.in_ok-true_piece.ensures

@@ -14,9 +14,8 @@ loop-run-preserved c =
 pub invariant_of-result : goal.invariant_of-result
 invariant_of-result c =
     let h = rw c.in-Split.is at c.in_ok-execute.ensures in
-    rw (c.in_ok-mine.ensures, c.in_ok-on_true-in-Split.ensures.ok) (split_work _ _ _ _
-    (rw c.deref.ensures at c.name-name.ensures.named) (rw c.deref.ensures at c.name-name.ensures.plain)
-    c.loop-run.invariant.is_on (h.0, h.1))
+    rw c.in_ok-mine.ensures (split_work _ _ _ _ (rw c.deref.ensures at c.name-name.ensures.named)
+    (rw c.deref.ensures at c.name-name.ensures.plain) c.loop-run.invariant.is_on h)
 
 pub invariant_of-result-in-Settled : goal.invariant_of-result-in-Settled
 invariant_of-result-in-Settled c =
