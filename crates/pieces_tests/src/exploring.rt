@@ -1,6 +1,6 @@
 //! Explorations of small stacks without a book: piece after piece, the first name first.
 use sf_check::Stack;
-use sf_piece::{Name, Piece, Step, advance, root};
+use sf_piece::{Piece, Step, advance, root};
 use sf_run::Answer;
 use std::alloc::{AllocError, Global};
 use std::sync::Arc;
@@ -17,22 +17,6 @@ pub(crate) struct Exploration {
     pub(crate) regions: Vec<(Vec<bool>, Answer)>,
 }
 
-/// The whole name of a region: the longer name that its work gives, or else that of its piece.
-fn whole_name(alloc: Global, piece: &Piece, longer: Option<Name>) -> Result<Vec<bool>, AllocError> {
-    match longer {
-        Some(name) => name.values(alloc),
-        None => piece.name().values(alloc),
-    }
-}
-
-/// A fault where a work that doesn't settle gives a name.
-fn see_no_name(longer: Option<Name>) -> Result<(), Fail> {
-    match longer {
-        Some(_name) => Err("a name of what didn't settle".into()),
-        None => Ok(()),
-    }
-}
-
 impl Exploration {
     /// Takes a region in.
     fn settle(&mut self, name: Vec<bool>, answer: Answer) -> Result<(), Fail> {
@@ -46,27 +30,18 @@ impl Exploration {
     }
 
     /// Takes in what became of a piece.
-    fn take(
-        &mut self,
-        alloc: Global,
-        piece: &Piece,
-        step: Step,
-        longer: Option<Name>,
-    ) -> Result<(), Fail> {
+    fn take(&mut self, alloc: Global, step: Step) -> Result<(), Fail> {
         match step {
-            Step::Settled(answer) => self.settle(whole_name(alloc, piece, longer)?, answer),
-            Step::Split(on_false, on_true) => {
-                self.split(on_false, on_true)?;
-                see_no_name(longer)
-            }
-            Step::Empty => see_no_name(longer),
+            Step::Settled(name, answer) => self.settle(name.values(alloc)?, answer),
+            Step::Split(on_false, on_true) => self.split(on_false, on_true),
+            Step::Empty => Ok(()),
         }
     }
 
     /// Works a piece.
     fn work(&mut self, alloc: Global, piece: &Arc<Piece>) -> Result<(), Fail> {
-        let (piece, step, longer) = advance(alloc, piece)?.into_parts();
-        self.take(alloc, &piece, step, longer)?;
+        let (piece, step) = advance(alloc, piece)?.into_parts();
+        self.take(alloc, step)?;
         Ok(self.pieces.push(piece)?)
     }
 }

@@ -214,25 +214,22 @@ impl Book {
         ensures err { IfErr result (λ f. (f ≡ Memory) × (self.new ≡ self.old)) }
     {
         let next = self.next_id;
-        // For the prover: `longer` is dropped before the change where there is no region, since only a region keeps it.
-        let (piece, step, longer) = work.into_parts();
+        let (piece, step) = work.into_parts();
         match step {
             Step::Split(f, t) => {
-                drop(longer);
                 self.outstanding.split(id, next, next + 1, f, t)?;
                 self.splits += 1;
                 self.commits += 1;
                 self.next_id = next + 2;
                 Ok(Some((next, next + 1)))
             }
-            Step::Settled(answer) => {
-                add(&mut self.regions, Region::of(piece, longer, answer))?;
+            Step::Settled(name, answer) => {
+                add(&mut self.regions, Region::of(piece, name, answer))?;
                 self.outstanding.take(id);
                 self.commits += 1;
                 Ok(None)
             }
             Step::Empty => {
-                drop(longer);
                 add(&mut self.emptied, Emptied { piece })?;
                 self.outstanding.take(id);
                 self.commits += 1;

@@ -1,6 +1,6 @@
 //! What a book keeps of pieces that are no longer outstanding, and the test whether a work is of a piece and a stack.
 
-ghost use Rattle.std.specs.Prelude.{◌≡◌, ◌↔◌, ◌∷◌, [], ◌++◌, IsTrue, IfErr, OnOk, IsPermutation, unwrap_or};
+ghost use Rattle.std.specs.Prelude.{◌≡◌, ◌↔◌, ◌∷◌, [], ◌++◌, IsTrue, IfErr, OnOk, IsPermutation};
 ghost use Rattle.std.specs.Ordering.{bool_cmp};
 ghost use Rattle.std.specs.Cmp.Lexicographic.{slice_cmp};
 ghost use Rattle.std.specs.Arc.{arc_value};
@@ -19,36 +19,34 @@ use std::sync::Arc;
 #[derive(Drop)]
 pub struct Region {
     piece: Arc<Piece>,
-    // The whole name where a run made it of the piece's, and none where it is the piece's own.
-    longer: Option<Name>,
+    name: Name,
     answer: Answer,
 }
 
 impl Model for Region {
-    ghost use Rattle.std.specs.Prelude.{unwrap_or};
     ghost use Rattle.sf_book.specs.Books.{RegionData};
 
     ghost Value = { RegionData };
 
     ghost view = { λ r. record {
       piece = r.piece.value;
-      name = unwrap_or r.longer r.piece.value.name;
+      name = r.name;
       answer = r.answer;
     } };
 }
 
 impl Region {
-    /// The region of a piece that settled, with its whole name where that isn't the piece's own.
-    pub(crate) fn of(piece: Arc<Piece>, longer: Option<Name>, answer: Answer) -> Region
+    /// The region of a piece that settled, with its whole name.
+    pub(crate) fn of(piece: Arc<Piece>, name: Name, answer: Answer) -> Region
         ensures { result ≡ record {
           piece = arc_value piece;
-          name = unwrap_or longer (arc_value piece).name;
+          name = name;
           answer = answer;
         } }
     {
         Region {
             piece,
-            longer,
+            name,
             answer,
         }
     }
@@ -64,10 +62,7 @@ impl Region {
     pub fn name(&self) -> &Name
         ensures { result.now ≡ self.now.name }
     {
-        match &self.longer {
-            Some(name) => name,
-            None => self.piece.name(),
-        }
+        &self.name
     }
 
     /// What the stack answers on each member.

@@ -8,7 +8,7 @@ use crate::name::Name;
 use sf_blocks::shared::SharedList;
 use sf_check::{Insn, Program, Stack};
 use sf_dom::Facts;
-use sf_run::{Answer, fold};
+use sf_run::Answer;
 use sf_sym::{Cond, Pool};
 use std::alloc::Global;
 use std::marker::Model;
@@ -89,22 +89,6 @@ impl Run {
         };
         let code = program.insns();
         Some(code[self.machine.place])
-    }
-
-    /// The answer of the stack, where the instruction at hand is the last program's return of a constant: nothing is
-    /// left to run then, and the name is whole. None elsewhere.
-    pub(crate) fn answer_at_hand(&self) -> Option<Answer>
-        requires { IsLawfulPiece self.now }
-        ensures { IfSome result (λ a. IsRightAnswer self.now self.now.name a) }
-    {
-        let insn = self.insn()?;
-        if self.machine.program + 1 < self.stack.programs().len() {
-            return None;
-        }
-        let Insn::ReturnConstant(value) = insn else {
-            return None;
-        };
-        Some(fold(self.machine.so_far, value))
     }
 
     /// The name, and the answer of the programs that have returned.

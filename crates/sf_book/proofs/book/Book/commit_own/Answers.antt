@@ -1,6 +1,7 @@
 use Rattle.std.proofs.Common.{◌≡◌, ap, sym, ◌∙◌, arith}
 use Rattle.sf_piece.specs.Pieces.{Split, Settled, Empty}
-use Rattle.sf_piece.specs.Steps.{step_data}
+use Rattle.sf_piece.specs.declared.work.Step.{Step}
+use Rattle.sf_piece.specs.Steps.{step_data, name_after}
 use Rattle.sf_book.proofs.Kept.{low_id, child_names}
 use Rattle.sf_book.proofs.Plain.{split_book, answer_book, empty_book}
 use Rattle.sf_book.proofs.book.Book.commit_own.Goals as goal
@@ -33,7 +34,9 @@ pub invariant_of-self-in-Settled : goal.invariant_of-self-in-Settled
 invariant_of-self-in-Settled c =
     let parts = c.into_parts-piece.ensures in
     let is : c.args.work.step ≡ Settled c.in-Settled.answer = sym parts.step ∙ ap step_data c.in-Settled.is in
-    rw (c.take.ensures, c.in_ok-add-in-Settled.ensures.ok, c.of.ensures, parts.piece, parts.name)
+    let name : c.in-Settled.name ≡ c.args.work.name =
+    sym (ap (λ (s : Step). name_after s c.args.work.piece.name) c.in-Settled.is) ∙ parts.name in
+    rw (c.take.ensures, c.in_ok-add-in-Settled.ensures.ok, c.of.ensures, parts.piece, name)
     (answer_book _ c.self.inside.next_id c.args.id c.args.work c.in-Settled.answer c.self.invariant
     (rw (← c.self.view_is) at c.requires.may) (rw (← c.self.view_is) at c.requires.room)
     (record { right = parts.right; plain = parts.plain; is = is }))
