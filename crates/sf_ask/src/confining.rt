@@ -33,8 +33,7 @@ fn misses(facts: &Facts, word: usize, low: u32, high: u32) -> bool
     known.high < low || high < known.low
 }
 
-/// Whether what is known of some word leaves no number of the question's range for it. Nothing is copied, so this is
-/// asked before the facts are confined.
+/// Whether what is known of some word leaves no number of the question's range for it. Nothing is copied for this.
 pub(crate) fn rules_out(facts: &Facts, question: &Question) -> bool
     requires { 16 ≤ length facts.now.known }
     ensures { result ≡ true → IsRuledOut facts.now question.now }

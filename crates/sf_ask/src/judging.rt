@@ -13,7 +13,7 @@ ghost use Rattle.sf_ask.specs.Verdicts.{IsRightVerdict, TellsTriedAt, IsDecisive
 ghost use Rattle.sf_ask.specs.Searches.{IsRightSearch, TellsTried};
 ghost use Rattle.sf_ask.specs.Trying.{IsLeastInput};
 
-use crate::confining::{facts_in_question, rules_out};
+use crate::confining::facts_in_question;
 use crate::fault::Fault;
 use crate::question::Question;
 use crate::verdict::Verdict;
@@ -82,12 +82,10 @@ pub(crate) fn is_member_of(alloc: Global, piece: &Piece, input: &Input) -> Resul
     Ok(unmet.is_none())
 }
 
-/// Tries one input: the one that has in each word the least number that the piece's facts, confined to the question,
-/// leave for it. Where it isn't a member, the verdict is a doubt.
-///
-/// Not inlined: most questions are ruled out before, and only this function needs room for facts.
-#[inline(never)]
-fn try_least(alloc: Global, piece: &Piece, question: &Question) -> Result<Verdict, Fault>
+/// Looks for a member of the piece that is in the question. One input is tried: the one that has in each word the least
+/// number that the piece's facts, confined to the question, leave for it. Where it isn't a member, the verdict is a
+/// doubt.
+fn search(alloc: Global, piece: &Piece, question: &Question) -> Result<Verdict, Fault>
     ensures right { IfOk result (IsRightSearch piece.now question.now) }
     ensures tried { IfOk result (TellsTried piece.now question.now) }
     ensures decisive { IsPlain piece.now.stack → IfOk result IsDecisive }
@@ -104,21 +102,6 @@ fn try_least(alloc: Global, piece: &Piece, question: &Question) -> Result<Verdic
         return Ok(Verdict::Doubt);
     }
     Ok(Verdict::Hit(input))
-}
-
-/// Looks for a member of the piece that is in the question: unless the facts rule the question out at once, one input
-/// is tried.
-fn search(alloc: Global, piece: &Piece, question: &Question) -> Result<Verdict, Fault>
-    ensures right { IfOk result (IsRightSearch piece.now question.now) }
-    ensures tried { IfOk result (TellsTried piece.now question.now) }
-    ensures decisive { IsPlain piece.now.stack → IfOk result IsDecisive }
-    ensures err { IfErr result (λ f. f ≡ Memory) }
-{
-    let facts = piece.facts();
-    if rules_out(facts, question) {
-        return Ok(Verdict::Clear);
-    }
-    try_least(alloc, piece, question)
 }
 
 /// The verdict on the settled region at this place in the order of names. The caller's condition: there is a region at

@@ -3,7 +3,7 @@ use Rattle.sf_ask.specs.Breaking.{IsInQuestion}
 use Rattle.sf_dom.specs.Facts.{AreConfined}
 use Rattle.sf_ask.specs.Trying.{IsNumberBefore}
 use Rattle.sf_ask.proofs.Searching.{doubtful, least-hit, exact-hit}
-use Rattle.sf_ask.proofs.judging.try_least.Goals as goal
+use Rattle.sf_ask.proofs.judging.search.Goals as goal
 
 -- what the question leaves of the piece's facts
 confined : (c : goal.After-drop-facts-inside-then-not-branch-2) → AreConfined c.args.piece.now.facts c.in-Some.facts
