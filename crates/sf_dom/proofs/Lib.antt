@@ -16,3 +16,7 @@ pub mod Masks
 pub mod Assumed
 pub mod AscendingLemmas
 pub mod Tellings
+pub mod RuleLemmas
+pub mod ClosedLemmas
+pub mod RuleLaws
+pub mod AssumedLemmas

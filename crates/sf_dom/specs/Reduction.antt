@@ -1,5 +1,5 @@
 -- What the steps of reducing one node do.
-use Rattle.std.specs.Prelude.{◌≡◌, ℕ, ◌+◌, ◌-◌, ◌≤◌, ◌⊎◌, List, bit_and, bit_or}
+use Rattle.std.specs.Prelude.{◌≡◌, ℕ, ◌+◌, ◌-◌, ◌/◌, ◌<◌, ◌≤◌, ◌^◌, ◌⊎◌, List, bit_and, bit_or}
 use Rattle.std.specs.Int.{bit_at}
 use Rattle.sf_dom.specs.declared.known.Known.{Known}
 use Rattle.sf_dom.specs.Known.{Admits, Leaves, IsNarrower, IsConsistent, IsTight}
@@ -21,6 +21,11 @@ pub record IsMeet (a b r : Known) : Type 0 where
   pub left : IsNarrower a r
   pub right : IsNarrower b r
   pub both : (n : ℕ) → Admits a n → Admits b n → Admits r n
+
+-- a mask has the bits from which on two numbers agree
+pub record IsLeadingMask (low high mask : ℕ) : Type 0 where
+  pub only : (i : ℕ) → bit_at mask i ≡ 1 → low / 2 ^ i ≡ high / 2 ^ i
+  pub all : (i : ℕ) → i < 32 → low / 2 ^ i ≡ high / 2 ^ i → bit_at mask i ≡ 1
 
 -- a round of reduction
 pub record IsReductionRound (old new : Known) : Type 0 where

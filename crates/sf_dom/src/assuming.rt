@@ -7,6 +7,7 @@ ghost use Rattle.sf_dom.specs.Known.{AreBitsOf, HasBits, Admits, IsNarrower, IsC
 ghost use Rattle.sf_dom.specs.Propagation.{NoneAgreesWith, KeepsAgreeingOn, NoneAgreesOn, LeavesPair, LeavesNoPair, IsSharp, Tells, TestGives, IsReady, IsLeft, IsAssumed, AreExcluded, AreBothExcluded, Holds, IsPropagated, AreOthersTight, KnowDecidedApart, GoesBack};
 ghost use Rattle.sf_dom.specs.Conditions.{AreLeftAlone, AreSet, IsTold};
 ghost use Rattle.sf_sym.specs.Operands.{IsSwappable};
+ghost use Rattle.sf_dom.specs.Rules.{assumed, LeavesNothing};
 ghost use Rattle.sf_dom.specs.Backward.{HandsOn, IsPropagatedBack};
 ghost use Rattle.sf_dom.specs.Facts.{known_at, numbers_at, KnowDecided};
 
@@ -125,6 +126,7 @@ fn is_ruled_out_back(
 }
 
 /// What is known of two words whose test has this result; `None` where no two numbers of theirs have it.
+#[tactic(auto, using(std::proofs::lemmas::Bool::Decides::nat_tests), unfolding(crate::specs::Rules::assumed))]
 fn assume_test(v: Known, w: Known, test: Test, sense: bool) -> Option<Pair>
     ensures pair { MatchOption result
         (LeavesNoPair v w (λ x y. TestGives test x y sense))
@@ -134,6 +136,8 @@ fn assume_test(v: Known, w: Known, test: Test, sense: bool) -> Option<Pair>
         → IfSome result (λ p. (x : ℕ) → Admits p.node x → TestGives test x w.low sense) }
     ensures decided { IsConsistent v → IsDecided v → IsDecided w
         → IfSome result (λ p. (x : ℕ) → Admits p.node x → TestGives test x w.low sense) }
+    ensures rule { MatchOption result (LeavesNothing (assumed test sense v w))
+        (λ p. p ≡ assumed test sense v w) }
 {
     match (test, sense) {
         (Test::Equal, true) => Some(equal(v, w)),

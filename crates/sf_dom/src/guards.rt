@@ -1,12 +1,14 @@
 //! The guards: what is known of two words once the result of a test of them is known.
 
-ghost use Rattle.std.specs.Prelude.{◌≡◌, ◌≢◌, ℕ, ◌+◌, ◌-◌, ◌*◌, ◌/◌, ◌%◌, ◌<◌, ◌≤◌, ◌^◌, MatchOption, IfSome, None, bit_and};
+ghost use Rattle.std.specs.Prelude.{true, false, ◌⊎◌, ◌≡◌, ◌≢◌, ℕ, ◌+◌, ◌-◌, ◌*◌, ◌/◌, ◌%◌, ◌<◌, ◌≤◌, ◌^◌, MatchOption, IfSome, None, bit_and};
 ghost use Rattle.sf_dom.specs.Known.{AreBitsOf, Admits, IsConsistent, IsDecided};
 ghost use Rattle.sf_dom.specs.Propagation.{LeavesPair, LeavesNoPair};
 ghost use Rattle.sf_dom.specs.Reduction.{IsMeet};
 ghost use Rattle.sf_insn.specs.Words.{IsOneBit};
+ghost use Rattle.sf_dom.specs.Rules.{assumed, past, some_of, none_of, HasNone, IsClosed, LeavesNothing};
 
 use crate::known::Known;
+use sf_insn::Test;
 
 /// What is known of the two words of a test.
 #[derive(Clone, Copy, Debug, PartialEq, Eq)]
@@ -30,10 +32,12 @@ impl Pair {
 }
 
 /// What is known of two equal words: of each of them, all that is known of either.
+#[tactic(auto, using(std::proofs::lemmas::Bool::Decides::nat_tests), unfolding(crate::specs::Rules::assumed))]
 pub(crate) fn equal(v: Known, w: Known) -> Pair
     ensures pair { LeavesPair v w result.node result.other (λ x y. x ≡ y) }
     ensures both { IsMeet v w result.node × IsMeet v w result.other }
     ensures sharp { w.low ≡ w.high → (x : ℕ) → Admits result.node x → x ≡ w.low }
+    ensures rule { result ≡ assumed Test.Equal true v w }
 {
     let both = v.meet(w);
     Pair {
@@ -43,12 +47,15 @@ pub(crate) fn equal(v: Known, w: Known) -> Pair
 }
 
 /// What is known of two words of which the first is greater; `None` where it can't be.
+#[tactic(auto, using(std::proofs::lemmas::Bool::Decides::nat_tests), unfolding(crate::specs::Rules::assumed))]
 pub(crate) fn greater(v: Known, w: Known) -> Option<Pair>
     ensures pair { MatchOption result (LeavesNoPair v w (λ x y. y < x))
         (λ p. LeavesPair v w p.node p.other (λ x y. y < x)) }
     ensures ends { IfSome result (λ p. (w.low < p.node.low) × (p.other.high < v.high)) }
     ensures left { IfSome result (λ p. (x : ℕ) → Admits p.node x → w.low < x) }
     ensures right { IfSome result (λ p. (y : ℕ) → Admits p.other y → y < v.high) }
+    ensures rule { MatchOption result (LeavesNothing (assumed Test.Greater true v w))
+        (λ p. p ≡ assumed Test.Greater true v w) }
 {
     if w.low == u32::MAX {
         return None;
@@ -69,11 +76,13 @@ pub(crate) fn greater(v: Known, w: Known) -> Option<Pair>
 }
 
 /// What is known of two words of which the first is at least the second.
+#[tactic(auto, using(std::proofs::lemmas::Bool::Decides::nat_tests), unfolding(crate::specs::Rules::assumed))]
 pub(crate) fn at_least(v: Known, w: Known) -> Pair
     ensures pair { LeavesPair v w result.node result.other (λ x y. y ≤ x) }
     ensures ends { (w.low ≤ result.node.low) × (result.other.high ≤ v.high) }
     ensures left { (x : ℕ) → Admits result.node x → w.low ≤ x }
     ensures right { (y : ℕ) → Admits result.other y → y ≤ v.high }
+    ensures rule { result ≡ assumed Test.GreaterOrEqual true v w }
 {
     Pair {
         node: Known {
@@ -97,6 +106,8 @@ pub(crate) fn differs(v: Known, number: u32) -> Option<Known>
         × (v.high ≡ number → r.high < number)) }
     ensures moved { IfSome result (λ r. v.low ≡ v.high → (x : ℕ)
         → Admits r x → x ≢ number) }
+    ensures rule { MatchOption result (HasNone IsClosed (past number v))
+        (λ r. r ≡ past number v) }
 {
     let mut at = v;
     if at.low == number {
@@ -119,6 +130,7 @@ pub(crate) fn no_common_bit(v: Known, bits: u32) -> Known
     ensures kept { (x : ℕ) → Admits v x → bit_and x bits ≡ 0 → Admits result x }
     ensures told { AreBitsOf bits result.zeros }
     ensures sharp { (x : ℕ) → Admits result x → bit_and x bits ≡ 0 }
+    ensures rule { result ≡ none_of bits v }
 {
     Known {
         zeros: v.zeros | bits,
@@ -138,6 +150,8 @@ pub(crate) fn common_bit(v: Known, bits: u32) -> Option<Known>
     ensures decided { IsConsistent v → IsDecided v
         → IfSome result (λ r. (x : ℕ) → Admits r x
         → bit_and x bits ≢ 0) }
+    ensures rule { MatchOption result (HasNone IsClosed (some_of bits v))
+        (λ r. r ≡ some_of bits v) }
 {
     let open = bits & !v.zeros;
     if open == 0 {

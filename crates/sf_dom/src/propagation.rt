@@ -9,6 +9,7 @@ ghost use Rattle.sf_dom.specs.Known.{Admits, Leaves, IsTight};
 ghost use Rattle.sf_dom.specs.Propagation.{NoneAgreesWith, AreConsistentOperands, IsReducedNode, IsReady, IsPropagated, IsGrown, AreTightWords, KnowDecidedApart, IsTightened};
 ghost use Rattle.sf_dom.specs.Facts.{known_at, numbers_at, excluded_of, AreDecidedOperands};
 ghost use Rattle.sf_dom.specs.Reduction.{IsForced};
+ghost use Rattle.sf_dom.specs.Rules.{forward_node, IsReduction, HasNoReduction};
 
 use crate::exclusions::Excluded;
 use crate::fault::Fault;
@@ -23,9 +24,12 @@ use std::sync::Arc;
 /// What is known of a node, reduced; `None` where no number is left.
 pub(crate) fn reduce_node(known: Known, node: Node, excluded: &Excluded) -> Option<Known>
     requires word { (i : ℕ) → node ≡ Node.Word i → i < 16 }
-    ensures { MatchOption result
+    ensures reduced { MatchOption result
         ((n : ℕ) → ¬ Leaves known (excluded_of excluded.now node) n)
         (λ r. IsReducedNode known r excluded.now node) }
+    ensures rule { MatchOption result
+        (HasNoReduction (excluded_of excluded.now node) node known)
+        (IsReduction (excluded_of excluded.now node) node known) }
 {
     match node {
         Node::Word(i) => reduce_word(known, excluded.of_word(i as usize)),
@@ -44,6 +48,8 @@ fn transfer(nodes: &Nodes, node: Node) -> Known
         → AreDecidedOperands nodes.now.known node → IsForced result }
     ensures constant { (c : ℕ) → node ≡ Node.Const c → (result.low ≡ c)
         × (result.high ≡ c) }
+    ensures rule { AreConsistentOperands nodes.now.known node
+        → result ≡ forward_node nodes.now.known node }
 {
     match node {
         Node::Const(c) => Known::of_number(c),

@@ -9,7 +9,7 @@ loop-op-preserved c =
     let ns = c.args.pool.now in
     let o = c.in-Some in
     let bits = rw c.get.ensures at c.in-Some-backward.ensures.bits in
-    let t = rw c.node_at-node.ensures.node at c.in-Some-reduce_node.ensures in
+    let t = rw c.node_at-node.ensures.node at c.in-Some-reduce_node.ensures.reduced in
     record {
       within = omega (arith, o.ensures.smaller, c.loop-op.invariant.within);
       admits = λ d p a h.

@@ -20,7 +20,7 @@ returns-in-None-clause-grown c = λ d p a.
     let left = grown-left ks ex ns d i c.transfer-known.result c.node_at-node.ensures.lawful (omega arith)
     (still-none c.args.nodes.now.known ks ex longer c.requires.none) agrees
     (by_rule (λ j l. (agrees j l).admitted)) in
-    rw c.node_at-node.ensures.node at c.in-None.ensures (value_of ns d i) left
+    rw c.node_at-node.ensures.node at c.in-None.ensures.reduced (value_of ns d i) left
 
 pub loop-i-preserved : goal.loop-i-preserved
 loop-i-preserved c =
@@ -33,7 +33,7 @@ loop-i-preserved c =
     let count = inv.count in
     let longer = inv.longer in
     let next = c.in-Some.next in
-    let t = rw c.node_at-node.ensures.node at c.in-Some.ensures in
+    let t = rw c.node_at-node.ensures.node at c.in-Some.ensures.reduced in
     let lawful = c.node_at-node.ensures.lawful in
     rw c.in_ok-push-in-Some.ensures.ok (record {
       count = omega (arith, length_push ks next);

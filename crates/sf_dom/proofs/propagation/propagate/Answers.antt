@@ -89,10 +89,10 @@ returns-in_default c = λ d p a.
     let node = c.in-Some.ensures.user.0 in
     let by_rule = rw node at (c.transfer.ensures.value d (values_of ns d) p (λ j l. (agrees j l).admitted)) in
     let before = c.variable-here.ensures.known ∙ ap (known_at n.known) (sym c.variable-here.ensures.place) in
-    let both = rw before at c.meet-known.ensures in
+    let both = rw before at c.meet-known.ensures.meet in
     let left = propagate-left n.known ex ns d i c.transfer.result c.meet-known.result
     c.in-Some.ensures.lawful t.ready.count below agrees by_rule both in
-    rw node at c.in_default.ensures (value_of ns d i) left
+    rw node at c.in_default.ensures.reduced (value_of ns d i) left
 
 pub loop-rank-preserved : goal.loop-rank-preserved
 loop-rank-preserved c =
@@ -109,13 +109,13 @@ loop-rank-preserved c =
     let here : i < length n.known = omega (arith, t.laid_out.within rank told, at) in
     let node = c.in-Some.ensures.user.0 in
     let before = c.variable-here.ensures.known ∙ ap (known_at n.known) at in
-    let reduced = rw node at c.in-Some-reduce_node.ensures in
+    let reduced = rw node at c.in-Some-reduce_node.ensures.reduced in
     let step = λ (m : NodesView) (more : Places).
     through-step c.args.nodes.now n m ex ns places more rank i c.transfer.result
     c.meet-known.result next c.in-Some.ensures.lawful c.requires.ready.count t told at
     (λ d p a. rw node at (c.transfer.ensures.value d (values_of ns d) p (λ j l. (a j l).admitted)))
     (rw node at c.transfer.ensures.forced) (rw node at c.transfer.ensures.constant)
-    (rw before at c.meet-known.ensures) reduced in
+    (rw before at c.meet-known.ensures.meet) reduced in
     elim c.if-not-is_same.branch [
       | then-not-is_same+in_ok-set_variable-in-Some w ↦
           let m = w.set_variable.new.self in

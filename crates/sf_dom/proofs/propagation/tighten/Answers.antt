@@ -23,7 +23,7 @@ returns-in_ok-set-in-Some c =
     let here : i < length ks = omega arith in
     let word : node_at ns i ≡ Word i = p.word i small in
     let t : IsReducedNode (known_at ks i) next ex (node_at ns i)
-    = rw (← word, c.get-known.ensures) at c.in-Some.ensures in
+    = rw (← word, c.get-known.ensures) at c.in-Some.ensures.reduced in
     rw c.in_ok-set-in-Some.ensures.known (record {
       step = IsNarrowed-set ks ks ex ns c.args.places c.with.result i next p count (omega arith)
           (IsNarrowed-refl ks ex ns c.args.places c.requires.ready c.requires.decided)
