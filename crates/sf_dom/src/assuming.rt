@@ -95,36 +95,6 @@ fn propagate_back(
     Ok(Some(changed))
 }
 
-/// Whether `known`, of a node, contradicts: its bits, taken back from operand to operand as `propagate_back` does,
-/// leave one of them no number. Nothing is written, so a contradiction is seen before facts are copied.
-fn is_ruled_out_back(
-    nodes: &Nodes,
-    excluded: &Excluded,
-    pool: &Pool,
-    from: NodeId,
-    known: Known,
-) -> bool
-    requires count { length nodes.now.known ≡ length pool.now }
-    requires start { from.0 < length pool.now }
-    ensures { IsTrue result → NoneAgreesOn nodes.now.known excluded.now pool.now
-        (λ d. Admits known (value_of pool.now d from.0)) }
-{
-    let mut at = from.0 as usize;
-    let mut left = known;
-    while let Some((op, x, c)) = constant_operand(pool, at) {
-        let Some(gained) = backward(op, left, c, nodes.get(x)) else {
-            return false;
-        };
-        let node = pool.node_at(x);
-        match reduce_node(gained, node, excluded) {
-            None => return true,
-            Some(next) => left = next,
-        }
-        at = x;
-    }
-    false
-}
-
 /// What is known of two words whose test has this result; `None` where no two numbers of theirs have it.
 #[tactic(auto, using(std::proofs::lemmas::Bool::Decides::nat_tests), unfolding(crate::specs::Rules::assumed))]
 fn assume_test(v: Known, w: Known, test: Test, sense: bool) -> Option<Pair>
@@ -286,27 +256,6 @@ fn propagate_on(
         return Ok(false);
     };
     propagate(nodes, excluded, pool, all)
-}
-
-/// Whether a condition is ruled out by the bits that go back from one of its two nodes. `alone` is what it leaves of
-/// these, each by itself.
-pub(crate) fn contradicts_back(
-    nodes: &Nodes,
-    excluded: &Excluded,
-    pool: &Pool,
-    cond: &Cond,
-    alone: Pair,
-) -> bool
-    requires count { length nodes.now.known ≡ length pool.now }
-    requires node { cond.now.node.0 < length pool.now }
-    requires other { cond.now.other.0 < length pool.now }
-    requires left { AreLeftAlone nodes.now.known excluded.now pool.now cond.now
-        alone.node alone.other }
-    ensures { IsTrue result → NoneAgreesOn nodes.now.known excluded.now pool.now
-        (Holds pool.now cond.now) }
-{
-    is_ruled_out_back(nodes, excluded, pool, cond.node, alone.node)
-        || is_ruled_out_back(nodes, excluded, pool, cond.other, alone.other)
 }
 
 /// Whether a node stays as it is: what is left of it is what is known of it, no bit would go back from it, and if it is

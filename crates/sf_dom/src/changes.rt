@@ -7,9 +7,7 @@ ghost use Rattle.sf_dom.specs.Known.{Admits};
 ghost use Rattle.sf_dom.specs.Facts.{KnowDecided};
 ghost use Rattle.sf_dom.specs.Propagation.{NoneAgreesOn, Holds, IsReady, IsRestricted, IsLearnt, AreBothExcluded, AreTightWords};
 
-use crate::assuming::{
-    assume_cond, changes_nothing, contradicts_back, exclude_both, known_left, pair_left,
-};
+use crate::assuming::{assume_cond, changes_nothing, exclude_both, known_left, pair_left};
 use crate::exclusions::Excluded;
 use crate::fault::Fault;
 use crate::known::{Known, is_same};
@@ -18,9 +16,6 @@ use crate::propagation::propagate;
 use sf_insn::Test;
 use sf_sym::{Cond, Places, Pool};
 use std::alloc::Global;
-
-/// Up to this many variables, to copy them takes less than to see first whether their facts will contradict.
-const FEW: usize = 64;
 
 /// The nodes with what is known of them after a change; `None` where nothing changed.
 pub(crate) type Changed = Option<Nodes>;
@@ -56,7 +51,7 @@ fn with_excluded_by(
 /// refused.
 ///
 /// Nodes are copied only where something that is known changes. To see that, the condition is first tried on its two
-/// nodes without a copy. Where there are many variables, the bits that go back from the two are tried as well.
+/// nodes without a copy.
 pub(crate) fn learn_cond(
     alloc: Global,
     nodes: &Nodes,
@@ -78,9 +73,6 @@ pub(crate) fn learn_cond(
     let Some(alone) = pair_left(nodes, excluded, pool, cond) else {
         return Ok(None);
     };
-    if nodes.variable_count() > FEW && contradicts_back(nodes, excluded, pool, cond, alone) {
-        return Ok(None);
-    }
     let lists = with_excluded_by(alloc, excluded, nodes, pool, cond)?;
     if changes_nothing(nodes, &lists, pool, cond, alone) {
         return Ok(Some((None, lists)));
