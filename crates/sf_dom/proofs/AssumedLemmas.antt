@@ -1,5 +1,5 @@
 -- What the rules of tests leave, where another word has only one number, or nothing is left.
-use Rattle.std.proofs.Common.{◌≡◌, ℕ, arith, inl, inr, ap, ◌∙◌, sym, cond, eqb, refl}
+use Rattle.std.proofs.Common.{◌≡◌, ℕ, inl, inr, ap, cond}
 use Rattle.std.proofs.lemmas.Bool.Decides.{Decides-eqb}
 use Rattle.std.specs.Prelude.{true, false}
 use Rattle.sf_insn.specs.declared.ops.Test.TheVariants.{Equal, AnyBit}

@@ -1,5 +1,4 @@
 -- What reduction leaves is closed, and is the widest such knowledge.
-use Rattle.std.proofs.lemmas.Grind.{common_steps}
 use Rattle.std.proofs.Common.{◌≡◌, ◌≢◌, ℕ, suc, pow-suc, ◌<◌, ◌≤◌, ◌^◌, ◌-◌, ◌+◌, ◌*◌, ◌/◌, ◌%◌, min, max, List, arith, refl, sym, ap, ◌∙◌, inl, inr}
 use Rattle.std.proofs.lemmas.Bool.{cases_lt}
 use Rattle.std.specs.Prelude.{bit_and, bit_or, bit_xor, Contains}
@@ -7,14 +6,14 @@ use Rattle.std.specs.Int.{bit_at, w32}
 use Rattle.std.proofs.lemmas.Nat.{shr-shr, shr_split, xor_shr, pow_pos, or_lt}
 use Rattle.std.specs.Int.Bits.{and_lt}
 use Rattle.std.proofs.Math.Pow.{pow_mono}
-use Rattle.std.proofs.lemmas.Nat.Bits.{bit_at_and, bit_at_or, bit_at_not, bit_at_xor, bit_at-lt, bit_at-zero, bit_at_above, bit_at_mask_below, bit_at_mask_inside, bit_at_mask_above, same_from_bits}
+use Rattle.std.proofs.lemmas.Nat.Bits.{bit_at_and, bit_at_or, bit_at_not, bit_at_xor, bit_at-lt, bit_at-zero, bit_at_above, bit_at_mask_below, bit_at_mask_inside, same_from_bits}
 use Rattle.sf_dom.specs.declared.known.Known.{Known}
-use Rattle.sf_dom.specs.Known.{HasBits, AreBitsOf, Admits, Leaves, IsNarrower, IsTight, IsConsistent, known_of}
+use Rattle.sf_dom.specs.Known.{HasBits, IsNarrower, known_of}
 use Rattle.sf_dom.specs.Reduction.{AreApart, IsLeadingMask, IsReducedWord}
-use Rattle.sf_dom.specs.Rules.{IsClosed, IsClosedWord, IsWidest, HasNone, IsRound}
+use Rattle.sf_dom.specs.Rules.{IsClosed, IsClosedWord, HasNone}
 use Rattle.sf_dom.specs.FactsLaws.{bit_at-complement}
 use Rattle.sf_dom.proofs.Reductions.{AreApart-and}
-use Rattle.sf_dom.proofs.Bits.{div_mono, bits-le, ones-le, zeros-le}
+use Rattle.sf_dom.proofs.Bits.{div_mono, bits-le}
 
 no-bits : (n : ℕ) → bit_xor n n ≡ 0
 no-bits n = same_from_bits (bit_xor n n) 0 (λ i. bit_at_xor n n i ∙ twice _ ∙ sym (bit_at-zero i))

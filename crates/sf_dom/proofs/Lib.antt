@@ -1,9 +1,8 @@
 pub mod Bits
 pub mod Reductions
 pub mod ForwardLemmas
-pub mod VariableLemmas
 pub mod KeptNodes
-pub mod Apart
+pub mod Steps
 pub mod Propagations
 pub mod Halves
 pub mod NextFitting

@@ -1,11 +1,9 @@
 -- Laws of the rules, from the definitions alone.
 use Rattle.std.proofs.lemmas.Grind.{common_steps}
-use Rattle.std.proofs.Common.{◌≡◌, ◌≢◌, ℕ, ◌<◌, ◌≤◌, ◌^◌, ◌-◌, ◌+◌, ◌*◌, ◌/◌, ◌%◌, min, max, List, arith, refl, sym, ap, ◌∙◌, inl, inr}
+use Rattle.std.proofs.Common.{◌≡◌, ℕ, ◌<◌, ◌≤◌, ◌^◌, ◌-◌, ◌+◌, ◌*◌, ◌/◌, ◌%◌, List, arith, refl, sym, ap, inl, inr}
 use Rattle.std.proofs.lemmas.Bool.{cases_lt, cases_eq}
 use Rattle.std.proofs.lemmas.Bool.Decides.{nat_tests}
 use Rattle.std.specs.Prelude.{bit_and, bit_or, bit_xor, Contains}
-use Rattle.std.specs.Int.{bit_at}
-use Rattle.std.proofs.lemmas.Nat.{or_lt, xor_lt, pow_pos, le-div}
 use Rattle.std.proofs.lemmas.Nat.Bits.{bit_at-zero, bit_at-lt, bit_at_not, bit_at_above}
 use Rattle.std.specs.Int.{w32}
 use Rattle.std.proofs.Math.Nat.{div-le_self}
@@ -13,9 +11,9 @@ use Rattle.sf_insn.specs.declared.ops.BinOp.{BinOp}
 use Rattle.sf_insn.specs.declared.ops.BinOp.TheVariants.{Add, Sub, Mul, Div, Or, And, Lsh, Rsh, Xor}
 use Rattle.sf_insn.specs.Words.{apply, negation_of}
 use Rattle.sf_dom.specs.declared.known.Known.{Known}
-use Rattle.sf_dom.specs.Known.{Admits, Leaves, IsNarrower, HasBits, known_of}
+use Rattle.sf_dom.specs.Known.{Admits, Leaves, IsNarrower, known_of}
 use Rattle.sf_dom.specs.FactsLaws.{bit_at-complement}
-use Rattle.sf_dom.specs.Rules.{between, full, forward_known, forward_negated, moved_left, moved_right, met, IsClosed, IsClosedWord, IsWidest, HasNone}
+use Rattle.sf_dom.specs.Rules.{between, full, forward_known, forward_negated, moved_left, IsClosed, IsClosedWord, IsWidest, HasNone}
 use Rattle.sf_dom.proofs.Bits.{bits-le}
 use Rattle.sf_dom.proofs.ForwardLemmas.{mul_mono, div_between, quotient, or-admits, and-admits, xor-admits, shl-fits as shl-fits-admits, shl-top as shl-full-admits, shr-admits}
 use Rattle.sf_dom.proofs.RuleLemmas.{add-sure, add-full, sub-sure, sub-full, mul-fits, mul-full, div-some, div-none, negate-some, negate-zero, negate-full, shl-fits, shl-full, shr-all, left-decided, left-full, right-decided, right-full}

@@ -20,12 +20,6 @@ pub record IsLaidOut (n : NodesView) : Type 0 where
   pub rest : (i : ℕ) → i < length n.known → ((j : ℕ) × (j < length n.variables) × (slice_index n.variables j ≡ i))
       ⊎ ((16 ≤ i) × IsDecided (known_at n.known i))
 
--- so many variables stand before a place, and no others do
-pub record IsRankFrom (places : List ℕ) (place rank : ℕ) : Type 0 where
-  pub within : rank ≤ length places
-  pub before : (j : ℕ) → j < rank → slice_index places j < place
-  pub behind : (j : ℕ) → rank ≤ j → j < length places → place ≤ slice_index places j
-
 -- what is known of the node of a slot: its number, or what stands among the variables
 abbrev pub slot_known : List Variable → Slot → Known
 slot_known os (Number c) = known_of c c (4294967295 - c) c

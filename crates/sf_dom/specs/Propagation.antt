@@ -14,8 +14,6 @@ use Rattle.sf_dom.specs.declared.known.Known.{Known}
 use Rattle.sf_dom.specs.Known.{AreBitsOf, Admits, Leaves, IsNarrower, IsConsistent, IsTight, IsDecided}
 use Rattle.sf_dom.specs.Backward.{IsPropagatedBack}
 use Rattle.sf_dom.specs.Nodes.{NodesView, IsLaidOut}
-use Rattle.sf_sym.specs.Users.{UsesNone}
-use Rattle.sf_sym.specs.declared.places.Places.{Places}
 use Rattle.sf_dom.specs.Facts.{KnowConstants, known_at, numbers_at, excluded_of, AgreesWith, AreDecidedOperands, FactsView, Agrees, Covers, AreNarrower, KeepsInputs, KeepsOnly, SomeInput, IsPlainCondition, DecidesTest}
 
 -- every input that agreed agrees still
@@ -54,12 +52,6 @@ pub record IsPropagatedAt (ks : List Known) (ex : List (List ℕ)) (ns : List No
   pub decided : AreDecidedOperands ks (node_at ns i) → IsDecided (known_at ks i)
   pub constant : (c : ℕ) → node_at ns i ≡ Const c → ((known_at ks i).low ≡ c) × ((known_at ks i).high ≡ c)
 
--- Of the nodes that use none of these places: where the operands of one are decided, it is decided too, where its
--- operation keeps that.
-abbrev pub KnowDecidedApart : List Known → List Node → Places → Type 0
-KnowDecidedApart ks ns places = (i : ℕ) → i < length ks → UsesNone ns places i
-    → AreDecidedOperands ks (node_at ns i) → IsDecided (known_at ks i)
-
 -- forward propagation has gone through all nodes before the variable at a rank
 abbrev pub ArePassedBefore : NodesView → List (List ℕ) → List Node → ℕ → Type 0
 ArePassedBefore n ex ns rank = (k : ℕ) → k < length n.known
@@ -91,37 +83,30 @@ pub record IsPropagated (old new : List Known) (ex : List (List ℕ)) (ns : List
   pub narrower : AllNarrower old new
   pub passed : (i : ℕ) → i < length ns → IsPropagatedAt new ex ns i
 
--- Forward propagation as far as the variable at a rank. Nodes that use none of these places are decided where their
--- operands are.
-pub record PropagatesThrough (old new : NodesView) (ex : List (List ℕ)) (ns : List Node)
-    (places : Places) (rank : ℕ) : Type 0 where
+-- forward propagation as far as the variable at a rank
+pub record PropagatesThrough (old new : NodesView) (ex : List (List ℕ)) (ns : List Node) (rank : ℕ) : Type 0 where
   pub keeps : KeepsAgreeing old.known new.known ex ns
   pub narrower : AllNarrower old.known new.known
   pub ready : IsReady new.known ns
   pub variables : new.variables ≡ old.variables
   pub laid_out : IsLaidOut new
-  pub decided : KnowDecidedApart new.known ns places
   pub passed : ArePassedBefore new ex ns rank
 
--- More has become known, and every input that agreed agrees still. Nodes that use none of these places are decided
--- where their operands are.
-pub record IsNarrowed (old new : List Known) (ex : List (List ℕ)) (ns : List Node) (places : Places) : Type 0 where
+-- more has become known, and every input that agreed agrees still
+pub record IsNarrowed (old new : List Known) (ex : List (List ℕ)) (ns : List Node) : Type 0 where
   pub keeps : KeepsAgreeing old new ex ns
   pub narrower : AllNarrower old new
   pub ready : IsReady new ns
   pub tight : KeepsTight old new ex
-  pub decided : KnowDecidedApart new ns places
 
 -- a node that is a word has been made tight
-pub record IsTightened (old new : List Known) (ex : List (List ℕ)) (ns : List Node) (at : ℕ)
-    (places : Places) : Type 0 where
-  pub step : IsNarrowed old new ex ns places
+pub record IsTightened (old new : List Known) (ex : List (List ℕ)) (ns : List Node) (at : ℕ) : Type 0 where
+  pub step : IsNarrowed old new ex ns
   pub word : (i : ℕ) → node_at ns at ≡ Word i → IsTight (known_at new i) (numbers_at ex i)
 
 -- known bits have gone back from a node, from operand to operand
-pub record GoesBack (old new : List Known) (ex : List (List ℕ)) (ns : List Node) (at : ℕ)
-    (places : Places) : Type 0 where
-  pub step : IsNarrowed old new ex ns places
+pub record GoesBack (old new : List Known) (ex : List (List ℕ)) (ns : List Node) (at : ℕ) : Type 0 where
+  pub step : IsNarrowed old new ex ns
   pub backward : (n : ℕ) → IsPropagatedBack n new ns at
 
 -- the new nodes are taken in

@@ -4,7 +4,7 @@ ghost use Rattle.std.specs.Prelude.{◌≡◌, ◌≢◌, ℕ, ◌+◌, ◌-◌,
 ghost use Rattle.sf_insn.specs.Words.{apply};
 ghost use Rattle.sf_sym.specs.Pool.{node_at, value_of};
 ghost use Rattle.sf_dom.specs.Known.{AreBitsOf, HasBits, Admits, IsNarrower, IsConsistent, IsDecided, IsTight};
-ghost use Rattle.sf_dom.specs.Propagation.{NoneAgreesWith, KeepsAgreeingOn, NoneAgreesOn, LeavesPair, LeavesNoPair, IsSharp, Tells, TestGives, IsReady, IsLeft, IsAssumed, AreExcluded, AreBothExcluded, Holds, IsPropagated, AreOthersTight, KnowDecidedApart, GoesBack};
+ghost use Rattle.sf_dom.specs.Propagation.{NoneAgreesWith, KeepsAgreeingOn, NoneAgreesOn, LeavesPair, LeavesNoPair, IsSharp, Tells, TestGives, IsReady, IsLeft, IsAssumed, AreExcluded, AreBothExcluded, Holds, IsPropagated, AreOthersTight, GoesBack};
 ghost use Rattle.sf_dom.specs.Conditions.{AreLeftAlone, AreSet, IsTold};
 ghost use Rattle.sf_sym.specs.Operands.{IsSwappable};
 ghost use Rattle.sf_dom.specs.Rules.{assumed, LeavesNothing};
@@ -19,7 +19,7 @@ use crate::nodes::Nodes;
 use crate::propagation::{is_tight_at, propagate, reduce_node, tighten};
 use crate::telling::are_propagated_back;
 use sf_insn::{BinOp, Test};
-use sf_sym::{Cond, Node, NodeId, Places, Pool, constant_operand};
+use sf_sym::{Cond, Node, NodeId, Pool, constant_operand};
 use std::alloc::Global;
 
 /// What is known, with more known bits.
@@ -59,40 +59,28 @@ pub(crate) fn backward(op: BinOp, node: Known, c: u32, operand: Known) -> Option
     }
 }
 
-/// Takes the known bits of a node back to its operand beside a constant, and so on from operand to operand. `places` are
-/// those of which more has become known. They are given back, with those of the operands. `None`: no input agrees. `Memory`
-/// where an allocation is refused.
-fn propagate_back(
-    nodes: &mut Nodes,
-    excluded: &Excluded,
-    pool: &Pool,
-    from: usize,
-    places: Places,
-) -> Result<Option<Places>, Fault>
+/// Takes the known bits of a node back to its operand beside a constant, and so on from operand to operand. `false`: no
+/// input agrees.
+fn propagate_back(nodes: &mut Nodes, excluded: &Excluded, pool: &Pool, from: usize) -> bool
     requires ready { IsReady nodes.old.known pool.now }
     requires start { from < length pool.now }
-    requires decided { KnowDecidedApart nodes.old.known pool.now places }
-    ensures { IfOk result (λ o. MatchOption o
-        (NoneAgreesWith nodes.old.known excluded.now pool.now)
-        (GoesBack nodes.old.known nodes.new.known excluded.now pool.now from)) }
+    ensures { MatchBool result
+        (GoesBack nodes.old.known nodes.new.known excluded.now pool.now from)
+        (NoneAgreesWith nodes.old.known excluded.now pool.now) }
 {
     let mut at = from;
-    let mut changed = places;
     while let Some((op, x, c)) = constant_operand(pool, at) {
         let node = pool.node_at(x);
         match backward(op, nodes.get(at), c, nodes.get(x)) {
-            None => return Ok(Some(changed)),
+            None => return true,
             Some(gained) => match reduce_node(gained, node, excluded) {
-                None => return Ok(None),
-                Some(next) => {
-                    nodes.set(x, next)?;
-                }
+                None => return false,
+                Some(next) => nodes.set(x, next),
             },
         }
-        changed = changed.with(x);
         at = x;
     }
-    Ok(Some(changed))
+    true
 }
 
 /// What is known of two words whose test has this result; `None` where no two numbers of theirs have it.
@@ -197,65 +185,41 @@ pub(crate) fn pair_left(
     Some(Pair { node, other })
 }
 
-/// Writes what a condition leaves of its two nodes. Gives the places of those that may have become narrower. `Memory`
-/// where an allocation is refused.
-fn set_both(
-    nodes: &mut Nodes,
-    excluded: &Excluded,
-    pool: &Pool,
-    cond: &Cond,
-    alone: Pair,
-) -> Result<Places, Fault>
+/// Writes what a condition leaves of its two nodes.
+fn set_both(nodes: &mut Nodes, excluded: &Excluded, pool: &Pool, cond: &Cond, alone: Pair)
     requires ready { IsReady nodes.old.known pool.now }
     requires node { cond.now.node.0 < length pool.now }
     requires other { cond.now.other.0 < length pool.now }
     requires left { AreLeftAlone nodes.old.known excluded.now pool.now cond.now
         alone.node alone.other }
     requires tight { AreOthersTight nodes.old.known excluded.now pool.now cond.now }
-    requires decided { KnowDecided nodes.old.known pool.now }
-    ensures written { IfOk result (λ _. AreSet nodes.old.known nodes.new.known excluded.now
-        pool.now cond.now alone.node alone.other) }
-    ensures decided { IfOk result (KnowDecidedApart nodes.new.known pool.now) }
+    ensures { AreSet nodes.old.known nodes.new.known excluded.now pool.now cond.now
+        alone.node alone.other }
 {
     // For the prover: the pool is lawful.
     let _count = pool.len();
-    let v = cond.node.0 as usize;
-    let w = cond.other.0 as usize;
-    let is_written = nodes.set(v, alone.node)?;
-    let is_other_written = nodes.set(w, alone.other)?;
-    Ok(
-        Places::none()
-            .with_if(v, is_written)
-            .with_if(w, is_other_written),
-    )
+    nodes.set(cond.node.0 as usize, alone.node);
+    nodes.set(cond.other.0 as usize, alone.other);
 }
 
-/// Forward propagation after a condition. `places` are those of which more has become known. Of the words, only the
-/// condition's two nodes may not be tight, so these are made so first. `false`: no input agrees. `Memory` where an
-/// allocation is refused.
-fn propagate_on(
-    nodes: &mut Nodes,
-    excluded: &Excluded,
-    pool: &Pool,
-    cond: &Cond,
-    places: Places,
-) -> Result<bool, Fault>
+/// Forward propagation after a condition. Of the words, only the condition's two nodes may not be tight, so these are
+/// made so first. `false`: no input agrees.
+fn propagate_on(nodes: &mut Nodes, excluded: &Excluded, pool: &Pool, cond: &Cond) -> bool
     requires ready { IsReady nodes.old.known pool.now }
     requires node { cond.now.node.0 < length pool.now }
     requires other { cond.now.other.0 < length pool.now }
     requires tight { AreOthersTight nodes.old.known excluded.now pool.now cond.now }
-    requires decided { KnowDecidedApart nodes.old.known pool.now places }
-    ensures { IfOk result (λ b. MatchBool b
+    ensures { MatchBool result
         (IsPropagated nodes.old.known nodes.new.known excluded.now pool.now)
-        (NoneAgreesWith nodes.old.known excluded.now pool.now)) }
+        (NoneAgreesWith nodes.old.known excluded.now pool.now) }
 {
-    let Some(more) = tighten(nodes, excluded, pool, cond.node, places)? else {
-        return Ok(false);
-    };
-    let Some(all) = tighten(nodes, excluded, pool, cond.other, more)? else {
-        return Ok(false);
-    };
-    propagate(nodes, excluded, pool, all)
+    if !tighten(nodes, excluded, pool, cond.node) {
+        return false;
+    }
+    if !tighten(nodes, excluded, pool, cond.other) {
+        return false;
+    }
+    propagate(nodes, excluded, pool)
 }
 
 /// Whether a node stays as it is: what is left of it is what is known of it, no bit would go back from it, and if it is
@@ -298,38 +262,34 @@ pub(crate) fn changes_nothing(
 }
 
 /// Takes a condition into what is known. `alone` is what it leaves of its two nodes, each by itself. `false`: no input
-/// that agrees meets it. `Memory` where an allocation is refused. Both may be one node, so what is left of the second is
-/// added to what is known by then.
+/// that agrees meets it. Both may be one node, so what is left of the second is added to what is known by then.
 pub(crate) fn assume_cond(
     nodes: &mut Nodes,
     excluded: &Excluded,
     pool: &Pool,
     cond: &Cond,
     alone: Pair,
-) -> Result<bool, Fault>
+) -> bool
     requires ready { IsReady nodes.old.known pool.now }
     requires node { cond.now.node.0 < length pool.now }
     requires other { cond.now.other.0 < length pool.now }
     requires left { AreLeftAlone nodes.old.known excluded.now pool.now cond.now
         alone.node alone.other }
     requires tight { AreOthersTight nodes.old.known excluded.now pool.now cond.now }
-    requires decided { KnowDecided nodes.old.known pool.now }
-    ensures { IfOk result (λ b. MatchBool b
+    ensures { MatchBool result
         (IsAssumed nodes.old.known nodes.new.known excluded.now pool.now cond.now)
-        (NoneAgreesOn nodes.old.known excluded.now pool.now (Holds pool.now cond.now))) }
+        (NoneAgreesOn nodes.old.known excluded.now pool.now (Holds pool.now cond.now)) }
 {
     // For the prover: the pool is lawful.
     let _count = pool.len();
-    let v = cond.node.0 as usize;
-    let w = cond.other.0 as usize;
-    let places = set_both(nodes, excluded, pool, cond, alone)?;
-    let Some(more) = propagate_back(nodes, excluded, pool, v, places)? else {
-        return Ok(false);
-    };
-    let Some(all) = propagate_back(nodes, excluded, pool, w, more)? else {
-        return Ok(false);
-    };
-    propagate_on(nodes, excluded, pool, cond, all)
+    set_both(nodes, excluded, pool, cond, alone);
+    if !propagate_back(nodes, excluded, pool, cond.node.0 as usize) {
+        return false;
+    }
+    if !propagate_back(nodes, excluded, pool, cond.other.0 as usize) {
+        return false;
+    }
+    propagate_on(nodes, excluded, pool, cond)
 }
 
 /// Excludes the number of another node, if that is decided, for a node that is a word. `other` is what is known of the

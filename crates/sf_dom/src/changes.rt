@@ -14,7 +14,7 @@ use crate::known::{Known, is_same};
 use crate::nodes::Nodes;
 use crate::propagation::propagate;
 use sf_insn::Test;
-use sf_sym::{Cond, Places, Pool};
+use sf_sym::{Cond, Pool};
 use std::alloc::Global;
 
 /// The nodes with what is known of them after a change; `None` where nothing changed.
@@ -78,7 +78,7 @@ pub(crate) fn learn_cond(
         return Ok(Some((None, lists)));
     }
     let mut left = nodes.fork(alloc)?;
-    if !assume_cond(&mut left, &lists, pool, cond, alone)? {
+    if !assume_cond(&mut left, &lists, pool, cond, alone) {
         return Ok(None);
     }
     Ok(Some((Some(left), lists)))
@@ -115,8 +115,8 @@ pub(crate) fn restrict(
         return Ok(Some(None));
     }
     let mut next = nodes.fork(alloc)?;
-    next.set(word, left)?;
-    if !propagate(&mut next, excluded, pool, Places::none().with(word))? {
+    next.set(word, left);
+    if !propagate(&mut next, excluded, pool) {
         return Ok(None);
     }
     Ok(Some(Some(next)))

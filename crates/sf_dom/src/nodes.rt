@@ -4,12 +4,12 @@ ghost use Rattle.std.specs.Prelude.{◌≡◌, ◌<◌, ◌∷◌, ◌++◌, [],
 ghost use Rattle.std.specs.Arc.{arc_value};
 ghost use Rattle.sf_dom.specs.Known.{IsDecided, known_of};
 ghost use Rattle.sf_dom.specs.Facts.{known_at};
-ghost use Rattle.sf_dom.specs.Nodes.{IsLaidOut, IsRankFrom};
+ghost use Rattle.sf_dom.specs.Nodes.{IsLaidOut};
 
 use crate::fault::Fault;
 use crate::known::Known;
 use crate::slots::{Slot, Slots, add_slot, slot_of};
-use crate::variables::{Variable, Variables};
+use crate::variables::{Variable, add_variable};
 use sf_blocks::shared::SharedList;
 use std::alloc::Global;
 use std::marker::Model;
@@ -20,11 +20,11 @@ pub(crate) const WORDS: usize = 16;
 
 /// What is known of the nodes of a pool, oldest first. A node that comes with only one number, as each constant does,
 /// has it in its slot. Forks share the slots until one of them gets another node. The other nodes are the variables:
-/// only of them more can become known. Forks share the blocks of variables of which nothing more has become known.
+/// only of them more can become known, and a fork has its own list of them.
 #[derive(Drop)]
 pub(crate) struct Nodes {
     slots: Arc<Slots>,
-    variables: Variables,
+    variables: Vec<Variable>,
 }
 
 impl Model for Nodes {
@@ -34,11 +34,11 @@ impl Model for Nodes {
     ghost Value = { NodesView };
 
     ghost view = { λ n. record {
-      known = known_by n.variables (arc_value n.slots);
-      variables = places_of n.variables;
+      known = known_by n.variables.items (arc_value n.slots);
+      variables = places_of n.variables.items;
     } };
 
-    ghost invariant = { λ n. AreKept (arc_value n.slots) n.variables };
+    ghost invariant = { λ n. AreKept (arc_value n.slots) n.variables.items };
 }
 
 /// Whether a number is known, with all its bits.
@@ -56,7 +56,7 @@ impl Nodes {
     {
         Ok(Nodes {
             slots: Arc::new(alloc, SharedList::new(alloc)?)?,
-            variables: Variables::new(alloc),
+            variables: Vec::new(alloc),
         })
     }
 
@@ -74,7 +74,7 @@ impl Nodes {
     {
         match slot_of(&self.slots, i) {
             Slot::Number(c) => Known::of_number(c),
-            Slot::Variable(rank) => self.variables.get(rank as usize).known,
+            Slot::Variable(rank) => self.variables[rank as usize].known,
         }
     }
 
@@ -93,57 +93,31 @@ impl Nodes {
         ensures known { result.known
             ≡ known_at self.now.known (slice_index self.now.variables rank) }
     {
-        self.variables.get(rank)
+        self.variables[rank]
     }
 
-    /// How many variables stand before a place.
-    pub(crate) fn rank_from(&self, place: usize) -> usize
-        ensures { IsRankFrom self.now.variables place result }
-    {
-        let mut low = 0;
-        let mut high = self.variables.len();
-        while low < high {
-            let middle = low + (high - low) / 2;
-            if (self.variable(middle).place as usize) < place {
-                low = middle + 1;
-            } else {
-                high = middle;
-            }
-        }
-        low
-    }
-
-    /// Writes what is known of a variable, the oldest at 0. `Memory` where an allocation is refused; what is known then
-    /// stays as it was.
-    pub(crate) fn set_variable(&mut self, rank: usize, known: Known) -> Result<(), Fault>
+    /// Writes what is known of a variable, the oldest at 0.
+    pub(crate) fn set_variable(&mut self, rank: usize, known: Known)
         requires { rank < length self.old.variables }
-        ensures known { IfOk result (λ _. self.new.known
-            ≡ set self.old.known (slice_index self.old.variables rank) known) }
+        ensures known { self.new.known
+            ≡ set self.old.known (slice_index self.old.variables rank) known }
         ensures variables { self.new.variables ≡ self.old.variables }
         ensures laid_out { IsLaidOut self.new }
-        ensures err { OnErr result (self.new ≡ self.old) }
     {
-        self.variables.set(rank, known)?;
-        Ok(())
+        self.variables[rank].known = known;
     }
 
-    /// Writes what is known of a node. `false`: it has only one number, and nothing is written. The caller's condition:
-    /// such a node keeps its number. `Memory` where an allocation is refused; what is known then stays as it was.
-    pub(crate) fn set(&mut self, i: usize, known: Known) -> Result<bool, Fault>
+    /// Writes what is known of a node. The caller's condition: a node that has only one number keeps it.
+    pub(crate) fn set(&mut self, i: usize, known: Known)
         requires within { i < length self.old.known }
         requires decided { IsDecided (known_at self.old.known i)
             → known ≡ known_at self.old.known i }
-        ensures known { IfOk result (λ _. self.new.known ≡ set self.old.known i known) }
-        ensures unwritten { result ≡ Ok false → self.new ≡ self.old }
+        ensures known { self.new.known ≡ set self.old.known i known }
         ensures variables { self.new.variables ≡ self.old.variables }
-        ensures err { OnErr result (self.new ≡ self.old) }
     {
         match slot_of(&self.slots, i) {
-            Slot::Number(_) => Ok(false),
-            Slot::Variable(rank) => {
-                self.set_variable(rank as usize, known)?;
-                Ok(true)
-            }
+            Slot::Number(_) => {}
+            Slot::Variable(rank) => self.set_variable(rank as usize, known),
         }
     }
 
@@ -153,7 +127,7 @@ impl Nodes {
         ensures ok { IfOk result (λ _. self.new.known ≡ self.old.known ++ known ∷ []) }
         ensures err { OnErr result (self.new ≡ self.old) }
     {
-        let alloc = self.variables.allocator();
+        let alloc = *self.variables.allocator();
         let place = self.slots.len();
         if place >= WORDS && is_number(known) {
             add_slot(alloc, &mut self.slots, Slot::Number(known.low))?;
@@ -164,18 +138,22 @@ impl Nodes {
             place: place as u32,
             known,
         };
-        self.variables
-            .add(variable, &mut self.slots, Slot::Variable(rank as u32))?;
+        add_variable(
+            &mut self.variables,
+            variable,
+            &mut self.slots,
+            Slot::Variable(rank as u32),
+        )?;
         Ok(())
     }
 
-    /// A copy, which shares the slots, and the blocks of variables. `Memory` where an allocation is refused.
+    /// A copy, which shares the slots. `Memory` where an allocation is refused.
     pub(crate) fn fork(&self, alloc: Global) -> Result<Nodes, Fault>
         ensures { IfOk result (λ n. n ≡ self.now) }
     {
         Ok(Nodes {
             slots: Arc::try_clone(&self.slots)?,
-            variables: self.variables.fork(alloc)?,
+            variables: Vec::from_slice(alloc, self.variables.as_slice())?,
         })
     }
 }

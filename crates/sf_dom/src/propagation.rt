@@ -6,7 +6,7 @@ ghost use Rattle.sf_insn.specs.Inputs.{IsInput};
 ghost use Rattle.sf_sym.specs.Pool.{OperandsBelow, node_at, node_value};
 ghost use Rattle.sf_insn.specs.declared.input.Input.{Input};
 ghost use Rattle.sf_dom.specs.Known.{Admits, Leaves, IsTight};
-ghost use Rattle.sf_dom.specs.Propagation.{NoneAgreesWith, AreConsistentOperands, IsReducedNode, IsReady, IsPropagated, IsGrown, AreTightWords, KnowDecidedApart, IsTightened};
+ghost use Rattle.sf_dom.specs.Propagation.{NoneAgreesWith, AreConsistentOperands, IsReducedNode, IsReady, IsPropagated, IsGrown, AreTightWords, IsTightened};
 ghost use Rattle.sf_dom.specs.Facts.{known_at, numbers_at, excluded_of, AreDecidedOperands};
 ghost use Rattle.sf_dom.specs.Reduction.{IsForced};
 ghost use Rattle.sf_dom.specs.Rules.{forward_node, IsReduction, HasNoReduction};
@@ -15,9 +15,9 @@ use crate::exclusions::Excluded;
 use crate::fault::Fault;
 use crate::fitting::is_tight;
 use crate::forward::{forward, negate};
-use crate::known::{Known, is_same, reduce_known, reduce_word};
+use crate::known::{Known, reduce_known, reduce_word};
 use crate::nodes::{Nodes, WORDS};
-use sf_sym::{Node, NodeId, Places, Pool};
+use sf_sym::{Node, NodeId, Pool};
 use std::alloc::Global;
 use std::sync::Arc;
 
@@ -73,83 +73,50 @@ pub(crate) fn is_tight_at(nodes: &Nodes, excluded: &Excluded, pool: &Pool, at: N
     }
 }
 
-/// Makes a node that is a word tight: both ends of its interval become numbers that are left for it. `places` are those of
-/// which more has become known. They are given back, with the word's own if it was not tight. `None`: no input agrees.
-/// `Memory` where an allocation is refused.
-pub(crate) fn tighten(
-    nodes: &mut Nodes,
-    excluded: &Excluded,
-    pool: &Pool,
-    at: NodeId,
-    places: Places,
-) -> Result<Option<Places>, Fault>
+/// Makes a node that is a word tight: both ends of its interval become numbers that are left for it. `false`: no input
+/// agrees.
+pub(crate) fn tighten(nodes: &mut Nodes, excluded: &Excluded, pool: &Pool, at: NodeId) -> bool
     requires ready { IsReady nodes.old.known pool.now }
     requires place { at.0 < length pool.now }
-    requires decided { KnowDecidedApart nodes.old.known pool.now places }
-    ensures { IfOk result (λ o. MatchOption o
-        (NoneAgreesWith nodes.old.known excluded.now pool.now)
-        (IsTightened nodes.old.known nodes.new.known excluded.now pool.now at.0)) }
+    ensures { MatchBool result
+        (IsTightened nodes.old.known nodes.new.known excluded.now pool.now at.0)
+        (NoneAgreesWith nodes.old.known excluded.now pool.now) }
 {
     let Node::Word(i) = pool.node(at) else {
-        return Ok(Some(places));
+        return true;
     };
     let known = nodes.get(i as usize);
     if is_tight(known, excluded.of_word(i as usize)) {
-        return Ok(Some(places));
+        return true;
     }
-    match reduce_node(known, Node::Word(i), excluded) {
-        None => Ok(None),
-        Some(next) => {
-            nodes.set(i as usize, next)?;
-            Ok(Some(places.with(i as usize)))
-        }
-    }
+    let Some(next) = reduce_node(known, Node::Word(i), excluded) else {
+        return false;
+    };
+    nodes.set(i as usize, next);
+    true
 }
 
-/// Adds to what is known of the variables what follows from their operands, the oldest variable first. At first more is
-/// known of the nodes at `places`. Variables without an operand of which more has become known are passed over: nothing
-/// new follows for them. So are the first sixteen, which are the words: they are tight, and have no operands. `false`: no
-/// input agrees. `Memory` where an allocation is refused.
-pub(crate) fn propagate(
-    nodes: &mut Nodes,
-    excluded: &Excluded,
-    pool: &Pool,
-    places: Places,
-) -> Result<bool, Fault>
+/// Adds to what is known of each variable what follows from its operands, the oldest variable first. The first sixteen
+/// are the words, which have no operands, so nothing follows for them. `false`: no input agrees.
+pub(crate) fn propagate(nodes: &mut Nodes, excluded: &Excluded, pool: &Pool) -> bool
     requires ready { IsReady nodes.old.known pool.now }
     requires tight { AreTightWords nodes.old.known excluded.now }
-    requires decided { KnowDecidedApart nodes.old.known pool.now places }
-    ensures { IfOk result (λ b. MatchBool b
+    ensures { MatchBool result
         (IsPropagated nodes.old.known nodes.new.known excluded.now pool.now)
-        (NoneAgreesWith nodes.old.known excluded.now pool.now)) }
+        (NoneAgreesWith nodes.old.known excluded.now pool.now) }
 {
     // For the prover: the pool is lawful.
     let _count = pool.len();
-    let count = nodes.variable_count();
-    let mut changed = places;
-    let mut rank = WORDS;
-    while rank < count {
+    for rank in WORDS..nodes.variable_count() {
         let here = nodes.variable(rank);
-        let place = here.place as usize;
-        match pool.user_at(place, changed) {
-            None => match pool.next_user(place, changed) {
-                None => return Ok(true),
-                Some(next) => rank = nodes.rank_from(next),
-            },
-            Some(node) => {
-                let known = here.known.meet(transfer(nodes, node));
-                let Some(next) = reduce_node(known, node, excluded) else {
-                    return Ok(false);
-                };
-                if !is_same(next, here.known) {
-                    nodes.set_variable(rank, next)?;
-                    changed = changed.with(place);
-                }
-                rank += 1;
-            }
-        }
+        let node = pool.node_at(here.place as usize);
+        let known = here.known.meet(transfer(nodes, node));
+        let Some(next) = reduce_node(known, node, excluded) else {
+            return false;
+        };
+        nodes.set_variable(rank, next);
     }
-    Ok(true)
+    true
 }
 
 /// Takes in the new nodes of a pool. `false`: no input agrees. `Memory` where an allocation is refused. In both cases a

@@ -1,4 +1,4 @@
-use Rattle.std.proofs.Common.{arith, ◌≡◌, sym, ◌∙◌, inl, inr}
+use Rattle.std.proofs.Common.{◌≡◌, sym, ◌∙◌, inl, inr}
 use Rattle.std.specs.Prelude.{Option, Some, None}
 use Rattle.sf_dom.specs.declared.known.Known.{Known}
 use Rattle.sf_dom.proofs.GuardLemmas.{gives-not_greater, gives-at_least}

@@ -3,7 +3,7 @@ use Rattle.std.proofs.Common.{arith, sym}
 use Rattle.sf_sym.specs.Pool.{value_of}
 use Rattle.sf_dom.proofs.Reductions.{IsNarrower-trans}
 use Rattle.sf_dom.specs.Facts.{known_at}
-use Rattle.sf_dom.proofs.Apart.{IsNarrowed-set}
+use Rattle.sf_dom.proofs.Steps.{IsNarrowed-set}
 use Rattle.sf_dom.proofs.AssumeLemmas.{walked}
 use Rattle.sf_dom.proofs.Backs.{carries-step, hands-on-narrower, carried, walked-end, walked-other}
 use Rattle.sf_dom.proofs.assuming.propagate_back.Goals as goal
@@ -22,15 +22,15 @@ loop-op-preserved c =
     let bits = rw (c.get.ensures, c.get-in-Some.ensures) at c.in-Some-backward.ensures.bits in
     let gained = rw c.get-in-Some.ensures at c.in-Some-backward.ensures.narrower in
     let narrower = IsNarrower-trans (known_at ks o.x) c.in-Some-backward.gained next gained t.narrower in
-    rw c.in_ok-set-in-Some-reduce_node.ensures.known (record {
+    rw c.set.ensures.known (record {
       within = omega (arith, o.ensures.smaller);
-      step = IsNarrowed-set c.args.nodes.now.known ks ex ns c.loop-op.changed c.with-changed.result o.x next
+      step = IsNarrowed-set c.args.nodes.now.known ks ex ns o.x next
           c.node_at-node.ensures.lawful c.requires.ready.count (omega (arith, o.ensures.smaller)) inv.step
           (λ d p agrees. t.same (value_of ns d o.x) (walked ks ex ns d c.loop-op.at o.x o.c o.op
           (known_at ks c.loop-op.at) c.in-Some-backward.gained (omega (arith, o.ensures.smaller)) agrees
           (o.ensures.value d p c.in-Some-backward.ensures.swappable) bits
           (agrees c.loop-op.at (omega arith)).admitted))
-          narrower t.consistent t.tight c.with-changed.ensures;
+          narrower t.consistent t.tight;
       carries = carries-step ks ns c.args.from c.loop-op.at o.x o.c o.op next o.ensures.smaller
           (omega (arith, o.ensures.smaller)) (sym o.ensures.operand)
           (hands-on-narrower o.op o.c (known_at ks c.loop-op.at) c.in-Some-backward.gained next t.narrower

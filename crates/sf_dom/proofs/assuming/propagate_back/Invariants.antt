@@ -6,7 +6,7 @@ use Rattle.sf_dom.proofs.assuming.propagate_back.Given as goal
 abbrev pub invariant-loop-op : goal.invariant-loop-op
 invariant-loop-op l = record {
   within : l.at < length l.pool;
-  step : IsNarrowed l.fn.nodes.known l.nodes.known l.excluded l.pool l.changed;
+  step : IsNarrowed l.fn.nodes.known l.nodes.known l.excluded l.pool;
   carries : Carries l.nodes.known l.pool l.fn.from l.at;
 }
 

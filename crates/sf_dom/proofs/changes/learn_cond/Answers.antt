@@ -10,10 +10,10 @@ assume_cond-requires-clause-tight c = rw c.in_ok-left.ensures (others-tight c.ar
     c.args.excluded.now c.in_ok-lists.lists c.args.pool.now c.args.cond.now c.requires.tight
     c.in_ok-lists.ensures.told)
 
-pub returns-then-not-branch : goal.returns-then-not-branch
-returns-then-not-branch c =
+pub returns-then-not-assume_cond : goal.returns-then-not-assume_cond
+returns-then-not-assume_cond c =
     let both = c.in_ok-lists.ensures.told in
-    let told = rw (c.in_ok-left.ensures, c.if-not-branch.true) at c.in_ok-assume_cond.ensures in
+    let told = rw (c.in_ok-left.ensures, c.if-not-assume_cond.true) at c.assume_cond.ensures in
     λ d p a h. told d p (both.keeps d p a h) h
 
 pub changes_nothing-requires-clause-left : goal.changes_nothing-requires-clause-left

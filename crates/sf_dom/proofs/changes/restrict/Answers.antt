@@ -1,7 +1,6 @@
 use Rattle.std.proofs.Common.{◌<◌, length, set, true, arith, ◌∙◌}
 use Rattle.std.proofs.lemmas.List.{length-set}
 use Rattle.sf_dom.specs.FactsLaws.{value-word}
-use Rattle.sf_dom.proofs.Apart.{know-apart, decided-set}
 use Rattle.sf_dom.proofs.AssumeLemmas.{restricted-all, left-set}
 use Rattle.sf_dom.proofs.Propagations.{IsReady-set, tight-set}
 use Rattle.sf_dom.proofs.changes.restrict.Goals as goal
@@ -13,7 +12,7 @@ pub propagate-requires-clause-ready : goal.propagate-requires-clause-ready
 propagate-requires-clause-ready c =
     let words = c.len-count.ensures.lawful.words in
     let count = c.requires.ready.count in
-    rw (c.in_ok-set.ensures.known, c.in_ok-next.ensures)
+    rw (c.set.ensures.known, c.in_ok-next.ensures)
     (IsReady-set c.args.nodes.now.known c.args.pool.now c.args.word c.in-Some.left
     (omega (arith, c.requires.word)) c.requires.ready c.in-Some.ensures.narrower c.in-Some.ensures.consistent)
 
@@ -21,31 +20,19 @@ pub propagate-requires-clause-tight : goal.propagate-requires-clause-tight
 propagate-requires-clause-tight c = λ w l.
     let words = c.len-count.ensures.lawful.words in
     let count = c.requires.ready.count in
-    rw (c.in_ok-set.ensures.known, c.in_ok-next.ensures)
+    rw (c.set.ensures.known, c.in_ok-next.ensures)
     (tight-set c.args.nodes.now.known c.args.excluded.now c.args.pool.now c.args.word c.in-Some.left
     c.len-count.ensures.lawful (omega (arith, c.requires.word)) c.in-Some.ensures.tight w l (c.requires.tight w l))
 
-pub propagate-requires-clause-decided : goal.propagate-requires-clause-decided
-propagate-requires-clause-decided c =
-    let words = c.len-count.ensures.lawful.words in
-    let count = c.requires.ready.count in
-    let ks = c.args.nodes.now.known in
-    let ns = c.args.pool.now in
-    rw (c.in_ok-set.ensures.known, c.in_ok-next.ensures)
-    (decided-set ks ns c.with.result c.args.word c.in-Some.left
-    (omega (arith, c.requires.word)) c.requires.ready.constants
-    c.in-Some.ensures.narrower c.in-Some.ensures.consistent c.with.ensures.added
-    (know-apart ks ns c.with.result c.requires.decided))
-
-pub returns-then-not-branch : goal.returns-then-not-branch
-returns-then-not-branch c = λ d p a h.
+pub returns-then-not-propagate : goal.returns-then-not-propagate
+returns-then-not-propagate c = λ d p a h.
     let words = c.len-count.ensures.lawful.words in
     let count = c.requires.ready.count in
     let step = left-set c.args.nodes.now.known c.args.excluded.now c.args.pool.now c.args.word
     c.args.more c.in-Some.left
     (omega (arith, c.requires.word)) c.in-Some.ensures in
-    let none = rw c.if-not-branch.true at c.in_ok-propagate.ensures in
-    none d p (rw (c.in_ok-set.ensures.known, c.in_ok-next.ensures) (step.0 d p a
+    let none = rw c.if-not-propagate.true at c.propagate.ensures in
+    none d p (rw (c.set.ensures.known, c.in_ok-next.ensures) (step.0 d p a
     (rw (value-word c.args.pool.now d c.args.word c.len-count.ensures.lawful c.requires.word) h)))
 
 pub returns : goal.returns
@@ -58,4 +45,4 @@ returns c =
     c.args.pool.now c.args.word c.args.more
     c.len-count.ensures.lawful c.requires.word count (length-set ks c.args.word c.in-Some.left ∙ count)
     (left-set ks c.args.excluded.now c.args.pool.now c.args.word c.args.more c.in-Some.left within c.in-Some.ensures)
-    (rw (c.in_ok-set.ensures.known, c.in_ok-next.ensures, c.if-not-branch.false) at c.in_ok-propagate.ensures)
+    (rw (c.set.ensures.known, c.in_ok-next.ensures, c.if-not-propagate.false) at c.propagate.ensures)

@@ -1,4 +1,4 @@
-use Rattle.std.proofs.Common.{arith, ◌%◌, ◌-◌, ◌∙◌, ◌⊎◌, ◌≤◌, ◌<◌}
+use Rattle.std.proofs.Common.{arith, ◌%◌, ◌-◌, ◌∙◌}
 use Rattle.std.proofs.lemmas.Grind.{common_steps}
 use Rattle.sf_dom.proofs.RuleLemmas.{negate-some, negate-zero, negate-full}
 use Rattle.sf_dom.proofs.forward.negate.Goals as goal

@@ -1,4 +1,3 @@
-use Rattle.std.proofs.Common.{◌∙◌, ◌⊎◌, ◌≤◌, ◌<◌}
 use Rattle.sf_dom.proofs.ForwardLemmas.{shl-fits, shl-top}
 use Rattle.sf_dom.proofs.RuleLemmas.{shl-fits as shl-fits_rule, shl-full}
 use Rattle.sf_dom.proofs.forward.shift_left_by.Goals as goal

@@ -1,4 +1,4 @@
-use Rattle.std.proofs.Common.{arith, ◌∙◌, ◌⊎◌, ◌≤◌, ◌<◌}
+use Rattle.std.proofs.Common.{arith}
 use Rattle.sf_dom.proofs.ForwardLemmas.{shr-admits}
 use Rattle.sf_dom.proofs.RuleLemmas.{shr-all}
 use Rattle.sf_dom.proofs.forward.shift_right_by.Goals as goal

@@ -1,15 +1,15 @@
 use Rattle.std.proofs.Common.{◌≡◌, ◌<◌, length, arith}
+use Rattle.std.proofs.lemmas.List.{get_or-set_same}
 use Rattle.sf_sym.specs.Pool.{value_of, node_at}
 use Rattle.sf_sym.specs.declared.pool.Node.TheVariants.{Word}
-use Rattle.std.proofs.lemmas.List.{get_or-set_same}
 use Rattle.sf_dom.specs.Facts.{known_at}
 use Rattle.sf_dom.specs.Known.{known_of}
 use Rattle.sf_dom.specs.Propagation.{IsReducedNode}
-use Rattle.sf_dom.proofs.Apart.{IsNarrowed-refl, IsNarrowed-set}
+use Rattle.sf_dom.proofs.Steps.{IsNarrowed-refl, IsNarrowed-set}
 use Rattle.sf_dom.proofs.propagation.tighten.Goals as goal
 
-pub returns-in_ok-set-in-Some : goal.returns-in_ok-set-in-Some
-returns-in_ok-set-in-Some c =
+pub returns : goal.returns
+returns c =
     let ks = c.args.nodes.now.known in
     let ns = c.args.pool.now in
     let ex = c.args.excluded.now in
@@ -24,10 +24,9 @@ returns-in_ok-set-in-Some c =
     let word : node_at ns i ≡ Word i = p.word i small in
     let t : IsReducedNode (known_at ks i) next ex (node_at ns i)
     = rw (← word, c.get-known.ensures) at c.in-Some.ensures.reduced in
-    rw c.in_ok-set-in-Some.ensures.known (record {
-      step = IsNarrowed-set ks ks ex ns c.args.places c.with.result i next p count (omega arith)
-          (IsNarrowed-refl ks ex ns c.args.places c.requires.ready c.requires.decided)
-          (λ d v a. t.same (value_of ns d i) (a i here)) t.narrower t.consistent t.tight c.with.ensures;
+    rw c.set.ensures.known (record {
+      step = IsNarrowed-set ks ks ex ns i next p count (omega arith) (IsNarrowed-refl ks ex ns c.requires.ready)
+          (λ d v a. t.same (value_of ns d i) (a i here)) t.narrower t.consistent t.tight;
       word = λ j e.
           let read = c.node.ensures.node in
           let same : i ≡ j = cc in

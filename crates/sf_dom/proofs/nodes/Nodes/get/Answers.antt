@@ -1,22 +1,29 @@
-use Rattle.std.proofs.Common.{◌∙◌, sym, ap, arith}
+use Rattle.std.proofs.Common.{sym, ap, ◌∙◌, arith}
+use Rattle.std.proofs.lemmas.List.{get_or_read}
 use Rattle.std.specs.Arc.{arc_value}
 use Rattle.sf_dom.specs.declared.variables.Variable.{Variable}
-use Rattle.sf_dom.proofs.KeptNodes.{known-slot, variable-here}
+use Rattle.sf_dom.specs.Known.{known_of}
 use Rattle.sf_dom.specs.Nodes.{slot_known}
+use Rattle.sf_dom.proofs.KeptNodes.{IsVariable, known-slot, variable-here}
 use Rattle.sf_dom.proofs.nodes.Nodes.get.Goals as goal
 
-pub get-requires : goal.get-requires
-get-requires c =
-    let slots = arc_value c.self.inside.slots in
-    let v = variable-here slots c.self.inside.variables c.args.i c.in-Variable.rank c.slot_of.result c.self.invariant
-    (rw (← c.self.view_is) at c.requires) (rw c.deref.ensures at c.slot_of.ensures) c.in-Variable.is in
-    omega (arith, v.rank)
+-- the node is a variable
+here : (c : goal.In-Variable) → IsVariable (arc_value c.self.inside.slots) c.self.inside.variables.items c.args.i
+    c.in-Variable.rank
+here c = variable-here (arc_value c.self.inside.slots) c.self.inside.variables.items c.args.i c.in-Variable.rank
+    c.slot_of.result c.self.invariant (rw (← c.self.view_is) at c.requires)
+    (rw c.deref.ensures at c.slot_of.ensures) c.in-Variable.is
+
+pub index-requires : goal.index-requires
+index-requires c = omega (arith, (here c).rank)
 
 pub returns-in-Variable : goal.returns-in-Variable
 returns-in-Variable c =
-    let slots = arc_value c.self.inside.slots in
-    let os = c.self.inside.variables in
-    let v = variable-here slots os c.args.i c.in-Variable.rank c.slot_of.result c.self.invariant
-    (rw (← c.self.view_is) at c.requires) (rw c.deref.ensures at c.slot_of.ensures) c.in-Variable.is in
-    rw (← c.self.view_is) (ap (λ (o : Variable). o.known) c.get.ensures
-    ∙ sym (known-slot slots os c.args.i v.below ∙ ap (slot_known os) v.found))
+    let os = c.self.inside.variables.items in
+    let v = variable-here (arc_value c.self.inside.slots) os c.args.i c.in-Variable.rank c.slot_of.result
+    c.self.invariant (rw (← c.self.view_is) at c.requires) (rw c.deref.ensures at c.slot_of.ensures)
+    c.in-Variable.is in
+    let none : Variable = record { place = 0; known = known_of 0 0 0 0 } in
+    let read = get_or_read os c.in-Variable.rank c.index.result.now v.rank c.index.ensures none in
+    rw (← c.self.view_is) (ap (λ (o : Variable). o.known) read
+    ∙ sym (known-slot (arc_value c.self.inside.slots) os c.args.i v.below ∙ ap (slot_known os) v.found))

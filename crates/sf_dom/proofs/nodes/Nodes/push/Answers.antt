@@ -1,5 +1,5 @@
 use Rattle.std.proofs.lemmas.Grind.{common_steps}
-use Rattle.std.proofs.Common.{arith}
+use Rattle.std.proofs.Common.{◌≡◌, length, arith}
 use Rattle.std.specs.Arc.{arc_value}
 use Rattle.sf_dom.proofs.KeptNodes.{variables-fit, kept-number, known-variable, kept-variable}
 use Rattle.sf_dom.proofs.nodes.Nodes.push.Goals as goal
@@ -12,23 +12,27 @@ invariant_of-self-then-is_number c = grind (arith, common_steps, kept-number)
 
 pub invariant_of-self-2 : goal.invariant_of-self-2
 invariant_of-self-2 c =
+    let items = c.self.inside.variables.items in
+    let count : c.len-rank.result ≡ length items = omega (arith, c.len-rank.ensures, c.self.inside.variables.ok.0) in
     rw (
-      c.in_ok-add.ensures.variable,
-      c.in_ok-add.ensures.slot,
+      c.in_ok-add_variable.ensures.variable,
+      c.in_ok-add_variable.ensures.slot,
       c.len-place.ensures.value,
       c.deref.ensures,
-      c.len-rank.ensures,
+      count,
     )
-    (kept-variable (arc_value c.self.inside.slots) c.self.inside.variables c.args.known c.self.invariant)
+    (kept-variable (arc_value c.self.inside.slots) items c.args.known c.self.invariant)
 
 pub returns-clause-ok : goal.returns-clause-ok
 returns-clause-ok c =
+    let items = c.self.inside.variables.items in
+    let count : c.len-rank.result ≡ length items = omega (arith, c.len-rank.ensures, c.self.inside.variables.ok.0) in
     rw (
       ← c.self.view_is,
-      c.in_ok-add.ensures.variable,
-      c.in_ok-add.ensures.slot,
+      c.in_ok-add_variable.ensures.variable,
+      c.in_ok-add_variable.ensures.slot,
       c.len-place.ensures.value,
       c.deref.ensures,
-      c.len-rank.ensures,
+      count,
     )
-    (known-variable (arc_value c.self.inside.slots) c.self.inside.variables c.args.known c.self.invariant)
+    (known-variable (arc_value c.self.inside.slots) items c.args.known c.self.invariant)

@@ -1,32 +1,31 @@
-use Rattle.std.proofs.Common.{◌<◌, length, arith}
+use Rattle.std.proofs.Common.{◌≡◌, ◌<◌, length, arith}
+use Rattle.std.proofs.lemmas.List.{get_or_read}
 use Rattle.std.specs.Arc.{arc_value}
+use Rattle.sf_dom.specs.Known.{known_of}
+use Rattle.sf_dom.specs.Variables.{variable_at}
 use Rattle.sf_dom.proofs.KeptNodes.{laid-out, known-set_known, places-set_known, kept-set_known, places-length}
 use Rattle.sf_dom.proofs.nodes.Nodes.set_variable.Goals as goal
 
-pub returns-in_err-set-clause-laid_out : goal.returns-in_err-set-clause-laid_out
-returns-in_err-set-clause-laid_out c = rw c.in_err-set.ensures.err
-    (laid-out (arc_value c.self.inside.slots) c.self.inside.variables c.self.invariant)
-
 -- the rank is that of a variable
-within : (c : goal.In_ok-set) → c.args.rank < length c.self.inside.variables
-within c = omega (arith, rw (← c.self.view_is) at c.requires, places-length c.self.inside.variables)
+within : (c : goal.After-self-1) → c.args.rank < length c.self.inside.variables.items
+within c = omega (arith, rw (← c.self.view_is) at c.requires, places-length c.self.inside.variables.items)
 
-pub invariant_of-self-2 : goal.invariant_of-self-2
-invariant_of-self-2 c =
-    let os = c.self.inside.variables in
-    rw c.in_ok-set.ensures.ok
-    (kept-set_known (arc_value c.self.inside.slots) os c.args.rank c.args.known c.self.invariant (within c))
+-- this variable is written
+found : (c : goal.After-self-1) → c.index_mut.result.now ≡ variable_at c.self.inside.variables.items c.args.rank
+found c = get_or_read c.self.inside.variables.items c.args.rank c.index_mut.result.now (within c)
+    c.index_mut.ensures.value (record { place = 0; known = known_of 0 0 0 0 })
+
+pub invariant_of-self : goal.invariant_of-self
+invariant_of-self c = rw (found c) (kept-set_known (arc_value c.self.inside.slots) c.self.inside.variables.items
+    c.args.rank c.args.known c.self.invariant (within c))
 
 pub returns-clause-known : goal.returns-clause-known
-returns-clause-known c =
-    let os = c.self.inside.variables in
-    rw (← c.self.view_is, c.in_ok-set.ensures.ok)
-    (known-set_known (arc_value c.self.inside.slots) os c.args.rank c.args.known c.self.invariant (within c))
+returns-clause-known c = rw (← c.self.view_is, found c) (known-set_known (arc_value c.self.inside.slots)
+    c.self.inside.variables.items c.args.rank c.args.known c.self.invariant (within c))
 
 pub returns-clause-variables : goal.returns-clause-variables
-returns-clause-variables c =
-    let os = c.self.inside.variables in
-    rw (← c.self.view_is, c.in_ok-set.ensures.ok) (places-set_known os c.args.rank c.args.known (within c))
+returns-clause-variables c = rw (← c.self.view_is, found c)
+    (places-set_known c.self.inside.variables.items c.args.rank c.args.known (within c))
 
 pub returns-clause-laid_out : goal.returns-clause-laid_out
-returns-clause-laid_out c = laid-out (arc_value c.self.inside.slots) _ (invariant_of-self-2 c)
+returns-clause-laid_out c = laid-out (arc_value c.self.inside.slots) _ (invariant_of-self c)
