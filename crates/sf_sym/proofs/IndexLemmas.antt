@@ -1,5 +1,5 @@
-use Rattle.std.proofs.Common.{◌≡◌, ◌≢◌, ℕ, suc, ◌+◌, ◌<◌, ◌≤◌, List, [], ◌∷◌, ◌++◌, length, get_or, set, sym, ap, ◌∙◌, arith}
-use Rattle.std.proofs.lemmas.List.{get_or_append_left, get_or_push, get_or-map, length-map, map-append, length_push, get_or-set_same, get_or-set_other, length-set}
+use Rattle.std.proofs.Common.{◌≡◌, ◌≢◌, ℕ, suc, ◌+◌, ◌<◌, ◌≤◌, List, [], ◌∷◌, ◌++◌, length, get_or, set, replicate, sym, ap, ◌∙◌, arith}
+use Rattle.std.proofs.lemmas.List.{get_or_append_left, get_or_push, get_or-map, length-map, map-append, length_push, get_or-set_same, get_or-set_other, length-set, get_or-replicate, length-replicate}
 use Rattle.std.proofs.Math.Nat.{eq-or-lt_of_le}
 use Rattle.std.proofs.lemmas.Bool.{cases_order}
 use Rattle.sf_sym.specs.Pool.{node_at}
@@ -9,7 +9,7 @@ use Rattle.sf_sym.specs.declared.pool.Node.{Node}
 use Rattle.sf_sym.specs.declared.pool.Node.TheVariants.{Const}
 
 abbrev pub blank : Interned
-blank = record { node = Const 0; link = 0; operands = record { near = 0; far = 0 } }
+blank = record { node = Const 0; link = 0 }
 
 pub length-nodes : (es : List Interned) → length (nodes_of es) ≡ length es
 length-nodes es = length-map es (λ e. e.node)
@@ -21,6 +21,18 @@ node-read es i e h r = get_or-map (λ x. x.node) es i blank (Const 0) h ∙ ap (
 
 pub nodes-push : (es : List Interned) (e : Interned) → nodes_of (es ++ e ∷ []) ≡ nodes_of es ++ e.node ∷ []
 nodes-push es e = map-append (λ x. x.node) es (e ∷ [])
+
+-- no nodes, and no heads
+pub IsIndexed-none : IsIndexed [] (replicate 2039 0)
+IsIndexed-none = record {
+  buckets = length-replicate {A = ℕ} 2039 0;
+  linked = λ i l. absurd (omega arith);
+  last = λ hash l. rw (get_or-replicate {A = ℕ} 2039 hash 0 0 l) (record {
+    within = omega arith;
+    here = λ i e. absurd (omega arith);
+    after = λ i a l. absurd (omega arith);
+  });
+}
 
 pub IsIndexed-push : (es : List Interned) (heads : List ℕ) (e : Interned) → IsIndexed es heads
     → e.link ≡ get_or heads (hash_of e.node) 0 → hash_of e.node < 2039

@@ -2,5 +2,3 @@ pub mod Folds
 pub mod IndexLemmas
 pub mod MaskLemmas
 pub mod OperandLemmas
-pub mod PlaceLemmas
-pub mod UserLemmas

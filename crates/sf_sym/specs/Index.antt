@@ -18,7 +18,7 @@ nodes_of es = map (λ e. e.node) es
 
 -- where the last older node of the same hash stands, counted from 1; 0 where there is none
 abbrev pub link_at : List Interned → ℕ → ℕ
-link_at es i = (slice_index_or es i (record { node = Const 0; link = 0; operands = record { near = 0; far = 0 } })).link
+link_at es i = (slice_index_or es i (record { node = Const 0; link = 0 })).link
 
 -- Of the first n nodes the last one with this hash stands at place c - 1; where c is 0, none has it.
 pub record IsLastWithHash (ns : List Node) (n hash c : ℕ) : Type 0 where
@@ -33,6 +33,6 @@ AreLinked es = (i : ℕ) → i < length es → IsLastWithHash (nodes_of es) i
 
 -- nodes are linked, and `heads` has the last node of each hash
 pub record IsIndexed (es : List Interned) (heads : List ℕ) : Type 0 where
-  pub buckets : length heads ≡ 2048
+  pub buckets : length heads ≡ 2039
   pub linked : AreLinked es
   pub last : (hash : ℕ) → hash < 2039 → IsLastWithHash (nodes_of es) (length es) hash (slice_index heads hash)

@@ -1,0 +1,8 @@
+use Rattle.std.proofs.Common.{◌≡◌, replicate}
+use Rattle.sf_sym.proofs.IndexLemmas.{IsIndexed-none}
+use Rattle.sf_sym.proofs.index.Indexed.new.Goals as goal
+
+pub invariant_of-result : goal.invariant_of-result
+invariant_of-result c =
+    let zeros : c.in_ok-vec.field-0.items ≡ replicate 2039 0 = c.in_ok-vec.ensures.items_if_clones_equal (λ y e. e) in
+    rw (c.in_ok-new.ensures, zeros) IsIndexed-none
