@@ -1,12 +1,8 @@
--- Lists in blocks of one width: where an element stands, and what stays when one is written.
-use Rattle.std.proofs.Common.{◌≡◌, ℕ, zero, suc, ◌+◌, ◌*◌, ◌-◌, ◌<◌, List, [], ◌∷◌, ◌++◌, length, get_or, set, replicate, refl, sym, ap, ◌∙◌, arith, inl, inr, length-append}
-use Rattle.std.proofs.lemmas.List.{get_or_append_left, get_or-append-add, get_or-append_right, set-append_left, set-append_right, append_assoc, append-nil, get_or-replicate, length-replicate}
-use Rattle.std.proofs.lemmas.Bool.{cases_lt}
-use Rattle.std.specs.Prelude.{Vec, vec_items}
-use Rattle.std.specs.Arc.{arc_value}
-use Rattle.std.specs.List.{All, AllClonesOf, AllZip}
-use Rattle.std.specs.declared.sync.Arc.{Arc}
-use Rattle.sf_blocks.specs.Blocks.{joined_by, AreWideBy, block_items}
+-- Lists in blocks of one width: where an element stands, and what one more block brings.
+use Rattle.std.proofs.Common.{◌≡◌, ℕ, zero, suc, ◌+◌, ◌*◌, ◌<◌, List, [], ◌∷◌, ◌++◌, length, get_or, refl, sym, ap, ◌∙◌, arith, length-append}
+use Rattle.std.proofs.lemmas.List.{get_or_append_left, get_or-append-add, append_assoc, append-nil}
+use Rattle.std.specs.List.{AllZip}
+use Rattle.sf_blocks.specs.Blocks.{joined_by, AreWideBy}
 
 module _ {B T : Type 0} (items : B → List T) (width : ℕ) where
   -- the first of such blocks, and the others
@@ -38,50 +34,11 @@ module _ {B T : Type 0} (items : B → List T) (width : ℕ) where
       rw i (get_or-append-add (items b) (joined_by items bs) (width * q + r) d
       ∙ joined-at bs q r e d (rest-wide b bs w) (omega arith) l)
 
-  -- an element of one block is written
-  pub joined-set : (bs : List B) (q r : ℕ) (x : T) (b new : B) → AreWideBy items width bs → q < length bs → r < width
-      → items new ≡ set (items (get_or bs q b)) r x
-      → joined_by items (set bs q new) ≡ set (joined_by items bs) (width * q + r) x
-  joined-set [] q r x e new w h l is = absurd (omega arith)
-  joined-set (b ∷ bs) zero r x e new w h l is =
-      let i : width * 0 + r ≡ r = omega arith in
-      rw (i, is) (sym (set-append_left (items b) (joined_by items bs) r x (omega (arith, first-wide b bs w))))
-  joined-set (b ∷ bs) (suc q) r x e new w h l is =
-      let i : width * suc q + r - width ≡ width * q + r = omega arith in
-      let right = set-append_right (items b) (joined_by items bs) width (width * suc q + r) x (first-wide b bs w)
-      (omega arith) in
-      ap (λ ys. items b ++ ys) (joined-set bs q r x e new (rest-wide b bs w) (omega arith) l is)
-      ∙ sym (rw i at right)
-
-  -- blocks of one element only, again and again
-  pub AreWide-filled : (x : T) (bs : List B) → All (λ b. items b ≡ replicate width x) bs → AreWideBy items width bs
-  AreWide-filled x bs z = λ k d h. ap length (z k d h) ∙ length-replicate {A = T} width x
-
-  pub joined-filled : (x : T) (bs : List B) → All (λ b. items b ≡ replicate width x) bs
-      → (i : ℕ) → get_or (joined_by items bs) i x ≡ x
-  joined-filled x [] z i = refl
-  joined-filled x (b ∷ bs) z i =
-      let here : items b ≡ replicate width x = z 0 b (omega arith) in
-      let long = first-wide b bs (AreWide-filled x (b ∷ bs) z) in
-      elim (cases_lt i width) [
-        | inl h ↦ get_or_append_left (items b) (joined_by items bs) x i (omega (arith, long))
-            ∙ ap (λ xs. get_or xs i x) here ∙ get_or-replicate width i x x h
-        | inr h ↦ get_or-append_right (items b) (joined_by items bs) width i x long h
-            ∙ joined-filled x bs (λ k d l. z (suc k) d (omega (arith, l))) (i - width)
-      ]
-
 module _ {B T : Type 0} (items : B → List T) where
   -- one more block brings its elements
   pub joined-push : (bs : List B) (b : B) → joined_by items (bs ++ b ∷ []) ≡ joined_by items bs ++ items b
   joined-push [] b = append-nil (items b)
   joined-push (a ∷ bs) b = rw (joined-push bs b) (sym (append_assoc (items a) (joined_by items bs) (items b)))
-
-  -- a block is replaced by one with its elements
-  pub joined-replaced : (bs : List B) (q : ℕ) (b new : B) → items new ≡ items (get_or bs q b)
-      → joined_by items (set bs q new) ≡ joined_by items bs
-  joined-replaced [] q b new is = refl
-  joined-replaced (x ∷ bs) zero b new is = rw is refl
-  joined-replaced (x ∷ bs) (suc q) b new is = ap (λ ys. items x ++ ys) (joined-replaced bs q b new is)
 
   -- blocks with the same elements, one by one, have the same elements together, and are as wide
   pub joined-same : (xs ys : List B) → AllZip (λ c d. items d ≡ items c) xs ys → joined_by items ys ≡ joined_by items xs
@@ -99,23 +56,4 @@ module _ {B T : Type 0} (items : B → List T) where
       → length (items (get_or (y ∷ ys) k d)) ≡ width) [
         | zero ↦ λ d h. ap length z.0 ∙ first-wide items width x xs w
         | suc k ↦ λ d h. AreWide-same width xs ys z.1 (rest-wide items width x xs w) k d (omega (arith, h))
-      ]
-
-module _ {T Y Z : Type 0} where
-  -- clones of shared vectors have the same elements, one by one
-  pub block_items-cloned : (xs ys : List (Arc (Vec T Y) Z)) → AllZip (λ c d. arc_value d ≡ arc_value c) xs ys
-      → AllZip (λ c d. block_items d ≡ block_items c) xs ys
-  block_items-cloned [] [] z = tt
-  block_items-cloned [] (y ∷ ys) z = z
-  block_items-cloned (x ∷ xs) [] z = z
-  block_items-cloned (x ∷ xs) (y ∷ ys) z = (ap vec_items z.0, block_items-cloned xs ys z.1)
-
-  -- clones of a block have its elements
-  pub block_items-clones : (x : Arc (Vec T Y) Z) (bs : List (Arc (Vec T Y) Z))
-      → AllClonesOf (λ c d. arc_value d ≡ arc_value c) x bs → All (λ b. block_items b ≡ block_items x) bs
-  block_items-clones x [] c = λ k d h. absurd (omega (arith, h))
-  block_items-clones x (b ∷ bs) c = λ k. elim k as (λ k. (d : Arc (Vec T Y) Z) → k < length (b ∷ bs)
-      → block_items (get_or (b ∷ bs) k d) ≡ block_items x) [
-        | zero ↦ λ d h. elim c.0 [ inl e ↦ ap block_items e | inr e ↦ ap vec_items e ]
-        | suc k ↦ λ d h. block_items-clones x bs c.1 k d (omega (arith, h))
       ]
