@@ -85,14 +85,14 @@ def link(kit, made, program):
     run([*words, "-o", program, made, f"{kit}/c/libos_c.a", f"{kit}/c/liblibc_c.a"], "to link the program")
 
 
-def make(kit, crate, room, tests=False, level="-O1"):
+def make(kit, crate, room, tests=False):
     """Makes the program in a crate's folder, or its tests, without proofs: a file in the folder `room`, which is empty."""
     words = [f"{kit_that_keeps(kit, room)}/bin/rt", "try", *["--test"] * tests]
     _, said = said_by(words, cwd=crate, env={**os.environ, "TMPDIR": room})
     if not os.path.isfile(f"{room}/words"):
         raise Refused(f"`rt try` made no program of {os.path.basename(crate)}:\n{said}")
     with open(f"{room}/words") as file:
-        words = [{"-O0": level}.get(word, word) for word in file.read().splitlines() if word != "-fsanitize=address"]
+        words = [{"-O0": "-O1"}.get(word, word) for word in file.read().splitlines() if word != "-fsanitize=address"]
     run([f"{kit}/toolchain/bin/clang", *words], "to compile the program", cwd=room)
     program = f"{room}/{os.path.basename(crate)}"
     link(kit, f"{room}/module.o", program)
