@@ -1,8 +1,8 @@
 //! Files in memory, by name.
 
 use crate::fragments::push_digits;
-use sf_audit::Fault;
 use sf_command::{Files, MOST_BYTES};
+use sf_policy::Fault;
 use std::alloc::{AllocError, Global};
 use std::test::Fail;
 

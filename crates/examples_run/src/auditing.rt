@@ -3,8 +3,9 @@
 ghost use Rattle.std.specs.Prelude.{◌<◌, ◌≤◌};
 
 use crate::meeting::Meeting;
-use sf_audit::{audit, read_policy, write_report};
+use sf_audit::{audit, write_report};
 use sf_crew::{Gate, Open};
+use sf_policy::read_policy;
 use std::alloc::Global;
 use std::sync::Wait;
 use std::test::Fail;

@@ -1,9 +1,9 @@
 //! Names of calls, read from files and written in rows.
 use crate::listings::{listing_of, text_of};
 use crate::profiles::{bits, profile, two};
-use sf_audit::{Names, read_names};
 use sf_insn::RawInsn;
 use sf_list::write_listing;
+use sf_policy::{Names, read_names};
 use std::alloc::Global;
 use std::sync::Wait;
 use std::test::Fail;

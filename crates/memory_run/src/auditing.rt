@@ -4,8 +4,9 @@ ghost use Rattle.std.specs.Prelude.{◌≤◌, ◌<◌};
 
 use crate::refused::{MEMORY, Refused, Tally};
 use crate::stacks::POLICY;
-use sf_audit::{Fault, audit, read_policy, stack_of, write_report};
+use sf_audit::{audit, write_report};
 use sf_crew::Open;
+use sf_policy::{Fault, read_policy, stack_of};
 use std::alloc::Global;
 use std::io;
 use std::io::Write;

@@ -6,11 +6,11 @@ use crate::stacks::POLICY;
 use crate::trying::{grow_pools, try_facts};
 use crossbeam_deque::Steal;
 use sf_ask::{Sheet, Verdict};
-use sf_audit::read_policy;
 use sf_book::{Book, Lease, Settled};
 use sf_check::Stack;
 use sf_crew::{Owner, Thief, bench};
 use sf_piece::{Piece, advance};
+use sf_policy::read_policy;
 use std::alloc::{AllocError, Global};
 use std::sync::Arc;
 

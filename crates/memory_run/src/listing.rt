@@ -4,9 +4,9 @@ ghost use Rattle.std.specs.Prelude.{◌≤◌, ◌<◌};
 
 use crate::auditing::{Page, push_filters};
 use crate::refused::{Refused, Tally};
-use sf_audit::read_names;
 use sf_crew::Open;
 use sf_list::{list, write_listing};
+use sf_policy::read_names;
 use std::sync::Wait;
 use std::thread::Threads;
 

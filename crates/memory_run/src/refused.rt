@@ -104,8 +104,8 @@ impl From<sf_crew::Fault> for Refused {
     }
 }
 
-impl From<sf_audit::Fault> for Refused {
-    fn from(fault: sf_audit::Fault) -> Refused {
+impl From<sf_policy::Fault> for Refused {
+    fn from(fault: sf_policy::Fault) -> Refused {
         let number = fault.number();
         Refused { number }
     }

@@ -1,12 +1,3 @@
-pub mod TreeLemmas
-pub mod ActionLemmas
-pub mod EntryLemmas
-pub mod NeverSyntax
-pub mod FilterLemmas
-pub mod PlaceLemmas
 pub mod RegionLines
-pub mod RefusalLemmas
-pub mod OneRefusal
 pub mod Exclusive
 pub mod OneReport
-pub mod CallLemmas

@@ -30,7 +30,8 @@ use Rattle.sf_ask.specs.Verdicts.{IsMemberAt, IsBreakAt, IsFirstBreak, IsLeastEx
 use Rattle.sf_crew.specs.Sweeps.{IsReplyTo, IsRightReplyAt, AreRightReplies}
 use Rattle.sf_audit.specs.Audits.{IsAudit}
 use Rattle.sf_audit.specs.Outcomes.{Found}
-use Rattle.sf_audit.specs.Reports.{line, size_line, name_text, action_text, region_line, region_lines, title_line, counts_line, question_lines, totals_line, report_text}
+use Rattle.sf_policy.specs.Texts.{line, action_text, counts_line}
+use Rattle.sf_audit.specs.Reports.{size_line, name_text, region_line, region_lines, title_line, question_lines, totals_line, report_text}
 
 -- the names of regions, in order
 abbrev names : List RegionData → List (List Bool)

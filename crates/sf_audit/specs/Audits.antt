@@ -5,9 +5,9 @@ use Rattle.sf_ask.specs.QuestionData.{QuestionData}
 use Rattle.sf_check.specs.Stacks.{IsPlain}
 use Rattle.sf_crew.specs.Explorations.{IsExplorationOf, IsExactExploration}
 use Rattle.sf_crew.specs.Sweeps.{AreRightReplies}
-use Rattle.sf_audit.specs.declared.fault.Fault.{Fault}
-use Rattle.sf_audit.specs.declared.fault.Fault.TheVariants as faults
-use Rattle.sf_audit.specs.Filters.{SpellStack, IsFirstRefusal}
+use Rattle.sf_policy.specs.declared.fault.Fault.{Fault}
+use Rattle.sf_policy.specs.declared.fault.Fault.TheVariants as faults
+use Rattle.sf_policy.specs.Filters.{SpellStack, IsFirstRefusal}
 use Rattle.sf_audit.specs.Outcomes.{Found}
 
 -- An exploration of the stack came to its end, with nothing outstanding or all of the budget spent; the questions are

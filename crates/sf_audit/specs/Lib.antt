@@ -1,16 +1,3 @@
-pub mod Faults
-pub mod Keys
-pub mod Trees
-pub mod Words
-pub mod Actions
-pub mod Policies
-pub mod Encoding
-pub mod FaultPlaces
-pub mod Filters
 pub mod Outcomes
 pub mod Reports
-pub mod Names
-pub mod NamesLaws
 pub mod Audits
-pub mod TextLaws
-pub mod FiltersLaws

@@ -1,25 +1,13 @@
 -- The text of a report.
-use Rattle.std.specs.Prelude.{◌≡◌, ℕ, ◌+◌, ◌-◌, ◌^◌, Bool, true, false, List, [], ◌∷◌, ◌++◌, codes, map, length, count_by, ◌==◌, if◌then◌else◌, Option}
-use Rattle.std.specs.Fmt.{decimal, digits, padded_integral, format_spec}
-use Rattle.std.specs.Io.KnownBytes.{Appends}
-use Rattle.hex.specs.Hex.{encode_lower}
-use Rattle.sf_insn.specs.declared.input.Input.{Input}
-use Rattle.sf_insn.specs.Inputs.{input_bytes}
+use Rattle.std.specs.Prelude.{ℕ, ◌+◌, Bool, true, false, List, [], ◌∷◌, ◌++◌, codes, map, length, count_by, ◌==◌, if◌then◌else◌}
+use Rattle.std.specs.Fmt.{decimal}
 use Rattle.sf_check.specs.Stacks.{path_length}
-use Rattle.sf_run.specs.declared.action.Action.{Action}
-use Rattle.sf_run.specs.declared.action.Action.TheVariants.{KillProcess, KillThread, Trap, Errno, UserNotif, Trace, Log, Allow, Other}
-use Rattle.sf_book.specs.declared.book.Counts.{Counts}
 use Rattle.sf_book.specs.Books.{BookData, RegionData, counts_of}
 use Rattle.sf_ask.specs.QuestionData.{QuestionData}
 use Rattle.sf_ask.specs.declared.verdict.Reply.{Reply}
 use Rattle.sf_ask.specs.declared.verdict.Reply.TheVariants.{Never, Allowed, Unsettled}
+use Rattle.sf_policy.specs.Texts.{action_text, counts_line, hex_text, line}
 use Rattle.sf_audit.specs.Outcomes.{Found}
-
--- the parts of a line one blank apart, and a line feed
-abbrev pub line : List (List ℕ) → List ℕ
-line [] = 10 ∷ []
-line (part ∷ []) = part ++ 10 ∷ []
-line (part ∷ next ∷ parts) = part ++ 32 ∷ line (next ∷ parts)
 
 -- what each report begins with, and the number of its form
 abbrev pub title_line : List ℕ
@@ -29,17 +17,6 @@ title_line = line (codes "seccomp_audit" ∷ codes "report" ∷ codes "2" ∷ []
 abbrev pub size_line : ℕ → ℕ → ℕ → List ℕ
 size_line filters path questions =
     line (codes "filters" ∷ decimal filters ∷ codes "path" ∷ decimal path ∷ codes "questions" ∷ decimal questions ∷ [])
-
--- how far the exploration came: regions, pieces left open, emptied names, splits and commits
-abbrev pub counts_line : Counts → List ℕ
-counts_line counts =
-    line (codes "regions" ∷ decimal counts.settled ∷ codes "open" ∷ decimal counts.left ∷ codes "emptied"
-    ∷ decimal counts.emptied
-    ∷ codes "splits" ∷ decimal counts.splits ∷ codes "commits" ∷ decimal counts.commits ∷ [])
-
--- the 64 bytes of an input as hexadecimal digits
-abbrev pub hex_text : Input → List ℕ
-hex_text input = encode_lower (input_bytes input)
 
 -- a question's number and name with its reply, and the bytes of the example where there is one
 abbrev pub question_line : ℕ → List ℕ → Reply → List ℕ
@@ -61,22 +38,6 @@ letter false = 70
 -- truth values by T and F, none by -
 abbrev pub name_text : List Bool → List ℕ
 name_text name = if length name == 0 then codes "-" else map letter name
-
--- eight hexadecimal digits, in lower case: what std makes of the format {value:08x}
-abbrev pub lower_case_digits : ℕ → List ℕ
-lower_case_digits value = padded_integral (format_spec 32 0 4 8 (2 ^ 64 - 1)) false [] (digits 16 false value)
-
--- the action's name, or OTHER with its number by eight hexadecimal digits
-abbrev pub action_text : Action → List ℕ
-action_text KillProcess = codes "KILL_PROCESS"
-action_text KillThread = codes "KILL_THREAD"
-action_text Trap = codes "TRAP"
-action_text Errno = codes "ERRNO"
-action_text UserNotif = codes "USER_NOTIF"
-action_text Trace = codes "TRACE"
-action_text Log = codes "LOG"
-action_text Allow = codes "ALLOW"
-action_text (Other value) = codes "OTHER:0x" ++ lower_case_digits value
 
 -- a region's number and name, and the action and data that it is answered with
 abbrev pub region_line : ℕ → RegionData → List ℕ
@@ -128,7 +89,3 @@ abbrev pub report_text : Found → Bool → List ℕ
 report_text o regions =
     head_text o.settled (length o.questions) ++ (question_lines 1 o.questions o.replies
     ++ (shown_lines regions o.settled.regions ++ totals_line o.replies))
-
--- a writer's known bytes grew by a beginning of the text
-abbrev pub AppendsFront : Option (List ℕ) → Option (List ℕ) → List ℕ → Type 0
-AppendsFront old new text = (front : List ℕ) × (rest : List ℕ) × (text ≡ front ++ rest) × Appends old new front

@@ -3,18 +3,16 @@
 ghost use Rattle.std.specs.Prelude.{◌≡◌, ◌⊎◌, ◌<◌, ◌≤◌, length, map, IfOk, IfErr};
 ghost use Rattle.sf_audit.specs.Audits.{IsFoundOn, IsAudit, IsAuditRefusal};
 
-use crate::MOST_QUESTIONS;
-use crate::fault::Fault;
-use crate::filters::stack_of;
 use crate::outcome::Outcome;
 use sf_ask::Question;
 use sf_check::Stack;
 use sf_crew::{Gate, explore, sweep};
+use sf_policy::{Fault, MOST_QUESTIONS, stack_of};
 use std::alloc::Global;
 use std::sync::{Arc, Wait};
 use std::thread::Threads;
 
-/// The outcome for a stack and up to 256 questions.
+/// The outcome for a stack and up to 256 questions. An error where an allocation is refused.
 fn outcome_of<R: Threads + Wait + Sync, G: Gate>(
     rt: &R,
     alloc: Global,
@@ -23,11 +21,10 @@ fn outcome_of<R: Threads + Wait + Sync, G: Gate>(
     budget: u32,
     workers: usize,
     gate: &G,
-) -> Result<Outcome, Fault>
+) -> Result<Outcome, sf_crew::Fault>
     requires workers { (0 < workers) × (workers ≤ 64) }
     requires few { length questions.items ≤ 256 }
-    ensures found { IfOk result (IsFoundOn stack budget questions.items) }
-    ensures refused { IfErr result (λ e. e ≡ Fault.Memory) }
+    ensures { IfOk result (IsFoundOn stack budget questions.items) }
 {
     let stack = Arc::new(alloc, stack)?;
     let settled = explore(rt, alloc, stack, budget, workers, gate)?;
@@ -68,5 +65,8 @@ pub fn audit<R: Threads + Wait + Sync, G: Gate>(
     if questions.is_empty() || questions.len() > MOST_QUESTIONS {
         return Err(Fault::Count);
     }
-    outcome_of(rt, alloc, stack, questions, budget, workers, gate)
+    match outcome_of(rt, alloc, stack, questions, budget, workers, gate) {
+        Ok(outcome) => Ok(outcome),
+        Err(_) => Err(Fault::Memory),
+    }
 }

@@ -1,45 +1,14 @@
 //! Laws of the definitions, each the contract of a function that does nothing.
 
 ghost use Rattle.std.specs.Prelude.{◌≡◌, ℕ, Bool, List, []};
-ghost use Rattle.sf_check.specs.declared.insn.Insn.{Insn};
 ghost use Rattle.sf_check.specs.Stacks.{IsPlain};
 ghost use Rattle.sf_ask.specs.QuestionData.{QuestionData};
-ghost use Rattle.sf_audit.specs.declared.fault.Fault.{Fault};
+ghost use Rattle.sf_policy.specs.declared.fault.Fault.{Fault};
 ghost use Rattle.sf_audit.specs.Audits.{IsAudit, IsAuditRefusal};
-ghost use Rattle.sf_audit.specs.Filters.{SpellPrograms, SpellStack, IsFirstRefusal};
 ghost use Rattle.sf_audit.specs.Outcomes.{Found};
 ghost use Rattle.sf_audit.specs.Reports.{report_text};
 
-use sf_check::laws::{a_fault_spells_no_lawful_program, one_first_fault, one_program_of_a_file};
-use sf_insn::laws::one_spelling;
-
-/// Filter files spell at most one list of lawful programs.
-pub fn one_stack()
-    ensures { (files : List (List ℕ)) (a b : List (List Insn)) →
-        SpellPrograms files a → SpellPrograms files b → a ≡ b }
-{
-    one_program_of_a_file();
-}
-
-/// Filter files with a first refusal spell no lawful stack, so `stack_of` accepts exactly those that spell one.
-pub fn a_refusal_spells_no_stack()
-    ensures { (files : List (List ℕ)) (e : Fault) (programs : List (List Insn)) →
-        IsFirstRefusal files e → SpellStack files programs → ⊥ }
-{
-    one_stack();
-    one_spelling();
-    a_fault_spells_no_lawful_program();
-}
-
-/// Filter files have at most one first refusal, so `stack_of` answers the only one.
-pub fn one_refusal()
-    ensures { (files : List (List ℕ)) (e f : Fault) → IsFirstRefusal files e
-        → IsFirstRefusal files f → e ≡ f }
-{
-    one_spelling();
-    one_first_fault();
-    a_fault_spells_no_lawful_program();
-}
+use sf_policy::laws::a_refusal_spells_no_stack;
 
 /// Where there is an audit, nothing is refused: the files have no refusal, and there are 1 to 256 questions. So `audit`
 /// refuses exactly what `IsAuditRefusal` says, unless memory is refused.

@@ -4,33 +4,15 @@ mod text;
 
 ghost use Rattle.std.specs.Prelude.{◌≡◌, ◌⊎◌, OnOk, OnErr, IfErr};
 ghost use Rattle.std.specs.Io.KnownBytes.{Appends};
-ghost use Rattle.sf_audit.specs.Reports.{AppendsFront, report_text};
-ghost use Rattle.sf_audit.specs.declared.fault.Fault.TheVariants.{Memory as MemoryFault, Write as WriteFault};
+ghost use Rattle.sf_policy.specs.Texts.{AppendsFront};
+ghost use Rattle.sf_audit.specs.Reports.{report_text};
+ghost use Rattle.sf_policy.specs.declared.fault.Fault.TheVariants.{Memory as MemoryFault, Write as WriteFault};
 
-use crate::fault::Fault;
 use crate::outcome::Outcome;
+use sf_policy::{Fault, write_bytes};
 use std::alloc::Global;
 use std::io::Write;
 use text::report_of;
-pub use text::{hex_of, push_counts};
-
-/// Writes all the bytes, with as many writes as it takes. `Write` where one fails, also by a signal, or takes no byte:
-/// a beginning of the bytes was written then.
-pub fn write_bytes<W: Write>(bytes: &[u8], out: &mut W) -> Result<(), Fault>
-    ensures ok { OnOk result (Appends (W.contents out.old) (W.contents out.new) bytes.now) }
-    ensures err { OnErr result (AppendsFront (W.contents out.old) (W.contents out.new) bytes.now) }
-    ensures fault { IfErr result (λ e. e ≡ WriteFault) }
-{
-    let mut rest = bytes;
-    while !rest.is_empty() {
-        match out.write(rest) {
-            Ok(0) => return Err(Fault::Write),
-            Ok(count) => rest = &rest[count..],
-            Err(_) => return Err(Fault::Write),
-        }
-    }
-    Ok(())
-}
 
 /// Writes the report of an outcome, with a line for each settled region where `regions` asks for them.
 ///

@@ -6,12 +6,12 @@ use Rattle.hex.specs.Hex.{decode_sized}
 use Rattle.sf_insn.specs.declared.input.Input.{Input}
 use Rattle.sf_insn.specs.Inputs.{input_bytes}
 use Rattle.sf_check.specs.declared.insn.Insn.{Insn}
-use Rattle.sf_audit.specs.declared.fault.Fault.{Fault}
-use Rattle.sf_audit.specs.declared.fault.Fault.TheVariants as faults
+use Rattle.sf_policy.specs.declared.fault.Fault.{Fault}
+use Rattle.sf_policy.specs.declared.fault.Fault.TheVariants as faults
 use Rattle.sf_ask.specs.QuestionData.{QuestionData}
 use Rattle.sf_audit.specs.Audits.{IsAuditRefusal}
-use Rattle.sf_audit.specs.Names.{NamesData}
-use Rattle.sf_audit.specs.Filters.{SpellPrograms, SpellStack, IsFirstRefusal}
+use Rattle.sf_policy.specs.Names.{NamesData}
+use Rattle.sf_policy.specs.Filters.{SpellPrograms, SpellStack, IsFirstRefusal}
 use Rattle.sf_command.specs.Comparisons.{AreBothKept, AreBothRead}
 use Rattle.sf_command.specs.Files.{AreKept, AreKnownBytes, AreRead}
 use Rattle.sf_command.specs.Outputs.{ChecksFiles, EvaluatesFiles, RefusesEval, RefusesFiles, WritesAnswer, WritesCheck}

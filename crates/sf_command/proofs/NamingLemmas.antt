@@ -3,9 +3,9 @@ use Rattle.std.proofs.Common.{arith, ◌≡◌, ◌⊎◌, inl, inr, ℕ, ◌+�
 use Rattle.std.specs.Prelude.{IfOk}
 use Rattle.toml.specs.Data.{Members}
 use Rattle.toml.specs.Parse.{parse_document}
-use Rattle.sf_audit.specs.declared.fault.Fault.{Fault}
-use Rattle.sf_audit.specs.declared.fault.Fault.TheVariants as faults
-use Rattle.sf_audit.specs.Names.{GivesNames, NamesData, names_of}
+use Rattle.sf_policy.specs.declared.fault.Fault.{Fault}
+use Rattle.sf_policy.specs.declared.fault.Fault.TheVariants as faults
+use Rattle.sf_policy.specs.Names.{GivesNames, NamesData, names_of}
 use Rattle.sf_compare.specs.declared.relation.Relation.{Relation}
 use Rattle.sf_command.specs.Comparisons.{AreBothRead, ComparesFiles, RefusesComparison}
 use Rattle.sf_command.specs.Files.{AreKnownBytes}

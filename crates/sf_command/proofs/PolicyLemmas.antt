@@ -4,10 +4,10 @@ use Rattle.std.specs.Prelude.{IfOk}
 use Rattle.toml.specs.Data.{Members}
 use Rattle.toml.specs.Parse.{parse_document}
 use Rattle.sf_ask.specs.QuestionData.{QuestionData}
-use Rattle.sf_audit.specs.declared.fault.Fault.{Fault}
-use Rattle.sf_audit.specs.declared.fault.Fault.TheVariants as faults
-use Rattle.sf_audit.specs.Faults.{Gives}
-use Rattle.sf_audit.specs.Policies.{policy_of}
+use Rattle.sf_policy.specs.declared.fault.Fault.{Fault}
+use Rattle.sf_policy.specs.declared.fault.Fault.TheVariants as faults
+use Rattle.sf_policy.specs.Faults.{Gives}
+use Rattle.sf_policy.specs.Policies.{policy_of}
 use Rattle.sf_command.specs.Audits.{IsPolicyFile}
 use Rattle.sf_command.specs.Files.{AreKnownBytes}
 

@@ -3,10 +3,10 @@ use Rattle.std.proofs.lemmas.Grind.{common_steps}
 use Rattle.std.proofs.Common.{arith, ◌≡◌, ◌⊎◌, inl, inr, ℕ, List, None, Option, Bor, Result, Ok, Err, sym, subst}
 use Rattle.std.specs.Result.{IfErr, IsErrAnd}
 use Rattle.sf_ask.specs.QuestionData.{QuestionData}
-use Rattle.sf_audit.specs.declared.fault.Fault.{Fault}
-use Rattle.sf_audit.specs.declared.fault.Fault.TheVariants.{Memory, Read}
+use Rattle.sf_policy.specs.declared.fault.Fault.{Fault}
+use Rattle.sf_policy.specs.declared.fault.Fault.TheVariants.{Memory, Read}
 use Rattle.sf_audit.specs.Audits.{IsAuditRefusal}
-use Rattle.sf_audit.specs.Filters.{IsFirstRefusal}
+use Rattle.sf_policy.specs.Filters.{IsFirstRefusal}
 use Rattle.sf_command.specs.Audits.{IsPolicyFile, RefusesAudit, RefusesPolicyFile}
 use Rattle.sf_command.specs.Comparisons.{AreBothRead, RefusesComparison}
 use Rattle.sf_command.specs.Files.{AreRead, HasUnknown}

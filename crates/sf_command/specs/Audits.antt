@@ -6,9 +6,9 @@ use Rattle.std.specs.Str.{IsUtf8}
 use Rattle.toml.specs.Data.{Members}
 use Rattle.toml.specs.Parse.{parse_document}
 use Rattle.sf_ask.specs.QuestionData.{QuestionData}
-use Rattle.sf_audit.specs.declared.fault.Fault.{Fault}
-use Rattle.sf_audit.specs.declared.fault.Fault.TheVariants.{Memory, Read, Syntax, Write}
-use Rattle.sf_audit.specs.Policies.{policy_of}
+use Rattle.sf_policy.specs.declared.fault.Fault.{Fault}
+use Rattle.sf_policy.specs.declared.fault.Fault.TheVariants.{Memory, Read, Syntax, Write}
+use Rattle.sf_policy.specs.Policies.{policy_of}
 use Rattle.sf_audit.specs.Outcomes.{Found}
 use Rattle.sf_audit.specs.Audits.{IsAudit, IsAuditRefusal}
 use Rattle.sf_audit.specs.Reports.{report_text}

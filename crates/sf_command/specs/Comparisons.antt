@@ -2,10 +2,10 @@
 use Rattle.std.specs.Prelude.{◌≡◌, ◌⊎◌, ◌++◌, ℕ, Bool, true, false, List, Option, length}
 use Rattle.std.specs.Borrow.{Bor}
 use Rattle.std.specs.Io.KnownBytes.{Appends}
-use Rattle.sf_audit.specs.declared.fault.Fault.{Fault}
-use Rattle.sf_audit.specs.declared.fault.Fault.TheVariants.{Memory, Read, Write}
-use Rattle.sf_audit.specs.Filters.{IsFirstRefusal}
-use Rattle.sf_audit.specs.Names.{NamesData}
+use Rattle.sf_policy.specs.declared.fault.Fault.{Fault}
+use Rattle.sf_policy.specs.declared.fault.Fault.TheVariants.{Memory, Read, Write}
+use Rattle.sf_policy.specs.Filters.{IsFirstRefusal}
+use Rattle.sf_policy.specs.Names.{NamesData}
 use Rattle.sf_compare.specs.declared.relation.Relation.{Relation}
 use Rattle.sf_compare.specs.Comparisons.{Compared, IsComparison, change_of, comparison_text}
 use Rattle.sf_list.specs.Differences.{AreDifferences, DifferencesData, compared_text}

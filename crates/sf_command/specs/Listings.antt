@@ -2,10 +2,10 @@
 use Rattle.std.specs.Prelude.{◌≡◌, ◌⊎◌, ℕ, List, Option}
 use Rattle.std.specs.Borrow.{Bor}
 use Rattle.std.specs.Io.KnownBytes.{Appends}
-use Rattle.sf_audit.specs.declared.fault.Fault.{Fault}
-use Rattle.sf_audit.specs.declared.fault.Fault.TheVariants.{Memory, Read, Write}
-use Rattle.sf_audit.specs.Filters.{IsFirstRefusal}
-use Rattle.sf_audit.specs.Names.{NamesData}
+use Rattle.sf_policy.specs.declared.fault.Fault.{Fault}
+use Rattle.sf_policy.specs.declared.fault.Fault.TheVariants.{Memory, Read, Write}
+use Rattle.sf_policy.specs.Filters.{IsFirstRefusal}
+use Rattle.sf_policy.specs.Names.{NamesData}
 use Rattle.sf_list.specs.Listings.{Listed, IsListing, listing_text, is_whole_listing}
 use Rattle.sf_command.specs.Files.{AreRead, HasUnknown}
 use Rattle.sf_command.specs.Status.{listing_status}

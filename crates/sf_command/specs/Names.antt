@@ -4,9 +4,9 @@ use Rattle.std.specs.Borrow.{Bor}
 use Rattle.std.specs.Str.{IsUtf8}
 use Rattle.toml.specs.Data.{Members}
 use Rattle.toml.specs.Parse.{parse_document}
-use Rattle.sf_audit.specs.declared.fault.Fault.{Fault}
-use Rattle.sf_audit.specs.declared.fault.Fault.TheVariants.{Memory, Read, Syntax}
-use Rattle.sf_audit.specs.Names.{AreOrdered, NamesData, names_of}
+use Rattle.sf_policy.specs.declared.fault.Fault.{Fault}
+use Rattle.sf_policy.specs.declared.fault.Fault.TheVariants.{Memory, Read, Syntax}
+use Rattle.sf_policy.specs.Names.{AreOrdered, NamesData, names_of}
 use Rattle.sf_command.specs.Files.{AreKnownBytes, HasUnknown}
 use Rattle.sf_command.specs.Pairs.{Pairwise}
 

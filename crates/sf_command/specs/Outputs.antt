@@ -8,10 +8,10 @@ use Rattle.sf_insn.specs.Inputs.{input_bytes}
 use Rattle.sf_check.specs.declared.insn.Insn.{Insn}
 use Rattle.sf_run.specs.declared.action.Answer.{Answer}
 use Rattle.sf_run.specs.Answers.{Answers}
-use Rattle.sf_audit.specs.declared.fault.Fault.{Fault}
-use Rattle.sf_audit.specs.declared.fault.Fault.TheVariants.{Input as InputFault, Memory, Read, Write}
-use Rattle.sf_audit.specs.Filters.{IsFirstRefusal, SpellStack}
-use Rattle.sf_audit.specs.Names.{NamesData}
+use Rattle.sf_policy.specs.declared.fault.Fault.{Fault}
+use Rattle.sf_policy.specs.declared.fault.Fault.TheVariants.{Input as InputFault, Memory, Read, Write}
+use Rattle.sf_policy.specs.Filters.{IsFirstRefusal, SpellStack}
+use Rattle.sf_policy.specs.Names.{NamesData}
 use Rattle.sf_command.specs.Files.{AreRead, HasUnknown}
 use Rattle.sf_command.specs.Texts.{check_text}
 use Rattle.sf_command.specs.Traces.{eval_text}

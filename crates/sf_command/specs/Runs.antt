@@ -6,9 +6,9 @@ use Rattle.std.specs.Str.Parse.{IsNumeral, digits_value, without_leading_plus}
 use Rattle.clap.specs.Words.{IsAmong, Kinds, Row, Text, all_of, fault_of, first_of, one_of, subcommand_of}
 use Rattle.clap.specs.declared.error.kind.ErrorKind.{ErrorKind}
 use Rattle.clap.specs.declared.error.kind.ErrorKind.TheVariants.{DisplayHelp, DisplayVersion}
-use Rattle.sf_audit.specs.Names.{NamesData}
-use Rattle.sf_audit.specs.declared.fault.Fault.{Fault}
-use Rattle.sf_audit.specs.declared.fault.Fault.TheVariants.{Memory, Write}
+use Rattle.sf_policy.specs.Names.{NamesData}
+use Rattle.sf_policy.specs.declared.fault.Fault.{Fault}
+use Rattle.sf_policy.specs.declared.fault.Fault.TheVariants.{Memory, Write}
 use Rattle.sf_compare.specs.declared.relation.Relation.{Relation}
 use Rattle.sf_compare.specs.declared.relation.Relation.TheVariants.{Looser, Different}
 use Rattle.sf_command.specs.Audits.{AuditsFiles, RefusesAudit}

@@ -14,9 +14,9 @@ use Rattle.sf_run.specs.declared.walking.Met.{Met}
 use Rattle.sf_run.specs.declared.walking.Met.TheVariants.{Tested, Divided, Returned}
 use Rattle.sf_run.specs.Answers.{action_bits, action_of, data_bits, action_number}
 use Rattle.sf_run.specs.Walks.{CourseData, walk_of}
-use Rattle.sf_audit.specs.Keys.{word_keys}
-use Rattle.sf_audit.specs.Names.{NamesData, names_between, names_words}
-use Rattle.sf_audit.specs.Reports.{action_text, line}
+use Rattle.sf_policy.specs.Keys.{word_keys}
+use Rattle.sf_policy.specs.Names.{NamesData, names_between, names_words}
+use Rattle.sf_policy.specs.Texts.{action_text, line}
 use Rattle.sf_command.specs.Texts.{answer_text}
 
 -- the eight hexadecimal digits of a word

@@ -1,15 +1,16 @@
 //! The subcommand `audit`: reads the policy file and the filter files, audits the stack and writes the report.
 
 ghost use Rattle.std.specs.Prelude.{◌≡◌, ◌<◌, ◌≤◌, ◌⊎◌, ℕ, List, None, IfOk, IfErr};
-ghost use Rattle.sf_audit.specs.declared.fault.Fault.TheVariants.{Memory as MemoryFault, Read as ReadFault, Write as WriteFault};
+ghost use Rattle.sf_policy.specs.declared.fault.Fault.TheVariants.{Memory as MemoryFault, Read as ReadFault, Write as WriteFault};
 ghost use Rattle.sf_command.specs.Audits.{AuditsFiles, IsPolicyFile, RefusesAudit, RefusesPolicyFile};
 
 use crate::explaining::Notes;
 use crate::files::{Files, read_all};
 use crate::status::status_of_replies;
 use sf_ask::Question;
-use sf_audit::{Fault, Outcome, read_policy_at, write_report};
+use sf_audit::{Outcome, write_report};
 use sf_crew::Open;
+use sf_policy::{Fault, read_policy_at};
 use std::alloc::Global;
 use std::io::Write;
 use std::sync::Wait;

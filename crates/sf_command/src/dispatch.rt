@@ -1,8 +1,8 @@
 //! What the program does, from the words of its command line to its exit status.
 ghost use Rattle.std.specs.Prelude.{◌≡◌, ◌≢◌, ◌≤◌, ◌⊎◌, ℕ, List, [], codes, map, string_bytes, IfOk, IfErr};
 ghost use Rattle.clap.specs.Words.{found_of, kind_of, rows_of, subcommand_rows_of};
-ghost use Rattle.sf_audit.specs.Faults.{fault_number};
-ghost use Rattle.sf_audit.specs.declared.fault.Fault.TheVariants.{Memory as MemoryFault, Write as WriteFault};
+ghost use Rattle.sf_policy.specs.Faults.{fault_number};
+ghost use Rattle.sf_policy.specs.declared.fault.Fault.TheVariants.{Memory as MemoryFault, Write as WriteFault};
 ghost use Rattle.sf_command.specs.Audits.{RefusesAudit};
 ghost use Rattle.sf_command.specs.Comparisons.{RefusesComparison};
 ghost use Rattle.sf_command.specs.Listings.{RefusesListing};
@@ -26,7 +26,7 @@ use crate::telling::tell;
 use crate::words;
 use clap::ArgMatches;
 use clap::error::ErrorKind;
-use sf_audit::{Fault, Names};
+use sf_policy::{Fault, Names};
 use std::alloc::Global;
 use std::io::Write;
 use std::sync::Wait;

@@ -3,7 +3,7 @@
 
 ghost use Rattle.std.specs.Prelude.{◌≡◌, [], IfOk, None};
 ghost use Rattle.clap.specs.Words.{subcommand_rows_of};
-ghost use Rattle.sf_audit.specs.Faults.{without_place};
+ghost use Rattle.sf_policy.specs.Faults.{without_place};
 ghost use Rattle.sf_command.specs.Runs.{IsUnasked};
 
 use crate::meanings::meaning_of;
@@ -12,7 +12,7 @@ use crate::places::position_of;
 use crate::policies::Page;
 use clap::ArgMatches;
 use sf_ask::Question;
-use sf_audit::{Fault, Refusal};
+use sf_policy::{Fault, Refusal};
 use std::alloc::{AllocError, Global};
 
 /// What was read before a fault came, and the text that explains the fault.

@@ -2,11 +2,11 @@
 
 ghost use Rattle.std.specs.Prelude.{◌≡◌, ◌⊎◌, ◌≤◌, ℕ, List, None, length, map, IfOk, IfErr};
 ghost use Rattle.sf_command.specs.Files.{AreKept, AreKnownBytes, HasUnknown};
-ghost use Rattle.sf_audit.specs.declared.fault.Fault.TheVariants.{Memory, Read};
+ghost use Rattle.sf_policy.specs.declared.fault.Fault.TheVariants.{Memory, Read};
 
 use crate::explaining::Notes;
-use sf_audit::Fault;
 use sf_check::MOST_PROGRAMS;
+use sf_policy::Fault;
 use std::alloc::Global;
 
 /// The most bytes that a file may have: 1 MiB, which is 32 times the longest filter. So a file without an end is

@@ -1,15 +1,15 @@
 //! The subcommand `list`: reads the filter files of a stack, explores the stack and writes its rows.
 
 ghost use Rattle.std.specs.Prelude.{◌≡◌, ◌<◌, ◌≤◌, ◌⊎◌, IfOk, IfErr};
-ghost use Rattle.sf_audit.specs.declared.fault.Fault.TheVariants.{Write as WriteFault};
+ghost use Rattle.sf_policy.specs.declared.fault.Fault.TheVariants.{Write as WriteFault};
 ghost use Rattle.sf_command.specs.Listings.{ListsFiles, RefusesListing};
 
 use crate::explaining::Notes;
 use crate::files::{Files, read_all};
 use crate::status::status_of_listing;
-use sf_audit::{Fault, Names};
 use sf_crew::Open;
 use sf_list::write_listing;
+use sf_policy::{Fault, Names};
 use std::alloc::Global;
 use std::io::Write;
 use std::sync::Wait;

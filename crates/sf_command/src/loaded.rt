@@ -3,8 +3,8 @@ ghost use Rattle.std.specs.Prelude.{◌≡◌, ◌++◌, ◌==◌, ◌&&◌, IfO
 ghost use Rattle.std.specs.List.{list_any};
 ghost use Rattle.sf_command.specs.Traces.{is_true_test, named_text, is_true_at, skipped_after, word_after, words_at};
 
-use sf_audit::WORD_KEYS;
 use sf_check::Insn;
+use sf_policy::WORD_KEYS;
 use sf_run::{Meeting, Met};
 use std::alloc::{AllocError, Global};
 

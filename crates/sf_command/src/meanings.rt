@@ -1,6 +1,6 @@
 //! What the number of a fault means, in words for a person.
 
-use sf_audit::Fault;
+use sf_policy::Fault;
 
 /// What the number of a fault means, without the end of a line.
 pub(crate) fn meaning_of(fault: &Fault) -> &'static str {

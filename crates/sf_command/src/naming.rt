@@ -1,12 +1,12 @@
 //! The names of calls, from the files that the command line names.
 
 ghost use Rattle.std.specs.Prelude.{◌≡◌, ◌⊎◌, ℕ, List, None, IfOk, IfErr};
-ghost use Rattle.sf_audit.specs.declared.fault.Fault.TheVariants.{Memory as MemoryFault, Read as ReadFault};
+ghost use Rattle.sf_policy.specs.declared.fault.Fault.TheVariants.{Memory as MemoryFault, Read as ReadFault};
 ghost use Rattle.sf_command.specs.Names.{AreNamesRead, IsNamesFile, RefusesNamesFile, RefusesNaming};
 
 use crate::explaining::Notes;
 use crate::files::Files;
-use sf_audit::{Fault, Names, read_names};
+use sf_policy::{Fault, Names, read_names};
 use std::alloc::Global;
 
 /// The names of the file at a path. `Read` where the file can't be read, `Syntax` where it isn't UTF-8, then what

@@ -2,7 +2,7 @@
 //! terminal obeys or hides are replaced.
 
 use crate::places::{line_of, position_of};
-use sf_audit::{Fault, MOST_QUESTIONS, Refusal};
+use sf_policy::{Fault, MOST_QUESTIONS, Refusal};
 use std::alloc::{AllocError, Global};
 use toml::de::Error;
 

@@ -1,12 +1,13 @@
 //! The exit statuses of the program.
 
 ghost use Rattle.std.specs.Prelude.{◌≡◌};
-ghost use Rattle.sf_audit.specs.Faults.{fault_number};
+ghost use Rattle.sf_policy.specs.Faults.{fault_number};
 ghost use Rattle.sf_command.specs.Status.{change_status, fault_status, listing_status, replies_status};
 
 use sf_ask::Reply;
-use sf_audit::{Fault, count_allowed, count_unsettled};
+use sf_audit::{count_allowed, count_unsettled};
 use sf_compare::Change;
+use sf_policy::Fault;
 
 /// The exit status of a fault: 3 where the filters, the policy, a file of names or the input are refused, 5 where reading,
 /// writing or memory fails.

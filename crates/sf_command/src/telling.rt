@@ -1,11 +1,11 @@
 //! What is written to standard error.
 
 ghost use Rattle.std.specs.Prelude.{◌≡◌, ◌++◌, IfOk, string_bytes};
-ghost use Rattle.sf_audit.specs.Faults.{fault_number};
+ghost use Rattle.sf_policy.specs.Faults.{fault_number};
 ghost use Rattle.sf_command.specs.Status.{fault_status};
 
 use crate::status::status_of;
-use sf_audit::Fault;
+use sf_policy::Fault;
 use std::alloc::{AllocError, Global};
 use std::fmt::InlineText;
 use std::io::Write;

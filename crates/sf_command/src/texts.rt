@@ -2,8 +2,8 @@
 ghost use Rattle.std.specs.Prelude.{◌≡◌, ◌++◌, IfOk, OnOk, length, string_bytes};
 ghost use Rattle.sf_command.specs.Texts.{answer_text, check_text, filter_lines, filter_line, path_line};
 
-use sf_audit::push_action;
 use sf_check::{Program, Stack};
+use sf_policy::push_action;
 use sf_run::Answer;
 use std::alloc::{AllocError, Global};
 

@@ -5,9 +5,9 @@ ghost use Rattle.sf_run.specs.Walks.{CourseData, walk_of};
 ghost use Rattle.sf_command.specs.Traces.{call_text, compared_text, field_line, filters_text, first_arguments, input_text, is_false, last_arguments, stands_text, meeting_line, meeting_lines, nr_line, returned_line, shown_line, sign_text, test_line, trace_text, truth_text, walk_text, word_text};
 
 use crate::loaded::{push_name, words_at};
-use sf_audit::{Names, push_action, push_names_between};
 use sf_check::{Program, Stack};
 use sf_insn::{Input, Test};
+use sf_policy::{Names, push_action, push_names_between};
 use sf_run::{Action, Answer, Course, Fault, Meeting, Met, walk};
 use std::alloc::{AllocError, Global};
 

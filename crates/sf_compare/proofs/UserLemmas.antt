@@ -9,7 +9,7 @@ use Rattle.sf_book.specs.Books.{BookData, IsSettled}
 use Rattle.sf_ask.specs.declared.actions.ActionSet.{ActionSet}
 use Rattle.sf_ask.specs.QuestionData.{QuestionData}
 use Rattle.sf_ask.specs.Breaking.{Breaks}
-use Rattle.sf_audit.specs.Actions.{set_of}
+use Rattle.sf_policy.specs.Actions.{set_of}
 use Rattle.sf_compare.specs.declared.relation.Relation.TheVariants.{Looser}
 use Rattle.sf_compare.specs.declared.changes.Change.TheVariants.{Never}
 use Rattle.sf_compare.specs.Relations.{IsUpward, reach_of}

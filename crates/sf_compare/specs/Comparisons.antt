@@ -6,8 +6,8 @@ use Rattle.sf_check.specs.Stacks.{IsPlain, path_length}
 use Rattle.sf_run.specs.declared.action.Answer.{Answer}
 use Rattle.sf_book.specs.Books.{BookData, counts_of}
 use Rattle.sf_crew.specs.Explorations.{IsExplorationOf, IsExactExploration}
-use Rattle.sf_audit.specs.Filters.{SpellStack}
-use Rattle.sf_audit.specs.Reports.{action_text, counts_line, hex_text, line}
+use Rattle.sf_policy.specs.Filters.{SpellStack}
+use Rattle.sf_policy.specs.Texts.{action_text, counts_line, hex_text, line}
 use Rattle.sf_compare.specs.declared.relation.Relation.{Relation}
 use Rattle.sf_compare.specs.declared.relation.Relation.TheVariants.{Looser, Tighter, Different}
 use Rattle.sf_compare.specs.declared.changes.Change.{Change}

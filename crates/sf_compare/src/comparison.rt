@@ -1,17 +1,15 @@
 //! The comparison of two stacks of filter files.
 
 ghost use Rattle.std.specs.Prelude.{◌≡◌, ◌⊎◌, ◌<◌, ◌≤◌, length, map, IfOk, IfErr};
-ghost use Rattle.sf_audit.specs.Filters.{IsFirstRefusal};
-ghost use Rattle.sf_compare.specs.Changes.{AreAnswersOfRegions, IsChangeOf};
+ghost use Rattle.sf_policy.specs.Filters.{IsFirstRefusal};
 ghost use Rattle.sf_compare.specs.Comparisons.{change_of, IsComparedOn, IsComparison};
 
 use crate::changes::{Change, answers_of_regions, find_change};
 use crate::relation::Relation;
-use sf_audit::{Fault, stack_of};
 use sf_book::Settled;
 use sf_check::Stack;
 use sf_crew::{Gate, explore};
-use sf_run::PartAnswers;
+use sf_policy::{Fault, stack_of};
 use std::alloc::Global;
 use std::marker::Model;
 use std::sync::{Arc, Wait};
@@ -77,37 +75,8 @@ impl Comparison {
     }
 }
 
-/// What is found of a relation. `Memory` where an allocation is refused.
-fn find_change_of(
-    alloc: Global,
-    settled: &Settled,
-    older: usize,
-    answers: &[PartAnswers],
-    relation: Relation,
-) -> Result<Change, Fault>
-    requires { AreAnswersOfRegions settled.now older answers.now }
-    ensures ok { IfOk result (IsChangeOf settled.now older relation) }
-    ensures err { IfErr result (λ e. e ≡ Fault.Memory) }
-{
-    match find_change(alloc, settled, older, answers, relation) {
-        Ok(change) => Ok(change),
-        Err(_) => Err(Fault::Memory),
-    }
-}
-
-/// The answers of both stacks to the members of each region. `Memory` where an allocation is refused.
-fn answers_of(alloc: Global, settled: &Settled, older: usize) -> Result<Vec<PartAnswers>, Fault>
-    requires { older ≤ length settled.now.stack }
-    ensures ok { IfOk result (λ all. AreAnswersOfRegions settled.now older all.items) }
-    ensures err { IfErr result (λ e. e ≡ Fault.Memory) }
-{
-    match answers_of_regions(alloc, settled, older) {
-        Ok(answers) => Ok(answers),
-        Err(_) => Err(Fault::Memory),
-    }
-}
-
-/// The comparison of a stack's first `older` programs, as the old stack, with the others.
+/// The comparison of a stack's first `older` programs, as the old stack, with the others. An error where an allocation is
+/// refused.
 fn compare_parts<R: Threads + Wait + Sync, G: Gate>(
     rt: &R,
     alloc: Global,
@@ -116,24 +85,23 @@ fn compare_parts<R: Threads + Wait + Sync, G: Gate>(
     budget: u32,
     workers: usize,
     gate: &G,
-) -> Result<Comparison, Fault>
+) -> Result<Comparison, sf_crew::Fault>
     requires workers { (0 < workers) × (workers ≤ 64) }
     requires older { older ≤ length stack }
-    ensures found { IfOk result (IsComparedOn stack older budget) }
-    ensures refused { IfErr result (λ e. e ≡ Fault.Memory) }
+    ensures { IfOk result (IsComparedOn stack older budget) }
 {
     let stack = Arc::new(alloc, stack)?;
     let settled = explore(rt, alloc, stack, budget, workers, gate)?;
-    let answers = answers_of(alloc, &settled, older)?;
-    let looser = find_change_of(alloc, &settled, older, answers.as_slice(), Relation::Looser)?;
-    let tighter = find_change_of(
+    let answers = answers_of_regions(alloc, &settled, older)?;
+    let looser = find_change(alloc, &settled, older, answers.as_slice(), Relation::Looser)?;
+    let tighter = find_change(
         alloc,
         &settled,
         older,
         answers.as_slice(),
         Relation::Tighter,
     )?;
-    let different = find_change_of(
+    let different = find_change(
         alloc,
         &settled,
         older,
@@ -176,5 +144,8 @@ pub fn compare<R: Threads + Wait + Sync, G: Gate>(
         ⊎ IsFirstRefusal (map (λ f. f.items) filters.now) e) }
 {
     let stack = stack_of(alloc, filters)?;
-    compare_parts(rt, alloc, stack, older, budget, workers, gate)
+    match compare_parts(rt, alloc, stack, older, budget, workers, gate) {
+        Ok(comparison) => Ok(comparison),
+        Err(_) => Err(Fault::Memory),
+    }
 }

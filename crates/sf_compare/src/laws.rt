@@ -6,7 +6,7 @@ ghost use Rattle.sf_insn.specs.Inputs.{IsInput};
 ghost use Rattle.sf_book.specs.Books.{BookData, IsSettled};
 ghost use Rattle.sf_ask.specs.QuestionData.{QuestionData};
 ghost use Rattle.sf_ask.specs.Breaking.{Breaks};
-ghost use Rattle.sf_audit.specs.Actions.{set_of};
+ghost use Rattle.sf_policy.specs.Actions.{set_of};
 ghost use Rattle.sf_compare.specs.declared.relation.Relation.TheVariants.{Looser};
 ghost use Rattle.sf_compare.specs.declared.changes.Change.TheVariants.{Never};
 ghost use Rattle.sf_compare.specs.Relations.{IsUpward};

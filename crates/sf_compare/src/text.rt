@@ -2,16 +2,16 @@
 
 ghost use Rattle.std.specs.Prelude.{◌≡◌, ◌≤◌, ◌⊎◌, ◌++◌, IfOk, IfErr, OnOk, OnErr, length, string_bytes};
 ghost use Rattle.std.specs.Io.KnownBytes.{Appends};
-ghost use Rattle.sf_audit.specs.Reports.{AppendsFront};
-ghost use Rattle.sf_audit.specs.declared.fault.Fault.TheVariants.{Memory as MemoryFault, Write as WriteFault};
+ghost use Rattle.sf_policy.specs.Texts.{AppendsFront};
+ghost use Rattle.sf_policy.specs.declared.fault.Fault.TheVariants.{Memory as MemoryFault, Write as WriteFault};
 ghost use Rattle.sf_compare.specs.Comparisons.{answer_words, change_line, changes_text, comparison_text, part_line, sizes_text};
 
 use crate::changes::Change;
 use crate::comparison::Comparison;
 use crate::relation::Relation;
-use sf_audit::{Fault, hex_of, push_action, push_counts, write_bytes};
 use sf_book::Settled;
 use sf_check::{Program, path_length};
+use sf_policy::{Fault, hex_of, push_action, push_counts, write_bytes};
 use sf_run::Answer;
 use std::alloc::{AllocError, Global};
 use std::io::Write;

@@ -8,8 +8,8 @@ use Rattle.sf_run.specs.declared.replaying.PartAnswers.{PartAnswers}
 use Rattle.sf_book.specs.Books.{RegionData, BookData}
 use Rattle.sf_picture.specs.PictureData.{PictureData}
 use Rattle.sf_picture.specs.Pictures.{IsAttainedEverywhere, IsDetermined, IsPicture, ShowsLabels}
-use Rattle.sf_audit.specs.Names.{NamesData}
-use Rattle.sf_audit.specs.Reports.{line}
+use Rattle.sf_policy.specs.Names.{NamesData}
+use Rattle.sf_policy.specs.Texts.{line}
 use Rattle.sf_compare.specs.Changes.{AreAnswersOf}
 use Rattle.sf_compare.specs.Comparisons.{Compared, answer_words, comparison_text}
 use Rattle.sf_list.specs.Answers.{answer_order}

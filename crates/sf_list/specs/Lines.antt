@@ -2,8 +2,8 @@
 use Rattle.std.specs.Prelude.{ℕ, ◌^◌, ◌-◌, ◌==◌, Bool, true, false, List, [], ◌∷◌, ◌++◌, codes, length, slice_index_or, Option, Some, None, nat_lt, if◌then◌else◌}
 use Rattle.std.specs.List.{flat_map}
 use Rattle.std.specs.Fmt.{decimal, digits, padded_integral, format_spec}
-use Rattle.sf_audit.specs.Keys.{word_keys}
-use Rattle.sf_audit.specs.Names.{NamesData, names_between, names_words}
+use Rattle.sf_policy.specs.Keys.{word_keys}
+use Rattle.sf_policy.specs.Names.{NamesData, names_between, names_words}
 use Rattle.sf_picture.specs.declared.axis.Axis.{Axis}
 use Rattle.sf_list.specs.declared.parts.Span.{Span}
 use Rattle.sf_list.specs.declared.conditions.Style.{Style}

@@ -11,9 +11,9 @@ use Rattle.sf_crew.specs.Explorations.{IsExplorationOf}
 use Rattle.sf_picture.specs.PictureData.{PictureData}
 use Rattle.sf_picture.specs.Pictures.{IsAttainedEverywhere, IsDetermined, IsPicture, ShowsLabels}
 use Rattle.sf_picture.specs.Answering.{TellAnswers}
-use Rattle.sf_audit.specs.Filters.{SpellStack}
-use Rattle.sf_audit.specs.Names.{NamesData}
-use Rattle.sf_audit.specs.Reports.{counts_line, line}
+use Rattle.sf_policy.specs.Filters.{SpellStack}
+use Rattle.sf_policy.specs.Names.{NamesData}
+use Rattle.sf_policy.specs.Texts.{counts_line, line}
 use Rattle.sf_list.specs.Answers.{AreFirstPlaces, answer_order}
 use Rattle.sf_list.specs.Rows.{RowData, rows_of}
 use Rattle.sf_compare.specs.Comparisons.{answer_words}

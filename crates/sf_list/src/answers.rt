@@ -8,8 +8,8 @@ ghost use Rattle.sf_picture.specs.Answering.{TellAnswers};
 ghost use Rattle.sf_list.specs.Answers.{AreFirstPlaces, answer_order};
 ghost use Rattle.sf_compare.specs.Comparisons.{answer_words};
 
-use sf_audit::push_action;
 use sf_book::Settled;
+use sf_policy::push_action;
 use sf_run::Answer;
 use std::alloc::{AllocError, Global};
 

@@ -2,17 +2,17 @@
 
 ghost use Rattle.std.specs.Prelude.{◌≡◌, ◌⊎◌, ◌++◌, IfErr, IfOk, OnErr, OnOk, not, option_map, string_bytes};
 ghost use Rattle.std.specs.Io.KnownBytes.{Appends};
-ghost use Rattle.sf_audit.specs.Reports.{AppendsFront};
-ghost use Rattle.sf_audit.specs.declared.fault.Fault.TheVariants.{Memory as MemoryFault, Write as WriteFault};
+ghost use Rattle.sf_policy.specs.Texts.{AppendsFront};
+ghost use Rattle.sf_policy.specs.declared.fault.Fault.TheVariants.{Memory as MemoryFault, Write as WriteFault};
 ghost use Rattle.sf_list.specs.Differences.{changed_line, changed_of, changed_rows, compared_text, differences_text, drawn_line, is_unchanged};
 
 use crate::differences::Differences;
 use crate::lines::push_rows;
 use crate::pairs::all_words;
 use crate::rows::{Row, count_undetermined, rows_in};
-use sf_audit::{Fault, Names, write_bytes};
 use sf_compare::{Comparison, text_of_comparison};
 use sf_picture::Picture;
+use sf_policy::{Fault, Names, write_bytes};
 use std::alloc::{AllocError, Global};
 use std::io::Write;
 

@@ -1,13 +1,13 @@
 //! Conditions of rows, as text.
 
 ghost use Rattle.std.specs.Prelude.{◌≡◌, ◌++◌, [], OnOk, codes, slice_index_or, string_bytes};
-ghost use Rattle.sf_audit.specs.Keys.{word_keys};
+ghost use Rattle.sf_policy.specs.Keys.{word_keys};
 ghost use Rattle.sf_list.specs.Lines.{call_words, long_words, short_words, number_words, span_words, spans_words, is_one_number, arch_start, arch_words, nr_words, part_start, axis_words, condition_words, conditions_words};
 
 use crate::parts::{Part, Span};
 use crate::rows::Condition;
-use sf_audit::WORD_KEYS;
 use sf_picture::Axis;
+use sf_policy::WORD_KEYS;
 use std::alloc::AllocError;
 
 /// How the numbers of a word are written.

@@ -7,10 +7,10 @@ ghost use Rattle.sf_compare.specs.Changes.{AreAnswersOfRegions};
 ghost use Rattle.sf_list.specs.Differences.{AreDifferences, ArePictured, Differ, pair_order};
 
 use crate::pairs::{labels_of, pairs_of};
-use sf_audit::Fault;
 use sf_book::Settled;
 use sf_compare::{Comparison, answers_of_regions};
 use sf_picture::{Picture, picture_of};
+use sf_policy::Fault;
 use sf_run::PartAnswers;
 use std::alloc::Global;
 use std::marker::Model;

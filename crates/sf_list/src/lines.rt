@@ -7,7 +7,7 @@ ghost use Rattle.sf_list.specs.Lines.{labels_words, place_words, row_line};
 use crate::conditions::{push_arch, push_conditions, push_nr};
 use crate::named::push_row_names;
 use crate::rows::{Row, Scope};
-use sf_audit::Names;
+use sf_policy::Names;
 use std::alloc::AllocError;
 
 /// The words of a label, or none where it has none.

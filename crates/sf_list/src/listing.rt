@@ -2,17 +2,17 @@
 
 ghost use Rattle.std.specs.Prelude.{◌≡◌, ◌<◌, ◌≤◌, ◌⊎◌, All, Contains, length, map, option_map, IfOk, IfErr, MatchOption};
 ghost use Rattle.std.specs.List.Sorted.{IsNonDecreasingBy};
-ghost use Rattle.sf_audit.specs.Filters.{IsFirstRefusal};
+ghost use Rattle.sf_policy.specs.Filters.{IsFirstRefusal};
 ghost use Rattle.sf_book.specs.Books.{RegionData};
 ghost use Rattle.sf_list.specs.Answers.{answer_order};
 ghost use Rattle.sf_list.specs.Listings.{IsListing, IsPictured};
 
 use crate::answers::{answers_of, labels_of};
-use sf_audit::{Fault, stack_of};
 use sf_book::Settled;
 use sf_check::Stack;
 use sf_crew::{Gate, explore};
 use sf_picture::{Picture, picture_of};
+use sf_policy::{Fault, stack_of};
 use sf_run::Answer;
 use std::alloc::Global;
 use std::marker::Model;
@@ -129,6 +129,8 @@ pub fn list<R: Threads + Wait + Sync, G: Gate>(
         ⊎ IsFirstRefusal (map (λ f. f.items) filters.now) e) }
 {
     let stack = Arc::new(alloc, stack_of(alloc, filters)?)?;
-    let settled = explore(rt, alloc, stack, budget, workers, gate)?;
-    listing_of(alloc, settled, leaves)
+    match explore(rt, alloc, stack, budget, workers, gate) {
+        Ok(settled) => listing_of(alloc, settled, leaves),
+        Err(_) => Err(Fault::Memory),
+    }
 }

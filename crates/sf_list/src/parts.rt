@@ -1,13 +1,13 @@
 //! Parts of forks: the numbers that lead to the same.
 
 ghost use Rattle.std.specs.Prelude.{◌≡◌, ◌<◌, ◌≤◌, ◌+◌, ◌-◌, ◌++◌, ◌∷◌, [], true, false, if◌then◌else◌, length, slice_index_or, OnOk, IfErr, IfOk};
-ghost use Rattle.sf_audit.specs.declared.fault.Fault.TheVariants.{Memory as MemoryFault};
+ghost use Rattle.sf_policy.specs.declared.fault.Fault.TheVariants.{Memory as MemoryFault};
 ghost use Rattle.sf_picture.specs.Pictures.{RiseFrom};
 ghost use Rattle.sf_list.specs.declared.parts.Span.{Span as ASpan};
 ghost use Rattle.sf_list.specs.Parts.{EndsApart, same_branch, with_span, names_part, count_after, has_branch, branches_after, largest_of, part_to, parts_but, parts_to, fork_parts, run_parts, span_of};
 
-use sf_audit::Fault;
 use sf_picture::{Branch, Run};
+use sf_policy::Fault;
 use std::alloc::{AllocError, Global};
 use std::marker::Model;
 use std::sync::Arc;

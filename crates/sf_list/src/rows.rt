@@ -1,15 +1,15 @@
 //! The rows of a picture.
 
 ghost use Rattle.std.specs.Prelude.{◌≡◌, ◌++◌, ◌∷◌, ◌≤◌, [], count_by, length, option_map, IfErr, IfOk};
-ghost use Rattle.sf_audit.specs.declared.fault.Fault.TheVariants.{Memory as MemoryFault};
+ghost use Rattle.sf_policy.specs.declared.fault.Fault.TheVariants.{Memory as MemoryFault};
 ghost use Rattle.sf_picture.specs.Pictures.{IsBelow, RiseFrom};
 ghost use Rattle.sf_list.specs.Lines.{is_undetermined};
 ghost use Rattle.sf_list.specs.Listings.{listed_rows};
 ghost use Rattle.sf_list.specs.Rows.{is_whole, scope_within, whole_scope, rows_along, rows_of, parts_at};
 
 use crate::parts::{Part, parts_of, runs_apart};
-use sf_audit::Fault;
 use sf_picture::{Axis, Branch, Fork, Picture};
+use sf_policy::Fault;
 use std::alloc::Global;
 use std::marker::Model;
 

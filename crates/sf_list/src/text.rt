@@ -2,17 +2,17 @@
 
 ghost use Rattle.std.specs.Prelude.{◌≡◌, ◌⊎◌, ◌++◌, ◌≤◌, IfOk, IfErr, OnOk, OnErr, length, string_bytes};
 ghost use Rattle.std.specs.Io.KnownBytes.{Appends};
-ghost use Rattle.sf_audit.specs.Reports.{AppendsFront};
-ghost use Rattle.sf_audit.specs.declared.fault.Fault.TheVariants.{Memory as MemoryFault, Write as WriteFault};
+ghost use Rattle.sf_policy.specs.Texts.{AppendsFront};
+ghost use Rattle.sf_policy.specs.declared.fault.Fault.TheVariants.{Memory as MemoryFault, Write as WriteFault};
 ghost use Rattle.sf_list.specs.Listings.{stack_line, head_text, listed_rows, total_line, listing_text, is_whole_listing};
 
 use crate::answers::all_words;
 use crate::lines::push_rows;
 use crate::listing::Listing;
 use crate::rows::{Row, count_undetermined, rows_in};
-use sf_audit::{Fault, Names, push_counts, write_bytes};
 use sf_book::Settled;
 use sf_check::{Program, path_length};
+use sf_policy::{Fault, Names, push_counts, write_bytes};
 use std::alloc::{AllocError, Global};
 use std::io::Write;
 

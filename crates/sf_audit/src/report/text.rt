@@ -2,14 +2,13 @@
 
 ghost use Rattle.std.specs.Prelude.{◌≡◌, ◌++◌, IfOk, OnOk, length, string_bytes};
 ghost use Rattle.sf_check.specs.Stacks.{path_length};
-ghost use Rattle.sf_audit.specs.Reports.{size_line, counts_line, hex_text, question_line, question_lines, name_text, region_line, region_lines, shown_lines, total_line, totals_line, head_text, report_text};
+ghost use Rattle.sf_audit.specs.Reports.{size_line, question_line, question_lines, name_text, region_line, region_lines, shown_lines, total_line, totals_line, head_text, report_text};
 
-use crate::action::push_action;
 use crate::counting::{count_allowed, count_never, count_unsettled};
 use crate::outcome::Outcome;
 use sf_ask::{Question, Reply};
-use sf_book::{Counts, Region, Settled};
-use sf_insn::{Input, bytes_of_input};
+use sf_book::{Region, Settled};
+use sf_policy::{hex_of, push_action, push_counts};
 use std::alloc::{AllocError, Global};
 
 /// A region's name: a letter for each truth value, or a dash where it has none.
@@ -72,14 +71,6 @@ fn push_shown_regions(
     Ok(())
 }
 
-/// The hexadecimal digits of an input's bytes. `AllocError` where an allocation is refused.
-pub fn hex_of(alloc: Global, input: &Input) -> Result<String, AllocError>
-    ensures { IfOk result (λ digits. string_bytes digits ≡ hex_text input.now) }
-{
-    let bytes = bytes_of_input(input);
-    hex::encode(alloc, &bytes)
-}
-
 /// The line of a question: its number, its name and its reply, with the example of an allowed one.
 fn push_question(
     alloc: Global,
@@ -131,21 +122,6 @@ fn push_size(
     write!(
         text,
         "filters {filters} path {path} questions {questions}\n"
-    )
-}
-
-/// The line of an exploration's counts. `AllocError` where an allocation is refused.
-pub fn push_counts(text: &mut String, counts: Counts) -> Result<(), AllocError>
-    ensures { OnOk result (string_bytes text.new ≡ string_bytes text.old ++ counts_line counts) }
-{
-    let regions = counts.settled;
-    let open = counts.left;
-    let emptied = counts.emptied;
-    let splits = counts.splits;
-    let commits = counts.commits;
-    write!(
-        text,
-        "regions {regions} open {open} emptied {emptied} splits {splits} commits {commits}\n"
     )
 }
 

@@ -1,8 +1,8 @@
 use Rattle.std.proofs.Common.{refl}
 use Rattle.sf_audit.proofs.auditing.outcome_of.Goals as goal
 
-pub returns-clause-found : goal.returns-clause-found
-returns-clause-found g c = record {
+pub returns : goal.returns
+returns g c = record {
   end = rw c.in_ok-stack.ensures.ok at c.in_ok-settled.ensures.ok;
   plain = rw c.in_ok-stack.ensures.ok at c.in_ok-settled.ensures.plain;
   questions = refl;

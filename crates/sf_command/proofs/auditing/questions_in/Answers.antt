@@ -1,5 +1,5 @@
 use Rattle.std.proofs.Common.{◌≡◌, ◌∙◌, inl, inr, refl, sym}
-use Rattle.sf_audit.specs.Faults.{without_place}
+use Rattle.sf_policy.specs.Faults.{without_place}
 use Rattle.sf_command.proofs.PolicyLemmas.{policy_asked}
 use Rattle.sf_command.proofs.auditing.questions_in.Goals as goal
 

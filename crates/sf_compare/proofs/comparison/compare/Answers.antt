@@ -1,7 +1,7 @@
 use Rattle.std.proofs.lemmas.Grind.{common_steps}
 use Rattle.std.proofs.Common.{arith}
 use Rattle.std.proofs.lemmas.List.{length-map}
-use Rattle.sf_audit.specs.FiltersLaws.{as_many}
+use Rattle.sf_policy.specs.FiltersLaws.{as_many}
 use Rattle.sf_compare.proofs.comparison.compare.Goals as goal
 
 pub compare_parts-requires-clause-older : goal.compare_parts-requires-clause-older

@@ -1,6 +1,6 @@
 use Rattle.std.proofs.Common.{◌≡◌}
 use Rattle.std.proofs.lemmas.Result.{on_ok_weaker}
-use Rattle.sf_audit.specs.TextLaws.{added_four}
+use Rattle.sf_policy.specs.TextLaws.{added_four}
 use Rattle.sf_compare.proofs.ChangeLemmas.{last_part}
 use Rattle.sf_compare.proofs.text.push_sizes.Goals as goal
 

@@ -1,1 +1,0 @@
--- A refusal of a policy, of which only the fault is kept.

@@ -1,0 +1,21 @@
+-- The set of the actions that an array names.
+use Rattle.std.proofs.Common.{◌≡◌, ℕ, List, [], ◌∷◌, ◌||◌, ◌&&◌, not, ◌==◌, length, map, refl, ap}
+use Rattle.std.specs.List.{list_any, list_all}
+use Rattle.std.specs.Str.{bytes_eq}
+use Rattle.toml.specs.View.{view}
+use Rattle.toml.specs.declared.value.Value.{Value}
+use Rattle.std.proofs.Math.Dec.{eqb-suc-zero}
+use Rattle.std.proofs.lemmas.List.Folds.{list_all-map}
+use Rattle.sf_policy.specs.Actions.{is_action, are_actions, is_named}
+use Rattle.sf_policy.specs.Encoding.{text_or_empty}
+
+pub is_named_view : (name : List ℕ) (vs : List Value) → is_named (map (λ v. text_or_empty (view v)) vs) name
+    ≡ list_any (λ v. bytes_eq (text_or_empty (view v)) name) vs
+is_named_view name [] = refl
+is_named_view name (v ∷ vs) = ap (λ b. bytes_eq (text_or_empty (view v)) name || b) (is_named_view name vs)
+
+pub are_actions_view : (vs : List Value) → are_actions (map (λ v. text_or_empty (view v)) vs)
+    ≡ (not (length vs == 0) && list_all (λ v. is_action (text_or_empty (view v))) vs)
+are_actions_view [] = refl
+are_actions_view (v ∷ vs) = rw (eqb-suc-zero (length vs))
+    (list_all-map is_action (λ v. text_or_empty (view v)) (v ∷ vs))

@@ -1,0 +1,137 @@
+-- The definitions over trees, at the lists that the code goes through.
+use Rattle.std.proofs.Common.{◌≡◌, ℕ, true, false, List, [], ◌∷◌, ◌&&◌, map, refl, ap, ◌∙◌, sym, String, string_bytes, Global, is_some, Option, Some, None, length, get_or, take, drop, set, ◌<◌, ◌≤◌, ◌+◌, ◌++◌, append_assoc, arith, Bor, unwrap_or}
+use Rattle.std.proofs.lemmas.List.{get_or-map, drop_more, length-map}
+use Rattle.std.proofs.lemmas.Grind.{take-set_at}
+use Rattle.std.specs.List.{list_any, list_all}
+use Rattle.std.specs.Map.{keys_of}
+use Rattle.std.specs.Str.{bytes_eq}
+use Rattle.toml.specs.Data.{Data, no_members, as_str, as_table}
+use Rattle.toml.specs.View.{view, items_view, members_view}
+use Rattle.toml.specs.declared.value.Value.{Value}
+use Rattle.sf_policy.specs.Keys.{has_only, question_keys, top_keys, mask_keys}
+use Rattle.sf_policy.specs.Names.{names_keys}
+use Rattle.sf_policy.specs.Trees.{option_cons, each_of, item_list, texts_of, tables_of}
+use Rattle.sf_policy.specs.Words.{entry_of_array}
+use Rattle.sf_policy.specs.Encoding.{text_or_empty, table_or_empty}
+use Rattle.sf_policy.specs.declared.policy.keys.TheConstants.{QUESTION_KEYS, TOP_KEYS, MASK_KEYS, NAMES_KEYS}
+
+has_only_view : (keys : List (List ℕ)) (es : List (String Global × Value))
+    → has_only keys (members_view es) ≡ list_all (λ key. list_any (bytes_eq (string_bytes key)) keys) (keys_of es)
+has_only_view keys [] = refl
+has_only_view keys (e ∷ es) = ap (λ b. list_any (bytes_eq (string_bytes e.0)) keys && b) (has_only_view keys es)
+
+pub has_only_question_keys : (es : List (String Global × Value))
+    → has_only question_keys (members_view es)
+    ≡ list_all (λ key. list_any (λ k. bytes_eq (string_bytes key) k.now) QUESTION_KEYS) (keys_of es)
+has_only_question_keys es = has_only_view question_keys es
+
+pub has_only_top_keys : (es : List (String Global × Value)) → has_only top_keys (members_view es)
+    ≡ list_all (λ key. list_any (λ k. bytes_eq (string_bytes key) k.now) TOP_KEYS) (keys_of es)
+has_only_top_keys es = has_only_view top_keys es
+
+pub has_only_mask_keys : (es : List (String Global × Value))
+    → has_only mask_keys (members_view es) ≡ list_all
+    (λ key. list_any (λ k. bytes_eq (string_bytes key) k.now) MASK_KEYS) (keys_of es)
+has_only_mask_keys es = has_only_view mask_keys es
+
+pub has_only_names_keys : (es : List (String Global × Value))
+    → has_only names_keys (members_view es) ≡ list_all
+    (λ key. list_any (λ k. bytes_eq (string_bytes key) k.now) NAMES_KEYS) (keys_of es)
+has_only_names_keys es = has_only_view names_keys es
+
+pub short_array : (vs : List Value) → length vs < 2 → None ≡ entry_of_array (items_view vs)
+short_array [] h = refl
+short_array (v ∷ []) h = refl
+short_array (v ∷ w ∷ vs) h = absurd (omega arith)
+
+pub long_array : (vs : List Value) → 3 ≤ length vs → None ≡ entry_of_array (items_view vs)
+long_array [] h = refl
+long_array (v ∷ []) h = refl
+long_array (v ∷ w ∷ []) h = absurd (omega arith)
+long_array (v ∷ w ∷ x ∷ vs) h = refl
+
+listed_view : (vs : List Value) → item_list (items_view vs) ≡ map view vs
+listed_view [] = refl
+listed_view (v ∷ vs) = ap (λ ds. view v ∷ ds) (listed_view vs)
+
+-- Where each value can be read, all of them are.
+each_read : {X : Type 0} (read : Data → Option X) (absent : X) (vs : List Value)
+    → list_all (λ v. is_some (read (view v))) vs ≡ true
+    → each_of read (map view vs) ≡ Some (map (λ v. unwrap_or (read (view v)) absent) vs)
+each_read read absent [] h = refl
+each_read read absent (v ∷ vs) h = elim (read (view v)) as (λ r.
+    (is_some r && list_all (λ v. is_some (read (view v))) vs) ≡ true
+    → option_cons r (each_of read (map view vs))
+    ≡ Some (unwrap_or r absent ∷ map (λ v. unwrap_or (read (view v)) absent) vs)) [
+      | Some x ↦ λ g. ap (λ r. option_cons (Some x) r) (each_read read absent vs g)
+      | None ↦ λ g. cc
+    ] h
+
+one_unread : {X : Type 0} (read : Data → Option X) (vs : List Value)
+    → list_all (λ v. is_some (read (view v))) vs ≡ false
+    → each_of read (map view vs) ≡ None
+one_unread read [] h = cc
+one_unread read (v ∷ vs) h = elim (read (view v)) as (λ r. (is_some r && list_all (λ v. is_some (read (view v))) vs)
+    ≡ false → option_cons r (each_of read (map view vs)) ≡ None) [
+      | Some x ↦ λ g. ap (λ r. option_cons (Some x) r) (one_unread read vs g)
+      | None ↦ λ g. refl
+    ] h
+
+pub texts_view : (vs : List Value) → list_all (λ v. is_some (as_str (view v))) vs ≡ true
+    → texts_of (items_view vs) ≡ Some (map (λ v. text_or_empty (view v)) vs)
+texts_view vs h = ap (λ ds. each_of as_str ds) (listed_view vs) ∙ each_read as_str [] vs h
+
+pub no_texts_view : (vs : List Value) → list_all (λ v. is_some (as_str (view v))) vs ≡ false
+    → texts_of (items_view vs) ≡ None
+no_texts_view vs h = ap (λ ds. each_of as_str ds) (listed_view vs) ∙ one_unread as_str vs h
+
+pub tables_view : (vs : List Value) → list_all (λ v. is_some (as_table (view v))) vs ≡ true
+    → tables_of (items_view vs) ≡ Some (map (λ v. table_or_empty (view v)) vs)
+tables_view vs h = ap (λ ds. each_of as_table ds) (listed_view vs) ∙ each_read as_table no_members vs h
+
+pub no_tables_view : (vs : List Value) → list_all (λ v. is_some (as_table (view v))) vs ≡ false
+    → tables_of (items_view vs) ≡ None
+no_tables_view vs h = ap (λ ds. each_of as_table ds) (listed_view vs) ∙ one_unread as_table vs h
+
+pub count_view : (vs : List Value) → length (map (λ v. table_or_empty (view v)) vs) ≡ length vs
+count_view vs = length-map vs (λ v. table_or_empty (view v))
+
+-- what was read of the first ones, in front of what is read of the others
+abbrev pub with_front : {X : Type 0} → List X → Option (List X) → Option (List X)
+with_front front None = None
+with_front front (Some rest) = Some (front ++ rest)
+
+with_front_cons : {X : Type 0} (front : List X) (x : X) (r : Option (List X))
+    → with_front front (option_cons (Some x) r) ≡ with_front (front ++ x ∷ []) r
+with_front_cons front x None = refl
+with_front_cons front x (Some rest) = ap Some (sym (append_assoc front (x ∷ []) rest))
+
+abbrev pub texts_now : List (Bor (List ℕ)) → List (List ℕ)
+texts_now ks = map (λ key. key.now) ks
+
+read_at : {X : Type 0} (read : List ℕ → Option X) (ks : List (Bor (List ℕ))) (i : ℕ) (d : Bor (List ℕ))
+    (r : Option X) → i < length ks
+    → read (get_or ks i d).now ≡ r → read (get_or (texts_now ks) i []) ≡ r
+read_at read ks i d r h found = ap read (get_or-map (λ k. k.now) ks i d [] h) ∙ found
+
+-- One more key was read into its place.
+pub one_more_read : {X : Type 0} (read : List ℕ → Option X) (whole : Option (List X)) (ks : List (Bor (List ℕ))) (i : ℕ)
+    (d : Bor (List ℕ)) (xs : List X) (x : X)
+    → i < length ks → i < length xs → read (get_or ks i d).now ≡ Some x
+    → whole ≡ with_front (take i xs) (each_of read (drop i (texts_now ks)))
+    → whole ≡ with_front (take (i + 1) (set xs i x)) (each_of read (drop (i + 1) (texts_now ks)))
+one_more_read read whole ks i d xs x h k found before =
+    let below : i < length (texts_now ks) = rw length-map h in
+    let opened = rw (drop_more (texts_now ks) i [] below, read_at read ks i d (Some x) h found) at before in
+    opened ∙ with_front_cons (take i xs) x _ ∙ ap (λ l. with_front l (each_of read (drop (i + 1) (texts_now ks))))
+    (sym (take-set_at xs i (i + 1) x refl k))
+
+-- A key that can't be read leaves nothing.
+pub not_read : {X : Type 0} (read : List ℕ → Option X) (whole : Option (List X)) (ks : List (Bor (List ℕ))) (i : ℕ)
+    (d : Bor (List ℕ)) (front : List X)
+    → i < length ks → read (get_or ks i d).now ≡ None
+    → whole ≡ with_front front (each_of read (drop i (texts_now ks)))
+    → None ≡ whole
+not_read read whole ks i d front h found before =
+    let below : i < length (texts_now ks) = rw length-map h in
+    sym (rw (drop_more (texts_now ks) i [] below, read_at read ks i d None h found) at before)

@@ -1,0 +1,49 @@
+-- The numbers under which faults are reported, and results that are the due ones unless memory is refused.
+use Rattle.std.specs.Prelude.{◌≡◌, ℕ, Result, Ok, Err}
+use Rattle.sf_policy.specs.declared.fault.Fault.{Fault}
+use Rattle.sf_policy.specs.declared.fault.Fault.TheVariants as faults
+use Rattle.sf_policy.specs.declared.policy.refusal.Refusal.{Refusal}
+
+-- the number of each refusal of an audit, and of refused memory
+abbrev pub fault_number : Fault → ℕ
+fault_number (faults.Ragged filter) = 10
+fault_number (faults.Empty filter) = 11
+fault_number (faults.TooLong filter) = 12
+fault_number (faults.Code filter at) = 20
+fault_number (faults.Field filter at) = 21
+fault_number (faults.Jump filter at) = 22
+fault_number (faults.Last filter) = 23
+fault_number (faults.Scratch filter at) = 24
+fault_number faults.NoFilter = 25
+fault_number faults.TooMany = 26
+fault_number faults.PathLength = 27
+fault_number faults.Version = 40
+fault_number faults.TopKey = 41
+fault_number (faults.Key question) = 41
+fault_number (faults.Range question) = 42
+fault_number (faults.Actions question) = 43
+fault_number (faults.Name question) = 44
+fault_number faults.Count = 45
+fault_number faults.Syntax = 46
+fault_number faults.Input = 47
+fault_number (faults.Mask question) = 48
+fault_number faults.NamesKey = 41
+fault_number faults.NamesRange = 42
+fault_number faults.Read = 50
+fault_number faults.Write = 51
+fault_number faults.Memory = 60
+
+-- a fault other than refused memory is the one that is due
+abbrev pub Fails : {X : Type 0} → Fault → Result X Fault → Type 0
+Fails faults.Memory due = Unit {0}
+Fails fault due = due ≡ Err fault
+
+-- what a function answered, seen by `view`, is what is due, unless memory is refused
+abbrev pub Gives : {X Y : Type 0} → (X → Y) → Result X Fault → Result Y Fault → Type 0
+Gives view (Ok x) due = due ≡ Ok (view x)
+Gives view (Err fault) due = Fails fault due
+
+-- what was read, or only the fault of a refusal
+abbrev pub without_place : {X : Type 0} → Result X Refusal → Result X Fault
+without_place (Ok x) = Ok x
+without_place (Err refusal) = Err refusal.fault

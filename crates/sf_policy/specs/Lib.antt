@@ -1,0 +1,14 @@
+pub mod Faults
+pub mod Keys
+pub mod Trees
+pub mod Words
+pub mod Actions
+pub mod Policies
+pub mod Encoding
+pub mod FaultPlaces
+pub mod Filters
+pub mod Texts
+pub mod Names
+pub mod NamesLaws
+pub mod TextLaws
+pub mod FiltersLaws

@@ -1,0 +1,25 @@
+//! How actions are written.
+
+ghost use Rattle.std.specs.Prelude.{◌≡◌, ◌++◌, OnOk, string_bytes};
+ghost use Rattle.sf_policy.specs.Texts.{action_text};
+
+use sf_run::Action;
+use std::alloc::AllocError;
+
+/// Appends the name of an action, without `SECCOMP_RET_`; one without a name is written as `OTHER:0x` and its eight
+/// hexadecimal digits. `AllocError` where an allocation is refused.
+pub fn push_action(text: &mut String, action: Action) -> Result<(), AllocError>
+    ensures { OnOk result (string_bytes text.new ≡ string_bytes text.old ++ action_text action) }
+{
+    match action {
+        Action::KillProcess => text.push_str("KILL_PROCESS"),
+        Action::KillThread => text.push_str("KILL_THREAD"),
+        Action::Trap => text.push_str("TRAP"),
+        Action::Errno => text.push_str("ERRNO"),
+        Action::UserNotif => text.push_str("USER_NOTIF"),
+        Action::Trace => text.push_str("TRACE"),
+        Action::Log => text.push_str("LOG"),
+        Action::Allow => text.push_str("ALLOW"),
+        Action::Other(value) => write!(text, "OTHER:0x{value:08x}"),
+    }
+}

@@ -1,0 +1,151 @@
+//! Why a policy, a filter, a file of names, an input or a report was refused.
+
+ghost use Rattle.std.specs.Prelude.{◌≡◌};
+ghost use Rattle.sf_policy.specs.declared.fault.Fault.TheVariants.{Memory};
+ghost use Rattle.sf_policy.specs.Faults.{fault_number};
+
+use std::alloc::{AllocError, AllocFailed};
+use thiserror::Error;
+
+/// Why a policy, a filter, a file of names, an input or a report was refused. Filters and questions are numbered from 1
+/// in the order in which they were given, instructions from 0. The text of a fault is its number, its name and its
+/// place.
+#[derive(Clone, Copy, Debug, PartialEq, Eq, Error)]
+pub enum Fault {
+    /// The length of a filter's bytes is no multiple of 8.
+    #[error("10 Ragged filter {filter}")]
+    Ragged { filter: usize },
+    /// A filter has no instruction.
+    #[error("11 Empty filter {filter}")]
+    Empty { filter: usize },
+    /// A filter has more than 4096 instructions.
+    #[error("12 TooLong filter {filter}")]
+    TooLong { filter: usize },
+    /// An instruction's code isn't among the permitted ones.
+    #[error("20 Code filter {filter} instruction {instruction}")]
+    Code { filter: usize, instruction: usize },
+    /// A field of an instruction is out of its range.
+    #[error("21 Field filter {filter} instruction {instruction}")]
+    Field { filter: usize, instruction: usize },
+    /// A jump or a test leads outside the filter.
+    #[error("22 Jump filter {filter} instruction {instruction}")]
+    Jump { filter: usize, instruction: usize },
+    /// The last instruction of a filter is no return.
+    #[error("23 Last filter {filter}")]
+    Last { filter: usize },
+    /// A scratch word is loaded that some path has not stored.
+    #[error("24 Scratch filter {filter} instruction {instruction}")]
+    Scratch { filter: usize, instruction: usize },
+    /// There is no filter.
+    #[error("25 NoFilter")]
+    NoFilter,
+    /// There are more than 64 filters.
+    #[error("26 TooMany")]
+    TooMany,
+    /// The path through all filters is longer than 32768.
+    #[error("27 PathLength")]
+    PathLength,
+    /// The policy's version is missing, or isn't one of the known ones.
+    #[error("40 Version")]
+    Version,
+    /// The policy has an unknown key at its top, or its questions aren't an array of tables.
+    #[error("41 Key")]
+    TopKey,
+    /// A question has an unknown key, lacks its name, or has a value of a wrong kind.
+    #[error("41 Key question {question}")]
+    Key { question: usize },
+    /// A word of a question has a number outside 32 bits, or a range whose low end is above its high end.
+    #[error("42 Range question {question}")]
+    Range { question: usize },
+    /// A question names no action, or an unknown one.
+    #[error("43 Actions question {question}")]
+    Actions { question: usize },
+    /// The name of a question isn't 1 to 64 bytes from 0x21 to 0x7e.
+    #[error("44 Name question {question}")]
+    Name { question: usize },
+    /// There is no question, or more than 256.
+    #[error("45 Count")]
+    Count,
+    /// The policy, or the file of names, is no TOML.
+    #[error("46 Syntax")]
+    Syntax,
+    /// The input isn't 128 hexadecimal digits.
+    #[error("47 Input")]
+    Input,
+    /// A word of a question has a value with a bit outside its mask.
+    #[error("48 Mask question {question}")]
+    Mask { question: usize },
+    /// A file of names has an unknown key at its top, lacks one, has a value of a wrong kind, or a name that isn't 1 to 64
+    /// letters, digits and `_`.
+    #[error("41 Key")]
+    NamesKey,
+    /// A file of names has a number outside 32 bits.
+    #[error("42 Range")]
+    NamesRange,
+    /// A file can't be read.
+    #[error("50 Read")]
+    Read,
+    /// A write failed, or took no byte.
+    #[error("51 Write")]
+    Write,
+    /// Memory ran out.
+    #[error("60 Memory")]
+    Memory,
+}
+
+impl Fault {
+    /// The number at the head of the fault's text.
+    pub fn number(&self) -> u16
+        ensures { result ≡ fault_number self.now }
+    {
+        match self {
+            Fault::Ragged { .. } => 10,
+            Fault::Empty { .. } => 11,
+            Fault::TooLong { .. } => 12,
+            Fault::Code { .. } => 20,
+            Fault::Field { .. } => 21,
+            Fault::Jump { .. } => 22,
+            Fault::Last { .. } => 23,
+            Fault::Scratch { .. } => 24,
+            Fault::NoFilter => 25,
+            Fault::TooMany => 26,
+            Fault::PathLength => 27,
+            Fault::Version => 40,
+            Fault::TopKey | Fault::Key { .. } | Fault::NamesKey => 41,
+            Fault::Range { .. } | Fault::NamesRange => 42,
+            Fault::Actions { .. } => 43,
+            Fault::Name { .. } => 44,
+            Fault::Count => 45,
+            Fault::Syntax => 46,
+            Fault::Input => 47,
+            Fault::Mask { .. } => 48,
+            Fault::Read => 50,
+            Fault::Write => 51,
+            Fault::Memory => 60,
+        }
+    }
+}
+
+impl From<AllocError> for Fault {
+    ghost from_gives = { λ _ e. e ≡ Memory };
+
+    fn from(_e: AllocError) -> Fault {
+        Fault::Memory
+    }
+}
+
+impl<T: Drop> From<AllocFailed<T>> for Fault {
+    ghost from_gives = { λ _ e. e ≡ Memory };
+
+    fn from(_e: AllocFailed<T>) -> Fault {
+        Fault::Memory
+    }
+}
+
+impl From<sf_run::Fault> for Fault {
+    ghost from_gives = { λ _ e. e ≡ Memory };
+
+    fn from(_e: sf_run::Fault) -> Fault {
+        Fault::Memory
+    }
+}

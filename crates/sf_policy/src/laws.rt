@@ -1,0 +1,37 @@
+//! Laws of the definitions, each the contract of a function that does nothing.
+
+ghost use Rattle.std.specs.Prelude.{◌≡◌, ℕ, List};
+ghost use Rattle.sf_check.specs.declared.insn.Insn.{Insn};
+ghost use Rattle.sf_policy.specs.declared.fault.Fault.{Fault};
+ghost use Rattle.sf_policy.specs.Filters.{SpellPrograms, SpellStack, IsFirstRefusal};
+
+use sf_check::laws::{a_fault_spells_no_lawful_program, one_first_fault, one_program_of_a_file};
+use sf_insn::laws::one_spelling;
+
+/// Filter files spell at most one list of lawful programs.
+pub fn one_stack()
+    ensures { (files : List (List ℕ)) (a b : List (List Insn)) →
+        SpellPrograms files a → SpellPrograms files b → a ≡ b }
+{
+    one_program_of_a_file();
+}
+
+/// Filter files with a first refusal spell no lawful stack, so `stack_of` accepts exactly those that spell one.
+pub fn a_refusal_spells_no_stack()
+    ensures { (files : List (List ℕ)) (e : Fault) (programs : List (List Insn)) →
+        IsFirstRefusal files e → SpellStack files programs → ⊥ }
+{
+    one_stack();
+    one_spelling();
+    a_fault_spells_no_lawful_program();
+}
+
+/// Filter files have at most one first refusal, so `stack_of` answers the only one.
+pub fn one_refusal()
+    ensures { (files : List (List ℕ)) (e f : Fault) → IsFirstRefusal files e
+        → IsFirstRefusal files f → e ≡ f }
+{
+    one_spelling();
+    one_first_fault();
+    a_fault_spells_no_lawful_program();
+}

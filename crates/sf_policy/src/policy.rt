@@ -1,0 +1,181 @@
+//! The questions of a policy file, which is TOML.
+
+mod actions;
+mod keys;
+mod questions;
+mod refusal;
+mod words;
+
+ghost use Rattle.std.specs.Prelude.{◌≡◌, ◌⊎◌, Some, None, Err, is_some, codes, map};
+ghost use Rattle.std.specs.List.{list_all};
+ghost use Rattle.toml.specs.Data.{Members, as_table};
+ghost use Rattle.toml.specs.Parse.{parse_document};
+ghost use Rattle.toml.specs.View.{view, items_view, table_view};
+ghost use Rattle.sf_policy.specs.Faults.{Gives, without_place};
+ghost use Rattle.sf_policy.specs.Encoding.{table_or_empty};
+ghost use Rattle.sf_policy.specs.Trees.{number_at, tables_of};
+ghost use Rattle.sf_policy.specs.Policies.{version_of, tables_of_value, questions_counted, questions_where_tables, policy_of};
+
+use crate::MOST_QUESTIONS;
+use crate::fault::Fault;
+pub use keys::WORD_KEYS;
+use keys::{has_top_keys, number_in};
+pub(crate) use keys::{has_names_keys, value_at};
+use questions::questions_in;
+pub use refusal::Refusal;
+use sf_ask::Question;
+use std::alloc::Global;
+use toml::{Table, Value};
+pub(crate) use words::word_from;
+
+/// The version of a policy file. In version 2 the value of a word may also be a table with a mask.
+#[derive(Clone, Copy, Debug)]
+enum Version {
+    One,
+    Two,
+}
+
+/// The version that a policy names; none where it names no known one.
+fn version_in(table: &Table) -> Option<Version>
+    ensures { result ≡ version_of (number_at (codes "version") (table_view table.now)) }
+{
+    match number_in(table, "version") {
+        Some(1) => Some(Version::One),
+        Some(2) => Some(Version::Two),
+        _ => None,
+    }
+}
+
+/// Whether each value is a table.
+fn are_tables(items: &[Value]) -> bool
+    ensures { result ≡ list_all (λ v. is_some (as_table (view v))) items.now }
+{
+    items.iter().all(|value| value.is_table())
+}
+
+/// The questions of a list of tables. `Count` where there is none or more than 256; then what `questions_in` refuses.
+#[tactic(auto, using(crate::proofs::TreeLemmas::count_view))]
+fn questions_counted(
+    alloc: Global,
+    version: Version,
+    items: &[Value],
+) -> Result<Vec<Question>, Fault>
+    ensures { Gives (λ v. v.items) result (questions_counted version
+        (map (λ v. table_or_empty (view v)) items.now)) }
+{
+    if items.is_empty() || MOST_QUESTIONS < items.len() {
+        return Err(Fault::Count);
+    }
+    questions_in(alloc, version, items)
+}
+
+/// The questions of an array. `TopKey` where some value is no table; then what `questions_counted` refuses.
+fn questions_of_items(
+    alloc: Global,
+    version: Version,
+    items: &[Value],
+) -> Result<Vec<Question>, Fault>
+    ensures { Gives (λ v. v.items) result (questions_where_tables version
+        (tables_of (items_view items.now))) }
+{
+    if are_tables(items) {
+        questions_counted(alloc, version, items)
+    } else {
+        Err(Fault::TopKey)
+    }
+}
+
+/// The questions of a value. `TopKey` where it is no array of tables; then what `questions_counted` refuses.
+fn questions_of_value(
+    alloc: Global,
+    version: Version,
+    value: &Value,
+) -> Result<Vec<Question>, Fault>
+    ensures { Gives (λ v. v.items) result (questions_where_tables version
+        (tables_of_value (view value.now))) }
+{
+    match value {
+        Value::Array(items) => questions_of_items(alloc, version, items),
+        _ => Err(Fault::TopKey),
+    }
+}
+
+/// The questions of a policy's tree. `Version`; then `TopKey` where a key at the top is unknown; then `Count` where the
+/// questions are missing, or what `questions_of_value` refuses.
+fn policy_of_table(alloc: Global, table: &Table) -> Result<Vec<Question>, Fault>
+    ensures { Gives (λ v. v.items) result (policy_of (table_view table.now)) }
+{
+    let Some(version) = version_in(table) else {
+        return Err(Fault::Version);
+    };
+    if !has_top_keys(table) {
+        return Err(Fault::TopKey);
+    }
+    match value_at(table, "question") {
+        Some(value) => questions_of_value(alloc, version, value),
+        None => Err(Fault::Count),
+    }
+}
+
+/// The questions of a policy's tree; or the fault for which they are refused, with the tree.
+fn questions_or_refusal(alloc: Global, table: Table) -> Result<Vec<Question>, Refusal>
+    ensures { Gives (λ v. v.items) (without_place result) (policy_of (table_view table)) }
+{
+    match policy_of_table(alloc, &table) {
+        Ok(questions) => Ok(questions),
+        Err(fault) => Err(Refusal {
+            fault,
+            read: Ok(table),
+        }),
+    }
+}
+
+/// The questions of a policy file, as `read_policy` reads them. A refusal has the fault that `read_policy` answers, and
+/// what was read of the file, from which a person can be told where the fault lies.
+pub fn read_policy_at(alloc: Global, text: &str) -> Result<Vec<Question>, Refusal>
+    // Where the text is TOML, the questions or the refusal are those of its tree.
+    ensures read { (tree : Members) → parse_document text.now ≡ Some tree
+        → Gives (λ v. v.items) (without_place result) (policy_of tree) }
+
+    // `Syntax` comes exactly where it is no TOML, unless memory ran out.
+    ensures syntax { without_place result ≡ Err Fault.Syntax
+        → parse_document text.now ≡ None }
+    ensures no_syntax { parse_document text.now ≡ None
+        → (without_place result ≡ Err Fault.Syntax)
+        ⊎ (without_place result ≡ Err Fault.Memory) }
+{
+    match toml::table_from_str(alloc, text) {
+        Ok(table) => questions_or_refusal(alloc, table),
+        Err(error) => {
+            let fault = if error.is_memory() {
+                Fault::Memory
+            } else {
+                Fault::Syntax
+            };
+            Err(Refusal {
+                fault,
+                read: Err(error),
+            })
+        }
+    }
+}
+
+/// The questions of a policy file, which is TOML of version 1 or 2. A question names ranges of words and, in version 2,
+/// bits of them; a word that it doesn't name may have any number. A question without actions asks about ALLOW and LOG.
+///
+/// Refusals, tried in this order: `Syntax` where the text is no TOML; `Version` where the version is missing or neither
+/// 1 nor 2; `TopKey` where a key at the top is unknown or the questions are no array of tables; `Count` where there are
+/// none or more than 256; then, question after question, `Key`, `Name`, `Range`, `Mask` and `Actions`, with the number
+/// of the question from 1. `Memory` can come anywhere.
+pub fn read_policy(alloc: Global, text: &str) -> Result<Vec<Question>, Fault>
+    // Where the text is TOML, the questions or the refusal are those of its tree.
+    ensures read { (tree : Members) → parse_document text.now ≡ Some tree
+        → Gives (λ v. v.items) result (policy_of tree) }
+
+    // `Syntax` comes exactly where it is no TOML, unless memory ran out.
+    ensures syntax { result ≡ Err Fault.Syntax → parse_document text.now ≡ None }
+    ensures no_syntax { parse_document text.now ≡ None → (result ≡ Err Fault.Syntax)
+        ⊎ (result ≡ Err Fault.Memory) }
+{
+    read_policy_at(alloc, text).map_err(|refusal| refusal.fault)
+}

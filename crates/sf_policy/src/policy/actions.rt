@@ -1,0 +1,125 @@
+//! The actions that a question names.
+
+ghost use Rattle.std.specs.Prelude.{◌≡◌, option_map, is_some, codes, map};
+ghost use Rattle.std.specs.List.{list_any, list_all};
+ghost use Rattle.std.specs.Str.{bytes_eq};
+ghost use Rattle.toml.specs.Data.{get_member, as_str};
+ghost use Rattle.toml.specs.View.{view, items_view, table_view};
+ghost use Rattle.sf_policy.specs.Trees.{texts_of};
+ghost use Rattle.sf_policy.specs.Actions.{is_action, are_actions, texts_of_value, names_at};
+ghost use Rattle.sf_policy.specs.Encoding.{encoded_set, text_or_empty};
+
+use super::keys::{is_among, value_at};
+use sf_ask::ActionSet;
+use toml::{Table, Value};
+
+/// The names that a policy has for the actions.
+const ACTION_NAMES: [&str; 9] = [
+    "KILL_PROCESS",
+    "KILL_THREAD",
+    "TRAP",
+    "ERRNO",
+    "USER_NOTIF",
+    "TRACE",
+    "LOG",
+    "ALLOW",
+    "OTHER",
+];
+
+/// The text of a value, empty where it is no text.
+fn text_of(value: &Value) -> &str
+    ensures { result.now ≡ text_or_empty (view value.now) }
+{
+    value.as_str().unwrap_or("")
+}
+
+/// Whether a value names an action.
+fn is_action(value: &Value) -> bool
+    ensures { result ≡ is_action (text_or_empty (view value.now)) }
+{
+    is_among(text_of(value), ACTION_NAMES.as_slice())
+}
+
+/// Whether each value is a text.
+fn are_texts(items: &[Value]) -> bool
+    ensures { result ≡ list_all (λ v. is_some (as_str (view v))) items.now }
+{
+    items.iter().all(|value| value.is_str())
+}
+
+/// Whether each value names an action.
+fn are_all_actions(items: &[Value]) -> bool
+    ensures { result ≡ list_all (λ v. is_action (text_or_empty (view v))) items.now }
+{
+    items.iter().all(|value| is_action(value))
+}
+
+/// Whether one of the values is this text.
+fn has_text(items: &[Value], name: &str) -> bool
+    ensures { result ≡ list_any (λ v. bytes_eq (text_or_empty (view v)) name.now) items.now }
+{
+    items.iter().any(|value| text_of(value) == name)
+}
+
+/// Whether there are values, and each names an action.
+#[tactic(auto, using(crate::proofs::ActionLemmas::are_actions_view))]
+fn are_actions(items: &[Value]) -> bool
+    ensures { result ≡ are_actions (map (λ v. text_or_empty (view v)) items.now) }
+{
+    !items.is_empty() && are_all_actions(items)
+}
+
+/// The set of the actions that texts name; empty where there is no text, or one of them names no action.
+#[tactic(auto, using(crate::proofs::ActionLemmas::is_named_view))]
+fn set_from(items: &[Value]) -> ActionSet
+    ensures { result ≡ encoded_set (map (λ v. text_or_empty (view v)) items.now) }
+{
+    if !are_actions(items) {
+        return ActionSet::EMPTY;
+    }
+    ActionSet {
+        kill_process: has_text(items, "KILL_PROCESS"),
+        kill_thread: has_text(items, "KILL_THREAD"),
+        trap: has_text(items, "TRAP"),
+        errno: has_text(items, "ERRNO"),
+        user_notif: has_text(items, "USER_NOTIF"),
+        trace: has_text(items, "TRACE"),
+        log: has_text(items, "LOG"),
+        allow: has_text(items, "ALLOW"),
+        other: has_text(items, "OTHER"),
+    }
+}
+
+/// The set of the actions that an array of texts names, as `set_from` makes it; none where a value is no text.
+#[tactic(auto, using(crate::proofs::TreeLemmas::texts_view, crate::proofs::TreeLemmas::no_texts_view))]
+fn set_in_items(items: &[Value]) -> Option<ActionSet>
+    ensures { result ≡ option_map encoded_set (texts_of (items_view items.now)) }
+{
+    if are_texts(items) {
+        Some(set_from(items))
+    } else {
+        None
+    }
+}
+
+/// The set of the actions that a value names, as `set_from` makes it; none where it is no array of texts.
+fn set_in(value: &Value) -> Option<ActionSet>
+    ensures { result ≡ option_map encoded_set (texts_of_value (view value.now)) }
+{
+    match value {
+        Value::Array(items) => set_in_items(items),
+        _ => None,
+    }
+}
+
+/// The set of the actions that a question names: ALLOW and LOG where it has no key `actions`. Empty where there is no
+/// name, or one of them isn't that of an action; none where the value isn't an array of texts.
+pub(super) fn actions_in(table: &Table) -> Option<ActionSet>
+    ensures { result ≡ option_map encoded_set
+        (names_at (get_member (codes "actions") (table_view table.now))) }
+{
+    match value_at(table, "actions") {
+        None => Some(ActionSet::LET_THROUGH),
+        Some(value) => set_in(value),
+    }
+}

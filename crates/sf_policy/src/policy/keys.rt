@@ -1,0 +1,112 @@
+//! The keys of policy files and of files of names, and the values at them.
+
+ghost use Rattle.std.specs.Prelude.{◌≡◌, string_bytes, option_map};
+ghost use Rattle.std.specs.BTreeMap.{keys};
+ghost use Rattle.std.specs.List.{list_any, list_all};
+ghost use Rattle.std.specs.Str.{bytes_eq};
+ghost use Rattle.toml.specs.Data.{get_member};
+ghost use Rattle.toml.specs.View.{view, table_view};
+ghost use Rattle.sf_policy.specs.Keys.{question_keys, top_keys, mask_keys, has_only};
+ghost use Rattle.sf_policy.specs.Names.{names_keys};
+ghost use Rattle.sf_policy.specs.Trees.{number_at, number_or, text_at};
+
+use toml::{Table, Value};
+
+/// The keys of the sixteen words, in the order of `struct seccomp_data`.
+pub const WORD_KEYS: [&str; 16] = [
+    "nr", "arch", "ip_lo", "ip_hi", "arg0_lo", "arg0_hi", "arg1_lo", "arg1_hi", "arg2_lo",
+    "arg2_hi", "arg3_lo", "arg3_hi", "arg4_lo", "arg4_hi", "arg5_lo", "arg5_hi",
+];
+
+/// The keys that a question may have.
+const QUESTION_KEYS: [&str; 18] = [
+    "name", "actions", "nr", "arch", "ip_lo", "ip_hi", "arg0_lo", "arg0_hi", "arg1_lo", "arg1_hi",
+    "arg2_lo", "arg2_hi", "arg3_lo", "arg3_hi", "arg4_lo", "arg4_hi", "arg5_lo", "arg5_hi",
+];
+
+/// The keys that a policy may have at its top.
+pub(crate) const TOP_KEYS: [&str; 2] = ["version", "question"];
+
+/// The keys that the table of a word may have.
+const MASK_KEYS: [&str; 4] = ["mask", "value", "low", "high"];
+
+/// The keys that a file of names may have at its top.
+const NAMES_KEYS: [&str; 2] = ["arch", "calls"];
+
+/// The value at a key; none where the key is missing.
+pub(crate) fn value_at<'a>(table: &'a Table, key: &str) -> Option<&'a Value>
+    ensures { option_map (λ v. view v.now) result ≡ get_member key.now (table_view table.now) }
+{
+    table.get(key)
+}
+
+/// The whole number at a key; none where the key is missing or has another value.
+pub(crate) fn number_in(table: &Table, key: &str) -> Option<i64>
+    ensures { result ≡ number_at key.now (table_view table.now) }
+{
+    value_at(table, key)?.as_integer()
+}
+
+/// The whole number at a key, and `absent` where the key is missing; none where it has another value.
+pub(crate) fn number_in_or(table: &Table, key: &str, absent: i64) -> Option<i64>
+    ensures { result ≡ number_or absent (get_member key.now (table_view table.now)) }
+{
+    match value_at(table, key) {
+        Some(value) => value.as_integer(),
+        None => Some(absent),
+    }
+}
+
+/// The text at a key; none where the key is missing or has another value.
+pub(crate) fn text_in<'a>(table: &'a Table, key: &str) -> Option<&'a str>
+    ensures { option_map (λ s. s.now) result ≡ text_at key.now (table_view table.now) }
+{
+    value_at(table, key)?.as_str()
+}
+
+/// Whether the text is one of these texts.
+pub(crate) fn is_among(text: &str, texts: &[&str]) -> bool
+    ensures { result ≡ list_any (λ t. bytes_eq text.now t.now) texts.now }
+{
+    texts.iter().any(|t| text == *t)
+}
+
+/// Whether each key of a table is among the known keys.
+fn has_only_keys(table: &Table, known: &[&str]) -> bool
+    ensures { result ≡ list_all (λ key. list_any (λ k. bytes_eq (string_bytes key) k.now)
+        known.now) (keys table.now) }
+{
+    table.keys().all(|key| is_among(key.as_str(), known))
+}
+
+/// Whether a table has only keys of a question.
+#[tactic(auto, using(crate::proofs::TreeLemmas::has_only_question_keys))]
+pub(crate) fn has_question_keys(table: &Table) -> bool
+    ensures { result ≡ has_only question_keys (table_view table.now) }
+{
+    has_only_keys(table, QUESTION_KEYS.as_slice())
+}
+
+/// Whether a table has only keys that may stand at the top of a policy.
+#[tactic(auto, using(crate::proofs::TreeLemmas::has_only_top_keys))]
+pub(crate) fn has_top_keys(table: &Table) -> bool
+    ensures { result ≡ has_only top_keys (table_view table.now) }
+{
+    has_only_keys(table, TOP_KEYS.as_slice())
+}
+
+/// Whether a table has only keys that may stand in the table of a word.
+#[tactic(auto, using(crate::proofs::TreeLemmas::has_only_mask_keys))]
+pub(crate) fn has_mask_keys(table: &Table) -> bool
+    ensures { result ≡ has_only mask_keys (table_view table.now) }
+{
+    has_only_keys(table, MASK_KEYS.as_slice())
+}
+
+/// Whether a table has only keys that may stand at the top of a file of names.
+#[tactic(auto, using(crate::proofs::TreeLemmas::has_only_names_keys))]
+pub(crate) fn has_names_keys(table: &Table) -> bool
+    ensures { result ≡ has_only names_keys (table_view table.now) }
+{
+    has_only_keys(table, NAMES_KEYS.as_slice())
+}

@@ -1,0 +1,120 @@
+//! The questions of a policy file.
+
+ghost use Rattle.std.specs.Prelude.{◌≡◌, ◌≤◌, length, map};
+ghost use Rattle.toml.specs.View.{view, table_view};
+ghost use Rattle.sf_policy.specs.Faults.{Gives};
+ghost use Rattle.sf_policy.specs.Encoding.{ranges_and_masks, table_or_empty, numbered_fault, fault_outside, question_of_parts};
+ghost use Rattle.sf_policy.specs.Policies.{question_of_table, questions_from};
+
+use super::Version;
+use super::actions::actions_in;
+use super::keys::{has_question_keys, text_in};
+use super::words::{WordEntry, entries_in, words_of};
+use crate::fault::Fault;
+use sf_ask::{ActionSet, Question};
+use std::alloc::Global;
+use toml::{Table, Value};
+
+/// A fault of a question, with the question's number, from 1.
+fn fault_of_question(question: usize, fault: sf_ask::Fault) -> Fault
+    ensures { result ≡ numbered_fault question fault }
+{
+    match fault {
+        sf_ask::Fault::Name => Fault::Name { question },
+        sf_ask::Fault::Range => Fault::Range { question },
+        sf_ask::Fault::Mask => Fault::Mask { question },
+        sf_ask::Fault::Actions => Fault::Actions { question },
+        sf_ask::Fault::Memory => Fault::Memory,
+    }
+}
+
+/// The fault of a question that has a number outside 32 bits: `Name` where its name is wrong too, and else `Range`.
+fn fault_outside(number: usize, name: &str) -> Fault
+    ensures { result ≡ fault_outside number name.now }
+{
+    if Question::is_name(name) {
+        Fault::Range { question: number }
+    } else {
+        Fault::Name { question: number }
+    }
+}
+
+/// The question with this name, these entries for the sixteen words, and these actions. The refusals, in order: `Name`,
+/// `Range`, `Mask` and `Actions`; `number` is the question's, from 1. `Memory` can come anywhere.
+fn question_of_parts(
+    alloc: Global,
+    number: usize,
+    name: &str,
+    entries: &[WordEntry; 16],
+    actions: ActionSet,
+) -> Result<Question, Fault>
+    ensures { Gives (λ q. q) result (question_of_parts number name.now
+        (ranges_and_masks entries.now) actions) }
+{
+    let Some(words) = words_of(entries) else {
+        return Err(fault_outside(number, name));
+    };
+    let ranges = words.0;
+    let masks = words.1;
+    let question = Question::of_masked(alloc, name, ranges, masks, actions);
+    question.map_err(|fault| fault_of_question(number, fault))
+}
+
+/// The question of a table. `Key` where a key is unknown, the name is missing, or a value is of a wrong kind; then what
+/// `question_of_parts` refuses. `number` is the question's, from 1.
+pub(super) fn question_of_table(
+    alloc: Global,
+    version: Version,
+    number: usize,
+    table: &Table,
+) -> Result<Question, Fault>
+    ensures { Gives (λ q. q) result (question_of_table version number (table_view table.now)) }
+{
+    if !has_question_keys(table) {
+        return Err(Fault::Key { question: number });
+    }
+    let Some(name) = text_in(table, "name") else {
+        return Err(Fault::Key { question: number });
+    };
+    let Some(entries) = entries_in(version, table) else {
+        return Err(Fault::Key { question: number });
+    };
+    let Some(actions) = actions_in(table) else {
+        return Err(Fault::Key { question: number });
+    };
+    question_of_parts(alloc, number, name, &entries, actions)
+}
+
+/// The question of a value. `Key` where it is no table; then what `question_of_table` refuses.
+fn question_of_value(
+    alloc: Global,
+    version: Version,
+    number: usize,
+    value: &Value,
+) -> Result<Question, Fault>
+    ensures { Gives (λ q. q) result (question_of_table version number
+        (table_or_empty (view value.now))) }
+{
+    match value {
+        Value::Table(table) => question_of_table(alloc, version, number, table),
+        _ => Err(Fault::Key { question: number }),
+    }
+}
+
+/// The questions of an array's tables, in order. The refusal is that of the first question that is refused.
+pub(super) fn questions_in(
+    alloc: Global,
+    version: Version,
+    items: &[Value],
+) -> Result<Vec<Question>, Fault>
+    requires { length items.now ≤ 256 }
+    ensures { Gives (λ v. v.items) result (questions_from version 1
+        (map (λ v. table_or_empty (view v)) items.now)) }
+{
+    let mut questions = Vec::new(alloc);
+    for (i, value) in items.iter().enumerate() {
+        let question = question_of_value(alloc, version, i + 1, value)?;
+        questions.push(question)?;
+    }
+    Ok(questions)
+}

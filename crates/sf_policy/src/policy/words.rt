@@ -1,0 +1,160 @@
+//! The value of a word in a policy: a whole number, an array of two, or a table with a mask.
+
+ghost use Rattle.std.specs.Prelude.{◌≡◌, map};
+ghost use Rattle.toml.specs.Data.{get_member};
+ghost use Rattle.toml.specs.View.{view, items_view, table_view};
+ghost use Rattle.sf_policy.specs.Keys.{word_keys};
+ghost use Rattle.sf_policy.specs.Trees.{each_of};
+ghost use Rattle.sf_policy.specs.Words.{between, entry_of_array, entry_of_table, entry_of_versioned, entry_of, entry_at};
+ghost use Rattle.sf_policy.specs.Encoding.{word_in, numbers_in, ranges_and_masks};
+
+use super::Version;
+use super::keys::{WORD_KEYS, has_mask_keys, number_in, number_in_or, value_at};
+use toml::{Table, Value};
+
+/// What a policy says of a word, in the numbers of the file, which may lie outside 32 bits.
+#[derive(Clone, Copy, Debug)]
+pub(crate) struct WordEntry {
+    /// The least number that the word may be.
+    pub(crate) low: i64,
+    /// The greatest number that the word may be.
+    pub(crate) high: i64,
+    /// The bits of the word that are asked about.
+    pub(crate) mask: i64,
+    /// What these bits have to be.
+    pub(crate) value: i64,
+}
+
+/// The greatest number of 32 bits.
+const MOST: i64 = 0xffff_ffff;
+
+/// The entry of a word that the policy doesn't name: it may be any number.
+const ANY_NUMBER: WordEntry = WordEntry {
+    low: 0,
+    high: MOST,
+    mask: 0,
+    value: 0,
+};
+
+/// The entry of a range, without a mask.
+fn range_entry(low: i64, high: i64) -> WordEntry
+    ensures { result ≡ between low high }
+{
+    WordEntry {
+        low,
+        high,
+        mask: 0,
+        value: 0,
+    }
+}
+
+/// The entry of an array, which has the two ends of a range; none where it is another array.
+fn array_entry(items: &[Value]) -> Option<WordEntry>
+    ensures { result ≡ entry_of_array (items_view items.now) }
+{
+    match items {
+        [low, high] => Some(range_entry(low.as_integer()?, high.as_integer()?)),
+        _ => None,
+    }
+}
+
+/// The entry of a table: a mask and its value, and the ends of a range where they are named; none where a key is
+/// unknown, or a number is missing or of a wrong kind.
+fn table_entry(table: &Table) -> Option<WordEntry>
+    ensures { result ≡ entry_of_table (table_view table.now) }
+{
+    if !has_mask_keys(table) {
+        return None;
+    }
+    Some(WordEntry {
+        mask: number_in(table, "mask")?,
+        value: number_in(table, "value")?,
+        low: number_in_or(table, "low", 0)?,
+        high: number_in_or(table, "high", MOST)?,
+    })
+}
+
+/// The entry of a table in a policy of this version; none in version 1, which has no such tables.
+fn versioned_entry(version: Version, table: &Table) -> Option<WordEntry>
+    ensures { result ≡ entry_of_versioned version (table_view table.now) }
+{
+    match version {
+        Version::One => None,
+        Version::Two => table_entry(table),
+    }
+}
+
+/// The entry of a word's value; none where it is of a wrong kind.
+fn value_entry(version: Version, value: &Value) -> Option<WordEntry>
+    ensures { result ≡ entry_of version (view value.now) }
+{
+    match value {
+        Value::Integer(number) => Some(range_entry(*number, *number)),
+        Value::Array(items) => array_entry(items),
+        Value::Table(table) => versioned_entry(version, table),
+        _ => None,
+    }
+}
+
+/// The entry of the word with this key in a question's table; none where its value is of a wrong kind.
+fn entry_in(version: Version, table: &Table, key: &str) -> Option<WordEntry>
+    ensures { result ≡ entry_at version (get_member key.now (table_view table.now)) }
+{
+    match value_at(table, key) {
+        None => Some(ANY_NUMBER),
+        Some(value) => value_entry(version, value),
+    }
+}
+
+/// The entries of the words with these sixteen keys in a question's table; none where one of the values is of a wrong
+/// kind.
+fn entries_at(version: Version, table: &Table, keys: &[&str; 16]) -> Option<[WordEntry; 16]>
+    ensures { result ≡ each_of (λ key. entry_at version (get_member key (table_view table.now)))
+        (map (λ key. key.now) keys.now) }
+{
+    let mut words = [ANY_NUMBER; 16];
+    for (i, key) in keys.iter().enumerate() {
+        words[i] = entry_in(version, table, key)?;
+    }
+    Some(words)
+}
+
+/// The entries of the sixteen words of `struct seccomp_data` in a question's table; none where one of the values is of
+/// a wrong kind.
+pub(super) fn entries_in(version: Version, table: &Table) -> Option<[WordEntry; 16]>
+    ensures { result ≡ each_of (λ key. entry_at version
+        (get_member key (table_view table.now))) word_keys }
+{
+    entries_at(version, table, &WORD_KEYS)
+}
+
+/// A number as a word; none where it isn't of 32 bits.
+pub(crate) fn word_from(number: i64) -> Option<u32>
+    ensures { result ≡ word_in number }
+{
+    u32::try_from(number).ok()
+}
+
+/// The ends of an entry's range, and then its mask and value; none where one of the four isn't of 32 bits.
+fn numbers_of(entry: WordEntry) -> Option<((u32, u32), (u32, u32))>
+    ensures { result ≡ numbers_in entry }
+{
+    Some((
+        (word_from(entry.low)?, word_from(entry.high)?),
+        (word_from(entry.mask)?, word_from(entry.value)?),
+    ))
+}
+
+/// The ranges of the entries, and then their masks, each with its value; none where a number isn't of 32 bits.
+pub(super) fn words_of(entries: &[WordEntry; 16]) -> Option<([(u32, u32); 16], [(u32, u32); 16])>
+    ensures { result ≡ ranges_and_masks entries.now }
+{
+    let mut ranges = [(0, 0); 16];
+    let mut masks = [(0, 0); 16];
+    for (i, entry) in entries.iter().enumerate() {
+        let numbers = numbers_of(*entry)?;
+        ranges[i] = numbers.0;
+        masks[i] = numbers.1;
+    }
+    Some((ranges, masks))
+}

@@ -1,0 +1,53 @@
+//! Texts that several reports share, and how a text is written.
+
+ghost use Rattle.std.specs.Prelude.{◌≡◌, ◌++◌, IfErr, IfOk, OnErr, OnOk, string_bytes};
+ghost use Rattle.std.specs.Io.KnownBytes.{Appends};
+ghost use Rattle.sf_policy.specs.Texts.{AppendsFront, counts_line, hex_text};
+ghost use Rattle.sf_policy.specs.declared.fault.Fault.TheVariants.{Write as WriteFault};
+
+use crate::fault::Fault;
+use sf_book::Counts;
+use sf_insn::{Input, bytes_of_input};
+use std::alloc::{AllocError, Global};
+use std::io::Write;
+
+/// The hexadecimal digits of an input's bytes. `AllocError` where an allocation is refused.
+pub fn hex_of(alloc: Global, input: &Input) -> Result<String, AllocError>
+    ensures { IfOk result (λ digits. string_bytes digits ≡ hex_text input.now) }
+{
+    let bytes = bytes_of_input(input);
+    hex::encode(alloc, &bytes)
+}
+
+/// The line of an exploration's counts. `AllocError` where an allocation is refused.
+pub fn push_counts(text: &mut String, counts: Counts) -> Result<(), AllocError>
+    ensures { OnOk result (string_bytes text.new ≡ string_bytes text.old ++ counts_line counts) }
+{
+    let regions = counts.settled;
+    let open = counts.left;
+    let emptied = counts.emptied;
+    let splits = counts.splits;
+    let commits = counts.commits;
+    write!(
+        text,
+        "regions {regions} open {open} emptied {emptied} splits {splits} commits {commits}\n"
+    )
+}
+
+/// Writes all the bytes, with as many writes as it takes. `Write` where one fails, also by a signal, or takes no byte:
+/// a beginning of the bytes was written then.
+pub fn write_bytes<W: Write>(bytes: &[u8], out: &mut W) -> Result<(), Fault>
+    ensures ok { OnOk result (Appends (W.contents out.old) (W.contents out.new) bytes.now) }
+    ensures err { OnErr result (AppendsFront (W.contents out.old) (W.contents out.new) bytes.now) }
+    ensures fault { IfErr result (λ e. e ≡ WriteFault) }
+{
+    let mut rest = bytes;
+    while !rest.is_empty() {
+        match out.write(rest) {
+            Ok(0) => return Err(Fault::Write),
+            Ok(count) => rest = &rest[count..],
+            Err(_) => return Err(Fault::Write),
+        }
+    }
+    Ok(())
+}
