@@ -1,7 +1,7 @@
 //! Files in memory, by name.
 
 use crate::fragments::push_digits;
-use sf_command::{Files, MOST_BYTES};
+use sf_evaluate::{Files, MOST_BYTES};
 use sf_policy::Fault;
 use std::alloc::{AllocError, Global};
 use std::test::Fail;

@@ -1,7 +1,8 @@
 //! Audits a stack of seccomp filters: hands the system's files and streams to the command line.
 #![tactic(auto)]
 
-use sf_command::{Files, MOST_BYTES, command, tell_fault};
+use sf_command::command;
+use sf_evaluate::{Files, MOST_BYTES, tell_fault};
 use sf_policy::Fault;
 use std::env::{Env, FillError};
 use std::fmt::InlineText;

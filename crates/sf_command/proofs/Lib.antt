@@ -1,10 +1,4 @@
-pub mod Pairing
-pub mod PolicyLemmas
-pub mod ReadLemmas
 pub mod KeptLemmas
-pub mod LoadedLemmas
 pub mod CommandLineLemmas
-pub mod SubcommandLemmas
 pub mod RefusalLemmas
-pub mod TraceLemmas
 pub mod NamingLemmas

@@ -9,7 +9,7 @@ use Rattle.sf_policy.specs.Names.{NamesData}
 use Rattle.sf_compare.specs.declared.relation.Relation.{Relation}
 use Rattle.sf_compare.specs.Comparisons.{Compared, IsComparison, change_of, comparison_text}
 use Rattle.sf_list.specs.Differences.{AreDifferences, DifferencesData, compared_text}
-use Rattle.sf_command.specs.Files.{AreKept, AreRead, HasUnknown}
+use Rattle.sf_evaluate.specs.Files.{AreKept, AreRead, HasUnknown}
 use Rattle.sf_command.specs.Status.{change_status}
 
 -- What is written of a comparison: its text, and where it is asked for the rows in which the answers differ, with

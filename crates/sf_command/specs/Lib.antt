@@ -1,12 +1,5 @@
-pub mod Pairs
-pub mod Files
-pub mod Names
-pub mod Texts
-pub mod Traces
-pub mod Outputs
 pub mod Status
 pub mod Audits
 pub mod Comparisons
 pub mod Listings
-pub mod CommandLine
 pub mod Runs

@@ -7,7 +7,7 @@ use Rattle.sf_policy.specs.declared.fault.Fault.TheVariants.{Memory, Read, Write
 use Rattle.sf_policy.specs.Filters.{IsFirstRefusal}
 use Rattle.sf_policy.specs.Names.{NamesData}
 use Rattle.sf_list.specs.Listings.{Listed, IsListing, listing_text, is_whole_listing}
-use Rattle.sf_command.specs.Files.{AreRead, HasUnknown}
+use Rattle.sf_evaluate.specs.Files.{AreRead, HasUnknown}
 use Rattle.sf_command.specs.Status.{listing_status}
 
 module _ (holds : List ℕ → Option (List ℕ)) (paths : List (Bor (List ℕ))) where

@@ -1,9 +1,8 @@
 -- What the program does, by the words of its command line.
-use Rattle.std.specs.Prelude.{◌≡◌, ◌⊎◌, ◌<◌, ◌≤◌, ℕ, Bool, true, false, List, [], Option, Some, None, codes, map, unwrap_or}
+use Rattle.std.specs.Prelude.{◌≡◌, ◌⊎◌, ℕ, Bool, List, [], Option, Some, codes}
 use Rattle.std.specs.Borrow.{Bor}
 use Rattle.std.specs.Io.KnownBytes.{Appends}
-use Rattle.std.specs.Str.Parse.{IsNumeral, digits_value, without_leading_plus}
-use Rattle.clap.specs.Words.{IsAmong, Kinds, Row, Text, all_of, fault_of, first_of, one_of, subcommand_of}
+use Rattle.clap.specs.Words.{IsAmong, Row, Text, one_of}
 use Rattle.clap.specs.declared.error.kind.ErrorKind.{ErrorKind}
 use Rattle.clap.specs.declared.error.kind.ErrorKind.TheVariants.{DisplayHelp, DisplayVersion}
 use Rattle.sf_policy.specs.Names.{NamesData}
@@ -11,54 +10,18 @@ use Rattle.sf_policy.specs.declared.fault.Fault.{Fault}
 use Rattle.sf_policy.specs.declared.fault.Fault.TheVariants.{Memory, Write}
 use Rattle.sf_compare.specs.declared.relation.Relation.{Relation}
 use Rattle.sf_compare.specs.declared.relation.Relation.TheVariants.{Looser, Different}
+use Rattle.sf_command_line.specs.CommandLine.{errors_at, subcommand_at}
+use Rattle.sf_command_line.specs.Options.{ArePaths, IsOptionNumber, IsSwitch, text_of}
 use Rattle.sf_command.specs.Audits.{AuditsFiles, RefusesAudit}
-use Rattle.sf_command.specs.CommandLine.{command_line}
 use Rattle.sf_command.specs.Comparisons.{ComparesFiles, RefusesComparison}
 use Rattle.sf_command.specs.Listings.{ListsFiles, RefusesListing}
-use Rattle.sf_command.specs.Names.{AreNamesRead, RefusesNaming}
-use Rattle.sf_command.specs.Outputs.{ChecksFiles, EvaluatesFiles, RefusesCheck, RefusesEval}
-
--- the errors that `clap` may give for the words; none where the words fit the form
-unfoldable pub errors_at : List Text → Kinds
-errors_at words = fault_of command_line words
-
--- the subcommand that the words name, and the values of its arguments
-unfoldable pub subcommand_at : List Text → Option (Text × List Row)
-subcommand_at words = subcommand_of command_line words
-
--- the text of an option; empty where it isn't given
-abbrev pub text_of : Text → List Row → Text
-text_of name rows = unwrap_or (first_of name rows) []
-
--- the paths that an argument names; none where it isn't given
-abbrev pub paths_of : Text → List Row → List Text
-paths_of name rows = unwrap_or (all_of name rows) []
-
--- The number that the text of an option spells, or the usual one where there is no text. The form lets only the texts
--- of numbers from 1 to the greatest through.
-abbrev pub IsOptionNumber : Option Text → ℕ → ℕ → ℕ → Type 0
-IsOptionNumber None greatest usual n = n ≡ usual
-IsOptionNumber (Some text) greatest usual n =
-    let digits = without_leading_plus text in
-    IsNumeral 10 digits → 0 < digits_value 10 digits → digits_value 10 digits ≤ greatest → n ≡ digits_value 10 digits
-
--- the truth value says whether a switch is given
-abbrev pub IsSwitch : Option Text → Bool → Type 0
-IsSwitch text on = (text ≡ Some (codes "true") → on ≡ true) × (text ≡ Some (codes "false") → on ≡ false)
+use Rattle.sf_evaluate.specs.Names.{AreNamesRead, RefusesNaming}
+use Rattle.sf_evaluate.specs.Outputs.{ChecksFiles, EvaluatesFiles, RefusesCheck, RefusesEval}
 
 -- the relation that a status is about: `Different` where the switch is given, and else `Looser`
 abbrev pub IsAskedRelation : Option Text → Relation → Type 0
 IsAskedRelation text asked =
     (text ≡ Some (codes "true") → asked ≡ Different) × (text ≡ Some (codes "false") → asked ≡ Looser)
-
--- no explanation of errors is asked for: where a subcommand is named, its switch for that is off
-abbrev pub IsUnasked : Option (Text × List Row) → Type 0
-IsUnasked named =
-    (found : Text × List Row) → named ≡ Some found → one_of (codes "explain-errors") found.1 ≡ Some (codes "false")
-
--- these are the paths that an argument names
-abbrev pub ArePaths : Text → List Row → List (Bor Text) → Type 0
-ArePaths name rows paths = map (λ p. p.now) paths ≡ paths_of name rows
 
 -- the files of names that are named have these names
 pub record AreNamed (holds : Text → Option Text) (rows : List Row) (names : List NamesData) : Type 0 where
@@ -122,13 +85,6 @@ module _ (holds : Text → Option Text) (rows : List Row) (status : ℕ) (old ne
     pub names : List NamesData
     pub called : AreNamed holds rows names
     pub listed : ListsFiles holds paths names budget status old new
-
--- one of the five subcommands is named
-abbrev pub IsKnown : Option (Text × List Row) → Type 0
-IsKnown named =
-    (found : Text × List Row) × (named ≡ Some found)
-    × ((found.0 ≡ codes "audit") ⊎ (found.0 ≡ codes "check") ⊎ (found.0 ≡ codes "eval")
-    ⊎ (found.0 ≡ codes "compare") ⊎ (found.0 ≡ codes "list"))
 
 -- one of the five subcommands is named, and what belongs to its name holds of the values of its arguments
 abbrev pub ByName : (audit check eval compare list : List Row → Type 0) → Option (Text × List Row) → Type 0

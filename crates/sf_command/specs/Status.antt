@@ -5,10 +5,6 @@ use Rattle.sf_audit.specs.Reports.{is_allowed, is_unsettled}
 use Rattle.sf_compare.specs.declared.changes.Change.{Change}
 use Rattle.sf_compare.specs.declared.changes.Change.TheVariants.{Never, Found, Unsettled}
 
--- the status of a fault by its number: 3 where what was given is refused, 5 where reading, writing or memory fails
-abbrev pub fault_status : ℕ → ℕ
-fault_status number = if nat_lt number 50 then 3 else 5
-
 -- the status of replies: 1 where some question is allowed, 2 where none is and some is unsettled, 0 where all are never
 abbrev pub replies_status : List Reply → ℕ
 replies_status replies =

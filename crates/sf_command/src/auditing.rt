@@ -1,16 +1,14 @@
 //! The subcommand `audit`: reads the policy file and the filter files, audits the stack and writes the report.
 
-ghost use Rattle.std.specs.Prelude.{◌≡◌, ◌<◌, ◌≤◌, ◌⊎◌, ℕ, List, None, IfOk, IfErr};
-ghost use Rattle.sf_policy.specs.declared.fault.Fault.TheVariants.{Memory as MemoryFault, Read as ReadFault, Write as WriteFault};
-ghost use Rattle.sf_command.specs.Audits.{AuditsFiles, IsPolicyFile, RefusesAudit, RefusesPolicyFile};
+ghost use Rattle.std.specs.Prelude.{◌≡◌, ◌<◌, ◌≤◌, ◌⊎◌, IfOk, IfErr};
+ghost use Rattle.sf_policy.specs.declared.fault.Fault.TheVariants.{Write as WriteFault};
+ghost use Rattle.sf_command.specs.Audits.{AuditsFiles, RefusesAudit};
 
-use crate::explaining::Notes;
-use crate::files::{Files, read_all};
 use crate::status::status_of_replies;
-use sf_ask::Question;
 use sf_audit::{Outcome, write_report};
 use sf_crew::Open;
-use sf_policy::{Fault, read_policy_at};
+use sf_evaluate::{Files, Notes, questions_in, read_all};
+use sf_policy::Fault;
 use std::alloc::Global;
 use std::io::Write;
 use std::sync::Wait;
@@ -25,33 +23,6 @@ pub struct Options {
     pub workers: u8,
     /// Whether the report lists the settled regions.
     pub regions: bool,
-}
-
-/// The questions of the policy file at a path. Its bytes are kept in the notes, and its refusal too, if `read_policy`
-/// refuses it. `Read` where the file can't be read, `Syntax` where it isn't UTF-8, then what `read_policy` refuses;
-/// `Memory` can come anywhere.
-fn questions_in<F: Files>(
-    alloc: Global,
-    path: &str,
-    files: &mut F,
-    notes: &mut Notes,
-) -> Result<Vec<Question>, Fault>
-    ensures asked { IfOk result (λ v. IsPolicyFile (F.holds files.old path.now) v.items) }
-    ensures refused { IfErr result (λ e. ((e ≡ ReadFault)
-        × (F.holds files.old path.now ≡ None))
-        ⊎ (e ≡ MemoryFault) ⊎ RefusesPolicyFile (F.holds files.old path.now) e) }
-    ensures same { (p : List ℕ) → F.holds files.new p ≡ F.holds files.old p }
-{
-    let bytes = files.read(path)?;
-    notes.files = notes.files.saturating_add(1);
-    notes.policy = bytes;
-    match std::str::from_utf8(&notes.policy) {
-        Ok(text) => {
-            let read = read_policy_at(alloc, text);
-            notes.take_refusal(read)
-        }
-        Err(_) => Err(Fault::Syntax),
-    }
 }
 
 /// Reads the policy file and then the filter files, which are named in order of installation; audits the stack of the

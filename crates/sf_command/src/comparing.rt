@@ -3,13 +3,12 @@
 ghost use Rattle.std.specs.Prelude.{◌≡◌, ◌<◌, ◌≤◌, ◌⊎◌, length, map, IfOk, IfErr, OnOk};
 ghost use Rattle.sf_policy.specs.declared.fault.Fault.TheVariants.{Memory as MemoryFault, Read as ReadFault, Write as WriteFault};
 ghost use Rattle.sf_command.specs.Comparisons.{AreBothKept, ComparesFiles, RefusesComparison, WritesCompared};
-ghost use Rattle.sf_command.specs.Files.{HasUnknown};
+ghost use Rattle.sf_evaluate.specs.Files.{HasUnknown};
 
-use crate::explaining::Notes;
-use crate::files::{Files, read_all};
 use crate::status::status_of_change;
 use sf_compare::{Comparison, Relation, write_comparison};
 use sf_crew::Open;
+use sf_evaluate::{Files, Notes, read_all};
 use sf_list::{draw_differences, write_differences};
 use sf_policy::{Fault, Names};
 use std::alloc::Global;

@@ -1,31 +1,29 @@
 //! What the program does, from the words of its command line to its exit status.
 ghost use Rattle.std.specs.Prelude.{◌≡◌, ◌≢◌, ◌≤◌, ◌⊎◌, ℕ, List, [], codes, map, string_bytes, IfOk, IfErr};
-ghost use Rattle.clap.specs.Words.{found_of, kind_of, rows_of, subcommand_rows_of};
+ghost use Rattle.clap.specs.Words.{found_of, kind_of, one_of, rows_of, subcommand_rows_of};
 ghost use Rattle.sf_policy.specs.Faults.{fault_number};
 ghost use Rattle.sf_policy.specs.declared.fault.Fault.TheVariants.{Memory as MemoryFault, Write as WriteFault};
 ghost use Rattle.sf_command.specs.Audits.{RefusesAudit};
 ghost use Rattle.sf_command.specs.Comparisons.{RefusesComparison};
 ghost use Rattle.sf_command.specs.Listings.{RefusesListing};
-ghost use Rattle.sf_command.specs.Names.{RefusesNaming};
-ghost use Rattle.sf_command.specs.Outputs.{RefusesCheck, RefusesEval};
-ghost use Rattle.sf_command.specs.Runs.{AreNamed, Audits, Checks, Compares, Evaluates, RunsAs, IsKnown, IsHelp, Lists, DoesAsTold, OnNames, OnPaths, RefusesAs, RefusesAsTold, WritesText, errors_at, text_of};
-ghost use Rattle.sf_command.specs.Status.{fault_status};
+ghost use Rattle.sf_evaluate.specs.Names.{RefusesNaming};
+ghost use Rattle.sf_evaluate.specs.Outputs.{RefusesCheck, RefusesEval};
+ghost use Rattle.sf_command.specs.Runs.{AreNamed, Audits, Checks, Compares, Evaluates, RunsAs, IsAskedRelation, IsHelp, Lists, DoesAsTold, OnNames, OnPaths, RefusesAs, RefusesAsTold, WritesText};
+ghost use Rattle.sf_command_line.specs.CommandLine.{IsKnown, errors_at};
+ghost use Rattle.sf_command_line.specs.Options.{text_of};
+ghost use Rattle.sf_evaluate.specs.Status.{fault_status};
 
 use crate::auditing::{Options, audit};
-use crate::checking::{check, evaluate, input_of, print};
 use crate::comparing::{Terms, compare};
-use crate::explaining::Notes;
-use crate::files::Files;
 use crate::listing::{Limits, list};
-use crate::naming::read_all_names;
-use crate::options::{
-    budget_of, leaves_of, relation_of, text_of, wants_brief, wants_regions, wants_rows,
-    wants_trace, workers_of,
-};
-use crate::telling::tell;
-use crate::words;
 use clap::ArgMatches;
 use clap::error::ErrorKind;
+use sf_command_line::{
+    budget_of, command_form, leaves_of, text_of, wants_brief, wants_regions, wants_rows,
+    wants_same, wants_trace, workers_of,
+};
+use sf_compare::Relation;
+use sf_evaluate::{Files, Notes, check, evaluate, input_of, print, read_all_names, tell};
 use sf_policy::{Fault, Names};
 use std::alloc::Global;
 use std::io::Write;
@@ -123,6 +121,17 @@ fn run_eval<F: Files, O: Write>(
         alloc, digits, traced, brief, &names, paths, files, notes, out,
     )?;
     Ok(0)
+}
+
+/// The relation that the exit status of a comparison is about: `Different` where `--same` is given, and else `Looser`.
+fn relation_of(found: &ArgMatches<'_>) -> Relation
+    ensures { IsAskedRelation (one_of (codes "same") (rows_of (found_of found.now))) result }
+{
+    if wants_same(found) {
+        Relation::Different
+    } else {
+        Relation::Looser
+    }
 }
 
 /// Runs `compare` as the matches of the subcommand say.
@@ -272,7 +281,7 @@ fn reply<R: Threads + Wait + Sync, F: Files, O: Write, E: Write>(
     ensures refused { IfErr result (RefusesAsTold (F.holds files.old)
         (map string_bytes words.now)) }
 {
-    match words::command_form(alloc)?.try_get_matches_from(words) {
+    match command_form(alloc)?.try_get_matches_from(words) {
         Ok(matches) => {
             let ran = run(rt, alloc, &matches, files, notes, out);
             notes.explain(alloc, &matches, &ran, files.reason());

@@ -4,10 +4,9 @@ ghost use Rattle.std.specs.Prelude.{◌≡◌, ◌<◌, ◌≤◌, ◌⊎◌, If
 ghost use Rattle.sf_policy.specs.declared.fault.Fault.TheVariants.{Write as WriteFault};
 ghost use Rattle.sf_command.specs.Listings.{ListsFiles, RefusesListing};
 
-use crate::explaining::Notes;
-use crate::files::{Files, read_all};
 use crate::status::status_of_listing;
 use sf_crew::Open;
+use sf_evaluate::{Files, Notes, read_all};
 use sf_list::write_listing;
 use sf_policy::{Fault, Names};
 use std::alloc::Global;

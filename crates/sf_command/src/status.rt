@@ -1,21 +1,11 @@
-//! The exit statuses of the program.
+//! The exit statuses of what was found.
 
 ghost use Rattle.std.specs.Prelude.{◌≡◌};
-ghost use Rattle.sf_policy.specs.Faults.{fault_number};
-ghost use Rattle.sf_command.specs.Status.{change_status, fault_status, listing_status, replies_status};
+ghost use Rattle.sf_command.specs.Status.{change_status, listing_status, replies_status};
 
 use sf_ask::Reply;
 use sf_audit::{count_allowed, count_unsettled};
 use sf_compare::Change;
-use sf_policy::Fault;
-
-/// The exit status of a fault: 3 where the filters, the policy, a file of names or the input are refused, 5 where reading,
-/// writing or memory fails.
-pub fn status_of(fault: &Fault) -> u8
-    ensures { result ≡ fault_status (fault_number fault.now) }
-{
-    if fault.number() < 50 { 3 } else { 5 }
-}
 
 /// The exit status of an audit: 1 where some question is allowed, 2 where none is allowed and some is unsettled, 0
 /// where all are never.

@@ -1,6 +1,7 @@
 use Rattle.std.proofs.Common.{map}
 use Rattle.sf_command.proofs.KeptLemmas.{both_read, both_refusal, both_stack, second_weaker}
-use Rattle.sf_command.proofs.RefusalLemmas.{comparison_why, handed_on}
+use Rattle.sf_command.proofs.RefusalLemmas.{comparison_why}
+use Rattle.sf_evaluate.specs.FilesLaws.{handed_on}
 use Rattle.sf_command.proofs.comparing.compare.Goals as goal
 
 pub returns-clause-written : goal.returns-clause-written

@@ -1,8 +1,9 @@
 use Rattle.std.proofs.Common.{◌≡◌, ◌∙◌, [], inl, inr, refl, sym}
 use Rattle.std.proofs.lemmas.Result.{IfErr-weaker, IfOk-weaker}
 use Rattle.clap.specs.Words.{HasKind, Kinds}
-use Rattle.sf_command.proofs.CommandLineLemmas.{helps, some_error, told_errors, told_subcommand}
-use Rattle.sf_command.proofs.SubcommandLemmas.{known_subcommand}
+use Rattle.sf_command.proofs.CommandLineLemmas.{helps, some_error}
+use Rattle.sf_command_line.specs.CommandLineLaws.{told_errors, told_subcommand}
+use Rattle.sf_command_line.specs.SubcommandLaws.{known_subcommand}
 use Rattle.sf_command.proofs.dispatch.reply.Goals as goal
 
 pub returns-in-Ok-clause-done : goal.returns-in-Ok-clause-done

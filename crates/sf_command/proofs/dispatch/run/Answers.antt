@@ -1,6 +1,6 @@
 use Rattle.std.proofs.Common.{inl, inr}
 use Rattle.std.proofs.lemmas.Result.{IfErr-weaker, IfOk-weaker}
-use Rattle.sf_command.proofs.CommandLineLemmas.{joined}
+use Rattle.sf_command_line.specs.CommandLineLaws.{joined}
 use Rattle.sf_command.proofs.dispatch.run.Goals as goal
 
 pub returns-in-eval-clause-done : goal.returns-in-eval-clause-done

@@ -1,7 +1,7 @@
 use Rattle.std.proofs.lemmas.Grind.{common_steps}
 use Rattle.std.proofs.Common.{arith, codes, refl}
 use Rattle.clap.specs.Words.{found_of}
-use Rattle.sf_command.proofs.CommandLineLemmas.{paths_found}
+use Rattle.sf_command_line.specs.OptionsLaws.{paths_found}
 use Rattle.std.proofs.lemmas.Result.{IfErr-weaker}
 use Rattle.sf_command.proofs.dispatch.run_audit.Goals as goal
 

@@ -1,7 +1,8 @@
 use Rattle.std.proofs.lemmas.Grind.{common_steps}
 use Rattle.std.proofs.Common.{arith}
-use Rattle.sf_command.proofs.CommandLineLemmas.{paths_found, without_third}
-use Rattle.sf_command.proofs.RefusalLemmas.{handed_on}
+use Rattle.sf_command_line.specs.OptionsLaws.{paths_found}
+use Rattle.sf_command.proofs.CommandLineLemmas.{without_third}
+use Rattle.sf_evaluate.specs.FilesLaws.{handed_on}
 use Rattle.sf_command.proofs.dispatch.run_check.Goals as goal
 
 pub returns-clause-done : goal.returns-clause-done

@@ -1,7 +1,7 @@
 use Rattle.std.proofs.Common.{codes, refl, inr}
 use Rattle.std.proofs.lemmas.Result.{IfErr-weaker, IfOk-weaker}
 use Rattle.clap.specs.Words.{found_of}
-use Rattle.sf_command.proofs.CommandLineLemmas.{paths_found}
+use Rattle.sf_command_line.specs.OptionsLaws.{paths_found}
 use Rattle.sf_command.proofs.NamingLemmas.{compared_same, uncompared_same}
 use Rattle.sf_command.proofs.dispatch.run_compare.Goals as goal
 

@@ -1,9 +1,9 @@
 use Rattle.std.proofs.Common.{codes, refl, inl, inr}
 use Rattle.clap.specs.Words.{found_of, rows_of}
-use Rattle.sf_command.specs.Runs.{text_of}
-use Rattle.sf_command.proofs.CommandLineLemmas.{paths_found}
+use Rattle.sf_command_line.specs.Options.{text_of}
+use Rattle.sf_command_line.specs.OptionsLaws.{paths_found}
 use Rattle.sf_command.proofs.NamingLemmas.{evaluated_same, unevaluated_same}
-use Rattle.sf_command.proofs.RefusalLemmas.{handed_on}
+use Rattle.sf_evaluate.specs.FilesLaws.{handed_on}
 use Rattle.sf_command.proofs.dispatch.run_eval.Goals as goal
 
 pub returns-clause-done : goal.returns-clause-done

@@ -1,6 +1,8 @@
 use Rattle.std.proofs.Common.{map}
-use Rattle.sf_command.proofs.KeptLemmas.{kept_refusal, kept_stack, second_weaker}
-use Rattle.sf_command.proofs.RefusalLemmas.{handed_on, listing_why}
+use Rattle.sf_evaluate.specs.KeptLaws.{kept_refusal, kept_stack}
+use Rattle.sf_command.proofs.KeptLemmas.{second_weaker}
+use Rattle.sf_evaluate.specs.FilesLaws.{handed_on}
+use Rattle.sf_command.proofs.RefusalLemmas.{listing_why}
 use Rattle.sf_command.proofs.listing.list.Goals as goal
 
 pub returns-clause-written : goal.returns-clause-written

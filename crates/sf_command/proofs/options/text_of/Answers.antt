@@ -1,8 +1,0 @@
-use Rattle.std.proofs.lemmas.Grind.{common_steps}
-use Rattle.std.proofs.Common.{arith}
-use Rattle.clap.proofs.WalkLemmas.{first_value-rows}
-use Rattle.sf_command.proofs.CommandLineLemmas.{read_or}
-use Rattle.sf_command.proofs.options.text_of.Goals as goal
-
-pub returns : goal.returns
-returns c = grind (arith, common_steps, read_or, first_value-rows)

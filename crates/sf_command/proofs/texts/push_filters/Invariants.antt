@@ -1,7 +1,0 @@
-use Rattle.std.proofs.Common.{◌≡◌, ◌+◌, ◌++◌, drop, string_bytes}
-use Rattle.sf_command.specs.Texts.{filter_lines}
-use Rattle.sf_command.proofs.texts.push_filters.Given as goal
-
-abbrev pub invariant-loop-i : goal.invariant-loop-i
-invariant-loop-i l = string_bytes l.text ++ filter_lines (l.i + 1) (drop l.i l.programs) ≡ string_bytes l.initial.text
-    ++ filter_lines 1 l.programs

@@ -1,0 +1,21 @@
+use Rattle.std.proofs.Common.{◌≡◌, ap, ap₂, codes, ◌∙◌}
+use Rattle.std.proofs.lemmas.Result.{IfOk-weaker}
+use Rattle.clap.specs.Words.{app_of, new_app, with_rule}
+use Rattle.clap.specs.Simple.{app_of_fields}
+use Rattle.sf_command_line.proofs.words.audit.Goals as goal
+
+pub returns : goal.returns
+returns c =
+    let bare : app_of c.about.result ≡ new_app (codes "audit") = ap app_of_fields c.about.ensures ∙ c.new.ensures.app in
+    let with_policy = c.in_ok-arg.ensures.shape c.policy.ensures.own ∙ ap₂ with_rule bare c.policy.ensures.rule in
+    let with_budget = c.in_ok-arg-2.ensures.shape c.budget.ensures.own
+    ∙ ap₂ with_rule with_policy c.budget.ensures.rule in
+    let with_workers = c.in_ok-arg-3.ensures.shape c.workers.ensures.own
+    ∙ ap₂ with_rule with_budget c.workers.ensures.rule in
+    let with_regions = c.in_ok-arg-4.ensures.shape c.regions.ensures.own
+    ∙ ap₂ with_rule with_workers c.regions.ensures.rule in
+    let with_explain = c.in_ok-arg-5.ensures.shape c.explain.ensures.own
+    ∙ ap₂ with_rule with_regions c.explain.ensures.rule in
+    IfOk-weaker c.arg-6.result _ _ (λ r h. h.shape c.filters.ensures.own
+    ∙ ap₂ with_rule with_explain c.filters.ensures.rule)
+    c.arg-6.ensures

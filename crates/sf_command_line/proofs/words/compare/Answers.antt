@@ -1,0 +1,27 @@
+use Rattle.std.proofs.Common.{◌≡◌, ap, ap₂, codes, ◌∙◌}
+use Rattle.std.proofs.lemmas.Result.{IfOk-weaker}
+use Rattle.clap.specs.Words.{app_of, new_app, with_rule}
+use Rattle.clap.specs.Simple.{app_of_fields}
+use Rattle.sf_command_line.proofs.words.compare.Goals as goal
+
+pub returns : goal.returns
+returns c =
+    let bare : app_of c.about.result ≡ new_app (codes "compare") =
+    ap app_of_fields c.about.ensures ∙ c.new.ensures.app in
+    let with_files = c.in_ok-arg.ensures.shape c.files.ensures.own ∙ ap₂ with_rule bare c.files.ensures.rule in
+    let with_files_2 = c.in_ok-arg-2.ensures.shape c.files-2.ensures.own
+    ∙ ap₂ with_rule with_files c.files-2.ensures.rule in
+    let with_budget = c.in_ok-arg-3.ensures.shape c.budget.ensures.own
+    ∙ ap₂ with_rule with_files_2 c.budget.ensures.rule in
+    let with_workers = c.in_ok-arg-4.ensures.shape c.workers.ensures.own
+    ∙ ap₂ with_rule with_budget c.workers.ensures.rule in
+    let with_same = c.in_ok-arg-5.ensures.shape c.same_switch.ensures.own
+    ∙ ap₂ with_rule with_workers c.same_switch.ensures.rule in
+    let with_rows = c.in_ok-arg-6.ensures.shape c.rows.ensures.own ∙ ap₂ with_rule with_same c.rows.ensures.rule in
+    let with_leaves = c.in_ok-arg-7.ensures.shape c.leaves.ensures.own
+    ∙ ap₂ with_rule with_rows c.leaves.ensures.rule in
+    let with_names = c.in_ok-arg-8.ensures.shape c.names.ensures.own
+    ∙ ap₂ with_rule with_leaves c.names.ensures.rule in
+    IfOk-weaker c.arg-9.result _ _ (λ r h. h.shape c.explain.ensures.own
+    ∙ ap₂ with_rule with_names c.explain.ensures.rule)
+    c.arg-9.ensures

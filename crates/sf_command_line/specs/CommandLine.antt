@@ -1,0 +1,127 @@
+-- The form of the command line, as `clap` reads it.
+use Rattle.std.specs.Prelude.{◌≡◌, ◌⊎◌, ℕ, true, List, [], ◌∷◌, Option, Some, codes, pos}
+use Rattle.clap.specs.Words.{App, Kinds, Row, Rule, Text, fault_of, new_app, new_rule, subcommand_of, with_rule, with_subcommand}
+use Rattle.clap.specs.Lexer.{usize_max}
+use Rattle.clap.specs.declared.builder.action.ArgAction.TheVariants.{Append, SetTrue}
+use Rattle.clap.specs.declared.builder.value_parser.ValueParser.TheVariants.{Signed}
+
+-- an option `--name VALUE`
+abbrev pub option_rule : Text → Rule
+option_rule name = record (new_rule name) { long = Some name; value_names = 1 }
+
+-- an option `--name VALUE` that must be given
+abbrev pub needed_rule : Text → Rule
+needed_rule name = record (option_rule name) { required = true }
+
+-- an option `--name NUMBER`, with a number from 1 to the greatest; where it is left out, the usual text stands for it
+abbrev pub number_rule : Text → ℕ → Text → Rule
+number_rule name greatest usual = record (option_rule name) {
+  parser = Some (Signed (pos 1) (pos greatest));
+  defaults = usual ∷ [];
+}
+
+-- a switch `--name`
+abbrev pub switch_rule : Text → Rule
+switch_rule name = record (new_rule name) { long = Some name; action = Some SetTrue }
+
+-- the filter files: one word or more, which belong to no option
+abbrev pub filters_rule : Rule
+filters_rule = record (new_rule (codes "filters")) {
+  value_names = 1;
+  required = true;
+  range = Some (record { start_inclusive = 1; end_inclusive = usize_max });
+  action = Some Append;
+}
+
+-- an option `--name FILE..` with one file or more that must be given
+abbrev pub files_rule : Text → Rule
+files_rule name = record (needed_rule name) {
+  range = Some (record { start_inclusive = 1; end_inclusive = usize_max });
+  action = Some Append;
+}
+
+-- an option `--name FILE` that may be given more than once, with one file each time
+abbrev pub repeated_rule : Text → Rule
+repeated_rule name = record (option_rule name) { action = Some Append }
+
+-- `audit --policy FILE [--budget N] [--workers N] [--regions] [--explain-errors] FILTER..`
+abbrev pub audit_line : App
+audit_line = with_rule (with_rule (with_rule (with_rule (with_rule (with_rule (new_app (codes "audit"))
+    (needed_rule (codes "policy")))
+    (number_rule (codes "budget") 1000000 (codes "100000")))
+    (number_rule (codes "workers") 64 (codes "4")))
+    (switch_rule (codes "regions")))
+    (switch_rule (codes "explain-errors")))
+    filters_rule
+
+-- `check [--explain-errors] FILTER..`
+abbrev pub check_line : App
+check_line = with_rule (with_rule (new_app (codes "check")) (switch_rule (codes "explain-errors"))) filters_rule
+
+-- `eval --input HEX [--trace] [--trace-true] [--names FILE].. [--explain-errors] FILTER..`
+abbrev pub eval_line : App
+eval_line = with_rule (with_rule (with_rule (with_rule (with_rule (with_rule (new_app (codes "eval"))
+    (needed_rule (codes "input")))
+    (switch_rule (codes "trace")))
+    (switch_rule (codes "trace-true")))
+    (repeated_rule (codes "names")))
+    (switch_rule (codes "explain-errors")))
+    filters_rule
+
+-- `compare --old FILE.. --new FILE.. [--budget N] [--workers N] [--same] [--rows] [--leaves N] [--names FILE]..
+-- [--explain-errors]`
+abbrev pub compare_line : App
+compare_line = with_rule (with_rule (with_rule (with_rule (with_rule (with_rule (with_rule (with_rule (with_rule
+    (new_app (codes "compare"))
+    (files_rule (codes "old")))
+    (files_rule (codes "new")))
+    (number_rule (codes "budget") 1000000 (codes "100000")))
+    (number_rule (codes "workers") 64 (codes "4")))
+    (switch_rule (codes "same")))
+    (switch_rule (codes "rows")))
+    (number_rule (codes "leaves") 1000000 (codes "20000")))
+    (repeated_rule (codes "names")))
+    (switch_rule (codes "explain-errors"))
+
+-- `list [--budget N] [--workers N] [--leaves N] [--names FILE].. [--explain-errors] FILTER..`
+abbrev pub list_line : App
+list_line = with_rule (with_rule (with_rule (with_rule (with_rule (with_rule (new_app (codes "list"))
+    (number_rule (codes "budget") 1000000 (codes "100000")))
+    (number_rule (codes "workers") 64 (codes "4")))
+    (number_rule (codes "leaves") 1000000 (codes "20000")))
+    (repeated_rule (codes "names")))
+    (switch_rule (codes "explain-errors")))
+    filters_rule
+
+-- The program without its subcommands: the words begin behind its name, one of them must be a subcommand, `help` is
+-- none, and there is a version.
+abbrev pub program_line : App
+program_line = let new = new_app (codes "seccomp_audit") in record new {
+  top = record new.top {
+    no_binary_name = true;
+    subcommand_required = true;
+    has_version = true;
+    disable_help_subcommand = true;
+  };
+}
+
+-- the whole command line: the program with its five subcommands
+unfoldable pub command_line : App
+command_line =
+    with_subcommand (with_subcommand (with_subcommand (with_subcommand (with_subcommand program_line audit_line.top)
+    check_line.top) eval_line.top) compare_line.top) list_line.top
+
+-- the errors that `clap` may give for the words; none where the words fit the form
+unfoldable pub errors_at : List Text → Kinds
+errors_at words = fault_of command_line words
+
+-- the subcommand that the words name, and the values of its arguments
+unfoldable pub subcommand_at : List Text → Option (Text × List Row)
+subcommand_at words = subcommand_of command_line words
+
+-- one of the five subcommands is named
+abbrev pub IsKnown : Option (Text × List Row) → Type 0
+IsKnown named =
+    (found : Text × List Row) × (named ≡ Some found)
+    × ((found.0 ≡ codes "audit") ⊎ (found.0 ≡ codes "check") ⊎ (found.0 ≡ codes "eval")
+    ⊎ (found.0 ≡ codes "compare") ⊎ (found.0 ≡ codes "list"))

@@ -1,0 +1,5 @@
+pub mod CommandLine
+pub mod CommandLineLaws
+pub mod SubcommandLaws
+pub mod Options
+pub mod OptionsLaws

@@ -1,0 +1,11 @@
+//! The command line: its form, by `clap`, and what is read of the words that fit it.
+#![tactic(auto)]
+
+mod options;
+mod words;
+
+pub use options::{
+    budget_of, leaves_of, text_of, wants_brief, wants_explanation, wants_regions, wants_rows,
+    wants_same, wants_trace, workers_of,
+};
+pub use words::command_form;

@@ -1,0 +1,96 @@
+//! What the matches of a subcommand ask for.
+ghost use Rattle.std.specs.Prelude.{◌≡◌, ◌<◌, ◌≤◌, codes};
+ghost use Rattle.clap.specs.Words.{found_of, one_of, rows_of};
+ghost use Rattle.sf_command_line.specs.Options.{IsOptionNumber, IsSwitch, text_of};
+
+use clap::ArgMatches;
+
+/// The text of an option; empty where it isn't given.
+pub fn text_of<'a>(found: &ArgMatches<'a>, name: &str) -> &'a str
+    ensures { result.now ≡ text_of name.now (rows_of (found_of found.now)) }
+{
+    found.get_str(name).unwrap_or("")
+}
+
+/// The budget of an exploration; 100,000 where it isn't given. The form of the command line lets only 1 to 1,000,000
+/// through.
+pub fn budget_of(found: &ArgMatches<'_>) -> u32
+    ensures { IsOptionNumber (one_of (codes "budget") (rows_of (found_of found.now)))
+        1000000 100000 result }
+{
+    found.get_one::<u32>("budget").unwrap_or(100_000)
+}
+
+/// The number of workers that is asked for; 4 where it isn't given.
+fn asked_workers(found: &ArgMatches<'_>) -> u8
+    ensures { IsOptionNumber (one_of (codes "workers") (rows_of (found_of found.now))) 64 4 result }
+{
+    found.get_one::<u8>("workers").unwrap_or(4)
+}
+
+/// The number of workers, 1 to 64. Another number would become 4, but the form of the command line lets none through.
+pub fn workers_of(found: &ArgMatches<'_>) -> u8
+    ensures number { IsOptionNumber (one_of (codes "workers")
+        (rows_of (found_of found.now))) 64 4 result }
+    ensures few { (0 < result) × (result ≤ 64) }
+{
+    let asked = asked_workers(found);
+    if 0 < asked && asked <= 64 { asked } else { 4 }
+}
+
+/// Whether a switch is given: an option without a value.
+fn is_on(found: &ArgMatches<'_>, name: &str) -> bool
+    ensures { IsSwitch (one_of name.now (rows_of (found_of found.now))) result }
+{
+    found.get_flag(name)
+}
+
+/// Whether the report of an audit lists the settled regions.
+pub fn wants_regions(found: &ArgMatches<'_>) -> bool
+    ensures { IsSwitch (one_of (codes "regions") (rows_of (found_of found.now))) result }
+{
+    is_on(found, "regions")
+}
+
+/// Whether an evaluation shows where its answer comes from.
+pub fn wants_trace(found: &ArgMatches<'_>) -> bool
+    ensures { IsSwitch (one_of (codes "trace") (rows_of (found_of found.now))) result }
+{
+    is_on(found, "trace")
+}
+
+/// Whether an evaluation shows where its answer comes from, without what is false.
+pub fn wants_brief(found: &ArgMatches<'_>) -> bool
+    ensures { IsSwitch (one_of (codes "trace-true") (rows_of (found_of found.now))) result }
+{
+    is_on(found, "trace-true")
+}
+
+/// Whether the exit status of a comparison is about `different`, and not about `looser`.
+pub fn wants_same(found: &ArgMatches<'_>) -> bool
+    ensures { IsSwitch (one_of (codes "same") (rows_of (found_of found.now))) result }
+{
+    is_on(found, "same")
+}
+
+/// Whether a comparison lists the rows in which the answers differ.
+pub fn wants_rows(found: &ArgMatches<'_>) -> bool
+    ensures { IsSwitch (one_of (codes "rows") (rows_of (found_of found.now))) result }
+{
+    is_on(found, "rows")
+}
+
+/// Whether a fault is explained under its line.
+pub fn wants_explanation(found: &ArgMatches<'_>) -> bool
+    ensures { IsSwitch (one_of (codes "explain-errors") (rows_of (found_of found.now))) result }
+{
+    is_on(found, "explain-errors")
+}
+
+/// After how many leaves no fork of a picture is begun any more.
+pub fn leaves_of(found: &ArgMatches<'_>) -> u32
+    ensures { IsOptionNumber (one_of (codes "leaves") (rows_of (found_of found.now)))
+        1000000 20000 result }
+{
+    found.get_one::<u32>("leaves").unwrap_or(20_000)
+}

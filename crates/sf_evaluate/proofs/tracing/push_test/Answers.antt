@@ -1,0 +1,16 @@
+use Rattle.std.proofs.Common.{string_bytes}
+use Rattle.std.specs.Fmt.{decimal}
+use Rattle.std.proofs.lemmas.Result.{on_ok_weaker}
+use Rattle.sf_evaluate.specs.Traces.{compared_text, named_text, word_text}
+use Rattle.sf_evaluate.proofs.TraceLemmas.{test_parts}
+use Rattle.sf_evaluate.proofs.tracing.push_test.Goals as goal
+
+pub returns : goal.returns
+returns c = on_ok_weaker c.push_compared.result
+    (λ e. test_parts (string_bytes c.args.text.now) (string_bytes c.write.new.self) (string_bytes c.push_name.new.text)
+    (string_bytes c.push_word.new.text)
+    (string_bytes c.push_compared.new.text) (decimal c.args.number) (decimal c.args.place)
+    (named_text c.args.word) (word_text c.args.a) (compared_text c.args.sign.now c.args.other c.args.truth)
+    c.in_ok-write.ensures.bytes
+    c.in_ok-push_name.ensures c.in_ok-push_word.ensures e)
+    c.push_compared.ensures

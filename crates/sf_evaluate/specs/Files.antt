@@ -1,0 +1,27 @@
+-- Files by their paths.
+use Rattle.std.specs.Prelude.{◌≡◌, ℕ, List, Option, Some, None, slice_get, take}
+use Rattle.std.specs.Borrow.{Bor}
+use Rattle.sf_evaluate.specs.Pairs.{Pairwise}
+
+-- the bytes that were read are the known ones, where any are known
+abbrev pub AreKnownBytes : Option (List ℕ) → List ℕ → Type 0
+AreKnownBytes None bytes = Unit {0}
+AreKnownBytes (Some known) bytes = bytes ≡ known
+
+-- the bytes are those of the files at the paths, path by path
+abbrev pub AreRead : (List ℕ → Option (List ℕ)) → List (Bor (List ℕ)) → List (List ℕ) → Type 0
+AreRead holds paths files = Pairwise (λ path file. AreKnownBytes (holds path.now) file) paths files
+
+-- The files at the paths were read, and the first of them are kept: at most 65, one more than a stack may have.
+pub record AreKept (holds : List ℕ → Option (List ℕ)) (paths : List (Bor (List ℕ)))
+    (kept : List (List ℕ)) : Type 0 where
+  pub files : List (List ℕ)
+  pub read : AreRead holds paths files
+  pub first : kept ≡ take 65 files
+
+-- the bytes of the file at one of the paths aren't known, so it may be that it can't be read
+pub record HasUnknown (holds : List ℕ → Option (List ℕ)) (paths : List (Bor (List ℕ))) : Type 0 where
+  pub place : ℕ
+  pub path : Bor (List ℕ)
+  pub at : slice_get paths place ≡ Some path
+  pub unknown : holds path.now ≡ None

@@ -1,0 +1,10 @@
+pub mod Pairs
+pub mod Files
+pub mod FilesLaws
+pub mod KeptLaws
+pub mod Names
+pub mod Policies
+pub mod Texts
+pub mod Traces
+pub mod Outputs
+pub mod Status

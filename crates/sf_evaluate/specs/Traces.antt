@@ -1,0 +1,214 @@
+-- The text of `eval --trace`: the input, and how each filter comes to its return value.
+use Rattle.std.specs.Prelude.{ℕ, zero, suc, ◌+◌, ◌-◌, ◌^◌, Bool, true, false, ◌==◌, ◌&&◌, ◌||◌, not, if◌then◌else◌, List, [], ◌∷◌, ◌++◌, codes, length, Option, Some, None, slice_get, slice_index, option_map, unwrap_or}
+use Rattle.std.specs.List.{list_any}
+use Rattle.std.specs.Fmt.{decimal, digits, padded_integral, format_spec}
+use Rattle.sf_insn.specs.declared.input.Input.{Input}
+use Rattle.sf_insn.specs.declared.ops.Test.{Test}
+use Rattle.sf_insn.specs.declared.ops.Test.TheVariants.{Equal, Greater, GreaterOrEqual, AnyBit}
+use Rattle.sf_check.specs.declared.insn.Insn.{Insn}
+use Rattle.sf_check.specs.declared.insn.Insn.TheVariants.{LoadWord, LoadConstant, LoadScratch, LoadLength, Alu, Negate, Jump, Branch, Txa}
+use Rattle.sf_run.specs.declared.action.Action.{Action}
+use Rattle.sf_run.specs.declared.action.Answer.{Answer}
+use Rattle.sf_run.specs.declared.walking.Meeting.{Meeting}
+use Rattle.sf_run.specs.declared.walking.Met.{Met}
+use Rattle.sf_run.specs.declared.walking.Met.TheVariants.{Tested, Divided, Returned}
+use Rattle.sf_run.specs.Answers.{action_bits, action_of, data_bits, action_number}
+use Rattle.sf_run.specs.Walks.{CourseData, walk_of}
+use Rattle.sf_policy.specs.Keys.{word_keys}
+use Rattle.sf_policy.specs.Names.{NamesData, names_between, names_words}
+use Rattle.sf_policy.specs.Texts.{action_text, line}
+use Rattle.sf_evaluate.specs.Texts.{answer_text}
+
+-- the eight hexadecimal digits of a word
+abbrev pub word_digits : ℕ → List ℕ
+word_digits n = padded_integral (format_spec 32 0 4 8 (2 ^ 64 - 1)) false [] (digits 16 true n)
+
+-- a word as a hexadecimal number
+abbrev pub word_text : ℕ → List ℕ
+word_text n = codes "0x" ++ word_digits n
+
+-- ---- the input
+
+-- the line of a field of 64 bits, from its low and its high half
+abbrev pub field_line : List ℕ → ℕ → ℕ → List ℕ
+field_line name low high = name ++ (codes " 0x" ++ (word_digits high ++ (word_digits low ++ 10 ∷ [])))
+
+-- the line of the call's number, in both ways in which a policy may write it, with its names on its architecture
+abbrev pub nr_line : List NamesData → ℕ → ℕ → List ℕ
+nr_line names arch nr = codes "nr " ++ (word_text nr ++ 32 ∷ (decimal nr
+    ++ (names_words 0 (names_between names arch nr nr) ++ 10 ∷ [])))
+
+-- the lines of the call's number, the architecture, and the instruction pointer
+abbrev pub call_text : List NamesData → Input → List ℕ
+call_text names d =
+    nr_line names (slice_index d.words 1) (slice_index d.words 0)
+    ++ (line (codes "arch" ∷ word_text (slice_index d.words 1) ∷ [])
+    ++ field_line (codes "ip") (slice_index d.words 2) (slice_index d.words 3))
+
+-- the lines of the arguments 0 to 2, each of 64 bits
+abbrev pub first_arguments : Input → List ℕ
+first_arguments d =
+    field_line (codes "arg0") (slice_index d.words 4) (slice_index d.words 5)
+    ++ (field_line (codes "arg1") (slice_index d.words 6) (slice_index d.words 7)
+    ++ field_line (codes "arg2") (slice_index d.words 8) (slice_index d.words 9))
+
+-- the lines of the arguments 3 to 5
+abbrev pub last_arguments : Input → List ℕ
+last_arguments d =
+    field_line (codes "arg3") (slice_index d.words 10) (slice_index d.words 11)
+    ++ (field_line (codes "arg4") (slice_index d.words 12) (slice_index d.words 13)
+    ++ field_line (codes "arg5") (slice_index d.words 14) (slice_index d.words 15))
+
+-- the lines of all fields of the input
+abbrev pub input_text : List NamesData → Input → List ℕ
+input_text names d = call_text names d ++ (first_arguments d ++ last_arguments d)
+
+-- ---- which word A is
+
+-- The word of the input that A holds after an instruction, from the one that it held before: A holds the word that was
+-- loaded into it, until another value is put there.
+abbrev pub word_after : Option ℕ → Insn → Option ℕ
+word_after word (LoadWord loaded) = Some loaded
+word_after word (LoadConstant k) = None
+word_after word (LoadScratch k) = None
+word_after word LoadLength = None
+word_after word (Alu op other) = None
+word_after word Negate = None
+word_after word Txa = None
+word_after word _ = word
+
+-- how many instructions a run skips after this one; if this one is a test, the truth value is its result
+abbrev pub skipped_after : Insn → Bool → ℕ
+skipped_after (Jump k) truth = k
+skipped_after (Branch test other on_true on_false) truth = if truth then on_true else on_false
+skipped_after _ truth = 0
+
+-- what was met is a test that is true
+abbrev pub is_true_test : Met → Bool
+is_true_test (Tested test a other passed) = passed
+is_true_test _ = false
+
+-- what a run met has a test at this place that is true
+abbrev pub is_true_at : ℕ → List Meeting → Bool
+is_true_at place met = list_any (λ m. (m.place == place) && is_true_test m.met) met
+
+-- For each instruction from a place on, the word of the input that A holds when the run comes to it, from what the run
+-- meets. The first `skips` of them are skipped: the run doesn't come to these.
+abbrev pub words_at : (place skips : ℕ) → Option ℕ → List Insn → List Meeting → List (Option ℕ)
+words_at place skips word [] met = []
+words_at place (suc skips) word (i ∷ code) met = word ∷ words_at (place + 1) skips word code met
+words_at place zero word (i ∷ code) met =
+    word ∷ words_at (place + 1) (skipped_after i (is_true_at place met)) (word_after word i) code met
+
+-- ---- a filter
+
+-- the sign of a test: how it compares two words
+abbrev pub sign_text : Test → List ℕ
+sign_text Equal = codes "="
+sign_text Greater = codes ">"
+sign_text GreaterOrEqual = codes ">="
+sign_text AnyBit = codes "&"
+
+-- the text of a truth value
+abbrev pub truth_text : Bool → List ℕ
+truth_text true = codes "true"
+truth_text false = codes "false"
+
+-- how a word is compared, with which other one, and the result
+abbrev pub compared_text : List ℕ → ℕ → Bool → List ℕ
+compared_text sign other truth = 32 ∷ (sign ++ 32 ∷ (word_text other ++ 32 ∷ (truth_text truth ++ 10 ∷ [])))
+
+-- the name of a word of the input and a blank; nothing where there is no word
+abbrev pub named_text : Option ℕ → List ℕ
+named_text (Some word) = unwrap_or (slice_get word_keys word) [] ++ 32 ∷ []
+named_text None = []
+
+-- The line of two words that an instruction of a filter compares. Before the first one stands its name, if it is a word
+-- of the input.
+abbrev pub test_line : ℕ → ℕ → Option ℕ → ℕ → List ℕ → ℕ → Bool → List ℕ
+test_line number place word a sign other truth =
+    codes "filter " ++ (decimal number ++ (codes " instruction "
+    ++ (decimal place ++ 32 ∷ (named_text word ++ (word_text a ++ compared_text sign other truth)))))
+
+-- The line of what a filter meets, where A holds this word of the input, if it holds one: a test; at a division by X,
+-- whether X is 0; at a return of A, that A.
+abbrev pub meeting_line : ℕ → Option ℕ → Meeting → List ℕ
+meeting_line number word m = by m.met
+  where
+    by : Met → List ℕ
+    by (Tested test a other passed) = test_line number m.place word a (sign_text test) other passed
+    by (Divided x) = test_line number m.place None x (codes "=") 0 (x == 0)
+    by (Returned a) = line (codes "filter" ∷ decimal number ∷ codes "instruction" ∷ decimal m.place ∷ word_text a
+        ∷ codes "returned" ∷ [])
+
+-- a test that is false, or a division by an X that isn't 0
+abbrev pub is_false : Met → Bool
+is_false (Tested test a other passed) = not passed
+is_false (Divided x) = not (x == 0)
+is_false (Returned a) = false
+
+-- the line of what a filter meets; in brief nothing where that is false
+abbrev pub shown_line : Bool → ℕ → Option ℕ → Meeting → List ℕ
+shown_line brief number word m = if brief && is_false m.met then [] else meeting_line number word m
+
+-- the lines of all that a filter meets, from the word of the input that A holds at each instruction
+abbrev pub meeting_lines : Bool → ℕ → List (Option ℕ) → List Meeting → List ℕ
+meeting_lines brief number words [] = []
+meeting_lines brief number words (m ∷ ms) =
+    shown_line brief number (unwrap_or (slice_get words m.place) None) m ++ meeting_lines brief number words ms
+
+-- the word behind a filter whose answer stands
+abbrev pub stands_text : Bool → List ℕ
+stands_text stands = if stands then codes " stands" else []
+
+-- the line of what a filter returns, and where
+abbrev pub returned_line : ℕ → ℕ → Action → ℕ → Bool → List ℕ
+returned_line number place action info stands =
+    codes "filter " ++ (decimal number ++ 32 ∷ (action_text action ++ 32 ∷ (decimal info
+    ++ (codes " instruction " ++ (decimal place ++ (stands_text stands ++ 10 ∷ []))))))
+
+-- the line of a filter's return value, and where it returns it
+abbrev pub return_line : ℕ → ℕ → ℕ → Bool → List ℕ
+return_line number place value stands =
+    returned_line number place (action_of (action_bits value)) (data_bits value) stands
+
+-- the lines of a filter with this number: what it returns, and under it what it meets
+abbrev pub walk_text : Bool → ℕ → Bool → List Insn → CourseData → List ℕ
+walk_text brief number stands code w =
+    return_line number w.place w.value stands
+    ++ meeting_lines brief number (words_at 0 0 None code w.met) w.met
+
+-- ---- the stack
+
+-- the filter at this place, counted from 0 in order of installation, and its run; the run of a lawful one always comes
+-- to a return
+abbrev pub walk_at : List (List Insn) → Input → ℕ → Option (List Insn × CourseData)
+walk_at programs d place = from (slice_get programs place)
+  where
+    from : Option (List Insn) → Option (List Insn × CourseData)
+    from (Some code) = option_map (λ w. (code, w)) (walk_of code d)
+    from None = None
+
+-- the lines of a filter, with a word where its answer stands, and then those of the older filters
+abbrev pub next_text : Bool → ℕ → ℕ → Bool → (Bool → List ℕ) → Option (List Insn × CourseData) → List ℕ
+next_text brief number action stood older (Some (code, w)) =
+    let stands = not stood && (action_bits w.value == action) in
+    walk_text brief number stands code w ++ older (stood || stands)
+next_text brief number action stood older None = older stood
+
+-- The lines of the first n filters, newest first. The answer that stands is that of the newest of all filters that
+-- returns this action; `stood` says whether it is that of a filter newer than these.
+abbrev pub filters_text : Bool → ℕ → ℕ → List (List Insn) → Input → Bool → List ℕ
+filters_text brief zero action programs d stood = []
+filters_text brief (suc n) action programs d stood =
+    next_text brief (n + 1) action stood (filters_text brief n action programs d) (walk_at programs d n)
+
+-- the lines of the input, with these names of calls, and of all filters of the stack, for the stack's answer
+abbrev pub trace_text : Bool → List NamesData → List (List Insn) → Input → Answer → List ℕ
+trace_text brief names programs d answer =
+    input_text names d ++ filters_text brief (length programs) (action_number answer.action) programs d false
+
+-- the line of the answer; under it where the answer comes from, if that is asked for, in full or in brief
+abbrev pub eval_text : (traced brief : Bool) → List NamesData → List (List Insn) → Input → Answer → List ℕ
+eval_text false false names programs d answer = answer_text answer
+eval_text traced brief names programs d answer = answer_text answer ++ trace_text brief names programs d answer

@@ -1,0 +1,160 @@
+//! The subcommands `check` and `eval`: read the filter files and write what is found of their stack.
+
+ghost use Rattle.std.specs.Prelude.{◌≡◌, ◌⊎◌, map, string_bytes, Err, Ok, IfOk, IfErr, OnOk, IsOk};
+ghost use Rattle.std.specs.Io.KnownBytes.{Appends};
+ghost use Rattle.hex.specs.Hex.{decode_sized};
+ghost use Rattle.sf_insn.specs.Inputs.{input_bytes};
+ghost use Rattle.sf_run.specs.Answers.{Answers};
+ghost use Rattle.sf_run.specs.declared.action.Answer.{Answer};
+ghost use Rattle.sf_evaluate.specs.Traces.{eval_text};
+ghost use Rattle.sf_evaluate.specs.Outputs.{ChecksFiles, EvaluatesFiles, RefusesEval, RefusesFiles, WritesAnswer, WritesCheck};
+ghost use Rattle.sf_policy.specs.Filters.{IsFirstRefusal};
+ghost use Rattle.sf_policy.specs.declared.fault.Fault.TheVariants.{Memory as MemoryFault, Input as InputFault, Write as WriteFault};
+
+use crate::explaining::Notes;
+use crate::files::{Files, read_all};
+use crate::texts::{answer_text, check_text};
+use crate::tracing::{Trace, push_trace};
+use hex::FromHex;
+use sf_check::Stack;
+use sf_insn::{Input, input_of_bytes};
+use sf_policy::{Fault, Names, stack_of, write_bytes};
+use sf_run::answer;
+use std::alloc::Global;
+use std::io::Write;
+
+/// Writes a text to standard output. `Write` where that fails, after a beginning of the text.
+pub fn print<O: Write>(text: &str, out: &mut O) -> Result<(), Fault>
+    ensures written { OnOk result (Appends (O.contents out.old) (O.contents out.new) text.now) }
+    ensures refused { IfErr result (λ e. e ≡ WriteFault) }
+{
+    write_bytes(text.as_bytes(), out)
+}
+
+/// The input that 128 hexadecimal digits spell, in lower or upper case: the 64 bytes of `struct seccomp_data`, in the
+/// order of seccomp(2). `Input` where the text is anything else.
+pub fn input_of(text: &str) -> Result<Input, Fault>
+    ensures spelled { IfOk result (λ d. decode_sized text.now 64 ≡ Ok (input_bytes d)) }
+    ensures refused { IfErr result (λ e. (e ≡ InputFault)
+        × (IsOk (decode_sized text.now 64) → ⊥)) }
+{
+    let bytes = <[u8; 64] as FromHex>::from_hex(text).map_err(|_| Fault::Input)?;
+    Ok(input_of_bytes(&bytes))
+}
+
+/// Writes the number of instructions of each filter and the path length of their stack.
+fn check_filters<O: Write>(alloc: Global, filters: &[Vec<u8>], out: &mut O) -> Result<(), Fault>
+    ensures written { OnOk result (WritesCheck (map (λ f. f.items) filters.now)
+        (O.contents out.old) (O.contents out.new)) }
+    ensures refused { IfErr result (λ e. (e ≡ WriteFault)
+        ⊎ (((e ≡ MemoryFault) ⊎ IsFirstRefusal (map (λ f. f.items) filters.now) e)
+        × (out.new ≡ out.old))) }
+{
+    let stack = stack_of(alloc, filters)?;
+    let text = check_text(alloc, &stack)?;
+    print(&text, out)
+}
+
+/// The text of the stack's answer to the input. Where `traced` or `brief` asks for it, lines under the answer show
+/// where it comes from; in brief without what is false.
+fn eval_text(
+    alloc: Global,
+    stack: &Stack,
+    input: &Input,
+    traced: bool,
+    brief: bool,
+    names: &[Names],
+) -> Result<String, Fault>
+    ensures told { IfOk result (λ text. (a : Answer) × Answers stack.now input.now a
+        × (string_bytes text ≡ eval_text traced brief names.now stack.now input.now a)) }
+    ensures refused { IfErr result (λ e. e ≡ MemoryFault) }
+{
+    let answer = answer(stack, input);
+    let mut text = answer_text(alloc, answer)?;
+    if !traced && !brief {
+        return Ok(text);
+    }
+    let trace = Trace {
+        stack,
+        input,
+        answer,
+        brief,
+        names,
+    };
+    push_trace(alloc, &mut text, &trace)?;
+    Ok(text)
+}
+
+/// Writes what the stack of the filters answers to the input. Where `traced` or `brief` asks for it, lines under the
+/// answer show where it comes from.
+fn evaluate_filters<O: Write>(
+    alloc: Global,
+    input: &Input,
+    traced: bool,
+    brief: bool,
+    names: &[Names],
+    filters: &[Vec<u8>],
+    out: &mut O,
+) -> Result<(), Fault>
+    ensures written { OnOk result (WritesAnswer (map (λ f. f.items) filters.now) input.now traced
+        brief names.now (O.contents out.old) (O.contents out.new)) }
+    ensures refused { IfErr result (λ e. (e ≡ WriteFault)
+        ⊎ (((e ≡ MemoryFault) ⊎ IsFirstRefusal (map (λ f. f.items) filters.now) e)
+        × (out.new ≡ out.old))) }
+{
+    let stack = stack_of(alloc, filters)?;
+    let text = eval_text(alloc, &stack, input, traced, brief, names)?;
+    print(&text, out)
+}
+
+/// Reads the filter files, which are named in order of installation, and writes the number of instructions of each and
+/// the path length of their stack.
+///
+/// Refusals, tried in this order: `Read` where a file can't be read; what `stack_of` refuses; `Write` where standard
+/// output can't be written, after a beginning of the text. `Memory` can come anywhere. After any error but `Write`
+/// nothing is written.
+pub fn check<F: Files, O: Write>(
+    alloc: Global,
+    paths: &[&str],
+    files: &mut F,
+    notes: &mut Notes,
+    out: &mut O,
+) -> Result<(), Fault>
+    ensures written { OnOk result (ChecksFiles (F.holds files.old) paths.now (O.contents out.old)
+        (O.contents out.new)) }
+    ensures refused { IfErr result (λ e. (e ≡ WriteFault)
+        ⊎ (RefusesFiles (F.holds files.old) paths.now e × (out.new ≡ out.old))) }
+{
+    let filters = read_all(alloc, paths, files, notes)?;
+    check_filters(alloc, &filters, out)
+}
+
+/// Reads the input from its hexadecimal digits and then the filter files, which are named in order of installation, and
+/// writes what the stack of the filters answers to the input. Where `traced` or `brief` asks for it, lines under the
+/// answer show where it comes from; in brief without what is false.
+///
+/// `Input` where the digits spell no input: no file is read then. The other refusals are those of `check`.
+pub fn evaluate<F: Files, O: Write>(
+    alloc: Global,
+    digits: &str,
+    traced: bool,
+    brief: bool,
+    names: &[Names],
+    paths: &[&str],
+    files: &mut F,
+    notes: &mut Notes,
+    out: &mut O,
+) -> Result<(), Fault>
+    ensures written { OnOk result (EvaluatesFiles digits.now traced brief
+        (F.holds files.old) paths.now names.now (O.contents out.old) (O.contents out.new)) }
+    ensures unspelled { (IsOk (decode_sized digits.now 64) → ⊥) → (result ≡ Err InputFault)
+        × (files.new ≡ files.old) × (out.new ≡ out.old) }
+    ensures refused { IsOk (decode_sized digits.now 64)
+        → IfErr result (λ e. (e ≡ WriteFault)
+        ⊎ (RefusesFiles (F.holds files.old) paths.now e × (out.new ≡ out.old))) }
+    ensures explained { IfErr result (RefusesEval digits.now (F.holds files.old) paths.now) }
+{
+    let input = input_of(digits)?;
+    let filters = read_all(alloc, paths, files, notes)?;
+    evaluate_filters(alloc, &input, traced, brief, names, &filters, out)
+}

@@ -1,0 +1,38 @@
+//! The questions of the policy file that the command line names.
+
+ghost use Rattle.std.specs.Prelude.{◌≡◌, ◌⊎◌, ℕ, List, None, IfOk, IfErr};
+ghost use Rattle.sf_policy.specs.declared.fault.Fault.TheVariants.{Memory as MemoryFault, Read as ReadFault};
+ghost use Rattle.sf_evaluate.specs.Policies.{IsPolicyFile, RefusesPolicyFile};
+
+use crate::explaining::Notes;
+use crate::files::Files;
+use sf_ask::Question;
+use sf_policy::{Fault, read_policy_at};
+use std::alloc::Global;
+
+/// The questions of the policy file at a path. Its bytes are kept in the notes, and its refusal too, if `read_policy`
+/// refuses it. `Read` where the file can't be read, `Syntax` where it isn't UTF-8, then what `read_policy` refuses;
+/// `Memory` can come anywhere.
+pub fn questions_in<F: Files>(
+    alloc: Global,
+    path: &str,
+    files: &mut F,
+    notes: &mut Notes,
+) -> Result<Vec<Question>, Fault>
+    ensures asked { IfOk result (λ v. IsPolicyFile (F.holds files.old path.now) v.items) }
+    ensures refused { IfErr result (λ e. ((e ≡ ReadFault)
+        × (F.holds files.old path.now ≡ None))
+        ⊎ (e ≡ MemoryFault) ⊎ RefusesPolicyFile (F.holds files.old path.now) e) }
+    ensures same { (p : List ℕ) → F.holds files.new p ≡ F.holds files.old p }
+{
+    let bytes = files.read(path)?;
+    notes.files = notes.files.saturating_add(1);
+    notes.policy = bytes;
+    match std::str::from_utf8(&notes.policy) {
+        Ok(text) => {
+            let read = read_policy_at(alloc, text);
+            notes.take_refusal(read)
+        }
+        Err(_) => Err(Fault::Syntax),
+    }
+}

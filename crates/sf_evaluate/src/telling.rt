@@ -1,0 +1,61 @@
+//! What is written to standard error.
+
+ghost use Rattle.std.specs.Prelude.{◌≡◌, ◌++◌, IfOk, string_bytes};
+ghost use Rattle.sf_policy.specs.Faults.{fault_number};
+ghost use Rattle.sf_evaluate.specs.Status.{fault_status};
+
+use sf_policy::Fault;
+use std::alloc::{AllocError, Global};
+use std::fmt::InlineText;
+use std::io::Write;
+
+/// The most bytes of a fault's line: two numbers of at most 20 digits each, and words.
+const LINE: usize = 96;
+
+/// The exit status of a fault: 3 where the filters, the policy, a file of names or the input are refused, 5 where reading,
+/// writing or memory fails.
+fn status_of(fault: &Fault) -> u8
+    ensures { result ≡ fault_status (fault_number fault.now) }
+{
+    if fault.number() < 50 { 3 } else { 5 }
+}
+
+/// The line of a fault: `error`, its number, its name and its place.
+fn line_of(fault: &Fault) -> InlineText<LINE> {
+    InlineText::of(format_args!("error {fault}\n"))
+}
+
+/// Writes the line of a fault to standard error, and gives the exit status. The line is one write, so that it stays
+/// whole beside the lines of other programs. It allocates nothing, since memory may have run out.
+pub fn tell_fault<E: Write>(fault: &Fault, err: &mut E) -> u8
+    ensures { result ≡ fault_status (fault_number fault.now) }
+{
+    let line = line_of(fault);
+    let _ = err.write_all(line.as_str().as_bytes());
+    status_of(fault)
+}
+
+/// A line with more lines under it.
+fn with_more(alloc: Global, line: &str, more: &str) -> Result<String, AllocError>
+    ensures { IfOk result (λ text. string_bytes text ≡ line.now ++ more.now) }
+{
+    let mut text = String::from_str(alloc, line)?;
+    text.push_str(more)?;
+    Ok(text)
+}
+
+/// Writes the line of a fault to standard error, and under it the lines that explain the fault, if there are any and
+/// memory for both. All is one write too. Gives the exit status.
+pub fn tell<E: Write>(alloc: Global, fault: &Fault, more: Option<String>, err: &mut E) -> u8
+    ensures { result ≡ fault_status (fault_number fault.now) }
+{
+    let Some(more) = more else {
+        return tell_fault(fault, err);
+    };
+    let line = line_of(fault);
+    if let Ok(text) = with_more(alloc, line.as_str(), more.as_str()) {
+        let _ = err.write_all(text.as_bytes());
+        return status_of(fault);
+    }
+    tell_fault(fault, err)
+}

@@ -1,0 +1,56 @@
+//! The texts that `check` and `eval` write.
+ghost use Rattle.std.specs.Prelude.{◌≡◌, ◌++◌, IfOk, OnOk, length, string_bytes};
+ghost use Rattle.sf_evaluate.specs.Texts.{answer_text, check_text, filter_lines, filter_line, path_line};
+
+use sf_check::{Program, Stack};
+use sf_policy::push_action;
+use sf_run::Answer;
+use std::alloc::{AllocError, Global};
+
+/// The line of an answer: its action and its data. An error where an allocation is refused.
+pub fn answer_text(alloc: Global, answer: Answer) -> Result<String, AllocError>
+    ensures { IfOk result (λ text. string_bytes text ≡ answer_text answer) }
+{
+    let mut text = String::new(alloc);
+    push_action(&mut text, answer.action)?;
+    let info = answer.info;
+    write!(text, " {info}\n")?;
+    Ok(text)
+}
+
+/// Adds the line of a filter: its number, from 1, and how many instructions it has.
+fn push_filter(text: &mut String, number: usize, instructions: usize) -> Result<(), AllocError>
+    ensures { OnOk result (string_bytes text.new ≡ string_bytes text.old
+        ++ filter_line number instructions) }
+{
+    write!(text, "filter {number} {instructions} instructions\n")
+}
+
+/// Adds the lines of all filters, in order of installation.
+fn push_filters(text: &mut String, programs: &[Program]) -> Result<(), AllocError>
+    ensures { OnOk result (string_bytes text.new ≡ string_bytes text.old
+        ++ filter_lines 1 programs.now) }
+{
+    for (i, program) in programs.iter().enumerate() {
+        push_filter(text, i + 1, program.insns().len())?;
+    }
+    Ok(())
+}
+
+/// Adds the line of a stack's path length.
+fn push_path(text: &mut String, path: usize) -> Result<(), AllocError>
+    ensures { OnOk result (string_bytes text.new ≡ string_bytes text.old ++ path_line path) }
+{
+    write!(text, "path {path}\n")
+}
+
+/// The text of `check`: a line for each filter, with its number of instructions, and a line with the path length of the
+/// stack. An error where an allocation is refused.
+pub fn check_text(alloc: Global, stack: &Stack) -> Result<String, AllocError>
+    ensures { IfOk result (λ text. string_bytes text ≡ check_text stack.now) }
+{
+    let mut text = String::new(alloc);
+    push_filters(&mut text, stack.programs())?;
+    push_path(&mut text, stack.path_length())?;
+    Ok(text)
+}

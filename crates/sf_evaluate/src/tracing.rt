@@ -1,0 +1,301 @@
+//! The text of `eval --trace`: the input, and how each filter comes to its return value.
+ghost use Rattle.std.specs.Prelude.{◌≡◌, ◌<◌, ◌++◌, ◌==◌, ◌&&◌, ◌||◌, not, false, OnOk, IfOk, Some, length, string_bytes};
+ghost use Rattle.sf_run.specs.Answers.{action_bits, action_number};
+ghost use Rattle.sf_run.specs.Walks.{CourseData, walk_of};
+ghost use Rattle.sf_evaluate.specs.Traces.{call_text, compared_text, field_line, filters_text, first_arguments, input_text, is_false, last_arguments, stands_text, meeting_line, meeting_lines, nr_line, returned_line, shown_line, sign_text, test_line, trace_text, truth_text, walk_text, word_text};
+
+use crate::loaded::{push_name, words_at};
+use sf_check::{Program, Stack};
+use sf_insn::{Input, Test};
+use sf_policy::{Names, push_action, push_names_between};
+use sf_run::{Action, Answer, Course, Fault, Meeting, Met, walk};
+use std::alloc::{AllocError, Global};
+
+/// Adds a word as a hexadecimal number.
+fn push_word(text: &mut String, word: u32) -> Result<(), AllocError>
+    ensures { OnOk result (string_bytes text.new ≡ string_bytes text.old ++ word_text word) }
+{
+    write!(text, "0x{word:08X}")
+}
+
+/// Adds the line of a field of 64 bits, from its low and its high half.
+fn push_field(text: &mut String, name: &str, low: u32, high: u32) -> Result<(), AllocError>
+    ensures { OnOk result (string_bytes text.new ≡ string_bytes text.old
+        ++ field_line name.now low high) }
+{
+    write!(text, "{name} ")?;
+    push_word(text, high)?;
+    write!(text, "{low:08X}\n")
+}
+
+/// Adds the line of the call's number, with its names on its architecture.
+fn push_nr(text: &mut String, names: &[Names], arch: u32, nr: u32) -> Result<(), AllocError>
+    ensures { OnOk result (string_bytes text.new ≡ string_bytes text.old
+        ++ nr_line names.now arch nr) }
+{
+    write!(text, "nr 0x{nr:08X} {nr}")?;
+    push_names_between(text, 0, names, arch, nr, nr)?;
+    text.push_str("\n")?;
+    Ok(())
+}
+
+/// Adds the lines of the call's number, with its names, the architecture and the instruction pointer.
+fn push_call(text: &mut String, names: &[Names], input: &Input) -> Result<(), AllocError>
+    ensures { OnOk result (string_bytes text.new ≡ string_bytes text.old
+        ++ call_text names.now input.now) }
+{
+    let arch = input.words[1];
+    push_nr(text, names, arch, input.words[0])?;
+    write!(text, "arch 0x{arch:08X}\n")?;
+    push_field(text, "ip", input.words[2], input.words[3])
+}
+
+/// Adds the lines of the arguments 0 to 2.
+fn push_first_arguments(text: &mut String, input: &Input) -> Result<(), AllocError>
+    ensures { OnOk result (string_bytes text.new ≡ string_bytes text.old
+        ++ first_arguments input.now) }
+{
+    push_field(text, "arg0", input.words[4], input.words[5])?;
+    push_field(text, "arg1", input.words[6], input.words[7])?;
+    push_field(text, "arg2", input.words[8], input.words[9])
+}
+
+/// Adds the lines of the arguments 3 to 5.
+fn push_last_arguments(text: &mut String, input: &Input) -> Result<(), AllocError>
+    ensures { OnOk result (string_bytes text.new ≡ string_bytes text.old
+        ++ last_arguments input.now) }
+{
+    push_field(text, "arg3", input.words[10], input.words[11])?;
+    push_field(text, "arg4", input.words[12], input.words[13])?;
+    push_field(text, "arg5", input.words[14], input.words[15])
+}
+
+/// Adds the lines of all fields of an input.
+fn push_input(text: &mut String, names: &[Names], input: &Input) -> Result<(), AllocError>
+    ensures { OnOk result (string_bytes text.new ≡ string_bytes text.old
+        ++ input_text names.now input.now) }
+{
+    push_call(text, names, input)?;
+    push_first_arguments(text, input)?;
+    push_last_arguments(text, input)
+}
+
+/// The sign of a test: how it compares two words.
+fn sign_of(test: Test) -> &'static str
+    ensures { result.now ≡ sign_text test }
+{
+    match test {
+        Test::Equal => "=",
+        Test::Greater => ">",
+        Test::GreaterOrEqual => ">=",
+        Test::AnyBit => "&",
+    }
+}
+
+/// The text of a truth value.
+fn truth_of(truth: bool) -> &'static str
+    ensures { result.now ≡ truth_text truth }
+{
+    if truth { "true" } else { "false" }
+}
+
+/// Adds how A is compared, with which other number, and the result.
+fn push_compared(text: &mut String, sign: &str, other: u32, truth: bool) -> Result<(), AllocError>
+    ensures { OnOk result (string_bytes text.new ≡ string_bytes text.old
+        ++ compared_text sign.now other truth) }
+{
+    let truth = truth_of(truth);
+    write!(text, " {sign} 0x{other:08X} {truth}\n")
+}
+
+/// Adds the line of a comparison: an instruction of a filter compares the number `a` with another one. `word` is the
+/// word of the input that has this number there, if one has.
+fn push_test(
+    text: &mut String,
+    number: usize,
+    place: usize,
+    word: Option<u8>,
+    a: u32,
+    sign: &str,
+    other: u32,
+    truth: bool,
+) -> Result<(), AllocError>
+    ensures { OnOk result (string_bytes text.new ≡ string_bytes text.old
+        ++ test_line number place word a sign.now other truth) }
+{
+    write!(text, "filter {number} instruction {place} ")?;
+    push_name(text, word)?;
+    push_word(text, a)?;
+    push_compared(text, sign, other, truth)
+}
+
+/// Adds the line of what a filter met. `word` is the word of the input that A held then, if it held one.
+fn push_meeting(
+    text: &mut String,
+    number: usize,
+    word: Option<u8>,
+    meeting: Meeting,
+) -> Result<(), AllocError>
+    ensures { OnOk result (string_bytes text.new ≡ string_bytes text.old
+        ++ meeting_line number word meeting) }
+{
+    let place = meeting.place;
+    match meeting.met {
+        Met::Tested(test, a, other, passed) => {
+            push_test(text, number, place, word, a, sign_of(test), other, passed)
+        }
+        Met::Divided(x) => push_test(text, number, place, None, x, "=", 0, x == 0),
+        Met::Returned(a) => write!(
+            text,
+            "filter {number} instruction {place} 0x{a:08X} returned\n"
+        ),
+    }
+}
+
+/// Whether what was met is false: a test that is false, or a division by an X that isn't 0.
+fn is_false(met: Met) -> bool
+    ensures { result ≡ is_false met }
+{
+    match met {
+        Met::Tested(_, _, _, passed) => !passed,
+        Met::Divided(x) => x != 0,
+        Met::Returned(_) => false,
+    }
+}
+
+/// Adds the line of what a filter met; in brief nothing where that is false.
+fn push_shown(
+    text: &mut String,
+    brief: bool,
+    number: usize,
+    word: Option<u8>,
+    meeting: Meeting,
+) -> Result<(), AllocError>
+    ensures { OnOk result (string_bytes text.new ≡ string_bytes text.old
+        ++ shown_line brief number word meeting) }
+{
+    if brief && is_false(meeting.met) {
+        return Ok(());
+    }
+    push_meeting(text, number, word, meeting)
+}
+
+/// Adds the lines of all that a filter met, in order. `words` has for each instruction the word of the input that A
+/// held there.
+fn push_meetings(
+    text: &mut String,
+    brief: bool,
+    number: usize,
+    words: &[Option<u8>],
+    met: &[Meeting],
+) -> Result<(), AllocError>
+    ensures { OnOk result (string_bytes text.new ≡ string_bytes text.old
+        ++ meeting_lines brief number words.now met.now) }
+{
+    for meeting in met {
+        let word = words.get(meeting.place).copied().unwrap_or(None);
+        push_shown(text, brief, number, word, *meeting)?;
+    }
+    Ok(())
+}
+
+/// The word behind a filter whose answer stands; no text where it does not.
+fn mark_of(stands: bool) -> &'static str
+    ensures { result.now ≡ stands_text stands }
+{
+    if stands { " stands" } else { "" }
+}
+
+/// Adds the line of what a filter returns, and where. Its answer stands where it is the answer of the stack.
+fn push_return(
+    text: &mut String,
+    number: usize,
+    place: usize,
+    action: Action,
+    info: u32,
+    stands: bool,
+) -> Result<(), AllocError>
+    ensures { OnOk result (string_bytes text.new ≡ string_bytes text.old
+        ++ returned_line number place action info stands) }
+{
+    write!(text, "filter {number} ")?;
+    push_action(text, action)?;
+    let mark = mark_of(stands);
+    write!(text, " {info} instruction {place}{mark}\n")
+}
+
+/// What a trace shows.
+#[derive(Clone, Copy, Drop)]
+pub struct Trace<'a> {
+    /// The stack that is run.
+    pub stack: &'a Stack,
+    /// The input that it is run on.
+    pub input: &'a Input,
+    /// The answer of the stack.
+    pub answer: Answer,
+    /// Whether only what is true is shown.
+    pub brief: bool,
+    /// Names of calls, which are shown beside their numbers.
+    pub names: &'a [Names],
+}
+
+/// Adds the lines of a filter, and says whether its answer stands: it returns the action of the stack's answer, and the
+/// answer of no newer filter stood.
+fn push_filter(
+    alloc: Global,
+    text: &mut String,
+    trace: &Trace<'_>,
+    number: usize,
+    program: &Program,
+    stood: bool,
+) -> Result<bool, Fault>
+    ensures { IfOk result (λ b. (w : CourseData)
+        × (walk_of program.now trace.now.input.now ≡ Some w)
+        × (b ≡ (not stood && (action_bits w.value == action_number trace.now.answer.action)))
+        × (string_bytes text.new ≡ string_bytes text.old
+        ++ walk_text trace.now.brief number b program.now w)) }
+{
+    let run = walk(alloc, program, trace.input)?;
+    let action = run.value & 0xffff0000;
+    let stands = !stood && action == trace.answer.action.number();
+    push_return(
+        text,
+        number,
+        run.place,
+        Action::of_number(action),
+        run.value & 0xffff,
+        stands,
+    )?;
+    let words = words_at(alloc, program.insns(), &run.met)?;
+    push_meetings(text, trace.brief, number, &words, &run.met)?;
+    Ok(stands)
+}
+
+/// Adds the lines of all filters, newest first.
+fn push_filters(alloc: Global, text: &mut String, trace: &Trace<'_>) -> Result<(), Fault>
+    ensures { OnOk result (string_bytes text.new ≡ string_bytes text.old
+        ++ filters_text trace.now.brief (length trace.now.stack.now)
+        (action_number trace.now.answer.action) trace.now.stack.now trace.now.input.now false) }
+{
+    let programs = trace.stack.programs();
+    let mut stood = false;
+    for i in 0..programs.len() {
+        let number = programs.len() - i;
+        let program = &programs[number - 1];
+        let stands = push_filter(alloc, text, trace, number, program, stood)?;
+        stood = stood || stands;
+    }
+    Ok(())
+}
+
+/// Adds the lines of `eval --trace`. First come the fields of the input, with the names of calls. Then comes each
+/// filter, newest first: what it returns and at which instruction, whether its answer is the stack's, and under it all
+/// that it met, in order; in brief without what is false. `Memory` where an allocation is refused.
+pub fn push_trace(alloc: Global, text: &mut String, trace: &Trace<'_>) -> Result<(), Fault>
+    ensures { OnOk result (string_bytes text.new ≡ string_bytes text.old
+        ++ trace_text trace.now.brief trace.now.names.now trace.now.stack.now
+        trace.now.input.now trace.now.answer) }
+{
+    push_input(text, trace.names, trace.input)?;
+    push_filters(alloc, text, trace)
+}
