@@ -3,11 +3,10 @@ use Rattle.std.specs.Prelude.{◌≡◌, ℕ, ◌≤◌, List, [], ◌∷◌, �
 use Rattle.std.specs.Fmt.{decimal}
 use Rattle.sf_check.specs.declared.insn.Insn.{Insn}
 use Rattle.sf_check.specs.Stacks.{IsPlain, path_length}
-use Rattle.sf_run.specs.declared.action.Answer.{Answer}
 use Rattle.sf_book.specs.Books.{BookData, counts_of}
 use Rattle.sf_crew.specs.Explorations.{IsExplorationOf, IsExactExploration}
 use Rattle.sf_policy.specs.Filters.{SpellStack}
-use Rattle.sf_policy.specs.Texts.{action_text, counts_line, hex_text, line}
+use Rattle.sf_policy.specs.Texts.{answer_words, counts_line, hex_text, line}
 use Rattle.sf_compare.specs.declared.relation.Relation.{Relation}
 use Rattle.sf_compare.specs.declared.relation.Relation.TheVariants.{Looser, Tighter, Different}
 use Rattle.sf_compare.specs.declared.changes.Change.{Change}
@@ -51,10 +50,6 @@ pub record IsComparison (files : List (List ℕ)) (older budget : ℕ) (c : Comp
 abbrev pub part_line : List ℕ → List (List Insn) → List ℕ
 part_line which programs = line (which ∷ codes "filters" ∷ decimal (length programs) ∷ codes "path"
     ∷ decimal (path_length programs) ∷ [])
-
--- an action and its data
-abbrev pub answer_words : Answer → List ℕ
-answer_words answer = action_text answer.action ++ 32 ∷ decimal answer.info
 
 -- what is found of a relation, and the example with the answers of the old stack and of the new one
 abbrev pub change_line : List ℕ → Change → List ℕ

@@ -2,9 +2,9 @@
 
 ghost use Rattle.std.specs.Prelude.{◌≡◌, ◌≤◌, ◌⊎◌, ◌++◌, IfOk, IfErr, OnOk, OnErr, length, string_bytes};
 ghost use Rattle.std.specs.Io.KnownBytes.{Appends};
-ghost use Rattle.sf_policy.specs.Texts.{AppendsFront};
+ghost use Rattle.sf_policy.specs.Texts.{AppendsFront, answer_words};
 ghost use Rattle.sf_policy.specs.declared.fault.Fault.TheVariants.{Memory as MemoryFault, Write as WriteFault};
-ghost use Rattle.sf_compare.specs.Comparisons.{answer_words, change_line, changes_text, comparison_text, part_line, sizes_text};
+ghost use Rattle.sf_compare.specs.Comparisons.{change_line, changes_text, comparison_text, part_line, sizes_text};
 
 use crate::changes::Change;
 use crate::comparison::Comparison;

@@ -1,14 +1,12 @@
 -- Which rows show that two stacks answer differently.
 use Rattle.std.proofs.lemmas.Grind.{common_steps}
-use Rattle.std.proofs.Common.{◌≡◌, ◌≢◌, ℕ, zero, suc, ◌<◌, ◌≤◌, ◌+◌, not, Bool, true, false, List, [], ◌∷◌, ◌++◌, length, get_or, Option, Some, slice_get, refl, sym, ap, subst, ◌∙◌, arith, inl, inr}
-use Rattle.std.specs.Prelude.{Contains, count_by, slice_index}
+use Rattle.std.proofs.Common.{◌≡◌, ◌≢◌, ℕ, zero, suc, ◌<◌, ◌≤◌, ◌+◌, not, Bool, true, false, List, [], ◌∷◌, length, get_or, Option, Some, slice_get, refl, sym, ap, subst, ◌∙◌, arith, inl, inr}
+use Rattle.std.specs.Prelude.{Contains, count_by, slice_index, if◌then◌else◌}
 use Rattle.std.specs.List.{filter}
 use Rattle.std.proofs.lemmas.Bool.Decides.{nat_tests}
 use Rattle.std.proofs.lemmas.List.Elements.{All-contains, All-contains_itself, All-filter, filter_passes}
-use Rattle.std.proofs.Math.ListN.{get_or-append}
-use Rattle.std.proofs.Math.Seq.{get_or-append_seam}
-use Rattle.std.proofs.lemmas.Bool.{cases_eq}
-use Rattle.std.proofs.lemmas.Option.{same_Some, slice_get_within}
+use Rattle.std.proofs.lemmas.List.Sums.{sum_by-cons}
+use Rattle.std.proofs.lemmas.Option.{slice_get_within}
 use Rattle.sf_insn.specs.declared.input.Input.{Input}
 use Rattle.sf_insn.specs.Inputs.{IsInput}
 use Rattle.sf_check.specs.Stacks.{IsPlain}
@@ -24,11 +22,9 @@ use Rattle.sf_picture.specs.Pictures.{labels_at, IsPicture}
 use Rattle.sf_picture.specs.PictureLaws.{one-along}
 use Rattle.sf_compare.specs.declared.relation.Relation.TheVariants.{Different}
 use Rattle.sf_compare.specs.Changes.{AreAnswersOfRegions, IsChange, new_of, old_of}
-use Rattle.sf_list.specs.Rows.{RowData, rows_of, is_in_scope}
-use Rattle.sf_list.specs.Listings.{listed_rows}
-use Rattle.sf_list.specs.Differences.{AreDifferences, ArePictured, Differ, DifferencesData, IsLabelOf, TellPairs, changed_of, changed_rows, is_unchanged}
-use Rattle.sf_list.proofs.ForkLemmas.{count-cons, one-if}
-use Rattle.sf_list.proofs.RowLemmas.{one-of-all, row-labels}
+use Rattle.sf_rows.specs.Rows.{RowData, rows_of, is_in_scope, listed_rows}
+use Rattle.sf_list.specs.Differences.{AreDifferences, ArePictured, DifferencesData, TellPairs, changed_of, changed_rows, is_unchanged}
+use Rattle.sf_rows.specs.Pairs.{Differ, IsLabelOf}
 
 -- ---- elements of a list
 
@@ -41,8 +37,9 @@ counted {X} p (x ∷ xs) some = by (counted p xs) (p x) refl
         → (y : X) × Contains (x ∷ xs) y × (p y ≡ true)
     by rest true e = (x, (zero, omega arith, refl), e)
     by rest false e =
-        let cons = count-cons p x xs in
-        let none = ap one-if e in
+        let cons : count_by p (x ∷ xs) ≡ (if p x then 1 else 0) + count_by p xs =
+        sum_by-cons (λ y. if p y then 1 else 0) x xs in
+        let none : (if p x then 1 else 0) ≡ 0 = ap (λ (b : Bool). if b then 1 else 0) e in
         let more = rest (omega (arith, some, cons, none)) in
         (more.0, (suc more.1.0, omega (arith, more.1.1), more.1.2), more.2)
 
@@ -80,15 +77,6 @@ shown count label (l ∷ m ∷ ls) there lt = refl
 no-count : (count label : ℕ) → is_unchanged count (label ∷ []) ≡ false → label ≢ count
 no-count count label h e = grind (arith, common_steps, nat_tests)
 
--- the labels of pairs, with one more
-pub labels-more : (answers pairs : List PartAnswers) (labels next : List ℕ) (i label : ℕ) (one : PartAnswers)
-    → length labels ≡ i → next ≡ labels ++ label ∷ [] → slice_get answers i ≡ Some one → IsLabelOf pairs one label
-    → ((n : ℕ) (both : PartAnswers) → n < i → slice_get answers n ≡ Some both
-    → IsLabelOf pairs both (slice_index labels n)) → (n : ℕ) (both : PartAnswers) → n < i + 1
-    → slice_get answers n ≡ Some both → IsLabelOf pairs both (slice_index next n)
-labels-more answers pairs labels next i label one count pushed here is before n both lt there =
-    search (arith, cases_eq, one, same_Some, get_or-append_seam, get_or-append)
-
 -- the labels of pairs are those of the regions
 pub tell-pairs : (s : BookData) (older : ℕ) (answers pairs : List PartAnswers) (labels : List ℕ)
     → AreAnswersOfRegions s older answers → ((n : ℕ) (both : PartAnswers) → slice_get answers n ≡ Some both
@@ -121,16 +109,24 @@ told : (s : BookData) (older : ℕ) (x : DifferencesData) (p : PictureData) (d :
     → ArePictured s older x.pairs p → IsInput d → IsTold s older x p d
 told s older x p d settled h input = search (arith, in_some_region, shown)
 
--- the labels of the row in which an input lies
-in-row : (p : PictureData) (d : Input) (r : RowData) → IsPicture p → IsInput d → Contains (rows_of p) r
-    → is_in_scope r.scope d ≡ true → r.labels ≡ labels_at p d
-in-row p d r h input there on = grind (arith, common_steps, row-labels, one-of-all)
+-- ---- rows
 
-pub row-differences : (s : BookData) (older : ℕ) (x : DifferencesData) (p : PictureData) (d : Input) (r : RowData)
+-- each input lies in exactly one row
+abbrev pub LiesInOne : Type 0
+LiesInOne = (p : PictureData) (d : Input) → IsPicture p → IsInput d
+    → count_by (λ (r : RowData). is_in_scope r.scope d) (rows_of p) ≡ 1
+
+-- the row in which an input lies has the labels that the picture shows it
+abbrev pub HasItsLabels : Type 0
+HasItsLabels = (p : PictureData) (d : Input) (r : RowData) → IsPicture p → IsInput d → Contains (rows_of p) r
+    → is_in_scope r.scope d ≡ true → r.labels ≡ labels_at p d
+
+pub row-differences : HasItsLabels → (s : BookData) (older : ℕ) (x : DifferencesData) (p : PictureData)
+    (d : Input) (r : RowData)
     → IsSettled s → AreDifferences s older x → x.picture ≡ Some p → IsInput d → Contains (rows_of p) r
     → is_in_scope r.scope d ≡ true → (label : ℕ) × (both : PartAnswers) × Contains r.labels label
     × IsLabelOf x.pairs both label × Answers (old_of s older) d both.older × Answers (new_of s older) d both.newer
-row-differences s older x p d r settled h some input there on =
+row-differences in-row s older x p d r settled h some input there on =
     let pictured = drawn s older x p h some in
     let t = told s older x p d settled pictured input in
     let same = in-row p d r pictured.lawful input there on in
@@ -142,14 +138,15 @@ place-of : (pairs : List PartAnswers) (both : PartAnswers) (label : ℕ) → IsL
 place-of pairs both label (inl differ) differs = slice_get_within pairs label both differ.1
 place-of pairs both label (inr same) differs = absurd (differs same.0)
 
-pub changed-shown : (s : BookData) (older : ℕ) (x : DifferencesData) (p : PictureData) (d : Input)
+pub changed-shown : LiesInOne → HasItsLabels
+    → (s : BookData) (older : ℕ) (x : DifferencesData) (p : PictureData) (d : Input)
     (before after : Answer) → IsSettled s → AreDifferences s older x → x.picture ≡ Some p
     → IsChange (old_of s older) (new_of s older) Different d before after
     → (r : RowData) × Contains (changed_rows x) r × (is_in_scope r.scope d ≡ true)
-changed-shown s older x p d before after settled h some change =
+changed-shown in-one in-row s older x p d before after settled h some change =
     let pictured = drawn s older x p h some in
     let t = told s older x p d settled pictured change.input in
-    let one-row = (one-of-all p d pictured.lawful change.input).one in
+    let one-row = in-one p d pictured.lawful change.input in
     let row = counted (λ (r : RowData). is_in_scope r.scope d) (rows_of p) (omega (arith, one-row)) in
     let r = row.0 in
     let same = in-row p d r pictured.lawful change.input row.1 row.2 in
@@ -187,12 +184,13 @@ not-true : (b : Bool) → not b ≡ true → b ≡ false
 not-true true e = cc
 not-true false e = refl
 
-pub plain-difference : (s : BookData) (older : ℕ) (x : DifferencesData) (p : PictureData) (d : Input) (r : RowData)
+pub plain-difference : HasItsLabels → (s : BookData) (older : ℕ) (x : DifferencesData) (p : PictureData)
+    (d : Input) (r : RowData)
     → IsSettled s → AreDifferences s older x → x.picture ≡ Some p → IsPlain s.stack → p.spent ≡ false → IsInput d
     → Contains (changed_rows x) r → is_in_scope r.scope d ≡ true → (label : ℕ) × (both : PartAnswers)
     × (r.labels ≡ label ∷ []) × (slice_get x.pairs label ≡ Some both) × Differ both
     × Answers (old_of s older) d both.older × Answers (new_of s older) d both.newer
-plain-difference s older x p d r settled h some plain whole input there on =
+plain-difference in-row s older x p d r settled h some plain whole input there on =
     let pictured = drawn s older x p h some in
     let t = told s older x p d settled pictured input in
     let keeps = λ (q : RowData). not (is_unchanged (length x.pairs) q.labels) in

@@ -1,6 +1,1 @@
-pub mod TextLemmas
-pub mod PartLemmas
-pub mod SpanLemmas
-pub mod ForkLemmas
-pub mod RowLemmas
 pub mod DifferenceLemmas

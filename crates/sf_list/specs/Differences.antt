@@ -1,5 +1,5 @@
 -- What differs between the answers of two stacks that were explored as one, and the rows that show it.
-use Rattle.std.specs.Prelude.{◌≡◌, ◌≢◌, ◌⊎◌, ℕ, ◌+◌, ◌*◌, ◌<◌, ◌^◌, ◌==◌, not, Bool, false, List, [], ◌∷◌, ◌++◌, codes, All, length, map, count_by, Option, None, Some, MatchOption, slice_get, slice_index}
+use Rattle.std.specs.Prelude.{◌≡◌, ℕ, ◌+◌, ◌<◌, ◌==◌, not, Bool, false, List, [], ◌∷◌, ◌++◌, codes, All, length, map, count_by, Option, None, Some, MatchOption, slice_get, slice_index}
 use Rattle.std.specs.List.{filter, flat_map}
 use Rattle.std.specs.List.Sorted.{IsNonDecreasingBy}
 use Rattle.std.specs.Fmt.{decimal}
@@ -11,26 +11,10 @@ use Rattle.sf_picture.specs.Pictures.{IsAttainedEverywhere, IsDetermined, IsPict
 use Rattle.sf_policy.specs.Names.{NamesData}
 use Rattle.sf_policy.specs.Texts.{line}
 use Rattle.sf_compare.specs.Changes.{AreAnswersOf}
-use Rattle.sf_compare.specs.Comparisons.{Compared, answer_words, comparison_text}
-use Rattle.sf_list.specs.Answers.{answer_order}
-use Rattle.sf_list.specs.Rows.{RowData}
-use Rattle.sf_list.specs.Lines.{is_undetermined, row_line}
-use Rattle.sf_list.specs.Listings.{listed_rows}
-
--- the two answers differ: in the action or in its data
-abbrev pub Differ : PartAnswers → Type 0
-Differ both = both.older ≢ both.newer
-
--- a number by which pairs of answers are put in order: by the old stack's answers, and then by those of the new one
-abbrev pub pair_order : PartAnswers → ℕ
-pair_order both = answer_order both.older * 2 ^ 48 + answer_order both.newer
-
--- A label of two answers: the first place that they have among the pairs, where they differ; and the number behind all
--- places, where they are the same.
-abbrev pub IsLabelOf : List PartAnswers → PartAnswers → ℕ → Type 0
-IsLabelOf pairs both label =
-    (Differ both × (slice_get pairs label ≡ Some both) × ((n : ℕ) → n < label → slice_get pairs n ≢ Some both))
-    ⊎ ((both.older ≡ both.newer) × (label ≡ length pairs))
+use Rattle.sf_compare.specs.Comparisons.{Compared, comparison_text}
+use Rattle.sf_rows.specs.Pairs.{Differ, IsLabelOf, pair_order, pairs_words}
+use Rattle.sf_rows.specs.Rows.{RowData, listed_rows}
+use Rattle.sf_rows.specs.Lines.{is_undetermined, row_line}
 
 -- the label of each region is that of the answers of both stacks to its members
 pub record TellPairs (s : BookData) (older : ℕ) (pairs : List PartAnswers) (labels : List ℕ) : Type 0 where
@@ -73,14 +57,6 @@ changed_of count rows = filter (λ (r : RowData). not (is_unchanged count r.labe
 -- the rows in which the answers of both stacks differ
 abbrev pub changed_rows : DifferencesData → List RowData
 changed_rows x = changed_of (length x.pairs) (listed_rows x.picture)
-
--- two answers
-abbrev pub pair_words : PartAnswers → List ℕ
-pair_words both = answer_words both.older ++ (codes " -> " ++ answer_words both.newer)
-
--- the words of all labels
-abbrev pub pairs_words : List PartAnswers → List (List ℕ)
-pairs_words pairs = map pair_words pairs ++ codes "unchanged" ∷ []
 
 -- how many rows there are, and how many of them have several labels
 abbrev pub changed_line : List RowData → List ℕ

@@ -13,11 +13,10 @@ use Rattle.sf_picture.specs.Pictures.{IsAttainedEverywhere, IsDetermined, IsPict
 use Rattle.sf_picture.specs.Answering.{TellAnswers}
 use Rattle.sf_policy.specs.Filters.{SpellStack}
 use Rattle.sf_policy.specs.Names.{NamesData}
-use Rattle.sf_policy.specs.Texts.{counts_line, line}
-use Rattle.sf_list.specs.Answers.{AreFirstPlaces, answer_order}
-use Rattle.sf_list.specs.Rows.{RowData, rows_of}
-use Rattle.sf_compare.specs.Comparisons.{answer_words}
-use Rattle.sf_list.specs.Lines.{row_line, is_undetermined}
+use Rattle.sf_policy.specs.Texts.{answer_words, counts_line, line}
+use Rattle.sf_rows.specs.Answers.{AreFirstPlaces, answer_order}
+use Rattle.sf_rows.specs.Rows.{RowData, listed_rows, rows_of}
+use Rattle.sf_rows.specs.Lines.{row_line, is_undetermined}
 
 -- How an exploration ended, the answers of its regions, and where no piece is outstanding its picture, whose labels are
 -- places of the answers.
@@ -54,11 +53,6 @@ listing_title = line (codes "seccomp_audit" ∷ codes "list" ∷ codes "1" ∷ [
 abbrev pub stack_line : List (List Insn) → List ℕ
 stack_line programs = line (codes "filters" ∷ decimal (length programs) ∷ codes "path"
     ∷ decimal (path_length programs) ∷ [])
-
--- the rows that are listed: all rows of the picture, if there is one
-abbrev pub listed_rows : Option PictureData → List RowData
-listed_rows None = []
-listed_rows (Some p) = rows_of p
 
 -- how many rows there are, and how many of them have several answers
 abbrev pub total_line : List RowData → List ℕ

@@ -7,12 +7,11 @@ ghost use Rattle.sf_policy.specs.declared.fault.Fault.TheVariants.{Memory as Mem
 ghost use Rattle.sf_list.specs.Differences.{changed_line, changed_of, changed_rows, compared_text, differences_text, drawn_line, is_unchanged};
 
 use crate::differences::Differences;
-use crate::lines::push_rows;
-use crate::pairs::all_words;
-use crate::rows::{Row, count_undetermined, rows_in};
 use sf_compare::{Comparison, text_of_comparison};
 use sf_picture::Picture;
 use sf_policy::{Fault, Names, write_bytes};
+use sf_rows::pairs::all_words;
+use sf_rows::{Row, count_undetermined, push_rows, rows_in};
 use std::alloc::{AllocError, Global};
 use std::io::Write;
 

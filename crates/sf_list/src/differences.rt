@@ -4,13 +4,14 @@ ghost use Rattle.std.specs.Prelude.{◌≡◌, ◌<◌, ◌≤◌, All, Contains
 ghost use Rattle.std.specs.List.Sorted.{IsNonDecreasingBy};
 ghost use Rattle.sf_run.specs.declared.replaying.PartAnswers.{PartAnswers as APair};
 ghost use Rattle.sf_compare.specs.Changes.{AreAnswersOfRegions};
-ghost use Rattle.sf_list.specs.Differences.{AreDifferences, ArePictured, Differ, pair_order};
+ghost use Rattle.sf_list.specs.Differences.{AreDifferences, ArePictured};
+ghost use Rattle.sf_rows.specs.Pairs.{Differ, pair_order};
 
-use crate::pairs::{labels_of, pairs_of};
 use sf_book::Settled;
 use sf_compare::{Comparison, answers_of_regions};
 use sf_picture::{Picture, picture_of};
 use sf_policy::Fault;
+use sf_rows::pairs::{labels_of, pairs_of};
 use sf_run::PartAnswers;
 use std::alloc::Global;
 use std::marker::Model;

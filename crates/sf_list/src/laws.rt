@@ -1,6 +1,6 @@
 //! Laws of listings, each the contract of a function that does nothing.
 
-ghost use Rattle.std.specs.Prelude.{◌≡◌, ℕ, true, false, List, [], ◌∷◌, Some, Contains, count_by, slice_get};
+ghost use Rattle.std.specs.Prelude.{◌≡◌, ℕ, true, false, List, [], ◌∷◌, Some, Contains, slice_get};
 ghost use Rattle.sf_insn.specs.declared.input.Input.{Input};
 ghost use Rattle.sf_insn.specs.Inputs.{IsInput};
 ghost use Rattle.sf_check.specs.Stacks.{IsPlain};
@@ -9,23 +9,15 @@ ghost use Rattle.sf_run.specs.declared.replaying.PartAnswers.{PartAnswers};
 ghost use Rattle.sf_run.specs.Answers.{Answers};
 ghost use Rattle.sf_book.specs.Books.{BookData, IsSettled};
 ghost use Rattle.sf_picture.specs.PictureData.{PictureData};
-ghost use Rattle.sf_picture.specs.Pictures.{IsPicture, labels_at};
-ghost use Rattle.sf_list.specs.Rows.{RowData, rows_of, is_in_scope};
+ghost use Rattle.sf_rows.specs.Rows.{RowData, rows_of, is_in_scope};
 ghost use Rattle.sf_list.specs.Listings.{Listed, IsListing};
-ghost use Rattle.sf_list.specs.Differences.{AreDifferences, Differ, DifferencesData, IsLabelOf, changed_rows};
+ghost use Rattle.sf_list.specs.Differences.{AreDifferences, DifferencesData, changed_rows};
+ghost use Rattle.sf_rows.specs.Pairs.{Differ, IsLabelOf};
 ghost use Rattle.sf_compare.specs.declared.relation.Relation.TheVariants.{Different};
 ghost use Rattle.sf_compare.specs.Changes.{IsChange, new_of, old_of};
 
 use sf_picture::laws::each_input_is_shown_its_answer;
-
-/// Each input lies in exactly one row of a picture, and this row has the labels that the picture shows.
-pub fn each_input_lies_in_one_row()
-    ensures one { (p : PictureData) (d : Input) → IsPicture p → IsInput d
-        → count_by (λ r. is_in_scope r.scope d) (rows_of p) ≡ 1 }
-    ensures labels { (p : PictureData) (d : Input) (r : RowData) → IsPicture p → IsInput d
-        → Contains (rows_of p) r → is_in_scope r.scope d ≡ true
-        → r.labels ≡ labels_at p d }
-{}
+use sf_rows::laws::each_input_lies_in_one_row;
 
 /// What the stack answers to an input is among the answers of the row of its listing in which the input lies.
 pub fn each_row_has_its_answers()
@@ -37,6 +29,7 @@ pub fn each_row_has_its_answers()
         × Answers l.settled.stack d a }
 {
     each_input_is_shown_its_answer();
+    each_input_lies_in_one_row();
 }
 
 /// An input that two stacks answer differently lies in a row that is shown.
@@ -46,7 +39,9 @@ pub fn each_changed_input_is_shown()
         → x.picture ≡ Some p
         → IsChange (old_of s older) (new_of s older) Different d before after
         → (r : RowData) × Contains (changed_rows x) r × (is_in_scope r.scope d ≡ true) }
-{}
+{
+    each_input_lies_in_one_row();
+}
 
 /// What two stacks answer to an input is among the pairs of answers of the row in which the input lies, or it is the same, and
 /// then the row has the label that says so.
@@ -58,7 +53,9 @@ pub fn each_row_has_its_differences()
         → (label : ℕ) × (both : PartAnswers)
         × Contains r.labels label × IsLabelOf x.pairs both label
         × Answers (old_of s older) d both.older × Answers (new_of s older) d both.newer }
-{}
+{
+    each_input_lies_in_one_row();
+}
 
 /// On plain stacks, where the picture isn't spent, a row that is shown has one pair of answers. They differ, and the two stacks
 /// give them to each input of the row.
@@ -70,4 +67,6 @@ pub fn each_plain_row_has_one_difference()
         → (label : ℕ) × (both : PartAnswers)
         × (r.labels ≡ label ∷ []) × (slice_get x.pairs label ≡ Some both) × Differ both
         × Answers (old_of s older) d both.older × Answers (new_of s older) d both.newer }
-{}
+{
+    each_input_lies_in_one_row();
+}

@@ -2,17 +2,10 @@
 //! answers, and on which words that depends. Also the rows in which the answers of two stacks differ.
 #![tactic(auto)]
 
-mod answers;
 mod changed;
-mod conditions;
 mod differences;
 pub mod laws;
-mod lines;
 mod listing;
-mod named;
-mod pairs;
-mod parts;
-mod rows;
 mod text;
 
 pub use changed::write_differences;

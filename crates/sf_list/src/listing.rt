@@ -4,15 +4,15 @@ ghost use Rattle.std.specs.Prelude.{◌≡◌, ◌<◌, ◌≤◌, ◌⊎◌, Al
 ghost use Rattle.std.specs.List.Sorted.{IsNonDecreasingBy};
 ghost use Rattle.sf_policy.specs.Filters.{IsFirstRefusal};
 ghost use Rattle.sf_book.specs.Books.{RegionData};
-ghost use Rattle.sf_list.specs.Answers.{answer_order};
+ghost use Rattle.sf_rows.specs.Answers.{answer_order};
 ghost use Rattle.sf_list.specs.Listings.{IsListing, IsPictured};
 
-use crate::answers::{answers_of, labels_of};
 use sf_book::Settled;
 use sf_check::Stack;
 use sf_crew::{Gate, explore};
 use sf_picture::{Picture, picture_of};
 use sf_policy::{Fault, stack_of};
+use sf_rows::answers::{answers_of, labels_of};
 use sf_run::Answer;
 use std::alloc::Global;
 use std::marker::Model;
@@ -30,7 +30,7 @@ pub struct Listing {
 
 impl Model for Listing {
     ghost use Rattle.sf_book.specs.Books.{RegionData};
-    ghost use Rattle.sf_list.specs.Answers.{answer_order};
+    ghost use Rattle.sf_rows.specs.Answers.{answer_order};
     ghost use Rattle.sf_list.specs.Listings.{Listed};
 
     ghost Value = { Listed };

@@ -4,15 +4,15 @@ ghost use Rattle.std.specs.Prelude.{◌≡◌, ◌⊎◌, ◌++◌, ◌≤◌, I
 ghost use Rattle.std.specs.Io.KnownBytes.{Appends};
 ghost use Rattle.sf_policy.specs.Texts.{AppendsFront};
 ghost use Rattle.sf_policy.specs.declared.fault.Fault.TheVariants.{Memory as MemoryFault, Write as WriteFault};
-ghost use Rattle.sf_list.specs.Listings.{stack_line, head_text, listed_rows, total_line, listing_text, is_whole_listing};
+ghost use Rattle.sf_list.specs.Listings.{stack_line, head_text, total_line, listing_text, is_whole_listing};
+ghost use Rattle.sf_rows.specs.Rows.{listed_rows};
 
-use crate::answers::all_words;
-use crate::lines::push_rows;
 use crate::listing::Listing;
-use crate::rows::{Row, count_undetermined, rows_in};
 use sf_book::Settled;
 use sf_check::{Program, path_length};
 use sf_policy::{Fault, Names, push_counts, write_bytes};
+use sf_rows::answers::all_words;
+use sf_rows::{Row, count_undetermined, push_rows, rows_in};
 use std::alloc::{AllocError, Global};
 use std::io::Write;
 

@@ -6,6 +6,7 @@ use Rattle.hex.specs.Hex.{encode_lower}
 use Rattle.sf_insn.specs.declared.input.Input.{Input}
 use Rattle.sf_insn.specs.Inputs.{input_bytes}
 use Rattle.sf_run.specs.declared.action.Action.{Action}
+use Rattle.sf_run.specs.declared.action.Answer.{Answer}
 use Rattle.sf_run.specs.declared.action.Action.TheVariants.{KillProcess, KillThread, Trap, Errno, UserNotif, Trace, Log, Allow, Other}
 use Rattle.sf_book.specs.declared.book.Counts.{Counts}
 
@@ -41,6 +42,10 @@ action_text Trace = codes "TRACE"
 action_text Log = codes "LOG"
 action_text Allow = codes "ALLOW"
 action_text (Other value) = codes "OTHER:0x" ++ lower_case_digits value
+
+-- an action and its data
+abbrev pub answer_words : Answer → List ℕ
+answer_words answer = action_text answer.action ++ 32 ∷ decimal answer.info
 
 -- a writer's known bytes grew by a beginning of the text
 abbrev pub AppendsFront : Option (List ℕ) → Option (List ℕ) → List ℕ → Type 0

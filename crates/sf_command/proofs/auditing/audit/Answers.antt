@@ -1,9 +1,8 @@
 use Rattle.std.proofs.Common.{map, rules}
 use Rattle.sf_command.proofs.KeptLemmas.{kept_audit_refusal, second_weaker}
 use Rattle.sf_evaluate.specs.KeptLaws.{kept_stack}
-use Rattle.sf_evaluate.specs.FilesLaws.{kept_same}
+use Rattle.sf_evaluate.specs.FilesLaws.{kept_same, handed_on}
 use Rattle.sf_command.proofs.RefusalLemmas.{audit_why, policy_why}
-use Rattle.sf_evaluate.specs.FilesLaws.{handed_on}
 use Rattle.sf_command.proofs.auditing.audit.Goals as goal
 
 pub returns-clause-written : goal.returns-clause-written

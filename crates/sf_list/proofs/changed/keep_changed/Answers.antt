@@ -1,6 +1,6 @@
 use Rattle.std.proofs.Common.{not, rules}
 use Rattle.std.proofs.lemmas.Fn.{filter_same}
-use Rattle.sf_list.specs.Rows.{RowData}
+use Rattle.sf_rows.specs.Rows.{RowData}
 use Rattle.sf_list.specs.Differences.{is_unchanged}
 use Rattle.sf_list.proofs.changed.keep_changed.Goals as goal
 

@@ -1,18 +1,13 @@
 use Rattle.std.proofs.Common.{◌≡◌, sym, subst}
 use Rattle.std.specs.Prelude.{MatchOption, Contains, ◌<◌, length}
-use Rattle.sf_picture.specs.Pictures.{labels_at}
-use Rattle.sf_list.specs.Rows.{rows_of}
 use Rattle.sf_list.specs.Listings.{IsPictured}
-use Rattle.sf_list.proofs.RowLemmas.{one-of-all, row-labels}
 use Rattle.sf_list.proofs.laws.each_row_has_its_answers.Goals as goal
 
 pub returns : goal.returns
 returns c = λ files budget l p d r h some input there on.
     let pictured : IsPictured l.settled l.answers p =
     subst (λ o. MatchOption o (0 < length l.settled.outstanding) (IsPictured l.settled l.answers)) some h.picture in
-    let labels = row-labels d (labels_at p d) (rows_of p) (one-of-all p d pictured.lawful input).labels
-    there.0 r there.1
-    there.2 on in
+    let labels = c.each_input_lies_in_one_row.ensures.labels p d r pictured.lawful input there on in
     let shown = c.each_input_is_shown_its_answer.ensures l.settled l.answers p d (record {
       settled = h.end.settled;
       none_left = pictured.none_left;

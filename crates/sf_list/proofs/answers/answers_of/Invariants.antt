@@ -1,8 +1,0 @@
-use Rattle.std.proofs.Common.{take}
-use Rattle.std.specs.Prelude.{All, Contains}
-use Rattle.sf_book.specs.Books.{RegionData}
-use Rattle.sf_list.proofs.answers.answers_of.Given as goal
-
-abbrev pub invariant-loop-place : goal.invariant-loop-place
-invariant-loop-place l =
-    All (λ (r : RegionData). Contains l.answers.items r.answer) (take l.place l.settled.regions)

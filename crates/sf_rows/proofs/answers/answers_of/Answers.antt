@@ -1,0 +1,34 @@
+use Rattle.std.proofs.Common.{◌≡◌, ◌<◌, length, arith, get_or, take, subst, sym}
+use Rattle.std.specs.Prelude.{All, Contains}
+use Rattle.std.proofs.lemmas.List.{take_all}
+use Rattle.std.proofs.lemmas.List.Elements.{All-more, All-weaker}
+use Rattle.std.proofs.lemmas.List.Sorted.{Contains-permutation}
+use Rattle.std.proofs.lemmas.Option.{get_or_from_slice_get, slice_get_within}
+use Rattle.sf_book.specs.Books.{RegionData}
+use Rattle.sf_rows.proofs.answers.answers_of.Goals as goal
+
+pub loop-place-preserved : goal.loop-place-preserved
+loop-place-preserved c =
+    let rs = c.args.settled.now.regions in
+    let r : RegionData = c.region.result.now in
+    let answers = c.push_once.new.answers.items in
+    let within = slice_get_within rs c.loop-place.place r c.region.ensures.value in
+    let is : get_or rs c.loop-place.place r ≡ r =
+    get_or_from_slice_get rs c.loop-place.place r r c.region.ensures.value in
+    let has : Contains answers r.answer = subst (Contains answers) c.answer.ensures c.in_ok-push_once.ensures.has in
+    All-more (λ (x : RegionData). Contains answers x.answer) rs c.loop-place.place r within
+    (All-weaker (λ (x : RegionData). Contains c.loop-place.answers.items x.answer)
+    (λ (x : RegionData). Contains answers x.answer) (λ x old. c.in_ok-push_once.ensures.keeps x.answer old)
+    (take c.loop-place.place rs) c.loop-place.invariant)
+    (subst (λ (x : RegionData). Contains answers x.answer) (sym is) has)
+
+pub returns-clause-each : goal.returns-clause-each
+returns-clause-each c =
+    let rs = c.args.settled.now.regions in
+    let all : take c.loop-place.place rs ≡ rs =
+    take_all c.loop-place.place rs (omega (arith, c.region_count-place-end.ensures.value)) in
+    All-weaker (λ (x : RegionData). Contains c.loop-place.answers.items x.answer)
+    (λ (x : RegionData). Contains c.put_in_order.new.answers.items x.answer)
+    (λ x old. Contains-permutation c.loop-place.answers.items c.put_in_order.new.answers.items x.answer
+    c.put_in_order.ensures.permutation old) rs
+    (subst (All (λ (x : RegionData). Contains c.loop-place.answers.items x.answer)) all c.loop-place.invariant)

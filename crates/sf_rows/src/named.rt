@@ -1,0 +1,96 @@
+//! The names of the calls that a row is about, as text.
+
+ghost use Rattle.std.specs.Prelude.{◌≡◌, ◌++◌, OnOk, string_bytes};
+ghost use Rattle.sf_policy.specs.Names.{names_words};
+ghost use Rattle.sf_rows.specs.Lines.{names_in_part, names_in_spans, number_of, only_arch, row_names};
+
+use crate::parts::{Part, Span};
+use crate::rows::Scope;
+use sf_policy::{Names, push_names_between};
+use std::alloc::AllocError;
+
+/// The number of spans that are one number.
+fn number_of(spans: &[Span]) -> Option<u32>
+    ensures { result ≡ number_of spans.now }
+{
+    match spans {
+        [span] => {
+            if span.first == span.last {
+                Some(span.first)
+            } else {
+                None
+            }
+        }
+        _ => None,
+    }
+}
+
+/// The architecture that is meant, where it is only one.
+fn only_arch(arch: &Option<Part>) -> Option<u32>
+    ensures { result ≡ only_arch arch.now }
+{
+    match arch {
+        Some(part) => {
+            if part.is_rest() {
+                return None;
+            }
+            number_of(part.spans())
+        }
+        None => None,
+    }
+}
+
+/// Adds the names of the calls of an architecture whose numbers are in these spans.
+fn push_names_in_spans(
+    text: &mut String,
+    names: &[Names],
+    arch: u32,
+    spans: &[Span],
+) -> Result<(), AllocError>
+    ensures { OnOk result (string_bytes text.new ≡ string_bytes text.old
+        ++ names_words 0 (names_in_spans names.now arch spans.now)) }
+{
+    let mut count = 0;
+    for span in spans {
+        count = push_names_between(text, count, names, arch, span.first, span.last)?;
+    }
+    Ok(())
+}
+
+/// Adds the names of the calls of an architecture whose numbers are in a part; none for a rest, or where all numbers are
+/// meant.
+fn push_names_in_part(
+    text: &mut String,
+    names: &[Names],
+    arch: u32,
+    nr: &Option<Part>,
+) -> Result<(), AllocError>
+    ensures { OnOk result (string_bytes text.new ≡ string_bytes text.old
+        ++ names_words 0 (names_in_part names.now arch nr.now)) }
+{
+    match nr {
+        Some(part) => {
+            if part.is_rest() {
+                return Ok(());
+            }
+            push_names_in_spans(text, names, arch, part.spans())
+        }
+        None => Ok(()),
+    }
+}
+
+/// Adds the names of the calls that a row is about. There are none where it is about several architectures, since one number
+/// stands for different calls there; and none where it is about all numbers.
+pub(crate) fn push_row_names(
+    text: &mut String,
+    names: &[Names],
+    scope: &Scope,
+) -> Result<(), AllocError>
+    ensures { OnOk result (string_bytes text.new ≡ string_bytes text.old
+        ++ names_words 0 (row_names names.now scope.now)) }
+{
+    match only_arch(scope.arch()) {
+        Some(arch) => push_names_in_part(text, names, arch, scope.nr()),
+        None => Ok(()),
+    }
+}

@@ -1,0 +1,375 @@
+//! Parts of forks: the numbers that lead to the same.
+
+ghost use Rattle.std.specs.Prelude.{◌≡◌, ◌<◌, ◌≤◌, ◌+◌, ◌-◌, ◌++◌, ◌∷◌, [], true, false, if◌then◌else◌, length, slice_index_or, OnOk, IfErr, IfOk};
+ghost use Rattle.sf_policy.specs.declared.fault.Fault.TheVariants.{Memory as MemoryFault};
+ghost use Rattle.sf_picture.specs.Pictures.{RiseFrom};
+ghost use Rattle.sf_rows.specs.declared.parts.Span.{Span as ASpan};
+ghost use Rattle.sf_rows.specs.Parts.{EndsApart, same_branch, with_span, names_part, count_after, has_branch, branches_after, largest_of, part_to, parts_but, parts_to, fork_parts, run_parts, span_of};
+
+use sf_picture::{Branch, Run};
+use sf_policy::Fault;
+use std::alloc::{AllocError, Global};
+use std::marker::Model;
+use std::sync::Arc;
+
+/// Numbers from the first to the last.
+#[derive(Clone, Copy, Debug, PartialEq, Eq)]
+pub(crate) struct Span {
+    pub(crate) first: u32,
+    pub(crate) last: u32,
+}
+
+/// The numbers of a fork that lead to a branch: its spans, or for the part that is named by what it isn't all others.
+#[derive(Drop)]
+pub(crate) struct Part {
+    next: Branch,
+    is_rest: bool,
+    spans: Arc<Vec<Span>>,
+}
+
+impl Model for Part {
+    ghost use Rattle.sf_rows.specs.Parts.{PartData};
+
+    ghost Value = { PartData };
+
+    ghost view = { λ p. record {
+      next = p.next;
+      is_rest = p.is_rest;
+      spans = p.spans.value.items;
+    } };
+}
+
+impl Part {
+    /// A part. `Memory` where an allocation is refused.
+    fn of(alloc: Global, next: Branch, is_rest: bool, spans: Vec<Span>) -> Result<Part, Fault>
+        ensures made { IfOk result (λ p. p
+            ≡ record { next = next; is_rest = is_rest; spans = spans.items }) }
+        ensures refused { IfErr result (λ e. e ≡ MemoryFault) }
+    {
+        let spans = Arc::new(alloc, spans)?;
+        Ok(Part {
+            next,
+            is_rest,
+            spans,
+        })
+    }
+
+    /// The same again. `Memory` where it has too many owners.
+    pub(crate) fn again(&self) -> Result<Part, Fault>
+        ensures same { IfOk result (λ p. p ≡ self.now) }
+        ensures refused { IfErr result (λ e. e ≡ MemoryFault) }
+    {
+        let spans = Arc::try_clone(&self.spans)?;
+        Ok(Part {
+            next: self.next,
+            is_rest: self.is_rest,
+            spans,
+        })
+    }
+
+    /// Where its numbers lead.
+    pub(crate) fn next(&self) -> Branch
+        ensures { result ≡ self.now.next }
+    {
+        self.next
+    }
+
+    /// Whether it is named by what it isn't.
+    pub(crate) fn is_rest(&self) -> bool
+        ensures { result ≡ self.now.is_rest }
+    {
+        self.is_rest
+    }
+
+    /// The spans that name it.
+    pub(crate) fn spans(&self) -> &[Span]
+        ensures { result.now ≡ self.now.spans }
+    {
+        self.spans.as_slice()
+    }
+}
+
+/// Whether two branches are the same.
+fn is_same(left: Branch, right: Branch) -> bool
+    ensures { result ≡ same_branch left right }
+{
+    match (left, right) {
+        (Branch::Leaf(i), Branch::Leaf(j)) => i == j,
+        (Branch::Fork(i), Branch::Fork(j)) => i == j,
+        _ => false,
+    }
+}
+
+/// Whether the last of some spans, if there is one, ends right below a number.
+fn is_touched(spans: &Vec<Span>, first: u32) -> bool
+    ensures some { result ≡ true → 0 < length spans.now.items }
+    ensures touched { result ≡ true → (d : ASpan)
+        → (slice_index_or spans.now.items (length spans.now.items - 1) d).last + 1 ≡ first }
+    ensures apart { result ≡ false → EndsApart spans.now.items first }
+{
+    let count = spans.len();
+    if count == 0 {
+        return false;
+    }
+    let newest = spans[count - 1];
+    newest.last as u64 + 1 == first as u64
+}
+
+/// Adds a span, or lets the last one go on where it touches it.
+fn push_span(spans: &mut Vec<Span>, span: Span) -> Result<(), AllocError>
+    ensures { OnOk result (spans.new.items ≡ with_span spans.old.items span) }
+{
+    if is_touched(spans, span.first) {
+        let count = spans.len();
+        let first = spans[count - 1].first;
+        let last = span.last;
+        spans[count - 1] = Span { first, last };
+        return Ok(());
+    }
+    spans.push(span)?;
+    Ok(())
+}
+
+/// Whether a run is one of those that name the part of a branch.
+fn is_named(branch: Branch, is_rest: bool, next: Branch) -> bool
+    ensures { result ≡ names_part branch is_rest next }
+{
+    if is_rest {
+        !is_same(next, branch)
+    } else {
+        is_same(next, branch)
+    }
+}
+
+/// The numbers of a run, from a first one on.
+fn span_from(first: u64, run: Run) -> Span
+    requires { first ≤ run.last }
+    ensures { result ≡ span_of first run.last }
+{
+    let last = run.last;
+    Span {
+        first: first as u32,
+        last,
+    }
+}
+
+/// Adds the span of a run from a first number on, if the run is one of those that name the part of a branch.
+fn push_named(
+    spans: &mut Vec<Span>,
+    is_rest: bool,
+    branch: Branch,
+    first: u64,
+    run: Run,
+) -> Result<(), AllocError>
+    requires { first ≤ run.last }
+    ensures { OnOk result (spans.new.items ≡ (if names_part branch is_rest run.next
+        then with_span spans.old.items (span_of first run.last) else spans.old.items)) }
+{
+    if is_named(branch, is_rest, run.next) {
+        return push_span(spans, span_from(first, run));
+    }
+    Ok(())
+}
+
+/// The spans of the runs that name the part of a branch.
+fn spans_of(
+    alloc: Global,
+    runs: &[Run],
+    is_rest: bool,
+    branch: Branch,
+) -> Result<Vec<Span>, AllocError>
+    requires { RiseFrom 0 runs.now }
+    ensures { IfOk result (λ v. v.items ≡ (part_to runs.now is_rest branch).spans) }
+{
+    let mut spans = Vec::new(alloc);
+    let mut next = 0u64;
+    for run in runs {
+        push_named(&mut spans, is_rest, branch, next, *run)?;
+        next = run.last as u64 + 1;
+    }
+    Ok(spans)
+}
+
+/// The part that leads to a branch. `Memory` where an allocation is refused.
+fn part_of(alloc: Global, runs: &[Run], is_rest: bool, branch: Branch) -> Result<Part, Fault>
+    requires { RiseFrom 0 runs.now }
+    ensures made { IfOk result (λ p. p ≡ part_to runs.now is_rest branch) }
+    ensures refused { IfErr result (λ e. e ≡ MemoryFault) }
+{
+    let spans = spans_of(alloc, runs, is_rest, branch)?;
+    Part::of(alloc, branch, is_rest, spans)
+}
+
+/// How many numbers of a run lead to a branch, from a first number on.
+fn count_in(run: Run, first: u64, branch: Branch) -> u64
+    requires { first ≤ run.last }
+    ensures few { result ≤ 4294967296 }
+    ensures value { result ≡ (if same_branch run.next branch then run.last + 1 - first else 0) }
+{
+    if is_same(run.next, branch) {
+        return run.last as u64 + 1 - first;
+    }
+    0
+}
+
+/// How many numbers lead to a branch.
+fn count_of(runs: &[Run], branch: Branch) -> u64
+    requires { RiseFrom 0 runs.now }
+    ensures { result ≡ count_after branch 0 runs.now }
+{
+    let mut count = 0;
+    let mut first = 0;
+    for run in runs {
+        count += count_in(*run, first, branch);
+        first = run.last as u64 + 1;
+    }
+    count
+}
+
+/// Whether a branch is among others.
+fn has(branches: &[Branch], branch: Branch) -> bool
+    ensures { result ≡ has_branch branches.now branch }
+{
+    for one in branches {
+        if is_same(*one, branch) {
+            return true;
+        }
+    }
+    false
+}
+
+/// Adds a branch, unless it is there.
+fn push_once(branches: &mut Vec<Branch>, branch: Branch) -> Result<(), AllocError>
+    ensures { OnOk result (branches.new.items ≡ (if has_branch branches.old.items branch
+        then branches.old.items else branches.old.items ++ branch ∷ [])) }
+{
+    if has(branches.as_slice(), branch) {
+        return Ok(());
+    }
+    branches.push(branch)?;
+    Ok(())
+}
+
+/// The branches that runs lead to, each once, by their least numbers.
+fn branches_of(alloc: Global, runs: &[Run]) -> Result<Vec<Branch>, AllocError>
+    ensures { IfOk result (λ v. v.items ≡ branches_after [] runs.now) }
+{
+    let mut branches = Vec::new(alloc);
+    for run in runs {
+        push_once(&mut branches, run.next)?;
+    }
+    Ok(branches)
+}
+
+/// Of a branch and others the first one to which most numbers lead.
+fn largest(runs: &[Run], branch: Branch, others: &[Branch]) -> Branch
+    requires { RiseFrom 0 runs.now }
+    ensures { result ≡ largest_of runs.now branch others.now }
+{
+    let mut largest = branch;
+    let mut most = count_of(runs, branch);
+    for other in others {
+        let count = count_of(runs, *other);
+        if most < count {
+            largest = *other;
+            most = count;
+        }
+    }
+    largest
+}
+
+/// Adds the part that leads to a branch, unless this is the rest. `Memory` where an allocation is refused.
+fn push_part(
+    alloc: Global,
+    parts: &mut Vec<Part>,
+    runs: &[Run],
+    rest: Branch,
+    branch: Branch,
+) -> Result<(), Fault>
+    requires { RiseFrom 0 runs.now }
+    ensures added { IfOk result (λ _. parts.new.items ≡ (if same_branch branch rest
+        then parts.old.items else parts.old.items ++ part_to runs.now false branch ∷ [])) }
+    ensures refused { IfErr result (λ e. e ≡ MemoryFault) }
+{
+    if is_same(branch, rest) {
+        return Ok(());
+    }
+    let part = part_of(alloc, runs, false, branch)?;
+    parts.push(part)?;
+    Ok(())
+}
+
+/// A part for each branch, but for the one that leads to the rest. `Memory` where an allocation is refused.
+fn parts_without(
+    alloc: Global,
+    runs: &[Run],
+    rest: Branch,
+    branches: &[Branch],
+) -> Result<Vec<Part>, Fault>
+    requires { RiseFrom 0 runs.now }
+    ensures made { IfOk result (λ v. v.items ≡ parts_but runs.now rest branches.now) }
+    ensures refused { IfErr result (λ e. e ≡ MemoryFault) }
+{
+    let mut parts = Vec::new(alloc);
+    for branch in branches {
+        push_part(alloc, &mut parts, runs, rest, *branch)?;
+    }
+    Ok(parts)
+}
+
+/// A part for each of some branches, the one to which most numbers lead last. `Memory` where an allocation is refused.
+fn parts_of_branches(alloc: Global, runs: &[Run], branches: &[Branch]) -> Result<Vec<Part>, Fault>
+    requires { RiseFrom 0 runs.now }
+    ensures made { IfOk result (λ v. v.items ≡ parts_to runs.now branches.now) }
+    ensures refused { IfErr result (λ e. e ≡ MemoryFault) }
+{
+    let [first, others @ ..] = branches else {
+        return Ok(Vec::new(alloc));
+    };
+    let rest = largest(runs, *first, others);
+    let mut parts = parts_without(alloc, runs, rest, branches)?;
+    let part = part_of(alloc, runs, true, rest)?;
+    parts.push(part)?;
+    Ok(parts)
+}
+
+/// The parts of a fork by their least numbers, and the one with most numbers last. `Memory` where an allocation is refused.
+pub(crate) fn parts_of(alloc: Global, runs: &[Run]) -> Result<Vec<Part>, Fault>
+    requires { RiseFrom 0 runs.now }
+    ensures made { IfOk result (λ v. v.items ≡ fork_parts runs.now) }
+    ensures refused { IfErr result (λ e. e ≡ MemoryFault) }
+{
+    let branches = branches_of(alloc, runs)?;
+    parts_of_branches(alloc, runs, branches.as_slice())
+}
+
+/// The part of one run. `Memory` where an allocation is refused.
+fn part_of_run(alloc: Global, first: u64, run: Run) -> Result<Part, Fault>
+    requires { first ≤ run.last }
+    ensures made { IfOk result (λ p. p ≡ record {
+      next = run.next;
+      is_rest = false;
+      spans = span_of first run.last ∷ [];
+    }) }
+    ensures refused { IfErr result (λ e. e ≡ MemoryFault) }
+{
+    let mut spans = Vec::new(alloc);
+    spans.push(span_from(first, run))?;
+    Part::of(alloc, run.next, false, spans)
+}
+
+/// Each run of a fork as a part. `Memory` where an allocation is refused.
+pub(crate) fn runs_apart(alloc: Global, runs: &[Run]) -> Result<Vec<Part>, Fault>
+    requires { RiseFrom 0 runs.now }
+    ensures made { IfOk result (λ v. v.items ≡ run_parts 0 runs.now) }
+    ensures refused { IfErr result (λ e. e ≡ MemoryFault) }
+{
+    let mut parts = Vec::new(alloc);
+    let mut next = 0u64;
+    for run in runs {
+        let part = part_of_run(alloc, next, *run)?;
+        parts.push(part)?;
+        next = run.last as u64 + 1;
+    }
+    Ok(parts)
+}

@@ -1,0 +1,306 @@
+//! The rows of a picture.
+
+ghost use Rattle.std.specs.Prelude.{◌≡◌, ◌++◌, ◌∷◌, ◌≤◌, [], count_by, length, option_map, IfErr, IfOk};
+ghost use Rattle.sf_policy.specs.declared.fault.Fault.TheVariants.{Memory as MemoryFault};
+ghost use Rattle.sf_picture.specs.Pictures.{IsBelow, RiseFrom};
+ghost use Rattle.sf_rows.specs.Lines.{is_undetermined};
+ghost use Rattle.sf_rows.specs.Rows.{is_whole, listed_rows, scope_within, whole_scope, rows_along, rows_of, parts_at};
+
+use crate::parts::{Part, parts_of, runs_apart};
+use sf_picture::{Axis, Branch, Fork, Picture};
+use sf_policy::Fault;
+use std::alloc::Global;
+use std::marker::Model;
+
+/// A part of an axis, in which inputs have their numbers.
+#[derive(Drop)]
+pub(crate) struct Condition {
+    axis: Axis,
+    part: Part,
+}
+
+impl Model for Condition {
+    ghost use Rattle.sf_rows.specs.Rows.{ConditionData};
+
+    ghost Value = { ConditionData };
+
+    ghost view = { λ c. record { axis = c.axis; part = c.part } };
+}
+
+impl Condition {
+    /// The axis.
+    pub(crate) fn axis(&self) -> Axis
+        ensures { result ≡ self.now.axis }
+    {
+        self.axis
+    }
+
+    /// The part of it.
+    pub(crate) fn part(&self) -> &Part
+        ensures { result.now ≡ self.now.part }
+    {
+        &self.part
+    }
+
+    /// The same again. `Memory` where the part has too many owners.
+    fn again(&self) -> Result<Condition, Fault>
+        ensures same { IfOk result (λ c. c ≡ self.now) }
+        ensures refused { IfErr result (λ e. e ≡ MemoryFault) }
+    {
+        let axis = self.axis;
+        let part = self.part.again()?;
+        Ok(Condition { axis, part })
+    }
+}
+
+/// Which inputs a row is about: the architectures and the call numbers that they have, where not all are meant, and further
+/// conditions.
+#[derive(Drop)]
+pub(crate) struct Scope {
+    arch: Option<Part>,
+    nr: Option<Part>,
+    conditions: Vec<Condition>,
+}
+
+impl Model for Scope {
+    ghost use Rattle.sf_rows.specs.Rows.{ScopeData};
+
+    ghost Value = { ScopeData };
+
+    ghost view = { λ p. record {
+      arch = p.arch;
+      nr = p.nr;
+      conditions = p.conditions.items;
+    } };
+}
+
+/// The same part again, if there is one. `Memory` where it has too many owners.
+fn part_again(part: &Option<Part>) -> Result<Option<Part>, Fault>
+    ensures same { IfOk result (λ p. p ≡ part.now) }
+    ensures refused { IfErr result (λ e. e ≡ MemoryFault) }
+{
+    match part {
+        Some(part) => {
+            let same = part.again()?;
+            Ok(Some(same))
+        }
+        None => Ok(None),
+    }
+}
+
+/// The same conditions again. `Memory` where an allocation is refused.
+fn conditions_again(alloc: Global, conditions: &[Condition]) -> Result<Vec<Condition>, Fault>
+    ensures same { IfOk result (λ v. v.items ≡ conditions.now) }
+    ensures refused { IfErr result (λ e. e ≡ MemoryFault) }
+{
+    let mut copy = Vec::new(alloc);
+    for condition in conditions {
+        let same = condition.again()?;
+        copy.push(same)?;
+    }
+    Ok(copy)
+}
+
+/// Whether an axis is a whole word.
+fn is_word(axis: Axis, word: usize) -> bool
+    ensures { result ≡ is_whole axis word }
+{
+    axis.word == word && axis.mask == u32::MAX
+}
+
+impl Scope {
+    ghost use Rattle.sf_rows.specs.Rows.{scope_within, whole_scope};
+
+    /// All inputs.
+    fn whole(alloc: Global) -> Scope
+        ensures { result ≡ whole_scope }
+    {
+        Scope {
+            arch: None,
+            nr: None,
+            conditions: Vec::new(alloc),
+        }
+    }
+
+    /// The architectures, where not all are meant.
+    pub(crate) fn arch(&self) -> &Option<Part>
+        ensures { result.now ≡ self.now.arch }
+    {
+        &self.arch
+    }
+
+    /// The call numbers, where not all are meant.
+    pub(crate) fn nr(&self) -> &Option<Part>
+        ensures { result.now ≡ self.now.nr }
+    {
+        &self.nr
+    }
+
+    /// The further conditions.
+    pub(crate) fn conditions(&self) -> &[Condition]
+        ensures { result.now ≡ self.now.conditions }
+    {
+        self.conditions.as_slice()
+    }
+
+    /// The same again. `Memory` where an allocation is refused.
+    fn again(&self, alloc: Global) -> Result<Scope, Fault>
+        ensures same { IfOk result (λ p. p ≡ self.now) }
+        ensures refused { IfErr result (λ e. e ≡ MemoryFault) }
+    {
+        let arch = part_again(&self.arch)?;
+        let nr = part_again(&self.nr)?;
+        let conditions = conditions_again(alloc, self.conditions.as_slice())?;
+        Ok(Scope {
+            arch,
+            nr,
+            conditions,
+        })
+    }
+
+    /// Leaves only inputs with their numbers in a part of an axis. `Memory` where an allocation is refused.
+    fn narrow(&mut self, axis: Axis, part: Part) -> Result<(), Fault>
+        ensures within { IfOk result (λ _. self.new ≡ scope_within self.old axis part) }
+        ensures refused { IfErr result (λ e. e ≡ MemoryFault) }
+    {
+        if is_word(axis, 1) && self.arch.is_none() {
+            self.arch = Some(part);
+        } else if is_word(axis, 0) && self.nr.is_none() {
+            self.nr = Some(part);
+        } else {
+            self.conditions.push(Condition { axis, part })?;
+        }
+        Ok(())
+    }
+}
+
+/// A row: which inputs it is about, and the labels of its answers.
+#[derive(Drop)]
+pub struct Row {
+    scope: Scope,
+    labels: Vec<usize>,
+}
+
+impl Model for Row {
+    ghost use Rattle.sf_rows.specs.Rows.{RowData};
+
+    ghost Value = { RowData };
+
+    ghost view = { λ r. record { scope = r.scope; labels = r.labels.items } };
+}
+
+impl Row {
+    /// Which inputs it is about.
+    pub(crate) fn scope(&self) -> &Scope
+        ensures { result.now ≡ self.now.scope }
+    {
+        &self.scope
+    }
+
+    /// The labels of its answers.
+    pub fn labels(&self) -> &[usize]
+        ensures { result.now ≡ self.now.labels }
+    {
+        self.labels.as_slice()
+    }
+}
+
+/// The parts of a fork: of call numbers each run by itself. `Memory` where an allocation is refused.
+fn parts_in(alloc: Global, fork: &Fork) -> Result<Vec<Part>, Fault>
+    requires { RiseFrom 0 fork.now.runs }
+    ensures made { IfOk result (λ v. v.items ≡ parts_at fork.now) }
+    ensures refused { IfErr result (λ e. e ≡ MemoryFault) }
+{
+    if is_word(fork.axis(), 0) {
+        return runs_apart(alloc, fork.runs());
+    }
+    parts_of(alloc, fork.runs())
+}
+
+/// Adds the row of a leaf. `Memory` where an allocation is refused.
+fn push_row(
+    alloc: Global,
+    rows: &mut Vec<Row>,
+    labels: &[usize],
+    scope: &Scope,
+) -> Result<(), Fault>
+    ensures added { IfOk result (λ _. rows.new.items ≡ rows.old.items
+        ++ record { scope = scope.now; labels = labels.now } ∷ []) }
+    ensures refused { IfErr result (λ e. e ≡ MemoryFault) }
+{
+    let scope = scope.again(alloc)?;
+    let labels = Vec::from_slice(alloc, labels)?;
+    rows.push(Row { scope, labels })?;
+    Ok(())
+}
+
+/// Of the inputs of a scope those with their numbers in a part of an axis. `Memory` where an allocation is refused.
+fn scope_with(alloc: Global, scope: &Scope, axis: Axis, part: &Part) -> Result<Scope, Fault>
+    ensures within { IfOk result (λ p. p ≡ scope_within scope.now axis part.now) }
+    ensures refused { IfErr result (λ e. e ≡ MemoryFault) }
+{
+    let part = part.again()?;
+    let mut narrower = scope.again(alloc)?;
+    narrower.narrow(axis, part)?;
+    Ok(narrower)
+}
+
+/// Adds the rows from a branch on, through at most so many forks. `Memory` where an allocation is refused.
+fn push_rows(
+    alloc: Global,
+    rows: &mut Vec<Row>,
+    picture: &Picture,
+    most: usize,
+    branch: Branch,
+    scope: &Scope,
+) -> Result<(), Fault>
+    requires forks { most ≤ length picture.now.forks }
+    requires below { IsBelow (length picture.now.leaves) most branch }
+    ensures added { IfOk result (λ _. rows.new.items ≡ rows.old.items
+        ++ rows_along picture.now most branch scope.now) }
+    ensures refused { IfErr result (λ e. e ≡ MemoryFault) }
+{
+    let place = match branch {
+        Branch::Leaf(place) => return push_row(alloc, rows, picture.leaf(place), scope),
+        Branch::Fork(place) => place,
+    };
+    let fork = picture.fork(place);
+    let parts = parts_in(alloc, fork)?;
+    let each = parts.as_slice();
+    for part in each {
+        let narrower = scope_with(alloc, scope, fork.axis(), part)?;
+        push_rows(alloc, rows, picture, most - 1, part.next(), &narrower)?;
+    }
+    Ok(())
+}
+
+/// All rows of a picture. `Memory` where an allocation is refused.
+pub(crate) fn all_rows(alloc: Global, picture: &Picture) -> Result<Vec<Row>, Fault>
+    ensures all { IfOk result (λ v. v.items ≡ rows_of picture.now) }
+    ensures refused { IfErr result (λ e. e ≡ MemoryFault) }
+{
+    let scope = Scope::whole(alloc);
+    let mut rows = Vec::new(alloc);
+    let most = picture.fork_count();
+    push_rows(alloc, &mut rows, picture, most, picture.root(), &scope)?;
+    Ok(rows)
+}
+
+/// The rows that are listed: all rows of a picture, if there is one. `Memory` where an allocation is refused.
+pub fn rows_in(alloc: Global, picture: Option<&Picture>) -> Result<Vec<Row>, Fault>
+    ensures all { IfOk result (λ v. v.items ≡ listed_rows
+        (option_map (λ p. p.now) picture.entry)) }
+    ensures refused { IfErr result (λ e. e ≡ MemoryFault) }
+{
+    match picture {
+        Some(picture) => all_rows(alloc, picture),
+        None => Ok(Vec::new(alloc)),
+    }
+}
+
+/// How many rows have several labels.
+pub fn count_undetermined(rows: &[Row]) -> usize
+    ensures { result ≡ count_by is_undetermined rows.now }
+{
+    rows.iter().filter(|row| row.labels().len() > 1).count()
+}
