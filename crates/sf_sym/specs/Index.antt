@@ -5,12 +5,12 @@ use Rattle.sf_sym.specs.declared.index.Interned.{Interned}
 use Rattle.sf_sym.specs.declared.pool.Node.{Node}
 use Rattle.sf_sym.specs.declared.pool.Node.TheVariants.{Const, Word, Bin, Neg}
 
--- equal nodes have the same hash, a number below 2039
+-- equal nodes have the same hash, a number below 509
 abbrev pub hash_of : Node → ℕ
-hash_of (Const c) = c % 2039
-hash_of (Word i) = i % 2039
-hash_of (Bin op a b) = (a.0 % 2039 * 31 + b.0 % 2039 * 7) % 2039
-hash_of (Neg a) = (a.0 % 2039 + 5) % 2039
+hash_of (Const c) = c % 509
+hash_of (Word i) = i % 509
+hash_of (Bin op a b) = (a.0 % 509 * 31 + b.0 % 509 * 7) % 509
+hash_of (Neg a) = (a.0 % 509 + 5) % 509
 
 -- the nodes, without their links
 abbrev pub nodes_of : List Interned → List Node
@@ -33,6 +33,6 @@ AreLinked es = (i : ℕ) → i < length es → IsLastWithHash (nodes_of es) i
 
 -- nodes are linked, and `heads` has the last node of each hash
 pub record IsIndexed (es : List Interned) (heads : List ℕ) : Type 0 where
-  pub buckets : length heads ≡ 2039
+  pub buckets : length heads ≡ 509
   pub linked : AreLinked es
-  pub last : (hash : ℕ) → hash < 2039 → IsLastWithHash (nodes_of es) (length es) hash (slice_index heads hash)
+  pub last : (hash : ℕ) → hash < 509 → IsLastWithHash (nodes_of es) (length es) hash (slice_index heads hash)

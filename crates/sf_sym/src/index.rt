@@ -12,7 +12,7 @@ use std::marker::Model;
 use std::sync::Arc;
 
 /// How many buckets the index has. A hash is the number of a bucket.
-const BUCKETS: usize = 2039;
+const BUCKETS: usize = 509;
 
 /// A node, and where to look next for a node of its hash.
 #[derive(Clone, Copy)]
@@ -38,7 +38,7 @@ pub type InternedNodes = SharedList<Interned, 1>;
 /// The hash of a node: equal nodes have the same one.
 fn hash(node: Node) -> usize
     ensures value { result ≡ hash_of node }
-    ensures within { result < 2039 }
+    ensures within { result < 509 }
 {
     match node {
         Node::Const(c) => c as usize % BUCKETS,
