@@ -1,7 +1,7 @@
 use Rattle.std.proofs.lemmas.Grind.{common_steps}
 use Rattle.std.proofs.Common.{◌≡◌, length, arith, ap, refl, ◌∙◌}
 use Rattle.std.specs.Arc.{arc_value}
-use Rattle.sf_sym.specs.ValueLaws.{IsPool-push, ArePlainNodes-push, value-node, value-pushed}
+use Rattle.sf_sym.specs.ValueLaws.{IsPool-push, ArePlainNodes-push, value-node, value-older, value-pushed}
 use Rattle.sf_sym.proofs.Folds.{folded_node-value, folded_node-operands}
 use Rattle.sf_sym.specs.Pool.{OperandsBelow, folded_node}
 use Rattle.sf_sym.proofs.pool.Pool.push.Goals as goal
@@ -49,3 +49,6 @@ overflow_cast-result c =
     let there = rw c.deref-3.ensures at c.in-Some.ensures.found c.in-Some.at refl in
     let count : length c.deref.result.now ≡ length (arc_value c.self.inside.nodes) = ap length c.deref.ensures in
     omega (arith, there.0, count, c.len-count.ensures.count, c.len-count.ensures.small)
+
+pub returns-clause-older : goal.returns-clause-older
+returns-clause-older c = grind (arith, common_steps, value-older)
