@@ -9,3 +9,4 @@ pub mod Stacks
 pub mod Numbers
 pub mod ContainsLaws
 pub mod ProgramLaws
+pub mod PathLengthLaws

@@ -6,6 +6,7 @@ use Rattle.std.proofs.lemmas.Option.{same_Some, slice_get-get_or, slice_get_with
 use Rattle.std.proofs.lemmas.List.{length-reverse, get_or-reverse, length-append, reverse-append}
 use Rattle.std.proofs.lemmas.List.Sums.{sum_by-append, sum_by-cons}
 use Rattle.std.proofs.lemmas.List.Elements.{recursion_from_All}
+use Rattle.sf_check.specs.PathLengthLaws.{path_length-sum}
 use Rattle.sf_check.specs.Stacks.{IsLawfulStack}
 use Rattle.sf_insn.specs.declared.input.Input.{Input}
 use Rattle.sf_insn.specs.declared.ops.BinOp.{BinOp}
@@ -243,6 +244,7 @@ trace_is_short programs d lawful =
       all_short (reverse programs) d,
       length-reverse programs,
       sum-reverse programs,
+      path_length-sum programs,
       lawful.few,
       lawful.short,
     )

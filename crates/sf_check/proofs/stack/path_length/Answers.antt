@@ -3,6 +3,7 @@ use Rattle.std.proofs.lemmas.Grind.{common_steps}
 use Rattle.std.proofs.lemmas.Bool.{cases_eq}
 use Rattle.std.proofs.lemmas.Option.{slice_get_read, slice_get_within, same_Some}
 use Rattle.sf_check.specs.Programs.{IsLawfulProgram}
+use Rattle.sf_check.specs.PathLengthLaws.{path_length-sum}
 use Rattle.sf_check.proofs.stack.path_length.Goals as goal
 
 pub loop-program-preserved : goal.loop-program-preserved
@@ -27,3 +28,6 @@ loop-program-preserved c =
 pub returns-clause-lawful : goal.returns-clause-lawful
 returns-clause-lawful c n p h =
     c.loop-program.invariant.lawful n p (omega (arith, slice_get_within c.args.programs.now n p h)) h
+
+pub returns-clause-length : goal.returns-clause-length
+returns-clause-length c = grind (arith, common_steps, path_length-sum)
