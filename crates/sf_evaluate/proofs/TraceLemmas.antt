@@ -1,6 +1,6 @@
 -- The text of a trace with one filter more, or one line.
 use Rattle.std.proofs.lemmas.Grind.{common_steps}
-use Rattle.std.proofs.Common.{arith, ◌≡◌, ℕ, suc, ◌+◌, ◌<◌, Bool, List, [], ◌∷◌, ◌++◌, codes, Option, Some, None, drop, get_or, length, slice_get, unwrap_or, append_assoc, refl}
+use Rattle.std.proofs.Common.{arith, ◌≡◌, ℕ, suc, ◌+◌, ◌<◌, Bool, List, [], ◌∷◌, ◌++◌, codes, Some, drop, get_or, length, slice_get, append_assoc, refl}
 use Rattle.std.proofs.lemmas.List.{drop_more}
 use Rattle.std.proofs.lemmas.Option.{slice_get-get_or}
 use Rattle.std.specs.Prelude.{not, ◌&&◌, ◌||◌, ◌==◌}
@@ -15,24 +15,22 @@ pub one_more_filter : (brief : Bool) (n action : ℕ) (stood stands : Bool) (pro
     (code : List Insn) (w : CourseData) (old new whole : List ℕ)
     → slice_get programs n ≡ Some code → walk_of code d ≡ Some w
     → stands ≡ (not stood && (action_bits w.value == action))
-    → new ≡ old ++ walk_text brief (n + 1) stands code w
+    → new ≡ old ++ walk_text brief (n + 1) stands w
     → old ++ filters_text brief (suc n) action programs d stood ≡ whole
     → new ++ filters_text brief n action programs d (stood || stands) ≡ whole
 one_more_filter brief n action stood stands programs d code w old new whole at ran stands_is pushed so_far =
-    let so_far' : old ++ (walk_text brief (n + 1) stands code w
+    let so_far' : old ++ (walk_text brief (n + 1) stands w
     ++ filters_text brief n action programs d (stood || stands))
     ≡ whole = rw (stands_is, ← so_far, at, ran) refl in
     rw (pushed, append_assoc old) so_far'
 
 -- the lines of what a filter meets, with one more
-pub one_more_meeting : (brief : Bool) (number : ℕ) (words : List (Option ℕ)) (met : List Meeting) (place : ℕ)
-    (d : Meeting) (word : Option ℕ) (old new whole : List ℕ)
-    → place < length met → new ≡ old ++ shown_line brief number word (get_or met place d)
-    → old ++ meeting_lines brief number words (drop place met) ≡ whole
-    → word ≡ unwrap_or (slice_get words (get_or met place d).place) None
-    → new ++ meeting_lines brief number words (drop (place + 1) met) ≡ whole
-one_more_meeting brief number words met place d word old new whole below pushed so_far is =
-    rw (pushed, append_assoc old, is) (rw (drop_more met place d below) at so_far)
+pub one_more_meeting : (brief : Bool) (number : ℕ) (met : List Meeting) (place : ℕ) (d : Meeting)
+    (old new whole : List ℕ) → place < length met → new ≡ old ++ shown_line brief number (get_or met place d)
+    → old ++ meeting_lines brief number (drop place met) ≡ whole
+    → new ++ meeting_lines brief number (drop (place + 1) met) ≡ whole
+one_more_meeting brief number met place d old new whole below pushed so_far =
+    rw (pushed, append_assoc old) (rw (drop_more met place d below) at so_far)
 
 -- the program that was read from a place of the list stands at that place
 pub program_at : (programs : List (List Insn)) (n k : ℕ) (code : List Insn) → code ≡ get_or programs k code → k ≡ n

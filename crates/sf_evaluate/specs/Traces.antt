@@ -1,12 +1,10 @@
 -- The text of `eval --trace`: the input, and how each filter comes to its return value.
-use Rattle.std.specs.Prelude.{ℕ, zero, suc, ◌+◌, ◌-◌, ◌^◌, Bool, true, false, ◌==◌, ◌&&◌, ◌||◌, not, if◌then◌else◌, List, [], ◌∷◌, ◌++◌, codes, length, Option, Some, None, slice_get, slice_index, option_map, unwrap_or}
-use Rattle.std.specs.List.{list_any}
+use Rattle.std.specs.Prelude.{ℕ, zero, suc, ◌+◌, ◌-◌, ◌^◌, Bool, true, false, ◌==◌, ◌&&◌, ◌||◌, not, if◌then◌else◌, List, [], ◌∷◌, ◌++◌, codes, length, Option, Some, None, slice_get, slice_index, option_and_then, unwrap_or}
 use Rattle.std.specs.Fmt.{decimal, digits, padded_integral, format_spec}
 use Rattle.sf_insn.specs.declared.input.Input.{Input}
 use Rattle.sf_insn.specs.declared.ops.Test.{Test}
 use Rattle.sf_insn.specs.declared.ops.Test.TheVariants.{Equal, Greater, GreaterOrEqual, AnyBit}
 use Rattle.sf_check.specs.declared.insn.Insn.{Insn}
-use Rattle.sf_check.specs.declared.insn.Insn.TheVariants.{LoadWord, LoadConstant, LoadScratch, LoadLength, Alu, Negate, Jump, Branch, Txa}
 use Rattle.sf_run.specs.declared.action.Action.{Action}
 use Rattle.sf_run.specs.declared.action.Answer.{Answer}
 use Rattle.sf_run.specs.declared.walking.Meeting.{Meeting}
@@ -63,43 +61,6 @@ last_arguments d =
 abbrev pub input_text : List NamesData → Input → List ℕ
 input_text names d = call_text names d ++ (first_arguments d ++ last_arguments d)
 
--- ---- which word A is
-
--- The word of the input that A holds after an instruction, from the one that it held before: A holds the word that was
--- loaded into it, until another value is put there.
-abbrev pub word_after : Option ℕ → Insn → Option ℕ
-word_after word (LoadWord loaded) = Some loaded
-word_after word (LoadConstant k) = None
-word_after word (LoadScratch k) = None
-word_after word LoadLength = None
-word_after word (Alu op other) = None
-word_after word Negate = None
-word_after word Txa = None
-word_after word _ = word
-
--- how many instructions a run skips after this one; if this one is a test, the truth value is its result
-abbrev pub skipped_after : Insn → Bool → ℕ
-skipped_after (Jump k) truth = k
-skipped_after (Branch test other on_true on_false) truth = if truth then on_true else on_false
-skipped_after _ truth = 0
-
--- what was met is a test that is true
-abbrev pub is_true_test : Met → Bool
-is_true_test (Tested test a other passed) = passed
-is_true_test _ = false
-
--- what a run met has a test at this place that is true
-abbrev pub is_true_at : ℕ → List Meeting → Bool
-is_true_at place met = list_any (λ m. (m.place == place) && is_true_test m.met) met
-
--- For each instruction from a place on, the word of the input that A holds when the run comes to it, from what the run
--- meets. The first `skips` of them are skipped: the run doesn't come to these.
-abbrev pub words_at : (place skips : ℕ) → Option ℕ → List Insn → List Meeting → List (Option ℕ)
-words_at place skips word [] met = []
-words_at place (suc skips) word (i ∷ code) met = word ∷ words_at (place + 1) skips word code met
-words_at place zero word (i ∷ code) met =
-    word ∷ words_at (place + 1) (skipped_after i (is_true_at place met)) (word_after word i) code met
-
 -- ---- a filter
 
 -- the sign of a test: how it compares two words
@@ -130,13 +91,12 @@ test_line number place word a sign other truth =
     codes "filter " ++ (decimal number ++ (codes " instruction "
     ++ (decimal place ++ 32 ∷ (named_text word ++ (word_text a ++ compared_text sign other truth)))))
 
--- The line of what a filter meets, where A holds this word of the input, if it holds one: a test; at a division by X,
--- whether X is 0; at a return of A, that A.
-abbrev pub meeting_line : ℕ → Option ℕ → Meeting → List ℕ
-meeting_line number word m = by m.met
+-- The line of what a filter meets: a test; at a division by X, whether X is 0; at a return of A, that A.
+abbrev pub meeting_line : ℕ → Meeting → List ℕ
+meeting_line number m = by m.met
   where
     by : Met → List ℕ
-    by (Tested test a other passed) = test_line number m.place word a (sign_text test) other passed
+    by (Tested test a other passed) = test_line number m.place m.word a (sign_text test) other passed
     by (Divided x) = test_line number m.place None x (codes "=") 0 (x == 0)
     by (Returned a) = line (codes "filter" ∷ decimal number ∷ codes "instruction" ∷ decimal m.place ∷ word_text a
         ∷ codes "returned" ∷ [])
@@ -148,14 +108,13 @@ is_false (Divided x) = not (x == 0)
 is_false (Returned a) = false
 
 -- the line of what a filter meets; in brief nothing where that is false
-abbrev pub shown_line : Bool → ℕ → Option ℕ → Meeting → List ℕ
-shown_line brief number word m = if brief && is_false m.met then [] else meeting_line number word m
+abbrev pub shown_line : Bool → ℕ → Meeting → List ℕ
+shown_line brief number m = if brief && is_false m.met then [] else meeting_line number m
 
--- the lines of all that a filter meets, from the word of the input that A holds at each instruction
-abbrev pub meeting_lines : Bool → ℕ → List (Option ℕ) → List Meeting → List ℕ
-meeting_lines brief number words [] = []
-meeting_lines brief number words (m ∷ ms) =
-    shown_line brief number (unwrap_or (slice_get words m.place) None) m ++ meeting_lines brief number words ms
+-- the lines of all that a filter meets
+abbrev pub meeting_lines : Bool → ℕ → List Meeting → List ℕ
+meeting_lines brief number [] = []
+meeting_lines brief number (m ∷ ms) = shown_line brief number m ++ meeting_lines brief number ms
 
 -- the word behind a filter whose answer stands
 abbrev pub stands_text : Bool → List ℕ
@@ -173,27 +132,21 @@ return_line number place value stands =
     returned_line number place (action_of (action_bits value)) (data_bits value) stands
 
 -- the lines of a filter with this number: what it returns, and under it what it meets
-abbrev pub walk_text : Bool → ℕ → Bool → List Insn → CourseData → List ℕ
-walk_text brief number stands code w =
-    return_line number w.place w.value stands
-    ++ meeting_lines brief number (words_at 0 0 None code w.met) w.met
+abbrev pub walk_text : Bool → ℕ → Bool → CourseData → List ℕ
+walk_text brief number stands w = return_line number w.place w.value stands ++ meeting_lines brief number w.met
 
 -- ---- the stack
 
--- the filter at this place, counted from 0 in order of installation, and its run; the run of a lawful one always comes
--- to a return
-abbrev pub walk_at : List (List Insn) → Input → ℕ → Option (List Insn × CourseData)
-walk_at programs d place = from (slice_get programs place)
-  where
-    from : Option (List Insn) → Option (List Insn × CourseData)
-    from (Some code) = option_map (λ w. (code, w)) (walk_of code d)
-    from None = None
+-- the run of the filter at this place, counted from 0 in order of installation; that of a lawful one always comes to a
+-- return
+abbrev pub walk_at : List (List Insn) → Input → ℕ → Option CourseData
+walk_at programs d place = option_and_then (λ code. walk_of code d) (slice_get programs place)
 
 -- the lines of a filter, with a word where its answer stands, and then those of the older filters
-abbrev pub next_text : Bool → ℕ → ℕ → Bool → (Bool → List ℕ) → Option (List Insn × CourseData) → List ℕ
-next_text brief number action stood older (Some (code, w)) =
+abbrev pub next_text : Bool → ℕ → ℕ → Bool → (Bool → List ℕ) → Option CourseData → List ℕ
+next_text brief number action stood older (Some w) =
     let stands = not stood && (action_bits w.value == action) in
-    walk_text brief number stands code w ++ older (stood || stands)
+    walk_text brief number stands w ++ older (stood || stands)
 next_text brief number action stood older None = older stood
 
 -- The lines of the first n filters, newest first. The answer that stands is that of the newest of all filters that

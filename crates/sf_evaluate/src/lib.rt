@@ -5,7 +5,6 @@
 mod checking;
 mod explaining;
 mod files;
-mod loaded;
 mod meanings;
 mod naming;
 mod places;

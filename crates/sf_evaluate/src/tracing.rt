@@ -2,12 +2,11 @@
 ghost use Rattle.std.specs.Prelude.{◌≡◌, ◌<◌, ◌++◌, ◌==◌, ◌&&◌, ◌||◌, not, false, OnOk, IfOk, Some, length, string_bytes};
 ghost use Rattle.sf_run.specs.Answers.{action_bits, action_number};
 ghost use Rattle.sf_run.specs.Walks.{CourseData, walk_of};
-ghost use Rattle.sf_evaluate.specs.Traces.{call_text, compared_text, field_line, filters_text, first_arguments, input_text, is_false, last_arguments, stands_text, meeting_line, meeting_lines, nr_line, returned_line, shown_line, sign_text, test_line, trace_text, truth_text, walk_text, word_text};
+ghost use Rattle.sf_evaluate.specs.Traces.{call_text, compared_text, field_line, filters_text, first_arguments, input_text, is_false, last_arguments, stands_text, meeting_line, meeting_lines, named_text, nr_line, returned_line, shown_line, sign_text, test_line, trace_text, truth_text, walk_text, word_text};
 
-use crate::loaded::{push_name, words_at};
 use sf_check::{Program, Stack};
 use sf_insn::{Input, Test};
-use sf_policy::{Names, push_action, push_names_between};
+use sf_policy::{Names, WORD_KEYS, push_action, push_names_between};
 use sf_run::{Action, Answer, Course, Fault, Meeting, Met, walk};
 use std::alloc::{AllocError, Global};
 
@@ -108,6 +107,17 @@ fn push_compared(text: &mut String, sign: &str, other: u32, truth: bool) -> Resu
     write!(text, " {sign} 0x{other:08X} {truth}\n")
 }
 
+/// Adds the name of a word of the input and a blank; nothing where there is no word.
+fn push_name(text: &mut String, word: Option<u8>) -> Result<(), AllocError>
+    ensures { OnOk result (string_bytes text.new ≡ string_bytes text.old ++ named_text word) }
+{
+    let Some(word) = word else {
+        return Ok(());
+    };
+    let name = WORD_KEYS.get(usize::from(word)).copied().unwrap_or("");
+    write!(text, "{name} ")
+}
+
 /// Adds the line of a comparison: an instruction of a filter compares the number `a` with another one. `word` is the
 /// word of the input that has this number there, if one has.
 fn push_test(
@@ -129,20 +139,16 @@ fn push_test(
     push_compared(text, sign, other, truth)
 }
 
-/// Adds the line of what a filter met. `word` is the word of the input that A held then, if it held one.
-fn push_meeting(
-    text: &mut String,
-    number: usize,
-    word: Option<u8>,
-    meeting: Meeting,
-) -> Result<(), AllocError>
+/// Adds the line of what a filter met.
+fn push_meeting(text: &mut String, number: usize, meeting: Meeting) -> Result<(), AllocError>
     ensures { OnOk result (string_bytes text.new ≡ string_bytes text.old
-        ++ meeting_line number word meeting) }
+        ++ meeting_line number meeting) }
 {
     let place = meeting.place;
     match meeting.met {
         Met::Tested(test, a, other, passed) => {
-            push_test(text, number, place, word, a, sign_of(test), other, passed)
+            let sign = sign_of(test);
+            push_test(text, number, place, meeting.word, a, sign, other, passed)
         }
         Met::Divided(x) => push_test(text, number, place, None, x, "=", 0, x == 0),
         Met::Returned(a) => write!(
@@ -168,33 +174,29 @@ fn push_shown(
     text: &mut String,
     brief: bool,
     number: usize,
-    word: Option<u8>,
     meeting: Meeting,
 ) -> Result<(), AllocError>
     ensures { OnOk result (string_bytes text.new ≡ string_bytes text.old
-        ++ shown_line brief number word meeting) }
+        ++ shown_line brief number meeting) }
 {
     if brief && is_false(meeting.met) {
         return Ok(());
     }
-    push_meeting(text, number, word, meeting)
+    push_meeting(text, number, meeting)
 }
 
-/// Adds the lines of all that a filter met, in order. `words` has for each instruction the word of the input that A
-/// held there.
+/// Adds the lines of all that a filter met, in order.
 fn push_meetings(
     text: &mut String,
     brief: bool,
     number: usize,
-    words: &[Option<u8>],
     met: &[Meeting],
 ) -> Result<(), AllocError>
     ensures { OnOk result (string_bytes text.new ≡ string_bytes text.old
-        ++ meeting_lines brief number words.now met.now) }
+        ++ meeting_lines brief number met.now) }
 {
     for meeting in met {
-        let word = words.get(meeting.place).copied().unwrap_or(None);
-        push_shown(text, brief, number, word, *meeting)?;
+        push_shown(text, brief, number, *meeting)?;
     }
     Ok(())
 }
@@ -253,7 +255,7 @@ fn push_filter(
         × (walk_of program.now trace.now.input.now ≡ Some w)
         × (b ≡ (not stood && (action_bits w.value == action_number trace.now.answer.action)))
         × (string_bytes text.new ≡ string_bytes text.old
-        ++ walk_text trace.now.brief number b program.now w)) }
+        ++ walk_text trace.now.brief number b w)) }
 {
     let run = walk(alloc, program, trace.input)?;
     let action = run.value & 0xffff0000;
@@ -266,8 +268,7 @@ fn push_filter(
         run.value & 0xffff,
         stands,
     )?;
-    let words = words_at(alloc, program.insns(), &run.met)?;
-    push_meetings(text, trace.brief, number, &words, &run.met)?;
+    push_meetings(text, trace.brief, number, &run.met)?;
     Ok(stands)
 }
 

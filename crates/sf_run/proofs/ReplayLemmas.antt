@@ -12,7 +12,7 @@ use Rattle.sf_check.specs.Programs.{IsAt}
 use Rattle.sf_run.specs.declared.action.Answer.{Answer}
 use Rattle.sf_run.specs.declared.machine.Next.TheVariants.{Goes, Returns}
 use Rattle.sf_run.specs.Answers.{folded_answer}
-use Rattle.sf_run.specs.Replays.{number_from, lead_of, replay_for, replay_of, returns_along}
+use Rattle.sf_run.specs.Replays.{number_and_rest, lead_of, replay_for, replay_of, returns_along}
 use Rattle.sf_run.specs.ReplayLaws.{leads_later, replay_goes, replay_returns}
 
 -- ---- bits
@@ -23,8 +23,8 @@ bit_is false = refl
 
 -- one more bit of a number
 pub bit_taken : (i number r : ℕ) (bit : Bool) (left rest : List Bool) (whole : Option (ℕ × List Bool)) → i < 32
-    → left ≡ bit ∷ rest → r ≡ from_bool bit → number_from (32 - i) number left ≡ whole
-    → number_from (32 - (i + 1)) (2 * number + r) rest ≡ whole
+    → left ≡ bit ∷ rest → r ≡ from_bool bit → number_and_rest (32 - i) number left ≡ whole
+    → number_and_rest (32 - (i + 1)) (2 * number + r) rest ≡ whole
 bit_taken i number r bit left rest whole lt first is so_far =
     let one : 32 - i ≡ suc (32 - (i + 1)) = omega arith in
     rw (is, ← bit_is bit) (rw (one, first) at so_far)

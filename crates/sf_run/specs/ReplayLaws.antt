@@ -32,7 +32,7 @@ use Rattle.sf_run.specs.Answers.{IsAnswer, action_bits, data_bits, folded_answer
 use Rattle.sf_run.specs.AnswerLaws.{answer_more, answer_none}
 use Rattle.sf_run.specs.declared.machine.Next.{Next}
 use Rattle.sf_run.specs.declared.machine.Next.TheVariants.{Goes, Returns}
-use Rattle.sf_run.specs.Replays.{number_from, lead_of, replay_for, replay_of, returns_along, answer_of, answers_along, ArePartAnswers}
+use Rattle.sf_run.specs.Replays.{number_and_rest, lead_of, replay_for, replay_of, returns_along, answer_of, answers_along, ArePartAnswers}
 
 -- ---- one instruction
 
@@ -46,7 +46,7 @@ leads_later at i met to left e = by i met (ap (option_map (λ p. p.0)) e)
 
     by : (i : Insn) (met : List Bool) → option_map (λ p. p.0) (lead_of at i met) ≡ Some (Goes to) → at < to
     by (ReturnConstant k) met e = absurd cc
-    by ReturnA met e = returned (number_from 32 0 met) e
+    by ReturnA met e = returned (number_and_rest 32 0 met) e
       where
         returned : (a : Option (ℕ × List Bool)) → option_map {T = Next × List Bool} (λ p. p.0)
             (option_map (λ a. (Returns a.0, a.1)) a) ≡ Some (Goes to) → at < to
@@ -99,7 +99,7 @@ one_more high bit p low = omega arith
 
 -- the bits of a word make its number, after those of a higher one
 number_bits : (n high a : ℕ) (more : List Bool)
-    → number_from n high (bits n a ++ more) ≡ Some (high * 2 ^ n + a % 2 ^ n, more)
+    → number_and_rest n high (bits n a ++ more) ≡ Some (high * 2 ^ n + a % 2 ^ n, more)
 number_bits zero high a more = ap (λ (v : ℕ). Some (v, more)) (omega arith)
 number_bits (suc n) high a more =
     number_bits n (2 * high + (if a / 2 ^ n % 2 == 1 then 1 else 0)) a more
@@ -118,7 +118,7 @@ number_bits (suc n) high a more =
 
 -- n truth values are the bits of some number
 some_number : (n high : ℕ) (met more : List Bool) → length met ≡ n
-    → (v : ℕ) × (number_from n high (met ++ more) ≡ Some (v, more))
+    → (v : ℕ) × (number_and_rest n high (met ++ more) ≡ Some (v, more))
 some_number zero high [] more len = (high, refl)
 some_number zero high (b ∷ met) more len = absurd (omega arith)
 some_number (suc n) high [] more len = absurd (omega arith)
@@ -195,7 +195,7 @@ returns_with d s i met v more e = by i (may_return d s i met v e) e
     by ReturnA p e =
         let same : s.a ≡ v = cc in
         let all : bits 32 s.a ≡ met = cc in
-        let number = subst (λ (l : List Bool). number_from 32 0 (l ++ more)
+        let number = subst (λ (l : List Bool). number_and_rest 32 0 (l ++ more)
         ≡ Some (0 * 2 ^ 32 + s.a % 2 ^ 32, more)) all
         (number_bits 32 0 s.a more) in
         (0 * 2 ^ 32 + s.a % 2 ^ 32, ap (option_map (λ a. (Returns a.0, a.1))) number, inr (omega (arith, same)))

@@ -20,12 +20,12 @@ use Rattle.sf_run.specs.RunLaws.{option_map_some}
 use Rattle.sf_run.specs.Routes.{MayMeet, IsWay, returns_at, goes_on, AreWays, IsWholeRoute}
 use Rattle.sf_run.specs.declared.replaying.PartAnswers.{PartAnswers}
 use Rattle.sf_run.specs.ReplayLaws.{routes_have_answers}
-use Rattle.sf_run.specs.Replays.{number_from, lead_of, return_after, replay_for, replay_of, returns_along, answer_along, answers_along}
+use Rattle.sf_run.specs.Replays.{number_and_rest, lead_of, return_after, replay_for, replay_of, returns_along, answer_along, answers_along}
 
 -- ---- one instruction
 
 -- the bits of a number are taken
-bits_taken : (n high : ℕ) (met : List Bool) (v : ℕ) (left : List Bool) → number_from n high met ≡ Some (v, left)
+bits_taken : (n high : ℕ) (met : List Bool) (v : ℕ) (left : List Bool) → number_and_rest n high met ≡ Some (v, left)
     → (front : List Bool) × (length front ≡ n) × (met ≡ front ++ left)
 bits_taken zero high met v left e = ([], refl, ap (λ (a : ℕ × List Bool). a.1) (same_Some (high, met) (v, left) e))
 bits_taken (suc n) high [] v left e = absurd cc
@@ -57,7 +57,7 @@ lead_is_taken at i met next left e = by i met e
     by : (i : Insn) (met : List Bool) → lead_of at i met ≡ Some (next, left) → Taken at i met next left
     by (ReturnConstant k) met e = let is = same (Returns k) met e in ([], (refl, is.0), is.1)
     by ReturnA met e =
-        let a = option_map_some (λ a. (Returns a.0, a.1)) (number_from 32 0 met) (next, left) e in
+        let a = option_map_some (λ a. (Returns a.0, a.1)) (number_and_rest 32 0 met) (next, left) e in
         let is = same (Returns a.0.0) a.0.1 (ap (λ (b : Next × List Bool). Some b) a.2) in
         let taken = bits_taken 32 0 met a.0.0 a.0.1 a.1 in
         (taken.0, (taken.1, is.0), taken.2 ∙ ap (λ (l : List Bool). taken.0 ++ l) is.1)

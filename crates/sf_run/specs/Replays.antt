@@ -17,16 +17,16 @@ use Rattle.sf_run.specs.Answers.{Answers, folded_answer}
 
 -- A number, and the truth values that are left: its lowest n bits are the next truth values, the highest first, and its
 -- higher bits are those of `high`.
-abbrev pub number_from : ℕ → ℕ → List Bool → Option (ℕ × List Bool)
-number_from zero high met = Some (high, met)
-number_from (suc n) high [] = None
-number_from (suc n) high (bit ∷ met) = number_from n (2 * high + (if bit then 1 else 0)) met
+abbrev pub number_and_rest : ℕ → ℕ → List Bool → Option (ℕ × List Bool)
+number_and_rest zero high met = Some (high, met)
+number_and_rest (suc n) high [] = None
+number_and_rest (suc n) high (bit ∷ met) = number_and_rest n (2 * high + (if bit then 1 else 0)) met
 
 -- Where control leads from the instruction at a place, and the truth values that are left: a return of A takes its 32
 -- bits, a test its result, and a division by X whether X is 0.
 abbrev pub lead_of : ℕ → Insn → List Bool → Option (Next × List Bool)
 lead_of at (ReturnConstant k) met = Some (Returns k, met)
-lead_of at ReturnA met = option_map (λ a. (Returns a.0, a.1)) (number_from 32 0 met)
+lead_of at ReturnA met = option_map (λ a. (Returns a.0, a.1)) (number_and_rest 32 0 met)
 lead_of at (Jump k) met = Some (Goes (at + 1 + k), met)
 lead_of at (Branch test other on_true on_false) [] = None
 lead_of at (Branch test other on_true on_false) (passed ∷ met) =

@@ -1,36 +1,50 @@
--- The run of a program with all that it meets, the words that it compares, and where it returns.
+-- The run of a program with all that it meets, the numbers that it compares, and where it returns.
 use Rattle.std.specs.Prelude.{ℕ, zero, suc, Bool, List, [], ◌∷◌, ◌++◌, ◌==◌, length, Option, Some, None, slice_get, option_map}
 use Rattle.sf_insn.specs.declared.input.Input.{Input}
 use Rattle.sf_insn.specs.declared.ops.BinOp.TheVariants.{Div}
 use Rattle.sf_insn.specs.Words.{passes}
 use Rattle.sf_check.specs.declared.insn.Insn.{Insn}
-use Rattle.sf_check.specs.declared.insn.Insn.TheVariants.{Alu, Branch, ReturnA}
+use Rattle.sf_check.specs.declared.insn.Insn.TheVariants.{LoadWord, LoadConstant, LoadScratch, LoadLength, Alu, Negate, Branch, ReturnA, Txa}
 use Rattle.sf_check.specs.declared.insn.Operand.TheVariants.{X}
 use Rattle.sf_run.specs.Machine.{State, Progress, goes, returns, stuck, bits, operand_of, start, step}
 use Rattle.sf_run.specs.declared.walking.Meeting.{Meeting}
 use Rattle.sf_run.specs.declared.walking.Met.{Met}
 use Rattle.sf_run.specs.declared.walking.Met.TheVariants.{Tested, Divided, Returned}
 
--- a list with the one thing that is met at this place
-abbrev pub at_place : ℕ → Met → List Meeting
-at_place place met = record { place = place; met = met } ∷ []
+-- The word of the input that A holds after an instruction, from the one that it held before: A holds the word that was
+-- loaded into it, until another value is put there.
+abbrev pub word_after : Option ℕ → Insn → Option ℕ
+word_after word (LoadWord loaded) = Some loaded
+word_after word (LoadConstant k) = None
+word_after word (LoadScratch k) = None
+word_after word LoadLength = None
+word_after word (Alu op other) = None
+word_after word Negate = None
+word_after word Txa = None
+word_after word _ = word
 
--- What an instruction meets in a state: the two words of a test and its result, the X of a division, or the A that is
+-- a list with the one thing that is met at this place, where A holds this word of the input
+abbrev pub at_place : ℕ → Option ℕ → Met → List Meeting
+at_place place word met = record { place = place; word = word; met = met } ∷ []
+
+-- What an instruction meets in a state: the two numbers of a test and its result, the X of a division, or the A that is
 -- returned.
-abbrev pub meeting_at : State → Insn → List Meeting
-meeting_at s (Branch test other on_true on_false) =
-    at_place s.place (Tested test s.a (operand_of s other) (passes test s.a (operand_of s other)))
-meeting_at s (Alu Div X) = at_place s.place (Divided s.x)
-meeting_at s ReturnA = at_place s.place (Returned s.a)
-meeting_at s _ = []
+abbrev pub meeting_at : State → Option ℕ → Insn → List Meeting
+meeting_at s word (Branch test other on_true on_false) =
+    at_place s.place word (Tested test s.a (operand_of s other) (passes test s.a (operand_of s other)))
+meeting_at s word (Alu Div X) = at_place s.place word (Divided s.x)
+meeting_at s word ReturnA = at_place s.place word (Returned s.a)
+meeting_at s word _ = []
 
--- what is met by the instruction at the place of the state, if there is one
-abbrev pub meeting_in : List Insn → State → List Meeting
-meeting_in code s = from (slice_get code s.place)
-  where
-    from : Option Insn → List Meeting
-    from (Some i) = meeting_at s i
-    from None = []
+-- what is met by an instruction, if there is one
+abbrev pub meeting_in : State → Option ℕ → Option Insn → List Meeting
+meeting_in s word (Some i) = meeting_at s word i
+meeting_in s word None = []
+
+-- the word of the input that A holds after an instruction, if there is one
+abbrev pub word_behind : Option ℕ → Option Insn → Option ℕ
+word_behind word (Some i) = word_after word i
+word_behind word None = None
 
 -- the truth values of what is met
 abbrev pub truths : Meeting → List Bool
@@ -61,11 +75,13 @@ onward met place rest (goes _ next) = option_map (after met) (rest next)
 onward met place rest (returns _ value) = Some (course met place value)
 onward met place rest stuck = None
 
--- the run of at most n steps from a state, if it comes to a return
-unfoldable pub walk_for : ℕ → List Insn → Input → State → Option CourseData
-walk_for zero code d s = None
-walk_for (suc n) code d s = onward (meeting_in code s) s.place (walk_for n code d) (step code d s)
+-- the run of at most n steps from a state in which A holds this word of the input, if it comes to a return
+unfoldable pub walk_for : ℕ → List Insn → Input → Option ℕ → State → Option CourseData
+walk_for zero code d word s = None
+walk_for (suc n) code d word s =
+    onward (meeting_in s word (slice_get code s.place)) s.place
+    (walk_for n code d (word_behind word (slice_get code s.place))) (step code d s)
 
--- the walk of a program on an input: its run, with all that it meets
+-- the walk of a program on an input: its run, with all that it meets; at first A holds no word of the input
 unfoldable pub walk_of : List Insn → Input → Option CourseData
-walk_of code d = walk_for (length code) code d start
+walk_of code d = walk_for (length code) code d None start

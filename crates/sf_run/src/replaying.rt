@@ -9,7 +9,7 @@ ghost use Rattle.sf_insn.specs.declared.input.Input.{Input};
 ghost use Rattle.sf_check.specs.Stacks.{IsLawfulStack};
 ghost use Rattle.sf_run.specs.Machine.{trace_of};
 ghost use Rattle.sf_run.specs.Routes.{IsWholeRoute};
-ghost use Rattle.sf_run.specs.Replays.{answer_along, answers_along, ArePartAnswers, lead_of, number_from, replay_of};
+ghost use Rattle.sf_run.specs.Replays.{answer_along, answers_along, ArePartAnswers, lead_of, number_and_rest, replay_of};
 
 use crate::action::{Action, Answer};
 use crate::answering::fold;
@@ -29,7 +29,7 @@ pub struct PartAnswers {
 /// The number whose 32 bits are the next truth values, the highest first, and the truth values that are left. `None`
 /// where there are fewer than 32.
 fn next_number(met: &[bool]) -> Option<(u32, &[bool])>
-    ensures { option_map (λ r. (r.0, r.1.now)) result ≡ number_from 32 0 met.now }
+    ensures { option_map (λ r. (r.0, r.1.now)) result ≡ number_and_rest 32 0 met.now }
 {
     let mut number = 0u32;
     let mut left = met;

@@ -1,10 +1,10 @@
 //! The run of a program on one input, with all that it meets and the words that it compares.
 
-ghost use Rattle.std.specs.Prelude.{◌≡◌, ◌++◌, ℕ, [], Some, IfOk, OnOk, MatchOption};
+ghost use Rattle.std.specs.Prelude.{◌≡◌, ◌++◌, ℕ, [], Option, Some, IfOk, OnOk, MatchOption};
 ghost use Rattle.sf_run.specs.Code.{state_of};
 ghost use Rattle.std.specs.List.{flat_map};
 ghost use Rattle.sf_run.specs.Machine.{met_by, return_of};
-ghost use Rattle.sf_run.specs.Walks.{at_place, course, meeting_at, truths, walk_of};
+ghost use Rattle.sf_run.specs.Walks.{at_place, course, meeting_at, truths, walk_of, word_after};
 
 use crate::fault::Fault;
 use crate::machine::{Machine, Next, execute, operand};
@@ -28,6 +28,9 @@ pub enum Met {
 pub struct Meeting {
     /// The place of the instruction, from 0.
     pub place: usize,
+    /// The word of the input, 0 to 15, that A holds there, if it holds one: that word was loaded into A, and no other
+    /// value was put there since.
+    pub word: Option<u8>,
     /// What it meets.
     pub met: Met,
 }
@@ -45,9 +48,9 @@ pub struct Course {
 
 /// What the instruction meets, if anything.
 pub(crate) fn what_is_met(machine: &Machine, insn: &Insn) -> Option<Met>
-    ensures { (place : ℕ) → MatchOption result
-        (meeting_at (state_of place machine.now) insn.now ≡ [])
-        (λ m. meeting_at (state_of place machine.now) insn.now ≡ at_place place m) }
+    ensures { (place : ℕ) (word : Option ℕ) → MatchOption result
+        (meeting_at (state_of place machine.now) word insn.now ≡ [])
+        (λ m. meeting_at (state_of place machine.now) word insn.now ≡ at_place place word m) }
 {
     match insn {
         Insn::Branch(test, other, _, _) => {
@@ -75,23 +78,54 @@ pub(crate) fn what_is_met(machine: &Machine, insn: &Insn) -> Option<Met>
     }
 }
 
-/// Adds what the instruction meets.
+/// The word of the input that A holds after an instruction, from the one that it held before. None where A holds
+/// another value.
+fn word_after(word: Option<u8>, insn: &Insn) -> Option<u8>
+    ensures { result ≡ word_after word insn.now }
+{
+    match insn {
+        Insn::LoadWord(loaded) => Some(*loaded),
+        Insn::LoadConstant(_)
+        | Insn::LoadScratch(_)
+        | Insn::LoadLength
+        | Insn::Alu(_, _)
+        | Insn::Negate
+        | Insn::Txa => None,
+        Insn::LoadXConstant(_)
+        | Insn::LoadXScratch(_)
+        | Insn::LoadXLength
+        | Insn::StoreA(_)
+        | Insn::StoreX(_)
+        | Insn::Jump(_)
+        | Insn::Branch(_, _, _, _)
+        | Insn::ReturnConstant(_)
+        | Insn::ReturnA
+        | Insn::Tax => word,
+    }
+}
+
+/// Adds what the instruction meets, where A holds this word of the input.
 fn push_meeting(
     met: &mut Vec<Meeting>,
     machine: &Machine,
     place: usize,
+    word: Option<u8>,
     insn: &Insn,
 ) -> Result<(), Fault>
     ensures pushed { OnOk result (met.new.items ≡ met.old.items
-        ++ meeting_at (state_of place machine.now) insn.now) }
+        ++ meeting_at (state_of place machine.now) word insn.now) }
 {
     if let Some(here) = what_is_met(machine, insn) {
-        met.push(Meeting { place, met: here })?;
+        met.push(Meeting {
+            place,
+            word,
+            met: here,
+        })?;
     }
     Ok(())
 }
 
-/// The run of the program on the input: what it meets, with the words that it compares, and where it returns which
+/// The run of the program on the input: what it meets, with the numbers that it compares, and where it returns which
 /// value. `Memory` where an allocation is refused.
 pub fn walk(alloc: Global, program: &Program, input: &Input) -> Result<Course, Fault>
     // It is the run of the definition.
@@ -106,9 +140,11 @@ pub fn walk(alloc: Global, program: &Program, input: &Input) -> Result<Course, F
     let mut met = Vec::new(alloc);
     let mut machine = Machine::start();
     let mut place = 0;
+    let mut word = None;
     'steps: loop {
         let insn = &code[place];
-        push_meeting(&mut met, &machine, place, insn)?;
+        push_meeting(&mut met, &machine, place, word, insn)?;
+        word = word_after(word, insn);
         match execute(&mut machine, input, place, insn) {
             Next::Goes(next) => place = next,
             Next::Returns(value) => return Ok(Course { met, place, value }),

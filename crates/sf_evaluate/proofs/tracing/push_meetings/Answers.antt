@@ -1,5 +1,4 @@
-use Rattle.std.proofs.Common.{◌∙◌, ℕ, Option, None, false, ap, arith, sym, unwrap_or}
-use Rattle.std.proofs.lemmas.Option.{unwrap_or-slice_get}
+use Rattle.std.proofs.Common.{None, false}
 use Rattle.sf_insn.specs.declared.ops.Test.TheVariants.{Equal}
 use Rattle.sf_run.specs.declared.walking.Meeting.{Meeting}
 use Rattle.sf_run.specs.declared.walking.Met.TheVariants.{Tested}
@@ -8,12 +7,9 @@ use Rattle.sf_evaluate.proofs.tracing.push_meetings.Goals as goal
 
 -- what stands for a meeting past the end
 abbrev no_meeting : Meeting
-no_meeting = record { place = 0; met = Tested Equal 0 0 false }
+no_meeting = record { place = 0; word = None; met = Tested Equal 0 0 false }
 
 pub loop-meeting-preserved : goal.loop-meeting-preserved
-loop-meeting-preserved c = one_more_meeting c.args.brief c.args.number c.args.words.now c.args.met.now
-    c.loop-meeting.meeting-index no_meeting c.unwrap_or-word.result _ _ _ c.loop-meeting-test.true
-    c.in_ok-push_shown.ensures
+loop-meeting-preserved c = one_more_meeting c.args.brief c.args.number c.args.met.now
+    c.loop-meeting.meeting-index no_meeting _ _ _ c.loop-meeting-test.true c.in_ok-push_shown.ensures
     c.loop-meeting.invariant
-    (c.unwrap_or-word.ensures ∙ ap (λ (o : Option (Option ℕ)). unwrap_or o None) c.copied.ensures
-    ∙ c.get.ensures.lookup.4 (omega arith) None ∙ sym (unwrap_or-slice_get c.args.words.now _ None))

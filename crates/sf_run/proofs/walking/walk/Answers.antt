@@ -42,9 +42,9 @@ steps-preserved c =
       safe = on.safe;
       left = before.left - 1;
       enough = omega (arith, before.enough, on.later);
-      same = walk_goes_on code d s _ on.met (state_of c.in-Goes.next c.execute.new.machine) before.left
-          c.steps.met.items c.push_meeting.new.met.items (walk_of code d) some h.at on.took
-          c.in_ok-push_meeting.ensures.pushed before.same;
+      same = λ w e. walk_goes_on code d c.steps.word s _ on.met (state_of c.in-Goes.next c.execute.new.machine)
+          before.left c.steps.met.items c.push_meeting.new.met.items (walk_of code d) some h.at on.took
+          c.in_ok-push_meeting.ensures.pushed before.same w (rw c.word_after-word.ensures at e);
     }
 
 pub returns-in-Returns-clause-told : goal.returns-in-Returns-clause-told
@@ -57,7 +57,7 @@ returns-in-Returns-clause-told c =
     let h = at_hand _ code s _ c.insns-code.ensures.same c.insns-code.ensures.lawful before.safe in
     let out = goes_out code d s _ c.in-Returns.value c.execute.new.machine h c.in-Returns.ensures in
     sym (ap (λ (p : List Insn). walk_of p d) c.insns-code.ensures.same)
-    ∙ walk_comes_to_end code d s _ out.met c.in-Returns.value before.left c.steps.met.items
+    ∙ walk_comes_to_end code d c.steps.word s _ out.met c.in-Returns.value before.left c.steps.met.items
     c.push_meeting.new.met.items (walk_of code d) some h.at out.took c.in_ok-push_meeting.ensures.pushed before.same
 
 pub returns-in-Returns-clause-run : goal.returns-in-Returns-clause-run

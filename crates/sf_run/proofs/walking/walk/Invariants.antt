@@ -9,7 +9,7 @@ invariant-steps l = record {
   safe : IsReachable l.code (state_of l.place l.machine);
   left : ℕ;
   enough : length l.code ≤ left + l.place;
-  same : (w : CourseData) → walk_for left l.code l.fn.input (state_of l.place l.machine) ≡ Some w
+  same : (w : CourseData) → walk_for left l.code l.fn.input l.word (state_of l.place l.machine) ≡ Some w
       → walk_of l.code l.fn.input ≡ Some (after l.met.items w);
 }
 
