@@ -66,8 +66,8 @@ module _ (before after : List ℕ → Option (List ℕ)) (same : (p : List ℕ) 
   pub evaluated_same : (digits : List ℕ) (traced brief : Bool) (paths : List (Bor (List ℕ))) (names : List NamesData)
       (old new : Option (List ℕ)) → EvaluatesFiles digits traced brief after paths names old new
       → EvaluatesFiles digits traced brief before paths names old new
-  evaluated_same digits traced brief paths names old new (input, files, spelled, read, written) =
-      (input, files, spelled, read_same before after paths files same read, written)
+  evaluated_same digits traced brief paths names old new (input, spelled, (files, read, written)) =
+      (input, spelled, (files, read_same before after paths files same read, written))
 
   unread_same : (paths : List (Bor (List ℕ))) (e : Fault) → RefusesFiles after paths e → RefusesFiles before paths e
   unread_same paths e (inl (read, left)) = inl (read, still_unknown before after paths same left)

@@ -113,12 +113,12 @@ fn run_eval<F: Files, O: Write>(
 {
     let paths = found.get_strs("filters").unwrap_or(&[]);
     let digits = text_of(found, "input");
-    let _input = input_of(digits)?;
+    let input = input_of(digits)?;
     let names = names_of(alloc, found, files, notes)?;
     let traced = wants_trace(found);
     let brief = wants_brief(found);
     evaluate(
-        alloc, digits, traced, brief, &names, paths, files, notes, out,
+        alloc, &input, traced, brief, &names, paths, files, notes, out,
     )?;
     Ok(0)
 }

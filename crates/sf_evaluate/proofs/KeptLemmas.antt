@@ -1,17 +1,15 @@
 -- Files that are read one after the other, of which only the first ones are kept.
-use Rattle.std.proofs.Common.{◌≡◌, ◌⊎◌, inl, inr, ℕ, ◌<◌, ◌≤◌, List, [], ◌∷◌, ◌++◌, length, length-append, take, Option, Bor, Ok, refl, sym, ap, subst, arith, ◌∙◌, ◌+◌}
+use Rattle.std.proofs.Common.{◌≡◌, ◌⊎◌, inl, inr, ℕ, ◌<◌, ◌≤◌, List, [], ◌∷◌, ◌++◌, length, length-append, take, Option, Bor, refl, sym, subst, arith, ◌∙◌, ◌+◌}
 use Rattle.std.proofs.lemmas.List.{take-append-le, take_all}
-use Rattle.std.specs.Prelude.{Bool, Some, is_ok, slice_get}
-use Rattle.hex.specs.Hex.{decode_sized}
+use Rattle.std.specs.Prelude.{Bool, Some, slice_get}
 use Rattle.sf_insn.specs.declared.input.Input.{Input}
-use Rattle.sf_insn.specs.Inputs.{input_bytes}
 use Rattle.sf_policy.specs.declared.fault.Fault.{Fault}
 use Rattle.sf_policy.specs.declared.fault.Fault.TheVariants as faults
 use Rattle.sf_policy.specs.Names.{NamesData}
 use Rattle.sf_policy.specs.Filters.{IsFirstRefusal}
 use Rattle.sf_evaluate.specs.Files.{AreKept, AreKnownBytes}
 use Rattle.sf_evaluate.specs.KeptLaws.{few_are_all, kept_refusal, kept_stack, many_of_many}
-use Rattle.sf_evaluate.specs.Outputs.{ChecksFiles, EvaluatesFiles, RefusesEval, RefusesFiles, WritesAnswer, WritesCheck}
+use Rattle.sf_evaluate.specs.Outputs.{AnswersFiles, ChecksFiles, RefusesFiles, WritesAnswer, WritesCheck}
 use Rattle.sf_evaluate.proofs.Pairing.{PairedSoFar, paired_all, paired_more}
 
 -- where at most 64 files are kept, one more that is read is kept too
@@ -79,14 +77,11 @@ module _ (holds : List ℕ → Option (List ℕ)) (paths : List (Bor (List ℕ))
   kept_checks old new (programs, spell, written) =
       (kept, kept_stack holds paths kept all programs spell, (programs, spell, written))
 
-  pub kept_answers : (digits : List ℕ) (input : Input) (traced brief : Bool) (names : List NamesData)
-      (old new : Option (List ℕ)) → decode_sized digits 64 ≡ Ok (input_bytes input)
+  pub kept_answers : (input : Input) (traced brief : Bool) (names : List NamesData) (old new : Option (List ℕ))
       → WritesAnswer kept input traced brief names old new
-      → EvaluatesFiles digits traced brief holds paths names old new
-  kept_answers digits input traced brief names old new spelled (programs, answer, spell, answers, written) = (
-    input,
+      → AnswersFiles input traced brief holds paths names old new
+  kept_answers input traced brief names old new (programs, answer, spell, answers, written) = (
     kept,
-    spelled,
     kept_stack holds paths kept all programs spell,
     (programs, answer, spell, answers, written),
   )
@@ -100,11 +95,3 @@ module _ (holds : List ℕ → Option (List ℕ)) (paths : List (Bor (List ℕ))
       → (e ≡ faults.Write) ⊎ (RefusesFiles holds paths e × Same)
   kept_refuses e (inl write) = inl write
   kept_refuses e (inr (why, same)) = inr (kept_why e why, same)
-
-  pub kept_refuses_eval : {Same : Type 0} (digits : List ℕ) (input : Input) (e : Fault)
-      → decode_sized digits 64 ≡ Ok (input_bytes input) → (e ≡ faults.Write)
-      ⊎ (((e ≡ faults.Memory) ⊎ IsFirstRefusal kept e) × Same)
-      → RefusesEval digits holds paths e
-  kept_refuses_eval digits input e spelled (inl write) = inr (ap (λ r. is_ok r) spelled, inl write)
-  kept_refuses_eval digits input e spelled (inr (why, same)) =
-      inr (ap (λ r. is_ok r) spelled, inr (kept_why e why))

@@ -35,12 +35,18 @@ WritesAnswer files input traced brief names old new =
 abbrev pub ChecksFiles : (List ℕ → Option (List ℕ)) → List (Bor (List ℕ)) → Option (List ℕ) → Option (List ℕ) → Type 0
 ChecksFiles holds paths old new = (files : List (List ℕ)) × AreRead holds paths files × WritesCheck files old new
 
--- `eval`: the digits spell an input, the files at the paths are read, and what they answer to it is written
+-- the files at the paths are read, and what they answer to the input is written
+abbrev pub AnswersFiles : Input → (traced brief : Bool) → (List ℕ → Option (List ℕ)) → List (Bor (List ℕ))
+    → List NamesData → Option (List ℕ) → Option (List ℕ) → Type 0
+AnswersFiles input traced brief holds paths names old new =
+    (files : List (List ℕ)) × AreRead holds paths files × WritesAnswer files input traced brief names old new
+
+-- `eval`: the digits spell an input, and what the files at the paths answer to it is written
 abbrev pub EvaluatesFiles : List ℕ → (traced brief : Bool) → (List ℕ → Option (List ℕ)) → List (Bor (List ℕ))
     → List NamesData → Option (List ℕ) → Option (List ℕ) → Type 0
 EvaluatesFiles digits traced brief holds paths names old new =
-    (input : Input) × (files : List (List ℕ)) × (decode_sized digits 64 ≡ Ok (input_bytes input))
-    × AreRead holds paths files × WritesAnswer files input traced brief names old new
+    (input : Input) × (decode_sized digits 64 ≡ Ok (input_bytes input))
+    × AnswersFiles input traced brief holds paths names old new
 
 -- Why the files at the paths are refused: one whose bytes aren't known can't be read; memory ran out, which can come at
 -- any time; or all were read and make no lawful stack.

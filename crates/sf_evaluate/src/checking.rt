@@ -1,13 +1,13 @@
 //! The subcommands `check` and `eval`: read the filter files and write what is found of their stack.
 
-ghost use Rattle.std.specs.Prelude.{◌≡◌, ◌⊎◌, map, string_bytes, Err, Ok, IfOk, IfErr, OnOk, IsOk};
+ghost use Rattle.std.specs.Prelude.{◌≡◌, ◌⊎◌, map, string_bytes, Ok, IfOk, IfErr, OnOk, IsOk};
 ghost use Rattle.std.specs.Io.KnownBytes.{Appends};
 ghost use Rattle.hex.specs.Hex.{decode_sized};
 ghost use Rattle.sf_insn.specs.Inputs.{input_bytes};
 ghost use Rattle.sf_run.specs.Answers.{Answers};
 ghost use Rattle.sf_run.specs.declared.action.Answer.{Answer};
 ghost use Rattle.sf_evaluate.specs.Traces.{eval_text};
-ghost use Rattle.sf_evaluate.specs.Outputs.{ChecksFiles, EvaluatesFiles, RefusesEval, RefusesFiles, WritesAnswer, WritesCheck};
+ghost use Rattle.sf_evaluate.specs.Outputs.{AnswersFiles, ChecksFiles, RefusesFiles, WritesAnswer, WritesCheck};
 ghost use Rattle.sf_policy.specs.Filters.{IsFirstRefusal};
 ghost use Rattle.sf_policy.specs.declared.fault.Fault.TheVariants.{Memory as MemoryFault, Input as InputFault, Write as WriteFault};
 
@@ -129,14 +129,12 @@ pub fn check<F: Files, O: Write>(
     check_filters(alloc, &filters, out)
 }
 
-/// Reads the input from its hexadecimal digits and then the filter files, which are named in order of installation, and
-/// writes what the stack of the filters answers to the input. Where `traced` or `brief` asks for it, lines under the
-/// answer show where it comes from; in brief without what is false.
-///
-/// `Input` where the digits spell no input: no file is read then. The other refusals are those of `check`.
+/// Reads the filter files, which are named in order of installation, and writes what their stack answers to the input.
+/// Where `traced` or `brief` asks for it, lines under the answer show where it comes from; in brief without what is
+/// false. The refusals are those of `check`.
 pub fn evaluate<F: Files, O: Write>(
     alloc: Global,
-    digits: &str,
+    input: &Input,
     traced: bool,
     brief: bool,
     names: &[Names],
@@ -145,16 +143,11 @@ pub fn evaluate<F: Files, O: Write>(
     notes: &mut Notes,
     out: &mut O,
 ) -> Result<(), Fault>
-    ensures written { OnOk result (EvaluatesFiles digits.now traced brief
+    ensures written { OnOk result (AnswersFiles input.now traced brief
         (F.holds files.old) paths.now names.now (O.contents out.old) (O.contents out.new)) }
-    ensures unspelled { (IsOk (decode_sized digits.now 64) → ⊥) → (result ≡ Err InputFault)
-        × (files.new ≡ files.old) × (out.new ≡ out.old) }
-    ensures refused { IsOk (decode_sized digits.now 64)
-        → IfErr result (λ e. (e ≡ WriteFault)
+    ensures refused { IfErr result (λ e. (e ≡ WriteFault)
         ⊎ (RefusesFiles (F.holds files.old) paths.now e × (out.new ≡ out.old))) }
-    ensures explained { IfErr result (RefusesEval digits.now (F.holds files.old) paths.now) }
 {
-    let input = input_of(digits)?;
     let filters = read_all(alloc, paths, files, notes)?;
-    evaluate_filters(alloc, &input, traced, brief, names, &filters, out)
+    evaluate_filters(alloc, input, traced, brief, names, &filters, out)
 }
