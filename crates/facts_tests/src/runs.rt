@@ -224,3 +224,25 @@ fn a_trace_has_the_tests_of_seven_of_the_longest_programs(rt: HostRuntime) -> Re
     }
     Ok(())
 }
+
+/// What the stack meets whose trace is the longest: 64 programs, each of tests whether A is 0 and a return of A. Their
+/// path has 32,768 instructions, as many as it may have.
+fn longest_trace(alloc: Global) -> Option<Vec<bool>> {
+    let mut raws = vec![in alloc; op(0x15, 0); 508].ok()?;
+    raws.push(op(0x16, 0)).ok()?;
+    let mut filters = [raws.as_slice(); 64];
+    filters[0] = raws.get(60..)?;
+    let stack = stack_of(alloc, &filters).ok()?;
+    trace_of(alloc, &stack, &ZEROS)
+}
+
+#[test]
+fn the_longest_trace_has_each_test_and_the_bits_of_each_return(
+    rt: HostRuntime,
+) -> Result<(), Fail> {
+    let met = longest_trace(rt.alloc()).ok_or("no trace")?;
+    assert_eq!(rt; met.len(), 34500);
+    assert_eq!(rt; met.iter().filter(|truth| **truth).count(), 32452);
+    assert!(rt; met.get(34467) == Some(&true) && met.get(34468) == Some(&false));
+    Ok(())
+}
