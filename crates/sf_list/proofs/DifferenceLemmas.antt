@@ -37,9 +37,9 @@ counted {X} p (x ∷ xs) some = by (counted p xs) (p x) refl
         → (y : X) × Contains (x ∷ xs) y × (p y ≡ true)
     by rest true e = (x, (zero, omega arith, refl), e)
     by rest false e =
-        let cons : count_by p (x ∷ xs) ≡ (if p x then 1 else 0) + count_by p xs =
+        let cons : ◌≡◌ {A = ℕ} (count_by p (x ∷ xs)) ((if p x then 1 else 0) + count_by p xs) =
         sum_by-cons (λ y. if p y then 1 else 0) x xs in
-        let none : (if p x then 1 else 0) ≡ 0 = ap (λ (b : Bool). if b then 1 else 0) e in
+        let none : ◌≡◌ {A = ℕ} (if p x then 1 else 0) 0 = ap (λ (b : Bool). if b then 1 else 0) e in
         let more = rest (omega (arith, some, cons, none)) in
         (more.0, (suc more.1.0, omega (arith, more.1.1), more.1.2), more.2)
 
