@@ -1,5 +1,5 @@
 -- Why replies are right.
-use Rattle.std.proofs.Common.{◌≡◌, ℕ, zero, suc, ◌+◌, ◌<◌, Bool, true, false, true≢false, List, [], ◌∷◌, ◌++◌, length, Option, Some, None, slice_get, get_or, ◌==◌, ◌⊎◌, sym, refl, ap, ◌∙◌, subst, inl, inr, ⊎_elim, arith}
+use Rattle.std.proofs.Common.{◌≡◌, ℕ, zero, suc, ◌+◌, ◌<◌, Bool, true, false, true≢false, List, [], ◌∷◌, ◌++◌, length, ◌≤◌, Option, Some, None, slice_get, get_or, unwrap_or, ◌==◌, ◌⊎◌, sym, refl, ap, ◌∙◌, subst, inl, inr, ⊎_elim, arith}
 use Rattle.std.proofs.lemmas.Bool.Decides.{nat_tests}
 use Rattle.std.proofs.lemmas.Option.{slice_get-get_or, same_Some, get_or_from_slice_get}
 use mathlib.Core.Logic.{dite}
@@ -16,6 +16,7 @@ use Rattle.sf_ask.specs.MemberLaws.{in_some_region}
 use Rattle.sf_ask.specs.Sheets.{HasNoBreak, IsRightWhereGiven}
 use Rattle.sf_crew.specs.declared.board.Tally.{Tally}
 use Rattle.sf_ask.specs.QuestionBits.{bit_of}
+use Rattle.sf_crew.specs.Tallies.{IsBelow}
 use Rattle.sf_crew.specs.Sweeps.{IsWithoutHit, HasDoubt, IsUnbroken, IsReplyTo, IsFullTally}
 
 none_left : {X : Type 0} (xs : List X) → length xs ≡ 0 → xs ≡ []
@@ -83,52 +84,54 @@ entry_unbroken s qs q question r asked h = let same : h.question ≡ question = 
     doubt_unbroken s question r (subst (λ (x : QuestionData). IsRightVerdict s r x Doubt) same h.right)
     (subst (IsDoubtful s r) same h.tried)
 
-abbrev none_place : Option ℕ
+abbrev pub none_place : Option ℕ
 none_place = None
+
+-- a place that is read is there
+pub place_there : (l : List (Option ℕ)) (q x : ℕ) → get_or l q none_place ≡ Some x → slice_get l q ≡ Some (Some x)
+place_there [] q x e = absurd (cc (e))
+place_there (y ∷ l) zero x e = ap (λ (z : Option ℕ). Some z) e
+place_there (y ∷ l) (suc q) x e = place_there l q x e
 
 -- what the tally of all regions tells of the question of a number
 no_doubt_plain : (s : BookData) (qs : List QuestionData) (r q : ℕ) → IsPlain s.stack
     → IsRightWhereGiven s qs r q (Some Doubt) → ⊥
 no_doubt_plain s qs r q plain h = h.decisive plain
 
+marked : (n : ℕ) → (n == 1) ≡ true → n ≡ 1
+marked n e = grind (arith, nat_tests, e)
+
 marked_or_not : (n : ℕ) (b : Bool) → b ≡ (n == 1) → n ≡ 1 → b ≡ true
 marked_or_not n b is one = is ∙ ap (λ x. x == 1) one
 
+-- the question's least place, or the number of regions where it has none
+abbrev pub first_place : Tally → (q count : ℕ) → ℕ
+first_place t q count = unwrap_or (get_or t.least q none_place) count
+
+below_first : (t : Tally) (q count r : ℕ) → r < first_place t q count → IsBelow t q r
+below_first t q count r lt = λ p found.
+    let same : get_or t.least q none_place ≡ Some p = get_or_from_slice_get t.least q (Some p) none_place found in
+    subst (λ (o : Option ℕ). r < unwrap_or o count) same lt
+
+first_within : (s : BookData) (qs : List QuestionData) (t : Tally) (q : ℕ) (o : Option ℕ) → IsFullTally s qs t
+    → get_or t.least q none_place ≡ o → unwrap_or o (length s.regions) ≤ length s.regions
+first_within s qs t q None h e = omega arith
+first_within s qs t q (Some p) h e = let b = h.breaks q p (place_there t.least q p e) in omega (arith, b.0)
+
+-- each region below the least place is unbroken, and every region where there is none
 pub tally_unbroken : (s : BookData) (qs : List QuestionData) (t : Tally) (q : ℕ)
     (question : QuestionData) (doubt : Bool)
-    → IsFullTally s qs t → q < length qs → slice_get qs q ≡ Some question → get_or t.least q none_place ≡ None
-    → doubt ≡ (bit_of t.doubts q == 1) → (r : ℕ) → r < length s.regions → IsUnbroken s question doubt r
-tally_unbroken s qs t q question doubt h lt asked none is r below = ⊎_elim
+    → IsFullTally s qs t → q < length qs → slice_get qs q ≡ Some question
+    → doubt ≡ (bit_of t.doubts q == 1) → (r : ℕ) → r < first_place t q (length s.regions)
+    → IsUnbroken s question doubt r
+tally_unbroken s qs t q question doubt h lt asked is r below = ⊎_elim
     (λ (x : HasNoBreak s qs r q). none_unbroken s qs q question doubt r asked x)
     (λ (x : (bit_of t.doubts q ≡ 1) × IsRightWhereGiven s qs r q (Some Doubt)).
     subst (λ b. IsUnbroken s question b r) (sym (marked_or_not (bit_of t.doubts q) doubt is x.0))
     (entry_unbroken s qs q question r asked x.1))
-    (h.cleared q r lt below (λ p found. absurd (let same : get_or t.least q none_place
-    ≡ Some p = get_or_from_slice_get t.least q (Some p) none_place found in cc (same, none))))
-
-pub tally_first : (s : BookData) (qs : List QuestionData) (t : Tally) (q place : ℕ) (question : QuestionData)
-    → IsFullTally s qs t
-    → q < length qs → slice_get qs q ≡ Some question → slice_get t.least q ≡ Some (Some place) → IsPlain s.stack
-    → (e : ℕ) → e < place → (x : Input) → ¬ IsBreakAt s e question x
-tally_first s qs t q place question h lt asked least plain e earlier x breaks =
-    let b = h.breaks q place least in ⊎_elim
-    (λ (y : HasNoBreak s qs e q). y x (record { question = question; asked = asked; breaks = breaks }))
-    (λ (y : (bit_of t.doubts q ≡ 1) × IsRightWhereGiven s qs e q (Some Doubt)). no_doubt_plain s qs e q plain y.1)
-    (h.cleared q e lt (omega (arith, earlier, b.0)) (λ p found. let same : p ≡ place = cc (found, least) in
-    omega (arith, same, earlier)))
-
--- below the least place each region is without a hit
-pub tally_passed : (s : BookData) (qs : List QuestionData) (t : Tally) (q place : ℕ) (question : QuestionData)
-    → IsFullTally s qs t
-    → q < length qs → slice_get qs q ≡ Some question
-    → slice_get t.least q ≡ Some (Some place) → (e : ℕ) → e < place → IsWithoutHit s question e
-tally_passed s qs t q place question h lt asked least e earlier =
-    let b = h.breaks q place least in ⊎_elim
-    (λ (y : HasNoBreak s qs e q). (none_unbroken s qs q question true e asked y).passed)
-    (λ (y : (bit_of t.doubts q ≡ 1) × IsRightWhereGiven s qs e q (Some Doubt)).
-    (entry_unbroken s qs q question e asked y.1).passed)
-    (h.cleared q e lt (omega (arith, earlier, b.0)) (λ p found. let same : p ≡ place = cc (found, least) in
-    omega (arith, same, earlier)))
+    (h.cleared q r lt
+    (omega (arith, below, first_within s qs t q (get_or t.least q none_place) h refl))
+    (below_first t q (length s.regions) r below))
 
 -- a bit that is set tells of a region in doubt
 pub tally_doubtful : (s : BookData) (qs : List QuestionData) (t : Tally) (q : ℕ)
@@ -140,9 +143,13 @@ tally_doubtful s qs t q question doubt h lt asked is set =
     let d = h.doubts q lt one in
     let same : d.2.question ≡ question = cc (d.2.asked, asked) in
     (d.0, d.1, subst (IsDoubtful s d.0) same d.2.tried)
-  where
-    marked : (n : ℕ) → (n == 1) ≡ true → n ≡ 1
-    marked n e = grind (arith, nat_tests, e)
+
+-- on a plain stack no bit is set
+pub tally_plain : (s : BookData) (qs : List QuestionData) (t : Tally) (q : ℕ) (doubt : Bool) → IsFullTally s qs t
+    → q < length qs → doubt ≡ (bit_of t.doubts q == 1) → IsPlain s.stack → doubt ≡ false
+tally_plain s qs t q false h lt is plain = refl
+tally_plain s qs t q true h lt is plain = let d = h.doubts q lt (marked (bit_of t.doubts q) (sym is)) in
+    absurd (no_doubt_plain s qs d.0 q plain d.2)
 
 pub question_there : (qs : List QuestionData) (q : ℕ) (x : QuestionData) → q < length qs → x ≡ get_or qs q x
     → slice_get qs q ≡ Some x
@@ -164,9 +171,3 @@ replies_more P [] x all this (suc p) y e = absurd (cc)
 replies_more P (z ∷ xs) x all this zero y e = all 0 y e
 replies_more P (z ∷ xs) x all this (suc p) y e =
     replies_more (λ k. P (suc k)) xs x (λ k w at. all (suc k) w at) this p y e
-
--- a place that is read is there
-pub place_there : (l : List (Option ℕ)) (q x : ℕ) → get_or l q none_place ≡ Some x → slice_get l q ≡ Some (Some x)
-place_there [] q x e = absurd (cc (e))
-place_there (y ∷ l) zero x e = ap (λ (z : Option ℕ). Some z) e
-place_there (y ∷ l) (suc q) x e = place_there l q x e

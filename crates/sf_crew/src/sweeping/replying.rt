@@ -35,24 +35,8 @@ fn reply_without_hit(settled: &Settled, _question: &Question, doubt: bool) -> Re
     }
 }
 
-/// The reply by judging the regions one after another, without a tally.
-fn reply_in_turn(alloc: Global, settled: &Settled, question: &Question) -> Result<Reply, Fault>
-    ensures ok { IfOk result (IsReplyTo settled.now question.now) }
-    ensures err { IfErr result (λ f. f ≡ Memory) }
-{
-    let mut doubt = false;
-    for place in 0..settled.region_count() {
-        match judge(alloc, settled, place, question)? {
-            Verdict::Hit(input) => return Ok(Reply::Allowed(input)),
-            Verdict::Doubt => doubt = true,
-            Verdict::Clear => {}
-        }
-    }
-    Ok(reply_without_hit(settled, question, doubt))
-}
-
-/// The reply to one question. The region at its least place is judged again, for the example. If that gave no example,
-/// the regions would be judged in turn.
+/// The reply to one question. For the example, the regions are judged again, from the question's least place on, until
+/// there is a hit: at that place already, where a verdict is the same each time. Without a least place none is judged.
 fn reply_of(
     alloc: Global,
     settled: &Settled,
@@ -66,14 +50,17 @@ fn reply_of(
     ensures err { IfErr result (λ f. f ≡ Memory) }
 {
     let question = &questions[q];
-    let Some(place) = tally.least[q] else {
-        let doubt = has_bit(&tally.doubts, q);
-        return Ok(reply_without_hit(settled, question, doubt));
-    };
-    if let Verdict::Hit(input) = judge(alloc, settled, place, question)? {
-        return Ok(Reply::Allowed(input));
+    let mut doubt = has_bit(&tally.doubts, q);
+    let count = settled.region_count();
+    let first = tally.least[q].unwrap_or(count);
+    for place in first..count {
+        match judge(alloc, settled, place, question)? {
+            Verdict::Hit(input) => return Ok(Reply::Allowed(input)),
+            Verdict::Doubt => doubt = true,
+            Verdict::Clear => {}
+        }
     }
-    reply_in_turn(alloc, settled, question)
+    Ok(reply_without_hit(settled, question, doubt))
 }
 
 /// A reply to each question, by this many workers, which judge the regions by a board. The gate sees each sheet between

@@ -1,7 +1,7 @@
 use Rattle.std.proofs.Common.{◌≡◌, ℕ, ◌<◌, true, false}
 use Rattle.sf_check.specs.Stacks.{IsPlain}
 use Rattle.sf_crew.specs.Sweeps.{IsUnbroken, HasDoubt}
-use Rattle.sf_crew.proofs.sweeping.replying.reply_in_turn.Given as goal
+use Rattle.sf_crew.proofs.sweeping.replying.reply_of.Given as goal
 
 abbrev pub invariant-loop-place : goal.invariant-loop-place
 invariant-loop-place l = record {
