@@ -63,7 +63,9 @@ module _ {T : Type 0} where
   Gets v x w = (between : List (Event T)) × (h : List (Event T)) × HasHistory v between h × (first_left h ≡ Some x)
       × (w ≡ handle_view v.me v.made (h ++ Got v.me ∷ []))
 
-  -- at some moment each item that was put had been got
+  -- At some moment each item that was put had been got. Of steps of other handles a handle knows only that the history
+  -- was lawful with them. So an owner with thieves, and any thief, learns here no more than that others may have got
+  -- what it didn't get itself. An owner without thieves learns that it got all.
   abbrev pub AllGot : HandleView T → Type 0
   AllGot v = (between : List (Event T)) × (h : List (Event T)) × HasHistory v between h
       × (got_count h ≡ length (put_items h))

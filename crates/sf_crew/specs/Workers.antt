@@ -67,15 +67,16 @@ Steals vs (Some x) ws = GetsOne vs x ws
 abbrev pub IsIdle : {N : Type 0} → Worker N → Worker N → Type 0
 IsIdle v w = (own_view w ≡ own_view v) × (other_views w ≡ other_views v)
 
--- The lease is from the worker's own bench. Only where all that was put there had been got is it stolen, and only where
--- none was is it from the book.
+-- The lease is from the worker's own bench. Only where nothing was found there is it stolen. Only where none was stolen
+-- do the handles nothing: then the lease comes from the book, which isn't said here, since other workers have the book
+-- next.
 abbrev pub Finds : {N : Type 0} → Worker N → Lease → Worker N → Type 0
 Finds v x w =
     (Gets (own_view v) x (own_view w) × (other_views w ≡ other_views v))
     ⊎ (AllGot (own_view v) × (own_view w ≡ own_view v) × GetsOne (other_views v) x (other_views w))
     ⊎ (AllGot (own_view v) × IsIdle v w)
 
--- the worker holds its next lease; or all that was put on its own bench had been got, and none was stolen
+-- the worker holds its next lease; or nothing was found on its own bench, and none was stolen
 abbrev pub HoldsNext : {N : Type 0} → Worker N → Option Lease → Worker N → Type 0
 HoldsNext v None w = AllGot (own_view v) × IsIdle v w
 HoldsNext v (Some x) w = Finds v x w

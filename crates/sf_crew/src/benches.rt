@@ -90,7 +90,8 @@ impl<T> Owner<T> {
     }
 
     /// Takes the first item that no handle has got, at one moment of the call. `None` where each item that was put had
-    /// been got, by this handle or by the thieves that were made with it.
+    /// been got, by this handle or by the thieves that were made with it. What thieves got isn't known to the owner: with
+    /// thieves the contract says only that some lawful history has it so. Without thieves it says exactly what is got.
     pub fn take(&mut self) -> Option<T>
         ensures got { MatchOption result ((owner_view self.new ≡ owner_view self.old)
             × AllGot (owner_view self.old))
@@ -105,7 +106,8 @@ impl<T> Owner<T> {
 
 impl<T> Thief<T> {
     /// Takes the first item that no handle has got, at one moment of the call. `Empty` where each item that was put had
-    /// been got; `Retry` where another handle came first, and this one got nothing.
+    /// been got, which the contract says only of some lawful history, since a thief doesn't know what others did.
+    /// `Retry` where another handle came first, and this one got nothing.
     pub fn steal(&mut self) -> Steal<T>
         ensures got { MatchSteal result ((thief_view self.new ≡ thief_view self.old)
             × AllGot (thief_view self.old)) (thief_view self.new ≡ thief_view self.old)

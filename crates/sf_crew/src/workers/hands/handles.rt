@@ -15,7 +15,7 @@ pub(crate) struct NewBench<N: Naming> {
     ghost unused: { length (owner_view owner).events ≡ 0 },
 }
 
-/// A worker's own bench. It can't be dropped: it is closed when all that was put on it was got.
+/// A worker's own bench. It can't be dropped: it is closed when nothing was found on it, as `take` tells.
 pub(crate) struct Bench<N: Naming> {
     owner: Owner<NamedLease<N>>,
 }
@@ -59,7 +59,8 @@ impl<N: Naming> Bench<N> {
         }
     }
 
-    /// The first lease that no handle has got. `None` where each that was put had been got.
+    /// The first lease that no handle has got. `None` where each that was put had been got, by the owner or, as far as it
+    /// knows, by thieves.
     pub(crate) fn take(&mut self) -> Option<Held<N>>
         ensures { MatchOption result ((owner_view self.new.owner ≡ owner_view self.old.owner)
             × AllGot (owner_view self.old.owner))
@@ -69,7 +70,7 @@ impl<N: Naming> Bench<N> {
         Some(Held { lease })
     }
 
-    /// The handle of a bench on which nothing is left.
+    /// The handle of a bench on which nothing was found. With thieves the clause doesn't say what they got.
     pub(crate) fn close(self) -> Owner<NamedLease<N>>
         requires { AllGot (owner_view self.owner) }
         ensures { result ≡ self.owner }
