@@ -1,6 +1,6 @@
 -- Why what is found of two stacks is right.
 use Rattle.std.proofs.lemmas.Grind.{common_steps}
-use Rattle.std.proofs.Common.{◌≡◌, ℕ, zero, suc, ◌+◌, ◌-◌, ◌<◌, ◌++◌, true, List, [], ◌∷◌, length, take, drop, Some, slice_get, refl, sym, subst, inl, inr, arith, length-drop}
+use Rattle.std.proofs.Common.{◌≡◌, ℕ, zero, suc, ◌+◌, ◌-◌, ◌<◌, ◌++◌, ◌∙◌, true, false, true≢false, List, [], ◌∷◌, length, take, drop, Some, slice_get, refl, sym, subst, inl, inr, arith, length-drop}
 use Rattle.std.proofs.lemmas.Bool.{cases_eq}
 use Rattle.std.proofs.lemmas.Option.{same_Some}
 use Rattle.std.proofs.lemmas.List.{take-append-drop, take_all}
@@ -19,12 +19,13 @@ use Rattle.sf_book.specs.ExactLaws.{member_trace}
 use Rattle.sf_ask.specs.MemberLaws.{in_some_region}
 use Rattle.sf_compare.specs.declared.relation.Relation.{Relation}
 use Rattle.sf_compare.specs.declared.changes.Change.{Change}
-use Rattle.sf_compare.specs.declared.changes.Change.TheVariants.{Never, Found}
-use Rattle.sf_compare.specs.declared.changes.Example.{Example}
+use Rattle.sf_compare.specs.declared.changes.Change.TheVariants.{Never, Found, Unsettled}
+use Rattle.sf_compare.specs.declared.changes.Findings.{Findings}
+use Rattle.sf_ask.specs.declared.members.Membership.{Membership}
+use Rattle.sf_ask.specs.declared.members.Membership.TheVariants.{Empty, Member, Doubt}
 use Rattle.sf_compare.specs.declared.relation.Relation.TheVariants.{Looser, Tighter, Different}
-use Rattle.sf_compare.specs.Comparisons.{change_of}
 use Rattle.sf_compare.specs.Relations.{AreRelated}
-use Rattle.sf_compare.specs.Changes.{IsChange, old_of, new_of, AreAnswersOf, AreAnswersAt, IsUnchangedAt, IsLeastAt, IsChangeOf}
+use Rattle.sf_compare.specs.Changes.{AllTellBefore, AreAnswersAt, AreAnswersOf, Follows, IsChange, IsChangeOf, IsDoubtfulAt, IsMembershipAt, IsSought, IsUnchangedAt, IsWithoutExample, TellsBefore, finding_of, new_of, old_of, with_membership}
 
 -- the two parts make the stack
 pub both_parts : (s : BookData) (older : ℕ) → old_of s older ++ new_of s older ≡ s.stack
@@ -91,30 +92,158 @@ one_more s older relation n before here r lt = elim (cases_eq r n) [
   | inr other ↦ before r (omega arith)
 ]
 
--- an example from the first region that has a member that is changed so
-pub found : (s : BookData) (older : ℕ) (relation : Relation) (place : ℕ) (e : Example)
-    → IsChange (old_of s older) (new_of s older) relation e.input e.before e.after
-    → (IsPlain s.stack → IsLeastAt s place e.input)
-    → (IsPlain s.stack → (r : ℕ) → r < place → IsUnchangedAt s older relation r)
-    → IsChangeOf s older relation (Found e)
-found s older relation place e change least earlier = record {
-  right = change;
-  plain = λ h. record { place = place; least = least h; none_earlier = earlier h };
+-- the same, where the earlier regions may be in doubt
+without_more : (s : BookData) (older : ℕ) (relation : Relation) (n : ℕ)
+    → ((r : ℕ) → r < n → IsWithoutExample s older relation r) → IsWithoutExample s older relation n
+    → (r : ℕ) → r < n + 1 → IsWithoutExample s older relation r
+without_more s older relation n before here r lt = elim (cases_eq r n) [
+  | inl same ↦ subst (λ (i : ℕ). IsWithoutExample s older relation i) (sym same) here
+  | inr other ↦ before r (omega arith)
+]
+
+-- a region in which no example is sought changes nothing
+unsought : (s : BookData) (older : ℕ) (relation : Relation) (place : ℕ) (both : PartAnswers) (found : Change)
+    → AreAnswersAt s older place both → (IsSought relation both found → ⊥) → TellsBefore s older place relation found
+    → TellsBefore s older (place + 1) relation found
+unsought s older relation place both Never told none before =
+    one_more s older relation place before (unrelated s older relation place both told none)
+unsought s older relation place both (Found e) told none before = before
+unsought s older relation place both Unsettled told none before = (
+  without_more s older relation place before.0 (inl (unrelated s older relation place both told none)),
+  before.1,
+  before.2,
+)
+
+-- a region without members has none that is changed so
+empty_unchanged : (s : BookData) (older : ℕ) (relation : Relation) (place : ℕ) → IsMembershipAt s place Empty
+    → IsUnchangedAt s older relation place
+empty_unchanged s older relation place m = λ d before after member change.
+    let same : m.region ≡ member.region = cc (m.there, member.there) in
+    true≢false (sym member.member ∙ subst (λ (r : RegionData). is_member r.piece d ≡ false) same
+    (m.right.none d member.input))
+
+-- a region whose answers are so related, and of which an input was tried that is no member, is in doubt
+doubtful : (s : BookData) (older : ℕ) (relation : Relation) (place : ℕ) (both : PartAnswers)
+    → AreAnswersAt s older place both → IsMembershipAt s place Doubt → AreRelated relation both.older both.newer
+    → IsDoubtfulAt s older relation place
+doubtful s older relation place both told m related = record {
+  region = m.region;
+  there = m.there;
+  both = both;
+  answers = told m.region m.there;
+  related = related;
+  tried = m.right.0;
+  is = m.right.1;
+  outside = m.right.2;
 }
 
--- what is found of each relation is right
-pub all_told : (s : BookData) (older : ℕ) (looser tighter different : Change) → IsChangeOf s older Looser looser
-    → IsChangeOf s older Tighter tighter → IsChangeOf s older Different different → (relation : Relation)
-    → IsChangeOf s older relation (change_of (record {
-      settled = s;
-      older = older;
-      looser = looser;
-      tighter = tighter;
-      different = different;
-    }) relation)
-all_told s older l t d looser tighter different Looser = looser
-all_told s older l t d looser tighter different Tighter = tighter
-all_told s older l t d looser tighter different Different = different
+-- a member of a region whose answers are so related is an example, where each earlier region is without one
+found : (s : BookData) (older : ℕ) (relation : Relation) (place : ℕ) (both : PartAnswers) (d : Input)
+    → AreAnswersAt s older place both → IsMembershipAt s place (Member d) → AreRelated relation both.older both.newer
+    → ((r : ℕ) → r < place → IsWithoutExample s older relation r)
+    → (IsPlain s.stack → (r : ℕ) → r < place → IsUnchangedAt s older relation r)
+    → IsChangeOf s older relation (Found (record { input = d; before = both.older; after = both.newer }))
+found s older relation place both d told m related without earlier = record {
+  right = (
+    changed s older relation m.region both d (told m.region m.there) related m.right.0 m.right.1,
+    record {
+      place = place;
+      member = record { region = m.region; there = m.there; input = m.right.0; member = m.right.1 };
+      earlier = without;
+    },
+  );
+  plain = λ h. record {
+    place = place;
+    least = record { region = m.region; there = m.there; least = m.plain h };
+    none_earlier = earlier h;
+  };
+}
+
+-- a region in which an example is sought: none was found before it
+sought_never : (s : BookData) (older : ℕ) (relation : Relation) (place : ℕ) (both : PartAnswers) (m : Membership)
+    → AreAnswersAt s older place both → IsMembershipAt s place m → AreRelated relation both.older both.newer
+    → TellsBefore s older place relation Never
+    → TellsBefore s older (place + 1) relation (with_membership m both Never)
+sought_never s older relation place both Empty told m related before =
+    one_more s older relation place before (empty_unchanged s older relation place m)
+sought_never s older relation place both (Member d) told m related before =
+    found s older relation place both d told m related (λ r lt. inl (before r lt)) (λ h r lt. before r lt)
+sought_never s older relation place both Doubt told m related before =
+    let here = doubtful s older relation place both told m related in (
+      without_more s older relation place (λ r lt. inl (before r lt)) (inr here),
+      (place, here),
+      λ h. m.plain h,
+    )
+
+sought_unsettled : (s : BookData) (older : ℕ) (relation : Relation) (place : ℕ) (both : PartAnswers) (m : Membership)
+    → AreAnswersAt s older place both → IsMembershipAt s place m → AreRelated relation both.older both.newer
+    → TellsBefore s older place relation Unsettled
+    → TellsBefore s older (place + 1) relation (with_membership m both Unsettled)
+sought_unsettled s older relation place both Empty told m related before = (
+  without_more s older relation place before.0 (inl (empty_unchanged s older relation place m)),
+  before.1,
+  before.2,
+)
+sought_unsettled s older relation place both (Member d) told m related before =
+    found s older relation place both d told m related before.0 (λ h. absurd (before.2 h))
+sought_unsettled s older relation place both Doubt told m related before =
+    let here = doubtful s older relation place both told m related in (
+      without_more s older relation place before.0 (inr here),
+      before.1,
+      before.2,
+    )
+
+sought : (s : BookData) (older : ℕ) (relation : Relation) (place : ℕ) (both : PartAnswers) (m : Membership)
+    (found : Change) → AreAnswersAt s older place both → IsMembershipAt s place m → IsSought relation both found
+    → TellsBefore s older place relation found
+    → TellsBefore s older (place + 1) relation (with_membership m both found)
+sought s older relation place both m Never told here is before =
+    sought_never s older relation place both m told here is before
+sought s older relation place both m (Found e) told here is before = absurd is
+sought s older relation place both m Unsettled told here is before =
+    sought_unsettled s older relation place both m told here is before
+
+-- what is found after a region is right
+pub tells_after : (s : BookData) (older : ℕ) (relation : Relation) (place : ℕ) (both : PartAnswers) (m : Membership)
+    (found next : Change) → AreAnswersAt s older place both → IsMembershipAt s place m
+    → Follows relation both m found next → TellsBefore s older place relation found
+    → TellsBefore s older (place + 1) relation next
+tells_after s older relation place both m found next told here follows before = elim follows [
+  | inl is ↦ subst (λ (c : Change). TellsBefore s older (place + 1) relation c) (sym is.1)
+      (sought s older relation place both m found told here is.0 before)
+  | inr same ↦ subst (λ (c : Change). TellsBefore s older (place + 1) relation c) (sym same.1)
+      (unsought s older relation place both found told same.0 before)
+]
+
+-- a region in which no example of any relation is sought changes nothing
+pub all_unsought : (s : BookData) (older : ℕ) (place : ℕ) (both : PartAnswers) (f : Findings)
+    → AreAnswersAt s older place both → ((relation : Relation) → IsSought relation both (finding_of f relation) → ⊥)
+    → AllTellBefore s older place f → AllTellBefore s older (place + 1) f
+all_unsought s older place both f told none before = λ relation.
+    unsought s older relation place both (finding_of f relation) told (none relation) (before relation)
+
+-- where every region was looked at
+pub tells_at_end : (s : BookData) (older : ℕ) (place : ℕ) (f : Findings) → AllTellBefore s older place f
+    → place ≡ length s.regions → (relation : Relation)
+    → TellsBefore s older (length s.regions) relation (finding_of f relation)
+tells_at_end s older place f told end relation =
+    subst (λ (n : ℕ). TellsBefore s older n relation (finding_of f relation)) end (told relation)
+
+-- where a piece is outstanding and no example was found, the relation is unsettled
+pub left_unsettled : (s : BookData) (older : ℕ) (relation : Relation) → 0 < length s.outstanding
+    → ((r : ℕ) → r < length s.regions → IsUnchangedAt s older relation r) → IsChangeOf s older relation Unsettled
+left_unsettled s older relation left all = record {
+  right = (λ r lt. inl (all r lt), inl left);
+  plain = λ _. left;
+}
+
+-- what holds of what is found of each of the three relations holds of every relation
+pub for_each : (P : Relation → Change → Type 0) (looser tighter different : Change) → P Looser looser
+    → P Tighter tighter → P Different different → (relation : Relation)
+    → P relation (finding_of (record { looser = looser; tighter = tighter; different = different }) relation)
+for_each P l t d looser tighter different Looser = looser
+for_each P l t d looser tighter different Tighter = tighter
+for_each P l t d looser tighter different Different = different
 
 -- what holds of each element of a list at its place, and of one more at the end, holds of the longer list
 pub one_pushed : {X : Type 0} (P : ℕ → X → Type 0) (xs : List X) (x : X)

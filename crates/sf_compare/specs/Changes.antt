@@ -10,10 +10,14 @@ use Rattle.sf_run.specs.Answers.{Answers}
 use Rattle.sf_piece.specs.Pieces.{is_member}
 use Rattle.sf_book.specs.Books.{RegionData, BookData}
 use Rattle.sf_ask.specs.Verdicts.{IsMemberAt}
-use Rattle.sf_ask.specs.Members.{IsLeastMember}
+use Rattle.sf_ask.specs.declared.members.Membership.{Membership}
+use Rattle.sf_ask.specs.declared.members.Membership.TheVariants.{Empty, Member, Doubt}
+use Rattle.sf_ask.specs.Members.{IsLeastFound, IsLeastMember, IsRightMembership}
 use Rattle.sf_compare.specs.declared.relation.Relation.{Relation}
+use Rattle.sf_compare.specs.declared.relation.Relation.TheVariants.{Looser, Tighter, Different}
 use Rattle.sf_compare.specs.declared.changes.Change.{Change}
 use Rattle.sf_compare.specs.declared.changes.Change.TheVariants.{Never, Found, Unsettled}
+use Rattle.sf_compare.specs.declared.changes.Findings.{Findings}
 use Rattle.sf_compare.specs.Relations.{AreRelated}
 
 -- An input is changed: the old stack answers it with the answer before, the new one with the answer after, and these
@@ -56,6 +60,7 @@ pub record IsDoubtfulAt (s : BookData) (older : ℕ) (relation : Relation) (plac
   pub answers : AreAnswersOf s older region both
   pub related : AreRelated relation both.older both.newer
   pub tried : Input
+  pub is : IsInput tried
   pub outside : is_member region.piece tried ≡ false
 
 -- no member of the region at a place is changed so
@@ -70,24 +75,28 @@ pub record IsLeastAt (s : BookData) (place : ℕ) (d : Input) : Type 0 where
   pub there : slice_get s.regions place ≡ Some region
   pub least : IsLeastMember region.piece d
 
--- What is found of a relation in the region at a place: no member is changed so; this member is, and on a plain stack
--- it is the least one; or the region is in doubt, which none is on a plain stack.
-abbrev pub TellsOfRegion : BookData → ℕ → Relation → ℕ → Change → Type 0
-TellsOfRegion s older relation place Never = IsUnchangedAt s older relation place
-TellsOfRegion s older relation place (Found e) =
-    IsChange (old_of s older) (new_of s older) relation e.input e.before e.after
-    × (IsPlain s.stack → IsLeastAt s place e.input)
-TellsOfRegion s older relation place Unsettled = IsDoubtfulAt s older relation place × ¬ IsPlain s.stack
+-- no member of the region at a place is changed so, or the region is in doubt
+abbrev pub IsWithoutExample : BookData → ℕ → Relation → ℕ → Type 0
+IsWithoutExample s older relation place = IsUnchangedAt s older relation place ⊎ IsDoubtfulAt s older relation place
+
+-- an example is a member of the region at a place, and each earlier region is without one
+pub record IsFirstFound (s : BookData) (older : ℕ) (relation : Relation) (d : Input) : Type 0 where
+  pub place : ℕ
+  pub member : IsMemberAt s place d
+  pub earlier : (region : ℕ) → region < place → IsWithoutExample s older relation region
 
 -- What is found of a relation is right: never, where nothing is outstanding and no input is changed so; found, with
--- an input that is; and unsettled only where a piece is outstanding or a region is in doubt.
+-- an input that is, of the first region that isn't without one; and unsettled only where every region is without one,
+-- and a piece is outstanding or some region is in doubt.
 abbrev pub IsRightChange : BookData → ℕ → Relation → Change → Type 0
 IsRightChange s older relation Never = (s.outstanding ≡ [])
     × ((d : Input) (before after : Answer) → IsChange (old_of s older) (new_of s older) relation d before after → ⊥)
 IsRightChange s older relation (Found e) =
     IsChange (old_of s older) (new_of s older) relation e.input e.before e.after
+    × IsFirstFound s older relation e.input
 IsRightChange s older relation Unsettled =
-    (0 < length s.outstanding) ⊎ ((place : ℕ) × IsDoubtfulAt s older relation place)
+    ((place : ℕ) → place < length s.regions → IsWithoutExample s older relation place)
+    × ((0 < length s.outstanding) ⊎ ((place : ℕ) × IsDoubtfulAt s older relation place))
 
 -- the least member of the first region with a member that is changed so
 pub record IsFirstExample (s : BookData) (older : ℕ) (relation : Relation) (d : Input) : Type 0 where
@@ -105,3 +114,50 @@ IsPlainChange s older relation Unsettled = 0 < length s.outstanding
 pub record IsChangeOf (s : BookData) (older : ℕ) (relation : Relation) (change : Change) : Type 0 where
   pub right : IsRightChange s older relation change
   pub plain : IsPlain s.stack → IsPlainChange s older relation change
+
+-- what is found of a relation, of all that is found
+abbrev pub finding_of : Findings → Relation → Change
+finding_of f Looser = f.looser
+finding_of f Tighter = f.tighter
+finding_of f Different = f.different
+
+-- what is found of each relation is right, and on a plain stack it is exact
+abbrev pub AreFindings : BookData → ℕ → Findings → Type 0
+AreFindings s older f = (relation : Relation) → IsChangeOf s older relation (finding_of f relation)
+
+-- What is found of a relation in the regions before a place: no member is changed so; or this input is; or each is
+-- without an example, and some region is in doubt, which none is on a plain stack.
+abbrev pub TellsBefore : BookData → ℕ → ℕ → Relation → Change → Type 0
+TellsBefore s older end relation Never = (place : ℕ) → place < end → IsUnchangedAt s older relation place
+TellsBefore s older end relation (Found e) = IsChangeOf s older relation (Found e)
+TellsBefore s older end relation Unsettled =
+    ((place : ℕ) → place < end → IsWithoutExample s older relation place)
+    × ((place : ℕ) × IsDoubtfulAt s older relation place) × ¬ IsPlain s.stack
+
+-- what is found of each relation in the regions before a place
+abbrev pub AllTellBefore : BookData → ℕ → ℕ → Findings → Type 0
+AllTellBefore s older end f = (relation : Relation) → TellsBefore s older end relation (finding_of f relation)
+
+-- an example is sought in a region: none was found yet, and the two answers are so related
+abbrev pub IsSought : Relation → PartAnswers → Change → Type 0
+IsSought relation both Never = AreRelated relation both.older both.newer
+IsSought relation both (Found e) = ⊥
+IsSought relation both Unsettled = AreRelated relation both.older both.newer
+
+-- what is found of the members of the region at a place; on a plain stack it is the least one
+pub record IsMembershipAt (s : BookData) (place : ℕ) (m : Membership) : Type 0 where
+  pub region : RegionData
+  pub there : slice_get s.regions place ≡ Some region
+  pub right : IsRightMembership region.piece m
+  pub plain : IsPlain s.stack → IsLeastFound region.piece m
+
+-- what is found of a relation after a region in which an example was sought
+abbrev pub with_membership : Membership → PartAnswers → Change → Change
+with_membership Empty both found = found
+with_membership (Member d) both found = Found (record { input = d; before = both.older; after = both.newer })
+with_membership Doubt both found = Unsettled
+
+-- what is found of a relation after a region, of whose members this is found
+abbrev pub Follows : Relation → PartAnswers → Membership → (found next : Change) → Type 0
+Follows relation both m found next = (IsSought relation both found × (next ≡ with_membership m both found))
+    ⊎ ((IsSought relation both found → ⊥) × (next ≡ found))

@@ -8,19 +8,17 @@ use Rattle.sf_crew.specs.Explorations.{IsExplorationOf, IsExactExploration}
 use Rattle.sf_policy.specs.Filters.{SpellStack}
 use Rattle.sf_policy.specs.Texts.{answer_words, counts_line, hex_text, line}
 use Rattle.sf_compare.specs.declared.relation.Relation.{Relation}
-use Rattle.sf_compare.specs.declared.relation.Relation.TheVariants.{Looser, Tighter, Different}
 use Rattle.sf_compare.specs.declared.changes.Change.{Change}
 use Rattle.sf_compare.specs.declared.changes.Change.TheVariants.{Never, Found, Unsettled}
-use Rattle.sf_compare.specs.Changes.{IsChangeOf, new_of, old_of}
+use Rattle.sf_compare.specs.declared.changes.Findings.{Findings}
+use Rattle.sf_compare.specs.Changes.{IsChangeOf, finding_of, new_of, old_of}
 
 -- how the exploration of both stacks as one ended, how many of its programs the old stack has, and what is found of
 -- each relation
 pub record Compared : Type 0 where
   pub settled : BookData
   pub older : ℕ
-  pub looser : Change
-  pub tighter : Change
-  pub different : Change
+  pub findings : Findings
 
 -- the old stack is the first part of the whole
 pub record HasOldPart (c : Compared) : Type 0 where
@@ -28,9 +26,7 @@ pub record HasOldPart (c : Compared) : Type 0 where
 
 -- what is found of a relation
 abbrev pub change_of : Compared → Relation → Change
-change_of c Looser = c.looser
-change_of c Tighter = c.tighter
-change_of c Different = c.different
+change_of c relation = finding_of c.findings relation
 
 -- An exploration of the stack came to its end, with nothing outstanding or all of the budget spent; on a plain stack
 -- this is the exact end, whoever worked. What is found of its first programs, as the old stack, and the others is
@@ -69,8 +65,8 @@ sizes_text s older = comparison_title ++ (part_line (codes "old") (old_of s olde
 
 -- the lines of the relations
 abbrev pub changes_text : Compared → List ℕ
-changes_text c = change_line (codes "looser") c.looser ++ (change_line (codes "tighter") c.tighter
-    ++ change_line (codes "different") c.different)
+changes_text c = change_line (codes "looser") c.findings.looser ++ (change_line (codes "tighter") c.findings.tighter
+    ++ change_line (codes "different") c.findings.different)
 
 -- the whole text
 abbrev pub comparison_text : Compared → List ℕ

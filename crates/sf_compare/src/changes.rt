@@ -1,9 +1,9 @@
-//! What is found of a relation between the answers of two stacks, for all inputs.
+//! What is found of the relations between the answers of two stacks, for all inputs.
 
-ghost use Rattle.std.specs.Prelude.{◌≡◌, ◌<◌, ◌≤◌, ◌⊎◌, ℕ, true, false, length, slice_get, Some, IfOk, IfErr};
-ghost use Rattle.sf_check.specs.Stacks.{IsPlain};
+ghost use Rattle.std.specs.Prelude.{◌≡◌, ◌<◌, ◌≤◌, ◌+◌, ◌↔◌, ℕ, false, length, IfOk, IfErr, IsTrue};
 ghost use Rattle.sf_ask.specs.declared.fault.Fault.TheVariants.{Memory};
-ghost use Rattle.sf_compare.specs.Changes.{AreAnswersAt, AreAnswersOfRegions, IsChangeOf, IsUnchangedAt, IsDoubtfulAt, TellsOfRegion};
+ghost use Rattle.sf_compare.specs.declared.relation.Relation.{Relation as ARelation};
+ghost use Rattle.sf_compare.specs.Changes.{AllTellBefore, AreAnswersAt, AreAnswersOfRegions, AreFindings, Follows, IsChangeOf, IsSought, TellsBefore, finding_of};
 
 use crate::relation::Relation;
 use sf_ask::{Fault, Membership, find_member};
@@ -32,6 +32,14 @@ pub enum Change {
     Found(Example),
     /// Nothing was found, but a piece is outstanding or a region is in doubt.
     Unsettled,
+}
+
+/// What is found of each relation.
+#[derive(Clone, Copy, Debug, PartialEq, Eq)]
+pub(crate) struct Findings {
+    pub(crate) looser: Change,
+    pub(crate) tighter: Change,
+    pub(crate) different: Change,
 }
 
 /// The answers of both stacks to the members of the region at a place. `Memory` where an allocation is refused.
@@ -74,87 +82,144 @@ pub fn answers_of_regions(
     Ok(answers)
 }
 
-/// What is found of a relation in the region at a place: `Never` where no member is changed so, `Found` with a member
-/// that is, and else `Unsettled`. `Memory` where an allocation is refused.
-fn look_at(
+impl Findings {
+    /// What is found of a relation.
+    pub(crate) fn of(&self, relation: Relation) -> Change
+        ensures { result ≡ finding_of self.now relation }
+    {
+        match relation {
+            Relation::Looser => self.looser,
+            Relation::Tighter => self.tighter,
+            Relation::Different => self.different,
+        }
+    }
+
+    /// Whether an example of some relation is sought in a region whose members both stacks answer so.
+    fn seeks_example(&self, both: PartAnswers) -> bool
+        ensures { result ≡ false → (relation : ARelation)
+            → IsSought relation both (finding_of self.now relation) → ⊥ }
+    {
+        is_sought(Relation::Looser, both, self.looser)
+            || is_sought(Relation::Tighter, both, self.tighter)
+            || is_sought(Relation::Different, both, self.different)
+    }
+}
+
+/// Whether no example was found yet, and the two answers are so related.
+fn is_sought(relation: Relation, both: PartAnswers, found: Change) -> bool
+    ensures { IsTrue result ↔ IsSought relation both found }
+{
+    match found {
+        Change::Found(_) => false,
+        Change::Never | Change::Unsettled => relation.holds(both.older, both.newer),
+    }
+}
+
+/// What is found of a relation after one more region, from what was found before it, and of the region's members.
+fn change_after(
+    relation: Relation,
+    both: PartAnswers,
+    membership: Membership,
+    found: Change,
+) -> Change
+    ensures { Follows relation both membership found result }
+{
+    if !is_sought(relation, both, found) {
+        return found;
+    }
+    match membership {
+        Membership::Empty => found,
+        Membership::Doubt => Change::Unsettled,
+        Membership::Member(input) => Change::Found(Example {
+            input,
+            before: both.older,
+            after: both.newer,
+        }),
+    }
+}
+
+/// What is found of each relation after the region at a place. A member of it is looked for once, and only where an
+/// example is sought. `Memory` where an allocation is refused.
+fn findings_after(
     alloc: Global,
     settled: &Settled,
     older: usize,
-    relation: Relation,
     place: usize,
     both: PartAnswers,
-) -> Result<Change, Fault>
+    found: Findings,
+) -> Result<Findings, Fault>
     requires place { place < length settled.now.regions }
     requires answers { AreAnswersAt settled.now older place both }
-    ensures ok { IfOk result (TellsOfRegion settled.now older relation place) }
+    requires found { AllTellBefore settled.now older place found }
+    ensures ok { IfOk result (AllTellBefore settled.now older (place + 1)) }
     ensures err { IfErr result (λ f. f ≡ Memory) }
 {
     // For the prover: only clauses speak of it.
     let _of = older;
-    if !relation.holds(both.older, both.newer) {
-        return Ok(Change::Never);
+    if !found.seeks_example(both) {
+        return Ok(found);
     }
-    match find_member(alloc, settled.region(place).piece())? {
-        Membership::Empty => Ok(Change::Never),
-        Membership::Doubt => Ok(Change::Unsettled),
-        Membership::Member(input) => Ok(Change::Found(Example {
-            input,
-            before: both.older,
-            after: both.newer,
-        })),
-    }
+    let membership = find_member(alloc, settled.region(place).piece())?;
+    let looser = change_after(Relation::Looser, both, membership, found.looser);
+    let tighter = change_after(Relation::Tighter, both, membership, found.tighter);
+    let different = change_after(Relation::Different, both, membership, found.different);
+    Ok(Findings {
+        looser,
+        tighter,
+        different,
+    })
 }
 
-/// What is found where no region is known to have a member that is changed so: `Unsettled` where a region is in doubt
-/// or a piece is outstanding, and else `Never`.
-fn change_without_example(
-    settled: &Settled,
-    older: usize,
-    relation: Relation,
-    doubt: bool,
-) -> Change
-    requires passed { doubt ≡ false → (r : ℕ) → r < length settled.now.regions
-        → IsUnchangedAt settled.now older relation r }
-    requires doubtful { doubt ≡ true → (r : ℕ) × IsDoubtfulAt settled.now older relation r }
-    requires plain { IsPlain settled.now.stack → doubt ≡ false }
+/// What is found of a relation when every region was looked at: `Never` becomes `Unsettled` where a piece is
+/// outstanding.
+fn change_at_end(settled: &Settled, older: usize, relation: Relation, found: Change) -> Change
+    requires { TellsBefore settled.now older (length settled.now.regions) relation found }
     ensures { IsChangeOf settled.now older relation result }
 {
-    let left = settled.outstanding_count();
+    let any_left = settled.outstanding_count() > 0;
     // For the prover: only clauses speak of these.
     let _of = (older, relation);
-    if doubt || left > 0 {
-        Change::Unsettled
-    } else {
-        Change::Never
+    match found {
+        Change::Never if any_left => Change::Unsettled,
+        Change::Never => Change::Never,
+        Change::Unsettled => Change::Unsettled,
+        Change::Found(example) => Change::Found(example),
     }
 }
 
-/// What is found of a relation between the answers of an old stack and of a new one, for all inputs. Both were explored
-/// as one stack: its first `older` programs are the old stack, and the others the new one. The caller's condition: the
-/// stack has at least `older` programs, and `answers` are those of `answers_of_regions`.
+/// What is found of each relation between the answers of an old stack and of a new one, for all inputs. Both were
+/// explored as one stack: its first `older` programs are the old stack, and the others the new one. The caller's
+/// condition: `answers` are those of `answers_of_regions`.
 ///
-/// `Never` where nothing is outstanding and no input is changed so; `Found` with an input that is, a member of the
-/// first region in which one was found; else `Unsettled`. On a plain stack the example is the least one of the first
-/// region that has any, and `Unsettled` comes only where a piece is outstanding. `Memory` where an allocation is
-/// refused.
-pub fn find_change(
+/// `Never` where nothing is outstanding and no input is changed so. `Found` with an input that is: a member of a region
+/// before which no member of a region is changed so, but in regions that are in doubt. Else `Unsettled`: then no member
+/// of any region is changed so, but in regions in doubt, and some region is in doubt or a piece is outstanding. On a
+/// plain stack no region is in doubt, and the example is the least one of the first region that has any. `Memory` where
+/// an allocation is refused.
+pub(crate) fn find_changes(
     alloc: Global,
     settled: &Settled,
     older: usize,
     answers: &[PartAnswers],
-    relation: Relation,
-) -> Result<Change, Fault>
+) -> Result<Findings, Fault>
     requires { AreAnswersOfRegions settled.now older answers.now }
-    ensures ok { IfOk result (IsChangeOf settled.now older relation) }
+    ensures ok { IfOk result (AreFindings settled.now older) }
     ensures err { IfErr result (λ f. f ≡ Memory) }
 {
-    let mut doubt = false;
+    let mut found = Findings {
+        looser: Change::Never,
+        tighter: Change::Never,
+        different: Change::Never,
+    };
     for place in 0..answers.len() {
-        match look_at(alloc, settled, older, relation, place, answers[place])? {
-            Change::Found(example) => return Ok(Change::Found(example)),
-            Change::Unsettled => doubt = true,
-            Change::Never => {}
-        }
+        found = findings_after(alloc, settled, older, place, answers[place], found)?;
     }
-    Ok(change_without_example(settled, older, relation, doubt))
+    let looser = change_at_end(settled, older, Relation::Looser, found.looser);
+    let tighter = change_at_end(settled, older, Relation::Tighter, found.tighter);
+    let different = change_at_end(settled, older, Relation::Different, found.different);
+    Ok(Findings {
+        looser,
+        tighter,
+        different,
+    })
 }

@@ -4,7 +4,7 @@ ghost use Rattle.std.specs.Prelude.{◌≡◌, ◌⊎◌, ◌<◌, ◌≤◌, le
 ghost use Rattle.sf_policy.specs.Filters.{IsFirstRefusal};
 ghost use Rattle.sf_compare.specs.Comparisons.{change_of, IsComparedOn, IsComparison};
 
-use crate::changes::{Change, answers_of_regions, find_change};
+use crate::changes::{Change, Findings, answers_of_regions, find_changes};
 use crate::relation::Relation;
 use sf_book::Settled;
 use sf_check::Stack;
@@ -20,9 +20,7 @@ use std::thread::Threads;
 pub struct Comparison {
     settled: Settled,
     older: usize,
-    looser: Change,
-    tighter: Change,
-    different: Change,
+    findings: Findings,
 }
 
 impl Model for Comparison {
@@ -33,17 +31,13 @@ impl Model for Comparison {
     ghost view = { λ c. record {
       settled = c.settled;
       older = c.older;
-      looser = c.looser;
-      tighter = c.tighter;
-      different = c.different;
+      findings = c.findings;
     } };
 
     ghost invariant = { λ c. HasOldPart (record {
       settled = c.settled;
       older = c.older;
-      looser = c.looser;
-      tighter = c.tighter;
-      different = c.different;
+      findings = c.findings;
     }) };
 }
 
@@ -67,11 +61,7 @@ impl Comparison {
     pub fn change(&self, relation: Relation) -> Change
         ensures { result ≡ change_of self.now relation }
     {
-        match relation {
-            Relation::Looser => self.looser,
-            Relation::Tighter => self.tighter,
-            Relation::Different => self.different,
-        }
+        self.findings.of(relation)
     }
 }
 
@@ -93,27 +83,11 @@ fn compare_parts<R: Threads + Wait + Sync, G: Gate>(
     let stack = Arc::new(alloc, stack)?;
     let settled = explore(rt, alloc, stack, budget, workers, gate)?;
     let answers = answers_of_regions(alloc, &settled, older)?;
-    let looser = find_change(alloc, &settled, older, answers.as_slice(), Relation::Looser)?;
-    let tighter = find_change(
-        alloc,
-        &settled,
-        older,
-        answers.as_slice(),
-        Relation::Tighter,
-    )?;
-    let different = find_change(
-        alloc,
-        &settled,
-        older,
-        answers.as_slice(),
-        Relation::Different,
-    )?;
+    let findings = find_changes(alloc, &settled, older, answers.as_slice())?;
     Ok(Comparison {
         settled,
         older,
-        looser,
-        tighter,
-        different,
+        findings,
     })
 }
 
