@@ -11,18 +11,21 @@ use Rattle.sf_compare.specs.declared.relation.Relation.{Relation}
 use Rattle.sf_compare.specs.declared.changes.Change.{Change}
 use Rattle.sf_compare.specs.declared.changes.Change.TheVariants.{Never, Found, Unsettled}
 use Rattle.sf_compare.specs.declared.changes.Findings.{Findings}
-use Rattle.sf_compare.specs.Changes.{IsChangeOf, finding_of, new_of, old_of}
+use Rattle.sf_run.specs.declared.replaying.PartAnswers.{PartAnswers}
+use Rattle.sf_compare.specs.Changes.{AreAnswersOfRegions, IsChangeOf, finding_of, new_of, old_of}
 
--- how the exploration of both stacks as one ended, how many of its programs the old stack has, and what is found of
--- each relation
+-- how the exploration of both stacks as one ended, how many of its programs the old stack has, the answers of both to
+-- the members of each region, and what is found of each relation
 pub record Compared : Type 0 where
   pub settled : BookData
   pub older : ℕ
+  pub answers : List PartAnswers
   pub findings : Findings
 
--- the old stack is the first part of the whole
-pub record HasOldPart (c : Compared) : Type 0 where
+-- the old stack is the first part of the whole, and the answers are those of the two parts
+pub record IsOfTwoStacks (c : Compared) : Type 0 where
   pub part : c.older ≤ length c.settled.stack
+  pub answers : AreAnswersOfRegions c.settled c.older c.answers
 
 -- what is found of a relation
 abbrev pub change_of : Compared → Relation → Change

@@ -65,7 +65,7 @@ fn answers_at(
 /// The answers of both stacks to the members of each region, in the order of the regions. Both were explored as one
 /// stack: its first `older` programs are the old stack, and the others the new one. The caller's condition: the stack
 /// has at least `older` programs. `Memory` where an allocation is refused.
-pub fn answers_of_regions(
+pub(crate) fn answers_of_regions(
     alloc: Global,
     settled: &Settled,
     older: usize,

@@ -2,6 +2,7 @@
 
 ghost use Rattle.std.specs.Prelude.{◌≡◌, ◌⊎◌, ◌<◌, ◌≤◌, length, map, IfOk, IfErr};
 ghost use Rattle.sf_policy.specs.Filters.{IsFirstRefusal};
+ghost use Rattle.sf_compare.specs.Changes.{AreAnswersOfRegions};
 ghost use Rattle.sf_compare.specs.Comparisons.{change_of, IsComparedOn, IsComparison};
 
 use crate::changes::{Change, Findings, answers_of_regions, find_changes};
@@ -10,6 +11,7 @@ use sf_book::Settled;
 use sf_check::Stack;
 use sf_crew::{Gate, explore};
 use sf_policy::{Fault, stack_of};
+use sf_run::PartAnswers;
 use std::alloc::Global;
 use std::marker::Model;
 use std::sync::{Arc, Wait};
@@ -20,23 +22,26 @@ use std::thread::Threads;
 pub struct Comparison {
     settled: Settled,
     older: usize,
+    answers: Vec<PartAnswers>,
     findings: Findings,
 }
 
 impl Model for Comparison {
-    ghost use Rattle.sf_compare.specs.Comparisons.{Compared, HasOldPart};
+    ghost use Rattle.sf_compare.specs.Comparisons.{Compared, IsOfTwoStacks};
 
     ghost Value = { Compared };
 
     ghost view = { λ c. record {
       settled = c.settled;
       older = c.older;
+      answers = c.answers.items;
       findings = c.findings;
     } };
 
-    ghost invariant = { λ c. HasOldPart (record {
+    ghost invariant = { λ c. IsOfTwoStacks (record {
       settled = c.settled;
       older = c.older;
+      answers = c.answers.items;
       findings = c.findings;
     }) };
 }
@@ -55,6 +60,14 @@ impl Comparison {
         ensures part { self.now.older ≤ length self.now.settled.stack }
     {
         self.older
+    }
+
+    /// The answers of both stacks to the members of each region, in the order of the regions.
+    pub fn answers(&self) -> &[PartAnswers]
+        ensures same { result.now ≡ self.now.answers }
+        ensures right { AreAnswersOfRegions self.now.settled self.now.older result.now }
+    {
+        self.answers.as_slice()
     }
 
     /// What was found of a relation.
@@ -87,6 +100,7 @@ fn compare_parts<R: Threads + Wait + Sync, G: Gate>(
     Ok(Comparison {
         settled,
         older,
+        answers,
         findings,
     })
 }

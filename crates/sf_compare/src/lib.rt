@@ -8,7 +8,7 @@ pub mod laws;
 mod relation;
 mod text;
 
-pub use changes::{Change, Example, answers_of_regions};
+pub use changes::{Change, Example};
 pub use comparison::{Comparison, compare};
 pub use relation::Relation;
 pub use text::{text_of_comparison, write_comparison};

@@ -1,6 +1,6 @@
 //! What differs between the answers of two stacks, drawn.
 
-ghost use Rattle.std.specs.Prelude.{◌≡◌, ◌<◌, ◌≤◌, All, Contains, IfErr, IfOk, length, option_map};
+ghost use Rattle.std.specs.Prelude.{◌≡◌, All, Contains, IfErr, IfOk, length, option_map};
 ghost use Rattle.std.specs.List.Sorted.{IsNonDecreasingBy};
 ghost use Rattle.sf_run.specs.declared.replaying.PartAnswers.{PartAnswers as APair};
 ghost use Rattle.sf_compare.specs.Changes.{AreAnswersOfRegions};
@@ -8,7 +8,7 @@ ghost use Rattle.sf_list.specs.Differences.{AreDifferences, ArePictured};
 ghost use Rattle.sf_rows.specs.Pairs.{Differ, pair_order};
 
 use sf_book::Settled;
-use sf_compare::{Comparison, answers_of_regions};
+use sf_compare::Comparison;
 use sf_picture::{Picture, picture_of};
 use sf_policy::Fault;
 use sf_rows::pairs::{labels_of, pairs_of};
@@ -46,18 +46,6 @@ impl Differences {
         ensures { option_map (λ p. p.now) result ≡ self.now.picture }
     {
         self.picture.as_ref()
-    }
-}
-
-/// The answers of both stacks to the members of each region. `Memory` where an allocation is refused.
-fn answers_of(alloc: Global, settled: &Settled, older: usize) -> Result<Vec<PartAnswers>, Fault>
-    requires { older ≤ length settled.now.stack }
-    ensures ok { IfOk result (λ all. AreAnswersOfRegions settled.now older all.items) }
-    ensures err { IfErr result (λ e. e ≡ Fault.Memory) }
-{
-    match answers_of_regions(alloc, settled, older) {
-        Ok(answers) => Ok(answers),
-        Err(_) => Err(Fault::Memory),
     }
 }
 
@@ -125,13 +113,11 @@ pub fn draw_differences(
 
     ensures refused { IfErr result (λ e. e ≡ Fault.Memory) }
 {
-    let older = comparison.older();
-    let answers = answers_of(alloc, comparison.settled(), older)?;
     differences_by(
         alloc,
         comparison.settled(),
-        older,
-        answers.as_slice(),
+        comparison.older(),
+        comparison.answers(),
         leaves,
     )
 }
