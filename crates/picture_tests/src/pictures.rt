@@ -61,6 +61,8 @@ fn a_bound_that_a_bit_rules_out_is_cut(rt: HostRuntime) -> Result<(), Fail> {
     assert_eq!(rt; picture.leaf(1), [1].as_slice());
     assert_eq!(rt; picture.leaf(2), [2].as_slice());
     assert_eq!(rt; picture.root(), Branch::Fork(2));
+    // Each of the two forks on the bit leads to two leaves, and one of these is the same.
+    assert_eq!(rt; picture.drawn_count(), 4);
     Ok(())
 }
 
@@ -90,6 +92,7 @@ fn a_picture_with_too_few_leaves_is_spent(rt: HostRuntime) -> Result<(), Fail> {
     assert!(rt; picture.is_spent());
     assert_eq!(rt; picture.leaf_count(), 3);
     assert_eq!(rt; picture.leaf(2), [0, 2].as_slice());
+    assert_eq!(rt; picture.drawn_count(), 3);
     Ok(())
 }
 

@@ -1,9 +1,10 @@
 //! The listing of a stack of filter files.
 
-ghost use Rattle.std.specs.Prelude.{◌≡◌, ◌<◌, ◌≤◌, ◌⊎◌, All, Contains, length, map, option_map, IfOk, IfErr, MatchOption};
+ghost use Rattle.std.specs.Prelude.{◌≡◌, ◌<◌, ◌≤◌, ◌⊎◌, All, Contains, length, map, option_map, IfOk, IfErr, IfSome, MatchOption};
 ghost use Rattle.std.specs.List.Sorted.{IsNonDecreasingBy};
 ghost use Rattle.sf_policy.specs.Filters.{IsFirstRefusal};
 ghost use Rattle.sf_book.specs.Books.{RegionData};
+ghost use Rattle.sf_picture.specs.Pictures.{IsSpentOnlyFrom};
 ghost use Rattle.sf_rows.specs.Answers.{answer_order};
 ghost use Rattle.sf_list.specs.Listings.{IsListing, IsPictured};
 
@@ -77,6 +78,7 @@ fn picture_by(
     requires order { IsNonDecreasingBy answer_order answers.now }
     ensures picture { IfOk result (λ p. MatchOption p (0 < length settled.now.outstanding)
         (IsPictured settled.now answers.now)) }
+    ensures allowed { IfOk result (λ p. IfSome p (IsSpentOnlyFrom leaves)) }
     ensures refused { IfErr result (λ e. e ≡ Fault.Memory) }
 {
     if settled.outstanding_count() > 0 {
@@ -94,6 +96,7 @@ fn listing_of(alloc: Global, settled: Settled, leaves: usize) -> Result<Listing,
     ensures same { IfOk result (λ l. l.settled ≡ settled) }
     ensures picture { IfOk result (λ l. MatchOption l.picture (0 < length settled.outstanding)
         (IsPictured settled l.answers)) }
+    ensures allowed { IfOk result (λ l. IfSome l.picture (IsSpentOnlyFrom leaves)) }
     ensures refused { IfErr result (λ e. e ≡ Fault.Memory) }
 {
     let answers = answers_of(alloc, &settled)?;
@@ -123,6 +126,9 @@ pub fn list<R: Threads + Wait + Sync, G: Gate>(
 
     // The rows' answers are right, on the stack that the files spell.
     ensures found { IfOk result (IsListing (map (λ f. f.items) filters.now) budget) }
+
+    // The picture isn't given up before `leaves` leaves are drawn.
+    ensures allowed { IfOk result (λ l. IfSome l.picture (IsSpentOnlyFrom leaves)) }
 
     // Anything else is the first refusal, but for want of memory.
     ensures refused { IfErr result (λ e. (e ≡ Fault.Memory)

@@ -191,6 +191,6 @@ attained-fork (Some b) from s t axis runs first held grows right same leads befo
 -- what is attained in the sketch is attained in the picture
 pub picture-attained : (s : SketchData) (root : Branch) (p : PictureData) (book : BookData) (labels : List ℕ)
     (held : List HeldData) (place : ℕ)
-    → p ≡ record { leaves = s.leaves; forks = s.forks; root = root; spent = s.spent }
+    → p ≡ record { leaves = s.leaves; forks = s.forks; root = root; spent = s.spent; drawn = s.drawn }
     → All (IsPlainHeld book labels []) held → IsAttainedAt s root held place → IsAttained book p place
 picture-attained s root p book labels held place is all a = grind (arith, common_steps)

@@ -53,7 +53,8 @@ same-along ls ls' fs fs' d same-leaves same-forks right (suc n) (suc m) (Fork i)
 
 -- a sketch grows by nothing, and in steps
 pub grows-none : (s : SketchData) → Grows s s
-grows-none s = record { leaves = ([], sym (append-nil s.leaves)); forks = ([], sym (append-nil s.forks)) }
+grows-none s =
+    record { leaves = ([], sym (append-nil s.leaves)); forks = ([], sym (append-nil s.forks)); most = refl }
 
 joined : {X : Type 0} (a b c more some : List X) → b ≡ a ++ more → c ≡ b ++ some → c ≡ a ++ (more ++ some)
 joined {X = X} a b c more some e f = f ∙ ap (λ (l : List X). l ++ some) e ∙ append_assoc a more some

@@ -12,20 +12,24 @@ use Rattle.sf_picture.specs.PictureData.{ForkData}
 use Rattle.sf_picture.specs.Pictures.{number_on, next_of, fork_at, labels_along, AreRightForks, IsBelow, RiseFrom, AreApart, LeadBelow, end_of}
 use Rattle.sf_picture.specs.Holding.{HeldData, IsHeldBy}
 
--- the leaves and forks that were drawn, and whether one was drawn early, since the budget of leaves was spent
+-- The leaves and forks that were drawn, and whether one was drawn early, since the budget of leaves was spent; how many
+-- leaves may be drawn before no fork is begun any more; and how many were drawn, equal ones counted again.
 pub record SketchData : Type 0 where
   pub leaves : List (List ℕ)
   pub forks : List ForkData
   pub spent : Bool
+  pub most : ℕ
+  pub drawn : ℕ
 
 -- each fork of the sketch is right
 abbrev pub IsRightSketch : SketchData → Type 0
 IsRightSketch s = AreRightForks (length s.leaves) s.forks
 
--- leaves and forks were only added
+-- leaves and forks were only added, and as many leaves are allowed as before
 pub record Grows (old new : SketchData) : Type 0 where
   pub leaves : (added : List (List ℕ)) × (new.leaves ≡ old.leaves ++ added)
   pub forks : (added : List ForkData) × (new.forks ≡ old.forks ++ added)
+  pub most : new.most ≡ old.most
 
 -- no leaf was added, or one with these labels, to which the branch leads
 abbrev pub AddsLeaf : SketchData → SketchData → List ℕ → Branch → Type 0

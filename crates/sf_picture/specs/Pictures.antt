@@ -111,6 +111,10 @@ pub record LiesAtLeaf (p : PictureData) (d : Input) (place : ℕ) : Type 0 where
 abbrev pub IsDetermined : PictureData → Type 0
 IsDetermined p = All (λ (l : List ℕ). length l ≤ 1) p.leaves
 
+-- a picture is spent only where this many leaves were drawn
+abbrev pub IsSpentOnlyFrom : ℕ → PictureData → Type 0
+IsSpentOnlyFrom leaves p = p.spent ≡ true → leaves ≤ p.drawn
+
 -- Each member of each region is shown the region's label.
 abbrev pub ShowsLabels : BookData → List ℕ → PictureData → Type 0
 ShowsLabels s labels p = (place : ℕ) (region : RegionData) (d : Input) → slice_get s.regions place ≡ Some region

@@ -6,7 +6,7 @@ ghost use Rattle.sf_book.specs.Books.{BookData, IsSettled};
 ghost use Rattle.sf_picture.specs.Holding.{HeldData, IsHeldAt, AreOneLabel, AreAllEnds, AreHeldIn};
 ghost use Rattle.sf_picture.specs.PlainHolding.{IsPlainHeld, IsPlainTask, IsPlainSpan};
 ghost use Rattle.sf_picture.specs.Drawing.{IsShownAt, NoneIsHeld, Grows, AddsLeaf, IsShort, KeepsShort, AreRuns, IsLeafOf, LeadsAs, IsRightSketch, DrawsTo, IsAttainedAt, AreAttainedAt, AreAttainedBelow};
-ghost use Rattle.sf_picture.specs.Pictures.{ShowsLabels, IsDetermined, IsAttainedEverywhere};
+ghost use Rattle.sf_picture.specs.Pictures.{ShowsLabels, IsDetermined, IsAttainedEverywhere, IsSpentOnlyFrom};
 ghost use Rattle.sf_picture.specs.declared.axis.Axis.{Axis as AnAxis};
 ghost use Rattle.sf_picture.specs.declared.drawing.Span.{Span as ASpan};
 ghost use Rattle.sf_picture.specs.declared.fault.Fault.TheVariants.{Memory};
@@ -89,6 +89,7 @@ fn leaf_of_left(alloc: Global, sketch: &mut Sketch, held: &[Held]) -> Result<Opt
 /// where an allocation is refused.
 fn early_leaf_of(alloc: Global, sketch: &mut Sketch, held: &[Held]) -> Result<Option<Branch>, Fault>
     requires right { IsRightSketch sketch.old }
+    requires full { sketch.old.most ≤ sketch.old.drawn }
     ensures grows { IfOk result (λ _. Grows sketch.old sketch.new) }
     ensures right { IfOk result (λ _. IsRightSketch sketch.new) }
     ensures drawn { IfOk result (λ o. MatchOption o (NoneIsHeld held.now)
@@ -307,6 +308,7 @@ fn root_of(alloc: Global, sketch: &mut Sketch, held: &[Held]) -> Result<Branch, 
     requires right { IsRightSketch sketch.old }
     requires empty { sketch.old.leaves ≡ [] }
     ensures right { IfOk result (λ _. IsRightSketch sketch.new) }
+    ensures most { IfOk result (λ _. sketch.new.most ≡ sketch.old.most) }
     ensures shown { IfOk result (λ b. IsShownAt sketch.new b held.now) }
     ensures short { IfOk result (λ _. (s : BookData) (labels : List ℕ) → IsSettled s
         → All (IsPlainHeld s labels []) held.now → sketch.new.spent ≡ false
@@ -329,7 +331,7 @@ fn root_of(alloc: Global, sketch: &mut Sketch, held: &[Held]) -> Result<Branch, 
 ///
 /// Axes come in a fixed order, each cut where the regions' conditions change their results. Once `leaves` leaves are drawn,
 /// equal ones counted again, no fork is begun any more. Each branch that is left gets a leaf with all its labels, and the
-/// picture is spent if such a leaf has forks left out.
+/// picture is spent if such a leaf has forks left out. So it is spent only where `leaves` leaves were drawn.
 ///
 /// On a plain stack no leaf of a picture that isn't spent has two labels, and some member of a region lies at each leaf. On
 /// another stack a leaf has several labels also where what is known of regions can't tell them apart.
@@ -347,6 +349,7 @@ pub fn picture_of(
         → IsDetermined p) }
     ensures attained { IfOk result (λ p. IsPlain settled.now.stack
         → 0 < length settled.now.regions → IsAttainedEverywhere settled.now p) }
+    ensures allowed { IfOk result (IsSpentOnlyFrom leaves) }
     ensures err { IfErr result (λ f. f ≡ Memory) }
 {
     let held = held_of(alloc, settled, labels)?;

@@ -82,6 +82,7 @@ pub struct Picture {
     pub(crate) forks: Vec<Fork>,
     pub(crate) root: Branch,
     pub(crate) spent: bool,
+    pub(crate) drawn: usize,
 }
 
 impl Model for Picture {
@@ -95,6 +96,7 @@ impl Model for Picture {
       forks = p.forks.items;
       root = p.root;
       spent = p.spent;
+      drawn = p.drawn;
     } };
 
     ghost invariant = { λ p. IsPicture (record {
@@ -102,6 +104,7 @@ impl Model for Picture {
       forks = p.forks.items;
       root = p.root;
       spent = p.spent;
+      drawn = p.drawn;
     }) };
 }
 
@@ -123,6 +126,14 @@ impl Picture {
         ensures lawful { IsPicture self.now }
     {
         self.spent
+    }
+
+    /// How many leaves were drawn, those that are equal to others counted again.
+    pub fn drawn_count(&self) -> usize
+        ensures value { result ≡ self.now.drawn }
+        ensures lawful { IsPicture self.now }
+    {
+        self.drawn
     }
 
     /// How many leaves there are.

@@ -1,6 +1,6 @@
 //! Pictures while they are drawn: leaves and forks, each once.
 
-ghost use Rattle.std.specs.Prelude.{◌≡◌, ◌≢◌, ◌<◌, ◌≤◌, ℕ, true, IfOk, IfErr, OnErr, All, length, IsTrue, ◌↔◌, IfNone, IfSome, slice_index_or, []};
+ghost use Rattle.std.specs.Prelude.{◌≡◌, ◌≢◌, ◌<◌, ◌≤◌, ◌+◌, ℕ, min, true, IfOk, IfErr, OnErr, All, length, IsTrue, ◌↔◌, IfNone, IfSome, slice_index_or, []};
 ghost use Rattle.sf_picture.specs.declared.fault.Fault.TheVariants.{Memory};
 
 use crate::axis::Axis;
@@ -14,14 +14,16 @@ use std::marker::Model;
 pub(crate) struct Sketch {
     leaves: Vec<Labels>,
     forks: Vec<Fork>,
-    // How many leaves may still be drawn before no fork is begun any more. Those that are equal to others count too.
-    left: usize,
+    // How many leaves may be drawn before no fork is begun any more.
+    most: usize,
+    // How many leaves were drawn. Those that are equal to others count too.
+    drawn: usize,
     // Whether a leaf was drawn early, since the budget of leaves was spent.
     spent: bool,
 }
 
 impl Model for Sketch {
-    ghost use Rattle.std.specs.Prelude.{length};
+    ghost use Rattle.std.specs.Prelude.{◌≡◌, ◌≤◌, length, true};
     ghost use Rattle.sf_picture.specs.Drawing.{SketchData};
     ghost use Rattle.sf_picture.specs.Pictures.{AreEachOnce, AreRightForks};
 
@@ -31,10 +33,13 @@ impl Model for Sketch {
       leaves = s.leaves.items;
       forks = s.forks.items;
       spent = s.spent;
+      most = s.most;
+      drawn = s.drawn;
     } };
 
     ghost invariant = { λ s. AreRightForks (length s.leaves.items) s.forks.items
-        × AreEachOnce s.leaves.items × AreEachOnce s.forks.items };
+        × AreEachOnce s.leaves.items × AreEachOnce s.forks.items
+        × (s.spent ≡ true → s.most ≤ s.drawn) };
 }
 
 /// Whether two lists of labels are the same.
@@ -76,22 +81,28 @@ impl Sketch {
     pub(crate) fn new(alloc: Global, most: usize) -> Sketch
         ensures right { IsRightSketch result }
         ensures empty { result.leaves ≡ [] }
+        ensures most { result.most ≡ most }
+        ensures none { result.drawn ≡ 0 }
     {
         Sketch {
             leaves: Vec::new(alloc),
             forks: Vec::new(alloc),
-            left: most,
+            most,
+            drawn: 0,
             spent: false,
         }
     }
 
     /// Whether as many leaves were drawn as forks are begun for.
-    pub(crate) fn is_full(&self) -> bool {
-        self.left == 0
+    pub(crate) fn is_full(&self) -> bool
+        ensures { IsTrue result ↔ (self.now.most ≤ self.now.drawn) }
+    {
+        self.most <= self.drawn
     }
 
     /// Keeps in mind that a leaf is drawn early.
     pub(crate) fn spend(&mut self)
+        requires { self.old.most ≤ self.old.drawn }
         ensures { self.new ≡ record self.old { spent = true } }
     {
         self.spent = true;
@@ -118,9 +129,10 @@ impl Sketch {
         ensures leaf { IfOk result (λ b. IsLeafOf self.new labels.items b) }
         ensures added { IfOk result (λ b. AddsLeaf self.old self.new labels.items b) }
         ensures spent { self.new.spent ≡ self.old.spent }
+        ensures drawn { self.new.drawn ≡ min (self.old.drawn + 1) 18446744073709551615 }
         ensures err { IfErr result (λ f. f ≡ Memory) }
     {
-        self.left = self.left.saturating_sub(1);
+        self.drawn = self.drawn.saturating_add(1);
         if let Some(place) = self.find_leaf(labels.as_slice()) {
             return Ok(Branch::Leaf(place));
         }
@@ -167,17 +179,20 @@ impl Sketch {
     /// The picture that begins at a branch.
     pub(crate) fn picture_from(self, root: Branch) -> Picture
         requires { IsBelow (length self.leaves) (length self.forks) root }
-        ensures { result ≡ record {
+        ensures picture { result ≡ record {
           leaves = self.leaves;
           forks = self.forks;
           root = root;
           spent = self.spent;
+          drawn = self.drawn;
         } }
+        ensures allowed { self.spent ≡ true → self.most ≤ self.drawn }
     {
         let Sketch {
             leaves,
             forks,
-            left: _,
+            most: _,
+            drawn,
             spent,
         } = self;
         Picture {
@@ -185,6 +200,7 @@ impl Sketch {
             forks,
             root,
             spent,
+            drawn,
         }
     }
 }

@@ -13,7 +13,7 @@ pub returns-clause-shows : goal.returns-clause-shows
 returns-clause-shows c = λ place region d there input member.
     let shown = rw c.as_slice.ensures.value at c.in_ok-root.ensures.shown in
     subst (λ (p : PictureData). Contains (labels_at p d) (slice_index c.args.labels.now place))
-    (sym c.picture_from.ensures)
+    (sym c.picture_from.ensures.picture)
     (region-shown c.root_of.new.sketch c.in_ok-root.root c.in_ok-held.held.items c.args.settled.now place
     (slice_index c.args.labels.now place) region d shown
     (c.in_ok-held.ensures.held place (slice_get_within c.args.settled.now.regions place region there))
@@ -21,7 +21,7 @@ returns-clause-shows c = λ place region d there input member.
 
 pub returns-clause-plain : goal.returns-clause-plain
 returns-clause-plain c = λ plain unspent.
-    let same = c.picture_from.ensures in
+    let same = c.picture_from.ensures.picture in
     subst (All IsShort) (sym (ap (λ (p : PictureData). p.leaves) same))
     (c.in_ok-root.ensures.short c.args.settled.now c.args.labels.now c.in_ok-held.ensures.lawful
     (rw c.as_slice.ensures.value (c.in_ok-held.ensures.plain plain))
@@ -29,7 +29,7 @@ returns-clause-plain c = λ plain unspent.
 
 pub returns-clause-attained : goal.returns-clause-attained
 returns-clause-attained c = λ plain some place lt.
-    let same = c.picture_from.ensures in
+    let same = c.picture_from.ensures.picture in
     let held = c.as_slice.result.now in
     let count : length held ≡ length c.args.settled.now.regions =
     ap length c.as_slice.ensures.value ∙ c.in_ok-held.ensures.count in
