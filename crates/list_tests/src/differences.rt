@@ -16,7 +16,7 @@ use std::test::Fail;
 use std::thread::Threads;
 
 /// Compares two filters, by one worker and at most so many works.
-fn comparison_of<R: Threads + Wait + Sync>(
+pub(crate) fn comparison_of<R: Threads + Wait + Sync>(
     rt: &R,
     alloc: Global,
     old: &[RawInsn],
@@ -48,7 +48,7 @@ fn changed_rows_with<R: Threads + Wait + Sync>(
 }
 
 /// The lines of a text behind its line of the relation `different`.
-fn rows_behind(alloc: Global, text: &str) -> Result<String, Fail> {
+pub(crate) fn rows_behind(alloc: Global, text: &str) -> Result<String, Fail> {
     let mut rows = String::new(alloc);
     let mut behind = false;
     for line in text.lines() {

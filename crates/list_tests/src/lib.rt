@@ -4,6 +4,8 @@
 #[cfg(test)]
 mod differences;
 #[cfg(test)]
+mod limits;
+#[cfg(test)]
 mod listings;
 #[cfg(test)]
 mod names;

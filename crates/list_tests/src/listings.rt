@@ -40,11 +40,11 @@ pub(crate) fn listing_of<R: Threads + Wait + Sync>(
 ) -> Result<Listing, Fail> {
     let mut files = Vec::new(alloc);
     files.push(bytes_of(alloc, insns)?)?;
-    Ok(list(rt, alloc, files.as_slice(), 10000, 1, leaves, &Open)?)
+    Ok(list(rt, alloc, files.as_slice(), 100000, 1, leaves, &Open)?)
 }
 
 /// The text of the listing of one filter.
-fn listing_text<R: Threads + Wait + Sync>(
+pub(crate) fn listing_text<R: Threads + Wait + Sync>(
     rt: &R,
     alloc: Global,
     insns: &[RawInsn],
@@ -134,6 +134,37 @@ arch any nr 0..58 ALLOW 0
 arch any nr 59 ERRNO 1
 arch any nr 60..0xFFFFFFFF ALLOW 0
 total rows 3 undetermined 0
+"
+    );
+    Ok(())
+}
+
+#[test]
+fn a_sum(rt: HostRuntime) -> Result<(), Fail> {
+    let text = listing_text(
+        &rt,
+        rt.alloc(),
+        &[
+            op(0x20, 0),
+            raw(0x25, 0, 1, 0xFFFF),
+            op(0x06, 0x80000000),
+            op(0x04, 5),
+            raw(0x15, 0, 1, 59),
+            op(0x06, 0x50001),
+            ALLOW,
+        ],
+        20000,
+    )?;
+    assert_eq!(rt;
+        text.as_str(),
+        "seccomp_audit list 1
+filters 1 path 7
+regions 3 open 0 emptied 0 splits 2 commits 5
+arch any nr 0..53 ALLOW 0
+arch any nr 54 ERRNO 1
+arch any nr 55..65535 ALLOW 0
+arch any nr 0x10000..0xFFFFFFFF KILL_PROCESS 0
+total rows 4 undetermined 0
 "
     );
     Ok(())

@@ -9,3 +9,4 @@ pub mod DrawLemmas
 pub mod PlainLemmas
 pub mod AttainLemmas
 pub mod LawLemmas
+pub mod ConstantLemmas

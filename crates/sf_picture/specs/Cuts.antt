@@ -1,5 +1,5 @@
 -- Cuts of axes: between which numbers and inputs they lie, and which cuts of a plain piece are enough.
-use Rattle.std.specs.Prelude.{◌≡◌, ℕ, ◌<◌, ◌≤◌, ◌⊎◌, true, false, List, length, All, Contains, Option, Some, slice_get, slice_index, bit_and}
+use Rattle.std.specs.Prelude.{◌≡◌, ℕ, ◌<◌, ◌≤◌, ◌⊎◌, ◌↔◌, true, false, List, length, All, Contains, Option, Some, slice_get, slice_index, bit_and}
 use Rattle.sf_insn.specs.declared.input.Input.{Input}
 use Rattle.sf_insn.specs.Inputs.{IsInput}
 use Rattle.sf_insn.specs.Words.{IsOneBit}
@@ -8,10 +8,11 @@ use Rattle.sf_sym.specs.declared.pool.Node.{Node}
 use Rattle.sf_sym.specs.declared.pool.Node.TheVariants.{Const}
 use Rattle.sf_sym.specs.declared.pool.Cond.{Cond}
 use Rattle.sf_sym.specs.declared.pool.NodeId.{NodeId}
-use Rattle.sf_sym.specs.Pool.{node_at, is_met}
+use Rattle.sf_sym.specs.Pool.{node_at, is_met, value_of}
 use Rattle.sf_dom.specs.Facts.{FactsView, Agrees, Covers}
 use Rattle.sf_piece.specs.Pieces.{PieceData, is_member}
 use Rattle.sf_picture.specs.declared.cuts.Cut.{Cut}
+use Rattle.sf_picture.specs.declared.cuts.NumberTest.{NumberTest}
 use Rattle.sf_picture.specs.declared.windows.Window.{Window}
 
 -- Two numbers of a word are on the two sides of a cut under a mask: the one is at most the last number below it, and
@@ -41,6 +42,11 @@ pub record SomeLiesBetween (cuts : List Cut) (d e : Input) : Type 0 where
 -- the cut is of a word of the input
 abbrev pub IsCutOfWord : Cut → Type 0
 IsCutOfWord c = c.axis.word < 16
+
+-- on each input the node of the one test is its number exactly where that of the other is
+abbrev pub AreEqualAlike : List Node → NumberTest → NumberTest → Type 0
+AreEqualAlike ns t u =
+    (d : Input) → IsInput d → (value_of ns d t.node.0 ≡ t.number) ↔ (value_of ns d u.node.0 ≡ u.number)
 
 -- The cut is of a whole word, or of one bit of a word, which it tells to be 0 or 1.
 pub record IsPlainCut (c : Cut) : Type 0 where

@@ -8,7 +8,7 @@ ghost use Rattle.sf_sym.specs.Pool.{IsPool, node_at};
 ghost use Rattle.sf_dom.specs.Facts.{Covers, IsWordOrConst, IsPlainTest, IsPlainCondition};
 ghost use Rattle.sf_piece.specs.PlainPieces.{IsPlainPiece};
 ghost use Rattle.sf_picture.specs.declared.cuts.Cut.{Cut as ACut};
-ghost use Rattle.sf_picture.specs.Cuts.{IsCutOfWord, IsPlainCut, SomeLiesBetweenNumbers, LieBetweenResults, IsMovedTo, SaysNumber, NeedNoCut, AreCutsOf};
+ghost use Rattle.sf_picture.specs.Cuts.{IsCutOfWord, IsPlainCut, SomeLiesBetweenNumbers, LieBetweenResults, IsMovedTo, SaysNumber, NeedNoCut, AreCutsOf, AreEqualAlike};
 ghost use Rattle.sf_picture.specs.declared.fault.Fault.TheVariants.{Memory};
 
 use crate::axis::{Axis, axis_of};
@@ -119,10 +119,12 @@ fn push_cuts_of(cuts: &mut Vec<Cut>, axis: Axis, test: Test, number: u32) -> Res
     }
 }
 
-/// The same test of the other operand, where the node is a sum or a difference with a constant.
+/// The same test of the other operand, for a test of equality of a node that is a sum or a difference with a constant.
 fn drop_constant(pool: &Pool, tested: NumberTest) -> NumberTest
     requires { tested.node.0 < length pool.now }
     ensures node { result.node.0 < length pool.now }
+    ensures test { result.test ≡ tested.test }
+    ensures equal { AreEqualAlike pool.now tested result }
     ensures same { IsWordOrConst (node_at pool.now tested.node.0) → result ≡ tested }
 {
     let Node::Bin(op, a, b) = pool.node(tested.node) else {
