@@ -1,1 +1,2 @@
 pub mod DifferenceLemmas
+pub mod ListingLemmas

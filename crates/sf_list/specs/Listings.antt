@@ -7,7 +7,7 @@ use Rattle.sf_check.specs.declared.insn.Insn.{Insn}
 use Rattle.sf_check.specs.Stacks.{IsPlain, path_length}
 use Rattle.sf_run.specs.declared.action.Answer.{Answer}
 use Rattle.sf_book.specs.Books.{BookData, counts_of}
-use Rattle.sf_crew.specs.Explorations.{IsExplorationOf}
+use Rattle.sf_crew.specs.Explorations.{IsExplorationOf, IsExactExploration}
 use Rattle.sf_picture.specs.PictureData.{PictureData}
 use Rattle.sf_picture.specs.Pictures.{IsAttainedEverywhere, IsDetermined, IsPicture, ShowsLabels}
 use Rattle.sf_picture.specs.Answering.{TellAnswers}
@@ -39,10 +39,12 @@ pub record IsPictured (s : BookData) (answers : List Answer) (p : PictureData) :
   pub plain : IsPlain s.stack → p.spent ≡ false → IsDetermined p
   pub attained : IsPlain s.stack → 0 < length s.regions → IsAttainedEverywhere s p
 
--- The stack that files spell was explored, and its picture was drawn, unless a piece is outstanding.
+-- The stack that files spell was explored, on a plain stack to the exact end, and its picture was drawn, unless a piece
+-- is outstanding.
 pub record IsListing (files : List (List ℕ)) (budget : ℕ) (l : Listed) : Type 0 where
   pub stack : SpellStack files l.settled.stack
   pub end : IsExplorationOf l.settled.stack budget l.settled
+  pub plain : IsPlain l.settled.stack → IsExactExploration l.settled.stack budget l.settled
   pub picture : MatchOption l.picture (0 < length l.settled.outstanding) (IsPictured l.settled l.answers)
 
 -- what each listing begins with, and the number of its form

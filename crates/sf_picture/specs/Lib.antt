@@ -1,4 +1,5 @@
 pub mod PictureData
+pub mod Axes
 pub mod Pictures
 pub mod Spans
 pub mod Cuts

@@ -1,5 +1,6 @@
 -- Pictures of stacks: which labels a picture shows for an input, and when it is a picture of an exploration.
 use Rattle.std.specs.Prelude.{◌≡◌, ◌≢◌, ℕ, zero, suc, ◌<◌, ◌≤◌, ◌+◌, nat_le, true, List, [], ◌∷◌, length, All, AllPairs, Contains, Option, Some, None, slice_get, slice_index, slice_index_or, bit_and, if◌then◌else◌}
+use Rattle.std.specs.List.Sorted.{IsNonDecreasing}
 use Rattle.sf_insn.specs.declared.input.Input.{Input}
 use Rattle.sf_insn.specs.Inputs.{IsInput}
 use Rattle.sf_piece.specs.Pieces.{is_member}
@@ -82,12 +83,13 @@ abbrev pub AreEachOnce : {X : Type 0} → List X → Type 0
 AreEachOnce xs = AllPairs (λ x y. x ≢ y) xs
 
 -- What each picture keeps: each leaf and each fork stands in it once, so what leads to equal leaves or forks leads to
--- the same.
+-- the same; and the labels of each leaf are in rising order.
 pub record IsPicture (p : PictureData) : Type 0 where
   pub root : IsBelow (length p.leaves) (length p.forks) p.root
   pub forks : AreRightForks (length p.leaves) p.forks
   pub leaves_once : AreEachOnce p.leaves
   pub forks_once : AreEachOnce p.forks
+  pub rising : All IsNonDecreasing p.leaves
 
 -- The leaf at which an input lies, from a branch on, through at most this many forks.
 abbrev pub leaf_along : List ForkData → ℕ → Option Branch → Input → Option ℕ

@@ -1,6 +1,8 @@
 //! All axes that are cut.
 
 ghost use Rattle.std.specs.Prelude.{◌≡◌, ◌<◌, ◌↔◌, IsTrue, All, Contains, IfOk, IfErr};
+ghost use Rattle.std.specs.List.Sorted.{IsNonDecreasingBy};
+ghost use Rattle.sf_picture.specs.Axes.{axis_order};
 ghost use Rattle.sf_picture.specs.declared.axis.Axis.{Axis as AnAxis};
 ghost use Rattle.sf_picture.specs.declared.cuts.Cut.{Cut as ACut};
 ghost use Rattle.sf_picture.specs.Holding.{HeldData};
@@ -58,6 +60,7 @@ pub(crate) fn axes_of(alloc: Global, held: &[Held]) -> Result<Vec<Axis>, Fault>
     ensures words { IfOk result (λ v. All (λ (a : AnAxis). a.word < 16) v.items) }
     ensures each { IfOk result (λ v. All (λ (h : HeldData). (c : ACut) → Contains h.cuts c
         → c.axis.word < 16 → Contains v.items c.axis) held.now) }
+    ensures order { IfOk result (λ v. IsNonDecreasingBy axis_order v.items) }
     ensures err { IfErr result (λ f. f ≡ Memory) }
 {
     let mut axes = Vec::new(alloc);

@@ -1,6 +1,7 @@
 //! Axes: words of the input under masks.
 
 ghost use Rattle.std.specs.Prelude.{◌≡◌, ℕ, ◌<◌, length, IfSome, Some, None};
+ghost use Rattle.sf_picture.specs.Axes.{axis_order};
 ghost use Rattle.sf_sym.specs.declared.pool.Node.TheVariants.{Const, Word};
 ghost use Rattle.sf_sym.specs.Pool.{node_at};
 
@@ -15,18 +16,19 @@ pub struct Axis {
     pub mask: u32,
 }
 
-/// The place of each word in the order of axes: architecture, call number, then the arguments and the instruction pointer,
-/// the high half before the low one.
+/// The place of each word in the order of axes, as `axis_places` says.
 const PLACES: [u8; 16] = [1, 0, 15, 14, 3, 2, 5, 4, 7, 6, 9, 8, 11, 10, 13, 12];
 
 impl Axis {
     /// A number by which axes are put in order: by the places of their words, and of one word those with greater masks first.
-    pub(crate) fn order(self) -> u64 {
+    pub(crate) fn order(self) -> u64
+        ensures { result ≡ axis_order self }
+    {
         let place = match PLACES.get(self.word) {
             Some(place) => *place as u64,
             None => 16,
         };
-        (place << 32) | (u32::MAX - self.mask) as u64
+        place * 0x1_0000_0000 + (u32::MAX - self.mask) as u64
     }
 }
 

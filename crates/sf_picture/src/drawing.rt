@@ -1,6 +1,7 @@
 //! Pictures of explorations, drawn axis by axis.
 
 ghost use Rattle.std.specs.Prelude.{◌≡◌, ◌<◌, ◌≤◌, ◌+◌, [], ℕ, true, false, List, length, slice_index, All, IfOk, IfErr, MatchOption, ◌⊎◌};
+ghost use Rattle.std.specs.List.Sorted.{IsNonDecreasing};
 ghost use Rattle.sf_check.specs.Stacks.{IsPlain};
 ghost use Rattle.sf_book.specs.Books.{BookData, IsSettled};
 ghost use Rattle.sf_picture.specs.Holding.{HeldData, IsHeldAt, AreOneLabel, AreAllEnds, AreHeldIn};
@@ -28,6 +29,7 @@ use std::sync::Arc;
 /// A leaf with these labels, or none where there are none. `Memory` where an allocation is refused.
 fn leaf_of(sketch: &mut Sketch, labels: Vec<usize>) -> Result<Option<Branch>, Fault>
     requires right { IsRightSketch sketch.old }
+    requires rising { IsNonDecreasing labels.items }
     ensures grows { IfOk result (λ _. Grows sketch.old sketch.new) }
     ensures right { IfOk result (λ _. IsRightSketch sketch.new) }
     ensures leaf { IfOk result (λ o. MatchOption o (labels.items ≡ [])

@@ -1,6 +1,7 @@
 //! The labels of what is held.
 
 ghost use Rattle.std.specs.Prelude.{◌≡◌, ◌≤◌, ◌+◌, ℕ, true, length, All, Contains, IfOk, IfErr, IsTrue, ◌↔◌};
+ghost use Rattle.std.specs.List.Sorted.{IsNonDecreasing, IsPermutation};
 ghost use Rattle.sf_insn.specs.declared.input.Input.{Input as AnInput};
 ghost use Rattle.sf_picture.specs.Holding.{IsHeldBy, HeldData, AreOneLabel, AreAtMost};
 ghost use Rattle.sf_picture.specs.declared.fault.Fault.TheVariants.{Memory};
@@ -72,19 +73,28 @@ pub(crate) fn is_one_label(held: &[Held]) -> bool
     have_label(held, first.label())
 }
 
+/// Puts labels in rising order, in place.
+fn put_in_order(labels: &mut Vec<usize>)
+    ensures permutation { IsPermutation labels.old.items labels.new.items }
+    ensures rising { IsNonDecreasing labels.new.items }
+{
+    labels.sort_unstable();
+}
+
 /// The labels of all that is held, each once, in rising order. `Memory` where an allocation is refused.
 pub(crate) fn labels_of(alloc: Global, held: &[Held]) -> Result<Vec<usize>, Fault>
     ensures labels { IfOk result (λ v. All (λ (h : HeldData). (d : AnInput) → IsHeldBy h d
         → Contains v.items h.label) held.now) }
     ensures one { IfOk result (λ v. AreOneLabel held.now → length v.items ≤ 1) }
     ensures few { IfOk result (λ v. length v.items ≤ length held.now) }
+    ensures rising { IfOk result (λ v. IsNonDecreasing v.items) }
     ensures err { IfErr result (λ f. f ≡ Memory) }
 {
     let mut labels = Vec::new(alloc);
     for one in held {
         push_label(&mut labels, one.label())?;
     }
-    labels.sort_unstable();
+    put_in_order(&mut labels);
     Ok(labels)
 }
 
@@ -95,12 +105,13 @@ pub(crate) fn labels_left(alloc: Global, held: &[Held]) -> Result<Vec<usize>, Fa
         → Contains v.items h.label) held.now) }
     ensures one { IfOk result (λ v. AreOneLabel held.now → length v.items ≤ 1) }
     ensures few { IfOk result (λ v. length v.items ≤ length held.now) }
+    ensures rising { IfOk result (λ v. IsNonDecreasing v.items) }
     ensures err { IfErr result (λ f. f ≡ Memory) }
 {
     let mut labels = Vec::new(alloc);
     for one in held {
         push_label_left(alloc, &mut labels, one)?;
     }
-    labels.sort_unstable();
+    put_in_order(&mut labels);
     Ok(labels)
 }

@@ -23,7 +23,8 @@ pub(crate) struct Sketch {
 }
 
 impl Model for Sketch {
-    ghost use Rattle.std.specs.Prelude.{◌≡◌, ◌≤◌, length, true};
+    ghost use Rattle.std.specs.Prelude.{◌≡◌, ◌≤◌, All, length, true};
+    ghost use Rattle.std.specs.List.Sorted.{IsNonDecreasing};
     ghost use Rattle.sf_picture.specs.Drawing.{SketchData};
     ghost use Rattle.sf_picture.specs.Pictures.{AreEachOnce, AreRightForks};
 
@@ -39,6 +40,7 @@ impl Model for Sketch {
 
     ghost invariant = { λ s. AreRightForks (length s.leaves.items) s.forks.items
         × AreEachOnce s.leaves.items × AreEachOnce s.forks.items
+        × All IsNonDecreasing s.leaves.items
         × (s.spent ≡ true → s.most ≤ s.drawn) };
 }
 
@@ -73,6 +75,7 @@ fn are_same_runs(a: &[Run], b: &[Run]) -> bool
 }
 
 impl Sketch {
+    ghost use Rattle.std.specs.List.Sorted.{IsNonDecreasing};
     ghost use Rattle.sf_picture.specs.Pictures.{AreRightForks, IsRightFork, IsBelow, fork_at};
     ghost use Rattle.sf_picture.specs.PictureData.{ForkData};
     ghost use Rattle.sf_picture.specs.Drawing.{Grows, AddsLeaf, IsLeafOf, IsForkOf, IsRightSketch};
@@ -122,8 +125,9 @@ impl Sketch {
         None
     }
 
-    /// A leaf with these labels. `Memory` where an allocation is refused.
+    /// A leaf with these labels, which are in rising order. `Memory` where an allocation is refused.
     pub(crate) fn leaf(&mut self, labels: Vec<usize>) -> Result<Branch, Fault>
+        requires { IsNonDecreasing labels.items }
         ensures grows { IfOk result (λ _. Grows self.old self.new) }
         ensures right { IsRightSketch self.new }
         ensures leaf { IfOk result (λ b. IsLeafOf self.new labels.items b) }

@@ -1,5 +1,6 @@
-use Rattle.std.proofs.Common.{◌<◌, arith}
-use Rattle.std.proofs.lemmas.List.Sorted.{All-permutation}
+use Rattle.std.proofs.Common.{◌<◌, arith, rules}
+use Rattle.std.proofs.lemmas.List.Sorted.{All-permutation, IsNonDecreasingBy-from_sort_by_key}
+use Rattle.sf_picture.specs.Axes.{axis_order}
 use Rattle.sf_picture.specs.declared.axis.Axis.{Axis}
 use Rattle.sf_picture.proofs.LastLemmas.{axes-more, axes-sorted}
 use Rattle.sf_picture.proofs.axes.axes_of.Goals as goal
@@ -19,3 +20,7 @@ returns-clause-words c =
 
 pub returns-clause-each : goal.returns-clause-each
 returns-clause-each c = search (arith, axes-sorted)
+
+pub returns-clause-order : goal.returns-clause-order
+returns-clause-order c =
+    IsNonDecreasingBy-from_sort_by_key axis_order _ c.sort_unstable_by_key.ensures.sorted (λ a r q k. search rules)

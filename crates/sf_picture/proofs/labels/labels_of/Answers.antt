@@ -25,6 +25,12 @@ returns-clause-labels c = search (arith, labelled-sorted)
 
 pub returns-clause-one : goal.returns-clause-one
 returns-clause-one c = λ one.
-    one-short c.args.held.now c.loop-one.labels.items c.sort_unstable.new.self.items c.loop-one.one-index
-    (length_permutation c.loop-one.labels.items c.sort_unstable.new.self.items c.sort_unstable.ensures.permutation)
+    one-short c.args.held.now c.loop-one.labels.items c.put_in_order.new.labels.items c.loop-one.one-index
+    (length_permutation c.loop-one.labels.items c.put_in_order.new.labels.items c.put_in_order.ensures.permutation)
     c.loop-one.invariant.few (omega arith) (c.loop-one.invariant.one one)
+
+pub returns-clause-few : goal.returns-clause-few
+returns-clause-few c =
+    let count = length_permutation c.loop-one.labels.items c.put_in_order.new.labels.items
+    c.put_in_order.ensures.permutation in
+    omega (arith, count, c.loop-one.invariant.few)

@@ -1,5 +1,7 @@
 use Rattle.std.proofs.Common.{◌≢◌, ℕ, List, length, subst, arith}
 use Rattle.std.specs.Prelude.{All}
+use Rattle.std.specs.List.Sorted.{IsNonDecreasing}
+use Rattle.std.proofs.lemmas.List.Elements.{All-push}
 use Rattle.sf_picture.proofs.SketchLemmas.{longer, once-more, right-more}
 use Rattle.sf_picture.proofs.sketch.Sketch.leaf.Goals as goal
 
@@ -13,7 +15,8 @@ invariant_of-self-2 c =
       once-more leaves c.push.new.self.items _ c.in_ok-push.ensures.items c.self.invariant.1
           (subst (λ (a : List ℕ). All (λ (l : List ℕ). l ≢ a) leaves) c.as_slice.ensures.value none),
       c.self.invariant.2,
-      λ spent. omega (arith, c.self.invariant.3 spent),
+      rw c.in_ok-push.ensures.items (All-push IsNonDecreasing leaves c.args.labels.items c.self.invariant.3 c.requires),
+      λ spent. omega (arith, c.self.invariant.4 spent),
     )
 
 pub returns-clause-right : goal.returns-clause-right
