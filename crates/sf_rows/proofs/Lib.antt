@@ -4,3 +4,4 @@ pub mod SpanLemmas
 pub mod ForkLemmas
 pub mod RowLemmas
 pub mod PairLemmas
+pub mod OrderLemmas

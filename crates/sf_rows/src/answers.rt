@@ -1,7 +1,7 @@
 //! The answers of a stack, by their labels.
 
-ghost use Rattle.std.specs.Prelude.{◌≡◌, ◌≢◌, ◌<◌, ◌^◌, ◌++◌, ℕ, All, Contains, IfOk, IsTrue, ◌↔◌, OnOk, Some, length, map, slice_get, string_bytes};
-ghost use Rattle.std.specs.List.Sorted.{IsNonDecreasingBy, IsPermutation};
+ghost use Rattle.std.specs.Prelude.{◌≡◌, ◌≢◌, ◌<◌, ◌≤◌, ◌^◌, ◌++◌, ℕ, All, Contains, IfOk, OnOk, Some, length, map, slice_get, string_bytes};
+ghost use Rattle.std.specs.List.Sorted.{IsNonDecreasingBy};
 ghost use Rattle.sf_run.specs.declared.action.Answer.{Answer as AnAnswer};
 ghost use Rattle.sf_book.specs.Books.{RegionData};
 ghost use Rattle.sf_picture.specs.Answering.{TellAnswers};
@@ -22,32 +22,14 @@ pub(crate) fn order_of(answer: Answer) -> u64
     rank as u64 * 65536 + answer.info as u64
 }
 
-/// Puts answers in order, in place.
+/// Puts answers in order, each once, in place.
 fn put_in_order(answers: &mut Vec<Answer>)
-    ensures permutation { IsPermutation answers.old.items answers.new.items }
+    ensures keeps { (a : AnAnswer) → Contains answers.old.items a
+        → Contains answers.new.items a }
     ensures order { IsNonDecreasingBy answer_order answers.new.items }
 {
     answers.sort_unstable_by_key(|answer| order_of(*answer));
-}
-
-/// Whether an answer is among others.
-fn has(answers: &Vec<Answer>, answer: Answer) -> bool
-    ensures { IsTrue result ↔ Contains answers.now.items answer }
-{
-    answers.contains(&answer)
-}
-
-/// Adds an answer, unless it is there.
-fn push_once(answers: &mut Vec<Answer>, answer: Answer) -> Result<(), AllocError>
-    ensures has { IfOk result (λ _. Contains answers.new.items answer) }
-    ensures keeps { IfOk result (λ _. (a : AnAnswer) → Contains answers.old.items a
-        → Contains answers.new.items a) }
-{
-    if has(answers, answer) {
-        return Ok(());
-    }
-    answers.push(answer)?;
-    Ok(())
+    answers.dedup();
 }
 
 /// The answers of all regions, each once, by precedence and then by data. A label is a place among them.
@@ -58,20 +40,32 @@ pub fn answers_of(alloc: Global, settled: &Settled) -> Result<Vec<Answer>, Alloc
 {
     let mut answers = Vec::new(alloc);
     for place in 0..settled.region_count() {
-        push_once(&mut answers, settled.region(place).answer())?;
+        answers.push(settled.region(place).answer())?;
     }
     put_in_order(&mut answers);
     Ok(answers)
 }
 
-/// The first place of an answer among others.
+/// How many answers stand before all of an order or a later one.
+fn count_before(answers: &[Answer], order: u64) -> usize
+    requires { IsNonDecreasingBy answer_order answers.now }
+    ensures bound { result ≤ length answers.now }
+    ensures before { (n : ℕ) (a : AnAnswer) → n < result → slice_get answers.now n ≡ Some a
+        → answer_order a < order }
+{
+    answers.partition_point(|answer| order_of(*answer) < order)
+}
+
+/// The first place of an answer among others, which are in order.
 fn place_of(answers: &[Answer], answer: Answer) -> usize
-    requires { Contains answers.now answer }
+    requires there { Contains answers.now answer }
+    requires order { IsNonDecreasingBy answer_order answers.now }
     ensures there { slice_get answers.now result ≡ Some answer }
     ensures first { (n : ℕ) → n < result → slice_get answers.now n ≢ Some answer }
 {
-    for (place, one) in answers.iter().enumerate() {
-        if *one == answer {
+    let first = count_before(answers, order_of(answer));
+    for place in first..answers.len() {
+        if answers[place] == answer {
             return place;
         }
     }
@@ -79,13 +73,16 @@ fn place_of(answers: &[Answer], answer: Answer) -> usize
     0
 }
 
-/// The label of each region: the first place of its answer.
+/// The label of each region: the first place of its answer. The caller's conditions: the answers of all regions are there,
+/// and they are in order.
 pub fn labels_of(
     alloc: Global,
     settled: &Settled,
     answers: &[Answer],
 ) -> Result<Vec<usize>, AllocError>
-    requires { All (λ (r : RegionData). Contains answers.now r.answer) settled.now.regions }
+    requires each { All (λ (r : RegionData). Contains answers.now r.answer)
+        settled.now.regions }
+    requires order { IsNonDecreasingBy answer_order answers.now }
     ensures count { IfOk result (λ v. length v.items ≡ length settled.now.regions) }
     ensures tell { IfOk result (λ v. TellAnswers settled.now answers.now v.items) }
     ensures first { IfOk result (λ v. AreFirstPlaces settled.now answers.now v.items) }

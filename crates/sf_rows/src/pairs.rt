@@ -1,7 +1,7 @@
 //! The pairs of answers of two stacks, by their labels.
 
-ghost use Rattle.std.specs.Prelude.{◌≡◌, ◌≢◌, ◌<◌, ◌↔◌, ℕ, All, Contains, IfOk, IsTrue, Some, false, length, map, slice_get, slice_index, string_bytes, true};
-ghost use Rattle.std.specs.List.Sorted.{IsNonDecreasingBy, IsPermutation};
+ghost use Rattle.std.specs.Prelude.{◌≡◌, ◌≢◌, ◌<◌, ◌≤◌, ◌↔◌, ℕ, All, Contains, IfOk, IsTrue, Some, false, length, map, slice_get, slice_index, string_bytes, true};
+ghost use Rattle.std.specs.List.Sorted.{IsNonDecreasingBy};
 ghost use Rattle.sf_run.specs.declared.replaying.PartAnswers.{PartAnswers as APair};
 ghost use Rattle.sf_rows.specs.Pairs.{Differ, IsLabelOf, pair_order, pair_words, pairs_words};
 
@@ -31,35 +31,25 @@ fn are_equal(one: PartAnswers, other: PartAnswers) -> bool
     one.older == other.older && one.newer == other.newer
 }
 
-/// Puts pairs in order, in place.
+/// Puts pairs in order, each once, in place.
 fn put_in_order(pairs: &mut Vec<PartAnswers>)
-    ensures permutation { IsPermutation pairs.old.items pairs.new.items }
+    ensures keeps { (p : APair) → Contains pairs.old.items p → Contains pairs.new.items p }
+    ensures differ { All Differ pairs.old.items → All Differ pairs.new.items }
     ensures order { IsNonDecreasingBy pair_order pairs.new.items }
 {
     pairs.sort_unstable_by_key(|both| pair_order_of(*both));
+    pairs.dedup();
 }
 
-/// Whether a pair is among others.
-fn has(pairs: &[PartAnswers], both: PartAnswers) -> bool
-    ensures { result ≡ true → Contains pairs.now both }
-{
-    for one in pairs {
-        if are_equal(*one, both) {
-            return true;
-        }
-    }
-    false
-}
-
-/// Adds a pair, unless it is there, or its answers are the same.
-fn push_once(pairs: &mut Vec<PartAnswers>, both: PartAnswers) -> Result<(), AllocError>
+/// Adds a pair, unless its answers are the same.
+fn push_changed(pairs: &mut Vec<PartAnswers>, both: PartAnswers) -> Result<(), AllocError>
     requires { All Differ pairs.old.items }
     ensures has { IfOk result (λ _. Differ both → Contains pairs.new.items both) }
     ensures keeps { IfOk result (λ _. (p : APair) → Contains pairs.old.items p
         → Contains pairs.new.items p) }
     ensures differ { IfOk result (λ _. All Differ pairs.new.items) }
 {
-    if is_same(both) || has(pairs.as_slice(), both) {
+    if is_same(both) {
         return Ok(());
     }
     pairs.push(both)?;
@@ -76,20 +66,32 @@ pub fn pairs_of(alloc: Global, answers: &[PartAnswers]) -> Result<Vec<PartAnswer
 {
     let mut pairs = Vec::new(alloc);
     for both in answers {
-        push_once(&mut pairs, *both)?;
+        push_changed(&mut pairs, *both)?;
     }
     put_in_order(&mut pairs);
     Ok(pairs)
 }
 
-/// The first place of a pair among others.
+/// How many pairs stand before all of an order or a later one.
+fn count_before(pairs: &[PartAnswers], order: u128) -> usize
+    requires { IsNonDecreasingBy pair_order pairs.now }
+    ensures bound { result ≤ length pairs.now }
+    ensures before { (n : ℕ) (p : APair) → n < result → slice_get pairs.now n ≡ Some p
+        → pair_order p < order }
+{
+    pairs.partition_point(|both| pair_order_of(*both) < order)
+}
+
+/// The first place of a pair among others, which are in order.
 fn place_of(pairs: &[PartAnswers], both: PartAnswers) -> usize
-    requires { Contains pairs.now both }
+    requires there { Contains pairs.now both }
+    requires order { IsNonDecreasingBy pair_order pairs.now }
     ensures there { slice_get pairs.now result ≡ Some both }
     ensures first { (n : ℕ) → n < result → slice_get pairs.now n ≢ Some both }
 {
-    for (place, one) in pairs.iter().enumerate() {
-        if are_equal(*one, both) {
+    let first = count_before(pairs, pair_order_of(both));
+    for place in first..pairs.len() {
+        if are_equal(pairs[place], both) {
             return place;
         }
     }
@@ -99,7 +101,8 @@ fn place_of(pairs: &[PartAnswers], both: PartAnswers) -> usize
 
 /// The label of two answers.
 fn label_of(pairs: &[PartAnswers], both: PartAnswers) -> usize
-    requires { Differ both → Contains pairs.now both }
+    requires there { Differ both → Contains pairs.now both }
+    requires order { IsNonDecreasingBy pair_order pairs.now }
     ensures { IsLabelOf pairs.now both result }
 {
     if is_same(both) {
@@ -108,13 +111,15 @@ fn label_of(pairs: &[PartAnswers], both: PartAnswers) -> usize
     place_of(pairs, both)
 }
 
-/// The labels of pairs of answers, in their order.
+/// The labels of pairs of answers, in their order. The caller's conditions: those that differ are among the pairs, and these are
+/// in order.
 pub fn labels_of(
     alloc: Global,
     answers: &[PartAnswers],
     pairs: &[PartAnswers],
 ) -> Result<Vec<usize>, AllocError>
-    requires { All (λ (p : APair). Differ p → Contains pairs.now p) answers.now }
+    requires each { All (λ (p : APair). Differ p → Contains pairs.now p) answers.now }
+    requires order { IsNonDecreasingBy pair_order pairs.now }
     ensures count { IfOk result (λ v. length v.items ≡ length answers.now) }
     ensures tell { IfOk result (λ v. (place : ℕ) (both : APair)
         → slice_get answers.now place ≡ Some both

@@ -1,9 +1,9 @@
-use Rattle.std.proofs.Common.{◌≡◌, ◌<◌, length, arith, get_or, take, subst, sym}
+use Rattle.std.proofs.Common.{◌≡◌, ◌<◌, ◌∷◌, [], length, arith, get_or, take, subst, sym}
 use Rattle.std.specs.Prelude.{All, Contains}
 use Rattle.std.proofs.lemmas.List.{take_all}
-use Rattle.std.proofs.lemmas.List.Elements.{All-more, All-weaker}
-use Rattle.std.proofs.lemmas.List.Sorted.{Contains-permutation}
+use Rattle.std.proofs.lemmas.List.Elements.{All-more, All-weaker, Contains-append_left, Contains-push}
 use Rattle.std.proofs.lemmas.Option.{get_or_from_slice_get, slice_get_within}
+use Rattle.sf_run.specs.declared.action.Answer.{Answer}
 use Rattle.sf_book.specs.Books.{RegionData}
 use Rattle.sf_rows.proofs.answers.answers_of.Goals as goal
 
@@ -11,14 +11,19 @@ pub loop-place-preserved : goal.loop-place-preserved
 loop-place-preserved c =
     let rs = c.args.settled.now.regions in
     let r : RegionData = c.region.result.now in
-    let answers = c.push_once.new.answers.items in
+    let before = c.loop-place.answers.items in
+    let answer : Answer = c.answer.result in
+    let pushed = c.in_ok-push.ensures.items in
+    let answers = c.push.new.self.items in
     let within = slice_get_within rs c.loop-place.place r c.region.ensures.value in
     let is : get_or rs c.loop-place.place r ≡ r =
     get_or_from_slice_get rs c.loop-place.place r r c.region.ensures.value in
-    let has : Contains answers r.answer = subst (Contains answers) c.answer.ensures c.in_ok-push_once.ensures.has in
+    let has : Contains answers r.answer = subst (Contains answers) c.answer.ensures
+    (rw pushed (Contains-push before answer)) in
     All-more (λ (x : RegionData). Contains answers x.answer) rs c.loop-place.place r within
-    (All-weaker (λ (x : RegionData). Contains c.loop-place.answers.items x.answer)
-    (λ (x : RegionData). Contains answers x.answer) (λ x old. c.in_ok-push_once.ensures.keeps x.answer old)
+    (All-weaker (λ (x : RegionData). Contains before x.answer)
+    (λ (x : RegionData). Contains answers x.answer)
+    (λ x old. rw pushed (Contains-append_left before (answer ∷ []) x.answer old))
     (take c.loop-place.place rs) c.loop-place.invariant)
     (subst (λ (x : RegionData). Contains answers x.answer) (sym is) has)
 
@@ -29,6 +34,5 @@ returns-clause-each c =
     take_all c.loop-place.place rs (omega (arith, c.region_count-place-end.ensures.value)) in
     All-weaker (λ (x : RegionData). Contains c.loop-place.answers.items x.answer)
     (λ (x : RegionData). Contains c.put_in_order.new.answers.items x.answer)
-    (λ x old. Contains-permutation c.loop-place.answers.items c.put_in_order.new.answers.items x.answer
-    c.put_in_order.ensures.permutation old) rs
+    (λ x old. c.put_in_order.ensures.keeps x.answer old) rs
     (subst (All (λ (x : RegionData). Contains c.loop-place.answers.items x.answer)) all c.loop-place.invariant)
