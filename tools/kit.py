@@ -54,11 +54,16 @@ def shown(path):
     return os.path.relpath(path, ROOT) if path.startswith(ROOT + os.sep) else path
 
 
-def crates_below(name=PROGRAM):
-    """A crate and the repository's libraries that it stands on."""
+def libraries_of_crates():
+    """Each crate of the repository, with the libraries that it uses."""
     with open(os.path.join(ROOT, "crates.txt")) as file:
         lines = [line.split(":") for line in file if ":" in line and not line.startswith("#")]
-    uses = {crate.strip(): words.split() for crate, words in lines}
+    return {crate.strip(): words.split() for crate, words in lines}
+
+
+def crates_below(name=PROGRAM):
+    """A crate and the repository's libraries that it stands on."""
+    uses = libraries_of_crates()
     found, left = set(), [name]
     while left:
         name = left.pop()
