@@ -1,0 +1,2 @@
+pub mod ReachingLemmas
+pub mod PassingLemmas

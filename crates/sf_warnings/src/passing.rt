@@ -1,0 +1,38 @@
+//! Whether any call gets through a stack.
+
+ghost use Rattle.std.specs.Prelude.{◌≡◌, ◌<◌, ℕ, false, length, IsTrue, All};
+ghost use Rattle.sf_insn.specs.Inputs.{IsInput};
+ghost use Rattle.sf_insn.specs.declared.input.Input.{Input as AnInput};
+ghost use Rattle.sf_run.specs.Answers.{Answers};
+ghost use Rattle.sf_run.specs.declared.action.Answer.{Answer as AnAnswer};
+ghost use Rattle.sf_warnings.specs.Passing.{LetsNoneThrough, may_let_through};
+
+use sf_book::Settled;
+use sf_run::Action;
+
+/// Whether a call may get through by an action: by ALLOW and LOG it does, and by TRACE and USER_NOTIF another process
+/// decides.
+pub(crate) fn may_let_through(action: Action) -> bool
+    ensures { result ≡ may_let_through action }
+{
+    matches!(
+        action,
+        Action::Allow | Action::Log | Action::Trace | Action::UserNotif
+    )
+}
+
+/// Whether an exploration found that a stack lets no call through: nothing is outstanding, and no region has an answer
+/// by which a call may get through. A region may have no member, so it can be `false` for a stack that lets none through.
+pub fn lets_none_through(settled: &Settled) -> bool
+    ensures { IsTrue result → LetsNoneThrough settled.now.stack }
+{
+    if settled.outstanding_count() > 0 {
+        return false;
+    }
+    for place in 0..settled.region_count() {
+        if may_let_through(settled.region(place).answer().action) {
+            return false;
+        }
+    }
+    true
+}

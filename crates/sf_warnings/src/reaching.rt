@@ -1,0 +1,42 @@
+//! Which instructions of a filter control may come to.
+
+ghost use Rattle.std.specs.Prelude.{◌≡◌, ◌+◌, ◌<◌, ◌≤◌, ℕ, length, IfOk};
+ghost use Rattle.sf_check.specs.Insns.{successors};
+ghost use Rattle.sf_check.specs.Programs.{AllBelow};
+ghost use Rattle.sf_warnings.specs.Reaching.{AreReached, with_found};
+
+use sf_check::{Insn, Program};
+use std::alloc::{AllocError, Global};
+
+/// Finds the places to which the instruction may lead.
+fn find_next(found: &mut [bool], place: usize, insn: &Insn)
+    requires small { place < 4096 }
+    requires inside { AllBelow (length found.old) (successors place insn.now) }
+    ensures { found.new ≡ with_found (successors place insn.now) found.old }
+{
+    match insn {
+        Insn::ReturnConstant(_) | Insn::ReturnA => {}
+        Insn::Jump(k) => found[place + 1 + *k as usize] = true,
+        Insn::Branch(_, _, on_true, on_false) => {
+            found[place + 1 + *on_true as usize] = true;
+            found[place + 1 + *on_false as usize] = true;
+        }
+        _ => found[place + 1] = true,
+    }
+}
+
+/// For each instruction of a program, in order, whether some path through the program comes to it. A path takes both
+/// ways of each test, whether or not an input does. `AllocError` where an allocation is refused.
+pub fn reached(alloc: Global, program: &Program) -> Result<Vec<bool>, AllocError>
+    ensures { IfOk result (λ found. AreReached program.now found.items) }
+{
+    let code = program.insns();
+    let mut found = vec![in alloc; false; code.len()]?;
+    found[0] = true;
+    for (place, insn) in code.iter().enumerate() {
+        if found[place] {
+            find_next(&mut found, place, insn);
+        }
+    }
+    Ok(found)
+}

@@ -1,0 +1,139 @@
+//! The lines of warnings. They are for a person, so contracts say nothing of their words.
+
+use crate::equal::first_same;
+use crate::passing::{lets_none_through, may_let_through};
+use crate::reaching::reached;
+use sf_book::Settled;
+use sf_check::Program;
+use sf_run::PartAnswers;
+use std::alloc::{AllocError, Global};
+
+/// Adds the warning that two files of a stack are the same filter. `which` is empty, or `old ` or `new ` for one of two
+/// stacks.
+fn push_same(text: &mut String, which: &str, files: &[Vec<u8>]) -> Result<(), AllocError> {
+    let Some((earlier, later)) = first_same(files) else {
+        return Ok(());
+    };
+    let (earlier, later) = (earlier.saturating_add(1), later.saturating_add(1));
+    write!(
+        text,
+        "warning: {which}filters {earlier} and {later} are the same\n"
+    )
+}
+
+/// Adds the warning that control never comes to some instructions of a filter, if another one than the last is among
+/// them: libseccomp ends each filter with a return to which often nothing leads.
+fn push_unreached(
+    alloc: Global,
+    text: &mut String,
+    which: &str,
+    number: usize,
+    program: &Program,
+) -> Result<(), AllocError> {
+    let found = reached(alloc, program)?;
+    let all = found.len();
+    let unreached = found.iter().filter(|it| !**it).count();
+    let last = found.last().copied().unwrap_or(true);
+    if unreached <= usize::from(!last) {
+        return Ok(());
+    }
+    write!(
+        text,
+        "warning: {which}filter {number}: {unreached} of {all} instructions are never reached: \
+two filters in one file?\n"
+    )
+}
+
+/// Adds the warnings that the files of a stack call for. `which` is empty, or `old ` or `new ` for one of two stacks.
+fn push_of_files(
+    alloc: Global,
+    text: &mut String,
+    which: &str,
+    files: &[Vec<u8>],
+    programs: &[Program],
+) -> Result<(), AllocError> {
+    push_same(text, which, files)?;
+    for (i, program) in programs.iter().enumerate() {
+        push_unreached(alloc, text, which, i.saturating_add(1), program)?;
+    }
+    Ok(())
+}
+
+/// The warnings that the files of a stack call for: two of them are the same, or a filter has instructions to which
+/// control never comes. An error where an allocation is refused.
+pub fn warnings_of_files(
+    alloc: Global,
+    files: &[Vec<u8>],
+    programs: &[Program],
+) -> Result<String, AllocError> {
+    let mut text = String::new(alloc);
+    push_of_files(alloc, &mut text, "", files, programs)?;
+    Ok(text)
+}
+
+/// The warnings that the exploration of a stack of these files calls for: those of the files, and that no call gets
+/// through. An error where an allocation is refused.
+pub fn warnings_of_stack(
+    alloc: Global,
+    files: &[Vec<u8>],
+    settled: &Settled,
+) -> Result<String, AllocError> {
+    let mut text = warnings_of_files(alloc, files, settled.stack().programs())?;
+    if lets_none_through(settled) {
+        text.push_str("warning: no call gets through: are these filters of one process?\n")?;
+    }
+    Ok(text)
+}
+
+/// Adds the warning that no call gets through one of two stacks.
+fn push_none(text: &mut String, which: &str) -> Result<(), AllocError> {
+    write!(
+        text,
+        "warning: no call gets through the {which}filters: are they of one process?\n"
+    )
+}
+
+/// The warnings that the exploration of two stacks as one calls for. The files of the old stack come first, and `older`
+/// of them are its own; `answers` has the answers of both to each region. An error where an allocation is refused.
+pub fn warnings_of_both(
+    alloc: Global,
+    files: &[Vec<u8>],
+    older: usize,
+    settled: &Settled,
+    answers: &[PartAnswers],
+) -> Result<String, AllocError> {
+    let mut text = String::new(alloc);
+    let programs = settled.stack().programs();
+    let (old, new) = (files.get(..older), files.get(older..));
+    let (first, last) = (programs.get(..older), programs.get(older..));
+    push_of_files(
+        alloc,
+        &mut text,
+        "old ",
+        old.unwrap_or(&[]),
+        first.unwrap_or(&[]),
+    )?;
+    push_of_files(
+        alloc,
+        &mut text,
+        "new ",
+        new.unwrap_or(&[]),
+        last.unwrap_or(&[]),
+    )?;
+    if settled.outstanding_count() > 0 {
+        return Ok(text);
+    }
+    if !answers
+        .iter()
+        .any(|both| may_let_through(both.older.action))
+    {
+        push_none(&mut text, "old ")?;
+    }
+    if !answers
+        .iter()
+        .any(|both| may_let_through(both.newer.action))
+    {
+        push_none(&mut text, "new ")?;
+    }
+    Ok(text)
+}
