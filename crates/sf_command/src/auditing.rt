@@ -9,6 +9,7 @@ use sf_audit::{Outcome, write_report};
 use sf_crew::Open;
 use sf_evaluate::{Files, Notes, questions_in, read_all};
 use sf_policy::Fault;
+use sf_warnings::warnings_of_stack;
 use std::alloc::Global;
 use std::io::Write;
 use std::sync::Wait;
@@ -61,6 +62,7 @@ pub fn audit<R: Threads + Wait + Sync, F: Files, O: Write>(
         workers,
         &Open,
     )?;
+    notes.warnings = warnings_of_stack(alloc, &filters, outcome.settled());
     write_report(alloc, &outcome, options.regions, out)?;
     let status = status_of_replies(outcome.replies());
     files.take_over(outcome);

@@ -11,6 +11,7 @@ use sf_crew::Open;
 use sf_evaluate::{Files, Notes, read_all};
 use sf_list::{draw_differences, write_differences};
 use sf_policy::{Fault, Names};
+use sf_warnings::warnings_of_both;
 use std::alloc::Global;
 use std::io::Write;
 use std::sync::Wait;
@@ -103,6 +104,8 @@ pub fn compare<R: Threads + Wait + Sync, F: Files, O: Write>(
     let (filters, older) = read_both(alloc, old, new, files, notes)?;
     let workers = usize::from(terms.workers);
     let comparison = sf_compare::compare(rt, alloc, &filters, older, terms.budget, workers, &Open)?;
+    let (settled, answers) = (comparison.settled(), comparison.answers());
+    notes.warnings = warnings_of_both(alloc, &filters, older, settled, answers);
     write_compared(alloc, &comparison, names, terms, out)?;
     let status = status_of_change(comparison.change(terms.asked));
     files.take_over(comparison);

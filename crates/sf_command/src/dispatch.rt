@@ -23,7 +23,7 @@ use sf_command_line::{
     wants_same, wants_trace, workers_of,
 };
 use sf_compare::Relation;
-use sf_evaluate::{Files, Notes, check, evaluate, input_of, print, read_all_names, tell};
+use sf_evaluate::{Files, Notes, check, evaluate, input_of, print, read_all_names, tell, warn};
 use sf_policy::{Fault, Names};
 use std::alloc::Global;
 use std::io::Write;
@@ -285,6 +285,9 @@ fn reply<R: Threads + Wait + Sync, F: Files, O: Write, E: Write>(
         Ok(matches) => {
             let ran = run(rt, alloc, &matches, files, notes, out);
             notes.explain(alloc, &matches, &ran, files.reason());
+            if ran.is_ok() {
+                warn(&matches, &notes.warnings, err);
+            }
             ran
         }
         Err(error) => write_usage(alloc, &error, out, err),

@@ -9,6 +9,7 @@ use sf_crew::Open;
 use sf_evaluate::{Files, Notes, read_all};
 use sf_list::write_listing;
 use sf_policy::{Fault, Names};
+use sf_warnings::warnings_of_stack;
 use std::alloc::Global;
 use std::io::Write;
 use std::sync::Wait;
@@ -53,6 +54,7 @@ pub fn list<R: Threads + Wait + Sync, F: Files, O: Write>(
     let workers = usize::from(limits.workers);
     let leaves = limits.leaves as usize;
     let listing = sf_list::list(rt, alloc, &filters, limits.budget, workers, leaves, &Open)?;
+    notes.warnings = warnings_of_stack(alloc, &filters, listing.settled());
     let whole = write_listing(alloc, &listing, names, out)?;
     let status = status_of_listing(whole);
     files.take_over(listing);

@@ -44,19 +44,23 @@ files_rule name = record (needed_rule name) {
 abbrev pub repeated_rule : Text → Rule
 repeated_rule name = record (option_rule name) { action = Some Append }
 
--- `audit --policy FILE [--budget N] [--workers N] [--regions] [--explain-errors] FILTER..`
+-- `audit --policy FILE [--budget N] [--workers N] [--regions] [--quiet] [--explain-errors] FILTER..`
 abbrev pub audit_line : App
-audit_line = with_rule (with_rule (with_rule (with_rule (with_rule (with_rule (new_app (codes "audit"))
+audit_line = with_rule (with_rule (with_rule (with_rule (with_rule (with_rule (with_rule (new_app (codes "audit"))
     (needed_rule (codes "policy")))
     (number_rule (codes "budget") 1000000 (codes "100000")))
     (number_rule (codes "workers") 64 (codes "4")))
     (switch_rule (codes "regions")))
+    (switch_rule (codes "quiet")))
     (switch_rule (codes "explain-errors")))
     filters_rule
 
--- `check [--explain-errors] FILTER..`
+-- `check [--quiet] [--explain-errors] FILTER..`
 abbrev pub check_line : App
-check_line = with_rule (with_rule (new_app (codes "check")) (switch_rule (codes "explain-errors"))) filters_rule
+check_line = with_rule (with_rule (with_rule (new_app (codes "check"))
+    (switch_rule (codes "quiet")))
+    (switch_rule (codes "explain-errors")))
+    filters_rule
 
 -- `eval --input HEX [--trace] [--trace-true] [--names FILE].. [--explain-errors] FILTER..`
 abbrev pub eval_line : App
@@ -69,10 +73,10 @@ eval_line = with_rule (with_rule (with_rule (with_rule (with_rule (with_rule (ne
     filters_rule
 
 -- `compare --old FILE.. --new FILE.. [--budget N] [--workers N] [--same] [--rows] [--leaves N] [--names FILE]..
--- [--explain-errors]`
+-- [--quiet] [--explain-errors]`
 abbrev pub compare_line : App
 compare_line = with_rule (with_rule (with_rule (with_rule (with_rule (with_rule (with_rule (with_rule (with_rule
-    (new_app (codes "compare"))
+    (with_rule (new_app (codes "compare"))
     (files_rule (codes "old")))
     (files_rule (codes "new")))
     (number_rule (codes "budget") 1000000 (codes "100000")))
@@ -81,15 +85,17 @@ compare_line = with_rule (with_rule (with_rule (with_rule (with_rule (with_rule 
     (switch_rule (codes "rows")))
     (number_rule (codes "leaves") 1000000 (codes "20000")))
     (repeated_rule (codes "names")))
+    (switch_rule (codes "quiet")))
     (switch_rule (codes "explain-errors"))
 
--- `list [--budget N] [--workers N] [--leaves N] [--names FILE].. [--explain-errors] FILTER..`
+-- `list [--budget N] [--workers N] [--leaves N] [--names FILE].. [--quiet] [--explain-errors] FILTER..`
 abbrev pub list_line : App
-list_line = with_rule (with_rule (with_rule (with_rule (with_rule (with_rule (new_app (codes "list"))
+list_line = with_rule (with_rule (with_rule (with_rule (with_rule (with_rule (with_rule (new_app (codes "list"))
     (number_rule (codes "budget") 1000000 (codes "100000")))
     (number_rule (codes "workers") 64 (codes "4")))
     (number_rule (codes "leaves") 1000000 (codes "20000")))
     (repeated_rule (codes "names")))
+    (switch_rule (codes "quiet")))
     (switch_rule (codes "explain-errors")))
     filters_rule
 

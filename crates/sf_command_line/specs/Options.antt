@@ -29,6 +29,11 @@ abbrev pub IsUnasked : Option (Text × List Row) → Type 0
 IsUnasked named =
     (found : Text × List Row) → named ≡ Some found → one_of (codes "explain-errors") found.1 ≡ Some (codes "false")
 
+-- warnings are to be left out: a subcommand is named, and its switch for that is on
+abbrev pub IsQuiet : Option (Text × List Row) → Type 0
+IsQuiet named =
+    (found : Text × List Row) × (named ≡ Some found) × (one_of (codes "quiet") found.1 ≡ Some (codes "true"))
+
 -- these are the paths that an argument names
 abbrev pub ArePaths : Text → List Row → List (Bor Text) → Type 0
 ArePaths name rows paths = map (λ p. p.now) paths ≡ paths_of name rows

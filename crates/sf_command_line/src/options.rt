@@ -87,6 +87,13 @@ pub fn wants_explanation(found: &ArgMatches<'_>) -> bool
     is_on(found, "explain-errors")
 }
 
+/// Whether warnings are left out.
+pub fn wants_quiet(found: &ArgMatches<'_>) -> bool
+    ensures { IsSwitch (one_of (codes "quiet") (rows_of (found_of found.now))) result }
+{
+    is_on(found, "quiet")
+}
+
 /// After how many leaves no fork of a picture is begun any more.
 pub fn leaves_of(found: &ArgMatches<'_>) -> u32
     ensures { IsOptionNumber (one_of (codes "leaves") (rows_of (found_of found.now)))

@@ -30,6 +30,7 @@ Limits:
 Errors:
   An error is one line on standard error: its number, its name, and where it lies.
   --explain-errors, which each command takes, adds where that is, and what the number means.
+  A warning there is a line about what may make filters look safe; --quiet leaves it out.
 
 docs/GUIDE.md says how to get filters, how to ask questions and how to read the answers.";
 
@@ -139,6 +140,14 @@ fn explain<'a>(alloc: Global) -> Arg<'a>
     )
 }
 
+/// `--quiet`: whether warnings are left out.
+fn quiet<'a>(alloc: Global) -> Arg<'a>
+    ensures rule { rule_of result ≡ switch_rule (codes "quiet") }
+    ensures own { result.global ≡ false }
+{
+    switch(alloc, "quiet").help("Leave out the warnings on standard error")
+}
+
 /// The paths of the filter files.
 fn filters<'a>(alloc: Global) -> Arg<'a>
     ensures rule { rule_of result ≡ filters_rule }
@@ -200,6 +209,7 @@ fn audit<'a>(alloc: Global) -> Result<Command<'a>, AllocError>
         .arg(budget(alloc))?
         .arg(workers(alloc))?
         .arg(regions(alloc))?
+        .arg(quiet(alloc))?
         .arg(explain(alloc))?
         .arg(filters(alloc))
 }
@@ -210,6 +220,7 @@ fn check<'a>(alloc: Global) -> Result<Command<'a>, AllocError>
 {
     Command::new(alloc, "check")
         .about("Check whether files are lawful filters that make a lawful stack")
+        .arg(quiet(alloc))?
         .arg(explain(alloc))?
         .arg(filters(alloc))
 }
@@ -246,6 +257,7 @@ fn compare<'a>(alloc: Global) -> Result<Command<'a>, AllocError>
         .arg(rows(alloc))?
         .arg(leaves(alloc))?
         .arg(names(alloc))?
+        .arg(quiet(alloc))?
         .arg(explain(alloc))
 }
 
@@ -259,6 +271,7 @@ fn list<'a>(alloc: Global) -> Result<Command<'a>, AllocError>
         .arg(workers(alloc))?
         .arg(leaves(alloc))?
         .arg(names(alloc))?
+        .arg(quiet(alloc))?
         .arg(explain(alloc))?
         .arg(filters(alloc))
 }

@@ -20,6 +20,7 @@ use sf_check::Stack;
 use sf_insn::{Input, input_of_bytes};
 use sf_policy::{Fault, Names, stack_of, write_bytes};
 use sf_run::answer;
+use sf_warnings::warnings_of_files;
 use std::alloc::Global;
 use std::io::Write;
 
@@ -42,8 +43,14 @@ pub fn input_of(text: &str) -> Result<Input, Fault>
     Ok(input_of_bytes(&bytes))
 }
 
-/// Writes the number of instructions of each filter and the path length of their stack.
-fn check_filters<O: Write>(alloc: Global, filters: &[Vec<u8>], out: &mut O) -> Result<(), Fault>
+/// Writes the number of instructions of each filter and the path length of their stack. The notes get the warnings that
+/// the files call for.
+fn check_filters<O: Write>(
+    alloc: Global,
+    filters: &[Vec<u8>],
+    notes: &mut Notes,
+    out: &mut O,
+) -> Result<(), Fault>
     ensures written { OnOk result (WritesCheck (map (λ f. f.items) filters.now)
         (O.contents out.old) (O.contents out.new)) }
     ensures refused { IfErr result (λ e. (e ≡ WriteFault)
@@ -51,6 +58,7 @@ fn check_filters<O: Write>(alloc: Global, filters: &[Vec<u8>], out: &mut O) -> R
         × (out.new ≡ out.old))) }
 {
     let stack = stack_of(alloc, filters)?;
+    notes.warnings = warnings_of_files(alloc, filters, stack.programs());
     let text = check_text(alloc, &stack)?;
     print(&text, out)
 }
@@ -126,7 +134,7 @@ pub fn check<F: Files, O: Write>(
         ⊎ (RefusesFiles (F.holds files.old) paths.now e × (out.new ≡ out.old))) }
 {
     let filters = read_all(alloc, paths, files, notes)?;
-    check_filters(alloc, &filters, out)
+    check_filters(alloc, &filters, notes, out)
 }
 
 /// Reads the filter files, which are named in order of installation, and writes what their stack answers to the input.

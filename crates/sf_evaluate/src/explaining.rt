@@ -26,6 +26,8 @@ pub struct Notes {
     pub files: usize,
     /// The lines that explain the fault, where they are asked for and there is memory for them.
     pub explanation: Option<String>,
+    /// The lines of warnings, or that there is no memory for them.
+    pub warnings: Result<String, AllocError>,
 }
 
 impl Notes {
@@ -40,6 +42,7 @@ impl Notes {
             refusal: None,
             files: 0,
             explanation: None,
+            warnings: Ok(String::new(alloc)),
         }
     }
 

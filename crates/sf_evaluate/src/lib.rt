@@ -19,4 +19,4 @@ pub use explaining::Notes;
 pub use files::{Files, MOST_BYTES, read_all};
 pub use naming::read_all_names;
 pub use questions::questions_in;
-pub use telling::{tell, tell_fault};
+pub use telling::{tell, tell_fault, warn};

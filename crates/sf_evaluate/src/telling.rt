@@ -1,9 +1,13 @@
-//! What is written to standard error.
+//! What is written to standard error: faults and warnings.
 
-ghost use Rattle.std.specs.Prelude.{◌≡◌, ◌++◌, IfOk, string_bytes};
+ghost use Rattle.std.specs.Prelude.{true, ◌≡◌, ◌++◌, IfOk, string_bytes};
+ghost use Rattle.clap.specs.Words.{subcommand_rows_of};
+ghost use Rattle.sf_command_line.specs.Options.{IsQuiet};
 ghost use Rattle.sf_policy.specs.Faults.{fault_number};
 ghost use Rattle.sf_evaluate.specs.Status.{fault_status};
 
+use clap::ArgMatches;
+use sf_command_line::wants_quiet;
 use sf_policy::Fault;
 use std::alloc::{AllocError, Global};
 use std::fmt::InlineText;
@@ -58,4 +62,31 @@ pub fn tell<E: Write>(alloc: Global, fault: &Fault, more: Option<String>, err: &
         return status_of(fault);
     }
     tell_fault(fault, err)
+}
+
+/// Whether the matches of the command line ask for no warnings.
+fn is_quiet(matches: &ArgMatches<'_>) -> bool
+    ensures { IsQuiet (subcommand_rows_of matches.now) → result ≡ true }
+{
+    match matches.subcommand() {
+        Some((_, found)) => wants_quiet(found),
+        None => false,
+    }
+}
+
+/// Writes the lines of warnings to standard error, unless the matches ask for none. Where there was no memory for them,
+/// one line says so.
+pub fn warn<E: Write>(matches: &ArgMatches<'_>, warnings: &Result<String, AllocError>, err: &mut E)
+    ensures quiet { IsQuiet (subcommand_rows_of matches.now) → err.new ≡ err.old }
+{
+    if is_quiet(matches) {
+        return;
+    }
+    let text = match warnings {
+        Ok(text) => text.as_str(),
+        Err(_) => "warning: there was no memory to look for warnings\n",
+    };
+    if !text.is_empty() {
+        let _ = err.write_all(text.as_bytes());
+    }
 }

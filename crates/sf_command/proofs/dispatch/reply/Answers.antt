@@ -6,8 +6,8 @@ use Rattle.sf_command_line.specs.CommandLineLaws.{told_errors, told_subcommand}
 use Rattle.sf_command_line.specs.SubcommandLaws.{known_subcommand}
 use Rattle.sf_command.proofs.dispatch.reply.Goals as goal
 
-pub returns-in-Ok-clause-done : goal.returns-in-Ok-clause-done
-returns-in-Ok-clause-done g c =
+pub returns-after-is_ok-clause-done : goal.returns-after-is_ok-clause-done
+returns-after-is_ok-clause-done g c =
     let fits = told_errors (λ (ks : Kinds). ks ≡ []) _ _ c.in_ok-command_form.ensures c.in-Ok.ensures.kinds in
     let entered = told_subcommand _ _ c.in-Ok.matches c.in_ok-command_form.ensures c.in-Ok.ensures.matches in
     IfOk-weaker c.run-ran.result _ _ (λ s done small. let (found, named, does) = done small in
@@ -20,8 +20,8 @@ returns-in-Err-clause-done g c =
     IfOk-weaker c.write_usage.result _ _ (λ s done small. inr (helps _ c.in-Err.error s _ _ failed (done small)))
     c.write_usage.ensures.done
 
-pub returns-in-Ok-clause-usage : goal.returns-in-Ok-clause-usage
-returns-in-Ok-clause-usage g c =
+pub returns-after-is_ok-clause-usage : goal.returns-after-is_ok-clause-usage
+returns-after-is_ok-clause-usage g c =
     let entered = told_subcommand _ _ c.in-Ok.matches c.in_ok-command_form.ensures c.in-Ok.ensures.matches in
     IfOk-weaker c.run-ran.result _ _ (λ s usage four. (
       (λ fits. let (found, named, known) = known_subcommand _ fits in
@@ -40,8 +40,8 @@ returns-in-Err-clause-usage g c =
       (usage four).1,
     )) c.write_usage.ensures.usage
 
-pub returns-in-Ok-clause-refused : goal.returns-in-Ok-clause-refused
-returns-in-Ok-clause-refused g c =
+pub returns-after-is_ok-clause-refused : goal.returns-after-is_ok-clause-refused
+returns-after-is_ok-clause-refused g c =
     let fits = told_errors (λ (ks : Kinds). ks ≡ []) _ _ c.in_ok-command_form.ensures c.in-Ok.ensures.kinds in
     let entered = told_subcommand _ _ c.in-Ok.matches c.in_ok-command_form.ensures c.in-Ok.ensures.matches in
     IfErr-weaker c.run-ran.result _ _ (λ e why. let (found, named, refuses) = why in

@@ -14,8 +14,10 @@ returns c =
     ∙ ap₂ with_rule with_budget c.workers.ensures.rule in
     let with_regions = c.in_ok-arg-4.ensures.shape c.regions.ensures.own
     ∙ ap₂ with_rule with_workers c.regions.ensures.rule in
-    let with_explain = c.in_ok-arg-5.ensures.shape c.explain.ensures.own
-    ∙ ap₂ with_rule with_regions c.explain.ensures.rule in
-    IfOk-weaker c.arg-6.result _ _ (λ r h. h.shape c.filters.ensures.own
+    let with_quiet = c.in_ok-arg-5.ensures.shape c.quiet.ensures.own
+    ∙ ap₂ with_rule with_regions c.quiet.ensures.rule in
+    let with_explain = c.in_ok-arg-6.ensures.shape c.explain.ensures.own
+    ∙ ap₂ with_rule with_quiet c.explain.ensures.rule in
+    IfOk-weaker c.arg-7.result _ _ (λ r h. h.shape c.filters.ensures.own
     ∙ ap₂ with_rule with_explain c.filters.ensures.rule)
-    c.arg-6.ensures
+    c.arg-7.ensures

@@ -22,6 +22,8 @@ returns c =
     ∙ ap₂ with_rule with_rows c.leaves.ensures.rule in
     let with_names = c.in_ok-arg-8.ensures.shape c.names.ensures.own
     ∙ ap₂ with_rule with_leaves c.names.ensures.rule in
-    IfOk-weaker c.arg-9.result _ _ (λ r h. h.shape c.explain.ensures.own
-    ∙ ap₂ with_rule with_names c.explain.ensures.rule)
-    c.arg-9.ensures
+    let with_quiet = c.in_ok-arg-9.ensures.shape c.quiet.ensures.own
+    ∙ ap₂ with_rule with_names c.quiet.ensures.rule in
+    IfOk-weaker c.arg-10.result _ _ (λ r h. h.shape c.explain.ensures.own
+    ∙ ap₂ with_rule with_quiet c.explain.ensures.rule)
+    c.arg-10.ensures

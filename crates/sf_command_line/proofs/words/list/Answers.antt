@@ -14,8 +14,10 @@ returns c =
     ∙ ap₂ with_rule with_workers c.leaves.ensures.rule in
     let with_names = c.in_ok-arg-4.ensures.shape c.names.ensures.own
     ∙ ap₂ with_rule with_leaves c.names.ensures.rule in
-    let with_explain = c.in_ok-arg-5.ensures.shape c.explain.ensures.own
-    ∙ ap₂ with_rule with_names c.explain.ensures.rule in
-    IfOk-weaker c.arg-6.result _ _ (λ r h. h.shape c.filters.ensures.own
+    let with_quiet = c.in_ok-arg-5.ensures.shape c.quiet.ensures.own
+    ∙ ap₂ with_rule with_names c.quiet.ensures.rule in
+    let with_explain = c.in_ok-arg-6.ensures.shape c.explain.ensures.own
+    ∙ ap₂ with_rule with_quiet c.explain.ensures.rule in
+    IfOk-weaker c.arg-7.result _ _ (λ r h. h.shape c.filters.ensures.own
     ∙ ap₂ with_rule with_explain c.filters.ensures.rule)
-    c.arg-6.ensures
+    c.arg-7.ensures
