@@ -3,11 +3,11 @@
 _seccomp_audit() {
     local word=${COMP_WORDS[COMP_CWORD]} before=${COMP_WORDS[COMP_CWORD - 1]} options="--help --version"
     case ${COMP_WORDS[1]} in
-        audit) options="--policy --budget --workers --regions --explain-errors --help" ;;
-        check) options="--explain-errors --help" ;;
+        audit) options="--policy --budget --workers --regions --quiet --explain-errors --help" ;;
+        check) options="--quiet --explain-errors --help" ;;
         eval) options="--input --trace --trace-true --names --explain-errors --help" ;;
-        compare) options="--old --new --budget --workers --same --rows --leaves --names --explain-errors --help" ;;
-        list) options="--budget --workers --leaves --names --explain-errors --help" ;;
+        compare) options="--old --new --budget --workers --same --rows --leaves --names --quiet --explain-errors --help" ;;
+        list) options="--budget --workers --leaves --names --quiet --explain-errors --help" ;;
     esac
     COMPREPLY=()
     case $before in

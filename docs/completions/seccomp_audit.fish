@@ -13,9 +13,11 @@ complete -c seccomp_audit -n '__fish_seen_subcommand_from audit' -l policy -r -F
 complete -c seccomp_audit -n '__fish_seen_subcommand_from audit' -l budget -x -d 'The most pieces that are worked on, 1 to 1000000 [default: 100000]'
 complete -c seccomp_audit -n '__fish_seen_subcommand_from audit' -l workers -x -d 'The number of workers, 1 to 64: 1 is as fast, and answers more under a budget [default: 4]'
 complete -c seccomp_audit -n '__fish_seen_subcommand_from audit' -l regions -d 'List the settled regions too'
+complete -c seccomp_audit -n '__fish_seen_subcommand_from audit' -l quiet -d 'Leave out the warnings on standard error'
 complete -c seccomp_audit -n '__fish_seen_subcommand_from audit' -l explain-errors -d 'Explain an error under its line: where it lies, and what its number means'
 complete -c seccomp_audit -n '__fish_seen_subcommand_from audit' -l help -d 'Print help'
 complete -c seccomp_audit -n '__fish_seen_subcommand_from check' -F
+complete -c seccomp_audit -n '__fish_seen_subcommand_from check' -l quiet -d 'Leave out the warnings on standard error'
 complete -c seccomp_audit -n '__fish_seen_subcommand_from check' -l explain-errors -d 'Explain an error under its line: where it lies, and what its number means'
 complete -c seccomp_audit -n '__fish_seen_subcommand_from check' -l help -d 'Print help'
 complete -c seccomp_audit -n '__fish_seen_subcommand_from eval' -F
@@ -34,6 +36,7 @@ complete -c seccomp_audit -n '__fish_seen_subcommand_from compare' -l same -d 'L
 complete -c seccomp_audit -n '__fish_seen_subcommand_from compare' -l rows -d 'List the rows whose answers differ too'
 complete -c seccomp_audit -n '__fish_seen_subcommand_from compare' -l leaves -x -d 'The most leaves that are drawn, 1 to 1000000 [default: 20000]'
 complete -c seccomp_audit -n '__fish_seen_subcommand_from compare' -l names -r -F -d 'A file of names of calls, which rows and traces show; once for each file'
+complete -c seccomp_audit -n '__fish_seen_subcommand_from compare' -l quiet -d 'Leave out the warnings on standard error'
 complete -c seccomp_audit -n '__fish_seen_subcommand_from compare' -l explain-errors -d 'Explain an error under its line: where it lies, and what its number means'
 complete -c seccomp_audit -n '__fish_seen_subcommand_from compare' -l help -d 'Print help'
 complete -c seccomp_audit -n '__fish_seen_subcommand_from list' -F
@@ -41,5 +44,6 @@ complete -c seccomp_audit -n '__fish_seen_subcommand_from list' -l budget -x -d 
 complete -c seccomp_audit -n '__fish_seen_subcommand_from list' -l workers -x -d 'The number of workers, 1 to 64: 1 is as fast, and answers more under a budget [default: 4]'
 complete -c seccomp_audit -n '__fish_seen_subcommand_from list' -l leaves -x -d 'The most leaves that are drawn, 1 to 1000000 [default: 20000]'
 complete -c seccomp_audit -n '__fish_seen_subcommand_from list' -l names -r -F -d 'A file of names of calls, which rows and traces show; once for each file'
+complete -c seccomp_audit -n '__fish_seen_subcommand_from list' -l quiet -d 'Leave out the warnings on standard error'
 complete -c seccomp_audit -n '__fish_seen_subcommand_from list' -l explain-errors -d 'Explain an error under its line: where it lies, and what its number means'
 complete -c seccomp_audit -n '__fish_seen_subcommand_from list' -l help -d 'Print help'
