@@ -1,0 +1,107 @@
+-- Laws of what a profile means.
+use Rattle.std.proofs.Common.{◌≡◌, ℕ, ◌-◌, ◌<◌, ◌≤◌, List, [], ◌∷◌, Bool, true, false, Option, Some, None, refl, ap, ◌∙◌, subst, sym, arith, ◌⊎◌, inl, inr, lt-ltb, le-ltb}
+use Rattle.std.specs.Prelude.{if◌then◌else◌, ◌&&◌, nat_lt, filter}
+use Rattle.std.proofs.lemmas.Bool.{cases_lt}
+use Rattle.std.proofs.lemmas.Option.{same_Some}
+use Rattle.sf_insn.specs.declared.input.Input.{Input}
+use Rattle.sf_profile.specs.declared.rules.Reading.{Reading}
+use Rattle.sf_profile.specs.declared.rules.Reading.TheVariants.{Strictest, Mildest}
+use Rattle.sf_profile.specs.declared.rules.Response.{Response}
+use Rattle.sf_profile.specs.declared.rules.Response.TheVariants.{Errno}
+use Rattle.sf_profile.specs.Data.{RuleData, PartData, PlanData}
+use Rattle.sf_profile.specs.Meaning.{number_in, is_wide, says, response_of, refuses_newer, is_newer, response_in, order, preferred, pick, strictness}
+use Rattle.sf_profile.proofs.PickLemmas.{strictness_small}
+
+pub only_newer : (plan : PlanData) (d : Input) (part : PartData) → is_newer (number_in d) part.rules ≡ false
+    → response_in plan d part ≡ response_in (record plan { newer = false }) d part
+only_newer plan d part none = rw none (by (plan.newer && refuses_newer plan.default))
+  where
+    rest : Response
+    rest = response_of plan.default (pick plan.reading (filter (says (is_wide part.set) d) part.rules))
+
+    by : (b : Bool) → (if b && false then Errno 38 else rest) ≡ rest
+    by true = refl
+    by false = refl
+
+-- ---- what is picked is among the rules, and no rule is before it
+
+-- a rule is among some
+abbrev IsAmong : RuleData → List RuleData → Type 0
+IsAmong q [] = ⊥
+IsAmong q (rule ∷ rules) = (q ≡ rule) ⊎ IsAmong q rules
+
+chosen : (reading : Reading) (rule : RuleData) (later : Option RuleData) → (preferred reading rule later ≡ rule)
+    ⊎ (later ≡ Some (preferred reading rule later))
+chosen reading rule None = inl refl
+chosen reading rule (Some q) = by (nat_lt (order reading q) (order reading rule))
+  where
+    by : (b : Bool) → ((if b then q else rule) ≡ rule) ⊎ (Some q ≡ Some (if b then q else rule))
+    by true = inr refl
+    by false = inl refl
+
+among : (reading : Reading) (rules : List RuleData) (q : RuleData) → pick reading rules ≡ Some q → IsAmong q rules
+among reading [] q e = absurd cc
+among reading (rule ∷ rules) q e =
+    by (λ p h. among reading rules p h) (chosen reading rule (pick reading rules))
+    (same_Some (preferred reading rule (pick reading rules)) q e)
+  where
+    by : ((p : RuleData) → pick reading rules ≡ Some p → IsAmong p rules)
+        → (preferred reading rule (pick reading rules) ≡ rule)
+        ⊎ (pick reading rules ≡ Some (preferred reading rule (pick reading rules)))
+        → preferred reading rule (pick reading rules) ≡ q → IsAmong q (rule ∷ rules)
+    by later (inl own) same = inl (sym same ∙ own)
+    by later (inr other) same = inr (later q (other ∙ ap Some same))
+
+-- what is preferred isn't after the rule, nor after the later one
+not_after : (reading : Reading) (rule : RuleData) (later : Option RuleData)
+    → (order reading (preferred reading rule later) ≤ order reading rule)
+    × ((q : RuleData) → later ≡ Some q → order reading (preferred reading rule later) ≤ order reading q)
+not_after reading rule None = (omega arith, λ q e. absurd cc)
+not_after reading rule (Some p) = by (cases_lt (order reading p) (order reading rule))
+  where
+    by : (order reading p < order reading rule) ⊎ (order reading rule ≤ order reading p)
+        → (order reading (preferred reading rule (Some p)) ≤ order reading rule)
+        × ((q : RuleData) → Some p ≡ Some q → order reading (preferred reading rule (Some p)) ≤ order reading q)
+    by (inl lt) = rw (lt-ltb (order reading p) (order reading rule) lt) (
+      omega arith,
+      λ q e. let same : order reading p ≡ order reading q = ap (order reading) (same_Some p q e) in omega arith,
+    )
+    by (inr le) = rw (le-ltb (order reading p) (order reading rule) le) (
+      omega arith,
+      λ q e. let same : order reading p ≡ order reading q = ap (order reading) (same_Some p q e) in omega arith,
+    )
+
+some_picked : (reading : Reading) (rules : List RuleData) (q : RuleData) → IsAmong q rules
+    → (p : RuleData) × (pick reading rules ≡ Some p)
+some_picked reading [] q h = absurd h
+some_picked reading (rule ∷ rules) q h = (preferred reading rule (pick reading rules), refl)
+
+least : (reading : Reading) (rules : List RuleData) (a q : RuleData) → pick reading rules ≡ Some a → IsAmong q rules
+    → order reading a ≤ order reading q
+least reading [] a q e h = absurd h
+least reading (rule ∷ rules) a q e h =
+    by (λ p f g. least reading rules p q f g) h (not_after reading rule (pick reading rules))
+    (ap (order reading) (same_Some (preferred reading rule (pick reading rules)) a e))
+  where
+    by : ((p : RuleData) → pick reading rules ≡ Some p → IsAmong q rules → order reading p ≤ order reading q)
+        → (q ≡ rule) ⊎ IsAmong q rules
+        → (order reading (preferred reading rule (pick reading rules)) ≤ order reading rule)
+        × ((r : RuleData) → pick reading rules ≡ Some r
+        → order reading (preferred reading rule (pick reading rules)) ≤ order reading r)
+        → order reading (preferred reading rule (pick reading rules)) ≡ order reading a
+        → order reading a ≤ order reading q
+    by later (inl own) before same =
+        let here : order reading q ≡ order reading rule = ap (order reading) own in
+        omega (arith, before.0)
+    by later (inr other) before same =
+        let p = some_picked reading rules q other in
+        omega (arith, before.1 p.0 p.1, later p.0 p.1 other)
+
+pub bounds : (reading : Reading) (rules : List RuleData) (a b c : RuleData) → pick Strictest rules ≡ Some a
+    → pick reading rules ≡ Some b → pick Mildest rules ≡ Some c
+    → (strictness a.response ≤ strictness b.response) × (strictness b.response ≤ strictness c.response)
+bounds reading rules a b c p q r =
+    let there = among reading rules b q in (
+      least Strictest rules a b p there,
+      omega (arith, least Mildest rules c b r there, strictness_small b.response, strictness_small c.response),
+    )

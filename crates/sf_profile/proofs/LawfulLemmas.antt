@@ -1,0 +1,94 @@
+-- A written filter is lawful.
+use Rattle.std.proofs.Common.{◌≡◌, ℕ, zero, suc, ◌+◌, ◌-◌, ◌<◌, ◌≤◌, List, [], ◌∷◌, ◌++◌, length, length-append, map, Option, Some, None, slice_get, option_map, refl, ap, ◌∙◌, subst, sym, arith}
+use Rattle.std.proofs.lemmas.Option.{slice_get-map, same_Some}
+use Rattle.std.proofs.lemmas.List.{length-map}
+use Rattle.std.specs.List.{flat_map}
+use Rattle.sf_check.specs.declared.insn.Insn.{Insn}
+use Rattle.sf_check.specs.Insns.{targets, loaded_by, IsInRange, IsReturn}
+use Rattle.sf_check.specs.Programs.{IsAt, AllBelow, EndsInReturn, IsSetAt, IsLawfulProgram}
+use Rattle.sf_run.specs.RunLaws.{option_map_some}
+use Rattle.sf_profile.specs.declared.instruction.Instruction.{Instruction}
+use Rattle.sf_profile.specs.declared.instruction.Instruction.TheVariants.{Load, Mask, Branch, Skip, Return}
+use Rattle.sf_profile.specs.Data.{PlanData}
+use Rattle.sf_profile.specs.Form.{form, part_code}
+use Rattle.sf_profile.proofs.RunLemmas.{insn_of}
+use Rattle.sf_profile.proofs.JumpLemmas.{Leads, AllLead, form_leads}
+
+-- the instruction at a place goes on inside
+leads_at : (tail : ℕ) (code : List Instruction) (at : ℕ) (i : Instruction) → AllLead tail code
+    → slice_get code at ≡ Some i → (n : ℕ) × (at + 1 + n ≡ length code + tail) × Leads i n
+leads_at tail [] at i h e = absurd cc
+leads_at tail (j ∷ code) zero i h e =
+    (length code + tail, omega arith, subst (λ k. Leads k (length code + tail)) (same_Some j i e) h.0)
+leads_at tail (j ∷ code) (suc at) i h e =
+    let later = leads_at tail code at i h.1 e in
+    (later.0, omega (arith, later.1), later.2)
+
+-- what stands at a place of the program
+found : (code : List Instruction) (at : ℕ) (i : Insn) → IsAt (map insn_of code) at i
+    → (j : Instruction) × (slice_get code at ≡ Some j) × (insn_of j ≡ i)
+found code at i e = option_map_some insn_of (slice_get code at) i (sym (slice_get-map insn_of code at) ∙ e)
+
+in_range : (i : Instruction) (n : ℕ) → Leads i n → IsInRange (insn_of i)
+in_range (Load word) n l = l
+in_range (Mask k) n l = tt
+in_range (Branch test k on_true on_false) n l = tt
+in_range (Skip k) n l = tt
+in_range (Return k) n l = tt
+
+inside : (i : Instruction) (at n size : ℕ) → at + 1 + n ≡ size → Leads i n → AllBelow size (targets at (insn_of i))
+inside (Load word) at n size e l = tt
+inside (Mask k) at n size e l = tt
+inside (Branch test k on_true on_false) at n size e l = (omega (arith, l.0), (omega (arith, l.1), tt))
+inside (Skip k) at n size e l = (omega arith, tt)
+inside (Return k) at n size e l = tt
+
+loads_nothing : (i : Instruction) (k : ℕ) → loaded_by (insn_of i) ≡ Some k → ⊥
+loads_nothing (Load word) k e = cc
+loads_nothing (Mask n) k e = cc
+loads_nothing (Branch test n on_true on_false) k e = cc
+loads_nothing (Skip n) k e = cc
+loads_nothing (Return n) k e = cc
+
+last_is : (code : List Instruction) (i : Instruction) → slice_get (code ++ i ∷ []) (length code) ≡ Some i
+last_is [] i = refl
+last_is (j ∷ code) i = last_is code i
+
+-- instructions that end with a return, and whose jumps lead inside, are a lawful program
+pub lawful : (code : List Instruction) (value : ℕ) → AllLead 0 (code ++ Return value ∷ [])
+    → length (code ++ Return value ∷ []) ≤ 4096 → IsLawfulProgram (map insn_of (code ++ Return value ∷ []))
+lawful code value h short = record {
+  some = omega (arith, size, long);
+  short = omega (arith, size);
+  in_range = λ at i e.
+      let f = found whole at i e in
+      let l = leads_at 0 whole at f.0 h f.1 in
+      subst IsInRange f.2 (in_range f.0 l.0 l.2);
+  inside = λ at i e.
+      let f = found whole at i e in
+      let l = leads_at 0 whole at f.0 h f.1 in
+      subst (λ j. AllBelow (length (map insn_of whole)) (targets at j)) f.2
+      (inside f.0 at l.0 (length (map insn_of whole)) (omega (arith, size, l.1)) l.2);
+  ends = λ i e.
+      let f = found whole (length (map insn_of whole) - 1) i e in
+      let place : length (map insn_of whole) - 1 ≡ length code = omega (arith, size, long) in
+      let at : slice_get whole (length code) ≡ Some f.0 =
+      subst (λ n. slice_get whole n ≡ Some f.0) place f.1 in
+      let same : Return value ≡ f.0 = same_Some (Return value) f.0 (sym (last_is code (Return value)) ∙ at) in
+      subst IsReturn f.2 (subst (λ j. IsReturn (insn_of j)) same tt);
+  set = λ at k earlier loads path.
+      let f = found whole at loads.0 loads.1 in
+      absurd (loads_nothing f.0 k (ap loaded_by f.2 ∙ loads.2));
+}
+  where
+    whole : List Instruction
+    whole = code ++ Return value ∷ []
+
+    size : length (map insn_of whole) ≡ length whole
+    size = length-map whole insn_of
+
+    long : length whole ≡ length code + 1
+    long = length-append code (Return value ∷ [])
+
+pub form_lawful : (plan : PlanData) → length (form plan) ≤ 4096 → IsLawfulProgram (map insn_of (form plan))
+form_lawful plan short = lawful (flat_map (part_code plan) plan.parts) 0 (form_leads plan) short

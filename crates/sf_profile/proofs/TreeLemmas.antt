@@ -1,0 +1,32 @@
+-- The definitions over trees, at the lists that the code goes through.
+use Rattle.std.proofs.Common.{◌≡◌, ℕ, Bool, List, [], ◌∷◌, ◌&&◌, map, refl, ap, ◌∙◌, String, string_bytes, Global, Bor}
+use Rattle.std.specs.List.{list_any, list_all}
+use Rattle.std.specs.Map.{keys_of}
+use Rattle.std.specs.Str.{bytes_eq}
+use Rattle.serde_json.specs.Data.{Data}
+use Rattle.serde_json.specs.View.{view, items_view, members_view}
+use Rattle.serde_json.specs.declared.value.Value.{Value}
+use Rattle.sf_profile.specs.Trees.{item_list, keys_are_among}
+
+pub any_now : (text : List ℕ) (known : List (Bor (List ℕ)))
+    → list_any (bytes_eq text) (map (λ k. k.now) known) ≡ list_any (λ k. bytes_eq text k.now) known
+any_now text [] = refl
+any_now text (k ∷ ks) = rw (any_now text ks) refl
+
+pub only_view : (known : List (Bor (List ℕ))) (es : List (String Global × Value))
+    → keys_are_among (map (λ k. k.now) known) (members_view es)
+    ≡ list_all (λ key. list_any (λ k. bytes_eq (string_bytes key) k.now) known) (keys_of es)
+only_view known [] = refl
+only_view known (e ∷ es) = rw (any_now (string_bytes e.0) known, only_view known es) refl
+
+pub listed_view : (vs : List Value) → item_list (items_view vs) ≡ map view vs
+listed_view [] = refl
+listed_view (v ∷ vs) = ap (λ ds. view v ∷ ds) (listed_view vs)
+
+pub all_map : (test : Data → Bool) (vs : List Value) → list_all test (map view vs) ≡ list_all (λ v. test (view v)) vs
+all_map test [] = refl
+all_map test (v ∷ vs) = ap (λ b. test (view v) && b) (all_map test vs)
+
+pub all_view : (test : Data → Bool) (vs : List Value)
+    → list_all test (item_list (items_view vs)) ≡ list_all (λ v. test (view v)) vs
+all_view test vs = ap (list_all test) (listed_view vs) ∙ all_map test vs

@@ -1,0 +1,8 @@
+use Rattle.std.proofs.Common.{◌≡◌, ◌++◌, take}
+use Rattle.std.specs.List.{flat_map}
+use Rattle.sf_profile.specs.Form.{call_code}
+use Rattle.sf_profile.proofs.form.push_calls.Given as goal
+
+abbrev pub invariant-loop-call : goal.invariant-loop-call
+invariant-loop-call l =
+    l.code.items ≡ l.initial.code.items ++ flat_map (call_code l.comparisons l.value) (take l.call-index l.calls)

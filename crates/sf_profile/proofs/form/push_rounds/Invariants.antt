@@ -1,0 +1,8 @@
+use Rattle.std.proofs.Common.{◌≡◌, ◌++◌, take}
+use Rattle.std.specs.List.{flat_map}
+use Rattle.sf_profile.specs.Form.{round_code, places}
+use Rattle.sf_profile.proofs.form.push_rounds.Given as goal
+
+abbrev pub invariant-loop-place : goal.invariant-loop-place
+invariant-loop-place l =
+    l.code.items ≡ l.initial.code.items ++ flat_map (round_code l.reading l.wide l.rules) (take l.place-index places)

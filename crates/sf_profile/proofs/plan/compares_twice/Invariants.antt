@@ -1,0 +1,6 @@
+use Rattle.std.proofs.Common.{◌≡◌, drop}
+use Rattle.sf_profile.specs.Plans.{compares_twice}
+use Rattle.sf_profile.proofs.plan.compares_twice.Given as goal
+
+abbrev pub invariant-loop-i : goal.invariant-loop-i
+invariant-loop-i l = compares_twice l.comparisons ≡ compares_twice (drop l.i l.comparisons)

@@ -1,0 +1,11 @@
+use Rattle.std.proofs.Common.{◌≡◌, take, map, fold}
+use Rattle.std.specs.List.{flat_map}
+use Rattle.serde_json.specs.View.{view}
+use Rattle.sf_profile.specs.Profiles.{set_named}
+use Rattle.sf_profile.specs.Plans.{with_set, item_sets}
+use Rattle.sf_profile.proofs.plan.push_map_items.Given as goal
+
+abbrev pub invariant-loop-value : goal.invariant-loop-value
+invariant-loop-value l =
+    l.sets.items ≡ fold (λ sets name. with_set sets (set_named name)) l.initial.sets.items
+    (flat_map (item_sets l.settings) (map view (take l.value-index l.items)))

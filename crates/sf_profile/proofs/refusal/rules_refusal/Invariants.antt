@@ -1,0 +1,8 @@
+use Rattle.std.proofs.Common.{◌≡◌, ◌+◌, drop, map}
+use Rattle.serde_json.specs.View.{view}
+use Rattle.sf_profile.specs.Refusals.{rules_refusal}
+use Rattle.sf_profile.proofs.refusal.rules_refusal.Given as goal
+
+abbrev pub invariant-loop-i : goal.invariant-loop-i
+invariant-loop-i l =
+    rules_refusal l.settings 1 (map view l.items) ≡ rules_refusal l.settings (l.i + 1) (map view (drop l.i l.items))

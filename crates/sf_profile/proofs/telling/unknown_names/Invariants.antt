@@ -1,0 +1,9 @@
+use Rattle.std.proofs.Common.{◌≡◌, take, map}
+use Rattle.std.specs.Prelude.{filter}
+use Rattle.sf_profile.specs.Notes.{is_unknown}
+use Rattle.sf_profile.proofs.telling.unknown_names.Given as goal
+
+abbrev pub invariant-loop-name : goal.invariant-loop-name
+invariant-loop-name l =
+    map (λ n. n.now) l.unknown.items
+    ≡ filter (is_unknown l.settings) (map (λ n. n.now) (take l.name-index l.names))

@@ -1,0 +1,6 @@
+use Rattle.std.proofs.Common.{◌∙◌, sym}
+use Rattle.sf_profile.proofs.TreeLemmas.{only_view}
+use Rattle.sf_profile.proofs.tree.keys_are_among.Goals as goal
+
+pub returns : goal.returns
+returns c = c.has_only_keys.ensures ∙ sym (only_view c.args.known.now c.args.object.now.entries)

@@ -1,0 +1,62 @@
+-- What it is to be the filter of a profile, and why there is none.
+use Rattle.std.specs.Prelude.{◌≡◌, ◌⊎◌, ◌<◌, ℕ, length, List, [], ◌∷◌, Option, Some, None}
+use Rattle.std.specs.Str.{IsUtf8}
+use Rattle.serde_json.specs.Data.{Data}
+use Rattle.serde_json.specs.Read.{read}
+use Rattle.sf_insn.specs.declared.input.Input.{Input}
+use Rattle.sf_insn.specs.Inputs.{IsInput}
+use Rattle.sf_check.specs.declared.insn.Insn.{Insn}
+use Rattle.sf_check.specs.Programs.{SpellsProgram}
+use Rattle.sf_run.specs.Answers.{Answers}
+use Rattle.sf_profile.specs.declared.fault.Fault.{Fault}
+use Rattle.sf_profile.specs.declared.fault.Fault.TheVariants as faults
+use Rattle.sf_profile.specs.Data.{PlanData}
+use Rattle.sf_profile.specs.Meaning.{meaning}
+use Rattle.sf_profile.specs.Form.{form}
+use Rattle.sf_profile.specs.declared.settings.Settings.{Settings}
+use Rattle.sf_profile.specs.Refusals.{profile_in, profile_refusal, refusal_of}
+use Rattle.sf_profile.specs.Plans.{plan_of}
+
+-- the bytes spell a lawful program, which answers each input as the profile means
+pub record IsFilterOf (bytes : List ℕ) (plan : PlanData) : Type 0 where
+  pub program : List Insn
+  pub spelled : SpellsProgram bytes program
+  pub answers : (d : Input) → IsInput d → Answers (program ∷ []) d (meaning plan d)
+
+-- a file has a profile that isn't refused
+pub record Accepts (s : Settings) (file : Data) : Type 0 where
+  pub profile : Data
+  pub is_there : profile_in file ≡ Some profile
+  pub accepted : profile_refusal s profile ≡ None
+
+-- a file has a profile that isn't refused, and the bytes are its filter
+pub record MakesFilter (s : Settings) (file : Data) (bytes : List ℕ) : Type 0 where
+  pub accepts : Accepts s file
+  pub filter : IsFilterOf bytes (plan_of s accepts.profile)
+
+-- a file has a profile that isn't refused, but its filter would be too long
+pub record IsTooLong (s : Settings) (file : Data) : Type 0 where
+  pub accepts : Accepts s file
+  pub long : 4096 < length (form (plan_of s accepts.profile))
+
+-- why there is no filter of a file: memory was refused; or the first refusal; or the filter would be too long
+abbrev pub IsRefused : Settings → Data → Fault → Type 0
+IsRefused s file fault =
+    (fault ≡ faults.Memory) ⊎ ((refusal_of s file ≡ Some fault) ⊎ ((fault ≡ faults.TooLong) × IsTooLong s file))
+
+-- the bytes are JSON, and this is the tree
+pub record IsTree (text : List ℕ) (file : Data) : Type 0 where
+  pub utf8 : IsUtf8 text
+  pub tree : read text ≡ Some file
+
+-- the filter of the profile in a file
+pub record MakesFilterOf (s : Settings) (text bytes : List ℕ) : Type 0 where
+  pub file : Data
+  pub is_tree : IsTree text file
+  pub makes : MakesFilter s file bytes
+
+-- why there is no filter of a file's bytes: they are no JSON, or the tree is refused
+abbrev pub IsRefusedText : Settings → List ℕ → Fault → Type 0
+IsRefusedText s text fault =
+    ((fault ≡ faults.Syntax) × (IsUtf8 text → read text ≡ None))
+    ⊎ ((fault ≡ faults.Memory) ⊎ ((file : Data) × IsTree text file × IsRefused s file fault))

@@ -1,0 +1,11 @@
+pub mod Faults
+pub mod Trees
+pub mod Profiles
+pub mod Settings
+pub mod Refusals
+pub mod Plans
+pub mod Data
+pub mod Meaning
+pub mod Form
+pub mod Filters
+pub mod Notes

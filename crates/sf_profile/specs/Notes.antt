@@ -1,0 +1,126 @@
+-- What is told of a profile.
+use Rattle.std.specs.Prelude.{◌≡◌, ℕ, ◌+◌, ◌/◌, Bool, true, false, not, List, [], ◌∷◌, ◌++◌, codes, length, map, filter, fold, Option, Some, None, is_some, if◌then◌else◌}
+use Rattle.std.specs.List.{list_any, flat_map}
+use Rattle.std.specs.Str.{bytes_eq}
+use Rattle.std.specs.Fmt.{decimal}
+use Rattle.serde_json.specs.Data.{Data}
+use Rattle.sf_profile.specs.declared.rules.CallSet.{CallSet}
+use Rattle.sf_profile.specs.declared.rules.CallSet.TheVariants.{X64, X32, I386, Aarch64, Arm}
+use Rattle.sf_profile.specs.declared.rules.Response.{Response}
+use Rattle.sf_profile.specs.declared.rules.Response.TheVariants.{KillProcess, KillThread, Trap, Errno, Notify, Tracer, Log, Allow}
+use Rattle.sf_profile.specs.declared.settings.Calls.{Calls}
+use Rattle.sf_profile.specs.declared.settings.Settings.{Settings}
+use Rattle.sf_profile.specs.Trees.{at, listed}
+use Rattle.sf_profile.specs.Settings.{number_where}
+use Rattle.sf_profile.specs.Plans.{applies, names_of, response_at, sets_of, plan_of}
+use Rattle.sf_profile.specs.Refusals.{profile_in, profile_refusal}
+use Rattle.sf_profile.specs.Filters.{IsFilterOf, IsTree}
+
+-- the parts of a line one blank apart, and a line feed
+abbrev pub line : List (List ℕ) → List ℕ
+line [] = 10 ∷ []
+line (part ∷ []) = part ++ 10 ∷ []
+line (part ∷ next ∷ parts) = part ++ 32 ∷ line (next ∷ parts)
+
+-- the names of a rule, if it applies
+abbrev pub names_where : Settings → Data → List (List ℕ)
+names_where s d = if applies s d then names_of d else []
+
+-- a name more, if it isn't there yet
+unfoldable pub with_name : List (List ℕ) → List ℕ → List (List ℕ)
+with_name names name = if list_any (bytes_eq name) names then names else names ++ name ∷ []
+
+-- the names of the rules that apply, each once, in the order of first mention
+abbrev pub applied_names : Settings → Data → List (List ℕ)
+applied_names s d = fold with_name [] (flat_map (names_where s) (listed (at (codes "syscalls") d)))
+
+-- no file of names has the name
+abbrev pub is_unknown : Settings → List ℕ → Bool
+is_unknown s name = not (list_any (λ (c : Calls). is_some (number_where (Some c) name)) s.calls.items)
+
+-- the names that no file has
+abbrev pub unknown_names : Settings → Data → List (List ℕ)
+unknown_names s d = filter (is_unknown s) (applied_names s d)
+
+-- how many rules apply
+abbrev pub applied_count : Settings → List Data → ℕ
+applied_count s ds = fold (λ n d. if applies s d then n + 1 else n) 0 ds
+
+-- the name of a set of calls
+abbrev pub set_text : CallSet → List ℕ
+set_text X64 = codes "x86_64"
+set_text X32 = codes "x32"
+set_text I386 = codes "i386"
+set_text Aarch64 = codes "aarch64"
+set_text Arm = codes "arm"
+
+-- the name of a response's action, and its data
+abbrev pub response_name : Response → List ℕ
+response_name KillProcess = codes "KILL_PROCESS"
+response_name KillThread = codes "KILL_THREAD"
+response_name Trap = codes "TRAP"
+response_name (Errno n) = codes "ERRNO"
+response_name Notify = codes "USER_NOTIF"
+response_name (Tracer n) = codes "TRACE"
+response_name Log = codes "LOG"
+response_name Allow = codes "ALLOW"
+
+abbrev pub response_data : Response → ℕ
+response_data (Errno n) = n
+response_data (Tracer n) = n
+response_data _ = 0
+
+-- ---- lines
+
+abbrev pub default_line : Response → List ℕ
+default_line response =
+    line (codes "default" ∷ response_name response ∷ decimal (response_data response) ∷ [])
+
+-- the sets, one blank before each
+abbrev pub set_words : CallSet → List ℕ
+set_words set = 32 ∷ set_text set
+
+abbrev pub sets_line : List CallSet → List ℕ
+sets_line sets = codes "sets" ++ flat_map set_words sets ++ 10 ∷ []
+
+-- how many rules there are and apply, and how many names they have and no file has
+abbrev pub counts_line : ℕ → ℕ → ℕ → ℕ → List ℕ
+counts_line rules applied names unknown =
+    line (codes "rules" ∷ decimal rules ∷ codes "applied" ∷ decimal applied ∷ codes "names" ∷ decimal names
+    ∷ codes "unknown" ∷ decimal unknown ∷ [])
+
+abbrev pub unknown_line : List ℕ → List ℕ
+unknown_line name = line (codes "unknown" ∷ name ∷ [])
+
+abbrev pub total_line : ℕ → List ℕ
+total_line size = line (codes "total" ∷ codes "instructions" ∷ decimal size ∷ [])
+
+-- what is told of a profile whose filter has so many instructions
+abbrev pub notes_text : Settings → Data → ℕ → List ℕ
+notes_text s d size =
+    line (codes "seccomp_audit" ∷ codes "profile" ∷ codes "1" ∷ [])
+    ++ default_line (response_at (codes "defaultAction") (codes "defaultErrnoRet") d)
+    ++ sets_line (sets_of s d)
+    ++ counts_line (length (listed (at (codes "syscalls") d))) (applied_count s (listed (at (codes "syscalls") d)))
+    (length (applied_names s d)) (length (unknown_names s d))
+    ++ flat_map unknown_line (unknown_names s d)
+    ++ total_line size
+
+-- the notes of a profile's tree, with its filter
+pub record AreNotesOf (s : Settings) (profile : Data) (notes : List ℕ) : Type 0 where
+  pub accepted : profile_refusal s profile ≡ None
+  pub filter : List ℕ
+  pub is_filter : IsFilterOf filter (plan_of s profile)
+  pub text : notes ≡ notes_text s profile (length filter / 8)
+
+-- the notes of the profile in a file's tree
+pub record AreNotesOfFile (s : Settings) (file : Data) (notes : List ℕ) : Type 0 where
+  pub profile : Data
+  pub is_there : profile_in file ≡ Some profile
+  pub notes_are : AreNotesOf s profile notes
+
+-- the notes of the profile in a file
+pub record AreNotesOfText (s : Settings) (text notes : List ℕ) : Type 0 where
+  pub file : Data
+  pub is_tree : IsTree text file
+  pub notes_are : AreNotesOfFile s file notes

@@ -1,0 +1,201 @@
+-- Why a profile is refused: the first refusal, in the profile's head and then rule after rule.
+use Rattle.std.specs.Prelude.{ℕ, ◌+◌, ◌-◌, ◌^◌, ℤ, Bool, true, false, not, ◌&&◌, ◌||◌, nat_le, if◌then◌else◌, List, [], ◌∷◌, ◌++◌, length, map, codes, Option, Some, None, is_some}
+use Rattle.std.specs.List.{list_all}
+use Rattle.std.specs.Str.{bytes_eq}
+use Rattle.serde_json.specs.Data.{Data}
+use Rattle.serde_json.specs.Find.{as_array}
+use Rattle.sf_profile.specs.declared.fault.Fault.{Fault}
+use Rattle.sf_profile.specs.declared.fault.Fault.TheVariants as faults
+use Rattle.sf_profile.specs.declared.rules.CallSet.{CallSet}
+use Rattle.sf_profile.specs.declared.rules.Response.{Response}
+use Rattle.sf_profile.specs.Trees.{at, listed, absent_or, present, is_text, is_list_of, is_whole, text_of, text_where, whole_where, has_only}
+use Rattle.sf_profile.specs.Profiles.{profile_keys, map_keys, rule_keys, argument_keys, condition_keys, set_named, name_of_set, response_named, has_data, comparing_named, up_to_or, version_of}
+use Rattle.sf_profile.specs.declared.settings.Settings.{Settings}
+use Rattle.sf_profile.specs.Settings.{has_calls}
+
+-- ---- parts
+
+-- a key without a value
+abbrev pub is_absent : List ℕ → Data → Bool
+is_absent key d = not (is_some (at key d))
+
+-- an error number is given under a name only where the number is given too
+abbrev pub names_number : List ℕ → List ℕ → Data → Bool
+names_number name number d = is_absent name d || is_some (at number d)
+
+-- a number stands only beside an action that has data; an unknown action is refused elsewhere
+abbrev pub takes_number : Option Response → Bool
+takes_number None = true
+takes_number (Some response) = has_data response
+
+abbrev pub fits_action : List ℕ → List ℕ → Data → Bool
+fits_action action number d = is_absent number d || takes_number (response_named (text_where (at action d)) 0)
+
+-- a kernel's version, where a rule may ask for one
+abbrev pub is_kernel : Settings → Data → Bool
+is_kernel s d = is_some s.kernel && is_some (version_of (text_of d))
+
+-- what a rule includes or excludes
+abbrev pub is_condition : Settings → Data → Bool
+is_condition s d =
+    has_only condition_keys d && absent_or (is_list_of is_text) (at (codes "arches") d)
+    && absent_or (is_list_of is_text) (at (codes "caps") d) && absent_or (is_kernel s) (at (codes "minKernel") d)
+
+-- a comparison
+abbrev pub is_argument : Data → Bool
+is_argument d =
+    has_only argument_keys d && present is_whole (at (codes "index") d) && present is_whole (at (codes "value") d)
+    && absent_or is_whole (at (codes "valueTwo") d) && present is_text (at (codes "op") d)
+
+-- either names, or one name
+abbrev pub is_named : Data → Bool
+is_named d =
+    (present (is_list_of is_text) (at (codes "names") d) && is_absent (codes "name") d)
+    || (present is_text (at (codes "name") d) && is_absent (codes "names") d)
+
+-- what a rule does
+abbrev pub is_action : List ℕ → List ℕ → List ℕ → Data → Bool
+is_action action number name d =
+    present is_text (at action d) && absent_or is_whole (at number d) && names_number name number d
+    && fits_action action number d
+
+-- a rule whose keys are all known and of their kinds
+abbrev pub is_rule : Settings → Data → Bool
+is_rule s d =
+    has_only rule_keys d && is_named d && is_action (codes "action") (codes "errnoRet") (codes "errno") d
+    && absent_or (is_list_of is_argument) (at (codes "args") d) && absent_or (is_condition s) (at (codes "includes") d)
+    && absent_or (is_condition s) (at (codes "excludes") d)
+
+-- a letter, a digit or `_`
+abbrev pub is_name_byte : ℕ → Bool
+is_name_byte b = ((nat_le 48 b && nat_le b 57) || (nat_le 65 b && nat_le b 90)) || ((nat_le 97 b && nat_le b 122)
+    || (nat_le 95 b && nat_le b 95))
+
+-- the name of a call has 1 to 64 letters, digits and `_`
+abbrev pub is_call_name : List ℕ → Bool
+is_call_name name = nat_le 1 (length name) && nat_le (length name) 64 && list_all is_name_byte name
+
+abbrev pub has_name : Data → Bool
+has_name d = is_call_name (text_of d)
+
+-- all names of a rule can be names of calls
+abbrev pub has_names : Data → Bool
+has_names d = list_all has_name (listed (at (codes "names") d)) && absent_or has_name (at (codes "name") d)
+
+-- an action that is known
+abbrev pub knows_action : List ℕ → Data → Bool
+knows_action action d = is_some (response_named (text_where (at action d)) 0)
+
+abbrev pub knows_comparison : Data → Bool
+knows_comparison d = is_some (comparing_named (text_where (at (codes "op") d)))
+
+-- the action and the comparisons of a rule are known
+abbrev pub has_actions : Data → Bool
+has_actions d = knows_action (codes "action") d && list_all knows_comparison (listed (at (codes "args") d))
+
+-- an error number has 16 bits
+abbrev pub has_error_number : List ℕ → Data → Bool
+has_error_number key d = is_some (up_to_or 1 65535 (whole_where (at key d)))
+
+-- an index is at most 5, and values aren't negative
+abbrev pub has_argument_range : Data → Bool
+has_argument_range d =
+    is_some (up_to_or 0 5 (whole_where (at (codes "index") d)))
+    && is_some (up_to_or 0 (2 ^ 64 - 1) (whole_where (at (codes "value") d)))
+    && is_some (up_to_or 0 (2 ^ 64 - 1) (whole_where (at (codes "valueTwo") d)))
+
+abbrev pub has_ranges : Data → Bool
+has_ranges d =
+    has_error_number (codes "errnoRet") d && list_all has_argument_range (listed (at (codes "args") d))
+
+-- ---- rules
+
+-- why the rule with a number is refused, if it is
+abbrev pub rule_refusal : Settings → ℕ → Data → Option Fault
+rule_refusal s n d =
+    if not (is_rule s d) then Some (faults.RuleKey n)
+    else if not (has_names d) then Some (faults.RuleName n)
+    else if not (has_actions d) then Some (faults.RuleActions n)
+    else if not (has_ranges d) then Some (faults.RuleRange n)
+    else None
+
+-- a refusal, or else what comes later
+abbrev pub or_later : Option Fault → Option Fault → Option Fault
+or_later None later = later
+or_later (Some fault) later = Some fault
+
+-- the first refusal of rules, the first of which has this number
+abbrev pub rules_refusal : Settings → ℕ → List Data → Option Fault
+rules_refusal s n [] = None
+rules_refusal s n (d ∷ ds) = or_later (rule_refusal s n d) (rules_refusal s (n + 1) ds)
+
+-- ---- the head
+
+-- an entry of `archMap`
+abbrev pub is_map_item : Data → Bool
+is_map_item d =
+    has_only map_keys d && present is_text (at (codes "architecture") d)
+    && absent_or (is_list_of is_text) (at (codes "subArchitectures") d)
+
+abbrev pub is_array : Data → Bool
+is_array d = is_some (as_array d)
+
+-- the sets of calls stand at one of two keys
+abbrev pub has_sets : Data → Bool
+has_sets d =
+    (is_absent (codes "archMap") d || is_absent (codes "architectures") d)
+    && absent_or (is_list_of is_text) (at (codes "architectures") d)
+    && absent_or (is_list_of is_map_item) (at (codes "archMap") d)
+
+-- a profile whose keys are all known and of their kinds
+abbrev pub is_profile : Data → Bool
+is_profile d =
+    has_only profile_keys d && is_action (codes "defaultAction") (codes "defaultErrnoRet") (codes "defaultErrno") d
+    && has_sets d && absent_or is_array (at (codes "syscalls") d)
+
+-- the set of a name is known, and its calls are given
+abbrev pub knows_set : Settings → Option CallSet → Bool
+knows_set s None = false
+knows_set s (Some set) = has_calls s set
+
+abbrev pub is_set : Settings → Data → Bool
+is_set s d = knows_set s (set_named (text_of d))
+
+-- the entry of `archMap` is the machine's
+abbrev pub is_own_item : Settings → Data → Bool
+is_own_item s d = bytes_eq (text_where (at (codes "architecture") d)) (name_of_set s.machine)
+
+-- the sets of an entry of `archMap` are known, if it is the machine's
+abbrev pub is_set_item : Settings → Data → Bool
+is_set_item s d = not (is_own_item s d) || list_all (is_set s) (listed (at (codes "subArchitectures") d))
+
+-- all sets of the profile are known, and their calls are given
+abbrev pub knows_sets : Settings → Data → Bool
+knows_sets s d =
+    has_calls s s.machine && list_all (is_set s) (listed (at (codes "architectures") d))
+    && list_all (is_set_item s) (listed (at (codes "archMap") d))
+
+-- why a profile is refused, if it is
+abbrev pub profile_refusal : Settings → Data → Option Fault
+profile_refusal s d =
+    if not (is_profile d) then Some faults.Key
+    else if not (knows_action (codes "defaultAction") d) then Some faults.Actions
+    else if not (has_error_number (codes "defaultErrnoRet") d) then Some faults.Range
+    else if not (knows_sets s d) then Some faults.Set
+    else rules_refusal s 1 (listed (at (codes "syscalls") d))
+
+-- the profile in a file: in a whole config.json it is `seccomp` of `linux`
+abbrev pub profile_where : Option Data → Data → Option Data
+profile_where None d = Some d
+profile_where (Some l) d = at (codes "seccomp") l
+
+abbrev pub profile_in : Data → Option Data
+profile_in d = profile_where (at (codes "linux") d) d
+
+abbrev pub refusal_where : Settings → Option Data → Option Fault
+refusal_where s None = Some faults.Key
+refusal_where s (Some p) = profile_refusal s p
+
+-- why a file is refused, if it is
+abbrev pub refusal_of : Settings → Data → Option Fault
+refusal_of s d = refusal_where s (profile_in d)

@@ -1,0 +1,74 @@
+-- Reading a JSON tree.
+use Rattle.std.specs.Prelude.{ℕ, ℤ, pos, negsuc, Bool, true, false, not, ◌&&◌, nat_le, if◌then◌else◌, List, [], ◌∷◌, map, length, Option, Some, None, is_some, option_and_then, unwrap_or}
+use Rattle.std.specs.List.{list_any, list_all}
+use Rattle.std.specs.Str.{bytes_eq}
+use Rattle.serde_json.specs.Data.{Data, null, boolean, number, string, array, object, Items, no_items, item, Members, no_members, member}
+use Rattle.serde_json.specs.Find.{get, as_null, as_str, as_number, as_integer}
+
+-- a value, where it isn't null, which is as if the key were absent
+abbrev pub given : Option Data → Option Data
+given None = None
+given (Some d) = if is_some (as_null d) then None else Some d
+
+-- what an object has at a key
+abbrev pub at : List ℕ → Data → Option Data
+at key d = given (get key d)
+
+-- the items of an array
+abbrev pub item_list : Items → List Data
+item_list no_items = []
+item_list (item d ds) = d ∷ item_list ds
+
+-- the items at a key, none where there is no array
+abbrev pub listed : Option Data → List Data
+listed (Some (array ds)) = item_list ds
+listed _ = []
+
+-- the key is absent, or its value passes
+abbrev pub absent_or : (Data → Bool) → Option Data → Bool
+absent_or test None = true
+absent_or test (Some d) = test d
+
+-- the key is there, and its value passes
+abbrev pub present : (Data → Bool) → Option Data → Bool
+present test None = false
+present test (Some d) = test d
+
+abbrev pub is_text : Data → Bool
+is_text d = is_some (as_str d)
+
+-- an array whose items all pass
+abbrev pub is_list_of : (Data → Bool) → Data → Bool
+is_list_of test (array ds) = list_all test (item_list ds)
+is_list_of test _ = false
+
+-- a whole number, where the value is one: none with a point, with an exponent, or beyond 64 bits
+abbrev pub whole_of : Data → Option ℤ
+whole_of d = option_and_then as_integer (as_number d)
+
+abbrev pub is_whole : Data → Bool
+is_whole d = is_some (whole_of d)
+
+-- the text of a value, empty where it is none
+abbrev pub text_of : Data → List ℕ
+text_of d = unwrap_or (as_str d) []
+
+-- the text at a key, empty where there is none
+abbrev pub text_where : Option Data → List ℕ
+text_where None = []
+text_where (Some d) = text_of d
+
+-- the whole number at a key, where there is one
+abbrev pub whole_where : Option Data → Option ℤ
+whole_where None = None
+whole_where (Some d) = whole_of d
+
+-- each key of the members is one of these
+abbrev pub keys_are_among : List (List ℕ) → Members → Bool
+keys_are_among keys no_members = true
+keys_are_among keys (member key d rest) = list_any (bytes_eq key) keys && keys_are_among keys rest
+
+-- an object that has only these keys
+abbrev pub has_only : List (List ℕ) → Data → Bool
+has_only keys (object ms) = keys_are_among keys ms
+has_only keys _ = false

@@ -1,0 +1,122 @@
+//! Which rules of a profile apply to a machine, a container and a kernel.
+
+ghost use Rattle.std.specs.Prelude.{◌≡◌, codes, map};
+ghost use Rattle.std.specs.List.{list_any, list_all};
+ghost use Rattle.std.specs.Str.{bytes_eq};
+ghost use Rattle.serde_json.specs.View.{view};
+ghost use Rattle.sf_profile.specs.Trees.{at, text_of};
+ghost use Rattle.sf_profile.specs.Settings.{has_cap};
+ghost use Rattle.sf_profile.specs.Plans.{applies, is_excluded, is_included, is_new_enough, is_none, names_machine, fits_kernel, texts_at};
+
+use crate::names::{Version, arch_of_set, is_at_least, version_of};
+use crate::settings::Settings;
+use crate::tree::{at, items_at, text_of};
+use serde_json::Value;
+
+/// Whether one of the values is this text.
+fn is_text_among(items: &[Value], text: &str) -> bool
+    ensures { result ≡ list_any (λ v. bytes_eq text.now (text_of (view v))) items.now }
+{
+    items.iter().any(|value| text == text_of(value))
+}
+
+/// Whether one of the values is this text. For the prover: over the texts.
+fn has_text(items: &[Value], text: &str) -> bool
+    ensures { result ≡ list_any (bytes_eq text.now) (map text_of (map view items.now)) }
+{
+    is_text_among(items, text)
+}
+
+/// Whether the machine is one of those that a condition names.
+fn names_machine(settings: &Settings, value: &Value) -> bool
+    ensures { result ≡ names_machine settings.now (view value.now) }
+{
+    has_text(items_at(value, "arches"), arch_of_set(settings.machine))
+}
+
+/// Whether a condition names no machine.
+fn names_none(value: &Value) -> bool
+    ensures { result ≡ is_none (texts_at (codes "arches") (view value.now)) }
+{
+    items_at(value, "arches").is_empty()
+}
+
+/// Whether the container has all capabilities that values name.
+fn has_each_cap(settings: &Settings, items: &[Value]) -> bool
+    ensures { result ≡ list_all (λ v. has_cap settings.now (text_of (view v))) items.now }
+{
+    items.iter().all(|value| settings.has_cap(text_of(value)))
+}
+
+/// Whether the container has all capabilities that values name. For the prover: over the texts.
+fn has_caps(settings: &Settings, items: &[Value]) -> bool
+    ensures { result ≡ list_all (has_cap settings.now) (map text_of (map view items.now)) }
+{
+    has_each_cap(settings, items)
+}
+
+/// Whether the container has one of the capabilities that values name.
+fn has_some_cap(settings: &Settings, items: &[Value]) -> bool
+    ensures { result ≡ list_any (λ v. has_cap settings.now (text_of (view v))) items.now }
+{
+    items.iter().any(|value| settings.has_cap(text_of(value)))
+}
+
+/// Whether the container has one of the capabilities that values name. For the prover: over the texts.
+fn has_a_cap(settings: &Settings, items: &[Value]) -> bool
+    ensures { result ≡ list_any (has_cap settings.now) (map text_of (map view items.now)) }
+{
+    has_some_cap(settings, items)
+}
+
+/// Whether the kernel is the one that is asked for, or newer.
+fn is_new_enough(kernel: Option<Version>, least: Option<Version>) -> bool
+    ensures { result ≡ is_new_enough kernel least }
+{
+    match (kernel, least) {
+        (Some(kernel), Some(least)) => is_at_least(kernel, least),
+        _ => false,
+    }
+}
+
+/// Whether the kernel is new enough for a condition; `absent` where that asks for none.
+fn fits_kernel(absent: bool, settings: &Settings, value: &Value) -> bool
+    ensures { result ≡ fits_kernel absent settings.now
+        (at (codes "minKernel") (view value.now)) }
+{
+    match at(value, "minKernel") {
+        Some(least) => is_new_enough(settings.kernel, version_of(text_of(least))),
+        None => absent,
+    }
+}
+
+/// Whether the machine, the container and the kernel are what a rule includes.
+fn is_included(settings: &Settings, value: &Value) -> bool
+    ensures { result ≡ is_included settings.now (at (codes "includes") (view value.now)) }
+{
+    let Some(condition) = at(value, "includes") else {
+        return true;
+    };
+    (names_none(condition) || names_machine(settings, condition))
+        && has_caps(settings, items_at(condition, "caps"))
+        && fits_kernel(true, settings, condition)
+}
+
+/// Whether the machine, the container or the kernel is what a rule excludes.
+fn is_excluded(settings: &Settings, value: &Value) -> bool
+    ensures { result ≡ is_excluded settings.now (at (codes "excludes") (view value.now)) }
+{
+    let Some(condition) = at(value, "excludes") else {
+        return false;
+    };
+    names_machine(settings, condition)
+        || has_a_cap(settings, items_at(condition, "caps"))
+        || fits_kernel(false, settings, condition)
+}
+
+/// Whether a rule applies to the machine, the container and the kernel.
+pub(crate) fn applies(settings: &Settings, value: &Value) -> bool
+    ensures { result ≡ applies settings.now (view value.now) }
+{
+    is_included(settings, value) && !is_excluded(settings, value)
+}

@@ -1,0 +1,232 @@
+//! The code of comparisons.
+
+ghost use Rattle.std.specs.Prelude.{◌≡◌, ◌++◌, ◌+◌, ◌<◌, ◌^◌, IfOk, OnOk, true, false};
+ghost use Rattle.sf_profile.specs.Form.{comparison_code, comparisons_code, equal_code, high, low, masked_code, order_code, test_code, wide_code};
+ghost use Rattle.sf_profile.specs.Meaning.{word_of};
+
+use crate::instruction::Instruction;
+use crate::rules::{Argument, Comparing, Comparison};
+use sf_insn::Test;
+use std::alloc::{AllocError, Global};
+
+/// What a test compares, and where to go on after it: so many instructions after its end.
+#[derive(Clone, Copy, Debug)]
+struct Asked {
+    /// The word with the low half of the argument.
+    word: u8,
+    /// The value.
+    value: u64,
+    /// Where to go on where the test holds.
+    on_true: usize,
+    /// Where to go on where it doesn't.
+    on_false: usize,
+    ghost near: { (word < 15) × (on_true < 2 ^ 63) × (on_false < 2 ^ 63) },
+}
+
+/// The low half of a number.
+fn low(value: u64) -> u32
+    ensures { result ≡ low value }
+{
+    (value & 0xffff_ffff) as u32
+}
+
+/// The high half of a number.
+fn high(value: u64) -> u32
+    ensures { result ≡ high value }
+{
+    (value >> 32) as u32
+}
+
+/// The word of an input with the low half of an argument.
+pub(crate) fn word_of(argument: Argument) -> u8
+    ensures value { result ≡ word_of argument }
+    ensures small { result < 15 }
+{
+    match argument {
+        Argument::Arg0 => 4,
+        Argument::Arg1 => 6,
+        Argument::Arg2 => 8,
+        Argument::Arg3 => 10,
+        Argument::Arg4 => 12,
+        Argument::Arg5 => 14,
+    }
+}
+
+/// Adds a test of 64 bits for equality.
+fn push_equal(code: &mut Vec<Instruction>, asked: Asked) -> Result<(), AllocError>
+    ensures { OnOk result (code.new.items ≡ code.old.items
+        ++ equal_code asked.word asked.value asked.on_true asked.on_false) }
+{
+    code.extend_from_slice(&[
+        Instruction::Load(asked.word + 1),
+        Instruction::Branch(Test::Equal, high(asked.value), 0, asked.on_false + 2),
+        Instruction::Load(asked.word),
+        Instruction::Branch(Test::Equal, low(asked.value), asked.on_true, asked.on_false),
+    ])
+}
+
+/// Adds a test of 64 bits for an order.
+fn push_order(code: &mut Vec<Instruction>, test: Test, asked: Asked) -> Result<(), AllocError>
+    ensures { OnOk result (code.new.items ≡ code.old.items
+        ++ order_code test asked.word asked.value asked.on_true asked.on_false) }
+{
+    code.extend_from_slice(&[
+        Instruction::Load(asked.word + 1),
+        Instruction::Branch(Test::Greater, high(asked.value), asked.on_true + 3, 0),
+        Instruction::Branch(Test::Equal, high(asked.value), 0, asked.on_false + 2),
+        Instruction::Load(asked.word),
+        Instruction::Branch(test, low(asked.value), asked.on_true, asked.on_false),
+    ])
+}
+
+/// Adds a test of 32 bits.
+fn push_narrow(code: &mut Vec<Instruction>, test: Test, asked: Asked) -> Result<(), AllocError>
+    ensures { OnOk result (code.new.items ≡ code.old.items
+        ++ test_code false test asked.word asked.value asked.on_true asked.on_false) }
+{
+    code.extend_from_slice(&[
+        Instruction::Load(asked.word),
+        Instruction::Branch(test, low(asked.value), asked.on_true, asked.on_false),
+    ])
+}
+
+/// Adds a test of 64 bits.
+fn push_wide(code: &mut Vec<Instruction>, test: Test, asked: Asked) -> Result<(), AllocError>
+    ensures { OnOk result (code.new.items ≡ code.old.items
+        ++ wide_code test asked.word asked.value asked.on_true asked.on_false) }
+{
+    match test {
+        Test::Equal => push_equal(code, asked),
+        Test::Greater | Test::GreaterOrEqual | Test::AnyBit => push_order(code, test, asked),
+    }
+}
+
+/// Adds a test of 64 bits, or of 32.
+fn push_test(
+    code: &mut Vec<Instruction>,
+    wide: bool,
+    test: Test,
+    asked: Asked,
+) -> Result<(), AllocError>
+    ensures { OnOk result (code.new.items ≡ code.old.items
+        ++ test_code wide test asked.word asked.value asked.on_true asked.on_false) }
+{
+    if wide {
+        push_wide(code, test, asked)
+    } else {
+        push_narrow(code, test, asked)
+    }
+}
+
+/// Adds a test under a mask of 64 bits, which is the value of what is asked. Where it holds, what follows comes next.
+fn push_wide_mask(
+    code: &mut Vec<Instruction>,
+    asked: Asked,
+    value_two: u64,
+) -> Result<(), AllocError>
+    ensures { OnOk result (code.new.items ≡ code.old.items
+        ++ masked_code true asked.word asked.value value_two asked.on_false) }
+{
+    let mask = asked.value;
+    code.extend_from_slice(&[
+        Instruction::Load(asked.word + 1),
+        Instruction::Mask(high(mask)),
+        Instruction::Branch(
+            Test::Equal,
+            high(value_two) & high(mask),
+            0,
+            asked.on_false + 3,
+        ),
+        Instruction::Load(asked.word),
+        Instruction::Mask(low(mask)),
+        Instruction::Branch(Test::Equal, low(value_two) & low(mask), 0, asked.on_false),
+    ])
+}
+
+/// Adds a test under a mask of 32 bits, which is the value of what is asked. Where it holds, what follows comes next.
+fn push_narrow_mask(
+    code: &mut Vec<Instruction>,
+    asked: Asked,
+    value_two: u64,
+) -> Result<(), AllocError>
+    ensures { OnOk result (code.new.items ≡ code.old.items
+        ++ masked_code false asked.word asked.value value_two asked.on_false) }
+{
+    let mask = asked.value;
+    code.extend_from_slice(&[
+        Instruction::Load(asked.word),
+        Instruction::Mask(low(mask)),
+        Instruction::Branch(Test::Equal, low(value_two) & low(mask), 0, asked.on_false),
+    ])
+}
+
+/// Adds a test under a mask of 64 bits, or of 32.
+fn push_mask(
+    code: &mut Vec<Instruction>,
+    wide: bool,
+    asked: Asked,
+    value_two: u64,
+) -> Result<(), AllocError>
+    ensures { OnOk result (code.new.items ≡ code.old.items
+        ++ masked_code wide asked.word asked.value value_two asked.on_false) }
+{
+    if wide {
+        push_wide_mask(code, asked, value_two)
+    } else {
+        push_narrow_mask(code, asked, value_two)
+    }
+}
+
+/// Adds a comparison. Where it holds, what follows comes next; where it doesn't, `after` instructions are skipped.
+fn push_comparison(
+    code: &mut Vec<Instruction>,
+    wide: bool,
+    comparison: Comparison,
+    after: usize,
+) -> Result<(), AllocError>
+    requires { after < 2 ^ 63 }
+    ensures { OnOk result (code.new.items ≡ code.old.items
+        ++ comparison_code wide comparison after) }
+{
+    let word = word_of(comparison.argument);
+    let value = comparison.value;
+    let holds = Asked {
+        word,
+        value,
+        on_true: 0,
+        on_false: after,
+    };
+    let fails = Asked {
+        word,
+        value,
+        on_true: after,
+        on_false: 0,
+    };
+    match comparison.comparing {
+        Comparing::NotEqual => push_test(code, wide, Test::Equal, fails),
+        Comparing::Less => push_test(code, wide, Test::GreaterOrEqual, fails),
+        Comparing::LessOrEqual => push_test(code, wide, Test::Greater, fails),
+        Comparing::Equal => push_test(code, wide, Test::Equal, holds),
+        Comparing::GreaterOrEqual => push_test(code, wide, Test::GreaterOrEqual, holds),
+        Comparing::Greater => push_test(code, wide, Test::Greater, holds),
+        Comparing::MaskedEqual => push_mask(code, wide, holds, comparison.value_two),
+    }
+}
+
+/// The code of a rule's comparisons. Where one doesn't hold, the others and one instruction more are skipped.
+pub(crate) fn comparisons_code(
+    alloc: Global,
+    wide: bool,
+    comparisons: &[Comparison],
+) -> Result<Vec<Instruction>, AllocError>
+    ensures { IfOk result (λ v. v.items ≡ comparisons_code wide comparisons.now) }
+{
+    let mut code = Vec::new(alloc);
+    let [first, rest @ ..] = comparisons else {
+        return Ok(code);
+    };
+    let others = comparisons_code(alloc, wide, rest)?;
+    push_comparison(&mut code, wide, *first, others.len() + 1)?;
+    code.extend_from_slice(&others)?;
+    Ok(code)
+}

@@ -1,0 +1,81 @@
+//! Why a profile is refused.
+
+ghost use Rattle.std.specs.Prelude.{◌≡◌};
+ghost use Rattle.sf_profile.specs.declared.fault.Fault.TheVariants.{Memory};
+ghost use Rattle.sf_profile.specs.Faults.{fault_number};
+
+use std::alloc::{AllocError, AllocFailed};
+use thiserror::Error;
+
+/// Why a profile is refused. Rules are numbered from 1 in the order in which they stand. The text of a fault is its number,
+/// its name and its place.
+#[derive(Clone, Copy, Debug, PartialEq, Eq, Error)]
+pub enum Fault {
+    /// The filter would have more than 4096 instructions.
+    #[error("12 TooLong")]
+    TooLong,
+    /// A key of the profile's head is unknown or missing, or has a value of another kind.
+    #[error("41 Key")]
+    Key,
+    /// A key of a rule is unknown or missing, or has a value of another kind.
+    #[error("41 Key rule {rule}")]
+    RuleKey { rule: usize },
+    /// The number of the default is outside its range.
+    #[error("42 Range")]
+    Range,
+    /// A number of a rule is outside its range.
+    #[error("42 Range rule {rule}")]
+    RuleRange { rule: usize },
+    /// The default is an unknown action.
+    #[error("43 Actions")]
+    Actions,
+    /// A rule has an unknown action or comparison.
+    #[error("43 Actions rule {rule}")]
+    RuleActions { rule: usize },
+    /// A name of a rule isn't 1 to 64 letters, digits and `_`.
+    #[error("44 Name rule {rule}")]
+    RuleName { rule: usize },
+    /// The profile is no UTF-8, is no JSON, or nests deeper than 127.
+    #[error("46 Syntax")]
+    Syntax,
+    /// A set of calls isn't known, or its calls are given not once.
+    #[error("49 Set")]
+    Set,
+    /// Memory ran out.
+    #[error("60 Memory")]
+    Memory,
+}
+
+impl Fault {
+    /// The number at the head of the fault's text.
+    pub fn number(&self) -> u16
+        ensures { result ≡ fault_number self.now }
+    {
+        match self {
+            Fault::TooLong => 12,
+            Fault::Key | Fault::RuleKey { .. } => 41,
+            Fault::Range | Fault::RuleRange { .. } => 42,
+            Fault::Actions | Fault::RuleActions { .. } => 43,
+            Fault::RuleName { .. } => 44,
+            Fault::Syntax => 46,
+            Fault::Set => 49,
+            Fault::Memory => 60,
+        }
+    }
+}
+
+impl From<AllocError> for Fault {
+    ghost from_gives = { λ _ e. e ≡ Memory };
+
+    fn from(_e: AllocError) -> Fault {
+        Fault::Memory
+    }
+}
+
+impl<T: Drop> From<AllocFailed<T>> for Fault {
+    ghost from_gives = { λ _ e. e ≡ Memory };
+
+    fn from(_e: AllocFailed<T>) -> Fault {
+        Fault::Memory
+    }
+}

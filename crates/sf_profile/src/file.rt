@@ -1,0 +1,115 @@
+//! The filter of a profile, from the bytes of its file.
+
+ghost use Rattle.std.specs.Prelude.{◌≡◌, ◌⊎◌, ◌<◌, Some, None, length, string_bytes, IfOk, IfErr};
+ghost use Rattle.serde_json.specs.View.{view};
+ghost use Rattle.sf_profile.specs.Filters.{IsFilterOf, IsRefused, IsRefusedText, MakesFilter, MakesFilterOf};
+ghost use Rattle.sf_profile.specs.Form.{form};
+ghost use Rattle.sf_profile.specs.Notes.{AreNotesOf, AreNotesOfFile, AreNotesOfText};
+ghost use Rattle.sf_profile.specs.Plans.{plan_of};
+ghost use Rattle.sf_profile.specs.Refusals.{profile_refusal};
+
+use crate::fault::Fault;
+use crate::filter::filter_of;
+use crate::plan::plan_of;
+use crate::refusal::{profile_in, profile_refusal};
+use crate::settings::Settings;
+use crate::telling::notes_text;
+use serde_json::Value;
+use std::alloc::Global;
+
+/// The filter of a profile's tree. The first refusal; then `TooLong` where the filter would be too long; `Memory` where an
+/// allocation is refused.
+#[tactic(auto, using(crate::proofs::ShortLemmas::profile_long))]
+fn filter_of_profile(alloc: Global, settings: &Settings, value: &Value) -> Result<Vec<u8>, Fault>
+    ensures accepted { IfOk result (λ v. profile_refusal settings.now (view value.now) ≡ None) }
+    ensures made { IfOk result (λ v. IsFilterOf v.items (plan_of settings.now (view value.now))) }
+    ensures refused { IfErr result (λ e. (e ≡ Fault.Memory)
+        ⊎ ((profile_refusal settings.now (view value.now) ≡ Some e)
+        ⊎ ((e ≡ Fault.TooLong) × (profile_refusal settings.now (view value.now) ≡ None)
+        × (4096 < length (form (plan_of settings.now (view value.now))))))) }
+{
+    if let Some(fault) = profile_refusal(settings, value) {
+        return Err(fault);
+    }
+    let plan = plan_of(alloc, settings, value)?;
+    filter_of(alloc, &plan)
+}
+
+/// The filter of the profile in a file's tree.
+fn filter_of_file(alloc: Global, settings: &Settings, value: &Value) -> Result<Vec<u8>, Fault>
+    ensures made { IfOk result (λ v. MakesFilter settings.now (view value.now) v.items) }
+    ensures refused { IfErr result (λ e. IsRefused settings.now (view value.now) e) }
+{
+    match profile_in(value) {
+        Some(profile) => filter_of_profile(alloc, settings, profile),
+        None => Err(Fault::Key),
+    }
+}
+
+/// The filter that the profile in a file means: a program that answers each input as the profile does, for comparing with
+/// what is installed, and not for installing.
+///
+/// Refusals, tried in this order: `Syntax` where the bytes are no UTF-8, no JSON, or nest deeper than 127; in the profile's
+/// head `Key` where a key is unknown or missing, or has a value of another kind, `Actions` where the default is an unknown
+/// action, `Range` where its number hasn't 16 bits, `Set` where a set of calls isn't known, or its calls aren't given once;
+/// then, rule after rule, `RuleKey`, `RuleName`, `RuleActions` and `RuleRange`, with the number of the rule from 1; then
+/// `TooLong` where the filter would have more than 4096 instructions. `Memory` can come anywhere.
+pub fn profile(alloc: Global, settings: &Settings, bytes: &[u8]) -> Result<Vec<u8>, Fault>
+    ensures made { IfOk result (λ v. MakesFilterOf settings.now bytes.now v.items) }
+    ensures refused { IfErr result (λ e. IsRefusedText settings.now bytes.now e) }
+{
+    match Value::from_slice(alloc, bytes) {
+        Ok(value) => filter_of_file(alloc, settings, &value),
+        Err(error) => {
+            if error.is_memory() {
+                Err(Fault::Memory)
+            } else {
+                Err(Fault::Syntax)
+            }
+        }
+    }
+}
+
+/// The notes of a profile's tree. The refusals are those of `filter_of_profile`.
+fn notes_of_profile(alloc: Global, settings: &Settings, value: &Value) -> Result<String, Fault>
+    ensures notes { IfOk result (λ t. AreNotesOf settings.now (view value.now) (string_bytes t)) }
+    ensures refused { IfErr result (λ e. (e ≡ Fault.Memory)
+        ⊎ ((profile_refusal settings.now (view value.now) ≡ Some e)
+        ⊎ ((e ≡ Fault.TooLong) × (profile_refusal settings.now (view value.now) ≡ None)
+        × (4096 < length (form (plan_of settings.now (view value.now))))))) }
+{
+    let filter = filter_of_profile(alloc, settings, value)?;
+    let text = notes_text(alloc, settings, value, filter.len() / 8)?;
+    Ok(text)
+}
+
+/// The notes of the profile in a file's tree.
+fn notes_of_file(alloc: Global, settings: &Settings, value: &Value) -> Result<String, Fault>
+    ensures notes { IfOk result (λ t. AreNotesOfFile settings.now (view value.now)
+        (string_bytes t)) }
+    ensures refused { IfErr result (λ e. IsRefused settings.now (view value.now) e) }
+{
+    match profile_in(value) {
+        Some(profile) => notes_of_profile(alloc, settings, profile),
+        None => Err(Fault::Key),
+    }
+}
+
+/// What is told of the profile in a file: its default and its sets of calls; how many rules it has, and how many of them
+/// apply; how many different names these have, how many of the names no file of names has, and which; and how many
+/// instructions its filter has. The refusals are those of `profile`.
+pub fn notes(alloc: Global, settings: &Settings, bytes: &[u8]) -> Result<String, Fault>
+    ensures notes { IfOk result (λ t. AreNotesOfText settings.now bytes.now (string_bytes t)) }
+    ensures refused { IfErr result (λ e. IsRefusedText settings.now bytes.now e) }
+{
+    match Value::from_slice(alloc, bytes) {
+        Ok(value) => notes_of_file(alloc, settings, &value),
+        Err(error) => {
+            if error.is_memory() {
+                Err(Fault::Memory)
+            } else {
+                Err(Fault::Syntax)
+            }
+        }
+    }
+}

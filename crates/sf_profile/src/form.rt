@@ -1,0 +1,311 @@
+//! The filter that a profile means.
+
+ghost use Rattle.std.specs.Prelude.{◌≡◌, ◌++◌, ◌+◌, IfOk, OnOk};
+ghost use Rattle.std.specs.List.{flat_map};
+ghost use Rattle.sf_profile.specs.Form.{above_calls, above_rules, body_code, call_code, direct_code, form, newer_code, newer_where, part_code, round_code, places, return_code, rule_at, rule_code, set_code, through_code};
+ghost use Rattle.sf_profile.specs.Meaning.{refuses_newer};
+
+use crate::comparing::comparisons_code;
+use crate::instruction::Instruction;
+use crate::rules::{Call, CallSet, Part, Plan, Reading, Response, Rule};
+use sf_insn::Test;
+use std::alloc::{AllocError, Global};
+
+/// The number of a call that isn't there: x86-64 has it in none of its two sets' ranges, and counts it to the first.
+const NO_NUMBER: u32 = 0xffff_ffff;
+
+/// The least number of a call of x32.
+const LEAST_OF_X32: u32 = 0x4000_0000;
+
+/// The error number of a call that the kernel doesn't have.
+const ENOSYS: u16 = 38;
+
+/// The places that a rule can have.
+const PLACES: [u8; 8] = [0, 1, 2, 3, 4, 5, 6, 7];
+
+/// Adds comparisons, a return where all of them hold, and a load of the call's number, which comes next where one doesn't.
+fn push_return(
+    code: &mut Vec<Instruction>,
+    comparisons: &[Instruction],
+    value: u32,
+) -> Result<(), AllocError>
+    ensures { OnOk result (code.new.items ≡ code.old.items
+        ++ return_code comparisons.now value) }
+{
+    code.extend_from_slice(comparisons)?;
+    code.extend_from_slice(&[Instruction::Return(value), Instruction::Load(0)])
+}
+
+/// Adds what is done at a call by its number only.
+fn push_direct(
+    code: &mut Vec<Instruction>,
+    comparisons: &[Instruction],
+    value: u32,
+    number: u32,
+) -> Result<(), AllocError>
+    ensures { OnOk result (code.new.items ≡ code.old.items
+        ++ direct_code comparisons.now value number) }
+{
+    if comparisons.is_empty() {
+        return code.extend_from_slice(&[
+            Instruction::Branch(Test::Equal, number, 0, 1),
+            Instruction::Return(value),
+        ]);
+    }
+    code.push(Instruction::Branch(Test::Equal, number, 0, comparisons.len() + 1))?;
+    push_return(code, comparisons, value)
+}
+
+/// Adds what is done at a call through another one, of which it is this operation.
+fn push_through(
+    code: &mut Vec<Instruction>,
+    comparisons: &[Instruction],
+    value: u32,
+    number: u32,
+    operation: u32,
+) -> Result<(), AllocError>
+    ensures { OnOk result (code.new.items ≡ code.old.items
+        ++ through_code comparisons.now value number operation) }
+{
+    let size = comparisons.len();
+    code.extend_from_slice(&[
+        Instruction::Branch(Test::Equal, number, 0, size + 3),
+        Instruction::Load(4),
+        Instruction::Branch(Test::Equal, operation, 0, size + 1),
+    ])?;
+    push_return(code, comparisons, value)
+}
+
+/// Adds what is done at a call.
+fn push_call(
+    code: &mut Vec<Instruction>,
+    comparisons: &[Instruction],
+    value: u32,
+    call: Call,
+) -> Result<(), AllocError>
+    ensures { OnOk result (code.new.items ≡ code.old.items
+        ++ call_code comparisons.now value call) }
+{
+    match call.operation {
+        None => push_direct(code, comparisons, value, call.number),
+        Some(operation) => push_through(code, comparisons, value, call.number, operation),
+    }
+}
+
+/// Adds what is done at calls.
+fn push_calls(
+    code: &mut Vec<Instruction>,
+    comparisons: &[Instruction],
+    value: u32,
+    calls: &[Call],
+) -> Result<(), AllocError>
+    ensures { OnOk result (code.new.items ≡ code.old.items
+        ++ flat_map (call_code comparisons.now value) calls.now) }
+{
+    for call in calls {
+        push_call(code, comparisons, value, *call)?;
+    }
+    Ok(())
+}
+
+/// Adds what is done by a rule.
+fn push_rule(
+    alloc: Global,
+    code: &mut Vec<Instruction>,
+    wide: bool,
+    rule: &Rule,
+) -> Result<(), AllocError>
+    ensures { OnOk result (code.new.items ≡ code.old.items ++ rule_code wide rule.now) }
+{
+    let comparisons = comparisons_code(alloc, wide, &rule.comparisons)?;
+    push_calls(code, &comparisons, rule.response.value(), &rule.calls)
+}
+
+/// Adds what is done by a rule, if this is its place.
+fn push_rule_at(
+    alloc: Global,
+    code: &mut Vec<Instruction>,
+    reading: Reading,
+    wide: bool,
+    place: u8,
+    rule: &Rule,
+) -> Result<(), AllocError>
+    ensures { OnOk result (code.new.items ≡ code.old.items
+        ++ rule_at reading wide place rule.now) }
+{
+    if reading.order(rule) == place {
+        return push_rule(alloc, code, wide, rule);
+    }
+    Ok(())
+}
+
+/// Adds a pass over the rules: those with this place.
+fn push_round(
+    alloc: Global,
+    code: &mut Vec<Instruction>,
+    reading: Reading,
+    wide: bool,
+    place: u8,
+    rules: &[Rule],
+) -> Result<(), AllocError>
+    ensures { OnOk result (code.new.items ≡ code.old.items
+        ++ round_code reading wide rules.now place) }
+{
+    for rule in rules {
+        push_rule_at(alloc, code, reading, wide, place, rule)?;
+    }
+    Ok(())
+}
+
+/// Adds all passes over the rules.
+fn push_rounds(
+    alloc: Global,
+    code: &mut Vec<Instruction>,
+    reading: Reading,
+    wide: bool,
+    rules: &[Rule],
+) -> Result<(), AllocError>
+    ensures { OnOk result (code.new.items ≡ code.old.items
+        ++ flat_map (round_code reading wide rules.now) places) }
+{
+    for place in PLACES.as_slice() {
+        push_round(alloc, code, reading, wide, *place, rules)?;
+    }
+    Ok(())
+}
+
+/// The least number that is above those of calls, and not below another number.
+fn above_calls(least: u64, calls: &[Call]) -> u64
+    ensures { result ≡ above_calls least calls.now }
+{
+    let mut above = least;
+    for call in calls {
+        above = above.max(u64::from(call.number) + 1);
+    }
+    above
+}
+
+/// The least number that is above those of all calls of the rules.
+fn above_rules(rules: &[Rule]) -> u64
+    ensures { result ≡ above_rules rules.now }
+{
+    let mut above = 0;
+    for rule in rules {
+        above = above_calls(above, &rule.calls);
+    }
+    above
+}
+
+/// Whether calls that are newer than the profile fail where it has this default.
+fn refuses_newer(default: Response) -> bool
+    ensures { result ≡ refuses_newer default }
+{
+    !matches!(
+        default,
+        Response::Allow | Response::Log | Response::Tracer(_)
+    )
+}
+
+/// Adds what is done at calls whose number is at least this one: they fail with ENOSYS.
+fn push_newer(code: &mut Vec<Instruction>, least: u64) -> Result<(), AllocError>
+    ensures { OnOk result (code.new.items ≡ code.old.items ++ newer_code least) }
+{
+    let Ok(least) = u32::try_from(least) else {
+        return Ok(());
+    };
+    code.extend_from_slice(&[
+        Instruction::Branch(Test::GreaterOrEqual, least, 0, 1),
+        Instruction::Return(Response::Errno(ENOSYS).value()),
+    ])
+}
+
+/// Adds what is done at newer calls, where that is asked for.
+fn push_newer_where(
+    code: &mut Vec<Instruction>,
+    asked: bool,
+    rules: &[Rule],
+) -> Result<(), AllocError>
+    ensures { OnOk result (code.new.items ≡ code.old.items ++ newer_where asked rules.now) }
+{
+    if asked {
+        return push_newer(code, above_rules(rules));
+    }
+    Ok(())
+}
+
+/// What is done at an input of a set.
+fn body_code(alloc: Global, plan: &Plan, part: &Part) -> Result<Vec<Instruction>, AllocError>
+    ensures { IfOk result (λ v. v.items ≡ body_code plan.now part.now) }
+{
+    let mut code = Vec::new(alloc);
+    code.push(Instruction::Load(0))?;
+    push_newer_where(
+        &mut code,
+        plan.newer && refuses_newer(plan.default),
+        &part.rules,
+    )?;
+    push_rounds(
+        alloc,
+        &mut code,
+        plan.reading,
+        part.set.is_wide(),
+        &part.rules,
+    )?;
+    code.push(Instruction::Return(plan.default.value()))?;
+    Ok(code)
+}
+
+/// Adds a skip of `size` instructions where the input isn't of the set.
+fn push_set(code: &mut Vec<Instruction>, set: CallSet, size: usize) -> Result<(), AllocError>
+    ensures { OnOk result (code.new.items ≡ code.old.items ++ set_code set size) }
+{
+    match set {
+        CallSet::X64 => code.extend_from_slice(&[
+            Instruction::Load(1),
+            Instruction::Branch(Test::Equal, set.arch(), 0, 3),
+            Instruction::Load(0),
+            Instruction::Branch(Test::Equal, NO_NUMBER, 2, 0),
+            Instruction::Branch(Test::GreaterOrEqual, LEAST_OF_X32, 0, 1),
+            Instruction::Skip(size),
+        ]),
+        CallSet::X32 => code.extend_from_slice(&[
+            Instruction::Load(1),
+            Instruction::Branch(Test::Equal, set.arch(), 0, 3),
+            Instruction::Load(0),
+            Instruction::Branch(Test::Equal, NO_NUMBER, 1, 0),
+            Instruction::Branch(Test::GreaterOrEqual, LEAST_OF_X32, 1, 0),
+            Instruction::Skip(size),
+        ]),
+        CallSet::I386 | CallSet::Aarch64 | CallSet::Arm => code.extend_from_slice(&[
+            Instruction::Load(1),
+            Instruction::Branch(Test::Equal, set.arch(), 1, 0),
+            Instruction::Skip(size),
+        ]),
+    }
+}
+
+/// Adds what is done for a set.
+fn push_part(
+    alloc: Global,
+    code: &mut Vec<Instruction>,
+    plan: &Plan,
+    part: &Part,
+) -> Result<(), AllocError>
+    ensures { OnOk result (code.new.items ≡ code.old.items ++ part_code plan.now part.now) }
+{
+    let body = body_code(alloc, plan, part)?;
+    push_set(code, part.set, body.len())?;
+    code.extend_from_slice(&body)
+}
+
+/// The whole filter: at an input of no set the thread is killed.
+pub(crate) fn form(alloc: Global, plan: &Plan) -> Result<Vec<Instruction>, AllocError>
+    ensures { IfOk result (λ v. v.items ≡ form plan.now) }
+{
+    let mut code = Vec::new(alloc);
+    for part in &plan.parts {
+        push_part(alloc, &mut code, plan, part)?;
+    }
+    code.push(Instruction::Return(0))?;
+    Ok(code)
+}

@@ -1,0 +1,297 @@
+//! The keys of a profile, and whether its parts are of their kinds.
+
+ghost use Rattle.std.specs.Prelude.{◌≡◌, codes};
+ghost use Rattle.std.specs.List.{list_all};
+ghost use Rattle.serde_json.specs.View.{items_view, view};
+ghost use Rattle.sf_profile.specs.Refusals.{fits_action, has_sets, is_absent, is_action, is_argument, is_array, is_condition, is_kernel, is_map_item, is_named, is_profile, is_rule, names_number, takes_number};
+ghost use Rattle.sf_profile.specs.Trees.{absent_or, at, has_only, is_list_of, item_list};
+ghost use Rattle.sf_profile.specs.Profiles.{argument_keys, condition_keys, map_keys, profile_keys, rule_keys};
+
+use crate::names::{has_data, response_named, version_of};
+use crate::rules::Response;
+use crate::settings::Settings;
+use crate::tree::{
+    at, has_only, has_text, has_texts, has_texts_or_none, has_whole, has_whole_or_none, text_at,
+    text_of,
+};
+use serde_json::Value;
+
+/// The keys of a profile.
+const PROFILE_KEYS: [&str; 10] = [
+    "defaultAction",
+    "defaultErrnoRet",
+    "defaultErrno",
+    "architectures",
+    "archMap",
+    "flags",
+    "listenerPath",
+    "listenerMetadata",
+    "comment",
+    "syscalls",
+];
+
+/// The keys of an entry of `archMap`.
+const MAP_KEYS: [&str; 2] = ["architecture", "subArchitectures"];
+
+/// The keys of a rule.
+const RULE_KEYS: [&str; 9] = [
+    "names", "name", "action", "errnoRet", "errno", "args", "comment", "includes", "excludes",
+];
+
+/// The keys of a comparison.
+const ARGUMENT_KEYS: [&str; 4] = ["index", "value", "valueTwo", "op"];
+
+/// The keys of what a rule includes or excludes.
+const CONDITION_KEYS: [&str; 3] = ["arches", "caps", "minKernel"];
+
+/// Whether a value is an object that has only keys of a profile.
+fn has_profile_keys(value: &Value) -> bool
+    ensures { result ≡ has_only profile_keys (view value.now) }
+{
+    has_only(value, PROFILE_KEYS.as_slice())
+}
+
+/// Whether a value is an object that has only keys of an entry of `archMap`.
+fn has_map_keys(value: &Value) -> bool
+    ensures { result ≡ has_only map_keys (view value.now) }
+{
+    has_only(value, MAP_KEYS.as_slice())
+}
+
+/// Whether a value is an object that has only keys of a rule.
+fn has_rule_keys(value: &Value) -> bool
+    ensures { result ≡ has_only rule_keys (view value.now) }
+{
+    has_only(value, RULE_KEYS.as_slice())
+}
+
+/// Whether a value is an object that has only keys of a comparison.
+fn has_argument_keys(value: &Value) -> bool
+    ensures { result ≡ has_only argument_keys (view value.now) }
+{
+    has_only(value, ARGUMENT_KEYS.as_slice())
+}
+
+/// Whether a value is an object that has only keys of what a rule includes or excludes.
+fn has_condition_keys(value: &Value) -> bool
+    ensures { result ≡ has_only condition_keys (view value.now) }
+{
+    has_only(value, CONDITION_KEYS.as_slice())
+}
+
+/// Whether a key has no value.
+fn is_absent(value: &Value, key: &str) -> bool
+    ensures { result ≡ is_absent key.now (view value.now) }
+{
+    at(value, key).is_none()
+}
+
+/// Whether an error number is given where its name is.
+fn names_number(value: &Value, name: &str, number: &str) -> bool
+    ensures { result ≡ names_number name.now number.now (view value.now) }
+{
+    is_absent(value, name) || !is_absent(value, number)
+}
+
+/// Whether a number may stand beside a response; beside an unknown one too, which is refused elsewhere.
+fn takes_number(response: Option<Response>) -> bool
+    ensures { result ≡ takes_number response }
+{
+    match response {
+        None => true,
+        Some(known) => has_data(known),
+    }
+}
+
+/// Whether a number may stand beside the action.
+fn fits_action(value: &Value, action: &str, number: &str) -> bool
+    ensures { result ≡ fits_action action.now number.now (view value.now) }
+{
+    is_absent(value, number) || takes_number(response_named(text_at(value, action), 0))
+}
+
+/// Whether a value is a kernel's version, and the kernel's own one is given.
+fn is_kernel(settings: &Settings, value: &Value) -> bool
+    ensures { result ≡ is_kernel settings.now (view value.now) }
+{
+    settings.kernel.is_some() && version_of(text_of(value)).is_some()
+}
+
+/// Whether a rule may ask for the kernel that a condition has, if it has one.
+fn has_kernel(settings: &Settings, value: &Value) -> bool
+    ensures { result ≡ absent_or (is_kernel settings.now)
+        (at (codes "minKernel") (view value.now)) }
+{
+    match at(value, "minKernel") {
+        Some(kernel) => is_kernel(settings, kernel),
+        None => true,
+    }
+}
+
+/// Whether a value is what a rule includes or excludes.
+fn is_condition(settings: &Settings, value: &Value) -> bool
+    ensures { result ≡ is_condition settings.now (view value.now) }
+{
+    has_condition_keys(value)
+        && has_texts_or_none(value, "arches")
+        && has_texts_or_none(value, "caps")
+        && has_kernel(settings, value)
+}
+
+/// Whether a key is absent, or has what a rule includes or excludes.
+fn has_condition(settings: &Settings, value: &Value, key: &str) -> bool
+    ensures { result ≡ absent_or (is_condition settings.now) (at key.now (view value.now)) }
+{
+    match at(value, key) {
+        Some(condition) => is_condition(settings, condition),
+        None => true,
+    }
+}
+
+/// Whether a value is a comparison.
+fn is_argument(value: &Value) -> bool
+    ensures { result ≡ is_argument (view value.now) }
+{
+    has_argument_keys(value)
+        && has_whole(value, "index")
+        && has_whole(value, "value")
+        && has_whole_or_none(value, "valueTwo")
+        && has_text(value, "op")
+}
+
+/// Whether each value is a comparison.
+fn are_each_arguments(items: &[Value]) -> bool
+    ensures { result ≡ list_all (λ v. is_argument (view v)) items.now }
+{
+    items.iter().all(|value| is_argument(value))
+}
+
+/// Whether each value is a comparison. For the prover: over their trees.
+fn are_arguments(items: &[Value]) -> bool
+    ensures { result ≡ list_all is_argument (item_list (items_view items.now)) }
+{
+    are_each_arguments(items)
+}
+
+/// Whether a value is an array of comparisons.
+fn is_argument_list(value: &Value) -> bool
+    ensures { result ≡ is_list_of is_argument (view value.now) }
+{
+    match value {
+        Value::Array(items) => are_arguments(items),
+        _ => false,
+    }
+}
+
+/// Whether a rule's comparisons are absent, or an array of comparisons.
+fn has_arguments(value: &Value) -> bool
+    ensures { result ≡ absent_or (is_list_of is_argument) (at (codes "args") (view value.now)) }
+{
+    match at(value, "args") {
+        Some(list) => is_argument_list(list),
+        None => true,
+    }
+}
+
+/// Whether a rule has either names, or one name.
+fn is_named(value: &Value) -> bool
+    ensures { result ≡ is_named (view value.now) }
+{
+    (has_texts(value, "names") && is_absent(value, "name"))
+        || (has_text(value, "name") && is_absent(value, "names"))
+}
+
+/// Whether there is an action at a key, and its number is well given.
+fn is_action(value: &Value, action: &str, number: &str, name: &str) -> bool
+    ensures { result ≡ is_action action.now number.now name.now (view value.now) }
+{
+    has_text(value, action)
+        && has_whole_or_none(value, number)
+        && names_number(value, name, number)
+        && fits_action(value, action, number)
+}
+
+/// Whether a value is a rule whose keys are all known and of their kinds.
+pub(crate) fn is_rule(settings: &Settings, value: &Value) -> bool
+    ensures { result ≡ is_rule settings.now (view value.now) }
+{
+    has_rule_keys(value)
+        && is_named(value)
+        && is_action(value, "action", "errnoRet", "errno")
+        && has_arguments(value)
+        && has_condition(settings, value, "includes")
+        && has_condition(settings, value, "excludes")
+}
+
+/// Whether a value is an entry of `archMap`.
+fn is_map_item(value: &Value) -> bool
+    ensures { result ≡ is_map_item (view value.now) }
+{
+    has_map_keys(value)
+        && has_text(value, "architecture")
+        && has_texts_or_none(value, "subArchitectures")
+}
+
+/// Whether each value is an entry of `archMap`.
+fn are_each_map_items(items: &[Value]) -> bool
+    ensures { result ≡ list_all (λ v. is_map_item (view v)) items.now }
+{
+    items.iter().all(|value| is_map_item(value))
+}
+
+/// Whether each value is an entry of `archMap`. For the prover: over their trees.
+fn are_map_items(items: &[Value]) -> bool
+    ensures { result ≡ list_all is_map_item (item_list (items_view items.now)) }
+{
+    are_each_map_items(items)
+}
+
+/// Whether a value is an array of entries of `archMap`.
+fn is_map(value: &Value) -> bool
+    ensures { result ≡ is_list_of is_map_item (view value.now) }
+{
+    match value {
+        Value::Array(items) => are_map_items(items),
+        _ => false,
+    }
+}
+
+/// Whether `archMap` is absent, or an array of its entries.
+fn has_map(value: &Value) -> bool
+    ensures { result ≡ absent_or (is_list_of is_map_item)
+        (at (codes "archMap") (view value.now)) }
+{
+    match at(value, "archMap") {
+        Some(map) => is_map(map),
+        None => true,
+    }
+}
+
+/// Whether the sets of calls stand at one of two keys.
+fn has_sets(value: &Value) -> bool
+    ensures { result ≡ has_sets (view value.now) }
+{
+    (is_absent(value, "archMap") || is_absent(value, "architectures"))
+        && has_texts_or_none(value, "architectures")
+        && has_map(value)
+}
+
+/// Whether the rules are absent, or an array.
+fn has_rules(value: &Value) -> bool
+    ensures { result ≡ absent_or is_array (at (codes "syscalls") (view value.now)) }
+{
+    match at(value, "syscalls") {
+        Some(rules) => rules.is_array(),
+        None => true,
+    }
+}
+
+/// Whether a value is a profile whose keys are all known and of their kinds.
+pub(crate) fn is_profile(value: &Value) -> bool
+    ensures { result ≡ is_profile (view value.now) }
+{
+    has_profile_keys(value)
+        && is_action(value, "defaultAction", "defaultErrnoRet", "defaultErrno")
+        && has_sets(value)
+        && has_rules(value)
+}

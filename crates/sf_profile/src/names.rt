@@ -1,0 +1,266 @@
+//! The texts of a profile, and what they stand for.
+
+ghost use Rattle.std.specs.Prelude.{◌≡◌, ◌≤◌, true};
+ghost use Rattle.sf_profile.specs.Profiles.{after_point, arch_of_set, argument_numbered, comparing_named, has_data, is_at_least, more_digits, name_of_set, response_named, set_named, up_to, up_to_or, version_of, version_read, version_step};
+
+use crate::rules::{Argument, CallSet, Comparing, Response};
+
+/// The set of calls that a profile has this name for.
+pub(crate) fn set_named(text: &str) -> Option<CallSet>
+    ensures { result ≡ set_named text.now }
+{
+    if text == "SCMP_ARCH_X86_64" {
+        return Some(CallSet::X64);
+    }
+    if text == "SCMP_ARCH_X32" {
+        return Some(CallSet::X32);
+    }
+    if text == "SCMP_ARCH_X86" {
+        return Some(CallSet::I386);
+    }
+    if text == "SCMP_ARCH_AARCH64" {
+        return Some(CallSet::Aarch64);
+    }
+    if text == "SCMP_ARCH_ARM" {
+        return Some(CallSet::Arm);
+    }
+    None
+}
+
+/// The name of a set in a profile.
+pub(crate) fn name_of_set(set: CallSet) -> &'static str
+    ensures { result.now ≡ name_of_set set }
+{
+    match set {
+        CallSet::X64 => "SCMP_ARCH_X86_64",
+        CallSet::X32 => "SCMP_ARCH_X32",
+        CallSet::I386 => "SCMP_ARCH_X86",
+        CallSet::Aarch64 => "SCMP_ARCH_AARCH64",
+        CallSet::Arm => "SCMP_ARCH_ARM",
+    }
+}
+
+/// The name of a set among the `arches` of a rule.
+pub(crate) fn arch_of_set(set: CallSet) -> &'static str
+    ensures { result.now ≡ arch_of_set set }
+{
+    match set {
+        CallSet::X64 => "amd64",
+        CallSet::X32 => "x32",
+        CallSet::I386 => "x86",
+        CallSet::Aarch64 => "arm64",
+        CallSet::Arm => "arm",
+    }
+}
+
+/// The response of an action's name, with a number where it has one.
+pub(crate) fn response_named(text: &str, number: u16) -> Option<Response>
+    ensures { result ≡ response_named text.now number }
+{
+    if text == "SCMP_ACT_ALLOW" {
+        return Some(Response::Allow);
+    }
+    if text == "SCMP_ACT_ERRNO" {
+        return Some(Response::Errno(number));
+    }
+    if text == "SCMP_ACT_KILL" {
+        return Some(Response::KillThread);
+    }
+    if text == "SCMP_ACT_KILL_THREAD" {
+        return Some(Response::KillThread);
+    }
+    if text == "SCMP_ACT_KILL_PROCESS" {
+        return Some(Response::KillProcess);
+    }
+    if text == "SCMP_ACT_TRAP" {
+        return Some(Response::Trap);
+    }
+    if text == "SCMP_ACT_NOTIFY" {
+        return Some(Response::Notify);
+    }
+    if text == "SCMP_ACT_TRACE" {
+        return Some(Response::Tracer(number));
+    }
+    if text == "SCMP_ACT_LOG" {
+        return Some(Response::Log);
+    }
+    None
+}
+
+/// The comparison of a name.
+pub(crate) fn comparing_named(text: &str) -> Option<Comparing>
+    ensures { result ≡ comparing_named text.now }
+{
+    if text == "SCMP_CMP_NE" {
+        return Some(Comparing::NotEqual);
+    }
+    if text == "SCMP_CMP_LT" {
+        return Some(Comparing::Less);
+    }
+    if text == "SCMP_CMP_LE" {
+        return Some(Comparing::LessOrEqual);
+    }
+    if text == "SCMP_CMP_EQ" {
+        return Some(Comparing::Equal);
+    }
+    if text == "SCMP_CMP_GE" {
+        return Some(Comparing::GreaterOrEqual);
+    }
+    if text == "SCMP_CMP_GT" {
+        return Some(Comparing::Greater);
+    }
+    if text == "SCMP_CMP_MASKED_EQ" {
+        return Some(Comparing::MaskedEqual);
+    }
+    None
+}
+
+/// Whether a response has data of its own: an error number, or what a tracer is told.
+pub(crate) fn has_data(response: Response) -> bool
+    ensures { result ≡ has_data response }
+{
+    matches!(response, Response::Errno(_) | Response::Tracer(_))
+}
+
+/// A number from 0 to a greatest one; none where it is another one.
+pub(crate) fn up_to(most: u64, number: i128) -> Option<u64>
+    ensures { result ≡ up_to most number }
+{
+    let number = u64::try_from(number).ok()?;
+    if number <= most { Some(number) } else { None }
+}
+
+/// A number where one is given, or `absent`; none where that isn't from 0 to a greatest one.
+pub(crate) fn up_to_or(absent: u64, most: u64, number: Option<i128>) -> Option<u64>
+    ensures { result ≡ up_to_or absent most number }
+{
+    match number {
+        None => Some(absent),
+        Some(number) => up_to(most, number),
+    }
+}
+
+/// The argument with an index.
+pub(crate) fn argument_numbered(index: u64) -> Argument
+    ensures { result ≡ argument_numbered index }
+{
+    match index {
+        0 => Argument::Arg0,
+        1 => Argument::Arg1,
+        2 => Argument::Arg2,
+        3 => Argument::Arg3,
+        4 => Argument::Arg4,
+        _ => Argument::Arg5,
+    }
+}
+
+/// A kernel's version.
+#[derive(Clone, Copy, Debug, PartialEq, Eq)]
+pub struct Version {
+    /// The number before the point.
+    pub major: u32,
+    /// The number after it.
+    pub minor: u32,
+}
+
+/// What was read of a version.
+#[derive(Clone, Copy, Debug)]
+pub(crate) struct VersionRead {
+    /// The number before the point, where that was read.
+    pub(crate) major: Option<u32>,
+    /// The number of the digits since.
+    pub(crate) digits: Option<u32>,
+    /// Whether the text can't be a version.
+    pub(crate) wrong: bool,
+}
+
+/// One digit more.
+fn more_digits(read: VersionRead, digit: u8) -> VersionRead
+    requires { digit ≤ 9 }
+    ensures { result ≡ more_digits read digit }
+{
+    let so_far = read.digits.unwrap_or(0);
+    if so_far < 1000 {
+        VersionRead {
+            major: read.major,
+            digits: Some(10 * so_far + u32::from(digit)),
+            wrong: read.wrong,
+        }
+    } else {
+        VersionRead {
+            major: read.major,
+            digits: read.digits,
+            wrong: true,
+        }
+    }
+}
+
+/// What was read, and can't be a version.
+fn wrong(read: VersionRead) -> VersionRead
+    ensures { result ≡ record { major = read.major; digits = read.digits; wrong = true } }
+{
+    VersionRead {
+        major: read.major,
+        digits: read.digits,
+        wrong: true,
+    }
+}
+
+/// The point behind what was read.
+fn after_point(read: VersionRead) -> VersionRead
+    ensures { result ≡ after_point read read.major read.digits }
+{
+    match (read.major, read.digits) {
+        (None, Some(number)) => VersionRead {
+            major: Some(number),
+            digits: None,
+            wrong: read.wrong,
+        },
+        _ => wrong(read),
+    }
+}
+
+/// One byte more.
+fn version_step(read: VersionRead, byte: u8) -> VersionRead
+    ensures { result ≡ version_step read byte }
+{
+    if 48 <= byte && byte <= 57 {
+        return more_digits(read, byte - 48);
+    }
+    if byte == 46 {
+        return after_point(read);
+    }
+    wrong(read)
+}
+
+/// The version that a text is: two numbers of at most four digits, with a point between them. None where it is none.
+pub fn version_of(text: &str) -> Option<Version>
+    ensures { result ≡ version_of text.now }
+{
+    let mut read = VersionRead {
+        major: None,
+        digits: None,
+        wrong: false,
+    };
+    for byte in text.as_bytes() {
+        read = version_step(read, *byte);
+    }
+    if read.wrong {
+        return None;
+    }
+    Some(Version {
+        major: read.major?,
+        minor: read.digits?,
+    })
+}
+
+/// Whether the first version is the second one, or newer.
+pub(crate) fn is_at_least(version: Version, other: Version) -> bool
+    ensures { result ≡ is_at_least version other }
+{
+    if version.major == other.major {
+        version.minor >= other.minor
+    } else {
+        version.major > other.major
+    }
+}

@@ -1,0 +1,208 @@
+//! The calls that the names of a rule stand for.
+
+ghost use Rattle.std.specs.Prelude.{◌≡◌, ◌++◌, ◌<◌, codes, map, length, IfOk, IfSome, OnOk};
+ghost use Rattle.std.specs.List.{flat_map};
+ghost use Rattle.serde_json.specs.View.{view};
+ghost use Rattle.sf_profile.specs.Trees.{at, text_of};
+ghost use Rattle.sf_profile.specs.Plans.{calls_named, direct_call, ipc_call, ipc_calls, names_of, one_name, place_from, socket_call, socket_calls, through_calls};
+
+use crate::rules::{Call, CallSet};
+use crate::settings::Settings;
+use crate::tree::{at, items_at, text_of};
+use serde_json::Value;
+use std::alloc::{AllocError, Global};
+
+/// The calls that i386 has behind `socketcall`, by their numbers there from 1.
+const SOCKET_CALLS: [&str; 20] = [
+    "socket",
+    "bind",
+    "connect",
+    "listen",
+    "accept",
+    "getsockname",
+    "getpeername",
+    "socketpair",
+    "send",
+    "recv",
+    "sendto",
+    "recvfrom",
+    "shutdown",
+    "setsockopt",
+    "getsockopt",
+    "sendmsg",
+    "recvmsg",
+    "accept4",
+    "recvmmsg",
+    "sendmmsg",
+];
+
+/// The calls that i386 has behind `ipc`: four with numbers from 1, four from 11 and four from 21.
+const IPC_CALLS: [&str; 12] = [
+    "semop",
+    "semget",
+    "semctl",
+    "semtimedop",
+    "msgsnd",
+    "msgrcv",
+    "msgget",
+    "msgctl",
+    "shmat",
+    "shmdt",
+    "shmget",
+    "shmctl",
+];
+
+/// The place of a name among some; none where it isn't among them.
+fn place_of(name: &str, names: &[&str]) -> Option<usize>
+    ensures value { result ≡ place_from 0 name.now (map (λ n. n.now) names.now) }
+    ensures small { IfSome result (λ n. n < length names.now) }
+{
+    for (i, other) in names.iter().enumerate() {
+        if name == *other {
+            return Some(i);
+        }
+    }
+    None
+}
+
+/// The place of a name among the calls behind `socketcall`.
+fn place_of_socket_call(name: &str) -> Option<usize>
+    ensures value { result ≡ place_from 0 name.now socket_calls }
+    ensures small { IfSome result (λ n. n < 20) }
+{
+    place_of(name, SOCKET_CALLS.as_slice())
+}
+
+/// The place of a name among the calls behind `ipc`.
+fn place_of_ipc_call(name: &str) -> Option<usize>
+    ensures value { result ≡ place_from 0 name.now ipc_calls }
+    ensures small { IfSome result (λ n. n < 12) }
+{
+    place_of(name, IPC_CALLS.as_slice())
+}
+
+/// Adds the call of a number, where there is one.
+fn push_direct(calls: &mut Vec<Call>, number: Option<u32>) -> Result<(), AllocError>
+    ensures { OnOk result (calls.new.items ≡ calls.old.items ++ direct_call number) }
+{
+    if let Some(number) = number {
+        calls.push(Call {
+            number,
+            operation: None,
+        })?;
+    }
+    Ok(())
+}
+
+/// Adds the call through `socketcall` with this place, where there is one.
+fn push_socket_call(calls: &mut Vec<Call>, name: &str) -> Result<(), AllocError>
+    ensures { OnOk result (calls.new.items ≡ calls.old.items
+        ++ socket_call (place_from 0 name.now socket_calls)) }
+{
+    if let Some(place) = place_of_socket_call(name) {
+        calls.push(Call {
+            number: 102,
+            operation: Some(place as u32 + 1),
+        })?;
+    }
+    Ok(())
+}
+
+/// Adds the call through `ipc` with this place, where there is one.
+fn push_ipc_call(calls: &mut Vec<Call>, name: &str) -> Result<(), AllocError>
+    ensures { OnOk result (calls.new.items ≡ calls.old.items
+        ++ ipc_call (place_from 0 name.now ipc_calls)) }
+{
+    if let Some(place) = place_of_ipc_call(name) {
+        let place = place as u32;
+        calls.push(Call {
+            number: 117,
+            operation: Some(place / 4 * 10 + place % 4 + 1),
+        })?;
+    }
+    Ok(())
+}
+
+/// Adds the calls of a name through others, where a set has them.
+fn push_through(calls: &mut Vec<Call>, has_them: bool, name: &str) -> Result<(), AllocError>
+    ensures { OnOk result (calls.new.items ≡ calls.old.items ++ through_calls has_them name.now) }
+{
+    if has_them {
+        push_socket_call(calls, name)?;
+        push_ipc_call(calls, name)?;
+    }
+    Ok(())
+}
+
+/// The set of a rule, and whether the rule compares nothing.
+#[derive(Clone, Copy, Debug)]
+pub(crate) struct Place {
+    /// The set.
+    pub(crate) set: CallSet,
+    /// Whether the rule compares nothing.
+    pub(crate) alone: bool,
+}
+
+/// Adds the calls of a name in a set.
+fn push_named(
+    calls: &mut Vec<Call>,
+    settings: &Settings,
+    place: Place,
+    name: &str,
+) -> Result<(), AllocError>
+    ensures { OnOk result (calls.new.items ≡ calls.old.items
+        ++ calls_named settings.now place.set place.alone name.now) }
+{
+    push_direct(calls, settings.number_of(place.set, name))?;
+    push_through(calls, place.set.is_same(CallSet::I386) && place.alone, name)
+}
+
+/// Adds the calls of names in a set.
+fn push_all_named(
+    calls: &mut Vec<Call>,
+    settings: &Settings,
+    place: Place,
+    items: &[Value],
+) -> Result<(), AllocError>
+    ensures { OnOk result (calls.new.items ≡ calls.old.items
+        ++ flat_map (calls_named settings.now place.set place.alone)
+        (map text_of (map view items.now))) }
+{
+    for value in items {
+        push_named(calls, settings, place, text_of(value))?;
+    }
+    Ok(())
+}
+
+/// Adds the calls of the one name of a rule, where it has one.
+fn push_one_name(
+    calls: &mut Vec<Call>,
+    settings: &Settings,
+    place: Place,
+    value: &Value,
+) -> Result<(), AllocError>
+    ensures { OnOk result (calls.new.items ≡ calls.old.items
+        ++ flat_map (calls_named settings.now place.set place.alone)
+        (one_name (at (codes "name") (view value.now)))) }
+{
+    match at(value, "name") {
+        Some(name) => push_named(calls, settings, place, text_of(name)),
+        None => Ok(()),
+    }
+}
+
+/// The calls of a rule in a set.
+pub(crate) fn calls_of(
+    alloc: Global,
+    settings: &Settings,
+    place: Place,
+    value: &Value,
+) -> Result<Vec<Call>, AllocError>
+    ensures { IfOk result (λ v. v.items
+        ≡ flat_map (calls_named settings.now place.set place.alone) (names_of (view value.now))) }
+{
+    let mut calls = Vec::new(alloc);
+    push_all_named(&mut calls, settings, place, items_at(value, "names"))?;
+    push_one_name(&mut calls, settings, place, value)?;
+    Ok(calls)
+}

@@ -1,0 +1,315 @@
+//! The rules of a profile, in each of its sets of calls.
+
+ghost use Rattle.std.specs.Prelude.{◌≡◌, ◌∷◌, [], ◌++◌, map, fold, IfOk, OnOk, unwrap_or};
+ghost use Rattle.std.specs.List.{flat_map, list_any};
+ghost use Rattle.serde_json.specs.View.{view};
+ghost use Rattle.sf_profile.specs.Trees.{at, text_of, whole_where};
+ghost use Rattle.sf_profile.specs.Profiles.{set_named, up_to_or};
+ghost use Rattle.sf_profile.specs.Settings.{is_same_set};
+ghost use Rattle.sf_profile.specs.Plans.{alternatives, comparison_of, compares_twice, item_sets, is_of_same, part_of, plan_of, response_at, rule_of, rules_of, sets_of, with_set};
+
+use crate::applying::applies;
+use crate::comparing::word_of;
+use crate::names::{argument_numbered, comparing_named, response_named, set_named, up_to_or};
+use crate::naming::{Place, calls_of};
+use crate::refusal::is_own_item;
+use crate::rules::{CallSet, Comparing, Comparison, Part, Plan, Response, Rule};
+use crate::settings::Settings;
+use crate::tree::{items_at, text_at, text_of, whole_at};
+use serde_json::Value;
+use std::alloc::{AllocError, Global};
+
+/// The number at a key, 1 where none is given, or where it hasn't 16 bits.
+fn error_number(value: &Value, key: &str) -> u16
+    ensures { result ≡ unwrap_or (up_to_or 1 65535
+        (whole_where (at key.now (view value.now)))) 1 }
+{
+    match up_to_or(1, 65535, whole_at(value, key)) {
+        Some(number) => number as u16,
+        None => 1,
+    }
+}
+
+/// The response of an action and its number, which is 1 where none is given.
+pub(crate) fn response_at(value: &Value, action: &str, number: &str) -> Response
+    ensures { result ≡ response_at action.now number.now (view value.now) }
+{
+    response_named(text_at(value, action), error_number(value, number)).unwrap_or(
+        Response::KillThread,
+    )
+}
+
+/// The comparison of a value.
+fn comparison_of(value: &Value) -> Comparison
+    ensures { result ≡ comparison_of (view value.now) }
+{
+    Comparison {
+        argument: argument_numbered(up_to_or(0, 5, whole_at(value, "index")).unwrap_or(0)),
+        comparing: comparing_named(text_at(value, "op")).unwrap_or(Comparing::Equal),
+        value: up_to_or(0, u64::MAX, whole_at(value, "value")).unwrap_or(0),
+        value_two: up_to_or(0, u64::MAX, whole_at(value, "valueTwo")).unwrap_or(0),
+    }
+}
+
+/// The comparisons of values.
+fn comparisons_of(alloc: Global, items: &[Value]) -> Result<Vec<Comparison>, AllocError>
+    ensures { IfOk result (λ v. v.items ≡ map comparison_of (map view items.now)) }
+{
+    let mut comparisons = Vec::new(alloc);
+    for value in items {
+        comparisons.push(comparison_of(value))?;
+    }
+    Ok(comparisons)
+}
+
+/// Whether one of the comparisons is of the same argument as this one.
+fn has_same(comparisons: &[Comparison], comparison: Comparison) -> bool
+    ensures { result ≡ list_any (is_of_same comparison) comparisons.now }
+{
+    comparisons.iter().any(|other| word_of(comparison.argument) == word_of(other.argument))
+}
+
+/// Whether some argument is compared twice.
+fn compares_twice(comparisons: &[Comparison]) -> bool
+    ensures { result ≡ compares_twice comparisons.now }
+{
+    for (i, comparison) in comparisons.iter().enumerate() {
+        if has_same(&comparisons[i + 1..], *comparison) {
+            return true;
+        }
+    }
+    false
+}
+
+/// The rule of some comparisons in a set.
+fn rule_of(
+    alloc: Global,
+    settings: &Settings,
+    set: CallSet,
+    value: &Value,
+    comparisons: Vec<Comparison>,
+) -> Result<Rule, AllocError>
+    ensures { IfOk result (λ r. r ≡ rule_of settings.now set
+        (view value.now) comparisons.items) }
+{
+    let place = Place {
+        set,
+        alone: comparisons.is_empty(),
+    };
+    Ok(Rule {
+        calls: calls_of(alloc, settings, place, value)?,
+        response: response_at(value, "action", "errnoRet"),
+        comparisons,
+    })
+}
+
+/// A list of one comparison.
+fn only(alloc: Global, comparison: Comparison) -> Result<Vec<Comparison>, AllocError>
+    ensures { IfOk result (λ v. v.items ≡ comparison ∷ []) }
+{
+    let mut comparisons = Vec::new(alloc);
+    comparisons.push(comparison)?;
+    Ok(comparisons)
+}
+
+/// Adds a rule of its own for each comparison.
+fn push_each(
+    alloc: Global,
+    rules: &mut Vec<Rule>,
+    settings: &Settings,
+    set: CallSet,
+    value: &Value,
+    comparisons: &[Comparison],
+) -> Result<(), AllocError>
+    ensures { OnOk result (rules.new.items ≡ rules.old.items
+        ++ map (rule_of settings.now set (view value.now)) (map (λ c. c ∷ []) comparisons.now)) }
+{
+    for comparison in comparisons {
+        let rule = rule_of(alloc, settings, set, value, only(alloc, *comparison)?)?;
+        rules.push(rule)?;
+    }
+    Ok(())
+}
+
+/// Adds the rules of comparisons: one rule for all of them, or where one argument is compared twice, one for each.
+fn push_alternatives(
+    alloc: Global,
+    rules: &mut Vec<Rule>,
+    settings: &Settings,
+    set: CallSet,
+    value: &Value,
+    comparisons: Vec<Comparison>,
+) -> Result<(), AllocError>
+    ensures { OnOk result (rules.new.items ≡ rules.old.items
+        ++ map (rule_of settings.now set (view value.now)) (alternatives comparisons.items)) }
+{
+    if comparisons.len() > 6 || compares_twice(&comparisons) {
+        return push_each(alloc, rules, settings, set, value, &comparisons);
+    }
+    let rule = rule_of(alloc, settings, set, value, comparisons)?;
+    rules.push(rule)?;
+    Ok(())
+}
+
+/// Adds the rules of a rule in a set.
+fn push_rules_of(
+    alloc: Global,
+    rules: &mut Vec<Rule>,
+    settings: &Settings,
+    set: CallSet,
+    value: &Value,
+) -> Result<(), AllocError>
+    ensures { OnOk result (rules.new.items ≡ rules.old.items
+        ++ rules_of settings.now set (view value.now)) }
+{
+    if !applies(settings, value) {
+        return Ok(());
+    }
+    let comparisons = comparisons_of(alloc, items_at(value, "args"))?;
+    push_alternatives(alloc, rules, settings, set, value, comparisons)
+}
+
+/// The rules of rules in a set.
+fn rules_in(
+    alloc: Global,
+    settings: &Settings,
+    set: CallSet,
+    items: &[Value],
+) -> Result<Vec<Rule>, AllocError>
+    ensures { IfOk result (λ v. v.items
+        ≡ flat_map (rules_of settings.now set) (map view items.now)) }
+{
+    let mut rules = Vec::new(alloc);
+    for value in items {
+        push_rules_of(alloc, &mut rules, settings, set, value)?;
+    }
+    Ok(rules)
+}
+
+/// The rules of a set.
+fn part_of(
+    alloc: Global,
+    settings: &Settings,
+    value: &Value,
+    set: CallSet,
+) -> Result<Part, AllocError>
+    ensures { IfOk result (λ p. p ≡ part_of settings.now (view value.now) set) }
+{
+    Ok(Part {
+        set,
+        rules: rules_in(alloc, settings, set, items_at(value, "syscalls"))?,
+    })
+}
+
+/// Whether a set is among some.
+fn has_set(sets: &[CallSet], set: CallSet) -> bool
+    ensures { result ≡ list_any (is_same_set set) sets.now }
+{
+    sets.iter().any(|other| set.is_same(*other))
+}
+
+/// Adds the set of a name, if it isn't there yet.
+fn push_set(sets: &mut Vec<CallSet>, name: &str) -> Result<(), AllocError>
+    ensures { OnOk result (sets.new.items ≡ with_set sets.old.items (set_named name.now)) }
+{
+    match set_named(name) {
+        Some(set) => {
+            if has_set(sets, set) {
+                return Ok(());
+            }
+            sets.push(set)?;
+            Ok(())
+        }
+        None => Ok(()),
+    }
+}
+
+/// Adds the sets of names, each once.
+fn push_sets(sets: &mut Vec<CallSet>, items: &[Value]) -> Result<(), AllocError>
+    ensures { OnOk result (sets.new.items
+        ≡ fold (λ sets name. with_set sets (set_named name)) sets.old.items
+        (map text_of (map view items.now))) }
+{
+    for value in items {
+        push_set(sets, text_of(value))?;
+    }
+    Ok(())
+}
+
+/// Adds the sets of an entry of `archMap`, if it is the machine's.
+fn push_map_item(
+    sets: &mut Vec<CallSet>,
+    settings: &Settings,
+    value: &Value,
+) -> Result<(), AllocError>
+    ensures { OnOk result (sets.new.items
+        ≡ fold (λ sets name. with_set sets (set_named name)) sets.old.items
+        (item_sets settings.now (view value.now))) }
+{
+    if is_own_item(settings, value) {
+        return push_sets(sets, items_at(value, "subArchitectures"));
+    }
+    Ok(())
+}
+
+/// Adds the sets of the entries of `archMap` that are the machine's.
+fn push_map_items(
+    sets: &mut Vec<CallSet>,
+    settings: &Settings,
+    items: &[Value],
+) -> Result<(), AllocError>
+    ensures { OnOk result (sets.new.items
+        ≡ fold (λ sets name. with_set sets (set_named name)) sets.old.items
+        (flat_map (item_sets settings.now) (map view items.now))) }
+{
+    for value in items {
+        push_map_item(sets, settings, value)?;
+    }
+    Ok(())
+}
+
+/// The machine's own set, and those that are listed, each once.
+#[tactic(auto, using(crate::proofs::PlanLemmas::fold_both))]
+pub(crate) fn sets_of(
+    alloc: Global,
+    settings: &Settings,
+    value: &Value,
+) -> Result<Vec<CallSet>, AllocError>
+    ensures { IfOk result (λ v. v.items ≡ sets_of settings.now (view value.now)) }
+{
+    let mut sets = Vec::new(alloc);
+    sets.push(settings.machine)?;
+    push_sets(&mut sets, items_at(value, "architectures"))?;
+    push_map_items(&mut sets, settings, items_at(value, "archMap"))?;
+    Ok(sets)
+}
+
+/// The rules of sets.
+fn parts_of(
+    alloc: Global,
+    settings: &Settings,
+    value: &Value,
+    sets: &[CallSet],
+) -> Result<Vec<Part>, AllocError>
+    ensures { IfOk result (λ v. v.items
+        ≡ map (part_of settings.now (view value.now)) sets.now) }
+{
+    let mut parts = Vec::new(alloc);
+    for set in sets {
+        parts.push(part_of(alloc, settings, value, *set)?)?;
+    }
+    Ok(parts)
+}
+
+/// What a profile says.
+pub(crate) fn plan_of(alloc: Global, settings: &Settings, value: &Value) -> Result<Plan, AllocError>
+    ensures { IfOk result (λ p. p ≡ plan_of settings.now (view value.now)) }
+{
+    let sets = sets_of(alloc, settings, value)?;
+    Ok(Plan {
+        parts: parts_of(alloc, settings, value, &sets)?,
+        default: response_at(value, "defaultAction", "defaultErrnoRet"),
+        reading: settings.conflicts,
+        newer: settings.newer,
+    })
+}

@@ -1,0 +1,279 @@
+//! Why a profile is refused.
+
+ghost use Rattle.std.specs.Prelude.{◌≡◌, codes, map, option_map};
+ghost use Rattle.std.specs.List.{list_all};
+ghost use Rattle.serde_json.specs.View.{view};
+ghost use Rattle.sf_profile.specs.Refusals.{has_actions, has_argument_range, has_error_number, has_name, has_names, has_ranges, is_call_name, is_name_byte, is_own_item, is_set, is_set_item, knows_action, knows_comparison, knows_set, knows_sets, profile_in, profile_refusal, rule_refusal, rules_refusal};
+ghost use Rattle.sf_profile.specs.Trees.{absent_or, at};
+
+use crate::fault::Fault;
+use crate::keys::{is_profile, is_rule};
+use crate::names::{comparing_named, name_of_set, response_named, set_named, up_to_or};
+use crate::rules::CallSet;
+use crate::settings::Settings;
+use crate::tree::{at, items_at, text_at, text_of, whole_at};
+use serde_json::Value;
+
+/// Whether a byte is a letter, a digit or `_`.
+fn is_name_byte(byte: u8) -> bool
+    ensures { result ≡ is_name_byte byte }
+{
+    let digit = 0x30 <= byte && byte <= 0x39;
+    let capital = 0x41 <= byte && byte <= 0x5a;
+    let small = 0x61 <= byte && byte <= 0x7a;
+    (digit || capital) || (small || byte == 0x5f)
+}
+
+/// Whether each byte is a letter, a digit or `_`.
+fn are_name_bytes(bytes: &[u8]) -> bool
+    ensures { result ≡ list_all is_name_byte bytes.now }
+{
+    bytes.iter().all(|byte| is_name_byte(*byte))
+}
+
+/// Whether a text can be the name of a call: it is 1 to 64 letters, digits and `_`.
+fn is_call_name(text: &str) -> bool
+    ensures { result ≡ is_call_name text.now }
+{
+    1 <= text.len() && text.len() <= 64 && are_name_bytes(text.as_bytes())
+}
+
+/// Whether a value can be the name of a call.
+fn has_name(value: &Value) -> bool
+    ensures { result ≡ has_name (view value.now) }
+{
+    is_call_name(text_of(value))
+}
+
+/// Whether each value can be the name of a call.
+fn are_each_names(items: &[Value]) -> bool
+    ensures { result ≡ list_all (λ v. has_name (view v)) items.now }
+{
+    items.iter().all(|value| has_name(value))
+}
+
+/// Whether each value can be the name of a call. For the prover: over their trees.
+fn are_names(items: &[Value]) -> bool
+    ensures { result ≡ list_all has_name (map view items.now) }
+{
+    are_each_names(items)
+}
+
+/// Whether the one name of a rule is absent, or can be the name of a call.
+fn has_one_name(value: &Value) -> bool
+    ensures { result ≡ absent_or has_name (at (codes "name") (view value.now)) }
+{
+    match at(value, "name") {
+        Some(name) => has_name(name),
+        None => true,
+    }
+}
+
+/// Whether all names of a rule can be names of calls.
+fn has_names(value: &Value) -> bool
+    ensures { result ≡ has_names (view value.now) }
+{
+    are_names(items_at(value, "names")) && has_one_name(value)
+}
+
+/// Whether the action at a key is known.
+fn knows_action(value: &Value, action: &str) -> bool
+    ensures { result ≡ knows_action action.now (view value.now) }
+{
+    response_named(text_at(value, action), 0).is_some()
+}
+
+/// Whether the comparison of a value is known.
+fn knows_comparison(value: &Value) -> bool
+    ensures { result ≡ knows_comparison (view value.now) }
+{
+    comparing_named(text_at(value, "op")).is_some()
+}
+
+/// Whether the comparisons of all values are known.
+fn know_each_comparison(items: &[Value]) -> bool
+    ensures { result ≡ list_all (λ v. knows_comparison (view v)) items.now }
+{
+    items.iter().all(|value| knows_comparison(value))
+}
+
+/// Whether the comparisons of all values are known. For the prover: over their trees.
+fn know_comparisons(items: &[Value]) -> bool
+    ensures { result ≡ list_all knows_comparison (map view items.now) }
+{
+    know_each_comparison(items)
+}
+
+/// Whether the action and the comparisons of a rule are known.
+fn has_actions(value: &Value) -> bool
+    ensures { result ≡ has_actions (view value.now) }
+{
+    knows_action(value, "action") && know_comparisons(items_at(value, "args"))
+}
+
+/// Whether the error number at a key is absent, or has 16 bits.
+fn has_error_number(value: &Value, key: &str) -> bool
+    ensures { result ≡ has_error_number key.now (view value.now) }
+{
+    up_to_or(1, 65535, whole_at(value, key)).is_some()
+}
+
+/// Whether the numbers of a comparison are in their ranges.
+fn has_argument_range(value: &Value) -> bool
+    ensures { result ≡ has_argument_range (view value.now) }
+{
+    up_to_or(0, 5, whole_at(value, "index")).is_some()
+        && up_to_or(0, u64::MAX, whole_at(value, "value")).is_some()
+        && up_to_or(0, u64::MAX, whole_at(value, "valueTwo")).is_some()
+}
+
+/// Whether the numbers of all comparisons are in their ranges.
+fn have_each_argument_range(items: &[Value]) -> bool
+    ensures { result ≡ list_all (λ v. has_argument_range (view v)) items.now }
+{
+    items.iter().all(|value| has_argument_range(value))
+}
+
+/// Whether the numbers of all comparisons are in their ranges. For the prover: over their trees.
+fn have_argument_ranges(items: &[Value]) -> bool
+    ensures { result ≡ list_all has_argument_range (map view items.now) }
+{
+    have_each_argument_range(items)
+}
+
+/// Whether the numbers of a rule are in their ranges.
+fn has_ranges(value: &Value) -> bool
+    ensures { result ≡ has_ranges (view value.now) }
+{
+    has_error_number(value, "errnoRet") && have_argument_ranges(items_at(value, "args"))
+}
+
+/// Why the rule with a number is refused, if it is.
+fn rule_refusal(settings: &Settings, rule: usize, value: &Value) -> Option<Fault>
+    ensures { result ≡ rule_refusal settings.now rule (view value.now) }
+{
+    if !is_rule(settings, value) {
+        return Some(Fault::RuleKey { rule });
+    }
+    if !has_names(value) {
+        return Some(Fault::RuleName { rule });
+    }
+    if !has_actions(value) {
+        return Some(Fault::RuleActions { rule });
+    }
+    if !has_ranges(value) {
+        return Some(Fault::RuleRange { rule });
+    }
+    None
+}
+
+/// The first refusal of rules.
+#[tactic(auto, using(crate::proofs::RuleTurns::next_rule))]
+fn rules_refusal(settings: &Settings, items: &[Value]) -> Option<Fault>
+    ensures { result ≡ rules_refusal settings.now 1 (map view items.now) }
+{
+    for (i, value) in items.iter().enumerate() {
+        let refusal = rule_refusal(settings, i + 1, value);
+        if refusal.is_some() {
+            return refusal;
+        }
+    }
+    None
+}
+
+/// Whether a set is known, and its calls are given.
+fn knows_set(settings: &Settings, set: Option<CallSet>) -> bool
+    ensures { result ≡ knows_set settings.now set }
+{
+    match set {
+        Some(known) => settings.has_calls(known),
+        None => false,
+    }
+}
+
+/// Whether a value names a set whose calls are given.
+fn is_set(settings: &Settings, value: &Value) -> bool
+    ensures { result ≡ is_set settings.now (view value.now) }
+{
+    knows_set(settings, set_named(text_of(value)))
+}
+
+/// Whether each value names a set whose calls are given.
+fn are_each_sets(settings: &Settings, items: &[Value]) -> bool
+    ensures { result ≡ list_all (λ v. is_set settings.now (view v)) items.now }
+{
+    items.iter().all(|value| is_set(settings, value))
+}
+
+/// Whether each value names a set whose calls are given. For the prover: over their trees.
+fn are_sets(settings: &Settings, items: &[Value]) -> bool
+    ensures { result ≡ list_all (is_set settings.now) (map view items.now) }
+{
+    are_each_sets(settings, items)
+}
+
+/// Whether an entry of `archMap` is the machine's.
+pub(crate) fn is_own_item(settings: &Settings, value: &Value) -> bool
+    ensures { result ≡ is_own_item settings.now (view value.now) }
+{
+    text_at(value, "architecture") == name_of_set(settings.machine)
+}
+
+/// Whether the sets of an entry of `archMap` are known, if it is the machine's.
+fn is_set_item(settings: &Settings, value: &Value) -> bool
+    ensures { result ≡ is_set_item settings.now (view value.now) }
+{
+    !is_own_item(settings, value) || are_sets(settings, items_at(value, "subArchitectures"))
+}
+
+/// Whether the sets of all entries of `archMap` are known, if they are the machine's.
+fn are_each_set_items(settings: &Settings, items: &[Value]) -> bool
+    ensures { result ≡ list_all (λ v. is_set_item settings.now (view v)) items.now }
+{
+    items.iter().all(|value| is_set_item(settings, value))
+}
+
+/// Whether the sets of all entries of `archMap` are known, if they are the machine's. For the prover: over their trees.
+fn are_set_items(settings: &Settings, items: &[Value]) -> bool
+    ensures { result ≡ list_all (is_set_item settings.now) (map view items.now) }
+{
+    are_each_set_items(settings, items)
+}
+
+/// Whether all sets of a profile are known, and their calls are given.
+fn knows_sets(settings: &Settings, value: &Value) -> bool
+    ensures { result ≡ knows_sets settings.now (view value.now) }
+{
+    settings.has_calls(settings.machine)
+        && are_sets(settings, items_at(value, "architectures"))
+        && are_set_items(settings, items_at(value, "archMap"))
+}
+
+/// Why a profile is refused, if it is.
+pub(crate) fn profile_refusal(settings: &Settings, value: &Value) -> Option<Fault>
+    ensures { result ≡ profile_refusal settings.now (view value.now) }
+{
+    if !is_profile(value) {
+        return Some(Fault::Key);
+    }
+    if !knows_action(value, "defaultAction") {
+        return Some(Fault::Actions);
+    }
+    if !has_error_number(value, "defaultErrnoRet") {
+        return Some(Fault::Range);
+    }
+    if !knows_sets(settings, value) {
+        return Some(Fault::Set);
+    }
+    rules_refusal(settings, items_at(value, "syscalls"))
+}
+
+/// The profile in a file: in a whole config.json it is `seccomp` of `linux`.
+pub(crate) fn profile_in(value: &Value) -> Option<&Value>
+    ensures { option_map (λ v. view v.now) result ≡ profile_in (view value.now) }
+{
+    match at(value, "linux") {
+        Some(linux) => at(linux, "seccomp"),
+        None => Some(value),
+    }
+}

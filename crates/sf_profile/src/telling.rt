@@ -1,0 +1,287 @@
+//! What is told of a profile.
+
+ghost use Rattle.std.specs.Prelude.{◌≡◌, ◌++◌, Some, codes, filter, fold, is_some, map, IfOk, OnOk, string_bytes};
+ghost use Rattle.std.specs.List.{flat_map, list_any};
+ghost use Rattle.serde_json.specs.View.{view};
+ghost use Rattle.sf_profile.specs.Notes.{applied_count, applied_names, counts_line, default_line, is_unknown, names_where, notes_text, response_data, response_name, set_text, set_words, sets_line, unknown_line, with_name};
+ghost use Rattle.sf_profile.specs.Plans.{names_of, one_name};
+ghost use Rattle.sf_profile.specs.Settings.{number_where};
+ghost use Rattle.sf_profile.specs.declared.settings.Calls.{Calls as ACalls};
+ghost use Rattle.sf_profile.specs.Trees.{at, text_of};
+
+use crate::applying::applies;
+use crate::plan::{response_at, sets_of};
+use crate::rules::{CallSet, Response};
+use crate::settings::{Calls, Settings};
+use crate::tree::{at, is_among, items_at, text_of};
+use serde_json::Value;
+use std::alloc::{AllocError, Global};
+
+/// The name of a response's action.
+fn response_name(response: Response) -> &'static str
+    ensures { result.now ≡ response_name response }
+{
+    match response {
+        Response::KillProcess => "KILL_PROCESS",
+        Response::KillThread => "KILL_THREAD",
+        Response::Trap => "TRAP",
+        Response::Errno(_) => "ERRNO",
+        Response::Notify => "USER_NOTIF",
+        Response::Tracer(_) => "TRACE",
+        Response::Log => "LOG",
+        Response::Allow => "ALLOW",
+    }
+}
+
+/// The data of a response.
+fn response_data(response: Response) -> u16
+    ensures { result ≡ response_data response }
+{
+    match response {
+        Response::Errno(number) | Response::Tracer(number) => number,
+        _ => 0,
+    }
+}
+
+/// The name of a set of calls.
+fn set_text(set: CallSet) -> &'static str
+    ensures { result.now ≡ set_text set }
+{
+    match set {
+        CallSet::X64 => "x86_64",
+        CallSet::X32 => "x32",
+        CallSet::I386 => "i386",
+        CallSet::Aarch64 => "aarch64",
+        CallSet::Arm => "arm",
+    }
+}
+
+/// Adds a name, if it isn't there yet.
+fn push_name<'a>(names: &mut Vec<&'a str>, name: &'a str) -> Result<(), AllocError>
+    ensures { OnOk result (map (λ n. n.now) names.new.items
+        ≡ with_name (map (λ n. n.now) names.old.items) name.now) }
+{
+    if is_among(name, names) {
+        return Ok(());
+    }
+    names.push(name)?;
+    Ok(())
+}
+
+/// Adds names, each once.
+fn push_names<'a>(names: &mut Vec<&'a str>, items: &'a [Value]) -> Result<(), AllocError>
+    ensures { OnOk result (map (λ n. n.now) names.new.items
+        ≡ fold with_name (map (λ n. n.now) names.old.items) (map text_of (map view items.now))) }
+{
+    for value in items {
+        push_name(names, text_of(value))?;
+    }
+    Ok(())
+}
+
+/// Adds the one name of a rule, where it has one.
+fn push_one_name<'a>(names: &mut Vec<&'a str>, value: &'a Value) -> Result<(), AllocError>
+    ensures { OnOk result (map (λ n. n.now) names.new.items
+        ≡ fold with_name (map (λ n. n.now) names.old.items)
+        (one_name (at (codes "name") (view value.now)))) }
+{
+    match at(value, "name") {
+        Some(name) => push_name(names, text_of(name)),
+        None => Ok(()),
+    }
+}
+
+/// Adds the names of a rule, each once.
+#[tactic(auto, using(crate::proofs::PlanLemmas::fold_both))]
+fn push_names_of<'a>(names: &mut Vec<&'a str>, value: &'a Value) -> Result<(), AllocError>
+    ensures { OnOk result (map (λ n. n.now) names.new.items
+        ≡ fold with_name (map (λ n. n.now) names.old.items) (names_of (view value.now))) }
+{
+    push_names(names, items_at(value, "names"))?;
+    push_one_name(names, value)
+}
+
+/// Adds the names of a rule, each once, if it applies.
+fn push_names_where<'a>(
+    names: &mut Vec<&'a str>,
+    settings: &Settings,
+    value: &'a Value,
+) -> Result<(), AllocError>
+    ensures { OnOk result (map (λ n. n.now) names.new.items
+        ≡ fold with_name (map (λ n. n.now) names.old.items)
+        (names_where settings.now (view value.now))) }
+{
+    if applies(settings, value) {
+        return push_names_of(names, value);
+    }
+    Ok(())
+}
+
+/// The names of the rules that apply, each once, in the order of first mention.
+#[tactic(auto, using(crate::proofs::PlanLemmas::fold_both))]
+pub(crate) fn applied_names<'a>(
+    alloc: Global,
+    settings: &Settings,
+    value: &'a Value,
+) -> Result<Vec<&'a str>, AllocError>
+    ensures { IfOk result (λ v. map (λ n. n.now) v.items
+        ≡ applied_names settings.now (view value.now)) }
+{
+    let mut names = Vec::new(alloc);
+    for rule in items_at(value, "syscalls") {
+        push_names_where(&mut names, settings, rule)?;
+    }
+    Ok(names)
+}
+
+/// Whether one of the files of names has a number for the name.
+fn is_known(calls: &[Calls], name: &str) -> bool
+    ensures { result ≡ list_any (λ (c : ACalls). is_some
+        (number_where (Some c) name.now)) calls.now }
+{
+    calls.iter().any(|one| one.number_of(name).is_some())
+}
+
+/// Whether no file of names has the name.
+fn is_unknown(settings: &Settings, name: &str) -> bool
+    ensures { result ≡ is_unknown settings.now name.now }
+{
+    !is_known(&settings.calls, name)
+}
+
+/// The names that no file of names has.
+fn unknown_names<'a>(
+    alloc: Global,
+    settings: &Settings,
+    names: &[&'a str],
+) -> Result<Vec<&'a str>, AllocError>
+    ensures { IfOk result (λ v. map (λ n. n.now) v.items
+        ≡ filter (is_unknown settings.now) (map (λ n. n.now) names.now)) }
+{
+    let mut unknown = Vec::new(alloc);
+    for name in names {
+        if is_unknown(settings, name) {
+            unknown.push(*name)?;
+        }
+    }
+    Ok(unknown)
+}
+
+/// How many rules apply.
+fn applied_count(settings: &Settings, items: &[Value]) -> usize
+    ensures { result ≡ applied_count settings.now (map view items.now) }
+{
+    let mut count = 0usize;
+    for value in items {
+        if applies(settings, value) {
+            count += 1;
+        }
+    }
+    count
+}
+
+/// Adds the line of the default.
+fn push_default(text: &mut String, response: Response) -> Result<(), AllocError>
+    ensures { OnOk result (string_bytes text.new ≡ string_bytes text.old
+        ++ default_line response) }
+{
+    let name = response_name(response);
+    let data = response_data(response);
+    write!(text, "default {name} {data}\n")
+}
+
+/// Adds the name of a set, with a blank before it.
+fn push_set_words(text: &mut String, set: CallSet) -> Result<(), AllocError>
+    ensures { OnOk result (string_bytes text.new ≡ string_bytes text.old ++ set_words set) }
+{
+    text.push_str(" ")?;
+    text.push_str(set_text(set))
+}
+
+/// Adds the names of sets, with a blank before each.
+fn push_sets_words(text: &mut String, sets: &[CallSet]) -> Result<(), AllocError>
+    ensures { OnOk result (string_bytes text.new ≡ string_bytes text.old
+        ++ flat_map set_words sets.now) }
+{
+    for set in sets {
+        push_set_words(text, *set)?;
+    }
+    Ok(())
+}
+
+/// Adds the line of the sets.
+fn push_sets(text: &mut String, sets: &[CallSet]) -> Result<(), AllocError>
+    ensures { OnOk result (string_bytes text.new ≡ string_bytes text.old ++ sets_line sets.now) }
+{
+    text.push_str("sets")?;
+    push_sets_words(text, sets)?;
+    text.push_str("\n")
+}
+
+/// Adds the line of the counts.
+fn push_counts(
+    text: &mut String,
+    rules: usize,
+    applied: usize,
+    names: usize,
+    unknown: usize,
+) -> Result<(), AllocError>
+    ensures { OnOk result (string_bytes text.new ≡ string_bytes text.old
+        ++ counts_line rules applied names unknown) }
+{
+    write!(
+        text,
+        "rules {rules} applied {applied} names {names} unknown {unknown}\n"
+    )
+}
+
+/// Adds a line for a name that no file has.
+fn push_unknown(text: &mut String, name: &str) -> Result<(), AllocError>
+    ensures { OnOk result (string_bytes text.new ≡ string_bytes text.old
+        ++ unknown_line name.now) }
+{
+    write!(text, "unknown {name}\n")
+}
+
+/// Adds a line for each name that no file has.
+fn push_all_unknown(text: &mut String, names: &[&str]) -> Result<(), AllocError>
+    ensures { OnOk result (string_bytes text.new ≡ string_bytes text.old
+        ++ flat_map unknown_line (map (λ n. n.now) names.now)) }
+{
+    for name in names {
+        push_unknown(text, name)?;
+    }
+    Ok(())
+}
+
+/// What is told of a profile whose filter has so many instructions.
+pub(crate) fn notes_text(
+    alloc: Global,
+    settings: &Settings,
+    value: &Value,
+    size: usize,
+) -> Result<String, AllocError>
+    ensures { IfOk result (λ text. string_bytes text
+        ≡ notes_text settings.now (view value.now) size) }
+{
+    let rules = items_at(value, "syscalls");
+    let names = applied_names(alloc, settings, value)?;
+    let unknown = unknown_names(alloc, settings, &names)?;
+    let sets = sets_of(alloc, settings, value)?;
+    let mut text = String::from_str(alloc, "seccomp_audit profile 1\n")?;
+    push_default(
+        &mut text,
+        response_at(value, "defaultAction", "defaultErrnoRet"),
+    )?;
+    push_sets(&mut text, &sets)?;
+    push_counts(
+        &mut text,
+        rules.len(),
+        applied_count(settings, rules),
+        names.len(),
+        unknown.len(),
+    )?;
+    push_all_unknown(&mut text, &unknown)?;
+    write!(text, "total instructions {size}\n")?;
+    Ok(text)
+}

@@ -1,0 +1,183 @@
+//! Reading a JSON tree.
+
+ghost use Rattle.std.specs.Prelude.{◌≡◌, map, option_map, Some, is_some, string_bytes};
+ghost use Rattle.std.specs.BTreeMap.{keys};
+ghost use Rattle.std.specs.List.{list_any, list_all};
+ghost use Rattle.std.specs.Str.{bytes_eq};
+ghost use Rattle.serde_json.specs.View.{items_view, members_view, view};
+ghost use Rattle.sf_profile.specs.Trees.{absent_or, at, has_only, is_list_of, is_text, is_whole, item_list, listed, keys_are_among, present, text_of, text_where, whole_of, whole_where};
+
+use serde_json::{Map, Value};
+
+/// The value at a key; none where the key is absent, or its value is null.
+pub(crate) fn at<'a>(value: &'a Value, key: &str) -> Option<&'a Value>
+    ensures { option_map (λ v. view v.now) result ≡ at key.now (view value.now) }
+{
+    let found = value.get(key)?;
+    if found.is_null() { None } else { Some(found) }
+}
+
+/// The same items. For the prover: seen as those of an array.
+fn array_items(items: &[Value]) -> &[Value]
+    ensures { map view result.now ≡ item_list (items_view items.now) }
+{
+    items
+}
+
+/// The items of a value, none where it is no array.
+fn items_of(value: &Value) -> &[Value]
+    ensures { map view result.now ≡ listed (Some (view value.now)) }
+{
+    match value {
+        Value::Array(items) => array_items(items),
+        _ => &[],
+    }
+}
+
+/// The items at a key, none where there is no array.
+pub(crate) fn items_at<'a>(value: &'a Value, key: &str) -> &'a [Value]
+    ensures { map view result.now ≡ listed (at key.now (view value.now)) }
+{
+    match at(value, key) {
+        Some(found) => items_of(found),
+        None => &[],
+    }
+}
+
+/// The text of a value, empty where it is none.
+pub(crate) fn text_of(value: &Value) -> &str
+    ensures { result.now ≡ text_of (view value.now) }
+{
+    value.as_str().unwrap_or("")
+}
+
+/// The text at a key, empty where there is none.
+pub(crate) fn text_at<'a>(value: &'a Value, key: &str) -> &'a str
+    ensures { result.now ≡ text_where (at key.now (view value.now)) }
+{
+    match at(value, key) {
+        Some(found) => text_of(found),
+        None => "",
+    }
+}
+
+/// The whole number that a value is; none where it isn't one, or has more than 64 bits.
+fn whole_of(value: &Value) -> Option<i128>
+    ensures { result ≡ whole_of (view value.now) }
+{
+    value.as_number()?.as_i128()
+}
+
+/// The whole number at a key, where there is one.
+pub(crate) fn whole_at(value: &Value, key: &str) -> Option<i128>
+    ensures { result ≡ whole_where (at key.now (view value.now)) }
+{
+    whole_of(at(value, key)?)
+}
+
+/// Whether the text is one of these texts.
+pub(crate) fn is_among(text: &str, texts: &[&str]) -> bool
+    ensures { result ≡ list_any (λ t. bytes_eq text.now t.now) texts.now }
+{
+    texts.iter().any(|t| text == *t)
+}
+
+/// Whether each key of an object is among the known keys.
+fn has_only_keys(map: &Map<String, Value>, known: &[&str]) -> bool
+    ensures { result ≡ list_all (λ key. list_any (λ k. bytes_eq (string_bytes key) k.now)
+        known.now) (keys map.now) }
+{
+    map.keys().all(|key| is_among(key.as_str(), known))
+}
+
+/// Whether an object's members have only these keys.
+fn keys_are_among(object: &Map<String, Value>, known: &[&str]) -> bool
+    ensures { result ≡ keys_are_among (map (λ k. k.now) known.now)
+        (members_view object.now.entries) }
+{
+    has_only_keys(object, known)
+}
+
+/// Whether a value is an object that has only these keys.
+pub(crate) fn has_only(value: &Value, known: &[&str]) -> bool
+    ensures { result ≡ has_only (map (λ k. k.now) known.now) (view value.now) }
+{
+    match value {
+        Value::Object(object) => keys_are_among(object, known),
+        _ => false,
+    }
+}
+
+/// Whether each value is a text.
+fn are_each_texts(items: &[Value]) -> bool
+    ensures { result ≡ list_all (λ v. is_text (view v)) items.now }
+{
+    items.iter().all(|value| value.is_string())
+}
+
+/// Whether each value is a text. For the prover: over their trees.
+fn are_texts(items: &[Value]) -> bool
+    ensures { result ≡ list_all is_text (item_list (items_view items.now)) }
+{
+    are_each_texts(items)
+}
+
+/// Whether a value is an array of texts.
+fn is_text_list(value: &Value) -> bool
+    ensures { result ≡ is_list_of is_text (view value.now) }
+{
+    match value {
+        Value::Array(items) => are_texts(items),
+        _ => false,
+    }
+}
+
+/// Whether there is an array of texts at a key.
+pub(crate) fn has_texts(value: &Value, key: &str) -> bool
+    ensures { result ≡ present (is_list_of is_text) (at key.now (view value.now)) }
+{
+    match at(value, key) {
+        Some(found) => is_text_list(found),
+        None => false,
+    }
+}
+
+/// Whether a key is absent, or has an array of texts.
+pub(crate) fn has_texts_or_none(value: &Value, key: &str) -> bool
+    ensures { result ≡ absent_or (is_list_of is_text) (at key.now (view value.now)) }
+{
+    match at(value, key) {
+        Some(found) => is_text_list(found),
+        None => true,
+    }
+}
+
+/// Whether there is a text at a key.
+pub(crate) fn has_text(value: &Value, key: &str) -> bool
+    ensures { result ≡ present is_text (at key.now (view value.now)) }
+{
+    match at(value, key) {
+        Some(found) => found.is_string(),
+        None => false,
+    }
+}
+
+/// Whether there is a whole number at a key.
+pub(crate) fn has_whole(value: &Value, key: &str) -> bool
+    ensures { result ≡ present is_whole (at key.now (view value.now)) }
+{
+    match at(value, key) {
+        Some(found) => whole_of(found).is_some(),
+        None => false,
+    }
+}
+
+/// Whether a key is absent, or has a whole number.
+pub(crate) fn has_whole_or_none(value: &Value, key: &str) -> bool
+    ensures { result ≡ absent_or is_whole (at key.now (view value.now)) }
+{
+    match at(value, key) {
+        Some(found) => whole_of(found).is_some(),
+        None => true,
+    }
+}
