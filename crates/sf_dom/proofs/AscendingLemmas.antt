@@ -10,7 +10,7 @@ use Rattle.std.specs.List.Sorted.{IsBinarySearchResult, IsSorted}
 use Rattle.std.specs.Ordering.{nat_cmp}
 use Rattle.std.specs.Prelude.{Contains, MatchOption, Result, Ok, Err}
 use Rattle.std.specs.Result.{result_ok}
-use Rattle.sf_dom.specs.Ascending.{AreAscending, IsBetweenEnds}
+use Rattle.sf_dom.specs.Ascending.{AreAscending}
 
 -- a number that isn't at the place where it would stand is nowhere in the list
 absent : (xs : List ℕ) (n at : ℕ) → ((k : ℕ) → k < at → get_or xs k 0 < n)
@@ -24,10 +24,6 @@ place-found xs n (Ok i) rising found = searched xs n (Ok i) found rising
 place-found xs n (Err i) rising found =
     let at = searched xs n (Err i) found rising in
     absent xs n i at.1 at.2
-
--- what stands in an ascending list is between its ends
-pub between-ends : (xs : List ℕ) (n : ℕ) → AreAscending xs → Contains xs n → IsBetweenEnds xs n
-between-ends xs n rising w = search (arith, get_or_default)
 
 -- two lists, one behind the other, where the second gets one more number
 pub more-behind : (xs ys ys' : List ℕ) (n : ℕ) → ((m : ℕ) → Contains ys' m ↔ (Contains ys m ⊎ (m ≡ n)))

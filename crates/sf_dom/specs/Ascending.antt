@@ -10,10 +10,6 @@ use Rattle.sf_dom.specs.declared.numbers.Found.TheVariants.{Older, Newer, Nowher
 abbrev pub AreAscending : List ℕ → Type 0
 AreAscending xs = (i j : ℕ) → i ≤ j → j < length xs → slice_index xs i ≤ slice_index xs j
 
--- n is neither below the first number nor above the last one
-abbrev pub IsBetweenEnds : List ℕ → ℕ → Type 0
-IsBetweenEnds xs n = (0 < length xs) × (slice_index xs 0 ≤ n) × (n ≤ slice_index xs (length xs - 1))
-
 -- in which of two lists, an older and a newer one, a number was found
 abbrev pub IsFound : List ℕ → List ℕ → ℕ → Found → Type 0
 IsFound xs ys n (Older i) = (i < length xs) × (slice_index xs i ≡ n)

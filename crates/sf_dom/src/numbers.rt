@@ -3,7 +3,7 @@
 ghost use Rattle.std.specs.Prelude.{◌≡◌, ℕ, ◌<◌, ◌≤◌, ◌↔◌, ◌⊎◌, ◌∷◌, ◌++◌, [], length, slice_index, IfOk, IsTrue, Contains, MatchOption};
 ghost use Rattle.std.specs.Arc.{arc_slice_items};
 ghost use Rattle.std.specs.List.{insert};
-ghost use Rattle.sf_dom.specs.Ascending.{AreAscending, IsBetweenEnds, IsFound, shared_items};
+ghost use Rattle.sf_dom.specs.Ascending.{AreAscending, IsFound, shared_items};
 
 use crate::fault::Fault;
 use smallvec::SmallVec;
@@ -77,18 +77,13 @@ fn items_of(list: &Option<ArcSlice<u32>>) -> &[u32]
     }
 }
 
-/// The place of a number in an ascending list; `None` where it isn't there. Most numbers that are looked for lie outside
-/// the list, and need no search.
+/// The place of a number in an ascending list; `None` where it isn't there.
 fn place_in(list: &[u32], number: u32) -> Option<usize>
     requires { AreAscending list.now }
     ensures { MatchOption result (¬ Contains list.now number) (λ at. (at < length list.now)
         × (slice_index list.now at ≡ number)) }
 {
-    if is_between_ends(list, number) {
-        list.binary_search(&number).ok()
-    } else {
-        None
-    }
+    list.binary_search(&number).ok()
 }
 
 /// Whether a number stands in an ascending list.
@@ -116,14 +111,6 @@ fn find(older: &[u32], newer: &[u32], number: u32) -> Found
             }
         }
     }
-}
-
-/// Whether a number lies between the first number of a list and its last.
-fn is_between_ends(list: &[u32], number: u32) -> bool
-    ensures { IsTrue result ↔ IsBetweenEnds list.now number }
-{
-    let count = list.len();
-    count > 0 && list[0] <= number && number <= list[count - 1]
 }
 
 /// A list with one more number at a place. `Memory` where an allocation is refused.
