@@ -62,9 +62,8 @@ fn carried_facts_are_those_built_afresh(rt: HostRuntime) -> Result<(), Fail> {
     Ok(())
 }
 
-/// The quotient is node 49 in the pools of `eight_divided`: the words are nodes 0 to 15; then come the number 8, the 31
-/// other numbers of one bit, since a returned A may have each bit, and the number 0.
-const QUOTIENT: NodeId = NodeId(49);
+/// The quotient is node 18 in the pools of `eight_divided`: the words are nodes 0 to 15; then come the numbers 0 and 8.
+const QUOTIENT: NodeId = NodeId(18);
 
 /// Writes what is known of word 4, and of the quotient where the pool has it.
 fn write_known(text: &mut String, piece: &Piece) -> Result<(), Fail> {

@@ -128,8 +128,8 @@ fn a_settled_work_has_no_children(rt: HostRuntime) -> Result<(), Fail> {
 fn a_piece_tells_its_facts_and_its_pool(rt: HostRuntime) -> Result<(), Fail> {
     let work = first_work(rt.alloc())?;
     let (_on_false, on_true) = work.children().ok_or("no children")?;
-    // The words, the two numbers of the program, and 0.
+    // The words, 0, and the number of the test.
     let told = (on_true.facts().least(1), on_true.pool().len());
-    assert_eq!(rt; told, (Some(0xC000003E), 19));
+    assert_eq!(rt; told, (Some(0xC000003E), 18));
     Ok(())
 }

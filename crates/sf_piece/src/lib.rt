@@ -11,7 +11,6 @@ mod fault;
 mod machine;
 mod name;
 mod nodes;
-mod numbers;
 mod piece;
 mod root_piece;
 mod run;

@@ -7,7 +7,6 @@ ghost use Rattle.sf_piece.specs.Pieces.{IsRoot};
 use crate::fault::Fault;
 use crate::machine::SymbolicMachine;
 use crate::name::Name;
-use crate::numbers::add_numbers;
 use crate::piece::Piece;
 use crate::run::{Conditions, Run};
 use sf_check::Stack;
@@ -24,7 +23,6 @@ pub fn root(alloc: Global, stack: &Arc<Stack>) -> Result<Arc<Piece>, Fault>
     // For the prover: the stack is lawful.
     let _programs = stack.programs();
     let mut pool = Pool::new(alloc)?;
-    add_numbers(&mut pool, stack)?;
     let zero = pool.push(Node::Const(0))?;
     let facts = Facts::new(alloc, &pool)?;
     let conditions = Conditions::new(alloc)?;

@@ -9,7 +9,7 @@ invariant_of-new c =
     (lawful_first _ c.push.new.self c.in_ok-zero.zero c.in_ok-facts.facts
     (rw c.deref.ensures at c.programs-programs.ensures.lawful) c.in_ok-zero.ensures.lawful
     c.in_ok-zero.ensures.within c.in_ok-zero.ensures.value c.in_ok-facts.ensures.covers c.in_ok-facts.ensures.sound
-    (c.in_ok-zero.ensures.plain 0 refl c.in_ok-add_numbers.ensures))
+    (c.in_ok-zero.ensures.plain 0 refl c.in_ok-pool.ensures.plain))
 
 pub returns : goal.returns
 returns c =
@@ -18,4 +18,4 @@ returns c =
     (lawful_first _ c.push.new.self c.in_ok-zero.zero c.in_ok-facts.facts
     (rw c.deref.ensures at c.programs-programs.ensures.lawful) c.in_ok-zero.ensures.lawful
     c.in_ok-zero.ensures.within c.in_ok-zero.ensures.value c.in_ok-facts.ensures.covers c.in_ok-facts.ensures.sound
-    (c.in_ok-zero.ensures.plain 0 refl c.in_ok-add_numbers.ensures)))
+    (c.in_ok-zero.ensures.plain 0 refl c.in_ok-pool.ensures.plain)))
