@@ -1,5 +1,5 @@
 -- What comparisons of a written filter ask.
-use Rattle.std.proofs.Common.{◌≡◌, ℕ, zero, suc, ◌+◌, ◌*◌, ◌/◌, ◌%◌, ◌^◌, ◌<◌, ◌≤◌, List, [], ◌∷◌, ◌++◌, append_assoc, Bool, true, false, length, Option, Some, None, refl, ap, ◌∙◌, subst, sym, arith, ltb, leb, eqb, lt-ltb, le-ltb, eq-eqb}
+use Rattle.std.proofs.Common.{◌≡◌, ℕ, ◌+◌, ◌*◌, ◌%◌, ◌^◌, ◌<◌, List, [], ◌∷◌, ◌++◌, append_assoc, Bool, true, false, length, Option, refl, ap, ◌∙◌, sym, arith}
 use Rattle.std.specs.Prelude.{if◌then◌else◌, ◌==◌, ◌&&◌, not, nat_lt, nat_le, bit_and, slice_index}
 use Rattle.std.specs.List.{list_all}
 use Rattle.std.proofs.lemmas.Bool.Decides.{nat_tests}
@@ -14,9 +14,9 @@ use Rattle.sf_profile.specs.declared.rules.Comparing.{Comparing}
 use Rattle.sf_profile.specs.declared.rules.Comparing.TheVariants.{NotEqual, Less, LessOrEqual, Equal, GreaterOrEqual, Greater, MaskedEqual}
 use Rattle.sf_profile.specs.declared.rules.Comparison.{Comparison}
 use Rattle.sf_profile.specs.declared.instruction.Instruction.{Instruction}
-use Rattle.sf_profile.specs.declared.instruction.Instruction.TheVariants.{Load, Mask, Branch, Skip, Return}
+use Rattle.sf_profile.specs.declared.instruction.Instruction.TheVariants.{Load, Mask, Branch}
 use Rattle.sf_profile.specs.Meaning.{word_of, argument_in, cut, compares, holds}
-use Rattle.sf_profile.specs.Form.{high, low, equal_code, order_code, test_code, wide_code, masked_code, comparing_code, comparison_code, comparisons_code}
+use Rattle.sf_profile.specs.Form.{high, low, equal_code, order_code, test_code, masked_code, comparing_code, comparison_code, comparisons_code}
 use Rattle.sf_profile.proofs.Returns.{returned, skip_more}
 
 -- what comes next returns this, whatever A is, where so many instructions are skipped

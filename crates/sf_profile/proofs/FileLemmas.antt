@@ -1,6 +1,7 @@
 -- The filter of a file is that of its profile.
-use Rattle.std.proofs.Common.{◌≡◌, ◌⊎◌, inl, inr, ℕ, ◌<◌, List, length, Option, Some, None, Result, Ok, Err, sym}
+use Rattle.std.proofs.Common.{◌≡◌, ◌⊎◌, inl, inr, ℕ, ◌<◌, List, length, Some, None, Result, Ok, Err}
 use Rattle.std.specs.Prelude.{IfOk, IfErr}
+use Rattle.std.specs.List.{flat_map}
 use Rattle.serde_json.specs.Data.{Data}
 use Rattle.sf_profile.specs.declared.fault.Fault.{Fault}
 use Rattle.sf_profile.specs.declared.fault.Fault.TheVariants as faults
@@ -9,7 +10,7 @@ use Rattle.sf_profile.specs.Form.{form}
 use Rattle.sf_profile.specs.Plans.{plan_of}
 use Rattle.sf_profile.specs.Refusals.{profile_in, profile_refusal, refusal_of}
 use Rattle.sf_profile.specs.Filters.{IsFilterOf, MakesFilter, IsRefused}
-use Rattle.sf_profile.specs.Notes.{AreNotesOf, AreNotesOfFile}
+use Rattle.sf_profile.specs.Notes.{AreNotesOf, AreNotesOfFile, AreUnknownIn, name_word, unknown_names}
 
 pub file_made : {V : Type 0} (r : Result V Fault) (items : V → List ℕ) (s : Settings) (file profile : Data)
     → profile_in file ≡ Some profile → IfOk r (λ v. profile_refusal s profile ≡ None)
@@ -42,3 +43,9 @@ pub file_told : {V : Type 0} (r : Result V Fault) (text : V → List ℕ) (s : S
     → IfOk r (λ v. AreNotesOfFile s file (text v))
 file_told (Ok v) text s file profile e n = record { profile = profile; is_there = e; notes_are = n }
 file_told (Err fault) text s file profile e n = tt
+
+pub file_unknown : {V : Type 0} (r : Result V Fault) (words : V → List ℕ) (s : Settings) (file profile : Data)
+    → profile_in file ≡ Some profile → IfOk r (λ v. words v ≡ flat_map name_word (unknown_names s profile))
+    → IfOk r (λ v. AreUnknownIn s file (words v))
+file_unknown (Ok v) words s file profile e h = record { profile = profile; is_there = e; words_are = h }
+file_unknown (Err fault) words s file profile e h = tt

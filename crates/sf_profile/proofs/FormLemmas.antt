@@ -1,26 +1,24 @@
 -- A written filter answers each input as the profile means.
-use Rattle.std.proofs.Common.{◌≡◌, ℕ, ◌+◌, ◌<◌, ◌≤◌, ◌^◌, ◌-◌, List, [], ◌∷◌, ◌++◌, append_assoc, Bool, true, false, length, map, Option, Some, None, refl, ap, ◌∙◌, subst, sym, arith}
+use Rattle.std.proofs.Common.{◌≡◌, ℕ, ◌≤◌, ◌^◌, List, [], ◌∷◌, ◌++◌, append_assoc, Bool, true, false, length, map, Option, Some, None, refl, ap, ◌∙◌, subst, sym, arith}
 use Rattle.std.specs.Prelude.{if◌then◌else◌, ◌&&◌, ◌||◌, ◌==◌, not, nat_lt, nat_le, filter, find}
 use Rattle.std.specs.List.{flat_map}
 use Rattle.std.proofs.lemmas.Bool.Decides.{nat_tests}
 use Rattle.sf_insn.specs.declared.input.Input.{Input}
 use Rattle.sf_insn.specs.Inputs.{IsInput}
 use Rattle.sf_insn.specs.declared.ops.Test.TheVariants as tests
-use Rattle.sf_check.specs.declared.insn.Insn.{Insn}
-use Rattle.sf_run.specs.Machine.{return_of}
 use Rattle.sf_run.specs.Answers.{Answers, IsAnswer}
 use Rattle.sf_profile.specs.declared.rules.CallSet.{CallSet}
 use Rattle.sf_profile.specs.declared.rules.CallSet.TheVariants.{X64, X32, I386, Aarch64, Arm}
 use Rattle.sf_profile.specs.declared.rules.Response.{Response}
-use Rattle.sf_profile.specs.declared.rules.Response.TheVariants.{Errno, KillThread}
+use Rattle.sf_profile.specs.declared.rules.Response.TheVariants.{Errno}
 use Rattle.sf_profile.specs.declared.instruction.Instruction.{Instruction}
 use Rattle.sf_profile.specs.declared.instruction.Instruction.TheVariants.{Load, Branch, Skip, Return}
 use Rattle.sf_profile.specs.Data.{RuleData, PartData, PlanData}
-use Rattle.sf_profile.specs.Meaning.{number_in, arch_in, arch_of, is_wide, is_x64_number, is_of_set, has_number, says, pick, is_newer, refuses_newer, response_of, response_in, response_at, answer_of, meaning}
+use Rattle.sf_profile.specs.Meaning.{number_in, arch_in, arch_of, is_wide, is_x64_number, is_of_set, says, pick, is_newer, refuses_newer, response_of, response_in, response_at, answer_of, meaning}
 use Rattle.sf_profile.specs.Form.{newer_where, round_code, places, body_code, set_code, part_code, form, value_of}
 use Rattle.sf_profile.proofs.Returns.{returned, skip_all}
 use Rattle.sf_profile.proofs.ComparisonLemmas.{Goes, choose}
-use Rattle.sf_profile.proofs.RuleLemmas.{after_rule, first_in, passes_go}
+use Rattle.sf_profile.proofs.RuleLemmas.{after_rule, passes_go}
 use Rattle.sf_profile.proofs.PickLemmas.{pick_is}
 use Rattle.sf_profile.proofs.NewerLemmas.{newer_goes}
 use Rattle.sf_profile.proofs.AnswerLemmas.{answers}

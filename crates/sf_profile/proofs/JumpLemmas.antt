@@ -1,5 +1,5 @@
 -- The jumps of a written filter lead inside it.
-use Rattle.std.proofs.Common.{◌≡◌, ℕ, zero, suc, ◌+◌, ◌<◌, ◌≤◌, List, [], ◌∷◌, ◌++◌, Bool, true, false, length, length-append, Option, Some, None, refl, ap, ◌∙◌, subst, sym, arith}
+use Rattle.std.proofs.Common.{◌≡◌, ℕ, ◌+◌, ◌<◌, ◌≤◌, List, [], ◌∷◌, ◌++◌, Bool, true, false, length, length-append, Option, Some, None, arith}
 use Rattle.std.specs.Prelude.{if◌then◌else◌, ◌==◌, nat_lt, ◌&&◌, ◌^◌}
 use Rattle.std.specs.List.{flat_map}
 use Rattle.sf_insn.specs.declared.ops.Test.{Test}
@@ -11,13 +11,12 @@ use Rattle.sf_profile.specs.declared.rules.Argument.TheVariants.{Arg0, Arg1, Arg
 use Rattle.sf_profile.specs.declared.rules.Comparing.{Comparing}
 use Rattle.sf_profile.specs.declared.rules.Comparing.TheVariants.{NotEqual, Less, LessOrEqual, Equal, GreaterOrEqual, Greater, MaskedEqual}
 use Rattle.sf_profile.specs.declared.rules.Comparison.{Comparison}
-use Rattle.sf_profile.specs.declared.rules.Call.{Call}
 use Rattle.sf_profile.specs.declared.rules.Reading.{Reading}
 use Rattle.sf_profile.specs.declared.instruction.Instruction.{Instruction}
 use Rattle.sf_profile.specs.declared.instruction.Instruction.TheVariants.{Load, Mask, Branch, Skip, Return}
 use Rattle.sf_profile.specs.Data.{RuleData, PartData, PlanData}
 use Rattle.sf_profile.specs.Meaning.{is_wide, word_of, order, refuses_newer}
-use Rattle.sf_profile.specs.Form.{test_code, wide_code, masked_code, comparing_code, comparison_code, comparisons_code, return_code, direct_code, through_code, operation_code, call_code, rule_code, rule_at, round_code, places, newer_code, newer_where, above_rules, body_code, set_code, part_code, form, value_of}
+use Rattle.sf_profile.specs.Form.{test_code, wide_code, masked_code, comparing_code, comparison_code, comparisons_code, return_code, direct_code, through_code, operation_code, call_code, rule_code, rule_at, round_code, places, newer_where, above_rules, body_code, set_code, part_code, form, value_of}
 
 -- an instruction is in range, and goes on inside, where so many instructions follow it
 abbrev pub Leads : Instruction → ℕ → Type 0

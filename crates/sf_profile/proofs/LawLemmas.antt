@@ -1,15 +1,20 @@
 -- Laws of what a profile means.
-use Rattle.std.proofs.Common.{◌≡◌, ℕ, ◌-◌, ◌<◌, ◌≤◌, List, [], ◌∷◌, Bool, true, false, Option, Some, None, refl, ap, ◌∙◌, subst, sym, arith, ◌⊎◌, inl, inr, lt-ltb, le-ltb}
-use Rattle.std.specs.Prelude.{if◌then◌else◌, ◌&&◌, nat_lt, filter}
+use Rattle.std.proofs.Common.{◌≡◌, ◌<◌, ◌≤◌, List, [], ◌∷◌, Bool, true, false, Option, Some, None, refl, ap, ◌∙◌, sym, arith, ◌⊎◌, inl, inr, lt-ltb, le-ltb}
+use Rattle.std.specs.Prelude.{All, if◌then◌else◌, ◌&&◌, nat_lt, filter}
 use Rattle.std.proofs.lemmas.Bool.{cases_lt}
+use Rattle.std.proofs.lemmas.List.Elements.{All-head, All-tail}
 use Rattle.std.proofs.lemmas.Option.{same_Some}
+use Rattle.serde_json.specs.Data.{Data}
 use Rattle.sf_insn.specs.declared.input.Input.{Input}
+use Rattle.sf_run.specs.Answers.{action_number, rank}
 use Rattle.sf_profile.specs.declared.rules.Reading.{Reading}
 use Rattle.sf_profile.specs.declared.rules.Reading.TheVariants.{Strictest, Mildest}
 use Rattle.sf_profile.specs.declared.rules.Response.{Response}
-use Rattle.sf_profile.specs.declared.rules.Response.TheVariants.{Errno}
+use Rattle.sf_profile.specs.declared.rules.Response.TheVariants.{KillProcess, KillThread, Trap, Errno, Notify, Tracer, Log, Allow}
+use Rattle.sf_profile.specs.declared.settings.Settings.{Settings}
 use Rattle.sf_profile.specs.Data.{RuleData, PartData, PlanData}
-use Rattle.sf_profile.specs.Meaning.{number_in, is_wide, says, response_of, refuses_newer, is_newer, response_in, order, preferred, pick, strictness}
+use Rattle.sf_profile.specs.Plans.{applies}
+use Rattle.sf_profile.specs.Meaning.{answer_of, number_in, is_wide, says, response_of, refuses_newer, is_newer, response_in, order, preferred, pick, strictness}
 use Rattle.sf_profile.proofs.PickLemmas.{strictness_small}
 
 pub only_newer : (plan : PlanData) (d : Input) (part : PartData) → is_newer (number_in d) part.rules ≡ false
@@ -105,3 +110,48 @@ bounds reading rules a b c p q r =
       least Strictest rules a b p there,
       omega (arith, least Mildest rules c b r there, strictness_small b.response, strictness_small c.response),
     )
+
+-- one of some rules has the response that all of them have
+has_the_response : (rules : List RuleData) (response : Response) (q : RuleData)
+    → All (λ (r : RuleData). r.response ≡ response) rules → IsAmong q rules → q.response ≡ response
+has_the_response [] response q all h = absurd h
+has_the_response (rule ∷ rules) response q all (inl own) =
+    ap (λ (r : RuleData). r.response) own ∙ All-head (λ (r : RuleData). r.response ≡ response) rule rules all
+has_the_response (rule ∷ rules) response q all (inr other) =
+    has_the_response rules response q (All-tail (λ (r : RuleData). r.response ≡ response) rule rules all) other
+
+pub agreed : (reading : Reading) (rules : List RuleData) (response : Response) (a : RuleData)
+    → All (λ (r : RuleData). r.response ≡ response) rules → pick reading rules ≡ Some a → a.response ≡ response
+agreed reading rules response a all e = has_the_response rules response a all (among reading rules a e)
+
+-- ---- rules apply by their words
+
+-- the settings with other calls, and others that no rule's words speak of
+pub applied_by_words : (s t : Settings) (rule : Data) → s.machine ≡ t.machine → s.caps ≡ t.caps → s.kernel ≡ t.kernel
+    → applies s rule ≡ applies t rule
+applied_by_words s t rule machine caps kernel = rw (machine, caps, kernel) refl
+
+-- ---- the order of actions
+
+-- the rank of each action, by the place of a response
+abbrev IsRanked : Response → Type 0
+IsRanked r =
+    let n = rank (action_number (answer_of r).action) in
+    ((strictness r ≡ 0) × (n ≡ 0)) ⊎ ((strictness r ≡ 1) × (n ≡ 0x80000000))
+    ⊎ ((strictness r ≡ 2) × (n ≡ 0x80030000)) ⊎ ((strictness r ≡ 3) × (n ≡ 0x80050000))
+    ⊎ ((strictness r ≡ 4) × (n ≡ 0xffc00000)) ⊎ ((strictness r ≡ 5) × (n ≡ 0xfff00000))
+    ⊎ ((strictness r ≡ 6) × (n ≡ 0xfffc0000)) ⊎ ((strictness r ≡ 7) × (n ≡ 0xffff0000))
+
+ranked : (r : Response) → IsRanked r
+ranked KillProcess = inl (refl, refl)
+ranked KillThread = inr (inl (refl, refl))
+ranked Trap = inr (inr (inl (refl, refl)))
+ranked (Errno number) = inr (inr (inr (inl (refl, refl))))
+ranked Notify = inr (inr (inr (inr (inl (refl, refl)))))
+ranked (Tracer number) = inr (inr (inr (inr (inr (inl (refl, refl))))))
+ranked Log = inr (inr (inr (inr (inr (inr (inl (refl, refl)))))))
+ranked Allow = inr (inr (inr (inr (inr (inr (inr (refl, refl)))))))
+
+pub before_by_rank : (a b : Response) → strictness a < strictness b
+    → rank (action_number (answer_of a).action) < rank (action_number (answer_of b).action)
+before_by_rank a b h = grind (arith, h, ranked a, ranked b)

@@ -1,11 +1,11 @@
 -- A written filter is lawful.
-use Rattle.std.proofs.Common.{◌≡◌, ℕ, zero, suc, ◌+◌, ◌-◌, ◌<◌, ◌≤◌, List, [], ◌∷◌, ◌++◌, length, length-append, map, Option, Some, None, slice_get, option_map, refl, ap, ◌∙◌, subst, sym, arith}
+use Rattle.std.proofs.Common.{◌≡◌, ℕ, zero, suc, ◌+◌, ◌-◌, ◌≤◌, List, [], ◌∷◌, ◌++◌, length, length-append, map, Some, slice_get, refl, ap, ◌∙◌, subst, sym, arith}
 use Rattle.std.proofs.lemmas.Option.{slice_get-map, same_Some}
 use Rattle.std.proofs.lemmas.List.{length-map}
 use Rattle.std.specs.List.{flat_map}
 use Rattle.sf_check.specs.declared.insn.Insn.{Insn}
 use Rattle.sf_check.specs.Insns.{targets, loaded_by, IsInRange, IsReturn}
-use Rattle.sf_check.specs.Programs.{IsAt, AllBelow, EndsInReturn, IsSetAt, IsLawfulProgram}
+use Rattle.sf_check.specs.Programs.{IsAt, AllBelow, IsLawfulProgram}
 use Rattle.sf_run.specs.RunLaws.{option_map_some}
 use Rattle.sf_profile.specs.declared.instruction.Instruction.{Instruction}
 use Rattle.sf_profile.specs.declared.instruction.Instruction.TheVariants.{Load, Mask, Branch, Skip, Return}

@@ -7,6 +7,7 @@ pub mod SpellingLemmas
 pub mod ComparisonLemmas
 pub mod RuleLemmas
 pub mod PickLemmas
+pub mod PlainLemmas
 pub mod NewerLemmas
 pub mod AnswerLemmas
 pub mod FormLemmas

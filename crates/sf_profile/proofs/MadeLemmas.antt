@@ -1,5 +1,5 @@
 -- The bytes that are written are the profile's filter.
-use Rattle.std.proofs.Common.{◌≡◌, ℕ, ◌≤◌, List, Bool, true, length, map, subst, sym, arith}
+use Rattle.std.proofs.Common.{◌≡◌, ℕ, ◌≤◌, List, true, length, map, subst, sym, arith}
 use Rattle.std.proofs.lemmas.Bool.Decides.{nat_tests}
 use Rattle.sf_insn.specs.declared.raw.RawInsn.{RawInsn}
 use Rattle.sf_insn.specs.Spelling.{spelling, AreInsns}
@@ -11,6 +11,7 @@ use Rattle.sf_profile.specs.declared.instruction.Instruction.{Instruction}
 use Rattle.sf_profile.proofs.RunLemmas.{insn_of}
 use Rattle.sf_profile.proofs.JumpLemmas.{form_leads}
 use Rattle.sf_profile.proofs.LawfulLemmas.{form_lawful}
+use Rattle.sf_profile.proofs.PlainLemmas.{form_plain}
 use Rattle.sf_profile.proofs.SpellingLemmas.{spells}
 use Rattle.sf_profile.proofs.FormLemmas.{form_answers}
 
@@ -30,4 +31,5 @@ made plan raws bytes spelled fields same fit = record {
     lawful = form_lawful plan (short (form plan) fit);
   };
   answers = λ d input. form_answers plan d (short (form plan) fit) input;
+  plain = form_plain plan;
 }

@@ -1,16 +1,15 @@
 -- What a written filter returns at calls that are newer than the profile.
-use Rattle.std.proofs.Common.{◌≡◌, ℕ, ◌+◌, ◌<◌, ◌≤◌, ◌^◌, List, [], ◌∷◌, ◌++◌, Bool, true, false, Option, Some, refl, ap, ◌∙◌, subst, sym, arith, inl, inr, ◌⊎◌, lt-ltb, le-ltb, fold, max}
+use Rattle.std.proofs.Common.{◌≡◌, ℕ, ◌+◌, ◌<◌, ◌≤◌, ◌^◌, List, [], ◌∷◌, ◌++◌, Bool, true, false, Some, refl, ap, ◌∙◌, arith, inl, inr, ◌⊎◌, lt-ltb, le-ltb, fold, max}
 use Rattle.std.specs.Prelude.{if◌then◌else◌, ◌&&◌, nat_lt, nat_le}
 use Rattle.std.specs.List.{list_all}
 use Rattle.std.proofs.lemmas.Bool.{cases_lt}
 use Rattle.std.proofs.lemmas.Bool.Decides.{nat_tests}
 use Rattle.sf_insn.specs.declared.input.Input.{Input}
 use Rattle.sf_insn.specs.Inputs.{IsInput}
-use Rattle.sf_insn.specs.declared.ops.Test.TheVariants as tests
 use Rattle.sf_profile.specs.declared.rules.Call.{Call}
 use Rattle.sf_profile.specs.declared.rules.Response.TheVariants.{Errno}
 use Rattle.sf_profile.specs.declared.instruction.Instruction.{Instruction}
-use Rattle.sf_profile.specs.declared.instruction.Instruction.TheVariants.{Branch, Return}
+use Rattle.sf_profile.specs.declared.instruction.Instruction.TheVariants.{Return}
 use Rattle.sf_profile.specs.Data.{RuleData}
 use Rattle.sf_profile.specs.Meaning.{number_in, is_newer}
 use Rattle.sf_profile.specs.Form.{above_calls, above_rules, newer_code, newer_where, value_of}

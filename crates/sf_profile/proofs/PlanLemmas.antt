@@ -1,9 +1,6 @@
 -- The definitions over a profile's rules, at the lists that the code goes through.
-use Rattle.std.proofs.Common.{◌≡◌, ℕ, Bool, List, [], ◌∷◌, ◌++◌, map, fold, refl, ap, ◌∙◌, ◌||◌, ◌&&◌, length, Option}
-use Rattle.std.specs.List.{list_any, list_all, flat_map}
-use Rattle.std.specs.Str.{bytes_eq}
-use Rattle.std.proofs.lemmas.List.Concat.{flat_map-append}
-use Rattle.serde_json.specs.Data.{Data}
+use Rattle.std.proofs.Common.{◌≡◌, ℕ, Bool, List, [], ◌∷◌, ◌++◌, map, fold, refl, ap, ◌||◌, ◌&&◌}
+use Rattle.std.specs.List.{list_any, list_all}
 use Rattle.serde_json.specs.View.{view}
 use Rattle.serde_json.specs.declared.value.Value.{Value}
 use Rattle.sf_profile.specs.Trees.{text_of}

@@ -1,12 +1,11 @@
 -- What the rules of a written filter return.
-use Rattle.std.proofs.Common.{◌≡◌, ℕ, zero, suc, ◌+◌, ◌<◌, ◌≤◌, List, [], ◌∷◌, ◌++◌, append_assoc, Bool, true, false, length, Option, Some, None, refl, ap, ◌∙◌, subst, sym, arith}
+use Rattle.std.proofs.Common.{◌≡◌, ℕ, ◌+◌, List, [], ◌∷◌, ◌++◌, append_assoc, Bool, true, false, length, Option, Some, None, refl, ap, ◌∙◌, sym, arith}
 use Rattle.std.specs.Prelude.{if◌then◌else◌, ◌==◌, ◌&&◌, ◌||◌, filter, slice_index}
 use Rattle.std.specs.List.{list_all, list_any, flat_map}
 use Rattle.sf_insn.specs.declared.input.Input.{Input}
 use Rattle.sf_insn.specs.Inputs.{IsInput}
 use Rattle.sf_insn.specs.declared.ops.Test.TheVariants as tests
 use Rattle.sf_profile.specs.declared.rules.Call.{Call}
-use Rattle.sf_profile.specs.declared.rules.Comparison.{Comparison}
 use Rattle.sf_profile.specs.declared.rules.Reading.{Reading}
 use Rattle.sf_profile.specs.declared.instruction.Instruction.{Instruction}
 use Rattle.sf_profile.specs.declared.instruction.Instruction.TheVariants.{Load, Branch, Return}

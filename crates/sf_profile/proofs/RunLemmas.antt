@@ -1,5 +1,5 @@
 -- A written filter returns on the machine what its instructions return.
-use Rattle.std.proofs.Common.{◌≡◌, ℕ, zero, suc, ◌+◌, List, [], ◌∷◌, ◌++◌, Bool, true, false, length, map, Option, Some, None, slice_get, option_map, refl, ap, ◌∙◌, subst, sym, arith}
+use Rattle.std.proofs.Common.{◌≡◌, ℕ, zero, suc, ◌+◌, List, [], ◌∷◌, ◌++◌, Bool, map, Some, None, slice_get, option_map, refl, ap, ◌∙◌, subst, sym, arith}
 use Rattle.std.specs.Prelude.{bit_and, if◌then◌else◌, slice_index, replicate}
 use Rattle.std.proofs.lemmas.Option.{slice_get-map}
 use Rattle.sf_insn.specs.declared.input.Input.{Input}
@@ -9,7 +9,7 @@ use Rattle.sf_check.specs.declared.insn.Insn.{Insn}
 use Rattle.sf_check.specs.declared.insn.Insn.TheVariants as insns
 use Rattle.sf_check.specs.declared.insn.Operand.TheVariants.{Constant}
 use Rattle.sf_check.specs.Programs.{IsAt, IsLawfulProgram}
-use Rattle.sf_run.specs.Machine.{State, goes, returns, insn_progress, run_for, return_of}
+use Rattle.sf_run.specs.Machine.{State, goes, insn_progress, run_for, return_of}
 use Rattle.sf_run.specs.RunLaws.{run_more, run_ends, value_is}
 use Rattle.sf_profile.specs.declared.instruction.Instruction.{Instruction}
 use Rattle.sf_profile.specs.declared.instruction.Instruction.TheVariants.{Load, Mask, Branch, Skip, Return}

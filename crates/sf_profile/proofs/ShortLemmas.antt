@@ -1,6 +1,6 @@
 -- The jumps of a profile's filter have their widths, where the filter isn't too long.
-use Rattle.std.proofs.Common.{◌≡◌, ℕ, zero, suc, ◌+◌, ◌*◌, ◌<◌, ◌≤◌, ◌^◌, List, [], ◌∷◌, ◌++◌, Bool, true, false, length, length-append, map, Option, Some, None, refl, ap, ◌∙◌, subst, sym, arith, lt-ltb, le-ltb, inl, inr, ◌⊎◌}
-use Rattle.std.specs.Prelude.{if◌then◌else◌, ◌==◌, ◌&&◌, ◌||◌, nat_lt, nat_le, codes}
+use Rattle.std.proofs.Common.{◌≡◌, ℕ, ◌+◌, ◌*◌, ◌<◌, ◌≤◌, ◌^◌, List, [], ◌∷◌, ◌++◌, Bool, true, false, length, length-append, map, Option, Some, None, refl, ◌∙◌, sym, arith, lt-ltb, le-ltb, inl, inr, ◌⊎◌}
+use Rattle.std.specs.Prelude.{if◌then◌else◌, ◌==◌, ◌&&◌, ◌||◌, nat_lt, codes}
 use Rattle.std.specs.List.{flat_map, list_all}
 use Rattle.std.proofs.lemmas.Bool.{cases_lt}
 use Rattle.std.proofs.lemmas.Bool.Decides.{nat_tests}
@@ -19,7 +19,7 @@ use Rattle.sf_profile.specs.declared.instruction.Instruction.TheVariants.{Load, 
 use Rattle.sf_profile.specs.Data.{RuleData, PartData, PlanData}
 use Rattle.sf_profile.specs.declared.settings.Settings.{Settings}
 use Rattle.sf_profile.specs.Meaning.{is_wide, word_of, order, refuses_newer}
-use Rattle.sf_profile.specs.Form.{test_code, wide_code, masked_code, comparing_code, comparison_code, comparisons_code, return_code, direct_code, through_code, operation_code, call_code, rule_code, rule_at, round_code, places, newer_where, above_rules, body_code, set_code, part_code, form, fits, is_short, value_of}
+use Rattle.sf_profile.specs.Form.{test_code, wide_code, masked_code, comparing_code, comparison_code, comparisons_code, return_code, direct_code, operation_code, call_code, rule_code, rule_at, round_code, places, newer_where, above_rules, body_code, set_code, part_code, form, fits, is_short, value_of}
 use Rattle.sf_profile.specs.Plans.{applies, alternatives, compares_twice, comparison_of, rule_of, rules_of, part_of, sets_of, plan_of}
 use Rattle.sf_profile.specs.Trees.{at, listed}
 

@@ -1,6 +1,5 @@
 -- The raw instructions of a written filter spell it.
-use Rattle.std.proofs.Common.{◌≡◌, ℕ, ◌+◌, ◌*◌, ◌/◌, ◌%◌, ◌<◌, List, [], ◌∷◌, Bool, true, map, length, Result, Ok, Some, refl, ap, ◌∙◌, sym, arith, lt-ltb, eq-eqb}
-use Rattle.sf_insn.specs.declared.ops.Test.{Test}
+use Rattle.std.proofs.Common.{◌≡◌, ℕ, ◌+◌, ◌*◌, ◌/◌, ◌%◌, ◌<◌, List, [], ◌∷◌, map, length, Result, Ok, refl, arith, lt-ltb}
 use Rattle.sf_insn.specs.declared.ops.Test.TheVariants as tests
 use Rattle.sf_check.specs.declared.insn.Insn.{Insn}
 use Rattle.sf_check.specs.declared.insn.Insn.TheVariants as insns

@@ -1,5 +1,5 @@
 -- What it is to be the filter of a profile, and why there is none.
-use Rattle.std.specs.Prelude.{◌≡◌, ◌⊎◌, ◌<◌, ℕ, length, List, [], ◌∷◌, Option, Some, None}
+use Rattle.std.specs.Prelude.{◌≡◌, ◌≢◌, ◌⊎◌, ◌<◌, All, ℕ, length, List, [], ◌∷◌, Some, None}
 use Rattle.std.specs.Str.{IsUtf8}
 use Rattle.serde_json.specs.Data.{Data}
 use Rattle.serde_json.specs.Read.{read}
@@ -7,21 +7,35 @@ use Rattle.sf_insn.specs.declared.input.Input.{Input}
 use Rattle.sf_insn.specs.Inputs.{IsInput}
 use Rattle.sf_check.specs.declared.insn.Insn.{Insn}
 use Rattle.sf_check.specs.Programs.{SpellsProgram}
+use Rattle.sf_check.specs.Stacks.{IsPlain}
 use Rattle.sf_run.specs.Answers.{Answers}
 use Rattle.sf_profile.specs.declared.fault.Fault.{Fault}
 use Rattle.sf_profile.specs.declared.fault.Fault.TheVariants as faults
-use Rattle.sf_profile.specs.Data.{PlanData}
+use Rattle.sf_profile.specs.declared.rules.Comparing.TheVariants.{MaskedEqual}
+use Rattle.sf_profile.specs.declared.rules.Comparison.{Comparison}
+use Rattle.sf_profile.specs.Data.{PartData, PlanData, RuleData}
 use Rattle.sf_profile.specs.Meaning.{meaning}
 use Rattle.sf_profile.specs.Form.{form}
 use Rattle.sf_profile.specs.declared.settings.Settings.{Settings}
 use Rattle.sf_profile.specs.Refusals.{profile_in, profile_refusal, refusal_of}
 use Rattle.sf_profile.specs.Plans.{plan_of}
 
--- the bytes spell a lawful program, which answers each input as the profile means
+-- a comparison of all bits of an argument
+abbrev pub IsUnmasked : Comparison → Type 0
+IsUnmasked c = c.comparing ≢ MaskedEqual
+
+-- no rule compares under a mask
+abbrev pub HasNoMask : PlanData → Type 0
+HasNoMask plan =
+    All (λ (part : PartData). All (λ (rule : RuleData). All IsUnmasked rule.comparisons) part.rules) plan.parts
+
+-- The bytes spell a lawful program, which answers each input as the profile means. Where no rule compares under a mask,
+-- it is plain, so that what is explored of it is exact.
 pub record IsFilterOf (bytes : List ℕ) (plan : PlanData) : Type 0 where
   pub program : List Insn
   pub spelled : SpellsProgram bytes program
   pub answers : (d : Input) → IsInput d → Answers (program ∷ []) d (meaning plan d)
+  pub plain : HasNoMask plan → IsPlain (program ∷ [])
 
 -- a file has a profile that isn't refused
 pub record Accepts (s : Settings) (file : Data) : Type 0 where

@@ -6,7 +6,7 @@ use Rattle.sf_insn.specs.declared.raw.RawInsn.{RawInsn}
 use Rattle.sf_insn.specs.declared.ops.Test.{Test}
 use Rattle.sf_insn.specs.declared.ops.Test.TheVariants as tests
 use Rattle.sf_profile.specs.declared.rules.CallSet.{CallSet}
-use Rattle.sf_profile.specs.declared.rules.CallSet.TheVariants.{X64, X32, I386, Aarch64, Arm}
+use Rattle.sf_profile.specs.declared.rules.CallSet.TheVariants.{X64, X32}
 use Rattle.sf_profile.specs.declared.rules.Comparing.{Comparing}
 use Rattle.sf_profile.specs.declared.rules.Comparing.TheVariants.{NotEqual, Less, LessOrEqual, Equal, GreaterOrEqual, Greater, MaskedEqual}
 use Rattle.sf_profile.specs.declared.rules.Comparison.{Comparison}

@@ -1,6 +1,6 @@
 -- What a profile means: its answer to each input.
-use Rattle.std.specs.Prelude.{ℕ, ◌+◌, ◌-◌, ◌*◌, ◌%◌, ◌^◌, Bool, true, false, ◌==◌, ◌&&◌, ◌||◌, not, nat_lt, nat_le, bit_and, if◌then◌else◌, List, [], ◌∷◌, find, filter, map, option_map, Option, Some, None, unwrap_or, slice_index, is_some}
-use Rattle.std.specs.List.{list_any, list_all, flat_map}
+use Rattle.std.specs.Prelude.{ℕ, ◌+◌, ◌-◌, ◌*◌, ◌%◌, ◌^◌, Bool, true, false, ◌==◌, ◌&&◌, ◌||◌, not, nat_lt, nat_le, bit_and, if◌then◌else◌, List, [], ◌∷◌, find, filter, Option, Some, None, slice_index}
+use Rattle.std.specs.List.{list_any, list_all}
 use Rattle.sf_insn.specs.declared.input.Input.{Input}
 use Rattle.sf_run.specs.declared.action.Action.TheVariants as actions
 use Rattle.sf_run.specs.declared.action.Answer.{Answer}

@@ -1,5 +1,5 @@
 -- What is told of a profile.
-use Rattle.std.specs.Prelude.{◌≡◌, ℕ, ◌+◌, ◌/◌, Bool, true, false, not, List, [], ◌∷◌, ◌++◌, codes, length, map, filter, fold, Option, Some, None, is_some, if◌then◌else◌}
+use Rattle.std.specs.Prelude.{◌≡◌, ℕ, ◌+◌, ◌/◌, Bool, not, List, [], ◌∷◌, ◌++◌, codes, length, filter, fold, Some, None, is_some, if◌then◌else◌}
 use Rattle.std.specs.List.{list_any, flat_map}
 use Rattle.std.specs.Str.{bytes_eq}
 use Rattle.std.specs.Fmt.{decimal}
@@ -124,3 +124,21 @@ pub record AreNotesOfText (s : Settings) (text notes : List ℕ) : Type 0 where
   pub file : Data
   pub is_tree : IsTree text file
   pub notes_are : AreNotesOfFile s file notes
+
+-- ---- names that no file has
+
+-- a name, with a blank before it
+abbrev pub name_word : List ℕ → List ℕ
+name_word name = 32 ∷ name
+
+-- the names of the profile in a file that no file of names has, with a blank before each
+pub record AreUnknownIn (s : Settings) (file : Data) (words : List ℕ) : Type 0 where
+  pub profile : Data
+  pub is_there : profile_in file ≡ Some profile
+  pub words_are : words ≡ flat_map name_word (unknown_names s profile)
+
+-- the same, from the bytes of the file
+pub record AreUnknownOf (s : Settings) (text words : List ℕ) : Type 0 where
+  pub file : Data
+  pub is_tree : IsTree text file
+  pub words_are : AreUnknownIn s file words

@@ -5,7 +5,6 @@ use Rattle.std.specs.Str.{bytes_eq}
 use Rattle.serde_json.specs.Data.{Data}
 use Rattle.sf_profile.specs.declared.rules.CallSet.{CallSet}
 use Rattle.sf_profile.specs.declared.rules.CallSet.TheVariants.{I386}
-use Rattle.sf_profile.specs.declared.rules.Argument.{Argument}
 use Rattle.sf_profile.specs.declared.rules.Comparing.TheVariants.{Equal}
 use Rattle.sf_profile.specs.declared.rules.Comparison.{Comparison}
 use Rattle.sf_profile.specs.declared.rules.Response.{Response}

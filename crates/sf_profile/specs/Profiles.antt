@@ -1,20 +1,16 @@
 -- What a JSON profile says: the keys that it may have, the texts that it knows, and what its parts stand for.
-use Rattle.std.specs.Prelude.{ℕ, ◌+◌, ◌-◌, ◌*◌, ◌/◌, ◌%◌, ◌^◌, ℤ, pos, negsuc, Bool, true, false, not, ◌&&◌, ◌||◌, ◌==◌, nat_lt, nat_le, if◌then◌else◌, List, [], ◌∷◌, ◌++◌, length, map, fold, codes, Option, Some, None, is_some, option_map, option_and_then, unwrap_or}
-use Rattle.std.specs.List.{list_any, list_all, flat_map}
+use Rattle.std.specs.Prelude.{ℕ, ◌+◌, ◌-◌, ◌*◌, ℤ, pos, negsuc, Bool, true, false, ◌&&◌, ◌==◌, nat_lt, nat_le, if◌then◌else◌, List, [], ◌∷◌, fold, codes, Option, Some, None, unwrap_or}
 use Rattle.std.specs.Str.{bytes_eq}
-use Rattle.serde_json.specs.Data.{Data}
 use Rattle.sf_profile.specs.declared.rules.CallSet.{CallSet}
 use Rattle.sf_profile.specs.declared.rules.CallSet.TheVariants.{X64, X32, I386, Aarch64, Arm}
 use Rattle.sf_profile.specs.declared.rules.Argument.{Argument}
 use Rattle.sf_profile.specs.declared.rules.Argument.TheVariants.{Arg0, Arg1, Arg2, Arg3, Arg4, Arg5}
 use Rattle.sf_profile.specs.declared.rules.Comparing.{Comparing}
 use Rattle.sf_profile.specs.declared.rules.Comparing.TheVariants.{NotEqual, Less, LessOrEqual, Equal, GreaterOrEqual, Greater, MaskedEqual}
-use Rattle.sf_profile.specs.declared.rules.Comparison.{Comparison}
 use Rattle.sf_profile.specs.declared.rules.Response.{Response}
 use Rattle.sf_profile.specs.declared.rules.Response.TheVariants.{KillProcess, KillThread, Trap, Errno, Notify, Tracer, Log, Allow}
 use Rattle.sf_profile.specs.declared.names.Version.{Version}
 use Rattle.sf_profile.specs.declared.names.VersionRead.{VersionRead}
-use Rattle.sf_profile.specs.Trees.{at, listed, text_of, text_where, whole_where}
 
 -- ---- keys
 

@@ -1,5 +1,5 @@
 -- What a profile is read for: a machine, a container and a kernel, with the numbers of calls.
-use Rattle.std.specs.Prelude.{ℕ, ◌^◌, ℤ, pos, negsuc, Bool, true, false, ◌==◌, ◌||◌, nat_lt, codes, if◌then◌else◌, List, [], ◌∷◌, ◌++◌, find, count_by, Option, Some, None, option_and_then, string_bytes}
+use Rattle.std.specs.Prelude.{ℕ, ◌^◌, ℤ, pos, negsuc, Bool, false, ◌==◌, ◌||◌, nat_lt, codes, if◌then◌else◌, List, find, count_by, Option, Some, None, option_and_then, string_bytes}
 use Rattle.std.specs.List.{list_any}
 use Rattle.std.specs.Str.{bytes_eq}
 use Rattle.toml.specs.View.{table_view}

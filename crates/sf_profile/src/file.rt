@@ -1,10 +1,11 @@
 //! The filter of a profile, from the bytes of its file.
 
 ghost use Rattle.std.specs.Prelude.{◌≡◌, ◌⊎◌, ◌<◌, Some, None, length, string_bytes, IfOk, IfErr};
+ghost use Rattle.std.specs.List.{flat_map};
 ghost use Rattle.serde_json.specs.View.{view};
 ghost use Rattle.sf_profile.specs.Filters.{IsFilterOf, IsRefused, IsRefusedText, MakesFilter, MakesFilterOf};
 ghost use Rattle.sf_profile.specs.Form.{form};
-ghost use Rattle.sf_profile.specs.Notes.{AreNotesOf, AreNotesOfFile, AreNotesOfText};
+ghost use Rattle.sf_profile.specs.Notes.{AreNotesOf, AreNotesOfFile, AreNotesOfText, AreUnknownIn, AreUnknownOf, name_word, unknown_names as names_without_number};
 ghost use Rattle.sf_profile.specs.Plans.{plan_of};
 ghost use Rattle.sf_profile.specs.Refusals.{profile_refusal};
 
@@ -13,7 +14,7 @@ use crate::filter::filter_of;
 use crate::plan::plan_of;
 use crate::refusal::{profile_in, profile_refusal};
 use crate::settings::Settings;
-use crate::telling::notes_text;
+use crate::telling::{notes_text, unknown_words};
 use serde_json::Value;
 use std::alloc::Global;
 
@@ -104,6 +105,46 @@ pub fn notes(alloc: Global, settings: &Settings, bytes: &[u8]) -> Result<String,
 {
     match Value::from_slice(alloc, bytes) {
         Ok(value) => notes_of_file(alloc, settings, &value),
+        Err(error) => {
+            if error.is_memory() {
+                Err(Fault::Memory)
+            } else {
+                Err(Fault::Syntax)
+            }
+        }
+    }
+}
+
+/// The names of a profile's tree that no file of names has. `Memory` where an allocation is refused.
+fn unknown_in_profile(alloc: Global, settings: &Settings, value: &Value) -> Result<String, Fault>
+    ensures words { IfOk result (λ t. string_bytes t
+        ≡ flat_map name_word (names_without_number settings.now (view value.now))) }
+    ensures refused { IfErr result (λ e. e ≡ Fault.Memory) }
+{
+    let words = unknown_words(alloc, settings, value)?;
+    Ok(words)
+}
+
+/// The names of the profile in a file's tree that no file of names has. `Key` where there is no profile.
+fn unknown_in_file(alloc: Global, settings: &Settings, value: &Value) -> Result<String, Fault>
+    ensures words { IfOk result (λ t. AreUnknownIn settings.now (view value.now)
+        (string_bytes t)) }
+    ensures refused { IfErr result (λ e. IsRefused settings.now (view value.now) e) }
+{
+    match profile_in(value) {
+        Some(profile) => unknown_in_profile(alloc, settings, profile),
+        None => Err(Fault::Key),
+    }
+}
+
+/// The names that rules of the profile in a file have, if they apply, and no file of names has, with a blank before each.
+/// Refusals: `Syntax` and `Key` as by `profile` where there is no profile; `Memory` where an allocation is refused.
+pub fn unknown_names(alloc: Global, settings: &Settings, bytes: &[u8]) -> Result<String, Fault>
+    ensures words { IfOk result (λ t. AreUnknownOf settings.now bytes.now (string_bytes t)) }
+    ensures refused { IfErr result (λ e. IsRefusedText settings.now bytes.now e) }
+{
+    match Value::from_slice(alloc, bytes) {
+        Ok(value) => unknown_in_file(alloc, settings, &value),
         Err(error) => {
             if error.is_memory() {
                 Err(Fault::Memory)

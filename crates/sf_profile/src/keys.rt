@@ -17,7 +17,7 @@ use crate::tree::{
 use serde_json::Value;
 
 /// The keys of a profile.
-const PROFILE_KEYS: [&str; 10] = [
+pub(crate) const PROFILE_KEYS: [&str; 10] = [
     "defaultAction",
     "defaultErrnoRet",
     "defaultErrno",
@@ -34,7 +34,7 @@ const PROFILE_KEYS: [&str; 10] = [
 const MAP_KEYS: [&str; 2] = ["architecture", "subArchitectures"];
 
 /// The keys of a rule.
-const RULE_KEYS: [&str; 9] = [
+pub(crate) const RULE_KEYS: [&str; 9] = [
     "names", "name", "action", "errnoRet", "errno", "args", "comment", "includes", "excludes",
 ];
 
@@ -80,14 +80,14 @@ fn has_condition_keys(value: &Value) -> bool
 }
 
 /// Whether a key has no value.
-fn is_absent(value: &Value, key: &str) -> bool
+pub(crate) fn is_absent(value: &Value, key: &str) -> bool
     ensures { result ≡ is_absent key.now (view value.now) }
 {
     at(value, key).is_none()
 }
 
 /// Whether an error number is given where its name is.
-fn names_number(value: &Value, name: &str, number: &str) -> bool
+pub(crate) fn names_number(value: &Value, name: &str, number: &str) -> bool
     ensures { result ≡ names_number name.now number.now (view value.now) }
 {
     is_absent(value, name) || !is_absent(value, number)
@@ -139,7 +139,7 @@ fn is_condition(settings: &Settings, value: &Value) -> bool
 }
 
 /// Whether a key is absent, or has what a rule includes or excludes.
-fn has_condition(settings: &Settings, value: &Value, key: &str) -> bool
+pub(crate) fn has_condition(settings: &Settings, value: &Value, key: &str) -> bool
     ensures { result ≡ absent_or (is_condition settings.now) (at key.now (view value.now)) }
 {
     match at(value, key) {
@@ -184,7 +184,7 @@ fn is_argument_list(value: &Value) -> bool
 }
 
 /// Whether a rule's comparisons are absent, or an array of comparisons.
-fn has_arguments(value: &Value) -> bool
+pub(crate) fn has_arguments(value: &Value) -> bool
     ensures { result ≡ absent_or (is_list_of is_argument) (at (codes "args") (view value.now)) }
 {
     match at(value, "args") {
@@ -194,7 +194,7 @@ fn has_arguments(value: &Value) -> bool
 }
 
 /// Whether a rule has either names, or one name.
-fn is_named(value: &Value) -> bool
+pub(crate) fn is_named(value: &Value) -> bool
     ensures { result ≡ is_named (view value.now) }
 {
     (has_texts(value, "names") && is_absent(value, "name"))
@@ -202,7 +202,7 @@ fn is_named(value: &Value) -> bool
 }
 
 /// Whether there is an action at a key, and its number is well given.
-fn is_action(value: &Value, action: &str, number: &str, name: &str) -> bool
+pub(crate) fn is_action(value: &Value, action: &str, number: &str, name: &str) -> bool
     ensures { result ≡ is_action action.now number.now name.now (view value.now) }
 {
     has_text(value, action)
@@ -257,7 +257,7 @@ fn is_map(value: &Value) -> bool
 }
 
 /// Whether `archMap` is absent, or an array of its entries.
-fn has_map(value: &Value) -> bool
+pub(crate) fn has_map(value: &Value) -> bool
     ensures { result ≡ absent_or (is_list_of is_map_item)
         (at (codes "archMap") (view value.now)) }
 {
@@ -277,7 +277,7 @@ fn has_sets(value: &Value) -> bool
 }
 
 /// Whether the rules are absent, or an array.
-fn has_rules(value: &Value) -> bool
+pub(crate) fn has_rules(value: &Value) -> bool
     ensures { result ≡ absent_or is_array (at (codes "syscalls") (view value.now)) }
 {
     match at(value, "syscalls") {

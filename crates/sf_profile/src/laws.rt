@@ -1,7 +1,9 @@
 //! Laws of what a profile means, each the contract of a function that does nothing.
 
-ghost use Rattle.std.specs.Prelude.{◌≡◌, ◌≤◌, ℕ, List, Bool, true, false, None, Some, [], ◌&&◌, filter};
+ghost use Rattle.std.specs.Prelude.{◌≡◌, ◌<◌, ◌≤◌, ℕ, All, List, Bool, true, false, None, Some, [], ◌&&◌, filter};
+ghost use Rattle.serde_json.specs.Data.{Data};
 ghost use Rattle.sf_insn.specs.declared.input.Input.{Input};
+ghost use Rattle.sf_run.specs.Answers.{action_number, rank};
 ghost use Rattle.sf_profile.specs.declared.rules.CallSet.{CallSet};
 ghost use Rattle.sf_profile.specs.declared.rules.CallSet.TheVariants.{I386};
 ghost use Rattle.sf_profile.specs.declared.rules.Reading.{Reading};
@@ -9,8 +11,8 @@ ghost use Rattle.sf_profile.specs.declared.rules.Reading.TheVariants.{Strictest,
 ghost use Rattle.sf_profile.specs.declared.rules.Response.{Response};
 ghost use Rattle.sf_profile.specs.declared.settings.Settings.{Settings as ASettings};
 ghost use Rattle.sf_profile.specs.Data.{PartData, PlanData, RuleData};
-ghost use Rattle.sf_profile.specs.Meaning.{is_newer, number_in, pick, response_in, response_of, strictness};
-ghost use Rattle.sf_profile.specs.Plans.{calls_named, through_calls};
+ghost use Rattle.sf_profile.specs.Meaning.{answer_of, is_newer, number_in, pick, response_in, response_of, strictness};
+ghost use Rattle.sf_profile.specs.Plans.{applies, calls_named, through_calls};
 ghost use Rattle.sf_profile.specs.Settings.{is_same_set, number_of};
 
 /// A name that has no number in a set, and is behind no other call there, has no call: a rule says nothing by it.
@@ -35,4 +37,23 @@ pub fn readings_are_bounds()
         → pick Mildest rules ≡ Some c
         → (strictness a.response ≤ strictness b.response)
         × (strictness b.response ≤ strictness c.response) }
+{}
+
+/// Where all rules that say something have one response, each reading picks a rule with it.
+pub fn readings_agree_without_conflict()
+    ensures { (reading : Reading) (rules : List RuleData) (response : Response) (a : RuleData) →
+        All (λ (r : RuleData). r.response ≡ response) rules → pick reading rules ≡ Some a
+        → a.response ≡ response }
+{}
+
+/// Whether a rule applies depends on its own words, the machine, the capabilities and the kernel, and on nothing else.
+pub fn rules_apply_by_words()
+    ensures { (s t : ASettings) (rule : Data) → s.machine ≡ t.machine → s.caps ≡ t.caps
+        → s.kernel ≡ t.kernel → applies s rule ≡ applies t rule }
+{}
+
+/// The order of the actions is that in which the kernel prefers them.
+pub fn strictness_is_precedence()
+    ensures { (a b : Response) → strictness a < strictness b
+        → rank (action_number (answer_of a).action) < rank (action_number (answer_of b).action) }
 {}

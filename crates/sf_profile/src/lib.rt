@@ -4,6 +4,7 @@
 mod applying;
 mod comparing;
 mod fault;
+mod faulty;
 mod file;
 mod filter;
 mod form;
@@ -17,12 +18,11 @@ mod refusal;
 mod rules;
 mod settings;
 mod telling;
-#[cfg(test)]
-mod tests;
 mod tree;
 
 pub use fault::Fault;
-pub use file::{notes, profile};
+pub use faulty::wrong_key;
+pub use file::{notes, profile, unknown_names};
 pub use names::{Version, version_of};
 pub use rules::{CallSet, Reading};
 pub use settings::{Calls, Settings};

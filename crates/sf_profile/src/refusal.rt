@@ -60,7 +60,7 @@ fn are_names(items: &[Value]) -> bool
 }
 
 /// Whether the one name of a rule is absent, or can be the name of a call.
-fn has_one_name(value: &Value) -> bool
+pub(crate) fn has_one_name(value: &Value) -> bool
     ensures { result ≡ absent_or has_name (at (codes "name") (view value.now)) }
 {
     match at(value, "name") {
@@ -77,7 +77,7 @@ fn has_names(value: &Value) -> bool
 }
 
 /// Whether the action at a key is known.
-fn knows_action(value: &Value, action: &str) -> bool
+pub(crate) fn knows_action(value: &Value, action: &str) -> bool
     ensures { result ≡ knows_action action.now (view value.now) }
 {
     response_named(text_at(value, action), 0).is_some()
@@ -112,7 +112,7 @@ fn has_actions(value: &Value) -> bool
 }
 
 /// Whether the error number at a key is absent, or has 16 bits.
-fn has_error_number(value: &Value, key: &str) -> bool
+pub(crate) fn has_error_number(value: &Value, key: &str) -> bool
     ensures { result ≡ has_error_number key.now (view value.now) }
 {
     up_to_or(1, 65535, whole_at(value, key)).is_some()

@@ -3,7 +3,7 @@
 ghost use Rattle.std.specs.Prelude.{◌≡◌, ◌++◌, Some, codes, filter, fold, is_some, map, IfOk, OnOk, string_bytes};
 ghost use Rattle.std.specs.List.{flat_map, list_any};
 ghost use Rattle.serde_json.specs.View.{view};
-ghost use Rattle.sf_profile.specs.Notes.{applied_count, applied_names, counts_line, default_line, is_unknown, names_where, notes_text, response_data, response_name, set_text, set_words, sets_line, unknown_line, with_name};
+ghost use Rattle.sf_profile.specs.Notes.{applied_count, applied_names, counts_line, default_line, is_unknown, name_word, names_where, notes_text, response_data, response_name, set_text, set_words, sets_line, unknown_line, unknown_names, with_name};
 ghost use Rattle.sf_profile.specs.Plans.{names_of, one_name};
 ghost use Rattle.sf_profile.specs.Settings.{number_where};
 ghost use Rattle.sf_profile.specs.declared.settings.Calls.{Calls as ACalls};
@@ -252,6 +252,40 @@ fn push_all_unknown(text: &mut String, names: &[&str]) -> Result<(), AllocError>
         push_unknown(text, name)?;
     }
     Ok(())
+}
+
+/// Adds a name, with a blank before it.
+fn push_word(text: &mut String, name: &str) -> Result<(), AllocError>
+    ensures { OnOk result (string_bytes text.new ≡ string_bytes text.old ++ name_word name.now) }
+{
+    text.push_str(" ")?;
+    text.push_str(name)
+}
+
+/// Names, with a blank before each.
+fn words_of(alloc: Global, names: &[&str]) -> Result<String, AllocError>
+    ensures { IfOk result (λ text. string_bytes text
+        ≡ flat_map name_word (map (λ n. n.now) names.now)) }
+{
+    let mut text = String::new(alloc);
+    for name in names {
+        push_word(&mut text, name)?;
+    }
+    Ok(text)
+}
+
+/// The names of a profile's applied rules that no file of names has, with a blank before each.
+pub(crate) fn unknown_words(
+    alloc: Global,
+    settings: &Settings,
+    value: &Value,
+) -> Result<String, AllocError>
+    ensures { IfOk result (λ text. string_bytes text
+        ≡ flat_map name_word (unknown_names settings.now (view value.now))) }
+{
+    let names = applied_names(alloc, settings, value)?;
+    let unknown = unknown_names(alloc, settings, &names)?;
+    words_of(alloc, &unknown)
 }
 
 /// What is told of a profile whose filter has so many instructions.

@@ -1,0 +1,180 @@
+//! The key for which a profile is refused. It is for a person: contracts say nothing of it.
+
+use crate::fault::Fault;
+use crate::keys::{
+    PROFILE_KEYS, RULE_KEYS, has_arguments, has_condition, has_map, has_rules, is_absent,
+    is_action, is_named, names_number,
+};
+use crate::refusal::{has_error_number, has_one_name, knows_action, profile_in};
+use crate::settings::Settings;
+use crate::tree::{at, has_text, is_among, items_at};
+use serde_json::{Map, Value};
+use std::alloc::{AllocError, Global};
+
+/// The first key of an object that isn't among these.
+fn first_unknown<'a>(object: &'a Map<String, Value>, known: &[&str]) -> Option<&'a str> {
+    for key in object.keys() {
+        if !is_among(key.as_str(), known) {
+            return Some(key.as_str());
+        }
+    }
+    None
+}
+
+/// The first key of a value that isn't among these.
+fn unknown_key<'a>(value: &'a Value, known: &[&str]) -> Option<&'a str> {
+    match value {
+        Value::Object(object) => first_unknown(object, known),
+        _ => None,
+    }
+}
+
+/// Which key of an action is missing or wrongly given: its own, that of its number, or that of the number's name.
+fn action_key<'a>(value: &Value, action: &'a str, number: &'a str, name: &'a str) -> &'a str {
+    if !has_text(value, action) {
+        return action;
+    }
+    if names_number(value, name, number) {
+        number
+    } else {
+        name
+    }
+}
+
+/// The key of a profile's head that is unknown, missing or wrongly given.
+fn key_of_head(value: &Value) -> &str {
+    if let Some(key) = unknown_key(value, PROFILE_KEYS.as_slice()) {
+        return key;
+    }
+    if !is_action(value, "defaultAction", "defaultErrnoRet", "defaultErrno") {
+        return action_key(value, "defaultAction", "defaultErrnoRet", "defaultErrno");
+    }
+    if !has_rules(value) {
+        return "syscalls";
+    }
+    if has_map(value) {
+        "architectures"
+    } else {
+        "archMap"
+    }
+}
+
+/// The key of a rule that is unknown, missing or wrongly given.
+fn key_of_rule<'a>(settings: &Settings, value: &'a Value) -> &'a str {
+    if let Some(key) = unknown_key(value, RULE_KEYS.as_slice()) {
+        return key;
+    }
+    if !is_named(value) {
+        return if is_absent(value, "name") {
+            "names"
+        } else {
+            "name"
+        };
+    }
+    if !is_action(value, "action", "errnoRet", "errno") {
+        return action_key(value, "action", "errnoRet", "errno");
+    }
+    if !has_arguments(value) {
+        return "args";
+    }
+    if has_condition(settings, value, "includes") {
+        "excludes"
+    } else {
+        "includes"
+    }
+}
+
+/// The key of the sets of calls; none where it is the machine's own set that has no calls.
+fn key_of_sets(settings: &Settings, value: &Value) -> Option<&'static str> {
+    if !settings.has_calls(settings.machine) {
+        return None;
+    }
+    Some(if at(value, "archMap").is_some() {
+        "archMap"
+    } else {
+        "architectures"
+    })
+}
+
+/// The key of a rule for which it is refused, for this reason.
+fn key_in_rule<'a>(settings: &Settings, value: &'a Value, fault: Fault) -> Option<&'a str> {
+    match fault {
+        Fault::RuleKey { .. } => Some(key_of_rule(settings, value)),
+        Fault::RuleName { .. } => Some(if has_one_name(value) { "names" } else { "name" }),
+        Fault::RuleActions { .. } => {
+            Some(if knows_action(value, "action") {
+                "args"
+            } else {
+                "action"
+            })
+        }
+        Fault::RuleRange { .. } => {
+            Some(if has_error_number(value, "errnoRet") {
+                "args"
+            } else {
+                "errnoRet"
+            })
+        }
+        _ => None,
+    }
+}
+
+/// The key of a profile's head for which it is refused, for this reason.
+fn key_in_head<'a>(settings: &Settings, value: &'a Value, fault: Fault) -> Option<&'a str> {
+    match fault {
+        Fault::Key => Some(key_of_head(value)),
+        Fault::Actions => Some("defaultAction"),
+        Fault::Range => Some("defaultErrnoRet"),
+        Fault::Set => key_of_sets(settings, value),
+        _ => None,
+    }
+}
+
+/// The number of the rule that is refused, from 1.
+fn rule_of(fault: Fault) -> Option<usize> {
+    match fault {
+        Fault::RuleKey { rule }
+        | Fault::RuleName { rule }
+        | Fault::RuleActions { rule }
+        | Fault::RuleRange { rule } => Some(rule),
+        _ => None,
+    }
+}
+
+/// The key for which a profile is refused, for this reason.
+fn key_of<'a>(settings: &Settings, value: &'a Value, fault: Fault) -> Option<&'a str> {
+    match rule_of(fault) {
+        Some(rule) => {
+            let item = items_at(value, "syscalls").get(rule.checked_sub(1)?)?;
+            key_in_rule(settings, item, fault)
+        }
+        None => key_in_head(settings, value, fault),
+    }
+}
+
+/// The key for which the profile of a file's tree is refused.
+fn key_in_file<'a>(settings: &Settings, value: &'a Value, fault: Fault) -> Option<&'a str> {
+    key_of(settings, profile_in(value)?, fault)
+}
+
+/// The key for which the profile in a file is refused, where one is known. `fault` is the reason that `profile` gave for
+/// these bytes. An error where an allocation is refused.
+pub fn wrong_key(
+    alloc: Global,
+    settings: &Settings,
+    bytes: &[u8],
+    fault: Fault,
+) -> Result<Option<String>, AllocError> {
+    let value = match Value::from_slice(alloc, bytes) {
+        Ok(value) => value,
+        Err(error) => return if error.is_memory() {
+            Err(AllocError)
+        } else {
+            Ok(None)
+        },
+    };
+    match key_in_file(settings, &value, fault) {
+        Some(key) => Ok(Some(String::from_str(alloc, key)?)),
+        None => Ok(None),
+    }
+}
