@@ -2,9 +2,17 @@
 use Rattle.std.specs.Prelude.{◌≡◌, ℕ, Result, Ok, Err}
 use Rattle.sf_policy.specs.declared.fault.Fault.{Fault}
 use Rattle.sf_policy.specs.declared.fault.Fault.TheVariants as faults
+use Rattle.sf_profile.specs.Faults.{fault_number as profile_number}
+use Rattle.sf_profile.specs.declared.fault.Fault.{Fault as ProfileFault}
+use Rattle.sf_profile.specs.declared.fault.Fault.TheVariants as profile_faults
 use Rattle.sf_policy.specs.declared.policy.refusal.Refusal.{Refusal}
 
--- the number of each refusal of an audit, and of refused memory
+-- why the program refuses a profile: for its refusal, or because memory was refused
+abbrev pub of_profile : ProfileFault → Fault
+of_profile profile_faults.Memory = faults.Memory
+of_profile refusal = faults.Profile refusal
+
+-- the number of each refusal, and of refused memory
 abbrev pub fault_number : Fault → ℕ
 fault_number (faults.Ragged filter) = 10
 fault_number (faults.Empty filter) = 11
@@ -29,6 +37,7 @@ fault_number faults.Input = 47
 fault_number (faults.Mask question) = 48
 fault_number faults.NamesKey = 41
 fault_number faults.NamesRange = 42
+fault_number (faults.Profile refusal) = profile_number refusal
 fault_number faults.Read = 50
 fault_number faults.Write = 51
 fault_number faults.Memory = 60

@@ -1,4 +1,4 @@
-//! Why a policy, a filter, a file of names, an input or a report was refused.
+//! Why a policy, a filter, a profile, a file of names, an input or a report was refused.
 
 ghost use Rattle.std.specs.Prelude.{◌≡◌};
 ghost use Rattle.sf_policy.specs.declared.fault.Fault.TheVariants.{Memory};
@@ -7,9 +7,9 @@ ghost use Rattle.sf_policy.specs.Faults.{fault_number};
 use std::alloc::{AllocError, AllocFailed};
 use thiserror::Error;
 
-/// Why a policy, a filter, a file of names, an input or a report was refused. Filters and questions are numbered from 1
-/// in the order in which they were given, instructions from 0. The text of a fault is its number, its name and its
-/// place.
+/// Why a policy, a filter, a profile, a file of names, an input or a report was refused. Filters, questions and rules are
+/// numbered from 1 in the order in which they were given, instructions from 0. The text of a fault is its number, its
+/// name and its place.
 #[derive(Clone, Copy, Debug, PartialEq, Eq, Error)]
 pub enum Fault {
     /// The length of a filter's bytes is no multiple of 8.
@@ -82,6 +82,9 @@ pub enum Fault {
     /// A file of names has a number outside 32 bits.
     #[error("42 Range")]
     NamesRange,
+    /// A profile is refused.
+    #[error("{0}")]
+    Profile(sf_profile::Fault),
     /// A file can't be read.
     #[error("50 Read")]
     Read,
@@ -119,6 +122,7 @@ impl Fault {
             Fault::Syntax => 46,
             Fault::Input => 47,
             Fault::Mask { .. } => 48,
+            Fault::Profile(refusal) => refusal.number(),
             Fault::Read => 50,
             Fault::Write => 51,
             Fault::Memory => 60,
@@ -147,5 +151,18 @@ impl From<sf_run::Fault> for Fault {
 
     fn from(_e: sf_run::Fault) -> Fault {
         Fault::Memory
+    }
+}
+
+impl From<sf_profile::Fault> for Fault {
+    ghost use Rattle.sf_policy.specs.Faults.{of_profile};
+
+    ghost from_gives = { λ e f. f ≡ of_profile e };
+
+    fn from(e: sf_profile::Fault) -> Fault {
+        match e {
+            sf_profile::Fault::Memory => Fault::Memory,
+            refusal => Fault::Profile(refusal),
+        }
     }
 }

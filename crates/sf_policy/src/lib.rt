@@ -13,7 +13,7 @@ mod texts;
 pub use action::push_action;
 pub use fault::Fault;
 pub use filters::stack_of;
-pub use names::{Names, push_names_between, read_names};
+pub use names::{Names, names_of_table, push_names_between, read_names};
 pub use policy::{Refusal, WORD_KEYS, read_policy, read_policy_at};
 pub use texts::{hex_of, push_counts, write_bytes};
 

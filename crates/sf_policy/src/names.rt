@@ -163,9 +163,9 @@ fn arch_in(table: &Table) -> Result<u32, Fault>
     }
 }
 
-/// The names of a file's table, in the order of its keys. `NamesKey` where a key at its top is unknown; then what `arch_in`
-/// and then `calls_in` refuse.
-fn names_in(alloc: Global, table: &Table) -> Result<Names, Fault>
+/// The names of a file's table, in the order of its keys. `NamesKey` where a key at its top is unknown; then what is wrong
+/// with its architecture, and then with its calls, as `read_names` says.
+pub fn names_of_table(alloc: Global, table: &Table) -> Result<Names, Fault>
     ensures { Gives (λ n. n) result (names_of (table_view table.now)) }
 {
     if !has_names_keys(table) {
@@ -194,11 +194,11 @@ fn put_in_order(names: Names) -> Result<Names, Fault>
     Ok(ordered)
 }
 
-/// The names of a file's table, with the calls by their numbers. The refusals are those of `names_in`.
+/// The names of a file's table, with the calls by their numbers. The refusals are those of `names_of_table`.
 fn ordered_names(alloc: Global, table: &Table) -> Result<Names, Fault>
     ensures { GivesNames result (names_of (table_view table.now)) }
 {
-    let names = names_in(alloc, table)?;
+    let names = names_of_table(alloc, table)?;
     put_in_order(names)
 }
 
