@@ -2,10 +2,12 @@
 //!
 //! A script comes on standard input, one command a line. `file NAME FRAGMENT ..` makes a file from hexadecimal digits, and
 //! `text NAME LINE | LINE ..` one from lines; of files with one name the newest counts. `run WORD ..` runs a command
-//! line, and `count WORD ..` runs one and shows how many bytes it writes. `limit WORD ..` runs one over writers that
-//! take no byte, one byte, two, and so on, until one takes all. `interrupt WORD ..` runs one over a writer that a signal
-//! interrupts. For these two the writer takes one byte a call; with five and seven bytes a call the result has to be
-//! the same. A line that begins with `#` is a comment.
+//! line, `explain WORD ..` runs one where each fault is explained unasked, and `count WORD ..` runs one and shows how
+//! many bytes it writes. `keep NAME WORD ..` runs one, and makes a file of what it writes; `make NAME WORD ..` shows that
+//! as hexadecimal digits too. `limit WORD ..` runs one over writers that take no byte, one byte, two, and so on, until one
+//! takes all. `interrupt WORD ..` runs one over a writer that a signal interrupts. For these two the writer takes one
+//! byte a call; with five and seven bytes a call the result has to be the same. A line that begins with `#` is a
+//! comment.
 #![tactic(auto)]
 
 mod fragments;
@@ -14,7 +16,7 @@ mod memory_files;
 mod running;
 
 use crate::memory_files::MemoryFiles;
-use crate::running::{count, interrupt, limit, run};
+use crate::running::{count, explain, interrupt, keep, limit, make, run};
 use std::sync::Wait;
 use std::test::Fail;
 use std::thread::Threads;
@@ -30,7 +32,10 @@ fn take<R: Print + Threads + Wait + Sync + AllocGlobal>(
         "file" => files.put_digits(rest),
         "text" => files.put_lines(rest),
         "run" => run(rt, files, rest),
+        "explain" => explain(rt, files, rest),
         "count" => count(rt, files, rest),
+        "keep" => keep(rt, files, rest),
+        "make" => make(rt, files, rest),
         "limit" => limit(rt, files, rest),
         "interrupt" => interrupt(rt, files, rest),
         "#" | "" => Ok(()),

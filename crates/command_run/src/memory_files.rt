@@ -11,6 +11,8 @@ use std::test::Fail;
 pub struct MemoryFiles {
     alloc: Global,
     files: Vec<(String, Vec<u8>)>,
+    /// Whether each fault is explained, also where the command line doesn't ask for it.
+    pub explains: bool,
 }
 
 impl MemoryFiles {
@@ -19,11 +21,12 @@ impl MemoryFiles {
         MemoryFiles {
             alloc,
             files: Vec::new(alloc),
+            explains: false,
         }
     }
 
     /// Adds a file.
-    fn put(&mut self, name: &str, bytes: Vec<u8>) -> Result<(), AllocError> {
+    pub fn put(&mut self, name: &str, bytes: Vec<u8>) -> Result<(), AllocError> {
         let name = String::from_str(self.alloc, name)?;
         self.files.push((name, bytes))?;
         Ok(())
@@ -71,5 +74,9 @@ impl Files for MemoryFiles {
 
     fn reason(&self) -> &str {
         "not in memory"
+    }
+
+    fn explains(&self) -> bool {
+        self.explains
     }
 }

@@ -82,6 +82,45 @@ pub fn run<R: Print + Threads + Wait + Sync + AllocGlobal>(
     show_end(rt, &err, status)
 }
 
+/// Runs a command line where each fault is explained unasked, and shows what it writes.
+pub fn explain<R: Print + Threads + Wait + Sync + AllocGlobal>(
+    rt: &R,
+    files: &mut MemoryFiles,
+    line: &str,
+) -> Result<(), Fail> {
+    files.explains = true;
+    let shown = run(rt, files, line);
+    files.explains = false;
+    shown
+}
+
+/// Runs a command line, and makes a file of what it writes.
+pub fn keep<R: Print + Threads + Wait + Sync + AllocGlobal>(
+    rt: &R,
+    files: &mut MemoryFiles,
+    line: &str,
+) -> Result<(), Fail> {
+    let (name, line) = line.split_once(' ').unwrap_or((line, ""));
+    let Ended { out, err, status } = run_whole(rt, files, line)?;
+    files.put(name, out.held)?;
+    show_end(rt, &err, status)
+}
+
+/// Runs a command line, shows what it writes as hexadecimal digits, eight bytes a line, and makes a file of it.
+pub fn make<R: Print + Threads + Wait + Sync + AllocGlobal>(
+    rt: &R,
+    files: &mut MemoryFiles,
+    line: &str,
+) -> Result<(), Fail> {
+    let (name, line) = line.split_once(' ').unwrap_or((line, ""));
+    let Ended { out, err, status } = run_whole(rt, files, line)?;
+    for part in out.held.chunks(8) {
+        println!(rt; "{}", hex::encode(rt.alloc(), part)?)?;
+    }
+    files.put(name, out.held)?;
+    show_end(rt, &err, status)
+}
+
 /// Runs a command line and shows how many bytes it writes.
 pub fn count<R: Print + Threads + Wait + Sync + AllocGlobal>(
     rt: &R,

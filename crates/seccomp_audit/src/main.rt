@@ -15,11 +15,16 @@ use std::{env, io, mem};
 /// The most bytes of a reason that are kept.
 const REASON: usize = 256;
 
+/// The variable of the environment that has `1` where each fault is to be explained.
+const EXPLAIN: &str = "SECCOMP_AUDIT_EXPLAIN";
+
 /// The files of the system, read through `rt`.
 struct Disk<'a, R> {
     rt: &'a R,
     /// Why the last file that was refused could not be read, in words for a person; empty before one is.
     reason: InlineText<REASON>,
+    /// Whether the environment asks that each fault is explained.
+    explains: bool,
 }
 
 /// The bytes of a file. Of one that is longer than `MOST_BYTES`, only one byte more than that is read, which shows that
@@ -55,6 +60,10 @@ impl<R: FileSystem + AllocGlobal> Files for Disk<'_, R> {
 
     fn reason(&self) -> &str {
         self.reason.as_str()
+    }
+
+    fn explains(&self) -> bool {
+        self.explains
     }
 
     /// Gives no memory back: the process ends next, and the system takes all of it at once. To free each allocation
@@ -93,6 +102,12 @@ fn words_of(rt: &HostRuntime) -> io::Result<Vec<String>> {
     Ok(words.collect(rt.alloc())?)
 }
 
+/// Whether the environment asks that each fault is explained: the variable is `1`, and nothing else.
+fn asks_to_explain<R: Env>(rt: &R) -> bool {
+    let mut value = [0u8; 8];
+    matches!(rt.var(EXPLAIN, &mut value), Ok(1)) && value[0] == b'1'
+}
+
 /// Writes to standard error why there are no words, and gives the exit status: 4 where a word is no UTF-8, or that of
 /// refused memory.
 fn no_words<E: Write>(error: &io::Error, err: &mut E) -> u8 {
@@ -114,9 +129,14 @@ fn main(rt: HostRuntime) -> ExitCode {
     let mut disk = Disk {
         rt: &rt,
         reason: InlineText::new(),
+        explains: asks_to_explain(&rt),
     };
     let mut out = rt.stdout();
     let status = command(&rt, rt.alloc(), &words, &mut disk, &mut out, &mut err);
-    let Disk { rt: _, reason: _ } = disk;
+    let Disk {
+        rt: _,
+        reason: _,
+        explains: _,
+    } = disk;
     ExitCode::from(status)
 }

@@ -1,11 +1,13 @@
 -- What `clap` says of words that don't fit the form of the command line.
-use Rattle.std.proofs.Common.{◌≡◌, ◌≢◌, ◌⊎◌, inl, inr, ℕ, List, [], subst}
-use Rattle.std.specs.Prelude.{Option}
-use Rattle.clap.specs.Words.{HasKind, IsAmong, Kinds, Text, kind_of}
+use Rattle.std.proofs.Common.{◌≡◌, ◌≢◌, ◌⊎◌, ◌≤◌, ◌∙◌, inl, inr, ℕ, List, [], Result, Ok, Err, arith, subst, sym}
+use Rattle.std.specs.Prelude.{IfOk, Option}
+use Rattle.clap.specs.Words.{HasKind, IsAmong, Kinds, Row, Text, kind_of}
 use Rattle.clap.specs.declared.error.Error.{Error}
 use Rattle.clap.specs.declared.error.kind.ErrorKind.TheVariants.{OutOfMemory}
-use Rattle.sf_command_line.specs.CommandLine.{errors_at}
-use Rattle.sf_command.specs.Runs.{Helps, IsHelp, WritesText}
+use Rattle.sf_command_line.specs.CommandLine.{IsKnown, errors_at, subcommand_at}
+use Rattle.sf_command_line.specs.SubcommandLaws.{known_subcommand}
+use Rattle.sf_policy.specs.declared.fault.Fault.{Fault}
+use Rattle.sf_command.specs.Runs.{HasWrongWord, Helps, IsHelp, RefusesWords, WritesText}
 
 -- an answer to a call for help or for the version is what the words ask for
 pub helps : (words : List Text) (e : Error) (status : ℕ) (old new : Option Text) → HasKind (errors_at words) e
@@ -25,3 +27,17 @@ some_error words e (inr among) other none = subst (λ (ks : Kinds). IsAmong (kin
 pub without_third : {P Q R : Type 0} → P ⊎ (Q × R) → P ⊎ Q
 without_third (inl p) = inl p
 without_third (inr (q, r)) = inr q
+
+-- words for which `profile` ended with status 4, or for which no subcommand is known, are refused
+pub refused_words : (words : List Text) (named : Option (Text × List Row)) → named ≡ subcommand_at words
+    → (¬ IsKnown named) ⊎ HasWrongWord named → RefusesWords words
+refused_words words named entered (inl unknown) = inl (λ fits.
+    let (found, at, known) = known_subcommand words fits in unknown (found, entered ∙ at, known))
+refused_words words named entered (inr (found, at, is, wrong)) = inr (found, sym entered ∙ at, is, wrong)
+
+-- a run of `profile` that ended with another status than 4 did what it says
+pub profile_ran : (W : Type 0) (r : Result ℕ Fault) → IfOk r (λ s. (s ≡ 0) ⊎ (s ≡ 4)) → IfOk r (λ s. s ≡ 0 → W)
+    → IfOk r (λ s. s ≤ 2 → (s ≡ 0) × W)
+profile_ran W (Ok s) (inl zero) done = λ small. (zero, done zero)
+profile_ran W (Ok s) (inr four) done = λ small. absurd (omega (arith, four, small))
+profile_ran W (Err e) status done = tt

@@ -1,4 +1,5 @@
 pub mod KeptLemmas
 pub mod CommandLineLemmas
+pub mod ProfileLemmas
 pub mod RefusalLemmas
 pub mod NamingLemmas

@@ -1,5 +1,5 @@
 -- What the program does, by the words of its command line.
-use Rattle.std.specs.Prelude.{◌≡◌, ◌⊎◌, ℕ, Bool, List, [], Option, Some, codes}
+use Rattle.std.specs.Prelude.{◌≡◌, ◌⊎◌, ℕ, Bool, false, List, [], Option, Some, codes}
 use Rattle.std.specs.Borrow.{Bor}
 use Rattle.std.specs.Io.KnownBytes.{Appends}
 use Rattle.clap.specs.Words.{IsAmong, Row, Text, one_of}
@@ -17,6 +17,7 @@ use Rattle.sf_command.specs.Comparisons.{ComparesFiles, RefusesComparison}
 use Rattle.sf_command.specs.Listings.{ListsFiles, RefusesListing}
 use Rattle.sf_evaluate.specs.Names.{AreNamesRead, RefusesNaming}
 use Rattle.sf_evaluate.specs.Outputs.{ChecksFiles, EvaluatesFiles, RefusesCheck, RefusesEval}
+use Rattle.sf_evaluate.specs.Profiles.{RefusesProfile, WritesProfile, words_fit}
 
 -- the relation that a status is about: `Different` where the switch is given, and else `Looser`
 abbrev pub IsAskedRelation : Option Text → Relation → Type 0
@@ -44,7 +45,9 @@ module _ (holds : Text → Option Text) (rows : List Row) (status : ℕ) (old ne
   pub record Checks : Type 0 where
     pub paths : List (Bor Text)
     pub named : ArePaths (codes "filters") rows paths
-    pub checked : ChecksFiles holds paths old new
+    pub with_instructions : Bool
+    pub listed : IsSwitch (one_of (codes "instructions") rows) with_instructions
+    pub checked : ChecksFiles with_instructions holds paths old new
     pub told : status ≡ 0
 
   -- the input that is given was evaluated by the files that are named
@@ -86,13 +89,18 @@ module _ (holds : Text → Option Text) (rows : List Row) (status : ℕ) (old ne
     pub called : AreNamed holds rows names
     pub listed : ListsFiles holds paths names budget status old new
 
--- one of the five subcommands is named, and what belongs to its name holds of the values of its arguments
-abbrev pub ByName : (audit check eval compare list : List Row → Type 0) → Option (Text × List Row) → Type 0
-ByName audit check eval compare list named =
+  -- the filter of the profile that is named was written, or what is told of it
+  pub record Profiles : Type 0 where
+    pub written : WritesProfile holds rows old new
+    pub told : status ≡ 0
+
+-- one of the six subcommands is named, and what belongs to its name holds of the values of its arguments
+abbrev pub ByName : (audit check eval compare list profile : List Row → Type 0) → Option (Text × List Row) → Type 0
+ByName audit check eval compare list profile named =
     (found : Text × List Row) × (named ≡ Some found)
     × (((found.0 ≡ codes "audit") × audit found.1) ⊎ ((found.0 ≡ codes "check") × check found.1)
     ⊎ ((found.0 ≡ codes "eval") × eval found.1) ⊎ ((found.0 ≡ codes "compare") × compare found.1)
-    ⊎ ((found.0 ≡ codes "list") × list found.1))
+    ⊎ ((found.0 ≡ codes "list") × list found.1) ⊎ ((found.0 ≡ codes "profile") × profile found.1))
 
 -- what was done is what the named subcommand asks for
 abbrev pub RunsAs : (Text → Option Text) → Option (Text × List Row) → ℕ → Option Text → Option Text → Type 0
@@ -102,7 +110,17 @@ RunsAs holds named status old new = ByName
     (λ rows. Evaluates holds rows status old new)
     (λ rows. Compares holds rows status old new)
     (λ rows. Lists holds rows status old new)
+    (λ rows. Profiles holds rows status old new)
     named
+
+-- `profile` is named, and a word isn't one that its option takes
+abbrev pub HasWrongWord : Option (Text × List Row) → Type 0
+HasWrongWord named =
+    (found : Text × List Row) × (named ≡ Some found) × (found.0 ≡ codes "profile") × (words_fit found.1 ≡ false)
+
+-- the words are refused: they don't fit the form, or one isn't a word that its option takes
+abbrev pub RefusesWords : List Text → Type 0
+RefusesWords words = ¬ (errors_at words ≡ []) ⊎ HasWrongWord (subcommand_at words)
 
 -- some text was written
 abbrev pub WritesText : Option Text → Option Text → Type 0
@@ -144,6 +162,7 @@ RefusesAs holds named fault = ByName
     (λ rows. OnNames holds rows fault (OnPaths (codes "old") rows (λ old. OnPaths (codes "new") rows
     (λ new. RefusesComparison holds old new fault))))
     (λ rows. OnNames holds rows fault (OnPaths (codes "filters") rows (λ paths. RefusesListing holds paths fault)))
+    (λ rows. RefusesProfile holds rows fault)
     named
 
 -- Why what the words ask for is refused. Memory can run out at any time, and writing can fail even for help; the other

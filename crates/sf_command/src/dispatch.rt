@@ -8,7 +8,7 @@ ghost use Rattle.sf_command.specs.Comparisons.{RefusesComparison};
 ghost use Rattle.sf_command.specs.Listings.{RefusesListing};
 ghost use Rattle.sf_evaluate.specs.Names.{RefusesNaming};
 ghost use Rattle.sf_evaluate.specs.Outputs.{RefusesCheck, RefusesEval};
-ghost use Rattle.sf_command.specs.Runs.{AreNamed, Audits, Checks, Compares, Evaluates, RunsAs, IsAskedRelation, IsHelp, Lists, DoesAsTold, OnNames, OnPaths, RefusesAs, RefusesAsTold, WritesText};
+ghost use Rattle.sf_command.specs.Runs.{AreNamed, Audits, Checks, Compares, Evaluates, RunsAs, IsAskedRelation, IsHelp, Lists, DoesAsTold, HasWrongWord, OnNames, OnPaths, RefusesAs, RefusesAsTold, RefusesWords, WritesText};
 ghost use Rattle.sf_command_line.specs.CommandLine.{IsKnown, errors_at};
 ghost use Rattle.sf_command_line.specs.Options.{text_of};
 ghost use Rattle.sf_evaluate.specs.Status.{fault_status};
@@ -19,11 +19,14 @@ use crate::listing::{Limits, list};
 use clap::ArgMatches;
 use clap::error::ErrorKind;
 use sf_command_line::{
-    budget_of, command_form, leaves_of, text_of, wants_brief, wants_regions, wants_rows,
-    wants_same, wants_trace, workers_of,
+    budget_of, command_form, leaves_of, text_of, wants_brief, wants_instructions, wants_regions,
+    wants_rows, wants_same, wants_trace, workers_of,
 };
 use sf_compare::Relation;
-use sf_evaluate::{Files, Notes, check, evaluate, input_of, print, read_all_names, tell, warn};
+use sf_evaluate::{
+    Files, Notes, check, evaluate, input_of, print, profile, read_all_names, tell, tell_wrong_word,
+    warn,
+};
 use sf_policy::{Fault, Names};
 use std::alloc::Global;
 use std::io::Write;
@@ -72,7 +75,8 @@ fn run_check<F: Files, O: Write>(
         (λ paths. RefusesCheck (F.holds files.old) paths e)) }
 {
     let paths = found.get_strs("filters").unwrap_or(&[]);
-    check(alloc, paths, files, notes, out)?;
+    let listed = wants_instructions(found);
+    check(alloc, paths, listed, files, notes, out)?;
     Ok(0)
 }
 
@@ -194,7 +198,7 @@ fn run_list<R: Threads + Wait + Sync, F: Files, O: Write>(
     list(rt, alloc, paths, &names, limits, files, notes, out)
 }
 
-/// Runs the subcommand that the command line names, and gives its exit status; 4 where it names none of the five.
+/// Runs the subcommand that the command line names, and gives its exit status; 4 where it names none of the six.
 fn run<R: Threads + Wait + Sync, F: Files, O: Write>(
     rt: &R,
     alloc: Global,
@@ -206,7 +210,8 @@ fn run<R: Threads + Wait + Sync, F: Files, O: Write>(
     ensures status { IfOk result (λ s. (s ≤ 2) ⊎ (s ≡ 4)) }
     ensures done { IfOk result (λ s. s ≤ 2 → RunsAs (F.holds files.old)
         (subcommand_rows_of matches.now) s (O.contents out.old) (O.contents out.new)) }
-    ensures usage { IfOk result (λ s. s ≡ 4 → ¬ IsKnown (subcommand_rows_of matches.now)
+    ensures usage { IfOk result (λ s. s ≡ 4 → (¬ IsKnown (subcommand_rows_of matches.now)
+        ⊎ HasWrongWord (subcommand_rows_of matches.now))
         × (files.new ≡ files.old) × (out.new ≡ out.old)) }
     ensures quiet { IfErr result (λ e. (e ≡ WriteFault) ⊎ (out.new ≡ out.old)) }
     ensures refused { IfErr result (RefusesAs (F.holds files.old)
@@ -221,6 +226,7 @@ fn run<R: Threads + Wait + Sync, F: Files, O: Write>(
         "eval" => run_eval(alloc, found, files, notes, out),
         "compare" => run_compare(rt, alloc, found, files, notes, out),
         "list" => run_list(rt, alloc, found, files, notes, out),
+        "profile" => profile(alloc, found, files, notes, out),
         _ => Ok(4),
     }
 }
@@ -274,8 +280,7 @@ fn reply<R: Threads + Wait + Sync, F: Files, O: Write, E: Write>(
     ensures status { IfOk result (λ s. (s ≤ 2) ⊎ (s ≡ 4)) }
     ensures done { IfOk result (λ s. s ≤ 2 → DoesAsTold (F.holds files.old)
         (map string_bytes words.now) s (O.contents out.old) (O.contents out.new)) }
-    ensures usage { IfOk result (λ s. s ≡ 4
-        → ¬ (errors_at (map string_bytes words.now) ≡ [])
+    ensures usage { IfOk result (λ s. s ≡ 4 → RefusesWords (map string_bytes words.now)
         × (files.new ≡ files.old) × (out.new ≡ out.old)) }
     ensures quiet { IfErr result (λ e. (e ≡ WriteFault) ⊎ (out.new ≡ out.old)) }
     ensures refused { IfErr result (RefusesAsTold (F.holds files.old)
@@ -284,9 +289,10 @@ fn reply<R: Threads + Wait + Sync, F: Files, O: Write, E: Write>(
     match command_form(alloc)?.try_get_matches_from(words) {
         Ok(matches) => {
             let ran = run(rt, alloc, &matches, files, notes, out);
-            notes.explain(alloc, &matches, &ran, files.reason());
+            notes.explain(alloc, &matches, &ran, files.explains(), files.reason());
             if ran.is_ok() {
                 warn(&matches, &notes.warnings, err);
+                tell_wrong_word(alloc, &matches, &ran, err);
             }
             ran
         }
@@ -301,13 +307,13 @@ fn reply<R: Threads + Wait + Sync, F: Files, O: Write, E: Write>(
 /// - 1: some question of an audit is allowed, or the relation that is asked for is found.
 /// - 2: none is, and some is unsettled; after a listing some row has several answers, or a piece is
 ///   outstanding.
-/// - 3: the filters, the policy, a file of names or the input are refused. Standard output is left as it was.
+/// - 3: the filters, the policy, a profile, a file of names or the input are refused. Standard output is left as it was.
 /// - 4: the command line is refused. No file was read, standard output is left as it was, and standard error has the
-///   text of `clap`.
+///   text of `clap`, or of `tell_wrong_word`.
 /// - 5: reading, writing or memory failed. Standard output is left as it was, unless writing failed.
 ///
 /// At 3 and 5 one line on standard error names the fault: `error`, its number, its name and its place. With
-/// `--explain-errors` lines for a person follow.
+/// `--explain-errors`, or where `files` say so, lines for a person follow.
 pub fn command<R: Threads + Wait + Sync, F: Files, O: Write, E: Write>(
     rt: &R,
     alloc: Global,
@@ -320,7 +326,7 @@ pub fn command<R: Threads + Wait + Sync, F: Files, O: Write, E: Write>(
     ensures done { result ≤ 2 → DoesAsTold (F.holds files.old)
         (map string_bytes words.now) result
         (O.contents out.old) (O.contents out.new) }
-    ensures usage { result ≡ 4 → ¬ (errors_at (map string_bytes words.now) ≡ [])
+    ensures usage { result ≡ 4 → RefusesWords (map string_bytes words.now)
         × (files.new ≡ files.old) × (out.new ≡ out.old) }
     ensures refused { result ≡ 3 → (out.new ≡ out.old)
         × ((e : Fault) × (fault_status (fault_number e) ≡ 3)

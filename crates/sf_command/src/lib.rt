@@ -4,6 +4,7 @@
 mod auditing;
 mod comparing;
 mod dispatch;
+pub mod laws;
 mod listing;
 mod status;
 

@@ -40,7 +40,15 @@ files_rule name = record (needed_rule name) {
   action = Some Append;
 }
 
--- an option `--name FILE` that may be given more than once, with one file each time
+-- a file that must be given, which belongs to no option
+abbrev pub file_rule : Text → Rule
+file_rule name = record (new_rule name) { value_names = 1; required = true }
+
+-- an option `--name WORD`; where it is left out, the usual word stands for it
+abbrev pub word_rule : Text → Text → Rule
+word_rule name usual = record (option_rule name) { defaults = usual ∷ [] }
+
+-- an option `--name FILE` that may be given more than once, with one value each time
 abbrev pub repeated_rule : Text → Rule
 repeated_rule name = record (option_rule name) { action = Some Append }
 
@@ -55,9 +63,10 @@ audit_line = with_rule (with_rule (with_rule (with_rule (with_rule (with_rule (w
     (switch_rule (codes "explain-errors")))
     filters_rule
 
--- `check [--quiet] [--explain-errors] FILTER..`
+-- `check [--instructions] [--quiet] [--explain-errors] FILTER..`
 abbrev pub check_line : App
-check_line = with_rule (with_rule (with_rule (new_app (codes "check"))
+check_line = with_rule (with_rule (with_rule (with_rule (new_app (codes "check"))
+    (switch_rule (codes "instructions")))
     (switch_rule (codes "quiet")))
     (switch_rule (codes "explain-errors")))
     filters_rule
@@ -99,6 +108,22 @@ list_line = with_rule (with_rule (with_rule (with_rule (with_rule (with_rule (wi
     (switch_rule (codes "explain-errors")))
     filters_rule
 
+-- `profile --machine MACHINE [--names FILE].. [--cap NAME].. [--kernel X.Y] [--conflicts RULE] [--newer] [--notes]
+-- [--quiet] [--explain-errors] PROFILE`
+abbrev pub profile_line : App
+profile_line = with_rule (with_rule (with_rule (with_rule (with_rule (with_rule (with_rule (with_rule (with_rule
+    (with_rule (new_app (codes "profile"))
+    (needed_rule (codes "machine")))
+    (repeated_rule (codes "names")))
+    (repeated_rule (codes "cap")))
+    (option_rule (codes "kernel")))
+    (word_rule (codes "conflicts") (codes "strictest")))
+    (switch_rule (codes "newer")))
+    (switch_rule (codes "notes")))
+    (switch_rule (codes "quiet")))
+    (switch_rule (codes "explain-errors")))
+    (file_rule (codes "profile"))
+
 -- The program without its subcommands: the words begin behind its name, one of them must be a subcommand, `help` is
 -- none, and there is a version.
 abbrev pub program_line : App
@@ -111,11 +136,11 @@ program_line = let new = new_app (codes "seccomp_audit") in record new {
   };
 }
 
--- the whole command line: the program with its five subcommands
+-- the whole command line: the program with its six subcommands
 unfoldable pub command_line : App
 command_line =
-    with_subcommand (with_subcommand (with_subcommand (with_subcommand (with_subcommand program_line audit_line.top)
-    check_line.top) eval_line.top) compare_line.top) list_line.top
+    with_subcommand (with_subcommand (with_subcommand (with_subcommand (with_subcommand (with_subcommand program_line
+    audit_line.top) check_line.top) eval_line.top) compare_line.top) list_line.top) profile_line.top
 
 -- the errors that `clap` may give for the words; none where the words fit the form
 unfoldable pub errors_at : List Text → Kinds
@@ -125,9 +150,9 @@ errors_at words = fault_of command_line words
 unfoldable pub subcommand_at : List Text → Option (Text × List Row)
 subcommand_at words = subcommand_of command_line words
 
--- one of the five subcommands is named
+-- one of the six subcommands is named
 abbrev pub IsKnown : Option (Text × List Row) → Type 0
 IsKnown named =
     (found : Text × List Row) × (named ≡ Some found)
     × ((found.0 ≡ codes "audit") ⊎ (found.0 ≡ codes "check") ⊎ (found.0 ≡ codes "eval")
-    ⊎ (found.0 ≡ codes "compare") ⊎ (found.0 ≡ codes "list"))
+    ⊎ (found.0 ≡ codes "compare") ⊎ (found.0 ≡ codes "list") ⊎ (found.0 ≡ codes "profile"))

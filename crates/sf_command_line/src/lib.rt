@@ -5,7 +5,7 @@ mod options;
 mod words;
 
 pub use options::{
-    budget_of, leaves_of, text_of, wants_brief, wants_explanation, wants_quiet, wants_regions,
-    wants_rows, wants_same, wants_trace, workers_of,
+    budget_of, leaves_of, text_of, wants_brief, wants_explanation, wants_instructions, wants_newer,
+    wants_notes, wants_quiet, wants_regions, wants_rows, wants_same, wants_trace, workers_of,
 };
 pub use words::command_form;

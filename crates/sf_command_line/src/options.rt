@@ -87,6 +87,27 @@ pub fn wants_explanation(found: &ArgMatches<'_>) -> bool
     is_on(found, "explain-errors")
 }
 
+/// Whether a check lists the instructions of each filter.
+pub fn wants_instructions(found: &ArgMatches<'_>) -> bool
+    ensures { IsSwitch (one_of (codes "instructions") (rows_of (found_of found.now))) result }
+{
+    is_on(found, "instructions")
+}
+
+/// Whether calls that are newer than a profile fail with ENOSYS.
+pub fn wants_newer(found: &ArgMatches<'_>) -> bool
+    ensures { IsSwitch (one_of (codes "newer") (rows_of (found_of found.now))) result }
+{
+    is_on(found, "newer")
+}
+
+/// Whether a profile is told of, and no filter written.
+pub fn wants_notes(found: &ArgMatches<'_>) -> bool
+    ensures { IsSwitch (one_of (codes "notes") (rows_of (found_of found.now))) result }
+{
+    is_on(found, "notes")
+}
+
 /// Whether warnings are left out.
 pub fn wants_quiet(found: &ArgMatches<'_>) -> bool
     ensures { IsSwitch (one_of (codes "quiet") (rows_of (found_of found.now))) result }

@@ -1,20 +1,20 @@
 //! The form of the command line: its subcommands, and the options of each.
 ghost use Rattle.std.specs.Prelude.{◌≡◌, ℕ, IfOk, codes, false};
 ghost use Rattle.clap.specs.Words.{app_of, rule_of};
-ghost use Rattle.sf_command_line.specs.CommandLine.{audit_line, check_line, command_line, compare_line, eval_line, files_rule, filters_rule, list_line, needed_rule, number_rule, option_rule, program_line, repeated_rule, switch_rule};
+ghost use Rattle.sf_command_line.specs.CommandLine.{audit_line, check_line, command_line, compare_line, eval_line, file_rule, files_rule, filters_rule, list_line, needed_rule, number_rule, option_rule, profile_line, program_line, repeated_rule, switch_rule, word_rule};
 
 use clap::{Arg, ArgAction, Command, value_parser};
 use std::alloc::{AllocError, Global};
 
 /// The version of the program, as `--version` shows it.
-const VERSION: &str = "1.1.0";
+const VERSION: &str = "1.2.0";
 
 /// What stands at the end of `--help`.
 const AFTER_HELP: &str = "Exit status:
-  0  every question is never; compare: looser is never; list: each row has one answer; check, eval and help: done
+  0  every question is never; compare: looser is never; list: each row has one answer; check, eval, profile, help: done
   1  some question is allowed; compare: looser is found
   2  some question is unsettled, and none allowed; compare: looser is unsettled; list: a row has several answers
-  3  a filter, the stack, the policy, a file of names or the input is refused
+  3  a filter, the stack, the policy, a profile, a file of names or the input is refused
   4  the command line is refused
   5  a file can't be read, standard output can't be written, or memory ran out
 
@@ -199,6 +199,81 @@ fn names<'a>(alloc: Global) -> Arg<'a>
         .help("A file of names of calls, which rows and traces show; once for each file")
 }
 
+/// `--instructions`: whether a check lists the instructions of each filter.
+fn instructions<'a>(alloc: Global) -> Arg<'a>
+    ensures rule { rule_of result ≡ switch_rule (codes "instructions") }
+    ensures own { result.global ≡ false }
+{
+    switch(alloc, "instructions").help("List the instructions of each filter too")
+}
+
+/// `--machine`: the machine for which a profile is read.
+fn machine<'a>(alloc: Global) -> Arg<'a>
+    ensures rule { rule_of result ≡ needed_rule (codes "machine") }
+    ensures own { result.global ≡ false }
+{
+    option(alloc, "machine", "MACHINE")
+        .required(true)
+        .help("The machine: x86_64, i386, aarch64 or arm")
+}
+
+/// `--cap`: a capability that the container has; it may be given more than once.
+fn cap<'a>(alloc: Global) -> Arg<'a>
+    ensures rule { rule_of result ≡ repeated_rule (codes "cap") }
+    ensures own { result.global ≡ false }
+{
+    option(alloc, "cap", "NAME").action(ArgAction::Append).help(
+        "A capability that the container has, such as CAP_SYS_PTRACE; once for each",
+    )
+}
+
+/// `--kernel`: the version of the kernel.
+fn kernel<'a>(alloc: Global) -> Arg<'a>
+    ensures rule { rule_of result ≡ option_rule (codes "kernel") }
+    ensures own { result.global ≡ false }
+{
+    option(alloc, "kernel", "X.Y").help("The version of the kernel, such as 6.12")
+}
+
+/// `--conflicts`: which rule counts where several speak of one call.
+fn conflicts<'a>(alloc: Global) -> Arg<'a>
+    ensures rule { rule_of result ≡ word_rule (codes "conflicts") (codes "strictest") }
+    ensures own { result.global ≡ false }
+{
+    option(alloc, "conflicts", "RULE")
+        .default_value("strictest")
+        .help("Which rule counts where several speak of one call: strictest, mildest or first")
+}
+
+/// `--newer`: whether calls that are newer than the profile fail with ENOSYS.
+fn newer<'a>(alloc: Global) -> Arg<'a>
+    ensures rule { rule_of result ≡ switch_rule (codes "newer") }
+    ensures own { result.global ≡ false }
+{
+    switch(alloc, "newer").help(
+        "Let calls that are newer than the profile fail with ENOSYS, as runc does",
+    )
+}
+
+/// `--notes`: whether the profile is told of, and no filter written.
+fn notes<'a>(alloc: Global) -> Arg<'a>
+    ensures rule { rule_of result ≡ switch_rule (codes "notes") }
+    ensures own { result.global ≡ false }
+{
+    switch(alloc, "notes").help("Write what the profile has, and not its filter")
+}
+
+/// The path of the file of a profile.
+fn profile_file<'a>(alloc: Global) -> Arg<'a>
+    ensures rule { rule_of result ≡ file_rule (codes "profile") }
+    ensures own { result.global ≡ false }
+{
+    Arg::new(alloc, "profile")
+        .value_name("PROFILE")
+        .required(true)
+        .help("The JSON file of the profile")
+}
+
 /// The subcommand `audit` and what it takes.
 fn audit<'a>(alloc: Global) -> Result<Command<'a>, AllocError>
     ensures { IfOk result (λ c. app_of c ≡ audit_line) }
@@ -220,6 +295,7 @@ fn check<'a>(alloc: Global) -> Result<Command<'a>, AllocError>
 {
     Command::new(alloc, "check")
         .about("Check whether files are lawful filters that make a lawful stack")
+        .arg(instructions(alloc))?
         .arg(quiet(alloc))?
         .arg(explain(alloc))?
         .arg(filters(alloc))
@@ -276,6 +352,24 @@ fn list<'a>(alloc: Global) -> Result<Command<'a>, AllocError>
         .arg(filters(alloc))
 }
 
+/// The subcommand `profile` and what it takes.
+fn profile<'a>(alloc: Global) -> Result<Command<'a>, AllocError>
+    ensures { IfOk result (λ c. app_of c ≡ profile_line) }
+{
+    Command::new(alloc, "profile")
+        .about("Write the filter that a JSON profile means, to be compared with what is installed")
+        .arg(machine(alloc))?
+        .arg(names(alloc))?
+        .arg(cap(alloc))?
+        .arg(kernel(alloc))?
+        .arg(conflicts(alloc))?
+        .arg(newer(alloc))?
+        .arg(notes(alloc))?
+        .arg(quiet(alloc))?
+        .arg(explain(alloc))?
+        .arg(profile_file(alloc))
+}
+
 /// The program without its subcommands.
 fn program<'a>(alloc: Global) -> Result<Command<'a>, AllocError>
     ensures { IfOk result (λ c. app_of c ≡ program_line) }
@@ -303,5 +397,6 @@ pub fn command_form<'a>(alloc: Global) -> Result<Command<'a>, AllocError>
         .subcommand(check(alloc)?)?
         .subcommand(eval(alloc)?)?
         .subcommand(compare(alloc)?)?
-        .subcommand(list(alloc)?)
+        .subcommand(list(alloc)?)?
+        .subcommand(profile(alloc)?)
 }

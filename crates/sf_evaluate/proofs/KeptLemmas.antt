@@ -1,13 +1,13 @@
 -- Files that are read one after the other, of which only the first ones are kept.
 use Rattle.std.proofs.Common.{◌≡◌, ◌⊎◌, inl, inr, ℕ, ◌<◌, ◌≤◌, List, [], ◌∷◌, ◌++◌, length, length-append, take, Option, Bor, refl, sym, subst, arith, ◌∙◌, ◌+◌}
 use Rattle.std.proofs.lemmas.List.{take-append-le, take_all}
-use Rattle.std.specs.Prelude.{Bool, Some, slice_get}
+use Rattle.std.specs.Prelude.{Bool, None, Some, slice_get}
 use Rattle.sf_insn.specs.declared.input.Input.{Input}
 use Rattle.sf_policy.specs.declared.fault.Fault.{Fault}
 use Rattle.sf_policy.specs.declared.fault.Fault.TheVariants as faults
 use Rattle.sf_policy.specs.Names.{NamesData}
 use Rattle.sf_policy.specs.Filters.{IsFirstRefusal}
-use Rattle.sf_evaluate.specs.Files.{AreKept, AreKnownBytes}
+use Rattle.sf_evaluate.specs.Files.{AreKept, AreKnownBytes, HasUnknown}
 use Rattle.sf_evaluate.specs.KeptLaws.{few_are_all, kept_refusal, kept_stack, many_of_many}
 use Rattle.sf_evaluate.specs.Outputs.{AnswersFiles, ChecksFiles, RefusesFiles, WritesAnswer, WritesCheck}
 use Rattle.sf_evaluate.proofs.Pairing.{PairedSoFar, paired_all, paired_more}
@@ -73,9 +73,10 @@ all_kept before after paths place kept so_far over under = search (arith, paired
 
 module _ (holds : List ℕ → Option (List ℕ)) (paths : List (Bor (List ℕ))) (kept : List (List ℕ))
     (all : AreKept holds paths kept) where
-  pub kept_checks : (old new : Option (List ℕ)) → WritesCheck kept old new → ChecksFiles holds paths old new
-  kept_checks old new (programs, spell, written) =
-      (kept, kept_stack holds paths kept all programs spell, (programs, spell, written))
+  pub kept_checks : (listed : Bool) (old new : Option (List ℕ)) → WritesCheck listed kept old new
+      → ChecksFiles listed holds paths old new
+  kept_checks listed old new (programs, text, spell, told, written) =
+      (kept, kept_stack holds paths kept all programs spell, (programs, text, spell, told, written))
 
   pub kept_answers : (input : Input) (traced brief : Bool) (names : List NamesData) (old new : Option (List ℕ))
       → WritesAnswer kept input traced brief names old new
@@ -95,3 +96,12 @@ module _ (holds : List ℕ → Option (List ℕ)) (paths : List (Bor (List ℕ))
       → (e ≡ faults.Write) ⊎ (RefusesFiles holds paths e × Same)
   kept_refuses e (inl write) = inl write
   kept_refuses e (inr (why, same)) = inr (kept_why e why, same)
+
+-- a file can't be read, or memory ran out
+pub read_why : (before after : List ℕ → Option (List ℕ)) (paths : List (Bor (List ℕ))) (n : ℕ)
+    (path : Bor (List ℕ)) (e : Fault) → ((p : List ℕ) → after p ≡ before p) → slice_get paths n ≡ Some path
+    → ((e ≡ faults.Read) × (after path.now ≡ None)) ⊎ (e ≡ faults.Memory)
+    → ((e ≡ faults.Read) × HasUnknown before paths) ⊎ (e ≡ faults.Memory)
+read_why before after paths n path e same at (inl (read, none)) =
+    inl (read, record { place = n; path = path; at = at; unknown = sym (same path.now) ∙ none })
+read_why before after paths n path e same at (inr memory) = inr memory

@@ -2,4 +2,8 @@ pub mod Pairing
 pub mod PolicyLemmas
 pub mod KeptLemmas
 pub mod TraceLemmas
+pub mod ListingLemmas
+pub mod OneText
 pub mod NamingLemmas
+pub mod WordLemmas
+pub mod ProfilingLemmas

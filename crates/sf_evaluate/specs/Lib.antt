@@ -4,7 +4,9 @@ pub mod FilesLaws
 pub mod KeptLaws
 pub mod Names
 pub mod Policies
+pub mod Instructions
 pub mod Texts
 pub mod Traces
 pub mod Outputs
 pub mod Status
+pub mod Profiles

@@ -13,13 +13,14 @@ use Rattle.sf_policy.specs.declared.fault.Fault.TheVariants.{Input as InputFault
 use Rattle.sf_policy.specs.Filters.{IsFirstRefusal, SpellStack}
 use Rattle.sf_policy.specs.Names.{NamesData}
 use Rattle.sf_evaluate.specs.Files.{AreRead, HasUnknown}
-use Rattle.sf_evaluate.specs.Texts.{check_text}
+use Rattle.sf_evaluate.specs.Texts.{IsCheckText}
 use Rattle.sf_evaluate.specs.Traces.{eval_text}
 
 -- the files spell a lawful stack, and the text about it is added to what was written, where that is known
-abbrev pub WritesCheck : List (List ℕ) → Option (List ℕ) → Option (List ℕ) → Type 0
-WritesCheck files old new =
-    (programs : List (List Insn)) × SpellStack files programs × Appends old new (check_text programs)
+abbrev pub WritesCheck : (listed : Bool) → List (List ℕ) → Option (List ℕ) → Option (List ℕ) → Type 0
+WritesCheck listed files old new =
+    (programs : List (List Insn)) × (text : List ℕ) × SpellStack files programs
+    × IsCheckText listed programs text × Appends old new text
 
 -- The files spell a lawful stack, and the line of what it answers to the input is added to what was written, where that
 -- is known. Under it stand the lines that show where the answer comes from, if they are asked for, with
@@ -32,8 +33,11 @@ WritesAnswer files input traced brief names old new =
     × Answers programs input answer × Appends old new (eval_text traced brief names programs input answer)
 
 -- `check`: the files at the paths are read, and what they spell is written
-abbrev pub ChecksFiles : (List ℕ → Option (List ℕ)) → List (Bor (List ℕ)) → Option (List ℕ) → Option (List ℕ) → Type 0
-ChecksFiles holds paths old new = (files : List (List ℕ)) × AreRead holds paths files × WritesCheck files old new
+abbrev pub ChecksFiles : (listed : Bool) → (List ℕ → Option (List ℕ)) → List (Bor (List ℕ)) → Option (List ℕ)
+    → Option (List ℕ)
+    → Type 0
+ChecksFiles listed holds paths old new =
+    (files : List (List ℕ)) × AreRead holds paths files × WritesCheck listed files old new
 
 -- the files at the paths are read, and what they answer to the input is written
 abbrev pub AnswersFiles : Input → (traced brief : Bool) → (List ℕ → Option (List ℕ)) → List (Bor (List ℕ))

@@ -43,15 +43,16 @@ pub fn input_of(text: &str) -> Result<Input, Fault>
     Ok(input_of_bytes(&bytes))
 }
 
-/// Writes the number of instructions of each filter and the path length of their stack. The notes get the warnings that
-/// the files call for.
+/// Writes the number of instructions of each filter and the path length of their stack, and the instructions too where
+/// `listed` asks for them. The notes get the warnings that the files call for.
 fn check_filters<O: Write>(
     alloc: Global,
     filters: &[Vec<u8>],
+    listed: bool,
     notes: &mut Notes,
     out: &mut O,
 ) -> Result<(), Fault>
-    ensures written { OnOk result (WritesCheck (map (λ f. f.items) filters.now)
+    ensures written { OnOk result (WritesCheck listed (map (λ f. f.items) filters.now)
         (O.contents out.old) (O.contents out.new)) }
     ensures refused { IfErr result (λ e. (e ≡ WriteFault)
         ⊎ (((e ≡ MemoryFault) ⊎ IsFirstRefusal (map (λ f. f.items) filters.now) e)
@@ -59,7 +60,7 @@ fn check_filters<O: Write>(
 {
     let stack = stack_of(alloc, filters)?;
     notes.warnings = warnings_of_files(alloc, filters, stack.programs());
-    let text = check_text(alloc, &stack)?;
+    let text = check_text(alloc, &stack, listed)?;
     print(&text, out)
 }
 
@@ -116,7 +117,8 @@ fn evaluate_filters<O: Write>(
 }
 
 /// Reads the filter files, which are named in order of installation, and writes the number of instructions of each and
-/// the path length of their stack.
+/// the path length of their stack. Where `listed` asks for it, the instructions of each filter stand under its line, and
+/// those to which no path through the filter comes have a comment.
 ///
 /// Refusals, tried in this order: `Read` where a file can't be read; what `stack_of` refuses; `Write` where standard
 /// output can't be written, after a beginning of the text. `Memory` can come anywhere. After any error but `Write`
@@ -124,17 +126,18 @@ fn evaluate_filters<O: Write>(
 pub fn check<F: Files, O: Write>(
     alloc: Global,
     paths: &[&str],
+    listed: bool,
     files: &mut F,
     notes: &mut Notes,
     out: &mut O,
 ) -> Result<(), Fault>
-    ensures written { OnOk result (ChecksFiles (F.holds files.old) paths.now (O.contents out.old)
-        (O.contents out.new)) }
+    ensures written { OnOk result (ChecksFiles listed (F.holds files.old) paths.now
+        (O.contents out.old) (O.contents out.new)) }
     ensures refused { IfErr result (λ e. (e ≡ WriteFault)
         ⊎ (RefusesFiles (F.holds files.old) paths.now e × (out.new ≡ out.old))) }
 {
     let filters = read_all(alloc, paths, files, notes)?;
-    check_filters(alloc, &filters, notes, out)
+    check_filters(alloc, &filters, listed, notes, out)
 }
 
 /// Reads the filter files, which are named in order of installation, and writes what their stack answers to the input.

@@ -1,17 +1,22 @@
 //! What `--explain-errors` shows of a fault under its line. It is for a person: contracts say only when it may be
 //! shown.
 
-ghost use Rattle.std.specs.Prelude.{◌≡◌, [], IfOk, None};
+ghost use Rattle.std.specs.Prelude.{◌≡◌, [], IfOk, None, false};
 ghost use Rattle.clap.specs.Words.{subcommand_rows_of};
 ghost use Rattle.sf_policy.specs.Faults.{without_place};
 ghost use Rattle.sf_command_line.specs.Options.{IsUnasked};
 
+use crate::hints::{
+    Hint, hint_of_filter, hint_of_input, hint_of_names, hint_of_policy, hint_of_profile,
+    hint_of_unread,
+};
+use crate::kinds::{Kind, bytes_of_text, kind_of};
 use crate::meanings::meaning_of;
 use crate::places::position_of;
 use crate::policies::Page;
 use clap::ArgMatches;
 use sf_ask::Question;
-use sf_command_line::wants_explanation;
+use sf_command_line::{text_of, wants_explanation};
 use sf_policy::{Fault, Refusal};
 use std::alloc::{AllocError, Global};
 
@@ -22,8 +27,12 @@ pub struct Notes {
     pub policy: Vec<u8>,
     /// Why the policy is refused, if `read_policy` refuses it.
     pub refusal: Option<Refusal>,
+    /// The key for which a profile is refused, where one is known, or that there is no memory for it.
+    pub key: Result<Option<String>, AllocError>,
     /// How many files were read, the policy file and files of names among them.
     pub files: usize,
+    /// What each of these files seems to hold, in order; less of them where an allocation was refused.
+    kinds: Vec<Kind>,
     /// The lines that explain the fault, where they are asked for and there is memory for them.
     pub explanation: Option<String>,
     /// The lines of warnings, or that there is no memory for them.
@@ -40,9 +49,28 @@ impl Notes {
         Notes {
             policy: Vec::new(alloc),
             refusal: None,
+            key: Ok(None),
             files: 0,
+            kinds: Vec::new(alloc),
             explanation: None,
             warnings: Ok(String::new(alloc)),
+        }
+    }
+
+    /// Counts a file with these bytes that was read, and keeps what it seems to hold. That isn't kept where there is no
+    /// memory for it, nor then for later files.
+    pub(crate) fn count_file(&mut self, bytes: &[u8]) {
+        if self.kinds.len() == self.files {
+            let _ = self.kinds.push(kind_of(bytes));
+        }
+        self.files = self.files.saturating_add(1);
+    }
+
+    /// What the file at a place among all that were read seems to hold, counted from 0; `Empty` where that isn't known.
+    fn kind_at(&self, place: usize) -> Kind {
+        match self.kinds.get(place) {
+            Some(kind) => *kind,
+            None => Kind::Empty,
         }
     }
 
@@ -63,23 +91,24 @@ impl Notes {
         }
     }
 
-    /// Keeps the lines that explain a fault, if the run ended with one and the matches ask for them. `reason` says why
-    /// the last file was refused, in words for a person.
+    /// Keeps the lines that explain a fault, if the run ended with one, and the matches ask for them or `explains` says
+    /// that each fault is explained. `reason` says why the last file was refused, in words for a person.
     pub fn explain(
         &mut self,
         alloc: Global,
         matches: &ArgMatches<'_>,
         ran: &Result<u8, Fault>,
+        explains: bool,
         reason: &str,
     )
         ensures ok { IfOk ran.now (λ _. self.new ≡ self.old) }
-        ensures unasked { IsUnasked (subcommand_rows_of matches.now)
+        ensures unasked { explains ≡ false → IsUnasked (subcommand_rows_of matches.now)
             → self.old.explanation ≡ None → self.new.explanation ≡ None }
         ensures kept { (self.new.policy ≡ self.old.policy)
             × (self.new.refusal ≡ self.old.refusal) × (self.new.files ≡ self.old.files) }
     {
         if let Err(fault) = ran {
-            self.explanation = explanation(alloc, matches, fault, self, reason);
+            self.explanation = explanation(alloc, matches, fault, self, explains, reason);
         }
     }
 }
@@ -88,7 +117,7 @@ impl Notes {
 /// old stack stand before those of the new one.
 fn filter_path<'a>(found: &ArgMatches<'a>, place: usize) -> &'a str {
     let mut place = place;
-    for name in ["filters", "old", "new"] {
+    for name in ["filters", "old", "new", "profile"] {
         let paths = found.get_strs(name).unwrap_or(&[]);
         if let Some(path) = paths.get(place) {
             return *path;
@@ -155,14 +184,6 @@ fn push_input(text: &mut String, input: &str) -> Result<(), AllocError> {
     }
 }
 
-/// A policy's bytes without a byte order mark at their front, which belongs to no line.
-fn bytes_of_text(policy: &[u8]) -> &[u8] {
-    match policy {
-        [0xEF, 0xBB, 0xBF, rest @ ..] => rest,
-        _ => policy,
-    }
-}
-
 /// Adds the line of the policy file, and where the policy is refused, as far as that is known.
 fn push_policy(
     alloc: Global,
@@ -188,15 +209,34 @@ fn push_policy(
     }
 }
 
-/// The lines that explain a fault: where it lies, and what its number means.
-fn fault_text(
-    alloc: Global,
+/// Adds the line of the profile, and the key for which it is refused, where one is known; or the line of a file of names
+/// whose architecture has no set of calls.
+fn push_profile(
+    text: &mut String,
     found: &ArgMatches<'_>,
-    fault: &Fault,
+    refusal: sf_profile::Fault,
     notes: &Notes,
-    reason: &str,
-) -> Result<String, AllocError> {
-    let mut text = String::new(alloc);
+) -> Result<(), AllocError> {
+    let names = found.get_strs("names").unwrap_or(&[]);
+    if refusal == sf_profile::Fault::Set && notes.files <= names.len() {
+        return push_names(text, found, notes);
+    }
+    let path = text_of(found, "profile");
+    write!(text, "profile {path:?}\n")?;
+    match &notes.key {
+        Ok(Some(key)) => push_key(text, key),
+        Ok(None) => Ok(()),
+        Err(_) => Err(AllocError),
+    }
+}
+
+/// Adds the line of a key.
+fn push_key(text: &mut String, key: &str) -> Result<(), AllocError> {
+    write!(text, "key {key:?}\n")
+}
+
+/// The number of the filter that is refused for a fault, from 1.
+fn filter_of(fault: &Fault) -> Option<usize> {
     match fault {
         Fault::Ragged { filter }
         | Fault::Empty { filter }
@@ -205,12 +245,14 @@ fn fault_text(
         | Fault::Field { filter, .. }
         | Fault::Jump { filter, .. }
         | Fault::Last { filter }
-        | Fault::Scratch { filter, .. } => {
-            let path = filter_path(found, filter.saturating_sub(1));
-            write!(text, "filter {filter} {path:?}\n")?;
-        }
-        Fault::Input => push_input(&mut text, found.get_str("input").unwrap_or(""))?,
-        Fault::Read => push_unread(&mut text, path_at(found, notes.files), reason)?,
+        | Fault::Scratch { filter, .. } => Some(*filter),
+        _ => None,
+    }
+}
+
+/// Whether a policy or a file of names is refused for a fault.
+fn is_of_text(fault: &Fault) -> bool {
+    match fault {
         Fault::Version
         | Fault::TopKey
         | Fault::Count
@@ -221,29 +263,116 @@ fn fault_text(
         | Fault::Name { .. }
         | Fault::Mask { .. }
         | Fault::NamesKey
-        | Fault::NamesRange => push_asked(alloc, &mut text, found, notes)?,
-        _ => {}
+        | Fault::NamesRange => true,
+        _ => false,
     }
+}
+
+/// Adds the lines that say where a fault lies. The first one names the file that is refused or can't be read, if there is
+/// one.
+fn push_place(
+    alloc: Global,
+    text: &mut String,
+    found: &ArgMatches<'_>,
+    fault: &Fault,
+    notes: &Notes,
+    reason: &str,
+) -> Result<(), AllocError> {
+    if let Some(filter) = filter_of(fault) {
+        let path = filter_path(found, filter.saturating_sub(1));
+        return write!(text, "filter {filter} {path:?}\n");
+    }
+    match fault {
+        Fault::Profile(refusal) => push_profile(text, found, *refusal, notes),
+        Fault::Input => push_input(text, found.get_str("input").unwrap_or("")),
+        Fault::Read => push_unread(text, path_at(found, notes.files), reason),
+        _ if is_of_text(fault) => push_asked(alloc, text, found, notes),
+        _ => Ok(()),
+    }
+}
+
+/// How many files are read before the filter files.
+fn files_before_filters(found: &ArgMatches<'_>) -> usize {
+    match found.get_str("policy") {
+        Some(_) => 1,
+        None => found.get_strs("names").unwrap_or(&[]).len(),
+    }
+}
+
+/// The hint for a file that can't be read: none for a filter.
+fn hint_of_read(found: &ArgMatches<'_>, place: usize, reason: &str) -> Option<Hint> {
+    if files_before_filters(found) <= place {
+        return None;
+    }
+    let ready = match found.get_str("policy") {
+        Some(_) => "a policy file is wanted, as policies/x86_64.toml is one",
+        None => "a file of names is wanted, as policies/names/x86_64.toml is one",
+    };
+    hint_of_unread(path_at(found, place), reason, ready)
+}
+
+/// What a person may have meant who gave what is refused, where that is known. An error where an allocation is refused.
+fn hint_of(
+    alloc: Global,
+    found: &ArgMatches<'_>,
+    fault: &Fault,
+    notes: &Notes,
+    reason: &str,
+) -> Result<Option<Hint>, AllocError> {
+    if let Some(filter) = filter_of(fault) {
+        let place = files_before_filters(found).saturating_add(filter.saturating_sub(1));
+        return Ok(hint_of_filter(notes.kind_at(place), fault));
+    }
+    match fault {
+        Fault::Profile(_) => Ok(hint_of_profile(notes.kind_at(notes.files.saturating_sub(1)))),
+        Fault::Input => Ok(Some(hint_of_input())),
+        Fault::Read => Ok(hint_of_read(found, notes.files, reason)),
+        _ if is_of_text(fault) => {
+            let kind = notes.kind_at(notes.files.saturating_sub(1));
+            match found.get_str("policy") {
+                Some(_) => hint_of_policy(alloc, kind, &notes.refusal),
+                None => Ok(hint_of_names(kind)),
+            }
+        }
+        _ => Ok(None),
+    }
+}
+
+/// The lines that explain a fault: where it lies, what its number means, and a hint where there is one.
+fn fault_text(
+    alloc: Global,
+    found: &ArgMatches<'_>,
+    fault: &Fault,
+    notes: &Notes,
+    reason: &str,
+) -> Result<String, AllocError> {
+    let mut text = String::new(alloc);
+    push_place(alloc, &mut text, found, fault, notes, reason)?;
     let meaning = match (fault, found.get_str("policy")) {
         (Fault::Syntax, None) => "the file of names is no UTF-8 or no TOML",
         _ => meaning_of(fault),
     };
     write!(text, "{meaning}\n")?;
+    if let Some(hint) = hint_of(alloc, found, fault, notes, reason)? {
+        hint.push(&mut text)?;
+    }
     Ok(text)
 }
 
-/// The lines that explain a fault, where the matches ask for them and there is memory for them.
+/// The lines that explain a fault, where the matches ask for them or `explains` does, and there is memory for them.
 fn explanation(
     alloc: Global,
     matches: &ArgMatches<'_>,
     fault: &Fault,
     notes: &Notes,
+    explains: bool,
     reason: &str,
 ) -> Option<String>
-    ensures { IsUnasked (subcommand_rows_of matches.now) → result ≡ None }
+    ensures { explains ≡ false → IsUnasked (subcommand_rows_of matches.now)
+        → result ≡ None }
 {
     let (_, found) = matches.subcommand()?;
-    if !wants_explanation(found) {
+    if !explains && !wants_explanation(found) {
         return None;
     }
     fault_text(alloc, found, fault, notes, reason).ok()

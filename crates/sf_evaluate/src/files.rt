@@ -32,6 +32,11 @@ pub trait Files {
     /// Why the last file was refused, in words for a person; empty where that isn't known. No contract speaks of it.
     fn reason(&self) -> &str;
 
+    /// Whether each fault is explained, also where the command line doesn't ask for it. By default it isn't.
+    fn explains(&self) -> bool {
+        false
+    }
+
     /// Takes over what was found, once it is written. By default its memory is given back, one allocation after the
     /// other. A program that ends next may leave that to the end of its process.
     fn take_over<T: Drop>(&self, _found: T) {}
@@ -56,7 +61,7 @@ pub fn read_all<F: Files>(
     let mut read = Vec::new(alloc);
     for path in paths {
         let bytes = files.read(path)?;
-        notes.files = notes.files.saturating_add(1);
+        notes.count_file(bytes.as_slice());
         if read.len() <= MOST_PROGRAMS {
             read.push(bytes)?;
         }

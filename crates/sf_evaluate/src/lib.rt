@@ -1,22 +1,31 @@
-//! The subcommands `check` and `eval`, which explore nothing; the files that all subcommands read; and how a fault is told
-//! and explained.
+//! The subcommands `check`, `eval` and `profile`, which explore nothing; the files that all subcommands read; and how a
+//! fault is told and explained.
 #![tactic(auto)]
 
+mod calls;
 mod checking;
 mod explaining;
 mod files;
+mod hints;
+mod instructions;
+mod kinds;
+pub mod laws;
 mod meanings;
 mod naming;
 mod places;
 mod policies;
+mod profiling;
 mod questions;
 mod telling;
 mod texts;
 mod tracing;
+mod words;
 
 pub use checking::{check, evaluate, input_of, print};
 pub use explaining::Notes;
 pub use files::{Files, MOST_BYTES, read_all};
 pub use naming::read_all_names;
+pub use profiling::profile;
 pub use questions::questions_in;
 pub use telling::{tell, tell_fault, warn};
+pub use words::tell_wrong_word;

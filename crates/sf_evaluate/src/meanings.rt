@@ -29,6 +29,7 @@ pub(crate) fn meaning_of(fault: &Fault) -> &'static str {
         Fault::Syntax => "the policy is no UTF-8 or no TOML",
         Fault::Input => "the input isn't 128 hexadecimal digits",
         Fault::Mask { .. } => "a value with a bit outside its mask",
+        Fault::Profile(refusal) => meaning_of_refusal(*refusal),
         Fault::NamesKey => {
             "an unknown key, a missing one, a value of another kind, or a name with other signs than letters, digits and _"
         }
@@ -36,5 +37,27 @@ pub(crate) fn meaning_of(fault: &Fault) -> &'static str {
         Fault::Read => "a file can't be read, or has more than 1 MiB",
         Fault::Write => "standard output can't be written, or a signal interrupted that",
         Fault::Memory => "memory ran out",
+    }
+}
+
+/// What the number of a profile's refusal means.
+fn meaning_of_refusal(refusal: sf_profile::Fault) -> &'static str {
+    match refusal {
+        sf_profile::Fault::TooLong => "the filter of the profile has more than 4096 instructions",
+        sf_profile::Fault::Key | sf_profile::Fault::RuleKey { .. } => {
+            "an unknown key, a missing one, a value of another kind, or one that doesn't go with another key: minKernel wants --kernel"
+        }
+        sf_profile::Fault::Range | sf_profile::Fault::RuleRange { .. } => {
+            "a number outside its range: index 0 to 5, value 0 to 18446744073709551615, errnoRet 0 to 65535"
+        }
+        sf_profile::Fault::Actions | sf_profile::Fault::RuleActions { .. } => {
+            "an unknown action or comparison"
+        }
+        sf_profile::Fault::RuleName { .. } => "a name that isn't 1 to 64 letters, digits and _",
+        sf_profile::Fault::Syntax => "the profile is no UTF-8 or no JSON, or nests deeper than 127",
+        sf_profile::Fault::Set => {
+            "a set of calls that isn't known, or has no file of names or several: give --names once for each set"
+        }
+        sf_profile::Fault::Memory => "memory ran out",
     }
 }

@@ -24,7 +24,7 @@ fn names_in<F: Files>(
     ensures same { (p : List ℕ) → F.holds files.new p ≡ F.holds files.old p }
 {
     let bytes = files.read(path)?;
-    notes.files = notes.files.saturating_add(1);
+    notes.count_file(bytes.as_slice());
     match std::str::from_utf8(&bytes) {
         Ok(text) => read_names(alloc, text),
         Err(_) => Err(Fault::Syntax),

@@ -26,7 +26,7 @@ pub fn questions_in<F: Files>(
     ensures same { (p : List ℕ) → F.holds files.new p ≡ F.holds files.old p }
 {
     let bytes = files.read(path)?;
-    notes.files = notes.files.saturating_add(1);
+    notes.count_file(bytes.as_slice());
     notes.policy = bytes;
     match std::str::from_utf8(&notes.policy) {
         Ok(text) => {

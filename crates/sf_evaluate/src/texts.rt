@@ -1,7 +1,8 @@
 //! The texts that `check` and `eval` write.
-ghost use Rattle.std.specs.Prelude.{◌≡◌, ◌++◌, IfOk, OnOk, length, string_bytes};
-ghost use Rattle.sf_evaluate.specs.Texts.{answer_text, check_text, filter_lines, filter_line, path_line};
+ghost use Rattle.std.specs.Prelude.{◌≡◌, ◌++◌, ℕ, List, IfOk, OnOk, length, string_bytes};
+ghost use Rattle.sf_evaluate.specs.Texts.{AreFilterLines, IsCheckText, StandUnder, answer_text, filter_line, path_line};
 
+use crate::instructions::push_instructions;
 use sf_check::{Program, Stack};
 use sf_policy::push_action;
 use sf_run::Answer;
@@ -26,13 +27,35 @@ fn push_filter(text: &mut String, number: usize, instructions: usize) -> Result<
     write!(text, "filter {number} {instructions} instructions\n")
 }
 
+/// Adds the lines of a filter's instructions, if they are listed.
+fn push_under(
+    alloc: Global,
+    text: &mut String,
+    listed: bool,
+    program: &Program,
+) -> Result<(), AllocError>
+    ensures { OnOk result ((under : List ℕ) × StandUnder listed program.now under
+        × (string_bytes text.new ≡ string_bytes text.old ++ under)) }
+{
+    if listed {
+        push_instructions(alloc, text, program)?;
+    }
+    Ok(())
+}
+
 /// Adds the lines of all filters, in order of installation.
-fn push_filters(text: &mut String, programs: &[Program]) -> Result<(), AllocError>
-    ensures { OnOk result (string_bytes text.new ≡ string_bytes text.old
-        ++ filter_lines 1 programs.now) }
+fn push_filters(
+    alloc: Global,
+    text: &mut String,
+    listed: bool,
+    programs: &[Program],
+) -> Result<(), AllocError>
+    ensures { OnOk result ((lines : List ℕ) × AreFilterLines listed 1 programs.now lines
+        × (string_bytes text.new ≡ string_bytes text.old ++ lines)) }
 {
     for (i, program) in programs.iter().enumerate() {
         push_filter(text, i + 1, program.insns().len())?;
+        push_under(alloc, text, listed, program)?;
     }
     Ok(())
 }
@@ -45,12 +68,13 @@ fn push_path(text: &mut String, path: usize) -> Result<(), AllocError>
 }
 
 /// The text of `check`: a line for each filter, with its number of instructions, and a line with the path length of the
-/// stack. An error where an allocation is refused.
-pub fn check_text(alloc: Global, stack: &Stack) -> Result<String, AllocError>
-    ensures { IfOk result (λ text. string_bytes text ≡ check_text stack.now) }
+/// stack. Where `listed` asks for it, the instructions of each filter stand under its line. An error where an
+/// allocation is refused.
+pub fn check_text(alloc: Global, stack: &Stack, listed: bool) -> Result<String, AllocError>
+    ensures { IfOk result (λ text. IsCheckText listed stack.now (string_bytes text)) }
 {
     let mut text = String::new(alloc);
-    push_filters(&mut text, stack.programs())?;
+    push_filters(alloc, &mut text, listed, stack.programs())?;
     push_path(&mut text, stack.path_length())?;
     Ok(text)
 }

@@ -1,9 +1,8 @@
 use Rattle.std.proofs.Common.{◌≡◌, ◌∙◌, [], inl, inr, refl, sym}
 use Rattle.std.proofs.lemmas.Result.{IfErr-weaker, IfOk-weaker}
 use Rattle.clap.specs.Words.{HasKind, Kinds}
-use Rattle.sf_command.proofs.CommandLineLemmas.{helps, some_error}
+use Rattle.sf_command.proofs.CommandLineLemmas.{helps, refused_words, some_error}
 use Rattle.sf_command_line.specs.CommandLineLaws.{told_errors, told_subcommand}
-use Rattle.sf_command_line.specs.SubcommandLaws.{known_subcommand}
 use Rattle.sf_command.proofs.dispatch.reply.Goals as goal
 
 pub returns-after-is_ok-clause-done : goal.returns-after-is_ok-clause-done
@@ -24,8 +23,7 @@ pub returns-after-is_ok-clause-usage : goal.returns-after-is_ok-clause-usage
 returns-after-is_ok-clause-usage g c =
     let entered = told_subcommand _ _ c.in-Ok.matches c.in_ok-command_form.ensures c.in-Ok.ensures.matches in
     IfOk-weaker c.run-ran.result _ _ (λ s usage four. (
-      (λ fits. let (found, named, known) = known_subcommand _ fits in
-          (usage four).0 (found, entered ∙ named, known)),
+      refused_words _ _ entered (usage four).0,
       (usage four).1,
       (usage four).2,
     )) c.run-ran.ensures.usage
@@ -35,7 +33,7 @@ returns-in-Err-clause-usage g c =
     let failed = told_errors (λ (ks : Kinds). HasKind ks c.in-Err.error) _ _ c.in_ok-command_form.ensures
     c.in-Err.ensures.kinds in
     IfOk-weaker c.write_usage.result _ _ (λ s usage four. (
-      some_error _ c.in-Err.error failed (usage four).0,
+      inl (some_error _ c.in-Err.error failed (usage four).0),
       refl,
       (usage four).1,
     )) c.write_usage.ensures.usage

@@ -1,6 +1,7 @@
 use Rattle.std.proofs.Common.{inl, inr}
 use Rattle.std.proofs.lemmas.Result.{IfErr-weaker, IfOk-weaker}
 use Rattle.sf_command_line.specs.CommandLineLaws.{joined}
+use Rattle.sf_command.proofs.CommandLineLemmas.{profile_ran}
 use Rattle.sf_command.proofs.dispatch.run.Goals as goal
 
 pub returns-in-eval-clause-done : goal.returns-in-eval-clause-done
@@ -38,7 +39,7 @@ returns-in-list-clause-done g c = IfOk-weaker c.run_list.result _ _
     (λ s done small. (
       (_, _),
       joined _ _ _ _ _ c.in-Some.ensures.name c.in-Some.ensures.rows,
-      inr (inr (inr (inr (c.in-list.is, done)))),
+      inr (inr (inr (inr (inl (c.in-list.is, done))))),
     )) c.run_list.ensures.done
 
 pub returns-in-list-clause-refused : goal.returns-in-list-clause-refused
@@ -46,5 +47,30 @@ returns-in-list-clause-refused g c = IfErr-weaker c.run_list.result _ _
     (λ e why. (
       (_, _),
       joined _ _ _ _ _ c.in-Some.ensures.name c.in-Some.ensures.rows,
-      inr (inr (inr (inr (c.in-list.is, why)))),
+      inr (inr (inr (inr (inl (c.in-list.is, why))))),
     )) c.run_list.ensures.refused
+
+pub returns-in-profile-clause-done : goal.returns-in-profile-clause-done
+returns-in-profile-clause-done g c = IfOk-weaker c.profile.result _ _
+    (λ s done small. (
+      (_, _),
+      joined _ _ _ _ _ c.in-Some.ensures.name c.in-Some.ensures.rows,
+      inr (inr (inr (inr (inr (c.in-profile.is, record { written = (done small).1; told = (done small).0 }))))),
+    )) (profile_ran _ c.profile.result c.profile.ensures.status c.profile.ensures.done)
+
+pub returns-in-profile-clause-usage : goal.returns-in-profile-clause-usage
+returns-in-profile-clause-usage g c = IfOk-weaker c.profile.result _ _
+    (λ s usage four. (
+      inr ((_, _), joined _ _ _ _ _ c.in-Some.ensures.name c.in-Some.ensures.rows, c.in-profile.is, (usage four).0),
+      (usage four).1,
+      (usage four).2,
+    )) c.profile.ensures.usage
+
+pub returns-in-profile-clause-refused : goal.returns-in-profile-clause-refused
+returns-in-profile-clause-refused g c = IfErr-weaker c.profile.result _ _
+    (λ e why. (
+      (_, _),
+      joined _ _ _ _ _ c.in-Some.ensures.name c.in-Some.ensures.rows,
+      inr (inr (inr (inr (inr (c.in-profile.is, why))))),
+    ))
+    c.profile.ensures.refused

@@ -20,6 +20,9 @@ returns c =
     let with_compare = c.in_ok-subcommand-4.ensures.shape
     (third_is_off _ _ _ _ (ap (λ (a : App). a.top.is_plain) c.in_ok-compare.ensures))
     ∙ ap₂ with_subcommand with_eval (ap (λ (a : App). a.top) c.in_ok-compare.ensures) in
-    IfOk-weaker c.subcommand-5.result _ _ (λ r h.
-    h.shape (third_is_off _ _ _ _ (ap (λ (a : App). a.top.is_plain) c.in_ok-list.ensures))
-    ∙ ap₂ with_subcommand with_compare (ap (λ (a : App). a.top) c.in_ok-list.ensures)) c.subcommand-5.ensures
+    let with_list = c.in_ok-subcommand-5.ensures.shape
+    (third_is_off _ _ _ _ (ap (λ (a : App). a.top.is_plain) c.in_ok-list.ensures))
+    ∙ ap₂ with_subcommand with_compare (ap (λ (a : App). a.top) c.in_ok-list.ensures) in
+    IfOk-weaker c.subcommand-6.result _ _ (λ r h.
+    h.shape (third_is_off _ _ _ _ (ap (λ (a : App). a.top.is_plain) c.in_ok-profile.ensures))
+    ∙ ap₂ with_subcommand with_list (ap (λ (a : App). a.top) c.in_ok-profile.ensures)) c.subcommand-6.ensures

@@ -1,7 +1,8 @@
 use Rattle.std.proofs.Common.{◌≡◌, List, [], ℕ, Bor, arith, length, map, rules}
 use Rattle.std.proofs.lemmas.Option.{slice_get-get_or}
 use Rattle.std.proofs.lemmas.List.{length-map, map-append}
-use Rattle.sf_evaluate.proofs.KeptLemmas.{all_kept, none_more_kept, one_kept}
+use Rattle.sf_evaluate.proofs.KeptLemmas.{all_kept, none_more_kept, one_kept, read_why}
+use Rattle.sf_evaluate.specs.FilesLaws.{handed_on}
 use Rattle.sf_evaluate.proofs.files.read_all.Goals as goal
 use Rattle.sf_evaluate.proofs.files.read_all.Goals.{then-len-le-MOST_PROGRAMS+in_ok-push, else-len-le-MOST_PROGRAMS}
 
@@ -25,3 +26,10 @@ loop-path-preserved g c =
 
 pub returns-clause-read : goal.returns-clause-read
 returns-clause-read g c = search (arith, all_kept)
+
+pub returns-in_err-bytes-clause-refused : goal.returns-in_err-bytes-clause-refused
+unfolding no_path
+returns-in_err-bytes-clause-refused g c =
+    let here = slice_get-get_or c.args.paths.now c.loop-path.path-index no_path c.loop-path-test.true in
+    handed_on _ c.from_residual.result c.in_err-bytes.field-0.0 c.from_residual.ensures.1
+    (read_why _ _ _ _ _ _ c.loop-path.invariant.same here c.in_err-bytes.ensures.refused)

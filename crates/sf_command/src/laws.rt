@@ -1,0 +1,29 @@
+//! A law of what profiles mean and of what comparisons find, the contract of a function that does nothing.
+
+ghost use Rattle.std.specs.Prelude.{◌≡◌, ◌∷◌, ℕ, List};
+ghost use Rattle.sf_insn.specs.declared.input.Input.{Input};
+ghost use Rattle.sf_insn.specs.Inputs.{IsInput};
+ghost use Rattle.sf_run.specs.Answers.{Answers};
+ghost use Rattle.sf_run.specs.declared.action.Answer.{Answer};
+ghost use Rattle.sf_profile.specs.Data.{PlanData};
+ghost use Rattle.sf_profile.specs.Filters.{IsFilterOf};
+ghost use Rattle.sf_profile.specs.Meaning.{meaning};
+ghost use Rattle.sf_compare.specs.Changes.{new_of};
+ghost use Rattle.sf_compare.specs.Comparisons.{Compared, IsComparison, change_of};
+ghost use Rattle.sf_compare.specs.Relations.{AreRelated};
+ghost use Rattle.sf_compare.specs.declared.relation.Relation.TheVariants.{Looser};
+ghost use Rattle.sf_compare.specs.declared.changes.Change.TheVariants.{Never};
+
+use sf_check::laws::one_program_of_a_file;
+
+/// Let the filter of a profile be compared, as the old stack, with other filters, and let *looser* be never. Then no input
+/// gets further under these filters than the profile lets it.
+pub fn never_looser_keeps_the_profile()
+    ensures { (bytes : List ℕ) (plan : PlanData) (files : List (List ℕ)) (budget : ℕ)
+        (c : Compared) (d : Input) (a : Answer) →
+        IsFilterOf bytes plan → IsComparison (bytes ∷ files) 1 budget c
+        → change_of c Looser ≡ Never → IsInput d → Answers (new_of c.settled 1) d a
+        → AreRelated Looser (meaning plan d) a → ⊥ }
+{
+    one_program_of_a_file();
+}

@@ -1,0 +1,53 @@
+-- What words say, seen as texts and not as borrows of texts.
+use Rattle.std.proofs.Common.{◌≡◌, ◌∙◌, ◌||◌, ◌&&◌, Bool, true, false, List, [], ◌∷◌, map, refl, ap, sym, codes, string_bytes, Bor}
+use Rattle.std.specs.List.{list_all, list_any}
+use Rattle.std.specs.Prelude.{Option, Some, None, is_some, unwrap_or}
+use Rattle.clap.specs.Words.{Row, Text, one_of}
+use Rattle.sf_command_line.specs.Options.{IsSwitch, paths_of, text_of}
+use Rattle.sf_profile.specs.Profiles.{version_of}
+use Rattle.sf_profile.specs.declared.rules.CallSet.TheVariants.{X64}
+use Rattle.sf_profile.specs.declared.rules.Reading.TheVariants.{Strictest}
+use Rattle.sf_profile.specs.declared.settings.Settings.{Settings}
+use Rattle.sf_evaluate.specs.Profiles.{AreSettings, is_capability, is_kernel, machine_named, reading_named, words_fit}
+
+pub any_now : {X : Type 0} (f : X → Bool) (xs : List (Bor X))
+    → list_any (λ (x : Bor X). f x.now) xs ≡ list_any f (map (λ (x : Bor X). x.now) xs)
+any_now f [] = refl
+any_now f (x ∷ xs) = ap (λ b. f x.now || b) (any_now f xs)
+
+pub all_now : {X : Type 0} (f : X → Bool) (xs : List (Bor X))
+    → list_all (λ (x : Bor X). f x.now) xs ≡ list_all f (map (λ (x : Bor X). x.now) xs)
+all_now f [] = refl
+all_now f (x ∷ xs) = ap (λ b. f x.now && b) (all_now f xs)
+
+-- what is there, or another thing
+some_or : {X : Type 0} (o : Option X) (x : X) → is_some o ≡ true → o ≡ Some (unwrap_or o x)
+some_or (Some y) x there = refl
+some_or None x there = cc
+
+-- the first two of four that all hold
+first_hold : (a b c d : Bool) → ((a && b) && (c && d)) ≡ true → (a ≡ true) × (b ≡ true)
+first_hold true true c d all = (refl, refl)
+first_hold true false c d all = cc
+first_hold false b c d all = cc
+
+-- what words say that fit, read word by word
+pub settings_said : (rows : List Row) (s : Settings) (machine conflicts kernel : Text) → words_fit rows ≡ true
+    → machine ≡ text_of (codes "machine") rows → s.machine ≡ unwrap_or (machine_named machine) X64
+    → conflicts ≡ text_of (codes "conflicts") rows → s.conflicts ≡ unwrap_or (reading_named conflicts) Strictest
+    → kernel ≡ text_of (codes "kernel") rows → s.kernel ≡ version_of kernel
+    → map string_bytes s.caps.items ≡ paths_of (codes "cap") rows → IsSwitch (one_of (codes "newer") rows) s.newer
+    → AreSettings rows s
+settings_said rows s machine conflicts kernel fits m m_is r r_is k k_is caps newer =
+    let hold = first_hold (is_some (machine_named (text_of (codes "machine") rows)))
+    (is_some (reading_named (text_of (codes "conflicts") rows))) (is_kernel (text_of (codes "kernel") rows))
+    (list_all is_capability (paths_of (codes "cap") rows)) fits in
+    record {
+      machine = some_or (machine_named (text_of (codes "machine") rows)) X64 hold.0
+          ∙ ap Some (sym (m_is ∙ ap (λ w. unwrap_or (machine_named w) X64) m));
+      caps = caps;
+      kernel = k_is ∙ ap version_of k;
+      conflicts = some_or (reading_named (text_of (codes "conflicts") rows)) Strictest hold.1
+          ∙ ap Some (sym (r_is ∙ ap (λ w. unwrap_or (reading_named w) Strictest) r));
+      newer = newer;
+    }

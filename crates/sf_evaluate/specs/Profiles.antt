@@ -1,0 +1,177 @@
+-- What `profile` reads and writes.
+use Rattle.std.specs.Prelude.{◌≡◌, ◌⊎◌, ℕ, Bool, true, false, ◌&&◌, ◌==◌, if◌then◌else◌, List, [], ◌∷◌, Option, Some, None, Ok, codes, is_some, length, map, slice_get, string_bytes}
+use Rattle.std.specs.Borrow.{Bor}
+use Rattle.std.specs.Io.KnownBytes.{Appends}
+use Rattle.std.specs.List.{list_all, list_any}
+use Rattle.std.specs.Str.{bytes_eq}
+use Rattle.toml.specs.Data.{Members}
+use Rattle.toml.specs.Parse.{parse_document}
+use Rattle.toml.specs.View.{table_view}
+use Rattle.clap.specs.Words.{Row, Text, one_of}
+use Rattle.sf_command_line.specs.Options.{ArePaths, IsSwitch, paths_of, text_of}
+use Rattle.sf_profile.specs.Filters.{IsRefusedText, MakesFilterOf}
+use Rattle.sf_profile.specs.Notes.{AreNotesOfText}
+use Rattle.sf_profile.specs.Profiles.{version_of}
+use Rattle.sf_profile.specs.Settings.{set_of_file}
+use Rattle.sf_profile.specs.declared.fault.Fault.{Fault as ProfileFault}
+use Rattle.sf_profile.specs.declared.fault.Fault.TheVariants.{Set as UnknownSet}
+use Rattle.sf_profile.specs.declared.rules.CallSet.{CallSet}
+use Rattle.sf_profile.specs.declared.rules.CallSet.TheVariants.{X64, I386, Aarch64, Arm}
+use Rattle.sf_profile.specs.declared.rules.Reading.{Reading}
+use Rattle.sf_profile.specs.declared.rules.Reading.TheVariants.{Strictest, Mildest, First}
+use Rattle.sf_profile.specs.declared.settings.Calls.{Calls}
+use Rattle.sf_profile.specs.declared.settings.Settings.{Settings}
+use Rattle.sf_policy.specs.Faults.{of_profile}
+use Rattle.sf_policy.specs.Names.{NamesData, names_of}
+use Rattle.sf_policy.specs.declared.fault.Fault.{Fault}
+use Rattle.sf_policy.specs.declared.fault.Fault.TheVariants as faults
+use Rattle.sf_evaluate.specs.Files.{AreKnownBytes, HasUnknown}
+use Rattle.sf_evaluate.specs.Names.{RefusesNames}
+use Rattle.sf_evaluate.specs.Pairs.{Pairwise}
+
+-- ---- the words of the command line
+
+-- the machine of a word: the set of calls that its own programs use
+abbrev pub machine_named : Text → Option CallSet
+machine_named text =
+    if bytes_eq text (codes "x86_64") then Some X64
+    else if bytes_eq text (codes "i386") then Some I386
+    else if bytes_eq text (codes "aarch64") then Some Aarch64
+    else if bytes_eq text (codes "arm") then Some Arm
+    else None
+
+-- which of several rules counts, by its word
+abbrev pub reading_named : Text → Option Reading
+reading_named text =
+    if bytes_eq text (codes "strictest") then Some Strictest
+    else if bytes_eq text (codes "mildest") then Some Mildest
+    else if bytes_eq text (codes "first") then Some First
+    else None
+
+-- the capabilities of linux/capability.h, in the order of their numbers
+abbrev pub capabilities : List Text
+capabilities =
+    codes "CAP_CHOWN" ∷ codes "CAP_DAC_OVERRIDE" ∷ codes "CAP_DAC_READ_SEARCH" ∷ codes "CAP_FOWNER"
+    ∷ codes "CAP_FSETID" ∷ codes "CAP_KILL" ∷ codes "CAP_SETGID" ∷ codes "CAP_SETUID" ∷ codes "CAP_SETPCAP"
+    ∷ codes "CAP_LINUX_IMMUTABLE" ∷ codes "CAP_NET_BIND_SERVICE" ∷ codes "CAP_NET_BROADCAST" ∷ codes "CAP_NET_ADMIN"
+    ∷ codes "CAP_NET_RAW" ∷ codes "CAP_IPC_LOCK" ∷ codes "CAP_IPC_OWNER" ∷ codes "CAP_SYS_MODULE"
+    ∷ codes "CAP_SYS_RAWIO" ∷ codes "CAP_SYS_CHROOT" ∷ codes "CAP_SYS_PTRACE" ∷ codes "CAP_SYS_PACCT"
+    ∷ codes "CAP_SYS_ADMIN" ∷ codes "CAP_SYS_BOOT" ∷ codes "CAP_SYS_NICE" ∷ codes "CAP_SYS_RESOURCE"
+    ∷ codes "CAP_SYS_TIME" ∷ codes "CAP_SYS_TTY_CONFIG" ∷ codes "CAP_MKNOD" ∷ codes "CAP_LEASE"
+    ∷ codes "CAP_AUDIT_WRITE" ∷ codes "CAP_AUDIT_CONTROL" ∷ codes "CAP_SETFCAP" ∷ codes "CAP_MAC_OVERRIDE"
+    ∷ codes "CAP_MAC_ADMIN" ∷ codes "CAP_SYSLOG" ∷ codes "CAP_WAKE_ALARM" ∷ codes "CAP_BLOCK_SUSPEND"
+    ∷ codes "CAP_AUDIT_READ" ∷ codes "CAP_PERFMON" ∷ codes "CAP_BPF" ∷ codes "CAP_CHECKPOINT_RESTORE" ∷ []
+
+abbrev pub is_capability : Text → Bool
+is_capability text = list_any (bytes_eq text) capabilities
+
+-- no kernel is named, or its version
+abbrev pub is_kernel : Text → Bool
+is_kernel [] = true
+is_kernel text = is_some (version_of text)
+
+-- the words behind the options are among those that these take
+abbrev pub words_fit : List Row → Bool
+words_fit rows =
+    (is_some (machine_named (text_of (codes "machine") rows)) && is_some (reading_named
+    (text_of (codes "conflicts") rows)))
+    && (is_kernel (text_of (codes "kernel") rows) && list_all is_capability (paths_of (codes "cap") rows))
+
+-- what the words say that a profile is read for
+pub record AreSettings (rows : List Row) (s : Settings) : Type 0 where
+  pub machine : machine_named (text_of (codes "machine") rows) ≡ Some s.machine
+  pub caps : map string_bytes s.caps.items ≡ paths_of (codes "cap") rows
+  pub kernel : s.kernel ≡ version_of (text_of (codes "kernel") rows)
+  pub conflicts : reading_named (text_of (codes "conflicts") rows) ≡ Some s.conflicts
+  pub newer : IsSwitch (one_of (codes "newer") rows) s.newer
+
+-- ---- files of names, as the calls of sets
+
+-- the calls of a file of names: its tree is kept, and its set is told by its architecture and its numbers
+pub record AreCalls (bytes : List ℕ) (calls : Calls) : Type 0 where
+  pub tree : Members
+  pub parsed : parse_document bytes ≡ Some tree
+  pub names : NamesData
+  pub meant : names_of tree ≡ Ok names
+  pub set : set_of_file tree ≡ Some calls.set
+  pub kept : table_view calls.file ≡ tree
+
+-- the file, whose bytes may be known, has these calls
+abbrev pub IsCallsFile : Option (List ℕ) → Calls → Type 0
+IsCallsFile known calls = (bytes : List ℕ) × AreKnownBytes known bytes × AreCalls bytes calls
+
+-- Why the bytes are no calls of a set: they are no file of names, or one of another architecture.
+abbrev pub RefusesCalls : List ℕ → Fault → Type 0
+RefusesCalls bytes fault =
+    RefusesNames bytes fault
+    ⊎ ((fault ≡ faults.Profile UnknownSet)
+    × ((tree : Members) × (parse_document bytes ≡ Some tree) × (set_of_file tree ≡ None)))
+
+-- the file, whose bytes may be known, has no calls of a set for this reason
+abbrev pub RefusesCallsFile : Option (List ℕ) → Fault → Type 0
+RefusesCallsFile known fault = (bytes : List ℕ) × AreKnownBytes known bytes × RefusesCalls bytes fault
+
+-- the file at one of the paths has no calls of a set for this reason
+pub record HasNoCalls (holds : Text → Option Text) (paths : List (Bor Text)) (fault : Fault) : Type 0 where
+  pub place : ℕ
+  pub path : Bor Text
+  pub at : slice_get paths place ≡ Some path
+  pub refused : RefusesCallsFile (holds path.now) fault
+
+-- the files at the paths have these calls, path by path
+abbrev pub AreCallsRead : (Text → Option Text) → List (Bor Text) → List Calls → Type 0
+AreCallsRead holds paths calls = Pairwise (λ path c. IsCallsFile (holds path.now) c) paths calls
+
+-- Why files of names are refused: one whose bytes aren't known can't be read; memory ran out; or one has no calls of a
+-- set.
+abbrev pub RefusesAllCalls : (Text → Option Text) → List (Bor Text) → Fault → Type 0
+RefusesAllCalls holds paths fault =
+    ((fault ≡ faults.Read) × HasUnknown holds paths) ⊎ (fault ≡ faults.Memory) ⊎ HasNoCalls holds paths fault
+
+-- ---- the whole
+
+-- what a profile is read for, by the words of the command line and the files of names
+pub record IsReadFor (holds : Text → Option Text) (rows : List Row) (s : Settings) : Type 0 where
+  pub words : AreSettings rows s
+  pub paths : List (Bor Text)
+  pub named : ArePaths (codes "names") rows paths
+  pub calls : AreCallsRead holds paths s.calls.items
+
+-- what is written of the bytes of a profile: its filter, or what is told of it
+abbrev pub WritesOf : (told : Bool) → Settings → (bytes : Text) → (old new : Option Text) → Type 0
+WritesOf false s bytes old new = (filter : Text) × MakesFilterOf s bytes filter × Appends old new filter
+WritesOf true s bytes old new = (text : Text) × AreNotesOfText s bytes text × Appends old new text
+
+-- `profile`: the filter that the profile in the file means is written, or what is told of it
+pub record WritesProfile (holds : Text → Option Text) (rows : List Row) (old new : Option Text) : Type 0 where
+  pub settings : Settings
+  pub is_read_for : IsReadFor holds rows settings
+  pub bytes : Text
+  pub read : AreKnownBytes (holds (text_of (codes "profile") rows)) bytes
+  pub told : Bool
+  pub asked : IsSwitch (one_of (codes "notes") rows) told
+  pub written : WritesOf told settings bytes old new
+
+-- the bytes of a profile are refused for this reason
+abbrev pub RefusesProfileOf : Settings → (bytes : Text) → Fault → Type 0
+RefusesProfileOf s bytes fault = (reason : ProfileFault) × IsRefusedText s bytes reason × (fault ≡ of_profile reason)
+
+-- the profile in the file is refused for this reason
+pub record RefusesProfileFile (holds : Text → Option Text) (rows : List Row) (fault : Fault) : Type 0 where
+  pub settings : Settings
+  pub is_read_for : IsReadFor holds rows settings
+  pub bytes : Text
+  pub read : AreKnownBytes (holds (text_of (codes "profile") rows)) bytes
+  pub refused : RefusesProfileOf settings bytes fault
+
+-- a file of names is refused for this reason, or memory ran out
+abbrev pub RefusesNamesOf : (Text → Option Text) → List Row → Fault → Type 0
+RefusesNamesOf holds rows fault =
+    (paths : List (Bor Text)) × ArePaths (codes "names") rows paths × RefusesAllCalls holds paths fault
+
+-- Why `profile` is refused: writing or memory failed; a file of names is refused; the file of the profile, whose bytes
+-- aren't known, can't be read; or the profile is refused.
+abbrev pub RefusesProfile : (Text → Option Text) → List Row → Fault → Type 0
+RefusesProfile holds rows fault =
+    (fault ≡ faults.Write) ⊎ (fault ≡ faults.Memory) ⊎ RefusesNamesOf holds rows fault
+    ⊎ ((fault ≡ faults.Read) × (holds (text_of (codes "profile") rows) ≡ None)) ⊎ RefusesProfileFile holds rows fault

@@ -1,0 +1,98 @@
+//! What the content of a file seems to be, from how it begins. It is for a person, so no contract speaks of it.
+
+/// What a file seems to hold.
+#[derive(Clone, Copy, Debug, PartialEq, Eq)]
+pub(crate) enum Kind {
+    /// Nothing.
+    Empty,
+    /// The bytes of instructions, or others that are no text.
+    Bytes,
+    /// The bytes of instructions, with the high byte of a code before its low one.
+    BigEndian,
+    /// The number of the instructions, and then the instructions, as `struct sock_fprog` has them.
+    Counted,
+    /// A program or a library in the format ELF.
+    Elf,
+    /// JSON.
+    Json,
+    /// A policy.
+    Policy,
+    /// A file of names.
+    Names,
+    /// Another text.
+    Text,
+}
+
+/// The most bytes at the front of a file from which is told whether it is a text.
+const FRONT: usize = 64;
+
+/// The bytes of a text without a byte order mark at their front, which belongs to no line.
+pub(crate) fn bytes_of_text(bytes: &[u8]) -> &[u8] {
+    match bytes {
+        [0xEF, 0xBB, 0xBF, rest @ ..] => rest,
+        _ => bytes,
+    }
+}
+
+/// Whether bytes begin like a text. Those of a filter don't, since the second byte of each permitted code is 0.
+fn is_text(bytes: &[u8]) -> bool {
+    let mut front = bytes.iter().take(FRONT);
+    front.all(|byte| 0x20 <= *byte || byte.is_ascii_whitespace())
+}
+
+/// Whether the number of the instructions seems to stand before them, in 2, 4, 8 or 16 bytes: as many instructions as the
+/// first two bytes say fill the rest of the file.
+fn is_counted(bytes: &[u8]) -> bool {
+    let [low, high, ..] = bytes else {
+        return false;
+    };
+    let count = u16::from_le_bytes([*low, *high]);
+    let length = usize::from(count).saturating_mul(8);
+    count != 0 && matches!(bytes.len().checked_sub(length), Some(2 | 4 | 8 | 16))
+}
+
+/// The first line that is neither empty nor a comment of TOML, without the blanks around it; empty where there is none.
+fn first_line(text: &str) -> &str {
+    for line in text.lines() {
+        let line = line.trim();
+        if !line.is_empty() && !line.starts_with('#') {
+            return line;
+        }
+    }
+    ""
+}
+
+/// What a text seems to be that begins with this line.
+fn kind_of_line(line: &str) -> Kind {
+    if line.starts_with('{') || line.starts_with("[{") || line == "[" {
+        return Kind::Json;
+    }
+    if !line.starts_with('[') && !line.contains('=') {
+        return Kind::Text;
+    }
+    let key = line.trim_start_matches('[').trim_start();
+    if key.starts_with("version") || key.starts_with("question") {
+        Kind::Policy
+    } else if key.starts_with("arch") || key.starts_with("calls") {
+        Kind::Names
+    } else {
+        Kind::Text
+    }
+}
+
+/// What a file with these bytes seems to hold.
+pub(crate) fn kind_of(bytes: &[u8]) -> Kind {
+    if bytes.is_empty() {
+        return Kind::Empty;
+    }
+    if is_text(bytes) {
+        let text = std::str::from_utf8(bytes_of_text(bytes)).unwrap_or("");
+        return kind_of_line(first_line(text));
+    }
+    match bytes {
+        [0x7F, b'E', b'L', b'F', ..] => Kind::Elf,
+        [0, high, ..] if *high != 0 && bytes.len() % 8 == 0 => Kind::BigEndian,
+        _ if is_counted(bytes) => Kind::Counted,
+        _ => Kind::Bytes,
+    }
+}

@@ -1,0 +1,132 @@
+//! The subcommand `profile`: writes the filter that a JSON profile means, or what is told of it.
+
+ghost use Rattle.std.specs.Prelude.{◌≡◌, ◌⊎◌, ℕ, List, true, false, IfOk, IfErr, OnOk};
+ghost use Rattle.clap.specs.Words.{found_of, rows_of};
+ghost use Rattle.sf_policy.specs.declared.fault.Fault.TheVariants.{Write as WriteFault};
+ghost use Rattle.sf_evaluate.specs.Profiles.{IsReadFor, RefusesNamesOf, RefusesProfile, RefusesProfileOf, WritesOf, WritesProfile, words_fit};
+
+use crate::calls::read_all_calls;
+use crate::checking::print;
+use crate::explaining::Notes;
+use crate::files::Files;
+use crate::words::{settings_of, words_fit};
+use clap::ArgMatches;
+use sf_command_line::{text_of, wants_notes, wants_quiet};
+use sf_policy::{Fault, write_bytes};
+use sf_profile::{Settings, notes as notes_of, profile as filter_of, unknown_names, wrong_key};
+use std::alloc::{AllocError, Global};
+use std::io::Write;
+
+/// The line that warns of names that no file of names has; empty where there are none.
+fn warning_of(alloc: Global, settings: &Settings, bytes: &[u8]) -> Result<String, AllocError> {
+    let names = unknown_names(alloc, settings, bytes).map_err(|_| AllocError)?;
+    let mut text = String::new(alloc);
+    if !names.is_empty() {
+        write!(text, "warning: no file of names has{names}\n")?;
+    }
+    Ok(text)
+}
+
+/// Writes the filter of a profile, or what is told of it. Refusals: those of the profile; then `Write` where standard output
+/// can't be written.
+fn write_of<O: Write>(
+    alloc: Global,
+    settings: &Settings,
+    told: bool,
+    bytes: &[u8],
+    out: &mut O,
+) -> Result<(), Fault>
+    ensures written { OnOk result (WritesOf told settings.now bytes.now (O.contents out.old)
+        (O.contents out.new)) }
+    ensures refused { IfErr result (λ e. (e ≡ WriteFault)
+        ⊎ (RefusesProfileOf settings.now bytes.now e × (out.new ≡ out.old))) }
+{
+    if told {
+        let text = notes_of(alloc, settings, bytes)?;
+        return print(&text, out);
+    }
+    let filter = filter_of(alloc, settings, bytes)?;
+    write_bytes(&filter, out)
+}
+
+/// What a profile is read for: what the words say, and the files of names. The refusals are those of `read_all_calls`.
+fn read_settings<F: Files>(
+    alloc: Global,
+    found: &ArgMatches<'_>,
+    files: &mut F,
+    notes: &mut Notes,
+) -> Result<Settings, Fault>
+    requires { words_fit (rows_of (found_of found.now)) ≡ true }
+    ensures read { IfOk result (IsReadFor (F.holds files.old) (rows_of (found_of found.now))) }
+    ensures refused { IfErr result (RefusesNamesOf (F.holds files.old)
+        (rows_of (found_of found.now))) }
+    ensures same { (p : List ℕ) → F.holds files.new p ≡ F.holds files.old p }
+{
+    let paths = found.get_strs("names").unwrap_or(&[]);
+    let calls = read_all_calls(alloc, paths, files, notes)?;
+    settings_of(alloc, found, calls)
+}
+
+/// Keeps the warning of unknown names, where a filter was written and warnings are asked for.
+fn keep_warning(
+    alloc: Global,
+    found: &ArgMatches<'_>,
+    settings: &Settings,
+    bytes: &[u8],
+    notes: &mut Notes,
+) {
+    if !wants_notes(found) && !wants_quiet(found) {
+        notes.warnings = warning_of(alloc, settings, bytes);
+    }
+}
+
+/// Keeps the key for which the profile is refused.
+fn keep_key(alloc: Global, settings: &Settings, bytes: &[u8], fault: &Fault, notes: &mut Notes) {
+    if let Fault::Profile(refusal) = fault {
+        notes.key = wrong_key(alloc, settings, bytes, *refusal);
+    }
+}
+
+/// Reads the files of names and then the profile that the matches of the subcommand name, and writes the filter that the
+/// profile means: a program that answers each input as the profile does. Where `--notes` asks for it, what is told of the
+/// profile is written, and no filter. The status is 0; or 4 where a word isn't one that its option takes, before any file
+/// is read.
+///
+/// Refusals, tried in this order: of each file of names `Read`, `Syntax` where it isn't UTF-8, what `read_names` refuses, and
+/// `Set` where its architecture has none of the five sets of calls; of the profile `Read`, and what `profile` of
+/// `sf_profile` refuses; `Write` where standard output can't be written, after a beginning of what is written. `Memory` can
+/// come anywhere. After any error but `Write` nothing is written.
+pub fn profile<F: Files, O: Write>(
+    alloc: Global,
+    found: &ArgMatches<'_>,
+    files: &mut F,
+    notes: &mut Notes,
+    out: &mut O,
+) -> Result<u8, Fault>
+    ensures status { IfOk result (λ s. (s ≡ 0) ⊎ (s ≡ 4)) }
+    ensures done { IfOk result (λ s. s ≡ 0 → WritesProfile (F.holds files.old)
+        (rows_of (found_of found.now)) (O.contents out.old) (O.contents out.new)) }
+    ensures usage { IfOk result (λ s. s ≡ 4
+        → (words_fit (rows_of (found_of found.now)) ≡ false)
+        × (files.new ≡ files.old) × (out.new ≡ out.old)) }
+    ensures quiet { IfErr result (λ e. (e ≡ WriteFault) ⊎ (out.new ≡ out.old)) }
+    ensures refused { IfErr result (RefusesProfile (F.holds files.old)
+        (rows_of (found_of found.now))) }
+{
+    if !words_fit(found) {
+        return Ok(4);
+    }
+    let settings = read_settings(alloc, found, files, notes)?;
+    let bytes = files.read(text_of(found, "profile"))?;
+    notes.count_file(bytes.as_slice());
+    match write_of(alloc, &settings, wants_notes(found), &bytes, out) {
+        Ok(()) => {
+            keep_warning(alloc, found, &settings, &bytes, notes);
+            Ok(0)
+        }
+        Err(fault) => {
+            keep_key(alloc, &settings, &bytes, &fault, notes);
+            Err(fault)
+        }
+    }
+}
