@@ -17,6 +17,7 @@ mod exploring;
 mod failing;
 mod filling;
 mod listing;
+mod profiling;
 mod refused;
 mod stacks;
 mod trying;
@@ -27,6 +28,7 @@ use crate::exploring::{bench_of, settle_stack, write_verdicts};
 use crate::failing::starve_all;
 use crate::filling::fill_bench;
 use crate::listing::list_files;
+use crate::profiling::profile_text;
 use crate::refused::{Refused, Tally};
 use crate::stacks::{DIVIDES, LOGIN, MASKS, NO_X32, TWO_BITS, stack_in};
 use std::io;
@@ -40,6 +42,8 @@ enum Part {
     Refusals,
     /// All calls on one stack.
     Calls,
+    /// The filter of a profile.
+    Profile,
     /// An exploration in which a bench grows. It comes first: after other explorations by several workers, it would
     /// differ from run to run which allocation is the bench's.
     Bench,
@@ -77,6 +81,7 @@ fn all_of<R: Threads + Wait + Sync + AllocGlobal>(
     match part {
         Part::Refusals => refusals(rt),
         Part::Calls => calls_on(rt, tally, files, page),
+        Part::Profile => profile_text(rt.alloc()),
         Part::Workers => starve_all(rt, tally),
         Part::Bench => fill_bench(rt),
     }
@@ -126,6 +131,7 @@ fn main(rt: HostRuntime) -> io::Result<()> {
         LOGIN.as_slice(),
     ];
     show(&rt, &mut tally, Part::Calls, "five", &five)?;
+    show(&rt, &mut tally, Part::Profile, "profile", &[])?;
     show(&rt, &mut tally, Part::Workers, "workers", &[])?;
     println!(rt; "{} refused, {} wrong", tally.refused, tally.wrong)
 }

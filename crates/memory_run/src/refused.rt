@@ -55,6 +55,13 @@ impl From<sf_insn::Fault> for Refused {
     }
 }
 
+impl From<sf_profile::Fault> for Refused {
+    fn from(fault: sf_profile::Fault) -> Refused {
+        let number = fault.number();
+        Refused { number }
+    }
+}
+
 impl From<sf_check::Fault> for Refused {
     fn from(fault: sf_check::Fault) -> Refused {
         let number = fault.number();
