@@ -4,19 +4,20 @@ _seccomp_audit() {
     local word=${COMP_WORDS[COMP_CWORD]} before=${COMP_WORDS[COMP_CWORD - 1]} options="--help --version"
     case ${COMP_WORDS[1]} in
         audit) options="--policy --budget --workers --regions --quiet --explain-errors --help" ;;
-        check) options="--quiet --explain-errors --help" ;;
+        check) options="--instructions --quiet --explain-errors --help" ;;
         eval) options="--input --trace --trace-true --names --explain-errors --help" ;;
         compare) options="--old --new --budget --workers --same --rows --leaves --names --quiet --explain-errors --help" ;;
         list) options="--budget --workers --leaves --names --quiet --explain-errors --help" ;;
+        profile) options="--machine --names --cap --kernel --conflicts --newer --notes --quiet --explain-errors --help" ;;
     esac
     COMPREPLY=()
     case $before in
-        --budget|--input|--leaves|--workers) return ;;
+        --budget|--cap|--conflicts|--input|--kernel|--leaves|--machine|--workers) return ;;
     esac
     if [[ $word == -* ]]; then
         mapfile -t COMPREPLY < <(compgen -W "$options" -- "$word")
     elif ((COMP_CWORD == 1)); then
-        mapfile -t COMPREPLY < <(compgen -W "audit check eval compare list" -- "$word")
+        mapfile -t COMPREPLY < <(compgen -W "audit check eval compare list profile" -- "$word")
     else
         compopt -o filenames 2> /dev/null
         mapfile -t COMPREPLY < <(compgen -f -- "$word")

@@ -8,6 +8,7 @@ complete -c seccomp_audit -n __fish_use_subcommand -a check -d 'Check whether fi
 complete -c seccomp_audit -n __fish_use_subcommand -a eval -d 'Show what a stack of filters answers to one input'
 complete -c seccomp_audit -n __fish_use_subcommand -a compare -d 'Tell for all inputs what a change of a stack of filters lets through'
 complete -c seccomp_audit -n __fish_use_subcommand -a list -d 'List for all inputs what a stack of filters answers'
+complete -c seccomp_audit -n __fish_use_subcommand -a profile -d 'Write the filter that a JSON profile means, to be compared with what is installed'
 complete -c seccomp_audit -n '__fish_seen_subcommand_from audit' -F
 complete -c seccomp_audit -n '__fish_seen_subcommand_from audit' -l policy -r -F -d 'The policy file, which asks the questions'
 complete -c seccomp_audit -n '__fish_seen_subcommand_from audit' -l budget -x -d 'The most pieces that are worked on, 1 to 1000000 [default: 100000]'
@@ -17,6 +18,7 @@ complete -c seccomp_audit -n '__fish_seen_subcommand_from audit' -l quiet -d 'Le
 complete -c seccomp_audit -n '__fish_seen_subcommand_from audit' -l explain-errors -d 'Explain an error under its line: where it lies, and what its number means'
 complete -c seccomp_audit -n '__fish_seen_subcommand_from audit' -l help -d 'Print help'
 complete -c seccomp_audit -n '__fish_seen_subcommand_from check' -F
+complete -c seccomp_audit -n '__fish_seen_subcommand_from check' -l instructions -d 'List the instructions of each filter too'
 complete -c seccomp_audit -n '__fish_seen_subcommand_from check' -l quiet -d 'Leave out the warnings on standard error'
 complete -c seccomp_audit -n '__fish_seen_subcommand_from check' -l explain-errors -d 'Explain an error under its line: where it lies, and what its number means'
 complete -c seccomp_audit -n '__fish_seen_subcommand_from check' -l help -d 'Print help'
@@ -47,3 +49,14 @@ complete -c seccomp_audit -n '__fish_seen_subcommand_from list' -l names -r -F -
 complete -c seccomp_audit -n '__fish_seen_subcommand_from list' -l quiet -d 'Leave out the warnings on standard error'
 complete -c seccomp_audit -n '__fish_seen_subcommand_from list' -l explain-errors -d 'Explain an error under its line: where it lies, and what its number means'
 complete -c seccomp_audit -n '__fish_seen_subcommand_from list' -l help -d 'Print help'
+complete -c seccomp_audit -n '__fish_seen_subcommand_from profile' -F
+complete -c seccomp_audit -n '__fish_seen_subcommand_from profile' -l machine -x -d 'The machine: x86_64, i386, aarch64 or arm'
+complete -c seccomp_audit -n '__fish_seen_subcommand_from profile' -l names -r -F -d 'A file of names of calls, which rows and traces show; once for each file'
+complete -c seccomp_audit -n '__fish_seen_subcommand_from profile' -l cap -x -d 'A capability that the container has, such as CAP_SYS_PTRACE; once for each'
+complete -c seccomp_audit -n '__fish_seen_subcommand_from profile' -l kernel -x -d 'The version of the kernel, such as 6.12'
+complete -c seccomp_audit -n '__fish_seen_subcommand_from profile' -l conflicts -x -d 'Which rule counts where several speak of one call: strictest, mildest or first [default: strictest]'
+complete -c seccomp_audit -n '__fish_seen_subcommand_from profile' -l newer -d 'Let calls that are newer than the profile fail with ENOSYS, as runc does'
+complete -c seccomp_audit -n '__fish_seen_subcommand_from profile' -l notes -d 'Write what the profile has, and not its filter'
+complete -c seccomp_audit -n '__fish_seen_subcommand_from profile' -l quiet -d 'Leave out the warnings on standard error'
+complete -c seccomp_audit -n '__fish_seen_subcommand_from profile' -l explain-errors -d 'Explain an error under its line: where it lies, and what its number means'
+complete -c seccomp_audit -n '__fish_seen_subcommand_from profile' -l help -d 'Print help'
