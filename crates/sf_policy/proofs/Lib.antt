@@ -5,4 +5,3 @@ pub mod NeverSyntax
 pub mod FilterLemmas
 pub mod RefusalLemmas
 pub mod OneRefusal
-pub mod CallLemmas

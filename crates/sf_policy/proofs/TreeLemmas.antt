@@ -9,11 +9,10 @@ use Rattle.toml.specs.Data.{Data, no_members, as_str, as_table}
 use Rattle.toml.specs.View.{view, items_view, members_view}
 use Rattle.toml.specs.declared.value.Value.{Value}
 use Rattle.sf_policy.specs.Keys.{has_only, question_keys, top_keys, mask_keys}
-use Rattle.sf_policy.specs.Names.{names_keys}
 use Rattle.sf_policy.specs.Trees.{option_cons, each_of, item_list, texts_of, tables_of}
 use Rattle.sf_policy.specs.Words.{entry_of_array}
 use Rattle.sf_policy.specs.Encoding.{text_or_empty, table_or_empty}
-use Rattle.sf_policy.specs.declared.policy.keys.TheConstants.{QUESTION_KEYS, TOP_KEYS, MASK_KEYS, NAMES_KEYS}
+use Rattle.sf_policy.specs.declared.policy.keys.TheConstants.{QUESTION_KEYS, TOP_KEYS, MASK_KEYS}
 
 has_only_view : (keys : List (List ℕ)) (es : List (String Global × Value))
     → has_only keys (members_view es) ≡ list_all (λ key. list_any (bytes_eq (string_bytes key)) keys) (keys_of es)
@@ -33,11 +32,6 @@ pub has_only_mask_keys : (es : List (String Global × Value))
     → has_only mask_keys (members_view es) ≡ list_all
     (λ key. list_any (λ k. bytes_eq (string_bytes key) k.now) MASK_KEYS) (keys_of es)
 has_only_mask_keys es = has_only_view mask_keys es
-
-pub has_only_names_keys : (es : List (String Global × Value))
-    → has_only names_keys (members_view es) ≡ list_all
-    (λ key. list_any (λ k. bytes_eq (string_bytes key) k.now) NAMES_KEYS) (keys_of es)
-has_only_names_keys es = has_only_view names_keys es
 
 pub short_array : (vs : List Value) → length vs < 2 → None ≡ entry_of_array (items_view vs)
 short_array [] h = refl

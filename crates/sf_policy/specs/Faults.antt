@@ -2,10 +2,19 @@
 use Rattle.std.specs.Prelude.{◌≡◌, ℕ, Result, Ok, Err}
 use Rattle.sf_policy.specs.declared.fault.Fault.{Fault}
 use Rattle.sf_policy.specs.declared.fault.Fault.TheVariants as faults
+use Rattle.sf_names.specs.declared.fault.Fault.{Fault as NamesFault}
+use Rattle.sf_names.specs.declared.fault.Fault.TheVariants as names_faults
 use Rattle.sf_profile.specs.Faults.{fault_number as profile_number}
 use Rattle.sf_profile.specs.declared.fault.Fault.{Fault as ProfileFault}
 use Rattle.sf_profile.specs.declared.fault.Fault.TheVariants as profile_faults
 use Rattle.sf_policy.specs.declared.policy.refusal.Refusal.{Refusal}
+
+-- why the program refuses a file of names
+abbrev pub of_names : NamesFault → Fault
+of_names names_faults.Syntax = faults.Syntax
+of_names names_faults.Key = faults.NamesKey
+of_names names_faults.Range = faults.NamesRange
+of_names names_faults.Memory = faults.Memory
 
 -- why the program refuses a profile: for its refusal, or because memory was refused
 abbrev pub of_profile : ProfileFault → Fault
@@ -37,6 +46,7 @@ fault_number faults.Input = 47
 fault_number (faults.Mask question) = 48
 fault_number faults.NamesKey = 41
 fault_number faults.NamesRange = 42
+fault_number faults.UnknownName = 44
 fault_number (faults.Profile refusal) = profile_number refusal
 fault_number faults.Read = 50
 fault_number faults.Write = 51

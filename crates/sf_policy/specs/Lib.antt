@@ -8,7 +8,5 @@ pub mod Encoding
 pub mod FaultPlaces
 pub mod Filters
 pub mod Texts
-pub mod Names
-pub mod NamesLaws
 pub mod TextLaws
 pub mod FiltersLaws

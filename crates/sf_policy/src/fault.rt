@@ -75,13 +75,16 @@ pub enum Fault {
     /// A word of a question has a value with a bit outside its mask.
     #[error("48 Mask question {question}")]
     Mask { question: usize },
-    /// A file of names has an unknown key at its top, lacks one, has a value of a wrong kind, or a name that isn't 1 to 64
-    /// letters, digits and `_`.
+    /// A file of names has an unknown key, lacks one, has a value of a wrong kind, or a name that isn't 1 to 64 letters,
+    /// digits and `_`; or it has a set of a name that an earlier file has.
     #[error("41 Key")]
     NamesKey,
     /// A file of names has a number outside 32 bits.
     #[error("42 Range")]
     NamesRange,
+    /// A name of a call or of a set of calls that no file of names has.
+    #[error("44 Name")]
+    UnknownName,
     /// A profile is refused.
     #[error("{0}")]
     Profile(sf_profile::Fault),
@@ -117,7 +120,7 @@ impl Fault {
             Fault::TopKey | Fault::Key { .. } | Fault::NamesKey => 41,
             Fault::Range { .. } | Fault::NamesRange => 42,
             Fault::Actions { .. } => 43,
-            Fault::Name { .. } => 44,
+            Fault::Name { .. } | Fault::UnknownName => 44,
             Fault::Count => 45,
             Fault::Syntax => 46,
             Fault::Input => 47,
@@ -151,6 +154,21 @@ impl From<sf_run::Fault> for Fault {
 
     fn from(_e: sf_run::Fault) -> Fault {
         Fault::Memory
+    }
+}
+
+impl From<sf_names::Fault> for Fault {
+    ghost use Rattle.sf_policy.specs.Faults.{of_names};
+
+    ghost from_gives = { λ e f. f ≡ of_names e };
+
+    fn from(e: sf_names::Fault) -> Fault {
+        match e {
+            sf_names::Fault::Syntax => Fault::Syntax,
+            sf_names::Fault::Key => Fault::NamesKey,
+            sf_names::Fault::Range => Fault::NamesRange,
+            sf_names::Fault::Memory => Fault::Memory,
+        }
     }
 }
 

@@ -1,19 +1,17 @@
 //! What an audit is asked and given, before any stack is explored: the questions of a policy file, the stack that filter
-//! files spell, names of calls, faults, and the texts that several reports share.
+//! files spell, faults, and the texts that several reports share.
 #![tactic(auto)]
 
 mod action;
 mod fault;
 mod filters;
 pub mod laws;
-mod names;
 mod policy;
 mod texts;
 
 pub use action::push_action;
 pub use fault::Fault;
 pub use filters::stack_of;
-pub use names::{Names, names_of_table, push_names_between, read_names};
 pub use policy::{Refusal, WORD_KEYS, read_policy, read_policy_at};
 pub use texts::{hex_of, push_counts, write_bytes};
 

@@ -19,14 +19,12 @@ ghost use Rattle.sf_policy.specs.Policies.{version_of, tables_of_value, question
 use crate::MOST_QUESTIONS;
 use crate::fault::Fault;
 pub use keys::WORD_KEYS;
-use keys::{has_top_keys, number_in};
-pub(crate) use keys::{has_names_keys, value_at};
+use keys::{has_top_keys, number_in, value_at};
 use questions::questions_in;
 pub use refusal::Refusal;
 use sf_ask::Question;
 use std::alloc::Global;
 use toml::{Table, Value};
-pub(crate) use words::word_from;
 
 /// The version of a policy file. In version 2 the value of a word may also be a table with a mask.
 #[derive(Clone, Copy, Debug)]

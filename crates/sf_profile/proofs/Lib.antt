@@ -13,7 +13,6 @@ pub mod AnswerLemmas
 pub mod FormLemmas
 pub mod MadeLemmas
 pub mod PlanLemmas
-pub mod SettingsLemmas
 pub mod ShortLemmas
 pub mod RuleTurns
 pub mod FileLemmas

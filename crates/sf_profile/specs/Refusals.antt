@@ -1,9 +1,10 @@
 -- Why a profile is refused: the first refusal, in the profile's head and then rule after rule.
-use Rattle.std.specs.Prelude.{ℕ, ◌+◌, ◌-◌, ◌^◌, Bool, true, false, not, ◌&&◌, ◌||◌, nat_le, if◌then◌else◌, List, [], ◌∷◌, length, codes, Option, Some, None, is_some}
+use Rattle.std.specs.Prelude.{ℕ, ◌+◌, ◌-◌, ◌^◌, Bool, true, false, not, ◌&&◌, ◌||◌, if◌then◌else◌, List, [], ◌∷◌, codes, Option, Some, None, is_some}
 use Rattle.std.specs.List.{list_all}
 use Rattle.std.specs.Str.{bytes_eq}
 use Rattle.serde_json.specs.Data.{Data}
 use Rattle.serde_json.specs.Find.{as_array}
+use Rattle.sf_names.specs.Names.{is_call_name}
 use Rattle.sf_profile.specs.declared.fault.Fault.{Fault}
 use Rattle.sf_profile.specs.declared.fault.Fault.TheVariants as faults
 use Rattle.sf_profile.specs.declared.rules.CallSet.{CallSet}
@@ -66,15 +67,7 @@ is_rule s d =
     && absent_or (is_list_of is_argument) (at (codes "args") d) && absent_or (is_condition s) (at (codes "includes") d)
     && absent_or (is_condition s) (at (codes "excludes") d)
 
--- a letter, a digit or `_`
-abbrev pub is_name_byte : ℕ → Bool
-is_name_byte b = ((nat_le 48 b && nat_le b 57) || (nat_le 65 b && nat_le b 90)) || ((nat_le 97 b && nat_le b 122)
-    || (nat_le 95 b && nat_le b 95))
-
--- the name of a call has 1 to 64 letters, digits and `_`
-abbrev pub is_call_name : List ℕ → Bool
-is_call_name name = nat_le 1 (length name) && nat_le (length name) 64 && list_all is_name_byte name
-
+-- a value that can be the name of a call
 abbrev pub has_name : Data → Bool
 has_name d = is_call_name (text_of d)
 

@@ -15,7 +15,7 @@ use std::alloc::{AllocError, Global};
 const NO_NUMBER: u32 = 0xffff_ffff;
 
 /// The least number of a call of x32.
-const LEAST_OF_X32: u32 = 0x4000_0000;
+pub(crate) const LEAST_OF_X32: u32 = 0x4000_0000;
 
 /// The error number of a call that the kernel doesn't have.
 const ENOSYS: u16 = 38;

@@ -25,4 +25,4 @@ pub use faulty::wrong_key;
 pub use file::{notes, profile, unknown_names};
 pub use names::{Version, version_of};
 pub use rules::{CallSet, Reading};
-pub use settings::{Calls, Settings};
+pub use settings::{Calls, Settings, set_of_names};

@@ -3,7 +3,7 @@
 ghost use Rattle.std.specs.Prelude.{◌≡◌, codes, map, option_map};
 ghost use Rattle.std.specs.List.{list_all};
 ghost use Rattle.serde_json.specs.View.{view};
-ghost use Rattle.sf_profile.specs.Refusals.{has_actions, has_argument_range, has_error_number, has_name, has_names, has_ranges, is_call_name, is_name_byte, is_own_item, is_set, is_set_item, knows_action, knows_comparison, knows_set, knows_sets, profile_in, profile_refusal, rule_refusal, rules_refusal};
+ghost use Rattle.sf_profile.specs.Refusals.{has_actions, has_argument_range, has_error_number, has_name, has_names, has_ranges, is_own_item, is_set, is_set_item, knows_action, knows_comparison, knows_set, knows_sets, profile_in, profile_refusal, rule_refusal, rules_refusal};
 ghost use Rattle.sf_profile.specs.Trees.{absent_or, at};
 
 use crate::fault::Fault;
@@ -13,30 +13,7 @@ use crate::rules::CallSet;
 use crate::settings::Settings;
 use crate::tree::{at, items_at, text_at, text_of, whole_at};
 use serde_json::Value;
-
-/// Whether a byte is a letter, a digit or `_`.
-fn is_name_byte(byte: u8) -> bool
-    ensures { result ≡ is_name_byte byte }
-{
-    let digit = 0x30 <= byte && byte <= 0x39;
-    let capital = 0x41 <= byte && byte <= 0x5a;
-    let small = 0x61 <= byte && byte <= 0x7a;
-    (digit || capital) || (small || byte == 0x5f)
-}
-
-/// Whether each byte is a letter, a digit or `_`.
-fn are_name_bytes(bytes: &[u8]) -> bool
-    ensures { result ≡ list_all is_name_byte bytes.now }
-{
-    bytes.iter().all(|byte| is_name_byte(*byte))
-}
-
-/// Whether a text can be the name of a call: it is 1 to 64 letters, digits and `_`.
-fn is_call_name(text: &str) -> bool
-    ensures { result ≡ is_call_name text.now }
-{
-    1 <= text.len() && text.len() <= 64 && are_name_bytes(text.as_bytes())
-}
+use sf_names::is_call_name;
 
 /// Whether a value can be the name of a call.
 fn has_name(value: &Value) -> bool

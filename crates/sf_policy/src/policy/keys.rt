@@ -1,4 +1,4 @@
-//! The keys of policy files and of files of names, and the values at them.
+//! The keys of policy files, and the values at them.
 
 ghost use Rattle.std.specs.Prelude.{◌≡◌, string_bytes, option_map};
 ghost use Rattle.std.specs.BTreeMap.{keys};
@@ -7,7 +7,6 @@ ghost use Rattle.std.specs.Str.{bytes_eq};
 ghost use Rattle.toml.specs.Data.{get_member};
 ghost use Rattle.toml.specs.View.{view, table_view};
 ghost use Rattle.sf_policy.specs.Keys.{question_keys, top_keys, mask_keys, has_only};
-ghost use Rattle.sf_policy.specs.Names.{names_keys};
 ghost use Rattle.sf_policy.specs.Trees.{number_at, number_or, text_at};
 
 use toml::{Table, Value};
@@ -29,9 +28,6 @@ pub(crate) const TOP_KEYS: [&str; 2] = ["version", "question"];
 
 /// The keys that the table of a word may have.
 const MASK_KEYS: [&str; 4] = ["mask", "value", "low", "high"];
-
-/// The keys that a file of names may have at its top.
-const NAMES_KEYS: [&str; 2] = ["arch", "calls"];
 
 /// The value at a key; none where the key is missing.
 pub(crate) fn value_at<'a>(table: &'a Table, key: &str) -> Option<&'a Value>
@@ -101,12 +97,4 @@ pub(crate) fn has_mask_keys(table: &Table) -> bool
     ensures { result ≡ has_only mask_keys (table_view table.now) }
 {
     has_only_keys(table, MASK_KEYS.as_slice())
-}
-
-/// Whether a table has only keys that may stand at the top of a file of names.
-#[tactic(auto, using(crate::proofs::TreeLemmas::has_only_names_keys))]
-pub(crate) fn has_names_keys(table: &Table) -> bool
-    ensures { result ≡ has_only names_keys (table_view table.now) }
-{
-    has_only_keys(table, NAMES_KEYS.as_slice())
 }

@@ -129,7 +129,7 @@ pub(super) fn entries_in(version: Version, table: &Table) -> Option<[WordEntry; 
 }
 
 /// A number as a word; none where it isn't of 32 bits.
-pub(crate) fn word_from(number: i64) -> Option<u32>
+fn word_from(number: i64) -> Option<u32>
     ensures { result ≡ word_in number }
 {
     u32::try_from(number).ok()

@@ -1,0 +1,60 @@
+-- The calls of a set and the sets of a file, one more at a time.
+use Rattle.std.proofs.Common.{◌≡◌, List, [], ◌∷◌, ◌++◌, ◌&&◌, append_assoc, Result, Ok, Err, refl, ap, sym, ◌∙◌, String, Global, string_bytes}
+use Rattle.std.specs.List.{list_all}
+use Rattle.std.specs.Map.{keys_of}
+use Rattle.toml.specs.View.{members_view}
+use Rattle.toml.specs.declared.value.Value.{Value}
+use Rattle.sf_names.specs.declared.fault.Fault.{Fault}
+use Rattle.sf_names.specs.Names.{AreOrdered, CallData, GivesSet, IsOrdered, NamesData, has_names_keys, is_names_key, one_set, set_cons}
+
+-- the keys of a set, at the list that the code goes through
+pub keys_view : (es : List (String Global × Value))
+    → has_names_keys (members_view es) ≡ list_all (λ key. is_names_key (string_bytes key)) (keys_of es)
+keys_view [] = refl
+keys_view (e ∷ es) = ap (λ b. is_names_key (string_bytes e.0) && b) (keys_view es)
+
+-- the calls that were read, in front of those that are left
+abbrev pub with_calls : List CallData → Result (List CallData) Fault → Result (List CallData) Fault
+with_calls front (Ok rest) = Ok (front ++ rest)
+with_calls front (Err fault) = Err fault
+
+-- the sets that were read, in front of those that are left
+abbrev pub with_sets : List NamesData → Result (List NamesData) Fault → Result (List NamesData) Fault
+with_sets front (Ok rest) = Ok (front ++ rest)
+with_sets front (Err fault) = Err fault
+
+-- Of the sets of a file these were read, with the calls by their numbers; the rest is left.
+pub record SetsSoFar (whole : Result (List NamesData) Fault) (sets : List NamesData)
+    (rest : Result (List NamesData) Fault) : Type 0 where
+  pub files : List NamesData
+  pub due : whole ≡ with_sets files rest
+  pub ordered : AreOrdered files sets
+
+with_sets_cons : (front : List NamesData) (n : NamesData) (r : Result (List NamesData) Fault)
+    → with_sets front (set_cons (Ok n) r) ≡ with_sets (front ++ n ∷ []) r
+with_sets_cons front n (Ok rest) = ap Ok (sym (append_assoc front (n ∷ []) rest))
+with_sets_cons front n (Err fault) = refl
+
+ordered_more : (files sets : List NamesData) (file names : NamesData) → AreOrdered files sets → IsOrdered file names
+    → AreOrdered (files ++ file ∷ []) (sets ++ names ∷ [])
+ordered_more [] [] file names before one = (one, tt)
+ordered_more (f ∷ files) (n ∷ sets) file names before one = (before.0, ordered_more files sets file names before.1 one)
+ordered_more [] (n ∷ sets) file names before one = absurd before
+ordered_more (f ∷ files) [] file names before one = absurd before
+
+-- one set more was read
+pub one_set_more : (whole : Result (List NamesData) Fault) (sets more : List NamesData) (due : Result NamesData Fault)
+    (rest : Result (List NamesData) Fault) (names : NamesData) → SetsSoFar whole sets (set_cons due rest)
+    → GivesSet (Ok names) due → more ≡ sets ++ names ∷ [] → SetsSoFar whole more rest
+one_set_more whole sets more due rest names so_far gives pushed = record {
+  files = so_far.files ++ gives.0 ∷ [];
+  due = so_far.due ∙ ap (λ d. with_sets so_far.files (set_cons d rest)) gives.1
+      ∙ with_sets_cons so_far.files gives.0 rest;
+  ordered = rw pushed (ordered_more so_far.files sets gives.0 names so_far.ordered gives.2);
+}
+
+-- a set alone
+pub alone : (due : Result NamesData Fault) (names : NamesData) (sets : List NamesData) → GivesSet (Ok names) due
+    → sets ≡ names ∷ [] → (files : List NamesData) × (one_set due ≡ Ok files) × AreOrdered files sets
+alone due names sets gives same =
+    (gives.0 ∷ [], ap one_set gives.1, rw same (gives.2, tt))

@@ -1,0 +1,7 @@
+use Rattle.std.proofs.Common.{◌≡◌, drop}
+use Rattle.std.specs.Prelude.{find}
+use Rattle.sf_names.specs.Names.{has_name}
+use Rattle.sf_names.proofs.names.call_named.Given as goal
+
+abbrev pub invariant-loop-call : goal.invariant-loop-call
+invariant-loop-call l = find (has_name l.name) l.calls ≡ find (has_name l.name) (drop l.call-index l.calls)

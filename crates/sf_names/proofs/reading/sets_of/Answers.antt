@@ -1,0 +1,7 @@
+use Rattle.std.proofs.Common.{arith}
+use Rattle.std.proofs.lemmas.Grind.{common_steps}
+use Rattle.sf_names.proofs.SetLemmas.{one_set_more}
+use Rattle.sf_names.proofs.reading.sets_of.Goals as goal
+
+pub loop-set-preserved : goal.loop-set-preserved
+loop-set-preserved c = grind (arith, common_steps, one_set_more)

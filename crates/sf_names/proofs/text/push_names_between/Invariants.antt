@@ -1,0 +1,11 @@
+use Rattle.std.proofs.Common.{◌≡◌, ◌++◌, take, string_bytes}
+use Rattle.std.specs.List.{flat_map}
+use Rattle.sf_names.specs.Names.{count_after, names_in, names_words}
+use Rattle.sf_names.proofs.text.push_names_between.Given as goal
+
+abbrev pub invariant-loop-one : goal.invariant-loop-one
+invariant-loop-one l = record {
+  text : string_bytes l.text ≡ string_bytes l.initial.text
+      ++ names_words l.count (flat_map (names_in l.arch l.first l.last) (take l.one-index l.names));
+  told : l.told ≡ count_after l.count (flat_map (names_in l.arch l.first l.last) (take l.one-index l.names));
+}

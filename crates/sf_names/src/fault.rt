@@ -1,0 +1,41 @@
+//! Why a file of names is refused.
+
+ghost use Rattle.std.specs.Prelude.{◌≡◌};
+ghost use Rattle.sf_names.specs.declared.fault.Fault.TheVariants.{Memory};
+
+use std::alloc::{AllocError, AllocFailed};
+use thiserror::Error;
+
+/// Why a file of names is refused.
+#[derive(Clone, Copy, Debug, PartialEq, Eq, Error)]
+pub enum Fault {
+    /// The file is no TOML.
+    #[error("no TOML")]
+    Syntax,
+    /// A key is unknown or missing, a value is of another kind, or the name of a set or of a call isn't 1 to 64 letters,
+    /// digits and `_`.
+    #[error("an unknown key, a missing one, a value of another kind, or a wrong name")]
+    Key,
+    /// A number is outside 32 bits.
+    #[error("a number outside 32 bits")]
+    Range,
+    /// An allocation was refused.
+    #[error("out of memory")]
+    Memory,
+}
+
+impl From<AllocError> for Fault {
+    ghost from_gives = { λ _ e. e ≡ Memory };
+
+    fn from(_e: AllocError) -> Fault {
+        Fault::Memory
+    }
+}
+
+impl<T: Drop> From<AllocFailed<T>> for Fault {
+    ghost from_gives = { λ _ e. e ≡ Memory };
+
+    fn from(_e: AllocFailed<T>) -> Fault {
+        Fault::Memory
+    }
+}

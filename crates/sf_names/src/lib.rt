@@ -1,0 +1,12 @@
+//! The names of calls, from files: named sets of calls, each with the number of its architecture.
+#![tactic(auto)]
+
+mod fault;
+mod names;
+mod reading;
+mod text;
+
+pub use fault::Fault;
+pub use names::{Call, Names, find_set, is_call_name};
+pub use reading::read_names;
+pub use text::push_names_between;

@@ -1,0 +1,331 @@
+//! The sets of calls of a file of names, which is TOML.
+
+ghost use Rattle.std.specs.Prelude.{◌≡◌, ◌⊎◌, Err, IfErr, IfOk, None, OnOk, Some, codes, option_map, string_bytes};
+ghost use Rattle.std.specs.BTreeMap.{keys};
+ghost use Rattle.std.specs.List.{list_all, list_any};
+ghost use Rattle.toml.specs.Data.{Members, get_member};
+ghost use Rattle.toml.specs.Parse.{parse_document};
+ghost use Rattle.toml.specs.View.{table_view, view};
+ghost use Rattle.sf_names.specs.declared.fault.Fault.TheVariants.{Memory as MemoryFault};
+ghost use Rattle.sf_names.specs.Names.{AreByNumber, Gives, GivesNames, GivesSet, IsOrdered, arch_at, arch_of_value, arch_where_word, call_of, call_where_word, calls_at, calls_of, calls_of_value, has_names_keys, is_low_call, is_names_key, known_set, names_of, one_set, only_set, set_from, set_of, set_of_table, set_of_value, sets_of, usual_set, word_in};
+
+use crate::fault::Fault;
+use crate::names::{Call, Names, is_call_name};
+use std::alloc::{AllocError, Global};
+use toml::{Table, Value};
+
+/// A number as a word; none where it isn't of 32 bits.
+fn word_from(number: i64) -> Option<u32>
+    ensures { result ≡ word_in number }
+{
+    u32::try_from(number).ok()
+}
+
+/// The value at a key; none where the key is missing.
+fn value_at<'a>(table: &'a Table, key: &str) -> Option<&'a Value>
+    ensures { option_map (λ v. view v.now) result ≡ get_member key.now (table_view table.now) }
+{
+    table.get(key)
+}
+
+/// Whether each key of a table is one that a set has.
+fn has_only_names_keys(table: &Table) -> bool
+    ensures { result ≡ list_all (λ key. is_names_key (string_bytes key)) (keys table.now) }
+{
+    table
+        .keys()
+        .all(|key| key.as_str() == "arch" || key.as_str() == "calls")
+}
+
+/// Whether each key of a table is one that a set has. For the prover: over its members.
+fn has_names_keys(table: &Table) -> bool
+    ensures { result ≡ has_names_keys (table_view table.now) }
+{
+    has_only_names_keys(table)
+}
+
+/// The call of a name and its number. `Range` where the number hasn't 32 bits, `Memory` where an allocation is
+/// refused.
+fn call_from(alloc: Global, name: &str, number: i64) -> Result<Call, Fault>
+    ensures { Gives (λ c. c) result (call_where_word name.now (word_in number)) }
+{
+    let Some(number) = word_from(number) else {
+        return Err(Fault::Range);
+    };
+    let name = String::from_str(alloc, name)?;
+    Ok(Call { number, name })
+}
+
+/// The call of a key and its value. `Key` where the key is no name of a call, or the value no whole number; then what
+/// `call_from` refuses.
+fn call_in(alloc: Global, name: &str, value: &Value) -> Result<Call, Fault>
+    ensures { Gives (λ c. c) result (call_of name.now (view value.now)) }
+{
+    if !is_call_name(name) {
+        return Err(Fault::Key);
+    }
+    match value {
+        Value::Integer(number) => call_from(alloc, name, *number),
+        _ => Err(Fault::Key),
+    }
+}
+
+/// The calls of a table, in the order of its keys. The refusal is that of the first call that is refused.
+fn calls_of(alloc: Global, table: &Table) -> Result<Vec<Call>, Fault>
+    ensures { Gives (λ v. v.items) result (calls_of (table_view table.now)) }
+{
+    let mut calls = Vec::new(alloc);
+    for (name, value) in table.iter() {
+        let call = call_in(alloc, name.as_str(), value)?;
+        calls.push(call)?;
+    }
+    Ok(calls)
+}
+
+/// The calls of a value. `Key` where it is no table; then what `calls_of` refuses.
+fn calls_of_value(alloc: Global, value: &Value) -> Result<Vec<Call>, Fault>
+    ensures { Gives (λ v. v.items) result (calls_of_value (view value.now)) }
+{
+    match value {
+        Value::Table(calls) => calls_of(alloc, calls),
+        _ => Err(Fault::Key),
+    }
+}
+
+/// The calls of a set's table. `Key` where they are missing; then what `calls_of_value` refuses.
+fn calls_in(alloc: Global, table: &Table) -> Result<Vec<Call>, Fault>
+    ensures { Gives (λ v. v.items) result
+        (calls_at (get_member (codes "calls") (table_view table.now))) }
+{
+    match value_at(table, "calls") {
+        Some(value) => calls_of_value(alloc, value),
+        None => Err(Fault::Key),
+    }
+}
+
+/// The architecture with a number. `Range` where this hasn't 32 bits.
+fn arch_from(number: i64) -> Result<u32, Fault>
+    ensures { Gives (λ n. n) result (arch_where_word (word_in number)) }
+{
+    let Some(arch) = word_from(number) else {
+        return Err(Fault::Range);
+    };
+    Ok(arch)
+}
+
+/// The architecture of a value. `Key` where it is no whole number; then what `arch_from` refuses.
+fn arch_of_value(value: &Value) -> Result<u32, Fault>
+    ensures { Gives (λ n. n) result (arch_of_value (view value.now)) }
+{
+    match value {
+        Value::Integer(number) => arch_from(*number),
+        _ => Err(Fault::Key),
+    }
+}
+
+/// The architecture of a set's table. `Key` where it is missing; then what `arch_of_value` refuses.
+fn arch_in(table: &Table) -> Result<u32, Fault>
+    ensures { Gives (λ n. n) result (arch_at (get_member (codes "arch") (table_view table.now))) }
+{
+    match value_at(table, "arch") {
+        Some(value) => arch_of_value(value),
+        None => Err(Fault::Key),
+    }
+}
+
+/// The set of this name that a table has, whose keys are all known. The refusals are those of its architecture, and then of
+/// its calls.
+fn set_from(alloc: Global, set: &str, table: &Table) -> Result<Names, Fault>
+    ensures { Gives (λ n. n) result (set_from set.now (table_view table.now)) }
+{
+    let arch = arch_in(table)?;
+    let calls = calls_in(alloc, table)?;
+    let set = String::from_str(alloc, set)?;
+    Ok(Names { set, arch, calls })
+}
+
+/// The set of this name that a table has, with the calls in the order of its keys. `Key` where a key is unknown; then what
+/// `set_from` refuses.
+fn set_of_table(alloc: Global, set: &str, table: &Table) -> Result<Names, Fault>
+    ensures { Gives (λ n. n) result (set_of_table set.now (table_view table.now)) }
+{
+    if !has_names_keys(table) {
+        return Err(Fault::Key);
+    }
+    set_from(alloc, set, table)
+}
+
+/// The set of this name that a value has. `Key` where the value is no table; then what `set_of_table` refuses.
+fn set_of_value(alloc: Global, set: &str, value: &Value) -> Result<Names, Fault>
+    ensures { Gives (λ n. n) result (set_of_value set.now (view value.now)) }
+{
+    match value {
+        Value::Table(table) => set_of_table(alloc, set, table),
+        _ => Err(Fault::Key),
+    }
+}
+
+/// The set of a key and its value. `Key` where the key can't be the name of a set; then what `set_of_value` refuses.
+fn set_of(alloc: Global, set: &str, value: &Value) -> Result<Names, Fault>
+    ensures { Gives (λ n. n) result (set_of set.now (view value.now)) }
+{
+    if !is_call_name(set) {
+        return Err(Fault::Key);
+    }
+    set_of_value(alloc, set, value)
+}
+
+/// Whether a call's number is below those of x32, which have bit 30 set.
+fn is_low_call(call: &Call) -> bool
+    ensures { result ≡ is_low_call call.now }
+{
+    call.number < 0x4000_0000
+}
+
+/// Whether a call's number is below those of x32.
+fn has_low_call(calls: &[Call]) -> bool
+    ensures { result ≡ list_any is_low_call calls.now }
+{
+    calls.iter().any(|call| is_low_call(call))
+}
+
+/// The name of the set of these calls, where the architecture is one of those that have a name.
+fn known_set(arch: u32, calls: &[Call]) -> Option<&'static str>
+    ensures { option_map (λ s. s.now) result ≡ known_set arch calls.now }
+{
+    match arch {
+        0xc000003e => Some(if has_low_call(calls) { "x86_64" } else { "x32" }),
+        0x40000003 => Some("i386"),
+        0xc00000b7 => Some("aarch64"),
+        0x40000028 => Some("arm"),
+        _ => None,
+    }
+}
+
+/// The usual name of the set of these calls: `known_set`, or the architecture's number with eight hexadecimal digits. An
+/// error where an allocation is refused.
+fn usual_set(alloc: Global, arch: u32, calls: &[Call]) -> Result<String, AllocError>
+    ensures { IfOk result (λ s. string_bytes s ≡ usual_set arch calls.now) }
+{
+    match known_set(arch, calls) {
+        Some(set) => String::from_str(alloc, set),
+        None => format!(in alloc; "0x{arch:08X}"),
+    }
+}
+
+/// The set of a file that is one set. The refusals are those of `set_from`.
+fn only_set(alloc: Global, table: &Table) -> Result<Names, Fault>
+    ensures { Gives (λ n. n) result (only_set (table_view table.now)) }
+{
+    let names = set_from(alloc, "", table)?;
+    let set = usual_set(alloc, names.arch, names.calls.as_slice())?;
+    Ok(Names {
+        set,
+        arch: names.arch,
+        calls: names.calls,
+    })
+}
+
+/// Puts calls in the order of their numbers, in place; those with one number keep their order. An error where an allocation
+/// is refused.
+fn put_by_number(calls: &mut Vec<Call>) -> Result<(), AllocError>
+    ensures { OnOk result (AreByNumber calls.old.items calls.new.items) }
+{
+    calls.sort_by_key(|call| call.number)
+}
+
+/// The set, with the calls by their numbers. `Memory` where an allocation is refused.
+fn put_in_order(names: Names) -> Result<Names, Fault>
+    ensures ok { IfOk result (IsOrdered names) }
+    ensures err { IfErr result (λ e. e ≡ MemoryFault) }
+{
+    let mut ordered = names;
+    put_by_number(&mut ordered.calls)?;
+    Ok(ordered)
+}
+
+/// The set of a key and its value, with the calls by their numbers. The refusals are those of `set_of`.
+fn ordered_set(alloc: Global, set: &str, value: &Value) -> Result<Names, Fault>
+    ensures { GivesSet result (set_of set.now (view value.now)) }
+{
+    let names = set_of(alloc, set, value)?;
+    put_in_order(names)
+}
+
+/// The set of a file that is one set, with the calls by their numbers. The refusals are those of `only_set`.
+fn ordered_only_set(alloc: Global, table: &Table) -> Result<Names, Fault>
+    ensures { GivesSet result (only_set (table_view table.now)) }
+{
+    let names = only_set(alloc, table)?;
+    put_in_order(names)
+}
+
+/// The sets of a table, in the order of its keys, with the calls by their numbers. The refusal is that of the first set that
+/// is refused.
+fn sets_of(alloc: Global, table: &Table) -> Result<Vec<Names>, Fault>
+    ensures { GivesNames (λ v. v.items) result (sets_of (table_view table.now)) }
+{
+    let mut sets = Vec::new(alloc);
+    for (set, value) in table.iter() {
+        let names = ordered_set(alloc, set.as_str(), value)?;
+        sets.push(names)?;
+    }
+    Ok(sets)
+}
+
+/// The set of a file that is one set, alone. The refusals are those of `only_set`.
+fn one_set(alloc: Global, table: &Table) -> Result<Vec<Names>, Fault>
+    ensures { GivesNames (λ v. v.items) result (one_set (only_set (table_view table.now))) }
+{
+    let names = ordered_only_set(alloc, table)?;
+    let mut sets = Vec::new(alloc);
+    sets.push(names)?;
+    Ok(sets)
+}
+
+/// The sets of a file's table, with the calls by their numbers. A table that has only keys of a set is one; another one has
+/// a set at each key.
+fn names_of(alloc: Global, table: &Table) -> Result<Vec<Names>, Fault>
+    ensures { GivesNames (λ v. v.items) result (names_of (table_view table.now)) }
+{
+    if has_names_keys(table) {
+        one_set(alloc, table)
+    } else {
+        sets_of(alloc, table)
+    }
+}
+
+/// The sets of calls of a file of names, which is TOML, the calls of each by their numbers.
+///
+/// A set is a table with the number of an architecture at the key `arch`, and at the key `calls` a table, with a number for
+/// each name. A file whose top has no other keys than these is one set, whose name is the usual one: `x86_64`, `x32`,
+/// `i386`, `aarch64` or `arm` by its architecture, where that is 0xC000003E by whether some number is below 2^30; for
+/// another architecture `0x` and its number with eight hexadecimal digits. In any other file each key at the top is the name
+/// of a set, which is the value there; the sets come in the order of their names.
+///
+/// Refusals, tried in this order: `Syntax` where the text is no TOML; then, set after set, `Key` where the set's name isn't 1
+/// to 64 letters, digits and `_`, or the set is no table, or has an unknown key; `Key` where its architecture is missing or
+/// no whole number, and `Range` where it hasn't 32 bits; `Key` where its calls are missing or no table; then, call after call
+/// in the order of the names, `Key` where the name isn't 1 to 64 letters, digits and `_`, or the value is no whole number,
+/// and `Range` where the number hasn't 32 bits. `Memory` can come anywhere.
+pub fn read_names(alloc: Global, text: &str) -> Result<Vec<Names>, Fault>
+    // Where the text is TOML, the sets or the refusal are those of its tree.
+    ensures read { (tree : Members) → parse_document text.now ≡ Some tree
+        → GivesNames (λ v. v.items) result (names_of tree) }
+
+    // `Syntax` comes exactly where it is no TOML, unless memory ran out.
+    ensures syntax { result ≡ Err Fault.Syntax → parse_document text.now ≡ None }
+    ensures no_syntax { parse_document text.now ≡ None → (result ≡ Err Fault.Syntax)
+        ⊎ (result ≡ Err Fault.Memory) }
+{
+    match toml::table_from_str(alloc, text) {
+        Ok(table) => names_of(alloc, &table),
+        Err(error) => {
+            if error.is_memory() {
+                Err(Fault::Memory)
+            } else {
+                Err(Fault::Syntax)
+            }
+        }
+    }
+}
