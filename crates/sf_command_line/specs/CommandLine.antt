@@ -52,13 +52,24 @@ word_rule name usual = record (option_rule name) { defaults = usual ∷ [] }
 abbrev pub repeated_rule : Text → Rule
 repeated_rule name = record (option_rule name) { action = Some Append }
 
--- `audit --policy FILE [--budget N] [--workers N] [--regions] [--quiet] [--explain-errors] FILTER..`
+-- an option `--name` with a value or without one, which is then the empty text
+abbrev pub choice_rule : Text → Rule
+choice_rule name = record (option_rule name) {
+  range = Some (record { start_inclusive = 0; end_inclusive = 1 });
+  missing = [] ∷ [];
+}
+
+-- `audit --policy FILE [--budget N] [--workers N] [--regions] [--why] [--names FILE].. [--quiet]
+-- [--explain-errors] FILTER..`
 abbrev pub audit_line : App
-audit_line = with_rule (with_rule (with_rule (with_rule (with_rule (with_rule (with_rule (new_app (codes "audit"))
+audit_line = with_rule (with_rule (with_rule (with_rule (with_rule (with_rule (with_rule (with_rule (with_rule
+    (new_app (codes "audit"))
     (needed_rule (codes "policy")))
     (number_rule (codes "budget") 1000000 (codes "100000")))
     (number_rule (codes "workers") 64 (codes "4")))
     (switch_rule (codes "regions")))
+    (switch_rule (codes "why")))
+    (repeated_rule (codes "names")))
     (switch_rule (codes "quiet")))
     (switch_rule (codes "explain-errors")))
     filters_rule
@@ -71,39 +82,50 @@ check_line = with_rule (with_rule (with_rule (with_rule (new_app (codes "check")
     (switch_rule (codes "explain-errors")))
     filters_rule
 
--- `eval --input HEX [--trace] [--trace-true] [--names FILE].. [--explain-errors] FILTER..`
+-- `eval [--input HEX] [--call NAME] [--nr N] [--arch SET] [--args A,..] [--trace] [--trace-true] [--names FILE]..
+-- [--explain-errors] FILTER..`
 abbrev pub eval_line : App
-eval_line = with_rule (with_rule (with_rule (with_rule (with_rule (with_rule (new_app (codes "eval"))
-    (needed_rule (codes "input")))
+eval_line = with_rule (with_rule (with_rule (with_rule (with_rule (with_rule (with_rule (with_rule (with_rule
+    (with_rule (new_app (codes "eval"))
+    (option_rule (codes "input")))
+    (option_rule (codes "call")))
+    (option_rule (codes "nr")))
+    (option_rule (codes "arch")))
+    (option_rule (codes "args")))
     (switch_rule (codes "trace")))
     (switch_rule (codes "trace-true")))
     (repeated_rule (codes "names")))
     (switch_rule (codes "explain-errors")))
     filters_rule
 
--- `compare --old FILE.. --new FILE.. [--budget N] [--workers N] [--same] [--rows] [--leaves N] [--names FILE]..
--- [--quiet] [--explain-errors]`
+-- `compare --old FILE.. --new FILE.. [--budget N] [--workers N] [--same] [--rows] [--only RELATION]
+-- [--calls [NAME,..]] [--leaves N] [--names FILE].. [--quiet] [--explain-errors]`
 abbrev pub compare_line : App
 compare_line = with_rule (with_rule (with_rule (with_rule (with_rule (with_rule (with_rule (with_rule (with_rule
-    (with_rule (new_app (codes "compare"))
+    (with_rule (with_rule (with_rule (new_app (codes "compare"))
     (files_rule (codes "old")))
     (files_rule (codes "new")))
     (number_rule (codes "budget") 1000000 (codes "100000")))
     (number_rule (codes "workers") 64 (codes "4")))
     (switch_rule (codes "same")))
     (switch_rule (codes "rows")))
+    (option_rule (codes "only")))
+    (choice_rule (codes "calls")))
     (number_rule (codes "leaves") 1000000 (codes "20000")))
     (repeated_rule (codes "names")))
     (switch_rule (codes "quiet")))
     (switch_rule (codes "explain-errors"))
 
--- `list [--budget N] [--workers N] [--leaves N] [--names FILE].. [--quiet] [--explain-errors] FILTER..`
+-- `list [--budget N] [--workers N] [--leaves N] [--names FILE].. [--calls [NAME,..]] [--quiet] [--explain-errors]
+-- FILTER..`
 abbrev pub list_line : App
-list_line = with_rule (with_rule (with_rule (with_rule (with_rule (with_rule (with_rule (new_app (codes "list"))
+list_line = with_rule (with_rule (with_rule (with_rule (with_rule (with_rule (with_rule (with_rule
+    (new_app (codes "list"))
     (number_rule (codes "budget") 1000000 (codes "100000")))
     (number_rule (codes "workers") 64 (codes "4")))
     (number_rule (codes "leaves") 1000000 (codes "20000")))
     (repeated_rule (codes "names")))
+    (choice_rule (codes "calls")))
     (switch_rule (codes "quiet")))
     (switch_rule (codes "explain-errors")))
     filters_rule

@@ -122,3 +122,10 @@ pub fn leaves_of(found: &ArgMatches<'_>) -> u32
 {
     found.get_one::<u32>("leaves").unwrap_or(20_000)
 }
+
+/// Whether an audit shows why each example is let through.
+pub fn wants_why(found: &ArgMatches<'_>) -> bool
+    ensures { IsSwitch (one_of (codes "why") (rows_of (found_of found.now))) result }
+{
+    is_on(found, "why")
+}

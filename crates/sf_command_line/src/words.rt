@@ -1,13 +1,13 @@
 //! The form of the command line: its subcommands, and the options of each.
 ghost use Rattle.std.specs.Prelude.{◌≡◌, ℕ, IfOk, codes, false};
 ghost use Rattle.clap.specs.Words.{app_of, rule_of};
-ghost use Rattle.sf_command_line.specs.CommandLine.{audit_line, check_line, command_line, compare_line, eval_line, file_rule, files_rule, filters_rule, list_line, needed_rule, number_rule, option_rule, profile_line, program_line, repeated_rule, switch_rule, word_rule};
+ghost use Rattle.sf_command_line.specs.CommandLine.{audit_line, check_line, choice_rule, command_line, compare_line, eval_line, file_rule, files_rule, filters_rule, list_line, needed_rule, number_rule, option_rule, profile_line, program_line, repeated_rule, switch_rule, word_rule};
 
 use clap::{Arg, ArgAction, Command, value_parser};
 use std::alloc::{AllocError, Global};
 
 /// The version of the program, as `--version` shows it.
-const VERSION: &str = "1.2.0";
+const VERSION: &str = "1.3.0";
 
 /// What stands at the end of `--help`.
 const AFTER_HELP: &str = "Exit status:
@@ -104,13 +104,51 @@ fn regions<'a>(alloc: Global) -> Arg<'a>
     switch(alloc, "regions").help("List the settled regions too")
 }
 
-/// `--input`: the input that is evaluated.
+/// `--input`: the input that is evaluated, by its bytes.
 fn input<'a>(alloc: Global) -> Arg<'a>
-    ensures rule { rule_of result ≡ needed_rule (codes "input") }
+    ensures rule { rule_of result ≡ option_rule (codes "input") }
     ensures own { result.global ≡ false }
 {
-    option(alloc, "input", "HEX").required(true).help(
+    option(alloc, "input", "HEX").help(
         "The 64 bytes of struct seccomp_data as 128 hexadecimal digits",
+    )
+}
+
+/// `--call`: the call that is evaluated, by its name.
+fn call<'a>(alloc: Global) -> Arg<'a>
+    ensures rule { rule_of result ≡ option_rule (codes "call") }
+    ensures own { result.global ≡ false }
+{
+    option(alloc, "call", "NAME").help(
+        "Instead: a call by its name; needs --arch, --args and --names",
+    )
+}
+
+/// `--nr`: the call that is evaluated, by its number.
+fn nr<'a>(alloc: Global) -> Arg<'a>
+    ensures rule { rule_of result ≡ option_rule (codes "nr") }
+    ensures own { result.global ≡ false }
+{
+    option(alloc, "nr", "N").help("Instead: a call by its number; needs --arch and --args")
+}
+
+/// `--arch`: the architecture of the call that is evaluated.
+fn arch<'a>(alloc: Global) -> Arg<'a>
+    ensures rule { rule_of result ≡ option_rule (codes "arch") }
+    ensures own { result.global ≡ false }
+{
+    option(alloc, "arch", "SET").help(
+        "The call's set of --names, such as x86_64; with --nr also an architecture's number",
+    )
+}
+
+/// `--args`: the arguments of the call that is evaluated.
+fn arguments<'a>(alloc: Global) -> Arg<'a>
+    ensures rule { rule_of result ≡ option_rule (codes "args") }
+    ensures own { result.global ≡ false }
+{
+    option(alloc, "args", "A,..").help(
+        "The call's arguments, one to six numbers; 0 for those left out",
     )
 }
 
@@ -196,7 +234,38 @@ fn names<'a>(alloc: Global) -> Arg<'a>
 {
     option(alloc, "names", "FILE")
         .action(ArgAction::Append)
-        .help("A file of names of calls, which rows and traces show; once for each file")
+        .help("A file of names of calls, such as policies/names.toml; once for each file")
+}
+
+/// `--calls`: whether rows are told call by call, and of which calls.
+fn calls<'a>(alloc: Global) -> Arg<'a>
+    ensures rule { rule_of result ≡ choice_rule (codes "calls") }
+    ensures own { result.global ≡ false }
+{
+    option(alloc, "calls", "NAME,..")
+        .num_args(0..=1)
+        .default_missing_value("")
+        .help("A line for each row of each call of --names, or of these calls only")
+}
+
+/// `--only`: of which relation rows are listed.
+fn only<'a>(alloc: Global) -> Arg<'a>
+    ensures rule { rule_of result ≡ option_rule (codes "only") }
+    ensures own { result.global ≡ false }
+{
+    option(alloc, "only", "RELATION").help(
+        "Of the rows only those of a relation: looser, tighter or different",
+    )
+}
+
+/// `--why`: whether an audit shows why each example is let through.
+fn why<'a>(alloc: Global) -> Arg<'a>
+    ensures rule { rule_of result ≡ switch_rule (codes "why") }
+    ensures own { result.global ≡ false }
+{
+    switch(alloc, "why").help(
+        "Show of each example the call, and which instruction lets it through",
+    )
 }
 
 /// `--instructions`: whether a check lists the instructions of each filter.
@@ -284,6 +353,8 @@ fn audit<'a>(alloc: Global) -> Result<Command<'a>, AllocError>
         .arg(budget(alloc))?
         .arg(workers(alloc))?
         .arg(regions(alloc))?
+        .arg(why(alloc))?
+        .arg(names(alloc))?
         .arg(quiet(alloc))?
         .arg(explain(alloc))?
         .arg(filters(alloc))
@@ -308,6 +379,10 @@ fn eval<'a>(alloc: Global) -> Result<Command<'a>, AllocError>
     Command::new(alloc, "eval")
         .about("Show what a stack of filters answers to one input")
         .arg(input(alloc))?
+        .arg(call(alloc))?
+        .arg(nr(alloc))?
+        .arg(arch(alloc))?
+        .arg(arguments(alloc))?
         .arg(trace(alloc))?
         .arg(trace_true(alloc))?
         .arg(names(alloc))?
@@ -331,6 +406,8 @@ fn compare<'a>(alloc: Global) -> Result<Command<'a>, AllocError>
         .arg(workers(alloc))?
         .arg(same_switch(alloc))?
         .arg(rows(alloc))?
+        .arg(only(alloc))?
+        .arg(calls(alloc))?
         .arg(leaves(alloc))?
         .arg(names(alloc))?
         .arg(quiet(alloc))?
@@ -347,6 +424,7 @@ fn list<'a>(alloc: Global) -> Result<Command<'a>, AllocError>
         .arg(workers(alloc))?
         .arg(leaves(alloc))?
         .arg(names(alloc))?
+        .arg(calls(alloc))?
         .arg(quiet(alloc))?
         .arg(explain(alloc))?
         .arg(filters(alloc))

@@ -8,22 +8,28 @@ pub returns : goal.returns
 returns c =
     let bare : app_of c.about.result ≡ new_app (codes "compare") =
     ap app_of_fields c.about.ensures ∙ c.new.ensures.app in
-    let with_files = c.in_ok-arg.ensures.shape c.files.ensures.own ∙ ap₂ with_rule bare c.files.ensures.rule in
+    let with_files = c.in_ok-arg.ensures.shape c.files.ensures.own
+    ∙ ap₂ with_rule bare c.files.ensures.rule in
     let with_files_2 = c.in_ok-arg-2.ensures.shape c.files-2.ensures.own
     ∙ ap₂ with_rule with_files c.files-2.ensures.rule in
     let with_budget = c.in_ok-arg-3.ensures.shape c.budget.ensures.own
     ∙ ap₂ with_rule with_files_2 c.budget.ensures.rule in
     let with_workers = c.in_ok-arg-4.ensures.shape c.workers.ensures.own
     ∙ ap₂ with_rule with_budget c.workers.ensures.rule in
-    let with_same = c.in_ok-arg-5.ensures.shape c.same_switch.ensures.own
+    let with_same_switch = c.in_ok-arg-5.ensures.shape c.same_switch.ensures.own
     ∙ ap₂ with_rule with_workers c.same_switch.ensures.rule in
-    let with_rows = c.in_ok-arg-6.ensures.shape c.rows.ensures.own ∙ ap₂ with_rule with_same c.rows.ensures.rule in
-    let with_leaves = c.in_ok-arg-7.ensures.shape c.leaves.ensures.own
-    ∙ ap₂ with_rule with_rows c.leaves.ensures.rule in
-    let with_names = c.in_ok-arg-8.ensures.shape c.names.ensures.own
+    let with_rows = c.in_ok-arg-6.ensures.shape c.rows.ensures.own
+    ∙ ap₂ with_rule with_same_switch c.rows.ensures.rule in
+    let with_only = c.in_ok-arg-7.ensures.shape c.only.ensures.own
+    ∙ ap₂ with_rule with_rows c.only.ensures.rule in
+    let with_calls = c.in_ok-arg-8.ensures.shape c.calls.ensures.own
+    ∙ ap₂ with_rule with_only c.calls.ensures.rule in
+    let with_leaves = c.in_ok-arg-9.ensures.shape c.leaves.ensures.own
+    ∙ ap₂ with_rule with_calls c.leaves.ensures.rule in
+    let with_names = c.in_ok-arg-10.ensures.shape c.names.ensures.own
     ∙ ap₂ with_rule with_leaves c.names.ensures.rule in
-    let with_quiet = c.in_ok-arg-9.ensures.shape c.quiet.ensures.own
+    let with_quiet = c.in_ok-arg-11.ensures.shape c.quiet.ensures.own
     ∙ ap₂ with_rule with_names c.quiet.ensures.rule in
-    IfOk-weaker c.arg-10.result _ _ (λ r h. h.shape c.explain.ensures.own
+    IfOk-weaker c.arg-12.result _ _ (λ r h. h.shape c.explain.ensures.own
     ∙ ap₂ with_rule with_quiet c.explain.ensures.rule)
-    c.arg-10.ensures
+    c.arg-12.ensures

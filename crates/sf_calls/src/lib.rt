@@ -1,0 +1,12 @@
+//! A call in words: numbers as a person writes them, the input that a call is, and an input as a call.
+#![tactic(auto)]
+
+mod call;
+mod numbers;
+#[cfg(test)]
+mod tests;
+mod text;
+
+pub use call::call_input;
+pub use numbers::{Misread, are_arguments, is_number, read_arguments, read_word};
+pub use text::{is_named, push_call_words};
