@@ -226,8 +226,8 @@ alike files others questions m n o p f g stack plain none none' = search arith
 pub same_report : (files others : List (List ℕ)) (questions : List QuestionData) (m n : ℕ) (o p : Found)
     → IsAudit files questions m o → IsAudit others questions n p → o.settled.stack ≡ p.settled.stack
     → IsPlain o.settled.stack → o.settled.outstanding ≡ [] → p.settled.outstanding ≡ [] → (shown : Bool)
-    → report_text o shown ≡ report_text p shown
-same_report files others questions m n o p f g stack plain none none' shown =
+    (remarks : List (List ℕ)) → report_text o shown remarks ≡ report_text p shown remarks
+same_report files others questions m n o p f g stack plain none none' shown remarks =
     let h = alike files others questions m n o p f g stack plain none none' in
     let asked : o.questions ≡ p.questions = f.found.questions ∙ sym g.found.questions in
     let theirs : AreRightReplies p.settled o.questions p.replies =
@@ -236,5 +236,5 @@ same_report files others questions m n o p f g stack plain none none' shown =
     let counts = same_counts o.settled p.settled h in
     let regions : region_lines 1 o.settled.regions ≡ region_lines 1 p.settled.regions =
     search (arith, same_lines, same_names, same_answer) in
-    λ j. head (h.stack j) (length (asked j)) (counts j) ++ (question_lines 1 (asked j) (replies j)
+    λ j. head (h.stack j) (length (asked j)) (counts j) ++ (question_lines 0 (asked j) (replies j) remarks
     ++ ((if shown then regions j else []) ++ totals_line (replies j)))

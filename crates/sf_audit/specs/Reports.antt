@@ -1,5 +1,5 @@
 -- The text of a report.
-use Rattle.std.specs.Prelude.{ℕ, ◌+◌, Bool, true, false, List, [], ◌∷◌, ◌++◌, codes, map, length, count_by, ◌==◌, if◌then◌else◌}
+use Rattle.std.specs.Prelude.{ℕ, ◌+◌, Bool, true, false, List, [], ◌∷◌, ◌++◌, codes, map, length, count_by, slice_get, unwrap_or, ◌==◌, if◌then◌else◌}
 use Rattle.std.specs.Fmt.{decimal}
 use Rattle.sf_check.specs.Stacks.{path_length}
 use Rattle.sf_book.specs.Books.{BookData, RegionData, counts_of}
@@ -25,10 +25,19 @@ question_line number name (Allowed input) =
     line (codes "question" ∷ decimal number ∷ name ∷ codes "allowed" ∷ hex_text input ∷ [])
 question_line number name Unsettled = line (codes "question" ∷ decimal number ∷ name ∷ codes "unsettled" ∷ [])
 
--- a line for each question and its reply, the first of them with this number
-abbrev pub question_lines : ℕ → List QuestionData → List Reply → List ℕ
-question_lines number (q ∷ qs) (r ∷ rs) = question_line number q.name r ++ question_lines (number + 1) qs rs
-question_lines number _ _ = []
+-- the remark on the question at a place, counted from 0; empty where it has none
+abbrev pub remark_at : List (List ℕ) → ℕ → List ℕ
+remark_at remarks place = unwrap_or (slice_get remarks place) []
+
+-- the line of the question at a place, counted from 0, and under it the remark on it
+abbrev pub remarked_line : ℕ → List ℕ → Reply → List (List ℕ) → List ℕ
+remarked_line place name reply remarks = question_line (place + 1) name reply ++ remark_at remarks place
+
+-- the lines of questions, each with its reply and its remark; the first of the questions stands at this place
+abbrev pub question_lines : ℕ → List QuestionData → List Reply → List (List ℕ) → List ℕ
+question_lines place (q ∷ qs) (r ∷ rs) remarks =
+    remarked_line place q.name r remarks ++ question_lines (place + 1) qs rs remarks
+question_lines place _ _ remarks = []
 
 -- T for true and F for false, as bytes
 abbrev pub letter : Bool → ℕ
@@ -84,8 +93,8 @@ abbrev pub head_text : BookData → ℕ → List ℕ
 head_text b questions = title_line ++ (size_line (length b.stack) (path_length b.stack) questions
     ++ counts_line (counts_of b))
 
--- the whole report, with or without its regions
-abbrev pub report_text : Found → Bool → List ℕ
-report_text o regions =
-    head_text o.settled (length o.questions) ++ (question_lines 1 o.questions o.replies
+-- the whole report, with or without its regions, and with remarks on questions
+abbrev pub report_text : Found → Bool → List (List ℕ) → List ℕ
+report_text o regions remarks =
+    head_text o.settled (length o.questions) ++ (question_lines 0 o.questions o.replies remarks
     ++ (shown_lines regions o.settled.regions ++ totals_line o.replies))

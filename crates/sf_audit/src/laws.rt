@@ -21,12 +21,14 @@ pub fn an_audit_is_not_refused()
 }
 
 /// Two audits with the same questions have the same report, where their files spell one plain stack and both leave
-/// nothing outstanding: whatever their budgets, whoever worked, and whatever stands in fields that no instruction uses.
+/// nothing outstanding: whatever their budgets, whoever worked, and whatever stands in fields that no instruction uses. The
+/// remarks on the questions are given, and the same in both.
 pub fn one_report()
     ensures { (files others : List (List ℕ)) (questions : List QuestionData)
         (b c : ℕ) (o p : Found) →
         IsAudit files questions b o → IsAudit others questions c p →
         o.settled.stack ≡ p.settled.stack → IsPlain o.settled.stack →
         o.settled.outstanding ≡ [] → p.settled.outstanding ≡ [] →
-        (shown : Bool) → report_text o shown ≡ report_text p shown }
+        (shown : Bool) (remarks : List (List ℕ)) →
+        report_text o shown remarks ≡ report_text p shown remarks }
 {}

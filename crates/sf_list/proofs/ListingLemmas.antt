@@ -1,5 +1,5 @@
 -- Why what `list` answers is a listing of the files.
-use Rattle.std.proofs.Common.{◌≡◌, ℕ, ◌<◌, List, length, MatchOption, Result, Ok, Err, IfOk, ap, subst, sym, ◌∙◌}
+use Rattle.std.proofs.Common.{◌≡◌, ℕ, ◌<◌, List, length, MatchOption, OnErr, Result, Ok, Err, IfOk, ap, subst, sym, ◌∙◌}
 use Rattle.sf_check.specs.declared.insn.Insn.{Insn}
 use Rattle.sf_check.specs.Stacks.{IsPlain}
 use Rattle.sf_book.specs.Books.{BookData}
@@ -31,3 +31,8 @@ pub listed_if : {L E : Type 0} (view : L → Listed) (files : List (List ℕ)) (
 listed_if view files program stack budget s (Ok l) spelled is end plain same picture =
     listed files program stack budget s (view l) spelled is end plain same picture
 listed_if view files program stack budget s (Err e) spelled is end plain same picture = tt
+
+-- what is so holds where there is an error
+pub on_error : {T E : Type 0} (r : Result T E) (P : Type 0) → P → OnErr r P
+on_error (Ok x) P p = tt
+on_error (Err e) P p = p

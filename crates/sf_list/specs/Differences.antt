@@ -1,6 +1,7 @@
 -- What differs between the answers of two stacks that were explored as one, and the rows that show it.
-use Rattle.std.specs.Prelude.{◌≡◌, ℕ, ◌+◌, ◌<◌, ◌==◌, not, Bool, false, List, [], ◌∷◌, ◌++◌, codes, All, length, map, count_by, Option, None, Some, MatchOption, slice_get, slice_index}
-use Rattle.std.specs.List.{filter, flat_map}
+use Rattle.std.specs.Prelude.{◌≡◌, ℕ, ◌+◌, ◌<◌, ◌==◌, not, Bool, true, false, List, [], ◌∷◌, ◌++◌, codes, All, length, map, nat_lt, Option, None, Some, MatchOption, slice_get, slice_index}
+use Rattle.std.specs.List.{filter, list_any}
+use Rattle.std.specs.Option.{option_map_or}
 use Rattle.std.specs.List.Sorted.{IsNonDecreasingBy}
 use Rattle.std.specs.Fmt.{decimal}
 use Rattle.sf_check.specs.Stacks.{IsPlain}
@@ -8,13 +9,16 @@ use Rattle.sf_run.specs.declared.replaying.PartAnswers.{PartAnswers}
 use Rattle.sf_book.specs.Books.{RegionData, BookData}
 use Rattle.sf_picture.specs.PictureData.{PictureData}
 use Rattle.sf_picture.specs.Pictures.{IsAttainedEverywhere, IsDetermined, IsPicture, ShowsLabels}
-use Rattle.sf_policy.specs.Names.{NamesData}
+use Rattle.sf_names.specs.Names.{NamesData}
 use Rattle.sf_policy.specs.Texts.{line}
 use Rattle.sf_compare.specs.Changes.{AreAnswersOf}
 use Rattle.sf_compare.specs.Comparisons.{Compared, comparison_text}
+use Rattle.sf_compare.specs.Relations.{reach_of}
+use Rattle.sf_compare.specs.declared.relation.Relation.{Relation}
+use Rattle.sf_compare.specs.declared.relation.Relation.TheVariants.{Looser, Tighter, Different}
 use Rattle.sf_rows.specs.Pairs.{Differ, IsLabelOf, pair_order, pairs_words}
 use Rattle.sf_rows.specs.Rows.{RowData, listed_rows}
-use Rattle.sf_rows.specs.Lines.{is_undetermined, row_line}
+use Rattle.sf_rows.specs.Written.{written_count, written_lines, written_undetermined}
 
 -- the label of each region is that of the answers of both stacks to its members
 pub record TellPairs (s : BookData) (older : ℕ) (pairs : List PartAnswers) (labels : List ℕ) : Type 0 where
@@ -58,22 +62,56 @@ changed_of count rows = filter (λ (r : RowData). not (is_unchanged count r.labe
 abbrev pub changed_rows : DifferencesData → List RowData
 changed_rows x = changed_of (length x.pairs) (listed_rows x.picture)
 
--- how many rows there are, and how many of them have several labels
-abbrev pub changed_line : List RowData → List ℕ
-changed_line rows = line (codes "total" ∷ codes "changed" ∷ decimal (length rows) ∷ codes "undetermined"
-    ∷ decimal (count_by is_undetermined rows) ∷ [])
+-- whether the answers of a pair are so related, where they differ
+abbrev pub is_so_related : Relation → PartAnswers → Bool
+is_so_related Looser both = nat_lt (reach_of both.older.action) (reach_of both.newer.action)
+is_so_related Tighter both = nat_lt (reach_of both.newer.action) (reach_of both.older.action)
+is_so_related Different both = true
+
+-- whether the answers that a label stands for are so related
+abbrev pub is_label_of : Relation → List PartAnswers → ℕ → Bool
+is_label_of relation pairs label = option_map_or (is_so_related relation) (slice_get pairs label) false
+
+-- of rows those with answers that are so related
+abbrev pub related_of : Relation → List PartAnswers → List RowData → List RowData
+related_of relation pairs rows = filter (λ (r : RowData). list_any (is_label_of relation pairs) r.labels) rows
+
+-- What is shown of the rows in which answers differ: those of a relation only, and how they are told: each by a line,
+-- or call by call.
+pub record ShownData : Type 0 where
+  pub only : Option Relation
+  pub calls : Option (List (List ℕ))
+
+-- the rows that are shown
+abbrev pub shown_rows : Option Relation → DifferencesData → List RowData
+shown_rows None x = changed_rows x
+shown_rows (Some relation) x = related_of relation x.pairs (changed_rows x)
+
+-- what the rows that are shown have in common
+abbrev pub shown_words : Option Relation → List ℕ
+shown_words None = codes "changed"
+shown_words (Some Looser) = codes "looser"
+shown_words (Some Tighter) = codes "tighter"
+shown_words (Some Different) = codes "different"
+
+-- how many lines tell the rows, and how many of them have several labels
+abbrev pub changed_line : Option Relation → (count undetermined : ℕ) → List ℕ
+changed_line only count undetermined = line (codes "total" ∷ shown_words only ∷ decimal count ∷ codes "undetermined"
+    ∷ decimal undetermined ∷ [])
 
 -- The line that counts the rows, where they were drawn: where a piece is outstanding there is none, since nothing was
 -- looked for.
-abbrev pub drawn_line : Option PictureData → List RowData → List ℕ
-drawn_line None rows = []
-drawn_line (Some p) rows = changed_line rows
+abbrev pub drawn_line : Option PictureData → Option Relation → (count undetermined : ℕ) → List ℕ
+drawn_line None only count undetermined = []
+drawn_line (Some p) only count undetermined = changed_line only count undetermined
 
--- the rows and the line that counts them, with these names of calls
-abbrev pub differences_text : List NamesData → DifferencesData → List ℕ
-differences_text names x =
-    flat_map (row_line names (pairs_words x.pairs)) (changed_rows x) ++ drawn_line x.picture (changed_rows x)
+-- the rows and the line that counts them, with these sets of calls
+abbrev pub differences_text : List NamesData → ShownData → DifferencesData → List ℕ
+differences_text sets shown x = let rows = shown_rows shown.only x in
+    written_lines sets (pairs_words x.pairs) shown.calls rows
+    ++ drawn_line x.picture shown.only (written_count sets shown.calls rows)
+    (written_undetermined sets shown.calls rows)
 
 -- the whole text: that of the comparison, and then the rows
-abbrev pub compared_text : List NamesData → Compared → DifferencesData → List ℕ
-compared_text names c x = comparison_text c ++ differences_text names x
+abbrev pub compared_text : List NamesData → ShownData → Compared → DifferencesData → List ℕ
+compared_text sets shown c x = comparison_text c ++ differences_text sets shown x

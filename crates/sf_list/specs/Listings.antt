@@ -1,6 +1,5 @@
 -- What a listing of a stack of filter files finds, and its text.
 use Rattle.std.specs.Prelude.{◌≡◌, ℕ, ◌<◌, ◌==◌, Bool, false, List, [], ◌∷◌, ◌++◌, codes, length, map, count_by, Option, Some, None, MatchOption}
-use Rattle.std.specs.List.{flat_map}
 use Rattle.std.specs.List.Sorted.{IsNonDecreasingBy}
 use Rattle.std.specs.Fmt.{decimal}
 use Rattle.sf_check.specs.declared.insn.Insn.{Insn}
@@ -12,11 +11,12 @@ use Rattle.sf_picture.specs.PictureData.{PictureData}
 use Rattle.sf_picture.specs.Pictures.{IsAttainedEverywhere, IsDetermined, IsPicture, ShowsLabels}
 use Rattle.sf_picture.specs.Answering.{TellAnswers}
 use Rattle.sf_policy.specs.Filters.{SpellStack}
-use Rattle.sf_policy.specs.Names.{NamesData}
+use Rattle.sf_names.specs.Names.{NamesData}
 use Rattle.sf_policy.specs.Texts.{answer_words, counts_line, line}
 use Rattle.sf_rows.specs.Answers.{AreFirstPlaces, answer_order}
 use Rattle.sf_rows.specs.Rows.{RowData, listed_rows, rows_of}
-use Rattle.sf_rows.specs.Lines.{row_line, is_undetermined}
+use Rattle.sf_rows.specs.Lines.{is_undetermined}
+use Rattle.sf_rows.specs.Written.{written_count, written_lines, written_undetermined}
 
 -- How an exploration ended, the answers of its regions, and where no piece is outstanding its picture, whose labels are
 -- places of the answers.
@@ -47,29 +47,36 @@ pub record IsListing (files : List (List ℕ)) (budget : ℕ) (l : Listed) : Typ
   pub plain : IsPlain l.settled.stack → IsExactExploration l.settled.stack budget l.settled
   pub picture : MatchOption l.picture (0 < length l.settled.outstanding) (IsPictured l.settled l.answers)
 
--- what each listing begins with, and the number of its form
-abbrev pub listing_title : List ℕ
-listing_title = line (codes "seccomp_audit" ∷ codes "list" ∷ codes "1" ∷ [])
+-- what a listing begins with, and the number of its form: of rows, or of calls
+abbrev pub listing_title : Option (List (List ℕ)) → List ℕ
+listing_title None = line (codes "seccomp_audit" ∷ codes "list" ∷ codes "1" ∷ [])
+listing_title (Some wanted) = line (codes "seccomp_audit" ∷ codes "calls" ∷ codes "1" ∷ [])
 
 -- how many filters, and the length of the path through them
 abbrev pub stack_line : List (List Insn) → List ℕ
 stack_line programs = line (codes "filters" ∷ decimal (length programs) ∷ codes "path"
     ∷ decimal (path_length programs) ∷ [])
 
--- how many rows there are, and how many of them have several answers
-abbrev pub total_line : List RowData → List ℕ
-total_line rows = line (codes "total" ∷ codes "rows" ∷ decimal (length rows) ∷ codes "undetermined"
-    ∷ decimal (count_by is_undetermined rows) ∷ [])
+-- what is counted at the end: rows, or lines of calls
+abbrev pub counted_words : Option (List (List ℕ)) → List ℕ
+counted_words None = codes "rows"
+counted_words (Some wanted) = codes "lines"
+
+-- how many lines tell the rows, and how many of them have several answers
+abbrev pub total_line : Option (List (List ℕ)) → (count undetermined : ℕ) → List ℕ
+total_line calls count undetermined =
+    line (codes "total" ∷ counted_words calls ∷ decimal count ∷ codes "undetermined" ∷ decimal undetermined ∷ [])
 
 -- the lines before the rows
-abbrev pub head_text : BookData → List ℕ
-head_text b = listing_title ++ (stack_line b.stack ++ counts_line (counts_of b))
+abbrev pub head_text : Option (List (List ℕ)) → BookData → List ℕ
+head_text calls b = listing_title calls ++ (stack_line b.stack ++ counts_line (counts_of b))
 
--- the whole text, with these names of calls
-abbrev pub listing_text : List NamesData → Listed → List ℕ
-listing_text names l = head_text l.settled
-    ++ (flat_map (row_line names (map answer_words l.answers)) (listed_rows l.picture)
-    ++ total_line (listed_rows l.picture))
+-- The whole text, with these sets of calls: a line for each row, or where calls are asked for the lines of these calls,
+-- of all calls where none is named.
+abbrev pub listing_text : List NamesData → Option (List (List ℕ)) → Listed → List ℕ
+listing_text sets calls l = let rows = listed_rows l.picture in
+    head_text calls l.settled ++ (written_lines sets (map answer_words l.answers) calls rows
+    ++ total_line calls (written_count sets calls rows) (written_undetermined sets calls rows))
 
 -- whether each input lies in a row with one answer
 abbrev pub is_whole_listing : Option PictureData → Bool

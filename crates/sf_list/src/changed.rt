@@ -4,16 +4,20 @@ ghost use Rattle.std.specs.Prelude.{◌≡◌, ◌⊎◌, ◌++◌, IfErr, IfOk,
 ghost use Rattle.std.specs.Io.KnownBytes.{Appends};
 ghost use Rattle.sf_policy.specs.Texts.{AppendsFront};
 ghost use Rattle.sf_policy.specs.declared.fault.Fault.TheVariants.{Memory as MemoryFault, Write as WriteFault};
-ghost use Rattle.sf_list.specs.Differences.{changed_line, changed_of, changed_rows, compared_text, differences_text, drawn_line, is_unchanged};
+ghost use Rattle.std.specs.List.{list_any};
+ghost use Rattle.sf_list.specs.Differences.{changed_line, changed_of, compared_text, differences_text, drawn_line, is_label_of, is_so_related, is_unchanged, related_of, shown_rows, shown_words};
 
 use crate::differences::Differences;
-use sf_compare::{Comparison, text_of_comparison};
+use sf_compare::{Comparison, Relation, text_of_comparison};
+use sf_names::Names;
 use sf_picture::Picture;
-use sf_policy::{Fault, Names, write_bytes};
+use sf_policy::{Fault, write_bytes};
 use sf_rows::pairs::all_words;
-use sf_rows::{Row, count_undetermined, push_rows, rows_in};
+use sf_rows::{Lines, Row, push_lines, rows_in};
+use sf_run::PartAnswers;
 use std::alloc::{AllocError, Global};
 use std::io::Write;
+use std::marker::Model;
 
 /// Whether these labels are those of a row without a difference: the only one is the number behind all `count` places.
 fn is_unchanged(count: usize, labels: &[usize]) -> bool
@@ -39,74 +43,162 @@ fn keep_changed(rows: &mut Vec<Row>, count: usize)
     rows.retain(|row| is_changed(count, row));
 }
 
-/// The rows in which the answers of both stacks differ. `Memory` where an allocation is refused.
-fn rows_of(alloc: Global, differences: &Differences) -> Result<Vec<Row>, Fault>
-    ensures all { IfOk result (λ v. v.items ≡ changed_rows differences.now) }
+/// Whether the answers of a pair are so related, where they differ.
+fn is_so_related(relation: Relation, pair: &PartAnswers) -> bool
+    ensures { result ≡ is_so_related relation pair.now }
+{
+    match relation {
+        Relation::Looser | Relation::Tighter => relation.holds(pair.older, pair.newer),
+        Relation::Different => true,
+    }
+}
+
+/// Whether the answers that a label stands for are so related.
+fn is_label_of(relation: Relation, pairs: &[PartAnswers], label: usize) -> bool
+    ensures { result ≡ is_label_of relation pairs.now label }
+{
+    match pairs.get(label) {
+        Some(pair) => is_so_related(relation, pair),
+        None => false,
+    }
+}
+
+/// Whether a row has answers that are so related.
+fn is_related(relation: Relation, pairs: &[PartAnswers], row: &Row) -> bool
+    ensures { result ≡ list_any (is_label_of relation pairs.now) row.now.labels }
+{
+    row.labels()
+        .iter()
+        .any(|label| is_label_of(relation, pairs, *label))
+}
+
+/// Leaves only rows with answers that are so related.
+fn keep_related(rows: &mut Vec<Row>, relation: Relation, pairs: &[PartAnswers])
+    ensures { rows.new.items ≡ related_of relation pairs.now rows.old.items }
+{
+    rows.retain(|row| is_related(relation, pairs, row));
+}
+
+/// What is shown of the rows in which answers differ, and how.
+#[derive(Drop)]
+pub struct Shown<'a> {
+    /// Only the rows with answers that are so related; all, where there is none.
+    pub only: Option<Relation>,
+    /// The calls by which the rows are told: all, where it names none; where there is none, each row has a line.
+    pub calls: Option<Vec<&'a str>>,
+}
+
+impl<'a> Model for Shown<'a> {
+    ghost use Rattle.std.specs.Prelude.{map, option_map};
+    ghost use Rattle.sf_list.specs.Differences.{ShownData};
+
+    ghost Value = { ShownData };
+
+    ghost view = { λ s. record {
+      only = s.only;
+      calls = option_map (λ v. map (λ t. t.now) v.items) s.calls;
+    } };
+}
+
+/// The rows that are shown. `Memory` where an allocation is refused.
+fn rows_of(
+    alloc: Global,
+    differences: &Differences,
+    only: Option<Relation>,
+) -> Result<Vec<Row>, Fault>
+    ensures all { IfOk result (λ v. v.items ≡ shown_rows only differences.now) }
     ensures refused { IfErr result (λ e. e ≡ MemoryFault) }
 {
     let mut rows = rows_in(alloc, differences.picture())?;
     keep_changed(&mut rows, differences.pairs().len());
+    if let Some(relation) = only {
+        keep_related(&mut rows, relation, differences.pairs());
+    }
     Ok(rows)
 }
 
-/// Adds the line that tells how many rows there are, and how many of them have several labels.
-fn push_total(text: &mut String, rows: &[Row]) -> Result<(), AllocError>
-    ensures { OnOk result (string_bytes text.new ≡ string_bytes text.old
-        ++ changed_line rows.now) }
+/// What the rows that are shown have in common.
+fn words_of(only: Option<Relation>) -> &'static str
+    ensures { result.now ≡ shown_words only }
 {
-    let count = rows.len();
-    let undetermined = count_undetermined(rows);
-    write!(text, "total changed {count} undetermined {undetermined}\n")
+    match only {
+        Some(Relation::Looser) => "looser",
+        Some(Relation::Tighter) => "tighter",
+        Some(Relation::Different) => "different",
+        None => "changed",
+    }
+}
+
+/// Adds the line that tells how many lines there are, and how many of them have several labels.
+fn push_total(text: &mut String, only: Option<Relation>, lines: Lines) -> Result<(), AllocError>
+    ensures { OnOk result (string_bytes text.new ≡ string_bytes text.old
+        ++ changed_line only lines.count lines.undetermined) }
+{
+    let shown = words_of(only);
+    let count = lines.count;
+    let undetermined = lines.undetermined;
+    write!(text, "total {shown} {count} undetermined {undetermined}\n")
 }
 
 /// Adds the line that counts the rows of a picture. Where there is none, nothing was drawn, and there is no such line.
-fn push_drawn(text: &mut String, picture: Option<&Picture>, rows: &[Row]) -> Result<(), AllocError>
+fn push_drawn(
+    text: &mut String,
+    picture: Option<&Picture>,
+    only: Option<Relation>,
+    lines: Lines,
+) -> Result<(), AllocError>
     ensures { OnOk result (string_bytes text.new ≡ string_bytes text.old
-        ++ drawn_line (option_map (λ p. p.now) picture.entry) rows.now) }
+        ++ drawn_line (option_map (λ p. p.now) picture.entry) only
+        lines.count lines.undetermined) }
 {
     match picture {
-        Some(_) => push_total(text, rows),
+        Some(_) => push_total(text, only, lines),
         None => Ok(()),
     }
 }
 
-/// Adds the rows and the line that counts them, with these names of calls.
+/// Adds the rows and the line that counts them, with these sets of calls. `Memory` where an allocation is refused.
 fn push_differences(
     alloc: Global,
     text: &mut String,
     differences: &Differences,
-    names: &[Names],
+    sets: &[Names],
+    shown: &Shown<'_>,
     rows: &[Row],
-) -> Result<(), AllocError>
-    requires { rows.now ≡ changed_rows differences.now }
-    ensures { OnOk result (string_bytes text.new ≡ string_bytes text.old
-        ++ differences_text names.now differences.now) }
+) -> Result<(), Fault>
+    requires { rows.now ≡ shown_rows shown.now.only differences.now }
+    ensures text { OnOk result (string_bytes text.new ≡ string_bytes text.old
+        ++ differences_text sets.now shown.now differences.now) }
+    ensures refused { IfErr result (λ e. e ≡ MemoryFault) }
 {
     let words = all_words(alloc, differences.pairs())?;
-    push_rows(text, names, words.as_slice(), rows)?;
-    push_drawn(text, differences.picture(), rows)
+    let lines = push_lines(alloc, text, sets, words.as_slice(), &shown.calls, rows)?;
+    push_drawn(text, differences.picture(), shown.only, lines)?;
+    Ok(())
 }
 
-/// The whole text: that of the comparison, and then the rows.
+/// The whole text: that of the comparison, and then the rows. `Memory` where an allocation is refused.
 fn text_of(
     alloc: Global,
     comparison: &Comparison,
     differences: &Differences,
-    names: &[Names],
+    sets: &[Names],
+    shown: &Shown<'_>,
     rows: &[Row],
-) -> Result<String, AllocError>
-    requires { rows.now ≡ changed_rows differences.now }
-    ensures { IfOk result (λ text. string_bytes text
-        ≡ compared_text names.now comparison.now differences.now) }
+) -> Result<String, Fault>
+    requires { rows.now ≡ shown_rows shown.now.only differences.now }
+    ensures text { IfOk result (λ text. string_bytes text
+        ≡ compared_text sets.now shown.now comparison.now differences.now) }
+    ensures refused { IfErr result (λ e. e ≡ MemoryFault) }
 {
     let mut text = text_of_comparison(alloc, comparison)?;
-    push_differences(alloc, &mut text, differences, names, rows)?;
+    push_differences(alloc, &mut text, differences, sets, shown, rows)?;
     Ok(text)
 }
 
-/// Writes the text of a comparison, then the rows in which the answers of the two stacks differ, with these names of calls,
-/// and a line that counts them: how many there are, and how many of them have several labels. Where a piece is
-/// outstanding, there are no rows and no such line.
+/// Writes the text of a comparison, then the rows in which the answers of the two stacks differ, with these sets of calls, and
+/// a line that counts them: how many lines there are, and how many of them have several labels. What is shown of the rows, and
+/// how, `shown` says. Where a piece is outstanding, there are no rows and no such line.
 ///
 /// `Write` where a write fails or takes no byte: a beginning of the text was written then. `Memory` where the text can't be
 /// built: nothing was written then.
@@ -114,17 +206,18 @@ pub fn write_differences<W: Write>(
     alloc: Global,
     comparison: &Comparison,
     differences: &Differences,
-    names: &[Names],
+    sets: &[Names],
+    shown: &Shown<'_>,
     out: &mut W,
 ) -> Result<(), Fault>
     ensures written { OnOk result (Appends (W.contents out.old) (W.contents out.new)
-        (compared_text names.now comparison.now differences.now)) }
+        (compared_text sets.now shown.now comparison.now differences.now)) }
     ensures begun { OnErr result (AppendsFront (W.contents out.old) (W.contents out.new)
-        (compared_text names.now comparison.now differences.now)) }
+        (compared_text sets.now shown.now comparison.now differences.now)) }
     ensures refused { IfErr result (λ e. (e ≡ WriteFault)
         ⊎ ((e ≡ MemoryFault) × (out.new ≡ out.old))) }
 {
-    let rows = rows_of(alloc, differences)?;
-    let text = text_of(alloc, comparison, differences, names, rows.as_slice())?;
+    let rows = rows_of(alloc, differences, shown.only)?;
+    let text = text_of(alloc, comparison, differences, sets, shown, rows.as_slice())?;
     write_bytes(text.as_bytes(), out)
 }

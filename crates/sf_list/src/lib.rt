@@ -8,7 +8,7 @@ pub mod laws;
 mod listing;
 mod text;
 
-pub use changed::write_differences;
+pub use changed::{Shown, write_differences};
 pub use differences::{Differences, draw_differences};
 pub use listing::{Listing, list};
 pub use text::write_listing;

@@ -3,5 +3,8 @@ pub mod PartLemmas
 pub mod SpanLemmas
 pub mod ForkLemmas
 pub mod RowLemmas
+pub mod CallLemmas
+pub mod GapLemmas
+pub mod UnnamedLemmas
 pub mod PairLemmas
 pub mod OrderLemmas

@@ -1,11 +1,12 @@
 -- Words with something between them, added one after the other.
 use Rattle.std.proofs.lemmas.Grind.{common_steps}
-use Rattle.std.proofs.Common.{arith, ◌≡◌, ℕ, ◌<◌, ◌+◌, List, [], ◌∷◌, ◌++◌, append_assoc, append-nil, refl, sym, drop, get_or, length}
+use Rattle.std.proofs.Common.{arith, ◌≡◌, ℕ, ◌<◌, ◌+◌, false, List, [], ◌∷◌, ◌++◌, append_assoc, append-nil, refl, sym, drop, get_or, length}
 use Rattle.std.specs.Prelude.{codes}
 use Rattle.std.proofs.lemmas.List.{drop_more}
 use Rattle.sf_rows.specs.declared.conditions.Style.{Style}
 use Rattle.sf_rows.specs.declared.parts.Span.{Span}
 use Rattle.sf_rows.specs.Rows.{ConditionData}
+use Rattle.sf_rows.specs.Calls.{further_words, is_on_call}
 use Rattle.sf_rows.specs.Lines.{condition_words, conditions_words, labels_words, span_words, spans_words}
 
 -- spans after these words, if there are any
@@ -48,3 +49,12 @@ pub conditions_more : (text before middle after whole : List ℕ) (cs : List Con
     → text ++ conditions_words before (drop i cs) ≡ whole
     → after ++ conditions_words (codes " and ") (drop (i + 1) cs) ≡ whole
 conditions_more text before middle after whole cs i d lt p q h = grind (arith, common_steps, append_assoc, drop_more)
+
+-- one more condition was added, which is one on another word than the call's number and its architecture
+pub further_more : (text before middle after whole : List ℕ) (cs : List ConditionData) (i : ℕ) (d : ConditionData)
+    → i < length cs → is_on_call (get_or cs i d) ≡ false → middle ≡ text ++ before
+    → after ≡ middle ++ condition_words (get_or cs i d)
+    → text ++ further_words before (drop i cs) ≡ whole
+    → after ++ further_words (codes " and ") (drop (i + 1) cs) ≡ whole
+further_more text before middle after whole cs i d lt off p q h =
+    grind (arith, common_steps, append_assoc, drop_more)

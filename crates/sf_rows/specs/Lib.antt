@@ -3,3 +3,6 @@ pub mod Rows
 pub mod Answers
 pub mod Pairs
 pub mod Lines
+pub mod Calls
+pub mod Unnamed
+pub mod Written

@@ -3,7 +3,7 @@ use Rattle.std.specs.Prelude.{ℕ, ◌^◌, ◌-◌, ◌==◌, Bool, true, false
 use Rattle.std.specs.List.{flat_map}
 use Rattle.std.specs.Fmt.{decimal, digits, padded_integral, format_spec}
 use Rattle.sf_policy.specs.Keys.{word_keys}
-use Rattle.sf_policy.specs.Names.{NamesData, names_between, names_words}
+use Rattle.sf_names.specs.Names.{NamesData, names_between, names_words}
 use Rattle.sf_picture.specs.declared.axis.Axis.{Axis}
 use Rattle.sf_rows.specs.declared.parts.Span.{Span}
 use Rattle.sf_rows.specs.declared.conditions.Style.{Style}

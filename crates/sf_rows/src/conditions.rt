@@ -2,6 +2,7 @@
 
 ghost use Rattle.std.specs.Prelude.{◌≡◌, ◌++◌, [], OnOk, codes, slice_index_or, string_bytes};
 ghost use Rattle.sf_policy.specs.Keys.{word_keys};
+ghost use Rattle.sf_rows.specs.Calls.{further_words};
 ghost use Rattle.sf_rows.specs.Lines.{call_words, long_words, short_words, number_words, span_words, spans_words, is_one_number, arch_start, arch_words, nr_words, part_start, axis_words, condition_words, conditions_words};
 
 use crate::parts::{Part, Span};
@@ -181,6 +182,23 @@ pub(crate) fn push_conditions(text: &mut String, conditions: &[Condition]) -> Re
 {
     let mut before = " if ";
     for condition in conditions {
+        text.push_str(before)?;
+        push_condition(text, condition)?;
+        before = " and ";
+    }
+    Ok(())
+}
+
+/// Adds the conditions on other words than the call's number and its architecture.
+pub(crate) fn push_further(text: &mut String, conditions: &[Condition]) -> Result<(), AllocError>
+    ensures { OnOk result (string_bytes text.new ≡ string_bytes text.old
+        ++ further_words (codes " if ") conditions.now) }
+{
+    let mut before = " if ";
+    for condition in conditions {
+        if condition.is_on_call() {
+            continue;
+        }
         text.push_str(before)?;
         push_condition(text, condition)?;
         before = " and ";

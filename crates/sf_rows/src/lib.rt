@@ -2,6 +2,7 @@
 #![tactic(auto)]
 
 pub mod answers;
+mod calls;
 mod conditions;
 pub mod laws;
 mod lines;
@@ -9,6 +10,9 @@ mod named;
 pub mod pairs;
 mod parts;
 mod rows;
+mod spans;
+mod unnamed;
+mod written;
 
-pub use lines::push_rows;
 pub use rows::{Row, count_undetermined, rows_in};
+pub use written::{Lines, push_lines};

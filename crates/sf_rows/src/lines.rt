@@ -7,7 +7,7 @@ ghost use Rattle.sf_rows.specs.Lines.{labels_words, place_words, row_line};
 use crate::conditions::{push_arch, push_conditions, push_nr};
 use crate::named::push_row_names;
 use crate::rows::{Row, Scope};
-use sf_policy::Names;
+use sf_names::Names;
 use std::alloc::AllocError;
 
 /// The words of a label, or none where it has none.
@@ -21,7 +21,11 @@ fn words_at(words: &[String], label: usize) -> &str
 }
 
 /// Adds the words of labels, with ` | ` between them.
-fn push_labels(text: &mut String, words: &[String], labels: &[usize]) -> Result<(), AllocError>
+pub(crate) fn push_labels(
+    text: &mut String,
+    words: &[String],
+    labels: &[usize],
+) -> Result<(), AllocError>
     ensures { OnOk result (string_bytes text.new ≡ string_bytes text.old
         ++ labels_words (map string_bytes words.now) labels.now) }
 {
@@ -66,7 +70,7 @@ fn push_row(
 }
 
 /// Adds a line for each row, by the names of calls and the words of labels.
-pub fn push_rows(
+pub(crate) fn push_rows(
     text: &mut String,
     names: &[Names],
     words: &[String],

@@ -1,12 +1,12 @@
 //! The names of the calls that a row is about, as text.
 
 ghost use Rattle.std.specs.Prelude.{◌≡◌, ◌++◌, OnOk, string_bytes};
-ghost use Rattle.sf_policy.specs.Names.{names_words};
+ghost use Rattle.sf_names.specs.Names.{names_words};
 ghost use Rattle.sf_rows.specs.Lines.{names_in_part, names_in_spans, number_of, only_arch, row_names};
 
 use crate::parts::{Part, Span};
 use crate::rows::Scope;
-use sf_policy::{Names, push_names_between};
+use sf_names::{Names, push_names_between};
 use std::alloc::AllocError;
 
 /// The number of spans that are one number.

@@ -5,6 +5,7 @@ ghost use Rattle.sf_policy.specs.declared.fault.Fault.TheVariants.{Memory as Mem
 ghost use Rattle.sf_picture.specs.Pictures.{RiseFrom};
 ghost use Rattle.sf_rows.specs.declared.parts.Span.{Span as ASpan};
 ghost use Rattle.sf_rows.specs.Parts.{EndsApart, same_branch, with_span, names_part, count_after, has_branch, branches_after, largest_of, part_to, parts_but, parts_to, fork_parts, run_parts, span_of};
+ghost use Rattle.sf_rows.specs.Rows.{is_in_part, is_in_spans, meets_part};
 
 use sf_picture::{Branch, Run};
 use sf_policy::Fault;
@@ -41,7 +42,12 @@ impl Model for Part {
 
 impl Part {
     /// A part. `Memory` where an allocation is refused.
-    fn of(alloc: Global, next: Branch, is_rest: bool, spans: Vec<Span>) -> Result<Part, Fault>
+    pub(crate) fn of(
+        alloc: Global,
+        next: Branch,
+        is_rest: bool,
+        spans: Vec<Span>,
+    ) -> Result<Part, Fault>
         ensures made { IfOk result (λ p. p
             ≡ record { next = next; is_rest = is_rest; spans = spans.items }) }
         ensures refused { IfErr result (λ e. e ≡ MemoryFault) }
@@ -86,6 +92,39 @@ impl Part {
         ensures { result.now ≡ self.now.spans }
     {
         self.spans.as_slice()
+    }
+}
+
+/// Whether a number is one of spans.
+fn are_in(spans: &[Span], number: u32) -> bool
+    ensures { result ≡ is_in_spans spans.now number }
+{
+    for span in spans {
+        if span.first <= number && number <= span.last {
+            return true;
+        }
+    }
+    false
+}
+
+/// Whether a number is one of a part.
+pub(crate) fn has_part(part: &Part, number: u32) -> bool
+    ensures { result ≡ is_in_part part.now number }
+{
+    if part.is_rest() {
+        !are_in(part.spans(), number)
+    } else {
+        are_in(part.spans(), number)
+    }
+}
+
+/// Whether a number is one of a part, or all are meant.
+pub(crate) fn meets_part(part: &Option<Part>, number: u32) -> bool
+    ensures { result ≡ meets_part part.now number }
+{
+    match part {
+        Some(part) => has_part(part, number),
+        None => true,
     }
 }
 

@@ -3,6 +3,7 @@
 ghost use Rattle.std.specs.Prelude.{◌≡◌, ◌++◌, ◌∷◌, ◌≤◌, [], count_by, length, option_map, IfErr, IfOk};
 ghost use Rattle.sf_policy.specs.declared.fault.Fault.TheVariants.{Memory as MemoryFault};
 ghost use Rattle.sf_picture.specs.Pictures.{IsBelow, RiseFrom};
+ghost use Rattle.sf_rows.specs.Calls.{is_on_call};
 ghost use Rattle.sf_rows.specs.Lines.{is_undetermined};
 ghost use Rattle.sf_rows.specs.Rows.{is_whole, listed_rows, scope_within, whole_scope, rows_along, rows_of, parts_at};
 
@@ -28,6 +29,13 @@ impl Model for Condition {
 }
 
 impl Condition {
+    /// A condition.
+    pub(crate) fn of(axis: Axis, part: Part) -> Condition
+        ensures { result ≡ record { axis = axis; part = part } }
+    {
+        Condition { axis, part }
+    }
+
     /// The axis.
     pub(crate) fn axis(&self) -> Axis
         ensures { result ≡ self.now.axis }
@@ -40,6 +48,13 @@ impl Condition {
         ensures { result.now ≡ self.now.part }
     {
         &self.part
+    }
+
+    /// Whether it is one on the number of a call or its architecture.
+    pub(crate) fn is_on_call(&self) -> bool
+        ensures { result ≡ is_on_call self.now }
+    {
+        self.axis.word == 0 || self.axis.word == 1
     }
 
     /// The same again. `Memory` where the part has too many owners.
@@ -75,7 +90,7 @@ impl Model for Scope {
 }
 
 /// The same part again, if there is one. `Memory` where it has too many owners.
-fn part_again(part: &Option<Part>) -> Result<Option<Part>, Fault>
+pub(crate) fn part_again(part: &Option<Part>) -> Result<Option<Part>, Fault>
     ensures same { IfOk result (λ p. p ≡ part.now) }
     ensures refused { IfErr result (λ e. e ≡ MemoryFault) }
 {
@@ -89,7 +104,10 @@ fn part_again(part: &Option<Part>) -> Result<Option<Part>, Fault>
 }
 
 /// The same conditions again. `Memory` where an allocation is refused.
-fn conditions_again(alloc: Global, conditions: &[Condition]) -> Result<Vec<Condition>, Fault>
+pub(crate) fn conditions_again(
+    alloc: Global,
+    conditions: &[Condition],
+) -> Result<Vec<Condition>, Fault>
     ensures same { IfOk result (λ v. v.items ≡ conditions.now) }
     ensures refused { IfErr result (λ e. e ≡ MemoryFault) }
 {
@@ -122,6 +140,17 @@ impl Scope {
         }
     }
 
+    /// A scope.
+    pub(crate) fn of(arch: Option<Part>, nr: Option<Part>, conditions: Vec<Condition>) -> Scope
+        ensures { result ≡ record { arch = arch; nr = nr; conditions = conditions.items } }
+    {
+        Scope {
+            arch,
+            nr,
+            conditions,
+        }
+    }
+
     /// The architectures, where not all are meant.
     pub(crate) fn arch(&self) -> &Option<Part>
         ensures { result.now ≡ self.now.arch }
@@ -144,7 +173,7 @@ impl Scope {
     }
 
     /// The same again. `Memory` where an allocation is refused.
-    fn again(&self, alloc: Global) -> Result<Scope, Fault>
+    pub(crate) fn again(&self, alloc: Global) -> Result<Scope, Fault>
         ensures same { IfOk result (λ p. p ≡ self.now) }
         ensures refused { IfErr result (λ e. e ≡ MemoryFault) }
     {
@@ -217,6 +246,22 @@ fn parts_in(alloc: Global, fork: &Fork) -> Result<Vec<Part>, Fault>
     parts_of(alloc, fork.runs())
 }
 
+/// Adds a row with a scope and labels. `Memory` where an allocation is refused.
+pub(crate) fn push_scope(
+    alloc: Global,
+    rows: &mut Vec<Row>,
+    labels: &[usize],
+    scope: Scope,
+) -> Result<(), Fault>
+    ensures added { IfOk result (λ _. rows.new.items ≡ rows.old.items
+        ++ record { scope = scope; labels = labels.now } ∷ []) }
+    ensures refused { IfErr result (λ e. e ≡ MemoryFault) }
+{
+    let labels = Vec::from_slice(alloc, labels)?;
+    rows.push(Row { scope, labels })?;
+    Ok(())
+}
+
 /// Adds the row of a leaf. `Memory` where an allocation is refused.
 fn push_row(
     alloc: Global,
@@ -229,9 +274,7 @@ fn push_row(
     ensures refused { IfErr result (λ e. e ≡ MemoryFault) }
 {
     let scope = scope.again(alloc)?;
-    let labels = Vec::from_slice(alloc, labels)?;
-    rows.push(Row { scope, labels })?;
-    Ok(())
+    push_scope(alloc, rows, labels, scope)
 }
 
 /// Of the inputs of a scope those with their numbers in a part of an axis. `Memory` where an allocation is refused.

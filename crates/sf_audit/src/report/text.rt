@@ -1,8 +1,8 @@
 //! The text of a report, part by part.
 
-ghost use Rattle.std.specs.Prelude.{◌≡◌, ◌++◌, IfOk, OnOk, length, string_bytes};
+ghost use Rattle.std.specs.Prelude.{◌≡◌, ◌<◌, ◌^◌, ◌++◌, IfOk, OnOk, length, map, string_bytes};
 ghost use Rattle.sf_check.specs.Stacks.{path_length};
-ghost use Rattle.sf_audit.specs.Reports.{size_line, question_line, question_lines, name_text, region_line, region_lines, shown_lines, total_line, totals_line, head_text, report_text};
+ghost use Rattle.sf_audit.specs.Reports.{size_line, question_line, question_lines, remark_at, remarked_line, name_text, region_line, region_lines, shown_lines, total_line, totals_line, head_text, report_text};
 
 use crate::counting::{count_allowed, count_never, count_unsettled};
 use crate::outcome::Outcome;
@@ -92,19 +92,48 @@ fn push_question(
     }
 }
 
-/// The lines of all questions, in their order.
+/// The remark on the question at a place, counted from 0; nothing where it has none.
+fn push_remark(text: &mut String, remarks: &[String], place: usize) -> Result<(), AllocError>
+    ensures { OnOk result (string_bytes text.new ≡ string_bytes text.old
+        ++ remark_at (map string_bytes remarks.now) place) }
+{
+    match remarks.get(place) {
+        Some(remark) => text.push_str(remark.as_str()),
+        None => Ok(()),
+    }
+}
+
+/// The line of the question at a place, counted from 0, and under it the remark on it.
+fn push_remarked(
+    alloc: Global,
+    text: &mut String,
+    place: usize,
+    name: &str,
+    reply: Reply,
+    remarks: &[String],
+) -> Result<(), AllocError>
+    requires { place < 2 ^ 63 }
+    ensures { OnOk result (string_bytes text.new ≡ string_bytes text.old
+        ++ remarked_line place name.now reply (map string_bytes remarks.now)) }
+{
+    push_question(alloc, text, place + 1, name, reply)?;
+    push_remark(text, remarks, place)
+}
+
+/// The lines of all questions, in their order, and under each the remark on it.
 fn push_questions(
     alloc: Global,
     text: &mut String,
     questions: &[Question],
     replies: &[Reply],
+    remarks: &[String],
 ) -> Result<(), AllocError>
     requires { length questions.now ≡ length replies.now }
     ensures { OnOk result (string_bytes text.new ≡ string_bytes text.old
-        ++ question_lines 1 questions.now replies.now) }
+        ++ question_lines 0 questions.now replies.now (map string_bytes remarks.now)) }
 {
     for (i, question) in questions.iter().enumerate() {
-        push_question(alloc, text, i + 1, question.name(), replies[i])?;
+        push_remarked(alloc, text, i, question.name(), replies[i], remarks)?;
     }
     Ok(())
 }
@@ -178,12 +207,20 @@ pub(super) fn report_of(
     alloc: Global,
     outcome: &Outcome,
     regions: bool,
+    remarks: &[String],
 ) -> Result<String, AllocError>
-    ensures { IfOk result (λ text. string_bytes text ≡ report_text outcome.now regions) }
+    ensures { IfOk result (λ text. string_bytes text
+        ≡ report_text outcome.now regions (map string_bytes remarks.now)) }
 {
     let mut text = String::new(alloc);
     push_head(&mut text, outcome.settled(), outcome.questions().len())?;
-    push_questions(alloc, &mut text, outcome.questions(), outcome.replies())?;
+    push_questions(
+        alloc,
+        &mut text,
+        outcome.questions(),
+        outcome.replies(),
+        remarks,
+    )?;
     push_shown_regions(alloc, &mut text, regions, outcome.settled())?;
     push_totals(&mut text, outcome.replies())?;
     Ok(text)

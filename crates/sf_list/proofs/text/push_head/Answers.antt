@@ -4,6 +4,6 @@ use Rattle.sf_list.proofs.text.push_head.Goals as goal
 
 pub returns : goal.returns
 returns c = on_ok_weaker c.push_counts.result
-    (λ e. added_three _ _ _ _ _ _ _ c.in_ok-push_str.ensures.bytes
+    (λ e. added_three _ _ _ _ _ _ _ (rw c.title_of.ensures at c.in_ok-push_str.ensures.bytes)
     (rw (c.programs.ensures.same, c.deref.ensures, c.stack.ensures.value) at c.in_ok-push_stack.ensures)
     (rw c.counts.ensures.counts at e)) c.push_counts.ensures

@@ -1,4 +1,4 @@
-use Rattle.std.proofs.Common.{◌≡◌, ◌<◌, length, arith, get_or, subst, sym}
+use Rattle.std.proofs.Common.{◌≡◌, arith, get_or, subst}
 use Rattle.std.specs.Prelude.{Contains}
 use Rattle.std.proofs.lemmas.Option.{get_or_from_slice_get, slice_get_within}
 use Rattle.sf_book.specs.Books.{RegionData}

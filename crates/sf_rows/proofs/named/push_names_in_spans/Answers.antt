@@ -1,5 +1,5 @@
 use Rattle.std.proofs.Common.{arith, string_bytes}
-use Rattle.sf_policy.specs.NamesLaws.{told_more, words_more}
+use Rattle.sf_names.specs.NamesLaws.{told_more, words_more}
 use Rattle.sf_rows.specs.Lines.{names_in_span}
 use Rattle.sf_rows.proofs.named.push_names_in_spans.Goals as goal
 

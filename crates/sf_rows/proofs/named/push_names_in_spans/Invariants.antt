@@ -1,6 +1,6 @@
 use Rattle.std.proofs.Common.{◌≡◌, ◌++◌, take, string_bytes}
 use Rattle.std.specs.List.{flat_map}
-use Rattle.sf_policy.specs.Names.{count_after, names_words}
+use Rattle.sf_names.specs.Names.{count_after, names_words}
 use Rattle.sf_rows.specs.Lines.{names_in_span}
 use Rattle.sf_rows.proofs.named.push_names_in_spans.Given as goal
 

@@ -1,4 +1,4 @@
-use Rattle.std.proofs.Common.{◌≡◌, ◌≢◌, ℕ, ◌<◌, Some, slice_get}
+use Rattle.std.proofs.Common.{◌≢◌, ℕ, ◌<◌, Some, slice_get}
 use Rattle.sf_rows.proofs.pairs.place_of.Given as goal
 
 abbrev pub invariant-loop-place : goal.invariant-loop-place

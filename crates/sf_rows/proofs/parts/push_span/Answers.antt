@@ -1,5 +1,5 @@
 use Rattle.std.proofs.lemmas.Grind.{common_steps}
-use Rattle.std.proofs.Common.{◌-◌, arith}
+use Rattle.std.proofs.Common.{arith}
 use Rattle.sf_rows.proofs.PartLemmas.{goes_on_from, span_apart}
 use Rattle.sf_rows.proofs.parts.push_span.Goals as goal
 

@@ -1,0 +1,139 @@
+//! Spans of numbers without some of them.
+
+ghost use Rattle.std.specs.Prelude.{◌≡◌, ◌==◌, ◌++◌, if◌then◌else◌, IfOk, OnOk};
+ghost use Rattle.std.specs.List.{flat_map};
+ghost use Rattle.sf_rows.specs.Unnamed.{gaps_of, span_meet, span_without, spans_of_numbers, spans_without, without_calls, without_numbers, without_sets};
+
+use crate::parts::Span;
+use sf_names::{Call, Names};
+use std::alloc::{AllocError, Global};
+
+/// Adds a span without a number: what lies below it, and what lies above it.
+fn push_without(spans: &mut Vec<Span>, number: u32, span: Span) -> Result<(), AllocError>
+    ensures { OnOk result (spans.new.items ≡ spans.old.items ++ span_without number span) }
+{
+    if span.first < number {
+        let last = span.last.min(number - 1);
+        spans.push(Span {
+            first: span.first,
+            last,
+        })?;
+    }
+    if number < span.last {
+        let first = span.first.max(number + 1);
+        spans.push(Span {
+            first,
+            last: span.last,
+        })?;
+    }
+    Ok(())
+}
+
+/// Spans without a number.
+fn spans_without(alloc: Global, number: u32, spans: &[Span]) -> Result<Vec<Span>, AllocError>
+    ensures { IfOk result (λ v. v.items ≡ spans_without number spans.now) }
+{
+    let mut left = Vec::new(alloc);
+    for span in spans {
+        push_without(&mut left, number, *span)?;
+    }
+    Ok(left)
+}
+
+/// Spans without some numbers.
+pub(crate) fn without_numbers(
+    alloc: Global,
+    numbers: &[u32],
+    spans: Vec<Span>,
+) -> Result<Vec<Span>, AllocError>
+    ensures { IfOk result (λ v. v.items ≡ without_numbers numbers.now spans.items) }
+{
+    let mut left = spans;
+    for number in numbers {
+        left = spans_without(alloc, *number, &left)?;
+    }
+    Ok(left)
+}
+
+/// Spans without the numbers of calls.
+fn without_calls(alloc: Global, calls: &[Call], spans: Vec<Span>) -> Result<Vec<Span>, AllocError>
+    ensures { IfOk result (λ v. v.items ≡ without_calls calls.now spans.items) }
+{
+    let mut left = spans;
+    for call in calls {
+        left = spans_without(alloc, call.number(), &left)?;
+    }
+    Ok(left)
+}
+
+/// Spans without the numbers of the calls of a set, if this is one of the architecture.
+fn without_set(
+    alloc: Global,
+    names: &Names,
+    arch: u32,
+    spans: Vec<Span>,
+) -> Result<Vec<Span>, AllocError>
+    ensures { IfOk result (λ v. v.items
+        ≡ (if names.now.arch == arch then without_calls names.now.calls spans.items
+        else spans.items)) }
+{
+    if names.arch() == arch {
+        return without_calls(alloc, names.calls(), spans);
+    }
+    Ok(spans)
+}
+
+/// The numbers of an architecture that no call with a name has.
+pub(crate) fn gaps_of(alloc: Global, sets: &[Names], arch: u32) -> Result<Vec<Span>, AllocError>
+    ensures { IfOk result (λ v. v.items ≡ gaps_of sets.now arch) }
+{
+    let mut left = Vec::new(alloc);
+    left.push(Span {
+        first: 0,
+        last: u32::MAX,
+    })?;
+    for names in sets {
+        left = without_set(alloc, names, arch, left)?;
+    }
+    Ok(left)
+}
+
+/// Adds the numbers that two spans share.
+fn push_meet(spans: &mut Vec<Span>, one: Span, other: Span) -> Result<(), AllocError>
+    ensures { OnOk result (spans.new.items ≡ spans.old.items ++ span_meet one other) }
+{
+    let first = one.first.max(other.first);
+    let last = one.last.min(other.last);
+    if first <= last {
+        spans.push(Span { first, last })?;
+    }
+    Ok(())
+}
+
+/// Of spans the numbers of one of them.
+pub(crate) fn spans_within(
+    alloc: Global,
+    one: Span,
+    spans: &[Span],
+) -> Result<Vec<Span>, AllocError>
+    ensures { IfOk result (λ v. v.items ≡ flat_map (span_meet one) spans.now) }
+{
+    let mut shared = Vec::new(alloc);
+    for span in spans {
+        push_meet(&mut shared, one, *span)?;
+    }
+    Ok(shared)
+}
+
+/// Spans of one number each.
+pub(crate) fn push_numbers(spans: &mut Vec<Span>, numbers: &[u32]) -> Result<(), AllocError>
+    ensures { OnOk result (spans.new.items ≡ spans.old.items ++ spans_of_numbers numbers.now) }
+{
+    for number in numbers {
+        spans.push(Span {
+            first: *number,
+            last: *number,
+        })?;
+    }
+    Ok(())
+}

@@ -1,0 +1,355 @@
+//! Of rows the inputs that belong to no call that has a name.
+
+ghost use Rattle.std.specs.Prelude.{◌≡◌, ◌==◌, ◌++◌, ◌∷◌, [], true, false, if◌then◌else◌, IfErr, IfOk, OnOk, map};
+ghost use Rattle.std.specs.List.{flat_map};
+ghost use Rattle.sf_policy.specs.declared.fault.Fault.TheVariants.{Memory as MemoryFault};
+ghost use Rattle.sf_rows.specs.Unnamed.{all_gaps, arch_if_met, archs_after, archs_met, gaps_at, has_number, kept_nr, part_of, row_at, row_on, rows_at, rows_beyond, rows_elsewhere, run_of, spans_of_numbers, unnamed_of, unnamed_rows, with_arch, within_nr, within_run};
+
+use crate::parts::{Part, Span, meets_part};
+use crate::rows::{Condition, Row, Scope, conditions_again, part_again, push_scope};
+use crate::spans::{gaps_of, push_numbers, spans_within, without_numbers};
+use sf_names::Names;
+use sf_picture::{Axis, Branch};
+use sf_policy::Fault;
+use std::alloc::{AllocError, Global};
+use std::marker::Model;
+
+/// An architecture, and its numbers that no call with a name has.
+#[derive(Drop)]
+struct Gaps {
+    arch: u32,
+    gaps: Vec<Span>,
+}
+
+impl Model for Gaps {
+    ghost use Rattle.sf_rows.specs.Unnamed.{GapsData};
+
+    ghost Value = { GapsData };
+
+    ghost view = { λ g. record { arch = g.arch; gaps = g.gaps.items } };
+}
+
+/// Whether a number is among others.
+fn has_number(numbers: &[u32], number: u32) -> bool
+    ensures { result ≡ has_number numbers.now number }
+{
+    for one in numbers {
+        if *one == number {
+            return true;
+        }
+    }
+    false
+}
+
+/// Adds a number, unless it is there.
+fn push_once(numbers: &mut Vec<u32>, number: u32) -> Result<(), AllocError>
+    ensures { OnOk result (numbers.new.items ≡ (if has_number numbers.old.items number
+        then numbers.old.items else numbers.old.items ++ number ∷ [])) }
+{
+    if has_number(numbers.as_slice(), number) {
+        return Ok(());
+    }
+    numbers.push(number)?;
+    Ok(())
+}
+
+/// The architectures of sets, each once, in their order.
+fn archs_of(alloc: Global, sets: &[Names]) -> Result<Vec<u32>, AllocError>
+    ensures { IfOk result (λ v. v.items ≡ archs_after [] sets.now) }
+{
+    let mut archs = Vec::new(alloc);
+    for names in sets {
+        push_once(&mut archs, names.arch())?;
+    }
+    Ok(archs)
+}
+
+/// The gaps of an architecture.
+fn gaps_at(alloc: Global, sets: &[Names], arch: u32) -> Result<Gaps, AllocError>
+    ensures { IfOk result (λ g. g ≡ gaps_at sets.now arch) }
+{
+    let gaps = gaps_of(alloc, sets, arch)?;
+    Ok(Gaps { arch, gaps })
+}
+
+/// The gaps of each architecture of the sets.
+fn all_gaps(alloc: Global, sets: &[Names]) -> Result<Vec<Gaps>, AllocError>
+    ensures { IfOk result (λ v. v.items ≡ all_gaps sets.now) }
+{
+    let archs = archs_of(alloc, sets)?;
+    let mut all = Vec::new(alloc);
+    let each = archs.as_slice();
+    for arch in each {
+        let gaps = gaps_at(alloc, sets, *arch)?;
+        all.push(gaps)?;
+    }
+    Ok(all)
+}
+
+/// A part that is some spans. `Memory` where an allocation is refused.
+fn part_of(alloc: Global, is_rest: bool, spans: Vec<Span>) -> Result<Part, Fault>
+    ensures made { IfOk result (λ p. p ≡ part_of is_rest spans.items) }
+    ensures refused { IfErr result (λ e. e ≡ MemoryFault) }
+{
+    Part::of(alloc, Branch::Leaf(0), is_rest, spans)
+}
+
+/// The part that is one span. `Memory` where an allocation is refused.
+fn part_of_span(alloc: Global, span: Span) -> Result<Part, Fault>
+    ensures made { IfOk result (λ p. p ≡ part_of false (span ∷ [])) }
+    ensures refused { IfErr result (λ e. e ≡ MemoryFault) }
+{
+    let mut spans = Vec::new(alloc);
+    spans.push(span)?;
+    part_of(alloc, false, spans)
+}
+
+/// The only span of a part of call numbers: a run of a fork.
+fn run_of(part: &Part) -> Option<Span>
+    ensures { result ≡ run_of part.now }
+{
+    if part.is_rest() {
+        return None;
+    }
+    match part.spans() {
+        [span] => Some(*span),
+        _ => None,
+    }
+}
+
+/// Of spans the numbers that a run has, where there is one. `Memory` where an allocation is refused.
+fn within_run(alloc: Global, run: Option<Span>, spans: &[Span]) -> Result<Vec<Span>, AllocError>
+    ensures { IfOk result (λ v. v.items ≡ within_run run spans.now) }
+{
+    match run {
+        Some(span) => spans_within(alloc, span, spans),
+        None => Vec::from_slice(alloc, spans),
+    }
+}
+
+/// Of spans the numbers that a row is about. An error where an allocation is refused.
+fn within_nr(alloc: Global, nr: &Option<Part>, spans: &[Span]) -> Result<Vec<Span>, AllocError>
+    ensures { IfOk result (λ v. v.items ≡ within_nr nr.now spans.now) }
+{
+    match nr {
+        Some(part) => within_run(alloc, run_of(part), spans),
+        None => Vec::from_slice(alloc, spans),
+    }
+}
+
+/// Adds the condition that is left of a part of call numbers. `Memory` where an allocation is refused.
+fn push_kept(conditions: &mut Vec<Condition>, nr: &Option<Part>) -> Result<(), Fault>
+    ensures added { IfOk result (λ _. conditions.new.items
+        ≡ conditions.old.items ++ kept_nr nr.now) }
+    ensures refused { IfErr result (λ e. e ≡ MemoryFault) }
+{
+    let Some(part) = nr else {
+        return Ok(());
+    };
+    if run_of(part).is_none() {
+        let axis = Axis {
+            word: 0,
+            mask: u32::MAX,
+        };
+        conditions.push(Condition::of(axis, part.again()?))?;
+    }
+    Ok(())
+}
+
+/// Adds of a row the inputs of an architecture with these call numbers. `Memory` where an allocation is refused.
+fn push_row_at(
+    alloc: Global,
+    rows: &mut Vec<Row>,
+    row: &Row,
+    arch: u32,
+    span: Span,
+) -> Result<(), Fault>
+    ensures added { IfOk result (λ _. rows.new.items
+        ≡ rows.old.items ++ row_at row.now arch span ∷ []) }
+    ensures refused { IfErr result (λ e. e ≡ MemoryFault) }
+{
+    let only = Span {
+        first: arch,
+        last: arch,
+    };
+    let scope = row.scope();
+    let mut conditions = conditions_again(alloc, scope.conditions())?;
+    push_kept(&mut conditions, scope.nr())?;
+    let arch = Some(part_of_span(alloc, only)?);
+    let nr = Some(part_of_span(alloc, span)?);
+    push_scope(alloc, rows, row.labels(), Scope::of(arch, nr, conditions))
+}
+
+/// Adds of a row the inputs of an architecture with call numbers of these spans. `Memory` where an allocation is refused.
+fn push_rows_in(
+    alloc: Global,
+    rows: &mut Vec<Row>,
+    row: &Row,
+    arch: u32,
+    spans: &[Span],
+) -> Result<(), Fault>
+    ensures added { IfOk result (λ _. rows.new.items
+        ≡ rows.old.items ++ map (row_at row.now arch) spans.now) }
+    ensures refused { IfErr result (λ e. e ≡ MemoryFault) }
+{
+    for span in spans {
+        push_row_at(alloc, rows, row, arch, *span)?;
+    }
+    Ok(())
+}
+
+/// Adds of a row the inputs of an architecture whose call has no name. `Memory` where an allocation is refused.
+fn push_rows_at(alloc: Global, rows: &mut Vec<Row>, row: &Row, gaps: &Gaps) -> Result<(), Fault>
+    ensures added { IfOk result (λ _. rows.new.items
+        ≡ rows.old.items ++ rows_at row.now gaps.now) }
+    ensures refused { IfErr result (λ e. e ≡ MemoryFault) }
+{
+    if meets_part(row.scope().arch(), gaps.arch) {
+        let spans = within_nr(alloc, row.scope().nr(), gaps.gaps.as_slice())?;
+        push_rows_in(alloc, rows, row, gaps.arch, spans.as_slice())?;
+    }
+    Ok(())
+}
+
+/// Adds of a row the inputs of each architecture whose call has no name. `Memory` where an allocation is refused.
+fn push_rows_at_all(
+    alloc: Global,
+    rows: &mut Vec<Row>,
+    row: &Row,
+    all: &[Gaps],
+) -> Result<(), Fault>
+    ensures added { IfOk result (λ _. rows.new.items
+        ≡ rows.old.items ++ flat_map (rows_at row.now) all.now) }
+    ensures refused { IfErr result (λ e. e ≡ MemoryFault) }
+{
+    for gaps in all {
+        push_rows_at(alloc, rows, row, gaps)?;
+    }
+    Ok(())
+}
+
+/// Adds the architecture of gaps, if a row with this part is about it.
+fn push_if_met(archs: &mut Vec<u32>, part: &Option<Part>, gaps: &Gaps) -> Result<(), AllocError>
+    ensures { OnOk result (archs.new.items ≡ archs.old.items ++ arch_if_met part.now gaps.now) }
+{
+    if meets_part(part, gaps.arch) {
+        archs.push(gaps.arch)?;
+    }
+    Ok(())
+}
+
+/// The architectures of gaps that a row with this part is about.
+fn archs_met(alloc: Global, part: &Option<Part>, all: &[Gaps]) -> Result<Vec<u32>, AllocError>
+    ensures { IfOk result (λ v. v.items ≡ archs_met part.now all.now) }
+{
+    let mut archs = Vec::new(alloc);
+    for gaps in all {
+        push_if_met(&mut archs, part, gaps)?;
+    }
+    Ok(archs)
+}
+
+/// Adds a row about other architectures. `Memory` where an allocation is refused.
+fn push_with_arch(alloc: Global, rows: &mut Vec<Row>, row: &Row, part: Part) -> Result<(), Fault>
+    ensures added { IfOk result (λ _. rows.new.items
+        ≡ rows.old.items ++ with_arch row.now part ∷ []) }
+    ensures refused { IfErr result (λ e. e ≡ MemoryFault) }
+{
+    let scope = row.scope();
+    let conditions = conditions_again(alloc, scope.conditions())?;
+    let nr = part_again(scope.nr())?;
+    push_scope(
+        alloc,
+        rows,
+        row.labels(),
+        Scope::of(Some(part), nr, conditions),
+    )
+}
+
+/// Adds a row about the architectures of some spans; none where there are none. `Memory` where an allocation is refused.
+fn push_row_on(alloc: Global, rows: &mut Vec<Row>, row: &Row, spans: Vec<Span>) -> Result<(), Fault>
+    ensures added { IfOk result (λ _. rows.new.items
+        ≡ rows.old.items ++ row_on row.now spans.items) }
+    ensures refused { IfErr result (λ e. e ≡ MemoryFault) }
+{
+    if spans.is_empty() {
+        return Ok(());
+    }
+    let part = part_of(alloc, false, spans)?;
+    push_with_arch(alloc, rows, row, part)
+}
+
+/// Adds of a row the inputs of other architectures than these and those of some spans. `Memory` where an allocation is
+/// refused.
+fn push_row_but(
+    alloc: Global,
+    rows: &mut Vec<Row>,
+    row: &Row,
+    spans: &[Span],
+    archs: &[u32],
+) -> Result<(), Fault>
+    ensures added { IfOk result (λ _. rows.new.items ≡ rows.old.items
+        ++ with_arch row.now (part_of true (spans.now ++ spans_of_numbers archs.now)) ∷ []) }
+    ensures refused { IfErr result (λ e. e ≡ MemoryFault) }
+{
+    let mut others = Vec::from_slice(alloc, spans)?;
+    push_numbers(&mut others, archs)?;
+    let part = part_of(alloc, true, others)?;
+    push_with_arch(alloc, rows, row, part)
+}
+
+/// Adds of a row the inputs of other architectures than these, by the row's part. `Memory` where an allocation is refused.
+fn push_beyond(alloc: Global, rows: &mut Vec<Row>, row: &Row, archs: &[u32]) -> Result<(), Fault>
+    ensures added { IfOk result (λ _. rows.new.items
+        ≡ rows.old.items ++ rows_beyond row.now archs.now row.now.scope.arch) }
+    ensures refused { IfErr result (λ e. e ≡ MemoryFault) }
+{
+    let Some(part) = row.scope().arch() else {
+        return push_row_but(alloc, rows, row, &[], archs);
+    };
+    if part.is_rest() {
+        return push_row_but(alloc, rows, row, part.spans(), archs);
+    }
+    let spans = Vec::from_slice(alloc, part.spans())?;
+    let left = without_numbers(alloc, archs, spans)?;
+    push_row_on(alloc, rows, row, left)
+}
+
+/// Adds of a row the inputs of other architectures than those of these numbers that it is about. `Memory` where an
+/// allocation is refused.
+fn push_elsewhere(alloc: Global, rows: &mut Vec<Row>, row: &Row, archs: &[u32]) -> Result<(), Fault>
+    ensures added { IfOk result (λ _. rows.new.items
+        ≡ rows.old.items ++ rows_elsewhere row.now archs.now) }
+    ensures refused { IfErr result (λ e. e ≡ MemoryFault) }
+{
+    if archs.is_empty() {
+        let scope = row.scope().again(alloc)?;
+        return push_scope(alloc, rows, row.labels(), scope);
+    }
+    push_beyond(alloc, rows, row, archs)
+}
+
+/// Adds of a row the inputs that belong to no call with a name. `Memory` where an allocation is refused.
+fn push_unnamed(alloc: Global, rows: &mut Vec<Row>, row: &Row, all: &[Gaps]) -> Result<(), Fault>
+    ensures added { IfOk result (λ _. rows.new.items
+        ≡ rows.old.items ++ unnamed_of all.now row.now) }
+    ensures refused { IfErr result (λ e. e ≡ MemoryFault) }
+{
+    push_rows_at_all(alloc, rows, row, all)?;
+    let archs = archs_met(alloc, row.scope().arch(), all)?;
+    push_elsewhere(alloc, rows, row, archs.as_slice())
+}
+
+/// Of rows the inputs that belong to no call with a name, as rows: each row parted by the architectures of the sets, and
+/// for each of these by the runs of numbers that no call has. `Memory` where an allocation is refused.
+pub(crate) fn unnamed_rows(alloc: Global, sets: &[Names], rows: &[Row]) -> Result<Vec<Row>, Fault>
+    ensures all { IfOk result (λ v. v.items ≡ unnamed_rows sets.now rows.now) }
+    ensures refused { IfErr result (λ e. e ≡ MemoryFault) }
+{
+    let all = all_gaps(alloc, sets)?;
+    let mut unnamed = Vec::new(alloc);
+    for row in rows {
+        push_unnamed(alloc, &mut unnamed, row, all.as_slice())?;
+    }
+    Ok(unnamed)
+}
