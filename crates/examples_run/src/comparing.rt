@@ -5,7 +5,7 @@ ghost use Rattle.std.specs.Prelude.{◌<◌, ◌≤◌, length};
 
 use sf_compare::compare;
 use sf_crew::Open;
-use sf_list::{draw_differences, write_differences};
+use sf_list::{Shown, draw_differences, write_differences};
 use std::alloc::Global;
 use std::sync::Wait;
 use std::test::Fail;
@@ -31,7 +31,11 @@ fn comparison_text<R: Threads + Wait + Sync>(
     let comparison = compare(rt, alloc, filters, older, BUDGET, workers, &Open)?;
     let mut text = Vec::new(alloc);
     let differences = draw_differences(alloc, &comparison, LEAVES)?;
-    write_differences(alloc, &comparison, &differences, &[], &mut text)?;
+    let shown = Shown {
+        only: None,
+        calls: None,
+    };
+    write_differences(alloc, &comparison, &differences, &[], &shown, &mut text)?;
     Ok(text)
 }
 

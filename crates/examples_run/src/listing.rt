@@ -26,7 +26,7 @@ fn listing_text<R: Threads + Wait + Sync>(
 {
     let listing = list(rt, alloc, filters, BUDGET, workers, LEAVES, &Open)?;
     let mut text = Vec::new(alloc);
-    write_listing(alloc, &listing, &[], &mut text)?;
+    write_listing(alloc, &listing, &[], &None, &mut text)?;
     Ok(text)
 }
 

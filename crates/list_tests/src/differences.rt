@@ -7,7 +7,7 @@ use sf_check::Stack;
 use sf_compare::{Comparison, compare};
 use sf_crew::Open;
 use sf_insn::{Input, RawInsn};
-use sf_list::{Differences, draw_differences, write_differences};
+use sf_list::{Differences, Shown, draw_differences, write_differences};
 use sf_policy::stack_of;
 use sf_run::{PartAnswers, answer};
 use std::alloc::Global;
@@ -42,7 +42,18 @@ fn changed_rows_with<R: Threads + Wait + Sync>(
     let comparison = comparison_of(rt, alloc, old, new, budget)?;
     let differences = draw_differences(alloc, &comparison, 20000)?;
     let mut out: Vec<u8> = Vec::new(alloc);
-    write_differences(alloc, &comparison, &differences, names.as_slice(), &mut out)?;
+    let shown = Shown {
+        only: None,
+        calls: None,
+    };
+    write_differences(
+        alloc,
+        &comparison,
+        &differences,
+        names.as_slice(),
+        &shown,
+        &mut out,
+    )?;
     let text = text_of(out)?;
     rows_behind(alloc, text.as_str())
 }

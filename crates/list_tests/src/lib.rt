@@ -11,3 +11,5 @@ mod listings;
 mod names;
 #[cfg(test)]
 mod profiles;
+#[cfg(test)]
+mod sets;

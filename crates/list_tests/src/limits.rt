@@ -3,7 +3,7 @@ use crate::differences::{comparison_of, rows_behind};
 use crate::listings::{listing_text, text_of};
 use samples::{ALLOW, op, raw};
 use sf_insn::RawInsn;
-use sf_list::{draw_differences, write_differences};
+use sf_list::{Shown, draw_differences, write_differences};
 use std::alloc::Global;
 use std::sync::Wait;
 use std::test::Fail;
@@ -62,7 +62,11 @@ fn rows_against_allow<R: Threads + Wait + Sync>(
     let comparison = comparison_of(rt, alloc, &[ALLOW], insns, 100000)?;
     let differences = draw_differences(alloc, &comparison, leaves)?;
     let mut out: Vec<u8> = Vec::new(alloc);
-    write_differences(alloc, &comparison, &differences, &[], &mut out)?;
+    let shown = Shown {
+        only: None,
+        calls: None,
+    };
+    write_differences(alloc, &comparison, &differences, &[], &shown, &mut out)?;
     let text = text_of(out)?;
     rows_behind(alloc, text.as_str())
 }

@@ -52,7 +52,7 @@ pub(crate) fn listing_text<R: Threads + Wait + Sync>(
 ) -> Result<String, Fail> {
     let listing = listing_of(rt, alloc, insns, leaves)?;
     let mut out: Vec<u8> = Vec::new(alloc);
-    write_listing(alloc, &listing, &[], &mut out)?;
+    write_listing(alloc, &listing, &[], &None, &mut out)?;
     text_of(out)
 }
 

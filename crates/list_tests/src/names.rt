@@ -3,7 +3,8 @@ use crate::listings::{listing_of, text_of};
 use crate::profiles::{bits, profile, two};
 use sf_insn::RawInsn;
 use sf_list::write_listing;
-use sf_policy::{Names, read_names};
+use sf_names::{Names, read_names};
+use sf_policy::Fault;
 use std::alloc::Global;
 use std::sync::Wait;
 use std::test::Fail;
@@ -23,11 +24,12 @@ open = 5
 execve = 11
 ";
 
-/// The names of files.
+/// The sets of files, one file after the other.
 pub(crate) fn names_of(alloc: Global, texts: &[&str]) -> Result<Vec<Names>, Fail> {
     let mut names = Vec::new(alloc);
     for text in texts {
-        names.push(read_names(alloc, *text)?)?;
+        let mut sets = read_names(alloc, *text)?;
+        names.append(&mut sets)?;
     }
     Ok(names)
 }
@@ -42,7 +44,7 @@ fn rows_with<R: Threads + Wait + Sync>(
     let names = names_of(alloc, texts)?;
     let listing = listing_of(rt, alloc, insns, 20000)?;
     let mut out: Vec<u8> = Vec::new(alloc);
-    write_listing(alloc, &listing, names.as_slice(), &mut out)?;
+    write_listing(alloc, &listing, names.as_slice(), &None, &mut out)?;
     let text = text_of(out)?;
     rows_in(alloc, text.as_str())
 }
@@ -99,6 +101,23 @@ arch 0xC000003E nr 60..0xFFFFFFFF ALLOW 0
 arch not in 0x40000003,0xC000003E nr any KILL_PROCESS 0
 "
     );
+    Ok(())
+}
+
+/// Two sets in one file.
+const BOTH: &str = "[x86_64]
+arch = 0xC000003E
+calls = { read = 0, write = 1, ioctl = 16, execve = 59 }
+[i386]
+arch = 0x40000003
+calls = { open = 5, execve = 11 }
+";
+
+#[test]
+fn names_of_two_sets_of_a_file(rt: HostRuntime) -> Result<(), Fail> {
+    let files = rows_with(&rt, rt.alloc(), &two(), &[X86_64, I386])?;
+    let text = rows_with(&rt, rt.alloc(), &two(), &[BOTH])?;
+    assert_eq!(rt; text.as_str(), files.as_str());
     Ok(())
 }
 
@@ -160,7 +179,7 @@ calls = { second = 3, first = 3, low = 1, beyond = 16 }";
 fn fault_of(alloc: Global, text: &str) -> u16 {
     match read_names(alloc, text) {
         Ok(_) => 0,
-        Err(fault) => fault.number(),
+        Err(fault) => Fault::from(fault).number(),
     }
 }
 

@@ -6,7 +6,7 @@ use crate::auditing::{Page, push_filters};
 use crate::refused::{Refused, Tally};
 use sf_compare::compare;
 use sf_crew::Open;
-use sf_list::{draw_differences, write_differences};
+use sf_list::{Shown, draw_differences, write_differences};
 use std::sync::Wait;
 use std::thread::Threads;
 
@@ -24,7 +24,11 @@ fn tell<R: Threads + Wait + Sync + AllocGlobal>(
     let alloc = rt.alloc();
     let comparison = compare(rt, alloc, filters, older, 1000, workers, &Open)?;
     let differences = draw_differences(alloc, &comparison, 1000)?;
-    write_differences(alloc, &comparison, &differences, &[], page)?;
+    let shown = Shown {
+        only: None,
+        calls: None,
+    };
+    write_differences(alloc, &comparison, &differences, &[], &shown, page)?;
     Ok(())
 }
 

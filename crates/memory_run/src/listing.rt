@@ -6,12 +6,16 @@ use crate::auditing::{Page, push_filters};
 use crate::refused::{Refused, Tally};
 use sf_crew::Open;
 use sf_list::{list, write_listing};
-use sf_policy::read_names;
+use sf_names::read_names;
 use std::sync::Wait;
 use std::thread::Threads;
 
-/// A file of names.
+/// A file of names that is one set.
 const NAMES: &str = "arch = 0xC000003E\ncalls = { execve = 59, read = 0x40000000 }\n";
+
+/// A file of names with two sets.
+const SETS: &str =
+    "[other]\narch = 1\ncalls = { read = 0 }\n[arm]\narch = 0x40000028\ncalls = {}\n";
 
 /// Lists the stack of these filters, and writes its rows, with names of calls.
 fn tell<R: Threads + Wait + Sync + AllocGlobal>(
@@ -23,10 +27,10 @@ fn tell<R: Threads + Wait + Sync + AllocGlobal>(
     requires { (0 < workers) × (workers ≤ 64) }
 {
     let alloc = rt.alloc();
-    let mut names = Vec::new(alloc);
-    names.push(read_names(alloc, NAMES)?)?;
+    let mut names = read_names(alloc, NAMES)?;
+    names.append(&mut read_names(alloc, SETS)?)?;
     let listing = list(rt, alloc, filters, 1000, workers, 1000, &Open)?;
-    write_listing(alloc, &listing, &names, page)?;
+    write_listing(alloc, &listing, &names, &None, page)?;
     Ok(())
 }
 

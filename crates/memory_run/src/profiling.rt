@@ -1,6 +1,7 @@
 //! The filter of a profile, and what is told of it.
 
-use crate::refused::{MEMORY, Refused};
+use crate::refused::Refused;
+use sf_names::read_names;
 use sf_profile::{CallSet, Calls, Reading, Settings, notes, profile, unknown_names};
 use std::alloc::Global;
 
@@ -14,10 +15,11 @@ const PROFILE: &[u8] = br#"{"defaultAction": "SCMP_ACT_ERRNO", "syscalls": [
 
 /// What the profile is read for.
 fn settings_of(alloc: Global) -> Result<Settings, Refused> {
-    let table = toml::table_from_str(alloc, NAMES).map_err(|_| Refused { number: MEMORY })?;
     let mut calls = Vec::new(alloc);
-    if let Some(one) = Calls::of(table) {
-        calls.push(one)?;
+    for names in read_names(alloc, NAMES)? {
+        if let Some(one) = Calls::of(names) {
+            calls.push(one)?;
+        }
     }
     Ok(Settings {
         machine: CallSet::Aarch64,

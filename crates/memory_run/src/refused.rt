@@ -62,6 +62,13 @@ impl From<sf_profile::Fault> for Refused {
     }
 }
 
+impl From<sf_names::Fault> for Refused {
+    fn from(fault: sf_names::Fault) -> Refused {
+        let number = sf_policy::Fault::from(fault).number();
+        Refused { number }
+    }
+}
+
 impl From<sf_check::Fault> for Refused {
     fn from(fault: sf_check::Fault) -> Refused {
         let number = fault.number();

@@ -1,5 +1,5 @@
 -- What `clap` says of words that don't fit the form of the command line.
-use Rattle.std.proofs.Common.{◌≡◌, ◌≢◌, ◌⊎◌, ◌≤◌, ◌∙◌, inl, inr, ℕ, List, [], Result, Ok, Err, arith, subst, sym}
+use Rattle.std.proofs.Common.{◌≡◌, ◌≢◌, ◌⊎◌, ◌≤◌, ◌∙◌, codes, false, inl, inr, ℕ, List, [], Result, Ok, Err, arith, subst, sym}
 use Rattle.std.specs.Prelude.{IfOk, Option}
 use Rattle.clap.specs.Words.{HasKind, IsAmong, Kinds, Row, Text, kind_of}
 use Rattle.clap.specs.declared.error.Error.{Error}
@@ -7,7 +7,8 @@ use Rattle.clap.specs.declared.error.kind.ErrorKind.TheVariants.{OutOfMemory}
 use Rattle.sf_command_line.specs.CommandLine.{IsKnown, errors_at, subcommand_at}
 use Rattle.sf_command_line.specs.SubcommandLaws.{known_subcommand}
 use Rattle.sf_policy.specs.declared.fault.Fault.{Fault}
-use Rattle.sf_command.specs.Runs.{HasWrongWord, Helps, IsHelp, RefusesWords, WritesText}
+use Rattle.sf_evaluate.specs.Profiles.{words_fit}
+use Rattle.sf_command.specs.Runs.{HasWrongWord, Helps, IsHelp, RefusesWords, WritesText, words_fit_for}
 
 -- an answer to a call for help or for the version is what the words ask for
 pub helps : (words : List Text) (e : Error) (status : ℕ) (old new : Option Text) → HasKind (errors_at words) e
@@ -28,16 +29,21 @@ pub without_third : {P Q R : Type 0} → P ⊎ (Q × R) → P ⊎ Q
 without_third (inl p) = inl p
 without_third (inr (q, r)) = inr q
 
--- words for which `profile` ended with status 4, or for which no subcommand is known, are refused
+-- words for which `profile` or `eval` ended with status 4, or for which no subcommand is known, are refused
 pub refused_words : (words : List Text) (named : Option (Text × List Row)) → named ≡ subcommand_at words
     → (¬ IsKnown named) ⊎ HasWrongWord named → RefusesWords words
 refused_words words named entered (inl unknown) = inl (λ fits.
     let (found, at, known) = known_subcommand words fits in unknown (found, entered ∙ at, known))
-refused_words words named entered (inr (found, at, is, wrong)) = inr (found, sym entered ∙ at, is, wrong)
+refused_words words named entered (inr (found, at, wrong)) = inr (found, sym entered ∙ at, wrong)
 
--- a run of `profile` that ended with another status than 4 did what it says
+-- a run of `profile` or `eval` that ended with another status than 4 did what it says
 pub profile_ran : (W : Type 0) (r : Result ℕ Fault) → IfOk r (λ s. (s ≡ 0) ⊎ (s ≡ 4)) → IfOk r (λ s. s ≡ 0 → W)
     → IfOk r (λ s. s ≤ 2 → (s ≡ 0) × W)
 profile_ran W (Ok s) (inl zero) done = λ small. (zero, done zero)
 profile_ran W (Ok s) (inr four) done = λ small. absurd (omega (arith, four, small))
 profile_ran W (Err e) status done = tt
+
+-- words of `profile` that don't fit are words that don't fit their subcommand
+pub profile_words : (name : Text) (rows : List Row) → name ≡ codes "profile" → words_fit rows ≡ false
+    → words_fit_for name rows ≡ false
+profile_words name rows is wrong = rw is wrong

@@ -3,3 +3,4 @@ pub mod CommandLineLemmas
 pub mod ProfileLemmas
 pub mod RefusalLemmas
 pub mod NamingLemmas
+pub mod RemarkLemmas

@@ -1,28 +1,48 @@
 -- What the program does, by the words of its command line.
-use Rattle.std.specs.Prelude.{◌≡◌, ◌⊎◌, ℕ, Bool, false, List, [], Option, Some, codes}
+use Rattle.std.specs.Prelude.{◌≡◌, ◌⊎◌, ◌&&◌, ℕ, Bool, true, false, if◌then◌else◌, List, [], Option, Some, codes, option_map}
+use Rattle.std.specs.Str.{bytes_eq}
 use Rattle.std.specs.Borrow.{Bor}
 use Rattle.std.specs.Io.KnownBytes.{Appends}
-use Rattle.clap.specs.Words.{IsAmong, Row, Text, one_of}
+use Rattle.clap.specs.Words.{IsAmong, Row, Text, first_of, one_of}
 use Rattle.clap.specs.declared.error.kind.ErrorKind.{ErrorKind}
 use Rattle.clap.specs.declared.error.kind.ErrorKind.TheVariants.{DisplayHelp, DisplayVersion}
-use Rattle.sf_policy.specs.Names.{NamesData}
+use Rattle.sf_insn.specs.declared.input.Input.{Input}
+use Rattle.sf_names.specs.Names.{NamesData}
 use Rattle.sf_policy.specs.declared.fault.Fault.{Fault}
-use Rattle.sf_policy.specs.declared.fault.Fault.TheVariants.{Memory, Write}
+use Rattle.sf_policy.specs.declared.fault.Fault.TheVariants.{Input as InputFault, Memory, UnknownName, Write}
 use Rattle.sf_compare.specs.declared.relation.Relation.{Relation}
-use Rattle.sf_compare.specs.declared.relation.Relation.TheVariants.{Looser, Different}
+use Rattle.sf_compare.specs.declared.relation.Relation.TheVariants.{Looser, Tighter, Different}
 use Rattle.sf_command_line.specs.CommandLine.{errors_at, subcommand_at}
 use Rattle.sf_command_line.specs.Options.{ArePaths, IsOptionNumber, IsSwitch, text_of}
 use Rattle.sf_command.specs.Audits.{AuditsFiles, RefusesAudit}
 use Rattle.sf_command.specs.Comparisons.{ComparesFiles, RefusesComparison}
 use Rattle.sf_command.specs.Listings.{ListsFiles, RefusesListing}
 use Rattle.sf_evaluate.specs.Names.{AreNamesRead, RefusesNaming}
-use Rattle.sf_evaluate.specs.Outputs.{ChecksFiles, EvaluatesFiles, RefusesCheck, RefusesEval}
+use Rattle.sf_evaluate.specs.Outputs.{AnswersFiles, ChecksFiles, RefusesCheck}
+use Rattle.sf_evaluate.specs.Asking.{AsksInput, LacksName, eval_words_fit, spells_input}
 use Rattle.sf_evaluate.specs.Profiles.{RefusesProfile, WritesProfile, words_fit}
+use Rattle.sf_evaluate.specs.Wanted.{are_known, calls_asked, calls_fit, rows_fit}
+use Rattle.sf_list.specs.Differences.{ShownData}
 
 -- the relation that a status is about: `Different` where the switch is given, and else `Looser`
 abbrev pub IsAskedRelation : Option Text → Relation → Type 0
 IsAskedRelation text asked =
     (text ≡ Some (codes "true") → asked ≡ Different) × (text ≡ Some (codes "false") → asked ≡ Looser)
+
+-- a relation of answers, by its word
+abbrev pub relation_named : Text → Relation
+relation_named word =
+    if bytes_eq word (codes "looser") then Looser
+    else if bytes_eq word (codes "tighter") then Tighter
+    else Different
+
+-- the relation that the rows of a comparison are asked for by; none where all rows are shown
+abbrev pub relation_asked : Option Text → Option Relation
+relation_asked text = option_map relation_named text
+
+-- what is shown of the rows of a comparison
+abbrev pub shown_by : List Row → ShownData
+shown_by rows = record { only = relation_asked (first_of (codes "only") rows); calls = calls_asked rows }
 
 -- the files of names that are named have these names
 pub record AreNamed (holds : Text → Option Text) (rows : List Row) (names : List NamesData) : Type 0 where
@@ -39,7 +59,11 @@ module _ (holds : Text → Option Text) (rows : List Row) (status : ℕ) (old ne
     pub counted : IsOptionNumber (one_of (codes "budget") rows) 1000000 100000 budget
     pub regions : Bool
     pub listed : IsSwitch (one_of (codes "regions") rows) regions
-    pub audited : AuditsFiles holds (text_of (codes "policy") rows) paths budget regions status old new
+    pub why : Bool
+    pub explained : IsSwitch (one_of (codes "why") rows) why
+    pub names : List NamesData
+    pub called : AreNamed holds rows names
+    pub audited : AuditsFiles holds (text_of (codes "policy") rows) paths names budget regions why status old new
 
   -- the files that are named were checked
   pub record Checks : Type 0 where
@@ -50,7 +74,7 @@ module _ (holds : Text → Option Text) (rows : List Row) (status : ℕ) (old ne
     pub checked : ChecksFiles with_instructions holds paths old new
     pub told : status ≡ 0
 
-  -- the input that is given was evaluated by the files that are named
+  -- the input that is asked for was evaluated by the files that are named
   pub record Evaluates : Type 0 where
     pub paths : List (Bor Text)
     pub named : ArePaths (codes "filters") rows paths
@@ -60,7 +84,9 @@ module _ (holds : Text → Option Text) (rows : List Row) (status : ℕ) (old ne
     pub in_brief : IsSwitch (one_of (codes "trace-true") rows) brief
     pub names : List NamesData
     pub called : AreNamed holds rows names
-    pub evaluated : EvaluatesFiles (text_of (codes "input") rows) traced brief holds paths names old new
+    pub input : Input
+    pub asked : AsksInput rows names input
+    pub evaluated : AnswersFiles input traced brief holds paths names old new
     pub told : status ≡ 0
 
   -- the old and the new files that are named were compared
@@ -77,7 +103,8 @@ module _ (holds : Text → Option Text) (rows : List Row) (status : ℕ) (old ne
     pub listed : IsSwitch (one_of (codes "rows") rows) with_rows
     pub names : List NamesData
     pub called : AreNamed holds rows names
-    pub compared : ComparesFiles holds old_paths new_paths names budget asked with_rows status old new
+    pub known : are_known names (calls_asked rows) ≡ true
+    pub compared : ComparesFiles holds old_paths new_paths names budget asked with_rows (shown_by rows) status old new
 
   -- the files that are named were listed
   pub record Lists : Type 0 where
@@ -87,7 +114,8 @@ module _ (holds : Text → Option Text) (rows : List Row) (status : ℕ) (old ne
     pub counted : IsOptionNumber (one_of (codes "budget") rows) 1000000 100000 budget
     pub names : List NamesData
     pub called : AreNamed holds rows names
-    pub listed : ListsFiles holds paths names budget status old new
+    pub known : are_known names (calls_asked rows) ≡ true
+    pub listed : ListsFiles holds paths names (calls_asked rows) budget status old new
 
   -- the filter of the profile that is named was written, or what is told of it
   pub record Profiles : Type 0 where
@@ -113,10 +141,18 @@ RunsAs holds named status old new = ByName
     (λ rows. Profiles holds rows status old new)
     named
 
--- `profile` is named, and a word isn't one that its option takes
+-- the words behind the options of a subcommand, which has this name, are among those that the options take
+abbrev pub words_fit_for : Text → List Row → Bool
+words_fit_for name rows =
+    if bytes_eq name (codes "profile") then words_fit rows
+    else if bytes_eq name (codes "list") then calls_fit rows
+    else if bytes_eq name (codes "compare") then calls_fit rows && rows_fit rows
+    else if bytes_eq name (codes "eval") then eval_words_fit rows
+    else true
+
+-- a subcommand is named, and a word isn't one that its option takes
 abbrev pub HasWrongWord : Option (Text × List Row) → Type 0
-HasWrongWord named =
-    (found : Text × List Row) × (named ≡ Some found) × (found.0 ≡ codes "profile") × (words_fit found.1 ≡ false)
+HasWrongWord named = (found : Text × List Row) × (named ≡ Some found) × (words_fit_for found.0 found.1 ≡ false)
 
 -- the words are refused: they don't fit the form, or one isn't a word that its option takes
 abbrev pub RefusesWords : List Text → Type 0
@@ -152,16 +188,43 @@ OnPaths name rows P = (paths : List (Bor Text)) × ArePaths name rows paths × P
 abbrev pub OnNames : (Text → Option Text) → List Row → Fault → Type 0 → Type 0
 OnNames holds rows fault P = OnPaths (codes "names") rows (λ paths. RefusesNaming holds paths fault) ⊎ P
 
+-- a call that is asked for by its name is one of no set
+abbrev pub RefusesCalls : (Text → Option Text) → List Row → Fault → Type 0
+RefusesCalls holds rows fault =
+    (fault ≡ UnknownName)
+    × ((sets : List NamesData) × AreNamed holds rows sets × (are_known sets (calls_asked rows) ≡ false))
+
+-- a file of names is refused, or a call that is asked for, or else this is so
+abbrev pub OnCalls : (Text → Option Text) → List Row → Fault → Type 0 → Type 0
+OnCalls holds rows fault P = OnNames holds rows fault (RefusesCalls holds rows fault ⊎ P)
+
+-- with the sets of the files of names that are named this input is asked for
+abbrev pub IsAsked : (Text → Option Text) → List Row → Type 0
+IsAsked holds rows =
+    (names : List NamesData) × (input : Input) × AreNamed holds rows names × AsksInput rows names input
+
+-- a name that is given is none of the sets of the files of names that are named, and their calls
+abbrev pub IsUnknown : (Text → Option Text) → List Row → Type 0
+IsUnknown holds rows = (names : List NamesData) × AreNamed holds rows names × LacksName rows names
+
+-- Why `eval` is refused behind its files of names: no input is spelled, or a number is too wide; a name is unknown; or
+-- an input is asked for, and the filter files are refused as by `check`.
+abbrev pub RefusesEval : (Text → Option Text) → List Row → Fault → Type 0
+RefusesEval holds rows fault =
+    ((fault ≡ InputFault) × (spells_input rows ≡ false))
+    ⊎ ((fault ≡ UnknownName) × (spells_input rows ≡ true) × IsUnknown holds rows)
+    ⊎ (IsAsked holds rows × OnPaths (codes "filters") rows (λ paths. RefusesCheck holds paths fault))
+
 -- why what the named subcommand asks for is refused
 abbrev pub RefusesAs : (Text → Option Text) → Option (Text × List Row) → Fault → Type 0
 RefusesAs holds named fault = ByName
-    (λ rows. OnPaths (codes "filters") rows (λ paths. RefusesAudit holds (text_of (codes "policy") rows) paths fault))
-    (λ rows. OnPaths (codes "filters") rows (λ paths. RefusesCheck holds paths fault))
     (λ rows. OnNames holds rows fault (OnPaths (codes "filters") rows
-    (λ paths. RefusesEval (text_of (codes "input") rows) holds paths fault)))
-    (λ rows. OnNames holds rows fault (OnPaths (codes "old") rows (λ old. OnPaths (codes "new") rows
+    (λ paths. RefusesAudit holds (text_of (codes "policy") rows) paths fault)))
+    (λ rows. OnPaths (codes "filters") rows (λ paths. RefusesCheck holds paths fault))
+    (λ rows. OnNames holds rows fault (RefusesEval holds rows fault))
+    (λ rows. OnCalls holds rows fault (OnPaths (codes "old") rows (λ old. OnPaths (codes "new") rows
     (λ new. RefusesComparison holds old new fault))))
-    (λ rows. OnNames holds rows fault (OnPaths (codes "filters") rows (λ paths. RefusesListing holds paths fault)))
+    (λ rows. OnCalls holds rows fault (OnPaths (codes "filters") rows (λ paths. RefusesListing holds paths fault)))
     (λ rows. RefusesProfile holds rows fault)
     named
 

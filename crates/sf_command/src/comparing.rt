@@ -9,8 +9,9 @@ use crate::status::status_of_change;
 use sf_compare::{Comparison, Relation, write_comparison};
 use sf_crew::Open;
 use sf_evaluate::{Files, Notes, read_all};
-use sf_list::{draw_differences, write_differences};
-use sf_policy::{Fault, Names};
+use sf_list::{Shown, draw_differences, write_differences};
+use sf_names::Names;
+use sf_policy::Fault;
 use sf_warnings::warnings_of_both;
 use std::alloc::Global;
 use std::io::Write;
@@ -55,17 +56,18 @@ fn read_both<F: Files>(
     Ok((filters, older))
 }
 
-/// Writes what is found of two stacks, and where it is asked for the rows in which their answers differ, with these names of
+/// Writes what is found of two stacks, and where it is asked for the rows in which their answers differ, with these sets of
 /// calls. `Write` where that fails, after a beginning of the text; `Memory` where an allocation is refused: nothing was
 /// written then.
 fn write_compared<O: Write>(
     alloc: Global,
     comparison: &Comparison,
-    names: &[Names],
+    sets: &[Names],
     terms: Terms,
+    shown: &Shown<'_>,
     out: &mut O,
 ) -> Result<(), Fault>
-    ensures written { OnOk result (WritesCompared terms.rows names.now comparison.now
+    ensures written { OnOk result (WritesCompared terms.rows sets.now shown.now comparison.now
         (O.contents out.old) (O.contents out.new)) }
     ensures refused { IfErr result (λ e. (e ≡ WriteFault)
         ⊎ ((e ≡ MemoryFault) × (out.new ≡ out.old))) }
@@ -74,7 +76,7 @@ fn write_compared<O: Write>(
         return write_comparison(alloc, comparison, out);
     }
     let differences = draw_differences(alloc, comparison, terms.leaves as usize)?;
-    write_differences(alloc, comparison, &differences, names, out)
+    write_differences(alloc, comparison, &differences, sets, shown, out)
 }
 
 /// Reads the old filter files and then the new ones, each named in order of installation; compares their stacks, writes
@@ -88,15 +90,17 @@ pub fn compare<R: Threads + Wait + Sync, F: Files, O: Write>(
     alloc: Global,
     old: &[&str],
     new: &[&str],
-    names: &[Names],
+    sets: &[Names],
     terms: Terms,
+    shown: &Shown<'_>,
     files: &mut F,
     notes: &mut Notes,
     out: &mut O,
 ) -> Result<u8, Fault>
     requires workers { (0 < terms.workers) × (terms.workers ≤ 64) }
     ensures written { IfOk result (λ s. ComparesFiles (F.holds files.old) old.now new.now
-        names.now terms.budget terms.asked terms.rows s (O.contents out.old) (O.contents out.new)) }
+        sets.now terms.budget terms.asked terms.rows shown.now s
+        (O.contents out.old) (O.contents out.new)) }
     ensures status { IfOk result (λ s. s ≤ 2) }
     ensures refused { IfErr result (RefusesComparison (F.holds files.old) old.now new.now) }
     ensures quiet { IfErr result (λ e. (e ≡ WriteFault) ⊎ (out.new ≡ out.old)) }
@@ -106,7 +110,7 @@ pub fn compare<R: Threads + Wait + Sync, F: Files, O: Write>(
     let comparison = sf_compare::compare(rt, alloc, &filters, older, terms.budget, workers, &Open)?;
     let (settled, answers) = (comparison.settled(), comparison.answers());
     notes.warnings = warnings_of_both(alloc, &filters, older, settled, answers);
-    write_compared(alloc, &comparison, names, terms, out)?;
+    write_compared(alloc, &comparison, sets, terms, shown, out)?;
     let status = status_of_change(comparison.change(terms.asked));
     files.take_over(comparison);
     Ok(status)

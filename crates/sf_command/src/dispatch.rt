@@ -1,14 +1,14 @@
 //! What the program does, from the words of its command line to its exit status.
-ghost use Rattle.std.specs.Prelude.{◌≡◌, ◌≢◌, ◌≤◌, ◌⊎◌, ℕ, List, [], codes, map, string_bytes, IfOk, IfErr};
-ghost use Rattle.clap.specs.Words.{found_of, kind_of, one_of, rows_of, subcommand_rows_of};
+ghost use Rattle.std.specs.Prelude.{◌≡◌, ◌≢◌, ◌≤◌, ◌⊎◌, ℕ, List, [], codes, map, option_map, string_bytes, IfOk, IfErr};
+ghost use Rattle.clap.specs.Words.{first_of, found_of, kind_of, one_of, rows_of, subcommand_rows_of};
 ghost use Rattle.sf_policy.specs.Faults.{fault_number};
 ghost use Rattle.sf_policy.specs.declared.fault.Fault.TheVariants.{Memory as MemoryFault, Write as WriteFault};
 ghost use Rattle.sf_command.specs.Audits.{RefusesAudit};
 ghost use Rattle.sf_command.specs.Comparisons.{RefusesComparison};
 ghost use Rattle.sf_command.specs.Listings.{RefusesListing};
 ghost use Rattle.sf_evaluate.specs.Names.{RefusesNaming};
-ghost use Rattle.sf_evaluate.specs.Outputs.{RefusesCheck, RefusesEval};
-ghost use Rattle.sf_command.specs.Runs.{AreNamed, Audits, Checks, Compares, Evaluates, RunsAs, IsAskedRelation, IsHelp, Lists, DoesAsTold, HasWrongWord, OnNames, OnPaths, RefusesAs, RefusesAsTold, RefusesWords, WritesText};
+ghost use Rattle.sf_evaluate.specs.Outputs.{RefusesCheck};
+ghost use Rattle.sf_command.specs.Runs.{AreNamed, Audits, Checks, Compares, Evaluates, RunsAs, IsAskedRelation, IsHelp, Lists, DoesAsTold, HasWrongWord, OnCalls, OnNames, OnPaths, RefusesAs, RefusesAsTold, RefusesEval, RefusesWords, WritesText, relation_asked, relation_named, words_fit_for};
 ghost use Rattle.sf_command_line.specs.CommandLine.{IsKnown, errors_at};
 ghost use Rattle.sf_command_line.specs.Options.{text_of};
 ghost use Rattle.sf_evaluate.specs.Status.{fault_status};
@@ -20,18 +20,37 @@ use clap::ArgMatches;
 use clap::error::ErrorKind;
 use sf_command_line::{
     budget_of, command_form, leaves_of, text_of, wants_brief, wants_instructions, wants_regions,
-    wants_rows, wants_same, wants_trace, workers_of,
+    wants_rows, wants_same, wants_trace, wants_why, workers_of,
 };
 use sf_compare::Relation;
 use sf_evaluate::{
-    Files, Notes, check, evaluate, input_of, print, profile, read_all_names, tell, tell_wrong_word,
-    warn,
+    Files, Notes, asked_input, calls_fit, check, eval_words_fit, evaluate, known_calls, print,
+    profile, read_all_names, rows_fit, spells_input, tell, tell_wrong_words, warn, words_fit,
 };
-use sf_policy::{Fault, Names};
+use sf_list::Shown;
+use sf_names::Names;
+use sf_policy::Fault;
 use std::alloc::Global;
 use std::io::Write;
 use std::sync::Wait;
 use std::thread::Threads;
+
+/// The names of the files of names that the matches of a subcommand name. The refusals are those of `read_all_names`.
+fn names_of<F: Files>(
+    alloc: Global,
+    found: &ArgMatches<'_>,
+    files: &mut F,
+    notes: &mut Notes,
+) -> Result<Vec<Names>, Fault>
+    ensures called { IfOk result (λ v. AreNamed (F.holds files.old)
+        (rows_of (found_of found.now)) v.items) }
+    ensures refused { IfErr result (λ e. OnPaths (codes "names") (rows_of (found_of found.now))
+        (λ paths. RefusesNaming (F.holds files.old) paths e)) }
+    ensures same { (p : List ℕ) → F.holds files.new p ≡ F.holds files.old p }
+{
+    let paths = found.get_strs("names").unwrap_or(&[]);
+    read_all_names(alloc, paths, files, notes)
+}
 
 /// Runs `audit` as the matches of the subcommand say.
 fn run_audit<R: Threads + Wait + Sync, F: Files, O: Write>(
@@ -46,18 +65,22 @@ fn run_audit<R: Threads + Wait + Sync, F: Files, O: Write>(
         (O.contents out.old) (O.contents out.new)) }
     ensures status { IfOk result (λ s. s ≤ 2) }
     ensures quiet { IfErr result (λ e. (e ≡ WriteFault) ⊎ (out.new ≡ out.old)) }
-    ensures refused { IfErr result (λ e. OnPaths (codes "filters") (rows_of (found_of found.now))
+    ensures refused { IfErr result (λ e. OnNames (F.holds files.old)
+        (rows_of (found_of found.now)) e
+        (OnPaths (codes "filters") (rows_of (found_of found.now))
         (λ paths. RefusesAudit (F.holds files.old)
-        (text_of (codes "policy") (rows_of (found_of found.now))) paths e)) }
+        (text_of (codes "policy") (rows_of (found_of found.now))) paths e))) }
 {
+    let names = names_of(alloc, found, files, notes)?;
     let paths = found.get_strs("filters").unwrap_or(&[]);
     let options = Options {
         budget: budget_of(found),
         workers: workers_of(found),
         regions: wants_regions(found),
+        why: wants_why(found),
     };
     let policy = text_of(found, "policy");
-    audit(rt, alloc, policy, paths, options, files, notes, out)
+    audit(rt, alloc, policy, paths, &names, options, files, notes, out)
 }
 
 /// Runs `check` on the filter files that the matches of the subcommand name.
@@ -80,25 +103,10 @@ fn run_check<F: Files, O: Write>(
     Ok(0)
 }
 
-/// The names of the files of names that the matches of a subcommand name. The refusals are those of `read_all_names`.
-fn names_of<F: Files>(
-    alloc: Global,
-    found: &ArgMatches<'_>,
-    files: &mut F,
-    notes: &mut Notes,
-) -> Result<Vec<Names>, Fault>
-    ensures called { IfOk result (λ v. AreNamed (F.holds files.old)
-        (rows_of (found_of found.now)) v.items) }
-    ensures refused { IfErr result (λ e. OnPaths (codes "names") (rows_of (found_of found.now))
-        (λ paths. RefusesNaming (F.holds files.old) paths e)) }
-    ensures same { (p : List ℕ) → F.holds files.new p ≡ F.holds files.old p }
-{
-    let paths = found.get_strs("names").unwrap_or(&[]);
-    read_all_names(alloc, paths, files, notes)
-}
-
-/// Runs `eval` on the input and the filter files that the matches of the subcommand name. An input that isn't spelled is
-/// refused first, before any file is read.
+/// Runs `eval` on the input that the words of the subcommand ask for, and on the filter files that they name.
+///
+/// Refusals, tried in this order: `Input` where no input is spelled, or a number is too wide; those of the files of names;
+/// `UnknownName` where a name that is given is none of theirs; and those of `evaluate`.
 fn run_eval<F: Files, O: Write>(
     alloc: Global,
     found: &ArgMatches<'_>,
@@ -111,14 +119,14 @@ fn run_eval<F: Files, O: Write>(
     ensures quiet { IfErr result (λ e. (e ≡ WriteFault) ⊎ (out.new ≡ out.old)) }
     ensures refused { IfErr result (λ e. OnNames (F.holds files.old)
         (rows_of (found_of found.now)) e
-        (OnPaths (codes "filters") (rows_of (found_of found.now))
-        (λ paths. RefusesEval (text_of (codes "input") (rows_of (found_of found.now)))
-        (F.holds files.old) paths e))) }
+        (RefusesEval (F.holds files.old) (rows_of (found_of found.now)) e)) }
 {
-    let paths = found.get_strs("filters").unwrap_or(&[]);
-    let digits = text_of(found, "input");
-    let input = input_of(digits)?;
+    if !spells_input(found) {
+        return Err(Fault::Input);
+    }
     let names = names_of(alloc, found, files, notes)?;
+    let input = asked_input(found, &names, notes)?;
+    let paths = found.get_strs("filters").unwrap_or(&[]);
     let traced = wants_trace(found);
     let brief = wants_brief(found);
     evaluate(
@@ -138,6 +146,35 @@ fn relation_of(found: &ArgMatches<'_>) -> Relation
     }
 }
 
+/// A relation of answers, by its word.
+fn relation_named(word: &str) -> Relation
+    ensures { result ≡ relation_named word.now }
+{
+    match word {
+        "looser" => Relation::Looser,
+        "tighter" => Relation::Tighter,
+        _ => Relation::Different,
+    }
+}
+
+/// The word behind `--only`, where it is given.
+fn only_word<'a>(found: &ArgMatches<'a>) -> Option<&'a str>
+    ensures { option_map (λ t. t.now) result
+        ≡ first_of (codes "only") (rows_of (found_of found.now)) }
+{
+    found.get_str("only")
+}
+
+/// The relation by which rows of a comparison are asked for; none where all are shown.
+fn relation_asked(found: &ArgMatches<'_>) -> Option<Relation>
+    ensures { result ≡ relation_asked (first_of (codes "only") (rows_of (found_of found.now))) }
+{
+    match only_word(found) {
+        Some(word) => Some(relation_named(word)),
+        None => None,
+    }
+}
+
 /// Runs `compare` as the matches of the subcommand say.
 fn run_compare<R: Threads + Wait + Sync, F: Files, O: Write>(
     rt: &R,
@@ -151,13 +188,17 @@ fn run_compare<R: Threads + Wait + Sync, F: Files, O: Write>(
         (O.contents out.old) (O.contents out.new)) }
     ensures status { IfOk result (λ s. s ≤ 2) }
     ensures quiet { IfErr result (λ e. (e ≡ WriteFault) ⊎ (out.new ≡ out.old)) }
-    ensures refused { IfErr result (λ e. OnNames (F.holds files.old)
+    ensures refused { IfErr result (λ e. OnCalls (F.holds files.old)
         (rows_of (found_of found.now)) e
         (OnPaths (codes "old") (rows_of (found_of found.now))
         (λ old. OnPaths (codes "new") (rows_of (found_of found.now))
         (λ new. RefusesComparison (F.holds files.old) old new e)))) }
 {
     let names = names_of(alloc, found, files, notes)?;
+    let shown = Shown {
+        only: relation_asked(found),
+        calls: known_calls(alloc, found, &names, notes)?,
+    };
     let old = found.get_strs("old").unwrap_or(&[]);
     let new = found.get_strs("new").unwrap_or(&[]);
     let terms = Terms {
@@ -167,7 +208,9 @@ fn run_compare<R: Threads + Wait + Sync, F: Files, O: Write>(
         rows: wants_rows(found),
         leaves: leaves_of(found),
     };
-    compare(rt, alloc, old, new, &names, terms, files, notes, out)
+    compare(
+        rt, alloc, old, new, &names, terms, &shown, files, notes, out,
+    )
 }
 
 /// Runs `list` as the matches of the subcommand say.
@@ -183,22 +226,37 @@ fn run_list<R: Threads + Wait + Sync, F: Files, O: Write>(
         (O.contents out.old) (O.contents out.new)) }
     ensures status { IfOk result (λ s. s ≤ 2) }
     ensures quiet { IfErr result (λ e. (e ≡ WriteFault) ⊎ (out.new ≡ out.old)) }
-    ensures refused { IfErr result (λ e. OnNames (F.holds files.old)
+    ensures refused { IfErr result (λ e. OnCalls (F.holds files.old)
         (rows_of (found_of found.now)) e
         (OnPaths (codes "filters") (rows_of (found_of found.now))
         (λ paths. RefusesListing (F.holds files.old) paths e))) }
 {
     let names = names_of(alloc, found, files, notes)?;
+    let calls = known_calls(alloc, found, &names, notes)?;
     let paths = found.get_strs("filters").unwrap_or(&[]);
     let limits = Limits {
         budget: budget_of(found),
         workers: workers_of(found),
         leaves: leaves_of(found),
     };
-    list(rt, alloc, paths, &names, limits, files, notes, out)
+    list(rt, alloc, paths, &names, &calls, limits, files, notes, out)
 }
 
-/// Runs the subcommand that the command line names, and gives its exit status; 4 where it names none of the six.
+/// Whether the words behind the options of a subcommand, which has this name, are among those that the options take.
+fn words_fit_for(name: &str, found: &ArgMatches<'_>) -> bool
+    ensures { result ≡ words_fit_for name.now (rows_of (found_of found.now)) }
+{
+    match name {
+        "profile" => words_fit(found),
+        "eval" => eval_words_fit(found),
+        "list" => calls_fit(found),
+        "compare" => calls_fit(found) && rows_fit(found),
+        _ => true,
+    }
+}
+
+/// Runs the subcommand that the command line names, and gives its exit status; 4 where it names none of the six, or where a
+/// word isn't one that its option takes.
 fn run<R: Threads + Wait + Sync, F: Files, O: Write>(
     rt: &R,
     alloc: Global,
@@ -220,6 +278,9 @@ fn run<R: Threads + Wait + Sync, F: Files, O: Write>(
     let Some((name, found)) = matches.subcommand() else {
         return Ok(4);
     };
+    if !words_fit_for(name, found) {
+        return Ok(4);
+    }
     match name {
         "audit" => run_audit(rt, alloc, found, files, notes, out),
         "check" => run_check(alloc, found, files, notes, out),
@@ -292,7 +353,7 @@ fn reply<R: Threads + Wait + Sync, F: Files, O: Write, E: Write>(
             notes.explain(alloc, &matches, &ran, files.explains(), files.reason());
             if ran.is_ok() {
                 warn(&matches, &notes.warnings, err);
-                tell_wrong_word(alloc, &matches, &ran, err);
+                tell_wrong_words(alloc, &matches, &ran, err);
             }
             ran
         }
@@ -309,7 +370,7 @@ fn reply<R: Threads + Wait + Sync, F: Files, O: Write, E: Write>(
 ///   outstanding.
 /// - 3: the filters, the policy, a profile, a file of names or the input are refused. Standard output is left as it was.
 /// - 4: the command line is refused. No file was read, standard output is left as it was, and standard error has the
-///   text of `clap`, or of `tell_wrong_word`.
+///   text of `clap`, or of `tell_wrong_words`.
 /// - 5: reading, writing or memory failed. Standard output is left as it was, unless writing failed.
 ///
 /// At 3 and 5 one line on standard error names the fault: `error`, its number, its name and its place. With

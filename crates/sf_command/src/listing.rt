@@ -1,6 +1,6 @@
 //! The subcommand `list`: reads the filter files of a stack, explores the stack and writes its rows.
 
-ghost use Rattle.std.specs.Prelude.{◌≡◌, ◌<◌, ◌≤◌, ◌⊎◌, IfOk, IfErr};
+ghost use Rattle.std.specs.Prelude.{◌≡◌, ◌<◌, ◌≤◌, ◌⊎◌, IfOk, IfErr, map, option_map};
 ghost use Rattle.sf_policy.specs.declared.fault.Fault.TheVariants.{Write as WriteFault};
 ghost use Rattle.sf_command.specs.Listings.{ListsFiles, RefusesListing};
 
@@ -8,7 +8,8 @@ use crate::status::status_of_listing;
 use sf_crew::Open;
 use sf_evaluate::{Files, Notes, read_all};
 use sf_list::write_listing;
-use sf_policy::{Fault, Names};
+use sf_names::Names;
+use sf_policy::Fault;
 use sf_warnings::warnings_of_stack;
 use std::alloc::Global;
 use std::io::Write;
@@ -26,8 +27,8 @@ pub struct Limits {
     pub leaves: u32,
 }
 
-/// Reads the filter files, which are named in order of installation; explores their stack, writes its rows, with these names
-/// of calls, and gives the exit status: 0 where each input lies in a row with one answer, and else 2.
+/// Reads the filter files, which are named in order of installation; explores their stack, writes its rows, with these sets
+/// of calls, or the rows of the calls that are asked for, of all calls where none is named; and gives the exit status: 0 where each input lies in a row with one answer, and else 2.
 ///
 /// Refusals, tried in this order: `Read` where a file can't be read; what `list` of the library refuses; `Write` where
 /// standard output can't be written, after a beginning of the text. `Memory` can come anywhere. After any error but
@@ -36,15 +37,16 @@ pub fn list<R: Threads + Wait + Sync, F: Files, O: Write>(
     rt: &R,
     alloc: Global,
     paths: &[&str],
-    names: &[Names],
+    sets: &[Names],
+    calls: &Option<Vec<&str>>,
     limits: Limits,
     files: &mut F,
     notes: &mut Notes,
     out: &mut O,
 ) -> Result<u8, Fault>
     requires workers { (0 < limits.workers) × (limits.workers ≤ 64) }
-    ensures written { IfOk result (λ s. ListsFiles (F.holds files.old) paths.now names.now
-        limits.budget s
+    ensures written { IfOk result (λ s. ListsFiles (F.holds files.old) paths.now sets.now
+        (option_map (λ v. map (λ t. t.now) v.items) calls.now) limits.budget s
         (O.contents out.old) (O.contents out.new)) }
     ensures status { IfOk result (λ s. s ≤ 2) }
     ensures refused { IfErr result (RefusesListing (F.holds files.old) paths.now) }
@@ -55,7 +57,7 @@ pub fn list<R: Threads + Wait + Sync, F: Files, O: Write>(
     let leaves = limits.leaves as usize;
     let listing = sf_list::list(rt, alloc, &filters, limits.budget, workers, leaves, &Open)?;
     notes.warnings = warnings_of_stack(alloc, &filters, listing.settled());
-    let whole = write_listing(alloc, &listing, names, out)?;
+    let whole = write_listing(alloc, &listing, sets, calls, out)?;
     let status = status_of_listing(whole);
     files.take_over(listing);
     Ok(status)

@@ -5,7 +5,7 @@ use Rattle.std.specs.Prelude.{Bool, None, Some, slice_get}
 use Rattle.sf_insn.specs.declared.input.Input.{Input}
 use Rattle.sf_policy.specs.declared.fault.Fault.{Fault}
 use Rattle.sf_policy.specs.declared.fault.Fault.TheVariants as faults
-use Rattle.sf_policy.specs.Names.{NamesData}
+use Rattle.sf_names.specs.Names.{NamesData}
 use Rattle.sf_policy.specs.Filters.{IsFirstRefusal}
 use Rattle.sf_evaluate.specs.Files.{AreKept, AreKnownBytes, HasUnknown}
 use Rattle.sf_evaluate.specs.KeptLaws.{few_are_all, kept_refusal, kept_stack, many_of_many}

@@ -5,5 +5,8 @@ pub mod TraceLemmas
 pub mod ListingLemmas
 pub mod OneText
 pub mod NamingLemmas
+pub mod SetLemmas
 pub mod WordLemmas
 pub mod ProfilingLemmas
+pub mod AskingLemmas
+pub mod WantedLemmas

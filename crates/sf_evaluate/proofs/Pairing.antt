@@ -1,9 +1,9 @@
 -- Two lists that belong together, place by place, where the second one grows.
 use Rattle.std.proofs.lemmas.Grind.{common_steps}
-use Rattle.std.proofs.Common.{◌≡◌, ℕ, zero, suc, ◌+◌, ◌<◌, ◌≤◌, List, [], ◌∷◌, ◌++◌, length, Some, slice_get, refl, arith}
+use Rattle.std.proofs.Common.{◌≡◌, ℕ, zero, suc, ◌+◌, ◌<◌, ◌≤◌, List, [], ◌∷◌, ◌++◌, length, Some, slice_get, take, ◌∙◌, refl, sym, arith}
 use Rattle.std.proofs.lemmas.Bool.{cases_eq}
 use Rattle.std.proofs.lemmas.Option.{same_Some, slice_get_within}
-use Rattle.std.proofs.lemmas.List.{length_push}
+use Rattle.std.proofs.lemmas.List.{length-take-le, length_push}
 use Rattle.sf_evaluate.specs.Pairs.{Pairwise}
 
 get_front : {X : Type 0} (xs ys : List X) (n : ℕ) (x : X) → slice_get xs n ≡ Some x → slice_get (xs ++ ys) n ≡ Some x
@@ -30,3 +30,21 @@ pub paired_all : {X Y : Type 0} (Holds Weaker : X → Y → Type 0) (xs : List X
     → ((x : X) (y : Y) → Holds x y → Weaker x y) → PairedSoFar Holds xs ys place → length xs ≤ place → place ≤ length xs
     → Pairwise Weaker xs ys
 paired_all Holds Weaker xs ys place weaker so_far over under = grind (arith, common_steps, slice_get_within)
+
+get_taken : {X : Type 0} (xs : List X) (place n : ℕ) (x : X) → slice_get (take place xs) n ≡ Some x
+    → (n < place) × (slice_get xs n ≡ Some x)
+get_taken [] zero n x h = absurd cc
+get_taken [] (suc place) n x h = absurd cc
+get_taken (a ∷ xs) zero n x h = absurd cc
+get_taken (a ∷ xs) (suc place) zero x h = (omega arith, h)
+get_taken (a ∷ xs) (suc place) (suc n) x h =
+    let rest = get_taken xs place n x h in
+    (omega (arith, rest.0), rest.1)
+
+-- the first places are a list of their own
+pub first_paired : {X Y : Type 0} (Holds : X → Y → Type 0) (xs : List X) (ys : List Y) (place : ℕ)
+    → PairedSoFar Holds xs ys place → place ≤ length xs → Pairwise Holds (take place xs) ys
+first_paired Holds xs ys place so_far inside = record {
+  same = so_far.count ∙ sym (length-take-le place xs inside);
+  each = λ n x at. let within = get_taken xs place n x at in so_far.each n x within.0 within.1;
+}

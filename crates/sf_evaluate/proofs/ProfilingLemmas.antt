@@ -1,26 +1,41 @@
 -- What `profile` reads, writes and refuses.
-use Rattle.std.proofs.Common.{◌≡◌, ◌⊎◌, ◌∙◌, inl, inr, ap, subst, sym, codes, Bool, List, Option, Result, Ok, Err, Bor}
+use Rattle.std.proofs.Common.{◌≡◌, ◌⊎◌, ◌∙◌, inl, inr, ap, subst, sym, codes, Bool, List, Option, Result, Ok, Err, Bor, false}
 use Rattle.std.specs.Prelude.{IfOk}
 use Rattle.clap.specs.Words.{Row, Text, one_of}
 use Rattle.sf_command_line.specs.Options.{ArePaths, IsSwitch, text_of}
+use Rattle.sf_names.specs.Names.{NamesData}
+use Rattle.sf_profile.specs.declared.fault.Fault.TheVariants.{Set as UnknownSet}
 use Rattle.sf_profile.specs.declared.settings.Calls.{Calls}
 use Rattle.sf_profile.specs.declared.settings.Settings.{Settings}
 use Rattle.sf_policy.specs.declared.fault.Fault.{Fault}
 use Rattle.sf_policy.specs.declared.fault.Fault.TheVariants as faults
 use Rattle.sf_evaluate.specs.Files.{AreKnownBytes}
-use Rattle.sf_evaluate.specs.Profiles.{AreCallsRead, AreSettings, IsReadFor, RefusesProfile, RefusesProfileOf, WritesOf, WritesProfile}
+use Rattle.sf_evaluate.specs.Names.{AreNamesRead, RefusesNaming}
+use Rattle.sf_evaluate.specs.Profiles.{AreCallsOf, AreSettings, HasOtherSet, IsReadFor, RefusesProfile, RefusesProfileOf, WritesOf, WritesProfile, have_sets}
 
 -- what a profile is read for, from the words and the calls
-pub read_for : (holds : Text → Option Text) (rows : List Row) (paths : List (Bor Text)) (calls : List Calls)
-    (r : Result Settings Fault) → ArePaths (codes "names") rows paths → AreCallsRead holds paths calls
-    → IfOk r (AreSettings rows) → IfOk r (λ s. s.calls.items ≡ calls) → IfOk r (IsReadFor holds rows)
-read_for holds rows paths calls (Ok s) named read words same = record {
+pub read_for : (holds : Text → Option Text) (rows : List Row) (paths : List (Bor Text)) (names : List NamesData)
+    (calls : List Calls) (r : Result Settings Fault) → ArePaths (codes "names") rows paths
+    → AreNamesRead holds paths names → AreCallsOf names calls → IfOk r (AreSettings rows)
+    → IfOk r (λ s. s.calls.items ≡ calls) → IfOk r (IsReadFor holds rows)
+read_for holds rows paths names calls (Ok s) named read meant words same = record {
   words = words;
   paths = paths;
   named = named;
-  calls = subst (λ (cs : List Calls). AreCallsRead holds paths cs) (sym same) read;
+  names = names;
+  read = read;
+  calls = subst (AreCallsOf names) (sym same) meant;
 }
-read_for holds rows paths calls (Err e) named read words same = tt
+read_for holds rows paths names calls (Err e) named read meant words same = tt
+
+-- a set of names is refused, or memory ran out
+pub calling_why : (holds : Text → Option Text) (paths : List (Bor Text)) (names : List NamesData) (e : Fault)
+    → AreNamesRead holds paths names
+    → (e ≡ faults.Memory) ⊎ ((e ≡ faults.Profile UnknownSet) × (have_sets names ≡ false))
+    → RefusesNaming holds paths e ⊎ HasOtherSet holds paths e
+calling_why holds paths names e read (inl memory) = inl (inr (inl memory))
+calling_why holds paths names e read (inr (is_set, other)) =
+    inr (record { names = names; read = read; other = other; is_set = is_set })
 
 module _ (before after : Text → Option Text) (rows : List Row) (s : Settings) (path bytes seen : Text) where
   -- the bytes of the profile are those of the file that the words name

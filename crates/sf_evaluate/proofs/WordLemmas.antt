@@ -50,4 +50,5 @@ settings_said rows s machine conflicts kernel fits m m_is r r_is k k_is caps new
       conflicts = some_or (reading_named (text_of (codes "conflicts") rows)) Strictest hold.1
           ∙ ap Some (sym (r_is ∙ ap (λ w. unwrap_or (reading_named w) Strictest) r));
       newer = newer;
+      fits = fits;
     }

@@ -10,3 +10,5 @@ pub mod Traces
 pub mod Outputs
 pub mod Status
 pub mod Profiles
+pub mod Asking
+pub mod Wanted

@@ -1,36 +1,60 @@
 -- Files of names of calls.
-use Rattle.std.specs.Prelude.{◌≡◌, ◌⊎◌, ℕ, List, Option, Some, None, Ok, Err, slice_get}
+use Rattle.std.specs.Prelude.{◌≡◌, ◌⊎◌, ℕ, ◌<◌, ◌≤◌, List, ◌++◌, count_by, take, Option, Some, None, Ok, Err, slice_get}
 use Rattle.std.specs.Borrow.{Bor}
+use Rattle.std.specs.List.{flat_map}
 use Rattle.std.specs.Str.{IsUtf8}
 use Rattle.toml.specs.Data.{Members}
 use Rattle.toml.specs.Parse.{parse_document}
+use Rattle.sf_names.specs.declared.fault.Fault.{Fault as NamesFault}
+use Rattle.sf_names.specs.Names.{AreOrdered, NamesData, has_set, names_of}
 use Rattle.sf_policy.specs.declared.fault.Fault.{Fault}
-use Rattle.sf_policy.specs.declared.fault.Fault.TheVariants.{Memory, Read, Syntax}
-use Rattle.sf_policy.specs.Names.{AreOrdered, NamesData, names_of}
+use Rattle.sf_policy.specs.declared.fault.Fault.TheVariants.{Memory, NamesKey, Read, Syntax}
+use Rattle.sf_policy.specs.Faults.{of_names}
 use Rattle.sf_evaluate.specs.Files.{AreKnownBytes, HasUnknown}
 use Rattle.sf_evaluate.specs.Pairs.{Pairwise}
 
--- what the bytes mean as a file of names, with the calls by their numbers
-pub record AreNames (bytes : List ℕ) (names : NamesData) : Type 0 where
+-- what the bytes mean as a file of names: sets, with the calls of each by their numbers
+pub record AreNames (bytes : List ℕ) (sets : List NamesData) : Type 0 where
   pub tree : Members
   pub parsed : parse_document bytes ≡ Some tree
-  pub file : NamesData
-  pub meant : names_of tree ≡ Ok file
-  pub ordered : AreOrdered file names
+  pub files : List NamesData
+  pub meant : names_of tree ≡ Ok files
+  pub ordered : AreOrdered files sets
 
--- the file, whose bytes may be known, has these names
-abbrev pub IsNamesFile : Option (List ℕ) → NamesData → Type 0
-IsNamesFile known names = (bytes : List ℕ) × AreKnownBytes known bytes × AreNames bytes names
+-- the file, whose bytes may be known, has these sets
+abbrev pub IsNamesFile : Option (List ℕ) → List NamesData → Type 0
+IsNamesFile known sets = (bytes : List ℕ) × AreKnownBytes known bytes × AreNames bytes sets
 
--- the files at the paths have these names, path by path
-abbrev pub AreNamesRead : (List ℕ → Option (List ℕ)) → List (Bor (List ℕ)) → List NamesData → Type 0
-AreNamesRead holds paths names = Pairwise (λ path n. IsNamesFile (holds path.now) n) paths names
+-- the files at the paths have these sets, path by path
+abbrev pub AreNamesFiles : (List ℕ → Option (List ℕ)) → List (Bor (List ℕ)) → List (List NamesData) → Type 0
+AreNamesFiles holds paths files = Pairwise (λ path sets. IsNamesFile (holds path.now) sets) paths files
+
+-- the sets of files, one file after the other
+abbrev pub all_sets : List (List NamesData) → List NamesData
+all_sets files = flat_map (λ (sets : List NamesData). sets) files
+
+-- no two of the sets have one name
+abbrev pub AreOnce : List NamesData → Type 0
+AreOnce sets = (set : List ℕ) → count_by (has_set set) sets ≤ 1
+
+-- two of the sets have one name
+abbrev pub HasTwice : List NamesData → Type 0
+HasTwice sets = (set : List ℕ) × (1 < count_by (has_set set) sets)
+
+-- the sets of the files at the paths, one file after the other, are these, and no two of them have one name
+pub record AreNamesRead (holds : List ℕ → Option (List ℕ)) (paths : List (Bor (List ℕ)))
+    (names : List NamesData) : Type 0 where
+  pub files : List (List NamesData)
+  pub read : AreNamesFiles holds paths files
+  pub all : names ≡ all_sets files
+  pub once : AreOnce names
 
 -- Why the bytes are no file of names: they are no UTF-8 or no TOML, or they break the rules of such a file.
 abbrev pub RefusesNames : List ℕ → Fault → Type 0
 RefusesNames bytes fault =
     ((fault ≡ Syntax) × ((IsUtf8 bytes → ⊥) ⊎ (parse_document bytes ≡ None)))
-    ⊎ ((tree : Members) × (parse_document bytes ≡ Some tree) × (names_of tree ≡ Err fault))
+    ⊎ ((tree : Members) × (why : NamesFault) × (parse_document bytes ≡ Some tree) × (names_of tree ≡ Err why)
+    × (fault ≡ of_names why))
 
 -- the file, whose bytes may be known, is no file of names for this reason
 abbrev pub RefusesNamesFile : Option (List ℕ) → Fault → Type 0
@@ -43,7 +67,22 @@ pub record HasNoNames (holds : List ℕ → Option (List ℕ)) (paths : List (Bo
   pub at : slice_get paths place ≡ Some path
   pub refused : RefusesNamesFile (holds path.now) fault
 
--- Why files of names are refused: one whose bytes aren't known can't be read; memory ran out; or one is no such file.
+-- The file at one of the paths brings a set whose name was there before. No two sets of the files before it have one
+-- name.
+pub record RepeatsSet (holds : List ℕ → Option (List ℕ)) (paths : List (Bor (List ℕ))) : Type 0 where
+  pub place : ℕ
+  pub path : Bor (List ℕ)
+  pub at : slice_get paths place ≡ Some path
+  pub files : List (List NamesData)
+  pub before : AreNamesFiles holds (take place paths) files
+  pub once : AreOnce (all_sets files)
+  pub sets : List NamesData
+  pub read : IsNamesFile (holds path.now) sets
+  pub twice : HasTwice (all_sets files ++ sets)
+
+-- Why files of names are refused: one whose bytes aren't known can't be read; memory ran out; one is no such file; or
+-- two sets have one name.
 abbrev pub RefusesNaming : (List ℕ → Option (List ℕ)) → List (Bor (List ℕ)) → Fault → Type 0
 RefusesNaming holds paths fault =
     ((fault ≡ Read) × HasUnknown holds paths) ⊎ (fault ≡ Memory) ⊎ HasNoNames holds paths fault
+    ⊎ ((fault ≡ NamesKey) × RepeatsSet holds paths)

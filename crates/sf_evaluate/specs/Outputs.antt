@@ -1,17 +1,15 @@
 -- What `check` and `eval` write of filter files.
-use Rattle.std.specs.Prelude.{◌≡◌, ◌⊎◌, ℕ, Bool, List, Option, Ok, IsOk}
+use Rattle.std.specs.Prelude.{◌≡◌, ◌⊎◌, ℕ, Bool, List, Option}
 use Rattle.std.specs.Borrow.{Bor}
-use Rattle.hex.specs.Hex.{decode_sized}
 use Rattle.std.specs.Io.KnownBytes.{Appends}
 use Rattle.sf_insn.specs.declared.input.Input.{Input}
-use Rattle.sf_insn.specs.Inputs.{input_bytes}
 use Rattle.sf_check.specs.declared.insn.Insn.{Insn}
 use Rattle.sf_run.specs.declared.action.Answer.{Answer}
 use Rattle.sf_run.specs.Answers.{Answers}
 use Rattle.sf_policy.specs.declared.fault.Fault.{Fault}
-use Rattle.sf_policy.specs.declared.fault.Fault.TheVariants.{Input as InputFault, Memory, Read, Write}
+use Rattle.sf_policy.specs.declared.fault.Fault.TheVariants.{Memory, Read, Write}
 use Rattle.sf_policy.specs.Filters.{IsFirstRefusal, SpellStack}
-use Rattle.sf_policy.specs.Names.{NamesData}
+use Rattle.sf_names.specs.Names.{NamesData}
 use Rattle.sf_evaluate.specs.Files.{AreRead, HasUnknown}
 use Rattle.sf_evaluate.specs.Texts.{IsCheckText}
 use Rattle.sf_evaluate.specs.Traces.{eval_text}
@@ -39,18 +37,11 @@ abbrev pub ChecksFiles : (listed : Bool) → (List ℕ → Option (List ℕ)) �
 ChecksFiles listed holds paths old new =
     (files : List (List ℕ)) × AreRead holds paths files × WritesCheck listed files old new
 
--- the files at the paths are read, and what they answer to the input is written
+-- `eval`: the files at the paths are read, and what they answer to the input is written
 abbrev pub AnswersFiles : Input → (traced brief : Bool) → (List ℕ → Option (List ℕ)) → List (Bor (List ℕ))
     → List NamesData → Option (List ℕ) → Option (List ℕ) → Type 0
 AnswersFiles input traced brief holds paths names old new =
     (files : List (List ℕ)) × AreRead holds paths files × WritesAnswer files input traced brief names old new
-
--- `eval`: the digits spell an input, and what the files at the paths answer to it is written
-abbrev pub EvaluatesFiles : List ℕ → (traced brief : Bool) → (List ℕ → Option (List ℕ)) → List (Bor (List ℕ))
-    → List NamesData → Option (List ℕ) → Option (List ℕ) → Type 0
-EvaluatesFiles digits traced brief holds paths names old new =
-    (input : Input) × (decode_sized digits 64 ≡ Ok (input_bytes input))
-    × AnswersFiles input traced brief holds paths names old new
 
 -- Why the files at the paths are refused: one whose bytes aren't known can't be read; memory ran out, which can come at
 -- any time; or all were read and make no lawful stack.
@@ -62,9 +53,3 @@ RefusesFiles holds paths fault =
 -- why `check` is refused
 abbrev pub RefusesCheck : (List ℕ → Option (List ℕ)) → List (Bor (List ℕ)) → Fault → Type 0
 RefusesCheck holds paths fault = (fault ≡ Write) ⊎ RefusesFiles holds paths fault
-
--- why `eval` is refused: the digits spell no input; or they spell one, and the files are refused as by `check`
-abbrev pub RefusesEval : List ℕ → (List ℕ → Option (List ℕ)) → List (Bor (List ℕ)) → Fault → Type 0
-RefusesEval digits holds paths fault =
-    ((fault ≡ InputFault) × ¬ IsOk (decode_sized digits 64))
-    ⊎ (IsOk (decode_sized digits 64) × RefusesCheck holds paths fault)

@@ -1,18 +1,15 @@
 -- What `profile` reads and writes.
-use Rattle.std.specs.Prelude.{◌≡◌, ◌⊎◌, ℕ, Bool, true, false, ◌&&◌, ◌==◌, if◌then◌else◌, List, [], ◌∷◌, Option, Some, None, Ok, codes, is_some, length, map, slice_get, string_bytes}
+use Rattle.std.specs.Prelude.{◌≡◌, ◌⊎◌, Bool, true, false, ◌&&◌, if◌then◌else◌, List, [], ◌∷◌, Option, Some, None, codes, is_some, map, string_bytes}
 use Rattle.std.specs.Borrow.{Bor}
 use Rattle.std.specs.Io.KnownBytes.{Appends}
 use Rattle.std.specs.List.{list_all, list_any}
 use Rattle.std.specs.Str.{bytes_eq}
-use Rattle.toml.specs.Data.{Members}
-use Rattle.toml.specs.Parse.{parse_document}
-use Rattle.toml.specs.View.{table_view}
 use Rattle.clap.specs.Words.{Row, Text, one_of}
 use Rattle.sf_command_line.specs.Options.{ArePaths, IsSwitch, paths_of, text_of}
 use Rattle.sf_profile.specs.Filters.{IsRefusedText, MakesFilterOf}
 use Rattle.sf_profile.specs.Notes.{AreNotesOfText}
 use Rattle.sf_profile.specs.Profiles.{version_of}
-use Rattle.sf_profile.specs.Settings.{set_of_file}
+use Rattle.sf_profile.specs.Settings.{calls_of_names, set_of_names}
 use Rattle.sf_profile.specs.declared.fault.Fault.{Fault as ProfileFault}
 use Rattle.sf_profile.specs.declared.fault.Fault.TheVariants.{Set as UnknownSet}
 use Rattle.sf_profile.specs.declared.rules.CallSet.{CallSet}
@@ -22,12 +19,11 @@ use Rattle.sf_profile.specs.declared.rules.Reading.TheVariants.{Strictest, Milde
 use Rattle.sf_profile.specs.declared.settings.Calls.{Calls}
 use Rattle.sf_profile.specs.declared.settings.Settings.{Settings}
 use Rattle.sf_policy.specs.Faults.{of_profile}
-use Rattle.sf_policy.specs.Names.{NamesData, names_of}
+use Rattle.sf_names.specs.Names.{NamesData}
 use Rattle.sf_policy.specs.declared.fault.Fault.{Fault}
 use Rattle.sf_policy.specs.declared.fault.Fault.TheVariants as faults
-use Rattle.sf_evaluate.specs.Files.{AreKnownBytes, HasUnknown}
-use Rattle.sf_evaluate.specs.Names.{RefusesNames}
-use Rattle.sf_evaluate.specs.Pairs.{Pairwise}
+use Rattle.sf_evaluate.specs.Files.{AreKnownBytes}
+use Rattle.sf_evaluate.specs.Names.{AreNamesRead, RefusesNaming}
 
 -- ---- the words of the command line
 
@@ -77,56 +73,31 @@ words_fit rows =
     (text_of (codes "conflicts") rows)))
     && (is_kernel (text_of (codes "kernel") rows) && list_all is_capability (paths_of (codes "cap") rows))
 
--- what the words say that a profile is read for
+-- what the words say that a profile is read for, where they are among those that the options take
 pub record AreSettings (rows : List Row) (s : Settings) : Type 0 where
   pub machine : machine_named (text_of (codes "machine") rows) ≡ Some s.machine
   pub caps : map string_bytes s.caps.items ≡ paths_of (codes "cap") rows
   pub kernel : s.kernel ≡ version_of (text_of (codes "kernel") rows)
   pub conflicts : reading_named (text_of (codes "conflicts") rows) ≡ Some s.conflicts
   pub newer : IsSwitch (one_of (codes "newer") rows) s.newer
+  pub fits : words_fit rows ≡ true
 
--- ---- files of names, as the calls of sets
+-- ---- names, as the calls of sets
 
--- the calls of a file of names: its tree is kept, and its set is told by its architecture and its numbers
-pub record AreCalls (bytes : List ℕ) (calls : Calls) : Type 0 where
-  pub tree : Members
-  pub parsed : parse_document bytes ≡ Some tree
-  pub names : NamesData
-  pub meant : names_of tree ≡ Ok names
-  pub set : set_of_file tree ≡ Some calls.set
-  pub kept : table_view calls.file ≡ tree
+-- the calls are those of the names, set by set
+abbrev pub AreCallsOf : List NamesData → List Calls → Type 0
+AreCallsOf names calls = map Some calls ≡ map calls_of_names names
 
--- the file, whose bytes may be known, has these calls
-abbrev pub IsCallsFile : Option (List ℕ) → Calls → Type 0
-IsCallsFile known calls = (bytes : List ℕ) × AreKnownBytes known bytes × AreCalls bytes calls
+-- each of the sets is one of the five sets of calls
+abbrev pub have_sets : List NamesData → Bool
+have_sets names = list_all (λ (n : NamesData). is_some (set_of_names n)) names
 
--- Why the bytes are no calls of a set: they are no file of names, or one of another architecture.
-abbrev pub RefusesCalls : List ℕ → Fault → Type 0
-RefusesCalls bytes fault =
-    RefusesNames bytes fault
-    ⊎ ((fault ≡ faults.Profile UnknownSet)
-    × ((tree : Members) × (parse_document bytes ≡ Some tree) × (set_of_file tree ≡ None)))
-
--- the file, whose bytes may be known, has no calls of a set for this reason
-abbrev pub RefusesCallsFile : Option (List ℕ) → Fault → Type 0
-RefusesCallsFile known fault = (bytes : List ℕ) × AreKnownBytes known bytes × RefusesCalls bytes fault
-
--- the file at one of the paths has no calls of a set for this reason
-pub record HasNoCalls (holds : Text → Option Text) (paths : List (Bor Text)) (fault : Fault) : Type 0 where
-  pub place : ℕ
-  pub path : Bor Text
-  pub at : slice_get paths place ≡ Some path
-  pub refused : RefusesCallsFile (holds path.now) fault
-
--- the files at the paths have these calls, path by path
-abbrev pub AreCallsRead : (Text → Option Text) → List (Bor Text) → List Calls → Type 0
-AreCallsRead holds paths calls = Pairwise (λ path c. IsCallsFile (holds path.now) c) paths calls
-
--- Why files of names are refused: one whose bytes aren't known can't be read; memory ran out; or one has no calls of a
--- set.
-abbrev pub RefusesAllCalls : (Text → Option Text) → List (Bor Text) → Fault → Type 0
-RefusesAllCalls holds paths fault =
-    ((fault ≡ faults.Read) × HasUnknown holds paths) ⊎ (fault ≡ faults.Memory) ⊎ HasNoCalls holds paths fault
+-- the sets of the files at the paths were read, one of them is none of the five, and this is the fault
+pub record HasOtherSet (holds : Text → Option Text) (paths : List (Bor Text)) (fault : Fault) : Type 0 where
+  pub names : List NamesData
+  pub read : AreNamesRead holds paths names
+  pub other : have_sets names ≡ false
+  pub is_set : fault ≡ faults.Profile UnknownSet
 
 -- ---- the whole
 
@@ -135,7 +106,9 @@ pub record IsReadFor (holds : Text → Option Text) (rows : List Row) (s : Setti
   pub words : AreSettings rows s
   pub paths : List (Bor Text)
   pub named : ArePaths (codes "names") rows paths
-  pub calls : AreCallsRead holds paths s.calls.items
+  pub names : List NamesData
+  pub read : AreNamesRead holds paths names
+  pub calls : AreCallsOf names s.calls.items
 
 -- what is written of the bytes of a profile: its filter, or what is told of it
 abbrev pub WritesOf : (told : Bool) → Settings → (bytes : Text) → (old new : Option Text) → Type 0
@@ -164,13 +137,14 @@ pub record RefusesProfileFile (holds : Text → Option Text) (rows : List Row) (
   pub read : AreKnownBytes (holds (text_of (codes "profile") rows)) bytes
   pub refused : RefusesProfileOf settings bytes fault
 
--- a file of names is refused for this reason, or memory ran out
+-- a file of names is refused for this reason, memory ran out, or one of the sets is none of the five
 abbrev pub RefusesNamesOf : (Text → Option Text) → List Row → Fault → Type 0
 RefusesNamesOf holds rows fault =
-    (paths : List (Bor Text)) × ArePaths (codes "names") rows paths × RefusesAllCalls holds paths fault
+    (paths : List (Bor Text)) × ArePaths (codes "names") rows paths
+    × (RefusesNaming holds paths fault ⊎ HasOtherSet holds paths fault)
 
--- Why `profile` is refused: writing or memory failed; a file of names is refused; the file of the profile, whose bytes
--- aren't known, can't be read; or the profile is refused.
+-- Why `profile` is refused: writing or memory failed; a file of names is refused, or one of its sets; the file of the
+-- profile, whose bytes aren't known, can't be read; or the profile is refused.
 abbrev pub RefusesProfile : (Text → Option Text) → List Row → Fault → Type 0
 RefusesProfile holds rows fault =
     (fault ≡ faults.Write) ⊎ (fault ≡ faults.Memory) ⊎ RefusesNamesOf holds rows fault

@@ -1,5 +1,5 @@
 -- The text of `eval --trace`: the input, and how each filter comes to its return value.
-use Rattle.std.specs.Prelude.{ℕ, zero, suc, ◌+◌, ◌-◌, ◌^◌, Bool, true, false, ◌==◌, ◌&&◌, ◌||◌, not, if◌then◌else◌, List, [], ◌∷◌, ◌++◌, codes, length, Option, Some, None, slice_get, slice_index, option_and_then, unwrap_or}
+use Rattle.std.specs.Prelude.{◌≡◌, ℕ, zero, suc, ◌+◌, ◌-◌, ◌^◌, Bool, true, false, ◌==◌, ◌&&◌, ◌||◌, not, if◌then◌else◌, List, [], ◌∷◌, ◌++◌, codes, find, length, reverse, Option, Some, None, slice_get, slice_index, option_and_then, unwrap_or}
 use Rattle.std.specs.Fmt.{decimal, digits, padded_integral, format_spec}
 use Rattle.sf_insn.specs.declared.input.Input.{Input}
 use Rattle.sf_insn.specs.declared.ops.Test.{Test}
@@ -10,11 +10,12 @@ use Rattle.sf_run.specs.declared.action.Answer.{Answer}
 use Rattle.sf_run.specs.declared.walking.Meeting.{Meeting}
 use Rattle.sf_run.specs.declared.walking.Met.{Met}
 use Rattle.sf_run.specs.declared.walking.Met.TheVariants.{Tested, Divided, Returned}
-use Rattle.sf_run.specs.Answers.{action_bits, action_of, data_bits, action_number}
+use Rattle.sf_run.specs.Answers.{Answers, action_bits, action_of, data_bits, action_number}
 use Rattle.sf_run.specs.Walks.{CourseData, walk_of}
 use Rattle.sf_policy.specs.Keys.{word_keys}
-use Rattle.sf_policy.specs.Names.{NamesData, names_between, names_words}
+use Rattle.sf_names.specs.Names.{NamesData, names_between, names_words}
 use Rattle.sf_policy.specs.Texts.{action_text, line}
+use Rattle.sf_calls.specs.Texts.{call_words, is_named}
 use Rattle.sf_evaluate.specs.Texts.{answer_text}
 
 -- the eight hexadecimal digits of a word
@@ -58,8 +59,20 @@ last_arguments d =
     ++ field_line (codes "arg5") (slice_index d.words 14) (slice_index d.words 15))
 
 -- the lines of all fields of the input
+abbrev pub fields_text : List NamesData → Input → List ℕ
+fields_text names d = call_text names d ++ (first_arguments d ++ last_arguments d)
+
+-- the line of the input as a call
+abbrev pub call_line : List NamesData → Input → List ℕ
+call_line names d = codes "call " ++ (call_words names d ++ 10 ∷ [])
+
+-- the same where a set has the call, and else nothing
+abbrev pub named_line : List NamesData → Input → List ℕ
+named_line names d = if is_named names d then call_line names d else []
+
+-- the line of the input as a call, where a set has the call, and then its fields
 abbrev pub input_text : List NamesData → Input → List ℕ
-input_text names d = call_text names d ++ (first_arguments d ++ last_arguments d)
+input_text names d = named_line names d ++ fields_text names d
 
 -- ---- a filter
 
@@ -142,19 +155,23 @@ walk_text brief number stands w = return_line number w.place w.value stands ++ m
 abbrev pub walk_at : List (List Insn) → Input → ℕ → Option CourseData
 walk_at programs d place = option_and_then (λ code. walk_of code d) (slice_get programs place)
 
--- the lines of a filter, with a word where its answer stands, and then those of the older filters
-abbrev pub next_text : Bool → ℕ → ℕ → Bool → (Bool → List ℕ) → Option CourseData → List ℕ
-next_text brief number action stood older (Some w) =
+-- what is shown of a filter, with a word where its answer stands, and then of the older filters
+abbrev pub next_text : (ℕ → Bool → CourseData → List ℕ) → ℕ → ℕ → Bool → (Bool → List ℕ) → Option CourseData → List ℕ
+next_text shown number action stood older (Some w) =
     let stands = not stood && (action_bits w.value == action) in
-    walk_text brief number stands w ++ older (stood || stands)
-next_text brief number action stood older None = older stood
+    shown number stands w ++ older (stood || stands)
+next_text shown number action stood older None = older stood
 
--- The lines of the first n filters, newest first. The answer that stands is that of the newest of all filters that
+-- What is shown of the first n filters, newest first. The answer that stands is that of the newest of all filters that
 -- returns this action; `stood` says whether it is that of a filter newer than these.
+abbrev pub stack_text : (ℕ → Bool → CourseData → List ℕ) → ℕ → ℕ → List (List Insn) → Input → Bool → List ℕ
+stack_text shown zero action programs d stood = []
+stack_text shown (suc n) action programs d stood =
+    next_text shown (n + 1) action stood (stack_text shown n action programs d) (walk_at programs d n)
+
+-- the lines of the first n filters
 abbrev pub filters_text : Bool → ℕ → ℕ → List (List Insn) → Input → Bool → List ℕ
-filters_text brief zero action programs d stood = []
-filters_text brief (suc n) action programs d stood =
-    next_text brief (n + 1) action stood (filters_text brief n action programs d) (walk_at programs d n)
+filters_text brief n action programs d stood = stack_text (walk_text brief) n action programs d stood
 
 -- the lines of the input, with these names of calls, and of all filters of the stack, for the stack's answer
 abbrev pub trace_text : Bool → List NamesData → List (List Insn) → Input → Answer → List ℕ
@@ -165,3 +182,41 @@ trace_text brief names programs d answer =
 abbrev pub eval_text : (traced brief : Bool) → List NamesData → List (List Insn) → Input → Answer → List ℕ
 eval_text false false names programs d answer = answer_text answer
 eval_text traced brief names programs d answer = answer_text answer ++ trace_text brief names programs d answer
+
+-- ---- why a question is allowed
+
+-- a line behind the word `why`
+abbrev pub why_line : List ℕ → List ℕ
+why_line text = codes "why " ++ text
+
+-- a comparison that is true: a test, or at a division by X that X is 0
+abbrev pub is_true : Meeting → Bool
+is_true m = by m.met
+  where
+    by : Met → Bool
+    by (Tested test a other passed) = passed
+    by (Divided x) = x == 0
+    by (Returned a) = false
+
+-- the last true comparison of what is met, in order
+abbrev pub last_true : List Meeting → Option Meeting
+last_true met = find is_true (reverse met)
+
+-- the line of the last true comparison; nothing where there is none
+abbrev pub cause_line : ℕ → Option Meeting → List ℕ
+cause_line number (Some m) = why_line (meeting_line number m)
+cause_line number None = []
+
+-- the lines of a filter with this number: what it returns, and under it the last comparison that is true before that
+abbrev pub cause_text : ℕ → Bool → CourseData → List ℕ
+cause_text number stands w = why_line (return_line number w.place w.value stands) ++ cause_line number (last_true w.met)
+
+-- the line of the input as a call, and the lines of all filters of the stack, newest first, for the stack's answer
+abbrev pub why_text : List NamesData → List (List Insn) → Input → Answer → List ℕ
+why_text names programs d answer =
+    why_line (call_line names d)
+    ++ stack_text cause_text (length programs) (action_number answer.action) programs d false
+
+-- the text tells why the stack answers to the input as it does
+abbrev pub IsWhy : List NamesData → List (List Insn) → Input → List ℕ → Type 0
+IsWhy names programs d text = (a : Answer) × Answers programs d a × (text ≡ why_text names programs d a)

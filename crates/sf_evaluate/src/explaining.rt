@@ -6,9 +6,10 @@ ghost use Rattle.clap.specs.Words.{subcommand_rows_of};
 ghost use Rattle.sf_policy.specs.Faults.{without_place};
 ghost use Rattle.sf_command_line.specs.Options.{IsUnasked};
 
+use crate::asking::is_given;
 use crate::hints::{
     Hint, hint_of_filter, hint_of_input, hint_of_names, hint_of_policy, hint_of_profile,
-    hint_of_unread,
+    hint_of_unknown, hint_of_unread,
 };
 use crate::kinds::{Kind, bytes_of_text, kind_of};
 use crate::meanings::meaning_of;
@@ -16,9 +17,19 @@ use crate::places::position_of;
 use crate::policies::Page;
 use clap::ArgMatches;
 use sf_ask::Question;
+use sf_calls::{read_arguments, read_word};
 use sf_command_line::{text_of, wants_explanation};
 use sf_policy::{Fault, Refusal};
 use std::alloc::{AllocError, Global};
+
+/// A set of names that is none of the five sets of calls.
+#[derive(Drop)]
+pub(crate) struct OtherSet {
+    /// Its place among all sets that were read, counted from 0.
+    pub(crate) place: usize,
+    /// Its name.
+    pub(crate) name: String,
+}
 
 /// What was read before a fault came, and the text that explains the fault.
 #[derive(Drop)]
@@ -29,6 +40,10 @@ pub struct Notes {
     pub refusal: Option<Refusal>,
     /// The key for which a profile is refused, where one is known, or that there is no memory for it.
     pub key: Result<Option<String>, AllocError>,
+    /// The first set of names for which `profile` is refused, or that there is no memory for it.
+    pub(crate) other: Result<Option<OtherSet>, AllocError>,
+    /// How many sets each of the files of names has that were read, in order; less of them where an allocation was refused.
+    sets: Vec<usize>,
     /// How many files were read, the policy file and files of names among them.
     pub files: usize,
     /// What each of these files seems to hold, in order; less of them where an allocation was refused.
@@ -37,6 +52,10 @@ pub struct Notes {
     pub explanation: Option<String>,
     /// The lines of warnings, or that there is no memory for them.
     pub warnings: Result<String, AllocError>,
+    /// Whether a set of the files of names has the name that `eval` is given, once that was looked up.
+    pub(crate) is_set_known: bool,
+    /// The place of the first call behind `--calls` that no file of names has, once they were looked up.
+    pub(crate) unknown_call: usize,
 }
 
 impl Notes {
@@ -50,10 +69,14 @@ impl Notes {
             policy: Vec::new(alloc),
             refusal: None,
             key: Ok(None),
+            other: Ok(None),
+            sets: Vec::new(alloc),
             files: 0,
             kinds: Vec::new(alloc),
             explanation: None,
             warnings: Ok(String::new(alloc)),
+            is_set_known: true,
+            unknown_call: 0,
         }
     }
 
@@ -64,6 +87,26 @@ impl Notes {
             let _ = self.kinds.push(kind_of(bytes));
         }
         self.files = self.files.saturating_add(1);
+    }
+
+    /// Keeps how many sets the file of names has that was counted last. That isn't kept where there is no memory for it, nor
+    /// then for later files.
+    pub(crate) fn count_sets(&mut self, count: usize) {
+        if self.sets.len().saturating_add(1) == self.files {
+            let _ = self.sets.push(count);
+        }
+    }
+
+    /// The place of the file of names that has the set at a place, and how many sets it has; none where that isn't known.
+    fn file_of_set(&self, place: usize) -> Option<(usize, usize)> {
+        let mut before = 0usize;
+        for (file, count) in self.sets.iter().enumerate() {
+            before = before.saturating_add(*count);
+            if place < before {
+                return Some((file, *count));
+            }
+        }
+        None
     }
 
     /// What the file at a place among all that were read seems to hold, counted from 0; `Empty` where that isn't known.
@@ -127,20 +170,29 @@ fn filter_path<'a>(found: &ArgMatches<'a>, place: usize) -> &'a str {
     ""
 }
 
-/// The path of the file at a place among all that are read, counted from 0. The policy file, or the files of names, are
-/// read before the filter files.
+/// How many files of names there are.
+fn count_names(found: &ArgMatches<'_>) -> usize {
+    found.get_strs("names").unwrap_or(&[]).len()
+}
+
+/// The path of the file at a place among all that are read, counted from 0. The files of names are read first, and a policy
+/// file before the filter files.
 fn path_at<'a>(found: &ArgMatches<'a>, place: usize) -> &'a str {
-    if let Some(policy) = found.get_str("policy") {
-        return match place.checked_sub(1) {
-            Some(place) => filter_path(found, place),
-            None => policy,
-        };
-    }
     let names = found.get_strs("names").unwrap_or(&[]);
-    match names.get(place) {
-        Some(path) => *path,
-        None => filter_path(found, place.saturating_sub(names.len())),
+    if let Some(path) = names.get(place) {
+        return *path;
     }
+    let place = place.saturating_sub(names.len());
+    match found.get_str("policy") {
+        Some(policy) if place == 0 => policy,
+        Some(_) => filter_path(found, place.saturating_sub(1)),
+        None => filter_path(found, place),
+    }
+}
+
+/// Whether the file that was read last is a policy file, if it is a policy file or a file of names.
+fn is_policy_last(found: &ArgMatches<'_>, notes: &Notes) -> bool {
+    found.get_str("policy").is_some() && count_names(found) < notes.files
 }
 
 /// Adds the line of the file of names that was read last, which is refused.
@@ -149,17 +201,17 @@ fn push_names(text: &mut String, found: &ArgMatches<'_>, notes: &Notes) -> Resul
     write!(text, "names {path:?}\n")
 }
 
-/// Adds what `push_policy` adds, or for a command line without a policy what `push_names` adds.
+/// Adds what `push_policy` adds, where a policy file was read last, and else what `push_names` adds.
 fn push_asked(
     alloc: Global,
     text: &mut String,
     found: &ArgMatches<'_>,
     notes: &Notes,
 ) -> Result<(), AllocError> {
-    match found.get_str("policy") {
-        Some(path) => push_policy(alloc, text, path, notes),
-        None => push_names(text, found, notes),
+    if is_policy_last(found, notes) {
+        return push_policy(alloc, text, text_of(found, "policy"), notes);
     }
+    push_names(text, found, notes)
 }
 
 /// Adds the line of a file that can't be read, with the reason where it is known.
@@ -182,6 +234,44 @@ fn push_input(text: &mut String, input: &str) -> Result<(), AllocError> {
             write!(text, "digits {digits}, where 128 are wanted\n")
         }
     }
+}
+
+/// Adds the line that says which number of a call is too wide.
+fn push_wide(text: &mut String, found: &ArgMatches<'_>) -> Result<(), AllocError> {
+    let (args, nr) = (text_of(found, "args"), text_of(found, "nr"));
+    if read_arguments(args).is_err() {
+        return write!(text, "args {args:?}: more than 64 bits\n");
+    }
+    if read_word(nr).is_err() {
+        return write!(text, "nr {nr:?}: more than 32 bits\n");
+    }
+    let arch = text_of(found, "arch");
+    write!(text, "arch {arch:?}: more than 32 bits\n")
+}
+
+/// Adds the line that says why the words spell no input.
+fn push_misspelled(text: &mut String, found: &ArgMatches<'_>) -> Result<(), AllocError> {
+    match found.get_str("input") {
+        Some(input) => push_input(text, input),
+        None => push_wide(text, found),
+    }
+}
+
+/// Adds the line of the name of a call that is asked for, or of a set, that no file of names has.
+fn push_unknown(
+    text: &mut String,
+    found: &ArgMatches<'_>,
+    notes: &Notes,
+) -> Result<(), AllocError> {
+    if let Some(calls) = found.get_str("calls") {
+        let call = calls.split(',').nth(notes.unknown_call).unwrap_or("");
+        return write!(text, "call {call:?}\n");
+    }
+    let (set, call) = (text_of(found, "arch"), text_of(found, "call"));
+    if notes.is_set_known {
+        return write!(text, "call {call:?} of the set {set:?}\n");
+    }
+    write!(text, "set {set:?}\n")
 }
 
 /// Adds the line of the policy file, and where the policy is refused, as far as that is known.
@@ -209,23 +299,49 @@ fn push_policy(
     }
 }
 
-/// Adds the line of the profile, and the key for which it is refused, where one is known; or the line of a file of names
-/// whose architecture has no set of calls.
-fn push_profile(
+/// Adds the line of the file of names that has a set that is none of the five, and that of the set, if the file has others.
+fn push_other_set(
     text: &mut String,
     found: &ArgMatches<'_>,
-    refusal: sf_profile::Fault,
+    notes: &Notes,
+    other: &OtherSet,
+) -> Result<(), AllocError> {
+    let Some((file, count)) = notes.file_of_set(other.place) else {
+        return Err(AllocError);
+    };
+    let path = path_at(found, file);
+    write!(text, "names {path:?}\n")?;
+    if count > 1 {
+        let set = &other.name;
+        write!(text, "set {set:?}\n")?;
+    }
+    Ok(())
+}
+
+/// Adds the line of the profile, and the key for which it is refused, where one is known.
+fn push_refused_profile(
+    text: &mut String,
+    found: &ArgMatches<'_>,
     notes: &Notes,
 ) -> Result<(), AllocError> {
-    let names = found.get_strs("names").unwrap_or(&[]);
-    if refusal == sf_profile::Fault::Set && notes.files <= names.len() {
-        return push_names(text, found, notes);
-    }
     let path = text_of(found, "profile");
     write!(text, "profile {path:?}\n")?;
     match &notes.key {
         Ok(Some(key)) => push_key(text, key),
         Ok(None) => Ok(()),
+        Err(_) => Err(AllocError),
+    }
+}
+
+/// Adds the lines of what is refused: a set of names, or the profile.
+fn push_profile(
+    text: &mut String,
+    found: &ArgMatches<'_>,
+    notes: &Notes,
+) -> Result<(), AllocError> {
+    match &notes.other {
+        Ok(Some(other)) => push_other_set(text, found, notes, other),
+        Ok(None) => push_refused_profile(text, found, notes),
         Err(_) => Err(AllocError),
     }
 }
@@ -283,8 +399,9 @@ fn push_place(
         return write!(text, "filter {filter} {path:?}\n");
     }
     match fault {
-        Fault::Profile(refusal) => push_profile(text, found, *refusal, notes),
-        Fault::Input => push_input(text, found.get_str("input").unwrap_or("")),
+        Fault::Profile(_) => push_profile(text, found, notes),
+        Fault::Input => push_misspelled(text, found),
+        Fault::UnknownName => push_unknown(text, found, notes),
         Fault::Read => push_unread(text, path_at(found, notes.files), reason),
         _ if is_of_text(fault) => push_asked(alloc, text, found, notes),
         _ => Ok(()),
@@ -293,10 +410,12 @@ fn push_place(
 
 /// How many files are read before the filter files.
 fn files_before_filters(found: &ArgMatches<'_>) -> usize {
-    match found.get_str("policy") {
-        Some(_) => 1,
-        None => found.get_strs("names").unwrap_or(&[]).len(),
-    }
+    let policies = if found.get_str("policy").is_some() {
+        1
+    } else {
+        0
+    };
+    count_names(found).saturating_add(policies)
 }
 
 /// The hint for a file that can't be read: none for a filter.
@@ -304,9 +423,10 @@ fn hint_of_read(found: &ArgMatches<'_>, place: usize, reason: &str) -> Option<Hi
     if files_before_filters(found) <= place {
         return None;
     }
-    let ready = match found.get_str("policy") {
-        Some(_) => "a policy file is wanted, as policies/x86_64.toml is one",
-        None => "a file of names is wanted, as policies/names/x86_64.toml is one",
+    let ready = if place < count_names(found) {
+        "a file of names is wanted, as policies/names/x86_64.toml is one"
+    } else {
+        "a policy file is wanted, as policies/x86_64.toml is one"
     };
     hint_of_unread(path_at(found, place), reason, ready)
 }
@@ -325,14 +445,15 @@ fn hint_of(
     }
     match fault {
         Fault::Profile(_) => Ok(hint_of_profile(notes.kind_at(notes.files.saturating_sub(1)))),
-        Fault::Input => Ok(Some(hint_of_input())),
+        Fault::Input if is_given(found, "input") => Ok(Some(hint_of_input())),
+        Fault::UnknownName if count_names(found) == 0 => Ok(Some(hint_of_unknown())),
         Fault::Read => Ok(hint_of_read(found, notes.files, reason)),
         _ if is_of_text(fault) => {
             let kind = notes.kind_at(notes.files.saturating_sub(1));
-            match found.get_str("policy") {
-                Some(_) => hint_of_policy(alloc, kind, &notes.refusal),
-                None => Ok(hint_of_names(kind)),
+            if is_policy_last(found, notes) {
+                return hint_of_policy(alloc, kind, &notes.refusal);
             }
+            Ok(hint_of_names(kind))
         }
         _ => Ok(None),
     }
@@ -348,8 +469,11 @@ fn fault_text(
 ) -> Result<String, AllocError> {
     let mut text = String::new(alloc);
     push_place(alloc, &mut text, found, fault, notes, reason)?;
-    let meaning = match (fault, found.get_str("policy")) {
-        (Fault::Syntax, None) => "the file of names is no UTF-8 or no TOML",
+    let meaning = match fault {
+        Fault::Syntax if !is_policy_last(found, notes) => {
+            "the file of names is no UTF-8 or no TOML"
+        }
+        Fault::Input if !is_given(found, "input") => "a number with too many bits for its place",
         _ => meaning_of(fault),
     };
     write!(text, "{meaning}\n")?;

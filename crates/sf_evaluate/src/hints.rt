@@ -53,6 +53,13 @@ pub(crate) fn hint_of_input() -> Hint {
     Hint::Sentence(INPUT)
 }
 
+/// The hint for a name of a set of calls where there is no file of names.
+pub(crate) fn hint_of_unknown() -> Hint {
+    Hint::Sentence(
+        "a file of names has the sets of calls: `--names policies/names/x86_64.toml` has x86_64",
+    )
+}
+
 /// Whether a filter is refused at its front, where a number of instructions would stand.
 fn is_at_front(fault: &Fault) -> bool {
     match fault {

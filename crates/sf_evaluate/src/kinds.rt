@@ -51,19 +51,29 @@ fn is_counted(bytes: &[u8]) -> bool {
     count != 0 && matches!(bytes.len().checked_sub(length), Some(2 | 4 | 8 | 16))
 }
 
-/// The first line that is neither empty nor a comment of TOML, without the blanks around it; empty where there is none.
-fn first_line(text: &str) -> &str {
+/// The line at a place, counted from 0, of those that are neither empty nor a comment of TOML, without the blanks around it;
+/// empty where there is none.
+fn line_at(text: &str, place: usize) -> &str {
+    let mut left = place;
     for line in text.lines() {
         let line = line.trim();
         if !line.is_empty() && !line.starts_with('#') {
-            return line;
+            if left == 0 {
+                return line;
+            }
+            left -= 1;
         }
     }
     ""
 }
 
-/// What a text seems to be that begins with this line.
-fn kind_of_line(line: &str) -> Kind {
+/// Whether a line begins with a key that a set of calls has.
+fn is_of_set(line: &str) -> bool {
+    line.starts_with("arch") || line.starts_with("calls")
+}
+
+/// What a text seems to be that begins with these two lines. A file of several sets of calls begins with the name of a set.
+fn kind_of_lines(line: &str, next: &str) -> Kind {
     if line.starts_with('{') || line.starts_with("[{") || line == "[" {
         return Kind::Json;
     }
@@ -73,7 +83,7 @@ fn kind_of_line(line: &str) -> Kind {
     let key = line.trim_start_matches('[').trim_start();
     if key.starts_with("version") || key.starts_with("question") {
         Kind::Policy
-    } else if key.starts_with("arch") || key.starts_with("calls") {
+    } else if is_of_set(key) || (line.starts_with('[') && is_of_set(next)) {
         Kind::Names
     } else {
         Kind::Text
@@ -87,7 +97,7 @@ pub(crate) fn kind_of(bytes: &[u8]) -> Kind {
     }
     if is_text(bytes) {
         let text = std::str::from_utf8(bytes_of_text(bytes)).unwrap_or("");
-        return kind_of_line(first_line(text));
+        return kind_of_lines(line_at(text, 0), line_at(text, 1));
     }
     match bytes {
         [0x7F, b'E', b'L', b'F', ..] => Kind::Elf,

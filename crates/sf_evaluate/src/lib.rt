@@ -2,6 +2,8 @@
 //! fault is told and explained.
 #![tactic(auto)]
 
+mod architectures;
+mod asking;
 mod calls;
 mod checking;
 mod explaining;
@@ -11,6 +13,7 @@ mod instructions;
 mod kinds;
 pub mod laws;
 mod meanings;
+mod misfits;
 mod naming;
 mod places;
 mod policies;
@@ -19,13 +22,19 @@ mod questions;
 mod telling;
 mod texts;
 mod tracing;
+mod wanted;
+mod why;
 mod words;
 
+pub use asking::{asked_input, eval_words_fit, spells_input};
 pub use checking::{check, evaluate, input_of, print};
 pub use explaining::Notes;
 pub use files::{Files, MOST_BYTES, read_all};
+pub use misfits::tell_wrong_words;
 pub use naming::read_all_names;
 pub use profiling::profile;
 pub use questions::questions_in;
 pub use telling::{tell, tell_fault, warn};
-pub use words::tell_wrong_word;
+pub use wanted::{calls_fit, known_calls, rows_fit};
+pub use why::why_text;
+pub use words::words_fit;

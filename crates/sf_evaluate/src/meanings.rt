@@ -31,9 +31,10 @@ pub(crate) fn meaning_of(fault: &Fault) -> &'static str {
         Fault::Mask { .. } => "a value with a bit outside its mask",
         Fault::Profile(refusal) => meaning_of_refusal(*refusal),
         Fault::NamesKey => {
-            "an unknown key, a missing one, a value of another kind, or a name with other signs than letters, digits and _"
+            "an unknown key, a missing one, a value of another kind, a name with other signs than letters, digits and _, or a set of calls that was there before"
         }
         Fault::NamesRange => "a number outside 0 to 4294967295",
+        Fault::UnknownName => "a name of a call or of a set of calls that no file of names has",
         Fault::Read => "a file can't be read, or has more than 1 MiB",
         Fault::Write => "standard output can't be written, or a signal interrupted that",
         Fault::Memory => "memory ran out",

@@ -1,23 +1,34 @@
-//! The names of calls, from the files that the command line names.
+//! The sets of calls of the files of names that the command line names.
 
-ghost use Rattle.std.specs.Prelude.{◌≡◌, ◌⊎◌, ℕ, List, None, IfOk, IfErr};
-ghost use Rattle.sf_policy.specs.declared.fault.Fault.TheVariants.{Memory as MemoryFault, Read as ReadFault};
-ghost use Rattle.sf_evaluate.specs.Names.{AreNamesRead, IsNamesFile, RefusesNamesFile, RefusesNaming};
+ghost use Rattle.std.specs.Prelude.{◌≡◌, ◌⊎◌, ◌++◌, ℕ, List, None, OnOk, IfOk, IfErr};
+ghost use Rattle.std.specs.List.{list_any};
+ghost use Rattle.sf_names.specs.Names.{has_set};
+ghost use Rattle.sf_policy.specs.declared.fault.Fault.TheVariants.{Memory as MemoryFault, NamesKey as KeyFault, Read as ReadFault};
+ghost use Rattle.sf_evaluate.specs.Names.{AreNames, AreNamesRead, AreOnce, HasTwice, IsNamesFile, RefusesNames, RefusesNamesFile, RefusesNaming};
 
 use crate::explaining::Notes;
 use crate::files::Files;
-use sf_policy::{Fault, Names, read_names};
+use sf_names::{Names, read_names};
+use sf_policy::Fault;
 use std::alloc::Global;
 
-/// The names of the file at a path. `Read` where the file can't be read, `Syntax` where it isn't UTF-8, then what
+/// The sets of a file of names with this text, as `read_names` of `sf_names` reads and refuses them.
+fn sets_of(alloc: Global, text: &str) -> Result<Vec<Names>, Fault>
+    ensures meant { IfOk result (λ v. AreNames text.now v.items) }
+    ensures refused { IfErr result (λ e. (e ≡ MemoryFault) ⊎ RefusesNames text.now e) }
+{
+    Ok(read_names(alloc, text)?)
+}
+
+/// The sets of the file at a path. `Read` where the file can't be read, `Syntax` where it isn't UTF-8, then what
 /// `read_names` refuses; `Memory` can come anywhere.
 fn names_in<F: Files>(
     alloc: Global,
     path: &str,
     files: &mut F,
     notes: &mut Notes,
-) -> Result<Names, Fault>
-    ensures meant { IfOk result (IsNamesFile (F.holds files.old path.now)) }
+) -> Result<Vec<Names>, Fault>
+    ensures meant { IfOk result (λ v. IsNamesFile (F.holds files.old path.now) v.items) }
     ensures refused { IfErr result (λ e. ((e ≡ ReadFault)
         × (F.holds files.old path.now ≡ None))
         ⊎ (e ≡ MemoryFault) ⊎ RefusesNamesFile (F.holds files.old path.now) e) }
@@ -26,13 +37,37 @@ fn names_in<F: Files>(
     let bytes = files.read(path)?;
     notes.count_file(bytes.as_slice());
     match std::str::from_utf8(&bytes) {
-        Ok(text) => read_names(alloc, text),
+        Ok(text) => sets_of(alloc, text),
         Err(_) => Err(Fault::Syntax),
     }
 }
 
-/// The names of the files at these paths, in order. The refusal is that of the first file that is refused, as `names_in`
-/// refuses it.
+/// Whether one of the sets has this name.
+fn has_set(sets: &[Names], set: &str) -> bool
+    ensures { result ≡ list_any (has_set set.now) sets.now }
+{
+    sets.iter().any(|names| names.set() == set)
+}
+
+/// Adds the sets of a file to those of the files before it, of which no two have one name. `NamesKey` where a set's name was
+/// there before; `Memory` where an allocation is refused. After an error some of them are added.
+fn add_sets(all: &mut Vec<Names>, sets: Vec<Names>) -> Result<(), Fault>
+    ensures added { OnOk result (all.new.items ≡ all.old.items ++ sets.items) }
+    ensures once { OnOk result (AreOnce all.old.items → AreOnce all.new.items) }
+    ensures twice { IfErr result (λ e. (e ≡ MemoryFault)
+        ⊎ ((e ≡ KeyFault) × HasTwice (all.old.items ++ sets.items))) }
+{
+    for names in sets {
+        if has_set(all.as_slice(), names.set()) {
+            return Err(Fault::NamesKey);
+        }
+        all.push(names)?;
+    }
+    Ok(())
+}
+
+/// The sets of the files of names at these paths, one file after the other. The refusal is that of the first file that is
+/// refused: as `names_in` refuses it, or by `NamesKey` where it has a set whose name was there before.
 pub fn read_all_names<F: Files>(
     alloc: Global,
     paths: &[&str],
@@ -45,8 +80,9 @@ pub fn read_all_names<F: Files>(
 {
     let mut all = Vec::new(alloc);
     for path in paths {
-        let names = names_in(alloc, path, files, notes)?;
-        all.push(names)?;
+        let sets = names_in(alloc, path, files, notes)?;
+        notes.count_sets(sets.len());
+        add_sets(&mut all, sets)?;
     }
     Ok(all)
 }

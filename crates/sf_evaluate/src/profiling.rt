@@ -5,15 +5,19 @@ ghost use Rattle.clap.specs.Words.{found_of, rows_of};
 ghost use Rattle.sf_policy.specs.declared.fault.Fault.TheVariants.{Write as WriteFault};
 ghost use Rattle.sf_evaluate.specs.Profiles.{IsReadFor, RefusesNamesOf, RefusesProfile, RefusesProfileOf, WritesOf, WritesProfile, words_fit};
 
-use crate::calls::read_all_calls;
+use crate::calls::calls_of;
 use crate::checking::print;
-use crate::explaining::Notes;
+use crate::explaining::{Notes, OtherSet};
 use crate::files::Files;
+use crate::naming::read_all_names;
 use crate::words::{settings_of, words_fit};
 use clap::ArgMatches;
 use sf_command_line::{text_of, wants_notes, wants_quiet};
+use sf_names::Names;
 use sf_policy::{Fault, write_bytes};
-use sf_profile::{Settings, notes as notes_of, profile as filter_of, unknown_names, wrong_key};
+use sf_profile::{
+    Settings, notes as notes_of, profile as filter_of, set_of_names, unknown_names, wrong_key,
+};
 use std::alloc::{AllocError, Global};
 use std::io::Write;
 
@@ -49,7 +53,19 @@ fn write_of<O: Write>(
     write_bytes(&filter, out)
 }
 
-/// What a profile is read for: what the words say, and the files of names. The refusals are those of `read_all_calls`.
+/// The first set that is none of the five sets of calls; none where each is one of them.
+fn other_set(alloc: Global, names: &[Names]) -> Result<Option<OtherSet>, AllocError> {
+    for (place, one) in names.iter().enumerate() {
+        if set_of_names(one).is_none() {
+            let name = String::from_str(alloc, one.set())?;
+            return Ok(Some(OtherSet { place, name }));
+        }
+    }
+    Ok(None)
+}
+
+/// What a profile is read for: what the words say, and the files of names. The refusals are those of `read_all_names`; then
+/// those of `calls_of`.
 fn read_settings<F: Files>(
     alloc: Global,
     found: &ArgMatches<'_>,
@@ -63,7 +79,9 @@ fn read_settings<F: Files>(
     ensures same { (p : List ℕ) → F.holds files.new p ≡ F.holds files.old p }
 {
     let paths = found.get_strs("names").unwrap_or(&[]);
-    let calls = read_all_calls(alloc, paths, files, notes)?;
+    let names = read_all_names(alloc, paths, files, notes)?;
+    notes.other = other_set(alloc, &names);
+    let calls = calls_of(alloc, names)?;
     settings_of(alloc, found, calls)
 }
 
@@ -92,10 +110,10 @@ fn keep_key(alloc: Global, settings: &Settings, bytes: &[u8], fault: &Fault, not
 /// profile is written, and no filter. The status is 0; or 4 where a word isn't one that its option takes, before any file
 /// is read.
 ///
-/// Refusals, tried in this order: of each file of names `Read`, `Syntax` where it isn't UTF-8, what `read_names` refuses, and
-/// `Set` where its architecture has none of the five sets of calls; of the profile `Read`, and what `profile` of
-/// `sf_profile` refuses; `Write` where standard output can't be written, after a beginning of what is written. `Memory` can
-/// come anywhere. After any error but `Write` nothing is written.
+/// Refusals, tried in this order: what `read_all_names` refuses; `Set` where one of the sets of names is none of the five
+/// sets of calls; of the profile `Read`, and what `profile` of `sf_profile` refuses; `Write` where standard output can't be
+/// written, after a beginning of what is written. `Memory` can come anywhere. After any error but `Write` nothing is
+/// written.
 pub fn profile<F: Files, O: Write>(
     alloc: Global,
     found: &ArgMatches<'_>,

@@ -2,11 +2,13 @@
 ghost use Rattle.std.specs.Prelude.{◌≡◌, ◌<◌, ◌++◌, ◌==◌, ◌&&◌, ◌||◌, not, false, OnOk, IfOk, Some, length, string_bytes};
 ghost use Rattle.sf_run.specs.Answers.{action_bits, action_number};
 ghost use Rattle.sf_run.specs.Walks.{CourseData, walk_of};
-ghost use Rattle.sf_evaluate.specs.Traces.{call_text, compared_text, field_line, filters_text, first_arguments, input_text, is_false, last_arguments, stands_text, meeting_line, meeting_lines, named_text, nr_line, returned_line, shown_line, sign_text, test_line, trace_text, truth_text, walk_text, word_text};
+ghost use Rattle.sf_evaluate.specs.Traces.{call_line, call_text, compared_text, field_line, fields_text, filters_text, first_arguments, input_text, is_false, last_arguments, stands_text, meeting_line, meeting_lines, named_line, named_text, nr_line, returned_line, shown_line, sign_text, test_line, trace_text, truth_text, walk_text, word_text};
 
+use sf_calls::{is_named, push_call_words};
 use sf_check::{Program, Stack};
 use sf_insn::{Input, Test};
-use sf_policy::{Names, WORD_KEYS, push_action, push_names_between};
+use sf_names::{Names, push_names_between};
+use sf_policy::{WORD_KEYS, push_action};
 use sf_run::{Action, Answer, Course, Fault, Meeting, Met, walk};
 use std::alloc::{AllocError, Global};
 
@@ -70,13 +72,48 @@ fn push_last_arguments(text: &mut String, input: &Input) -> Result<(), AllocErro
 }
 
 /// Adds the lines of all fields of an input.
-fn push_input(text: &mut String, names: &[Names], input: &Input) -> Result<(), AllocError>
+fn push_fields(text: &mut String, names: &[Names], input: &Input) -> Result<(), AllocError>
     ensures { OnOk result (string_bytes text.new ≡ string_bytes text.old
-        ++ input_text names.now input.now) }
+        ++ fields_text names.now input.now) }
 {
     push_call(text, names, input)?;
     push_first_arguments(text, input)?;
     push_last_arguments(text, input)
+}
+
+/// Adds the line of an input as a call.
+pub(crate) fn push_call_line(
+    text: &mut String,
+    names: &[Names],
+    input: &Input,
+) -> Result<(), AllocError>
+    ensures { OnOk result (string_bytes text.new ≡ string_bytes text.old
+        ++ call_line names.now input.now) }
+{
+    text.push_str("call ")?;
+    push_call_words(text, names, input)?;
+    text.push_str("\n")?;
+    Ok(())
+}
+
+/// Adds the line of an input as a call, if a set has the call.
+fn push_named(text: &mut String, names: &[Names], input: &Input) -> Result<(), AllocError>
+    ensures { OnOk result (string_bytes text.new ≡ string_bytes text.old
+        ++ named_line names.now input.now) }
+{
+    if is_named(names, input) {
+        push_call_line(text, names, input)?;
+    }
+    Ok(())
+}
+
+/// Adds the line of an input as a call, if a set has the call, and the lines of all its fields.
+fn push_input(text: &mut String, names: &[Names], input: &Input) -> Result<(), AllocError>
+    ensures { OnOk result (string_bytes text.new ≡ string_bytes text.old
+        ++ input_text names.now input.now) }
+{
+    push_named(text, names, input)?;
+    push_fields(text, names, input)
 }
 
 /// The sign of a test: how it compares two words.
@@ -140,7 +177,11 @@ fn push_test(
 }
 
 /// Adds the line of what a filter met.
-fn push_meeting(text: &mut String, number: usize, meeting: Meeting) -> Result<(), AllocError>
+pub(crate) fn push_meeting(
+    text: &mut String,
+    number: usize,
+    meeting: Meeting,
+) -> Result<(), AllocError>
     ensures { OnOk result (string_bytes text.new ≡ string_bytes text.old
         ++ meeting_line number meeting) }
 {
@@ -209,7 +250,7 @@ fn mark_of(stands: bool) -> &'static str
 }
 
 /// Adds the line of what a filter returns, and where. Its answer stands where it is the answer of the stack.
-fn push_return(
+pub(crate) fn push_return(
     text: &mut String,
     number: usize,
     place: usize,
@@ -289,7 +330,7 @@ fn push_filters(alloc: Global, text: &mut String, trace: &Trace<'_>) -> Result<(
     Ok(())
 }
 
-/// Adds the lines of `eval --trace`. First come the fields of the input, with the names of calls. Then comes each
+/// Adds the lines of `eval --trace`. First comes the input as a call, if a set has the call, and then its fields. Then comes each
 /// filter, newest first: what it returns and at which instruction, whether its answer is the stack's, and under it all
 /// that it met, in order; in brief without what is false. `Memory` where an allocation is refused.
 pub fn push_trace(alloc: Global, text: &mut String, trace: &Trace<'_>) -> Result<(), Fault>

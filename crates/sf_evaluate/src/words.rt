@@ -129,7 +129,7 @@ fn is_kernel(text: &str) -> bool
 }
 
 /// Whether the words behind the options of `profile` are among those that these take.
-pub(crate) fn words_fit(found: &ArgMatches<'_>) -> bool
+pub fn words_fit(found: &ArgMatches<'_>) -> bool
     ensures { result ≡ words_fit (rows_of (found_of found.now)) }
 {
     machine_named(text_of(found, "machine")).is_some()
@@ -215,7 +215,7 @@ fn wrong_word_text(alloc: Global, found: &ArgMatches<'_>) -> Result<String, Allo
 
 /// Writes to standard error which word of the command line isn't one that its option takes, if a run ended for that
 /// reason, with status 4, and there is memory to say so.
-pub fn tell_wrong_word<E: Write>(
+pub(crate) fn tell_wrong_word<E: Write>(
     alloc: Global,
     matches: &ArgMatches<'_>,
     ran: &Result<u8, Fault>,

@@ -1,4 +1,4 @@
-use Rattle.std.proofs.Common.{map, rules}
+use Rattle.std.proofs.Common.{map, rules, string_bytes}
 use Rattle.sf_command.proofs.KeptLemmas.{kept_audit_refusal, second_weaker}
 use Rattle.sf_evaluate.specs.KeptLaws.{kept_stack}
 use Rattle.sf_evaluate.specs.FilesLaws.{kept_same, handed_on}
@@ -14,7 +14,9 @@ returns-clause-written g c = record {
       (rw c.deref.ensures.value at c.in_ok-outcome.ensures.found.stack);
   found = c.in_ok-outcome.outcome;
   audit = rw c.deref.ensures.value at c.in_ok-outcome.ensures.found;
-  written = c.in_ok-write_report.ensures.written;
+  remarks = map string_bytes c.in_ok-remarks.remarks.items;
+  remarked = c.in_ok-remarks.ensures.told;
+  written = rw c.deref-3.ensures.value at c.in_ok-write_report.ensures.written;
   told = search rules;
 }
 

@@ -1,7 +1,8 @@
-use Rattle.std.proofs.Common.{inl, inr}
+use Rattle.std.proofs.Common.{inl, inr, refl}
 use Rattle.std.proofs.lemmas.Result.{IfErr-weaker, IfOk-weaker}
+use Rattle.clap.specs.Words.{found_of, rows_of}
 use Rattle.sf_command_line.specs.CommandLineLaws.{joined}
-use Rattle.sf_command.proofs.CommandLineLemmas.{profile_ran}
+use Rattle.sf_command.proofs.CommandLineLemmas.{profile_ran, profile_words}
 use Rattle.sf_command.proofs.dispatch.run.Goals as goal
 
 pub returns-in-eval-clause-done : goal.returns-in-eval-clause-done
@@ -61,7 +62,12 @@ returns-in-profile-clause-done g c = IfOk-weaker c.profile.result _ _
 pub returns-in-profile-clause-usage : goal.returns-in-profile-clause-usage
 returns-in-profile-clause-usage g c = IfOk-weaker c.profile.result _ _
     (λ s usage four. (
-      inr ((_, _), joined _ _ _ _ _ c.in-Some.ensures.name c.in-Some.ensures.rows, c.in-profile.is, (usage four).0),
+      inr (
+        (_, _),
+        joined _ _ _ _ _ c.in-Some.ensures.name c.in-Some.ensures.rows,
+        profile_words _
+            (rows_of (found_of c.in-Some.found.now)) c.in-profile.is (usage four).0,
+      ),
       (usage four).1,
       (usage four).2,
     )) c.profile.ensures.usage
@@ -74,3 +80,38 @@ returns-in-profile-clause-refused g c = IfErr-weaker c.profile.result _ _
       inr (inr (inr (inr (inr (c.in-profile.is, why))))),
     ))
     c.profile.ensures.refused
+
+pub returns-then-not-words_fit_for-clause-usage : goal.returns-then-not-words_fit_for-clause-usage
+returns-then-not-words_fit_for-clause-usage g c = λ four. (
+  inr (
+    (_, _),
+    joined _ _ _ _ _ c.in-Some.ensures.name c.in-Some.ensures.rows,
+    rw c.words_fit_for.ensures at c.if-not-words_fit_for.true,
+  ),
+  refl,
+  refl,
+)
+
+pub returns-in-audit-clause-done : goal.returns-in-audit-clause-done
+returns-in-audit-clause-done g c = IfOk-weaker c.run_audit.result _ _
+    (λ s done small. (
+      (_, _),
+      joined _ _ _ _ _ c.in-Some.ensures.name c.in-Some.ensures.rows,
+      inl (c.in-audit.is, done),
+    )) c.run_audit.ensures.done
+
+pub returns-in-check-clause-done : goal.returns-in-check-clause-done
+returns-in-check-clause-done g c = IfOk-weaker c.run_check.result _ _
+    (λ s done small. (
+      (_, _),
+      joined _ _ _ _ _ c.in-Some.ensures.name c.in-Some.ensures.rows,
+      inr (inl (c.in-check.is, done)),
+    )) c.run_check.ensures.done
+
+pub returns-in-compare-clause-done : goal.returns-in-compare-clause-done
+returns-in-compare-clause-done g c = IfOk-weaker c.run_compare.result _ _
+    (λ s done small. (
+      (_, _),
+      joined _ _ _ _ _ c.in-Some.ensures.name c.in-Some.ensures.rows,
+      inr (inr (inr (inl (c.in-compare.is, done)))),
+    )) c.run_compare.ensures.done

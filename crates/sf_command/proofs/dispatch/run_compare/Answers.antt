@@ -2,7 +2,8 @@ use Rattle.std.proofs.Common.{codes, refl, inr}
 use Rattle.std.proofs.lemmas.Result.{IfErr-weaker, IfOk-weaker}
 use Rattle.clap.specs.Words.{found_of}
 use Rattle.sf_command_line.specs.OptionsLaws.{paths_found}
-use Rattle.sf_command.proofs.NamingLemmas.{compared_same, uncompared_same}
+use Rattle.sf_command.proofs.NamingLemmas.{calls_refused, compared_same, uncompared_same}
+use Rattle.sf_evaluate.specs.FilesLaws.{handed_on}
 use Rattle.sf_command.proofs.dispatch.run_compare.Goals as goal
 
 pub returns-clause-done : goal.returns-clause-done
@@ -21,11 +22,13 @@ returns-clause-done g c = IfOk-weaker c.compare.result _ _ (λ s written. record
   listed = c.wants_rows.ensures;
   names = c.in_ok-names.names.items;
   called = c.in_ok-names.ensures.called;
-  compared = compared_same _ _ c.names_of.ensures.same _ _ _ _ _ _ _ _ _ (rw c.deref.ensures.value at written);
+  known = rw c.deref.ensures.value at c.in_ok-known_calls.ensures.known;
+  compared = compared_same _ _ c.names_of.ensures.same _ _ _ _ _ _ _ _ _ _
+      (rw c.deref-2.ensures.value at (rw (c.relation_asked.ensures, c.in_ok-known_calls.ensures.asked) at written));
 }) c.compare.ensures.written
 
 pub returns-clause-refused : goal.returns-clause-refused
-returns-clause-refused g c = IfErr-weaker c.compare.result _ _ (λ e why. inr (
+returns-clause-refused g c = IfErr-weaker c.compare.result _ _ (λ e why. inr (inr (
   c.unwrap_or-old.result.now,
   rw c.unwrap_or-old.ensures (paths_found (found_of c.args.found.now) (codes "old") c.get_strs.result _
       c.get_strs.ensures refl),
@@ -35,4 +38,4 @@ returns-clause-refused g c = IfErr-weaker c.compare.result _ _ (λ e why. inr (
         c.get_strs-2.ensures refl),
     uncompared_same _ _ c.names_of.ensures.same _ _ _ why,
   ),
-)) c.compare.ensures.refused
+))) c.compare.ensures.refused

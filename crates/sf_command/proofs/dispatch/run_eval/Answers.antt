@@ -1,10 +1,8 @@
-use Rattle.std.proofs.Common.{ap, codes, refl, inl, inr}
-use Rattle.std.specs.Prelude.{is_ok}
-use Rattle.clap.specs.Words.{found_of, rows_of}
-use Rattle.sf_command_line.specs.Options.{text_of}
+use Rattle.std.proofs.Common.{codes, refl, inl, inr}
+use Rattle.clap.specs.Words.{found_of}
 use Rattle.sf_command_line.specs.OptionsLaws.{paths_found}
 use Rattle.sf_command.proofs.CommandLineLemmas.{without_third}
-use Rattle.sf_command.proofs.NamingLemmas.{evaluated_same, unevaluated_same}
+use Rattle.sf_command.proofs.NamingLemmas.{asked_why, evaluated_same, unchecked_same}
 use Rattle.sf_evaluate.specs.FilesLaws.{handed_on}
 use Rattle.sf_command.proofs.dispatch.run_eval.Goals as goal
 
@@ -19,34 +17,34 @@ returns-clause-done g c = record {
   in_brief = c.wants_brief-brief.ensures;
   names = c.in_ok-names.names.items;
   called = c.in_ok-names.ensures.called;
-  evaluated = evaluated_same _ _ c.names_of.ensures.same (text_of (codes "input") (rows_of (found_of c.args.found.now)))
-      _ _ _ _ _ _ (
-        c.in_ok-input.input,
-        rw c.text_of-digits.ensures at c.in_ok-input.ensures.spelled,
-        rw c.deref.ensures.value at c.in_ok-evaluate.ensures.written,
-      );
+  input = c.in_ok-input.input;
+  asked = rw c.deref.ensures.value at c.in_ok-input.ensures.asked;
+  evaluated = evaluated_same _ _ c.names_of.ensures.same _ _ _ _ _ _ _
+      (rw c.deref-2.ensures.value at c.in_ok-evaluate.ensures.written);
   told = refl;
 }
 
 pub returns-in_err-input-clause-refused : goal.returns-in_err-input-clause-refused
 returns-in_err-input-clause-refused g c =
-    handed_on _ c.from_residual.result c.in_err-input.field-0.0 c.from_residual.ensures.1 (inr (
-      c.unwrap_or-paths.result.now,
-      rw c.unwrap_or-paths.ensures (paths_found (found_of c.args.found.now) (codes "filters") c.get_strs.result _
-          c.get_strs.ensures refl),
-      inl (rw c.text_of-digits.ensures at c.in_err-input.ensures.refused),
-    ))
+    handed_on _ c.from_residual-in_err-input.result c.in_err-input.field-0.0 c.from_residual-in_err-input.ensures.1
+    (inr (asked_why _ _ _ _ c.in_ok-names.ensures.called
+    (rw c.spells_input.ensures at c.if-not-spells_input.false)
+    (rw c.deref.ensures.value at c.in_err-input.ensures.refused)))
 
 pub returns-in_err-evaluate-clause-refused : goal.returns-in_err-evaluate-clause-refused
 returns-in_err-evaluate-clause-refused g c =
     handed_on _ c.from_residual-in_err-evaluate.result c.in_err-evaluate.field-0.0
-    c.from_residual-in_err-evaluate.ensures.1 (inr (
-      c.unwrap_or-paths.result.now,
-      rw c.unwrap_or-paths.ensures (paths_found (found_of c.args.found.now) (codes "filters") c.get_strs.result _
-          c.get_strs.ensures refl),
-      unevaluated_same _ _ c.names_of.ensures.same
-          (text_of (codes "input") (rows_of (found_of c.args.found.now))) _ _ (inr (
-            ap (λ r. is_ok r) (rw c.text_of-digits.ensures at c.in_ok-input.ensures.spelled),
-            without_third c.in_err-evaluate.ensures.refused,
-          )),
-    ))
+    c.from_residual-in_err-evaluate.ensures.1 (inr (inr (inr (
+      (
+        c.in_ok-names.names.items,
+        c.in_ok-input.input,
+        c.in_ok-names.ensures.called,
+        rw c.deref.ensures.value at c.in_ok-input.ensures.asked,
+      ),
+      (
+        c.unwrap_or-paths.result.now,
+        rw c.unwrap_or-paths.ensures (paths_found (found_of c.args.found.now) (codes "filters") c.get_strs.result _
+            c.get_strs.ensures refl),
+        unchecked_same _ _ c.names_of.ensures.same _ _ (without_third c.in_err-evaluate.ensures.refused),
+      ),
+    ))))

@@ -2,7 +2,8 @@ use Rattle.std.proofs.Common.{codes, refl, inr}
 use Rattle.std.proofs.lemmas.Result.{IfErr-weaker, IfOk-weaker}
 use Rattle.clap.specs.Words.{found_of}
 use Rattle.sf_command_line.specs.OptionsLaws.{paths_found}
-use Rattle.sf_command.proofs.NamingLemmas.{listed_same, unlisted_same}
+use Rattle.sf_command.proofs.NamingLemmas.{calls_refused, listed_same, unlisted_same}
+use Rattle.sf_evaluate.specs.FilesLaws.{handed_on}
 use Rattle.sf_command.proofs.dispatch.run_list.Goals as goal
 
 pub returns-clause-done : goal.returns-clause-done
@@ -14,13 +15,20 @@ returns-clause-done g c = IfOk-weaker c.list.result _ _ (λ s written. record {
   counted = c.budget_of.ensures;
   names = c.in_ok-names.names.items;
   called = c.in_ok-names.ensures.called;
-  listed = listed_same _ _ c.names_of.ensures.same _ _ _ _ _ _ (rw c.deref.ensures.value at written);
+  known = rw c.deref.ensures.value at c.in_ok-calls.ensures.known;
+  listed = listed_same _ _ c.names_of.ensures.same _ _ _ _ _ _ _
+      (rw c.deref-2.ensures.value at (rw c.in_ok-calls.ensures.asked at written));
 }) c.list.ensures.written
 
+pub returns-in_err-calls-clause-refused : goal.returns-in_err-calls-clause-refused
+returns-in_err-calls-clause-refused g c =
+    handed_on _ c.from_residual-in_err-calls.result c.in_err-calls.field-0.0 c.from_residual-in_err-calls.ensures.1
+    (calls_refused _ _ _ _ _ c.in_ok-names.ensures.called (rw c.deref.ensures.value at c.in_err-calls.ensures.refused))
+
 pub returns-clause-refused : goal.returns-clause-refused
-returns-clause-refused g c = IfErr-weaker c.list.result _ _ (λ e why. inr (
+returns-clause-refused g c = IfErr-weaker c.list.result _ _ (λ e why. inr (inr (
   c.unwrap_or-paths.result.now,
   rw c.unwrap_or-paths.ensures (paths_found (found_of c.args.found.now) (codes "filters") c.get_strs.result _
       c.get_strs.ensures refl),
   unlisted_same _ _ c.names_of.ensures.same _ _ why,
-)) c.list.ensures.refused
+))) c.list.ensures.refused

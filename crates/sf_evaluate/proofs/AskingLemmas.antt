@@ -1,0 +1,31 @@
+-- What is given of the options of `eval`, and why an input isn't asked for.
+use Rattle.std.proofs.lemmas.Bool.{and_left, and_right}
+use Rattle.std.proofs.lemmas.List.{length-map}
+use Rattle.std.proofs.Common.{arith, ◌≡◌, ◌⊎◌, false, not, List, Option, Some, None, Bor, ap, inl, inr, length, map}
+use Rattle.std.specs.Prelude.{is_ok, is_some, nat_lt, option_map, ◌==◌, codes}
+use Rattle.clap.specs.Words.{Row, Text}
+use Rattle.sf_command_line.specs.Options.{text_of}
+use Rattle.sf_names.specs.Names.{NamesData}
+use Rattle.sf_calls.specs.Numbers.{read_arguments}
+use Rattle.sf_policy.specs.declared.fault.Fault.{Fault}
+use Rattle.sf_policy.specs.declared.fault.Fault.TheVariants.{Input, UnknownName}
+use Rattle.sf_evaluate.specs.Asking.{LacksName, is_given, is_nr_narrow, spells_input}
+
+-- a reading is there just where what is read is
+pub read_some : (r : Option (Bor Text)) (t : Option Text) → option_map (λ s. s.now) r ≡ t → is_some r ≡ is_some t
+read_some None t is = ap is_some is
+read_some (Some x) t is = ap is_some is
+
+-- a list has elements where the list that is read of it has some
+pub some_read : (xs : List (Bor Text)) (texts : List Text) → map (λ x. x.now) xs ≡ texts
+    → not (length xs == 0) ≡ nat_lt 0 (length texts)
+some_read xs texts are = grind (arith, length-map)
+
+-- where the arguments aren't read, or a number is too wide, no input is spelled
+pub misspelled : (rows : List Row) (names : List NamesData) (e : Fault) → is_given (codes "input") rows ≡ false
+    → ((e ≡ Input) × ((is_ok (read_arguments (text_of (codes "args") rows)) ≡ false) ⊎ (is_nr_narrow rows ≡ false)))
+    ⊎ ((e ≡ UnknownName) × LacksName rows names)
+    → ((e ≡ Input) × (spells_input rows ≡ false)) ⊎ ((e ≡ UnknownName) × LacksName rows names)
+misspelled rows names e absent (inl (input, inl args)) = inl (input, rw absent (and_left _ _ args))
+misspelled rows names e absent (inl (input, inr wide)) = inl (input, rw absent (and_right _ _ wide))
+misspelled rows names e absent (inr unknown) = inr unknown

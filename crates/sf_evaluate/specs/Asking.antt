@@ -1,0 +1,119 @@
+-- The input that `eval` is asked for, by the words of the command line.
+use Rattle.std.specs.Prelude.{◌≡◌, ◌⊎◌, ℕ, Bool, true, false, not, ◌&&◌, ◌||◌, nat_lt, if◌then◌else◌, List, Option, Some, None, Ok, codes, find, is_ok, is_some, length, option_and_then, option_map}
+use Rattle.std.specs.Result.{result_ok}
+use Rattle.hex.specs.Hex.{decode_sized}
+use Rattle.clap.specs.Words.{Row, Text, first_of}
+use Rattle.sf_insn.specs.declared.input.Input.{Input}
+use Rattle.sf_insn.specs.Inputs.{input_bytes}
+use Rattle.sf_names.specs.Names.{NamesData, has_set, is_call_name, number_of_call}
+use Rattle.sf_calls.specs.Calls.{call_input}
+use Rattle.sf_calls.specs.Numbers.{are_arguments, is_number, read_arguments, read_number}
+use Rattle.sf_command_line.specs.Options.{paths_of, text_of}
+
+-- ---- the words fit together
+
+-- an option is given
+abbrev pub is_given : Text → List Row → Bool
+is_given name rows = is_some (first_of name rows)
+
+-- nothing of a call is given beside the input
+abbrev pub is_input_alone : List Row → Bool
+is_input_alone rows =
+    not (is_given (codes "call") rows || is_given (codes "nr") rows)
+    && not (is_given (codes "arch") rows || is_given (codes "args") rows)
+
+-- the architecture of a call is given, and its arguments
+abbrev pub has_arguments : List Row → Bool
+has_arguments rows =
+    is_given (codes "arch") rows && (is_given (codes "args") rows && are_arguments (text_of (codes "args") rows))
+
+-- there is a file of names
+abbrev pub has_names : List Row → Bool
+has_names rows = nat_lt 0 (length (paths_of (codes "names") rows))
+
+-- a call is asked for by its name, in a set with a name, and there is a file of names
+abbrev pub call_fits : List Row → Bool
+call_fits rows =
+    (not (is_given (codes "nr") rows) && has_names rows)
+    && (is_call_name (text_of (codes "call") rows) && is_call_name (text_of (codes "arch") rows))
+
+-- the number of an architecture, or the name of a set
+abbrev pub is_arch : Text → Bool
+is_arch text = is_number text || is_call_name text
+
+-- a call is asked for by its number, on an architecture
+abbrev pub nr_fits : List Row → Bool
+nr_fits rows =
+    is_given (codes "nr") rows && (is_number (text_of (codes "nr") rows) && is_arch (text_of (codes "arch") rows))
+
+-- The words ask for one input: by its bytes, or by a call's name or number, with its architecture and its arguments.
+abbrev pub eval_words_fit : List Row → Bool
+eval_words_fit rows =
+    if is_given (codes "input") rows then is_input_alone rows
+    else has_arguments rows && (if is_given (codes "call") rows then call_fits rows else nr_fits rows)
+
+-- ---- the numbers are narrow enough
+
+-- where a text is a number, it has 32 bits at most
+abbrev pub is_narrow : Text → Bool
+is_narrow text = if is_number text then is_ok (read_number 32 text) else true
+
+-- where a call is asked for by its number, this has 32 bits at most, and that of the architecture
+abbrev pub is_nr_narrow : List Row → Bool
+is_nr_narrow rows =
+    if is_given (codes "nr") rows
+    then is_ok (read_number 32 (text_of (codes "nr") rows)) && is_narrow (text_of (codes "arch") rows)
+    else true
+
+-- the bytes of an input are spelled, or each number of a call has no more bits than its place
+abbrev pub spells_input : List Row → Bool
+spells_input rows =
+    if is_given (codes "input") rows then is_ok (decode_sized (text_of (codes "input") rows) 64)
+    else is_ok (read_arguments (text_of (codes "args") rows)) && is_nr_narrow rows
+
+-- ---- the input
+
+-- the number of the call with this name in the set with this name; none where there is no such set or call
+abbrev pub nr_named : List NamesData → Text → Text → Option ℕ
+nr_named names set call = option_and_then (λ n. number_of_call n call) (find (has_set set) names)
+
+-- the number of the architecture of the set with this name; none where there is no such set
+abbrev pub arch_named : List NamesData → Text → Option ℕ
+arch_named names set = option_map (λ (n : NamesData). n.arch) (find (has_set set) names)
+
+-- the number of the call: the one that is given, or that of the call that is named, in the set that is named
+abbrev pub asked_nr : List Row → List NamesData → Option ℕ
+asked_nr rows names =
+    if is_given (codes "nr") rows then result_ok (read_number 32 (text_of (codes "nr") rows))
+    else nr_named names (text_of (codes "arch") rows) (text_of (codes "call") rows)
+
+-- the architecture is given by its number, which goes only with the number of a call
+abbrev pub is_arch_number : List Row → Bool
+is_arch_number rows = is_given (codes "nr") rows && is_number (text_of (codes "arch") rows)
+
+-- the number of the architecture: the one that is given, or that of the set that is named
+abbrev pub asked_arch : List Row → List NamesData → Option ℕ
+asked_arch rows names =
+    if is_arch_number rows then result_ok (read_number 32 (text_of (codes "arch") rows))
+    else arch_named names (text_of (codes "arch") rows)
+
+-- the input is that of the call that is asked for
+pub record IsCallInput (rows : List Row) (names : List NamesData) (input : Input) : Type 0 where
+  pub nr : ℕ
+  pub number : asked_nr rows names ≡ Some nr
+  pub arch : ℕ
+  pub architecture : asked_arch rows names ≡ Some arch
+  pub arguments : List ℕ
+  pub read : read_arguments (text_of (codes "args") rows) ≡ Ok arguments
+  pub words : input ≡ call_input nr arch arguments
+
+-- the input is the one that is asked for, with these sets of calls
+abbrev pub AsksInput : List Row → List NamesData → Input → Type 0
+AsksInput rows names input =
+    ((is_given (codes "input") rows ≡ true)
+    × (decode_sized (text_of (codes "input") rows) 64 ≡ Ok (input_bytes input)))
+    ⊎ ((is_given (codes "input") rows ≡ false) × IsCallInput rows names input)
+
+-- a name that is given is none of these sets and their calls
+abbrev pub LacksName : List Row → List NamesData → Type 0
+LacksName rows names = (asked_nr rows names ≡ None) ⊎ (asked_arch rows names ≡ None)

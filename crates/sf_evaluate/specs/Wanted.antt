@@ -1,0 +1,54 @@
+-- The calls that `list` and `compare` are asked to tell one by one, and which rows of a comparison.
+use Rattle.std.specs.Prelude.{Bool, true, false, ◌&&◌, ◌||◌, ◌==◌, not, List, [], codes, count_by, is_some, Option, Some, None, option_map}
+use Rattle.std.specs.List.{list_all, list_any}
+use Rattle.std.specs.Option.{option_map_or}
+use Rattle.std.specs.Str.{bytes_eq}
+use Rattle.clap.specs.Words.{Row, Text, first_of}
+use Rattle.sf_calls.specs.Numbers.{parts_of}
+use Rattle.sf_command_line.specs.Options.{text_of}
+use Rattle.sf_evaluate.specs.Asking.{has_names, is_given}
+use Rattle.sf_names.specs.Names.{NamesData, is_call_name, number_of_call}
+
+-- the names in a text, with commas between them; none where it is empty
+abbrev pub names_in_text : Text → List Text
+names_in_text [] = []
+names_in_text text = parts_of text
+
+-- The calls that are asked for by their names, if calls are to be told one by one at all. Where no name is given, these
+-- are all calls.
+abbrev pub calls_asked : List Row → Option (List Text)
+calls_asked rows = option_map names_in_text (first_of (codes "calls") rows)
+
+-- a name can be that of a call, and stands once among these
+abbrev pub is_name_once : List Text → Text → Bool
+is_name_once names name = is_call_name name && (count_by (bytes_eq name) names == 1)
+
+-- Calls are told by files of names only; each name can be that of a call, and stands once.
+abbrev pub calls_fit : List Row → Bool
+calls_fit rows =
+    option_map_or (λ names. has_names rows && list_all (is_name_once names) names) (calls_asked rows) true
+
+-- a relation of answers, by its word
+abbrev pub is_relation : Text → Bool
+is_relation text = bytes_eq text (codes "looser") ||
+    (bytes_eq text (codes "tighter") || bytes_eq text (codes "different"))
+
+-- the rows of a comparison are asked for
+abbrev pub has_rows : List Row → Bool
+has_rows rows = bytes_eq (text_of (codes "rows") rows) (codes "true")
+
+-- what is said of the rows of a comparison needs rows
+abbrev pub has_rows_for_all : List Row → Bool
+has_rows_for_all rows = has_rows rows || not (is_given (codes "calls") rows || is_given (codes "only") rows)
+
+-- what is said of the rows of a comparison needs rows, and names a relation
+abbrev pub rows_fit : List Row → Bool
+rows_fit rows = has_rows_for_all rows && option_map_or is_relation (first_of (codes "only") rows) true
+
+-- some set has a call with this name
+abbrev pub is_known_call : List NamesData → Text → Bool
+is_known_call sets name = list_any (λ (n : NamesData). is_some (number_of_call n name)) sets
+
+-- each call that is asked for by its name is one of some set
+abbrev pub are_known : List NamesData → Option (List Text) → Bool
+are_known sets calls = option_map_or (list_all (is_known_call sets)) calls true
