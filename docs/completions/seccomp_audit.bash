@@ -3,16 +3,16 @@
 _seccomp_audit() {
     local word=${COMP_WORDS[COMP_CWORD]} before=${COMP_WORDS[COMP_CWORD - 1]} options="--help --version"
     case ${COMP_WORDS[1]} in
-        audit) options="--policy --budget --workers --regions --quiet --explain-errors --help" ;;
+        audit) options="--policy --budget --workers --regions --why --names --quiet --explain-errors --help" ;;
         check) options="--instructions --quiet --explain-errors --help" ;;
-        eval) options="--input --trace --trace-true --names --explain-errors --help" ;;
-        compare) options="--old --new --budget --workers --same --rows --leaves --names --quiet --explain-errors --help" ;;
-        list) options="--budget --workers --leaves --names --quiet --explain-errors --help" ;;
+        eval) options="--input --call --nr --arch --args --trace --trace-true --names --explain-errors --help" ;;
+        compare) options="--old --new --budget --workers --same --rows --only --calls --leaves --names --quiet --explain-errors --help" ;;
+        list) options="--budget --workers --leaves --names --calls --quiet --explain-errors --help" ;;
         profile) options="--machine --names --cap --kernel --conflicts --newer --notes --quiet --explain-errors --help" ;;
     esac
     COMPREPLY=()
     case $before in
-        --budget|--cap|--conflicts|--input|--kernel|--leaves|--machine|--workers) return ;;
+        --arch|--args|--budget|--call|--calls|--cap|--conflicts|--input|--kernel|--leaves|--machine|--nr|--only|--workers) return ;;
     esac
     if [[ $word == -* ]]; then
         mapfile -t COMPREPLY < <(compgen -W "$options" -- "$word")
