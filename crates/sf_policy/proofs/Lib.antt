@@ -5,3 +5,4 @@ pub mod NeverSyntax
 pub mod FilterLemmas
 pub mod RefusalLemmas
 pub mod OneRefusal
+pub mod AcceptedLemmas

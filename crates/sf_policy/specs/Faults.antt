@@ -47,6 +47,7 @@ fault_number (faults.Mask question) = 48
 fault_number faults.NamesKey = 41
 fault_number faults.NamesRange = 42
 fault_number faults.UnknownName = 44
+fault_number (faults.Accepted at) = 44
 fault_number (faults.Profile refusal) = profile_number refusal
 fault_number faults.Read = 50
 fault_number faults.Write = 51

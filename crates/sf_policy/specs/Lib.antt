@@ -6,6 +6,7 @@ pub mod Actions
 pub mod Policies
 pub mod Encoding
 pub mod FaultPlaces
+pub mod Accepted
 pub mod Filters
 pub mod Texts
 pub mod TextLaws

@@ -85,6 +85,9 @@ pub enum Fault {
     /// A name of a call or of a set of calls that no file of names has.
     #[error("44 Name")]
     UnknownName,
+    /// A line of the file of questions that may be allowed names no question, or several. Lines are numbered from 1.
+    #[error("44 Name line {line}")]
+    Accepted { line: usize },
     /// A profile is refused.
     #[error("{0}")]
     Profile(sf_profile::Fault),
@@ -120,7 +123,7 @@ impl Fault {
             Fault::TopKey | Fault::Key { .. } | Fault::NamesKey => 41,
             Fault::Range { .. } | Fault::NamesRange => 42,
             Fault::Actions { .. } => 43,
-            Fault::Name { .. } | Fault::UnknownName => 44,
+            Fault::Name { .. } | Fault::UnknownName | Fault::Accepted { .. } => 44,
             Fault::Count => 45,
             Fault::Syntax => 46,
             Fault::Input => 47,

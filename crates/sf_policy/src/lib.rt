@@ -2,6 +2,7 @@
 //! files spell, faults, and the texts that several reports share.
 #![tactic(auto)]
 
+mod accepted;
 mod action;
 mod fault;
 mod filters;
@@ -9,6 +10,7 @@ pub mod laws;
 mod policy;
 mod texts;
 
+pub use accepted::read_accepted;
 pub use action::push_action;
 pub use fault::Fault;
 pub use filters::stack_of;

@@ -1,0 +1,44 @@
+-- The lines that name questions, one more at a time.
+use Rattle.std.proofs.Common.{◌≡◌, ◌∙◌, List, [], ◌∷◌, ℕ, ◌<◌, ◌≤◌, Bor, ap, false, arith, get_or, length, map, refl, sym, take, take_all, true}
+use Rattle.std.specs.Prelude.{Some, slice_get, suc, zero}
+use Rattle.std.specs.List.{flat_map, list_all}
+use Rattle.std.specs.Str.Lines.{lines}
+use Rattle.std.proofs.lemmas.List.{take-map}
+use Rattle.sf_ask.specs.QuestionData.{QuestionData}
+use Rattle.sf_policy.specs.Accepted.{AreAccepted, IsMisfitAt, line_fits, words_of_line}
+
+-- the lines that were read fit, and these are their names
+pub record ReadSoFar (questions : List QuestionData) (read : List (Bor (List ℕ))) (names : List (List ℕ)) : Type 0 where
+  pub fit : list_all (line_fits questions) (map (λ l. l.now) read) ≡ true
+  pub all : names ≡ flat_map words_of_line (map (λ l. l.now) read)
+
+-- all lines were read
+pub all_lines : (questions : List QuestionData) (text : List ℕ) (items : List (Bor (List ℕ))) (n : ℕ)
+    (names : List (List ℕ)) → map (λ l. l.now) items ≡ lines text → length items ≤ n
+    → ReadSoFar questions (take n items) names → AreAccepted questions text names
+all_lines questions text items n names are le so_far =
+    let all = take_all n items le in
+    record {
+      fit = ap (list_all (line_fits questions)) (sym are ∙ ap (map (λ l. l.now)) (sym all)) ∙ so_far.fit;
+      all = so_far.all ∙ ap (λ ls. flat_map words_of_line (map (λ l. l.now) ls)) all ∙ ap (flat_map words_of_line) are;
+    }
+
+-- the text at a place of a list of texts that are lent
+text_at : (items : List (Bor (List ℕ))) (i : ℕ) (d : Bor (List ℕ)) → i < length items
+    → slice_get (map (λ l. l.now) items) i ≡ Some (get_or items i d).now
+text_at [] i d lt = absurd (omega (arith, lt))
+text_at (x ∷ xs) zero d lt = refl
+text_at (x ∷ xs) (suc i) d lt = text_at xs i d (omega (arith, lt))
+
+-- the line at this place doesn't fit, and those before it do
+pub first_misfit : (questions : List QuestionData) (text : List ℕ) (items : List (Bor (List ℕ))) (i : ℕ)
+    (d : Bor (List ℕ)) (names : List (List ℕ)) → map (λ l. l.now) items ≡ lines text → i < length items
+    → ReadSoFar questions (take i items) names → line_fits questions (get_or items i d).now ≡ false
+    → IsMisfitAt questions text i
+first_misfit questions text items i d names are lt so_far misfit = record {
+  line = (get_or items i d).now;
+  there = ap (λ ls. slice_get ls i) (sym are) ∙ text_at items i d lt;
+  misfit = misfit;
+  first = ap (λ ls. list_all (line_fits questions) (take i ls)) (sym are)
+      ∙ ap (list_all (line_fits questions)) (take-map (λ (l : Bor (List ℕ)). l.now) i items) ∙ so_far.fit;
+}
