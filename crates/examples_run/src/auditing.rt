@@ -29,7 +29,7 @@ fn report_of<R: Threads + Wait + Sync, G: Gate>(
     let questions = read_policy(alloc, policy)?;
     let outcome = audit(rt, alloc, filters, questions, BUDGET, workers, gate)?;
     let mut report = Vec::new(alloc);
-    write_report(alloc, &outcome, regions, &[], &mut report)?;
+    write_report(alloc, &outcome, regions, &[], "", &mut report)?;
     Ok(report)
 }
 

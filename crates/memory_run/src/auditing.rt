@@ -70,7 +70,7 @@ fn report<R: Threads + Wait + Sync + AllocGlobal>(
     let alloc = rt.alloc();
     let questions = read_policy(alloc, POLICY)?;
     let outcome = audit(rt, alloc, filters, questions, 1000, workers, &Open)?;
-    write_report(alloc, &outcome, true, &[], page)?;
+    write_report(alloc, &outcome, true, &[], "", page)?;
     Ok(())
 }
 

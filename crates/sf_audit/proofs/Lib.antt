@@ -1,3 +1,4 @@
+pub mod ExpectedLemmas
 pub mod RegionLines
 pub mod Exclusive
 pub mod OneReport

@@ -24,11 +24,15 @@ pub record IsAudit (files : List (List ℕ)) (questions : List QuestionData) (bu
   pub counted : (0 < length questions) × (length questions ≤ 256)
   pub found : IsFoundOn o.settled.stack budget questions o
 
+-- there is no question, or there are too many
+abbrev pub IsWrongCount : List QuestionData → Type 0
+IsWrongCount questions = (length questions ≡ 0) ⊎ (256 < length questions)
+
 -- the files spell a stack, but there is no question or there are too many
 pub record IsMiscounted (files : List (List ℕ)) (questions : List QuestionData) : Type 0 where
   pub stack : List (List Insn)
   pub spelled : SpellStack files stack
-  pub count : (length questions ≡ 0) ⊎ (256 < length questions)
+  pub count : IsWrongCount questions
 
 -- the first refusal: of the files, then of the questions by their number
 abbrev pub IsAuditRefusal : List (List ℕ) → List QuestionData → Fault → Type 0

@@ -1,10 +1,12 @@
 //! The audit of a stack of filters.
 
-ghost use Rattle.std.specs.Prelude.{◌≡◌, ◌⊎◌, ◌<◌, ◌≤◌, length, map, IfOk, IfErr};
-ghost use Rattle.sf_audit.specs.Audits.{IsFoundOn, IsAudit, IsAuditRefusal};
+ghost use Rattle.std.specs.Prelude.{◌≡◌, ◌⊎◌, ◌<◌, ◌≤◌, false, true, length, map, IfOk, IfErr};
+ghost use Rattle.sf_audit.specs.Audits.{IsFoundOn, IsAudit, IsAuditRefusal, IsWrongCount};
+ghost use Rattle.sf_crew.specs.Sweeps.{AreRightReplies};
 
 use crate::outcome::Outcome;
-use sf_ask::Question;
+use sf_ask::{Question, Reply};
+use sf_book::Settled;
 use sf_check::Stack;
 use sf_crew::{Gate, explore, sweep};
 use sf_policy::{Fault, MOST_QUESTIONS, stack_of};
@@ -36,6 +38,42 @@ fn outcome_of<R: Threads + Wait + Sync, G: Gate>(
     })
 }
 
+/// Whether there is no question, or more of them than get replies.
+fn is_wrong_count(questions: &[Question]) -> bool
+    ensures wrong { result ≡ true → IsWrongCount questions.now }
+    ensures right { result ≡ false
+        → (0 < length questions.now) × (length questions.now ≤ 256) }
+{
+    questions.is_empty() || questions.len() > MOST_QUESTIONS
+}
+
+/// The replies to further questions about an exploration that has ended, such as those of a control. The gate sees each
+/// sheet of verdicts before it is entered.
+///
+/// The caller's condition: 1 to 64 workers. Refusals: `Count` where there are no questions or more than 256. `Memory` can
+/// come anywhere. Waits for the workers.
+pub fn reply_to<R: Threads + Wait + Sync, G: Gate>(
+    rt: &R,
+    alloc: Global,
+    settled: &Settled,
+    questions: &[Question],
+    workers: usize,
+    gate: &G,
+) -> Result<Vec<Reply>, Fault>
+    requires workers { (0 < workers) × (workers ≤ 64) }
+    ensures right { IfOk result (λ v. AreRightReplies settled.now questions.now v.items) }
+    ensures refused { IfErr result (λ e. (e ≡ Fault.Memory)
+        ⊎ ((e ≡ Fault.Count) × IsWrongCount questions.now)) }
+{
+    if is_wrong_count(questions) {
+        return Err(Fault::Count);
+    }
+    match sweep(rt, alloc, settled, questions, workers, gate) {
+        Ok(replies) => Ok(replies),
+        Err(_) => Err(Fault::Memory),
+    }
+}
+
 /// Audits the stack of these filter files, which stand in order of installation, the newest last: explores it by at
 /// most `budget` works, and replies to each question. The gate sees each work before it is committed, and each sheet of
 /// verdicts before it is entered.
@@ -62,7 +100,7 @@ pub fn audit<R: Threads + Wait + Sync, G: Gate>(
         ⊎ IsAuditRefusal (map (λ f. f.items) filters.now) questions.items e) }
 {
     let stack = stack_of(alloc, filters)?;
-    if questions.is_empty() || questions.len() > MOST_QUESTIONS {
+    if is_wrong_count(&questions) {
         return Err(Fault::Count);
     }
     match outcome_of(rt, alloc, stack, questions, budget, workers, gate) {

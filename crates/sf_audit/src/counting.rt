@@ -5,6 +5,13 @@ ghost use Rattle.sf_audit.specs.Reports.{is_never, is_allowed, is_unsettled};
 
 use sf_ask::Reply;
 
+/// Whether a reply has an example.
+pub(crate) fn is_allowed(reply: &Reply) -> bool
+    ensures { result ≡ is_allowed reply.now }
+{
+    matches!(reply, Reply::Allowed(_))
+}
+
 /// How many replies say that no input breaks the question.
 pub fn count_never(replies: &[Reply]) -> usize
     ensures { result ≡ count_by is_never replies.now }

@@ -3,11 +3,13 @@
 
 mod auditing;
 mod counting;
+mod expecting;
 pub mod laws;
 mod outcome;
 mod report;
 
-pub use auditing::audit;
+pub use auditing::{audit, reply_to};
 pub use counting::{count_allowed, count_never, count_unsettled};
+pub use expecting::{Expected, text_of_expected};
 pub use outcome::Outcome;
 pub use report::write_report;

@@ -2,7 +2,7 @@
 
 mod text;
 
-ghost use Rattle.std.specs.Prelude.{◌≡◌, ◌⊎◌, map, string_bytes, OnOk, OnErr, IfErr};
+ghost use Rattle.std.specs.Prelude.{◌≡◌, ◌⊎◌, ◌++◌, map, string_bytes, OnOk, OnErr, IfErr};
 ghost use Rattle.std.specs.Io.KnownBytes.{Appends};
 ghost use Rattle.sf_policy.specs.Texts.{AppendsFront};
 ghost use Rattle.sf_audit.specs.Reports.{report_text};
@@ -15,7 +15,8 @@ use std::io::Write;
 use text::report_of;
 
 /// Writes the report of an outcome, with a line for each settled region where `regions` asks for them. Under the line of
-/// each question stands the remark at its place, text of its own lines; nothing where there is none.
+/// each question stands the remark at its place, text of its own lines; nothing where there is none. Behind all of it stands
+/// the text `behind`.
 ///
 /// `Write` where a write fails or takes no byte: a beginning of the text was written then. `Memory` where the text
 /// can't be built: nothing was written then.
@@ -24,20 +25,22 @@ pub fn write_report<W: Write>(
     outcome: &Outcome,
     regions: bool,
     remarks: &[String],
+    behind: &str,
     out: &mut W,
 ) -> Result<(), Fault>
     // The text is written, where the writer tells its bytes.
     ensures written { OnOk result (Appends (W.contents out.old) (W.contents out.new)
-        (report_text outcome.now regions (map string_bytes remarks.now))) }
+        (report_text outcome.now regions (map string_bytes remarks.now) ++ behind.now)) }
 
     // After an error a beginning of the text is written.
     ensures begun { OnErr result (AppendsFront (W.contents out.old) (W.contents out.new)
-        (report_text outcome.now regions (map string_bytes remarks.now))) }
+        (report_text outcome.now regions (map string_bytes remarks.now) ++ behind.now)) }
 
     // The only errors are that writing failed, or that memory ran out: then nothing was written.
     ensures refused { IfErr result (λ e. (e ≡ WriteFault)
         ⊎ ((e ≡ MemoryFault) × (out.new ≡ out.old))) }
 {
-    let text = report_of(alloc, outcome, regions, remarks)?;
+    let mut text = report_of(alloc, outcome, regions, remarks)?;
+    text.push_str(behind)?;
     write_bytes(text.as_bytes(), out)
 }

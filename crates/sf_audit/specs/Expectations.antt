@@ -1,0 +1,75 @@
+-- What a build expects of an audit, and what is told of that.
+use Rattle.std.specs.Prelude.{◌≡◌, ℕ, Bool, true, false, not, ◌&&◌, List, [], ◌∷◌, ◌++◌, codes, length, if◌then◌else◌}
+use Rattle.std.specs.List.{list_all, list_any}
+use Rattle.std.specs.Str.{bytes_eq}
+use Rattle.sf_ask.specs.QuestionData.{QuestionData}
+use Rattle.sf_ask.specs.declared.verdict.Reply.{Reply}
+use Rattle.sf_ask.specs.declared.verdict.Reply.TheVariants.{Never, Allowed, Unsettled}
+use Rattle.sf_policy.specs.Texts.{line}
+use Rattle.sf_audit.specs.Outcomes.{Found}
+use Rattle.sf_audit.specs.Reports.{is_allowed}
+
+-- What is expected: that each question of a control is allowed, of which these are the replies; and that no question is
+-- allowed but those with an accepted name.
+pub record ExpectedData : Type 0 where
+  pub control : List QuestionData
+  pub held : List Reply
+  pub accepted : List (List ℕ)
+
+-- each question of the control has a reply
+pub record IsHeld (e : ExpectedData) : Type 0 where
+  pub each : length e.control ≡ length e.held
+
+-- a question of the control, where it isn't allowed
+abbrev pub control_line : List ℕ → Reply → List ℕ
+control_line name Never = line (codes "control" ∷ name ∷ codes "never" ∷ [])
+control_line name (Allowed input) = []
+control_line name Unsettled = line (codes "control" ∷ name ∷ codes "unsettled" ∷ [])
+
+-- the questions of the control that aren't allowed
+abbrev pub control_lines : List QuestionData → List Reply → List ℕ
+control_lines (q ∷ qs) (r ∷ rs) = control_line q.name r ++ control_lines qs rs
+control_lines _ _ = []
+
+-- the name is an accepted one
+abbrev pub is_accepted : List (List ℕ) → List ℕ → Bool
+is_accepted accepted name = list_any (λ n. bytes_eq n name) accepted
+
+-- what is told of a question that may be allowed, by its name: that it could go from the accepted ones
+abbrev pub accepted_line : List ℕ → Reply → List ℕ
+accepted_line name Never = line (codes "accepted" ∷ name ∷ codes "never" ∷ [])
+accepted_line name _ = []
+
+-- what is told of a question that may not be allowed, by its name: that it is
+abbrev pub unexpected_line : List ℕ → Reply → List ℕ
+unexpected_line name (Allowed input) = line (codes "unexpected" ∷ name ∷ [])
+unexpected_line name _ = []
+
+-- what is told of a question
+abbrev pub expected_line : List (List ℕ) → List ℕ → Reply → List ℕ
+expected_line accepted name reply =
+    if is_accepted accepted name then accepted_line name reply else unexpected_line name reply
+
+-- what is told of questions
+abbrev pub expected_lines : List (List ℕ) → List QuestionData → List Reply → List ℕ
+expected_lines accepted (q ∷ qs) (r ∷ rs) = expected_line accepted q.name r ++ expected_lines accepted qs rs
+expected_lines accepted _ _ = []
+
+-- the lines behind a report that tell what isn't as expected
+abbrev pub expected_text : ExpectedData → Found → List ℕ
+expected_text e found =
+    control_lines e.control e.held ++ expected_lines e.accepted found.questions found.replies
+
+-- the control holds: each of its questions is allowed
+abbrev pub does_hold : List Reply → Bool
+does_hold held = list_all is_allowed held
+
+-- a question is allowed, and its name isn't an accepted one
+abbrev pub is_unexpected : List (List ℕ) → List ℕ → Reply → Bool
+is_unexpected accepted name reply = is_allowed reply && not (is_accepted accepted name)
+
+-- some question is allowed whose name isn't an accepted one
+abbrev pub has_unexpected : List (List ℕ) → List QuestionData → List Reply → Bool
+has_unexpected accepted (q ∷ qs) (r ∷ rs) =
+    if is_unexpected accepted q.name r then true else has_unexpected accepted qs rs
+has_unexpected accepted _ _ = false

@@ -1,0 +1,214 @@
+//! What a build expects of an audit, and what is told of that.
+
+ghost use Rattle.std.specs.Prelude.{◌≡◌, ◌++◌, IfOk, OnOk, length, map, string_bytes};
+ghost use Rattle.std.specs.List.{list_all};
+ghost use Rattle.sf_audit.specs.Reports.{is_allowed};
+ghost use Rattle.sf_audit.specs.Expectations.{accepted_line, control_line, control_lines, expected_line, expected_lines, expected_text, has_unexpected, is_accepted, is_unexpected, unexpected_line};
+
+use crate::counting::is_allowed;
+use crate::outcome::Outcome;
+use sf_ask::{Question, Reply};
+use std::alloc::{AllocError, Global};
+use std::marker::Model;
+
+/// What a build expects of an audit: that each question of a control is allowed, and that no question is allowed but those
+/// with an accepted name.
+#[derive(Drop)]
+pub struct Expected {
+    control: Vec<Question>,
+    held: Vec<Reply>,
+    accepted: Vec<String>,
+}
+
+impl Model for Expected {
+    ghost use Rattle.std.specs.Prelude.{map, string_bytes};
+    ghost use Rattle.sf_audit.specs.Expectations.{ExpectedData, IsHeld};
+
+    ghost Value = { ExpectedData };
+
+    ghost view = { λ e. record {
+      control = e.control.items;
+      held = e.held.items;
+      accepted = map string_bytes e.accepted.items;
+    } };
+
+    ghost invariant = { λ e. IsHeld (record {
+      control = e.control.items;
+      held = e.held.items;
+      accepted = map string_bytes e.accepted.items;
+    }) };
+}
+
+impl Expected {
+    /// What is expected: that each of the questions of the control is allowed, to which these are the replies, and that no
+    /// question is allowed but those with these names.
+    pub fn of(control: Vec<Question>, held: Vec<Reply>, accepted: Vec<String>) -> Expected
+        requires { length control.items ≡ length held.items }
+        ensures { result ≡ record {
+          control = control.items;
+          held = held.items;
+          accepted = map string_bytes accepted.items;
+        } }
+    {
+        Expected {
+            control,
+            held,
+            accepted,
+        }
+    }
+
+    /// The questions of the control.
+    fn control(&self) -> &[Question]
+        ensures same { result.now ≡ self.now.control }
+        ensures held { length self.now.control ≡ length self.now.held }
+    {
+        self.control.as_slice()
+    }
+
+    /// Whether the control holds: each of its questions is allowed.
+    pub fn does_hold(&self) -> bool
+        ensures { result ≡ list_all is_allowed self.now.held }
+    {
+        self.held.iter().all(is_allowed)
+    }
+
+    /// Whether some question of an audit is allowed whose name isn't an accepted one.
+    pub fn has_unexpected(&self, outcome: &Outcome) -> bool
+        ensures { result ≡ has_unexpected self.now.accepted
+            outcome.now.questions outcome.now.replies }
+    {
+        has_unexpected(&self.accepted, outcome.questions(), outcome.replies())
+    }
+}
+
+/// Adds the line of a question of the control, where it isn't allowed.
+fn push_control(text: &mut String, name: &str, reply: Reply) -> Result<(), AllocError>
+    ensures { OnOk result (string_bytes text.new ≡ string_bytes text.old
+        ++ control_line name.now reply) }
+{
+    match reply {
+        Reply::Never => write!(text, "control {name} never\n"),
+        Reply::Allowed(_) => Ok(()),
+        Reply::Unsettled => write!(text, "control {name} unsettled\n"),
+    }
+}
+
+/// Adds the lines of the questions of the control that aren't allowed.
+fn push_controls(
+    text: &mut String,
+    questions: &[Question],
+    replies: &[Reply],
+) -> Result<(), AllocError>
+    requires { length questions.now ≡ length replies.now }
+    ensures { OnOk result (string_bytes text.new ≡ string_bytes text.old
+        ++ control_lines questions.now replies.now) }
+{
+    for (i, question) in questions.iter().enumerate() {
+        push_control(text, question.name(), replies[i])?;
+    }
+    Ok(())
+}
+
+/// Whether a name is an accepted one.
+fn is_accepted(accepted: &[String], name: &str) -> bool
+    ensures { result ≡ is_accepted (map string_bytes accepted.now) name.now }
+{
+    accepted.iter().any(|one| one.as_str() == name)
+}
+
+/// Adds the line of an accepted question, where it is never.
+fn push_accepted(text: &mut String, name: &str, reply: Reply) -> Result<(), AllocError>
+    ensures { OnOk result (string_bytes text.new ≡ string_bytes text.old
+        ++ accepted_line name.now reply) }
+{
+    match reply {
+        Reply::Never => write!(text, "accepted {name} never\n"),
+        Reply::Allowed(_) | Reply::Unsettled => Ok(()),
+    }
+}
+
+/// Adds the line of a question that isn't accepted, where it is allowed.
+fn push_unexpected(text: &mut String, name: &str, reply: Reply) -> Result<(), AllocError>
+    ensures { OnOk result (string_bytes text.new ≡ string_bytes text.old
+        ++ unexpected_line name.now reply) }
+{
+    match reply {
+        Reply::Allowed(_) => write!(text, "unexpected {name}\n"),
+        Reply::Never | Reply::Unsettled => Ok(()),
+    }
+}
+
+/// Adds the line of a question, where it isn't as expected.
+fn push_expected(
+    text: &mut String,
+    accepted: &[String],
+    name: &str,
+    reply: Reply,
+) -> Result<(), AllocError>
+    ensures { OnOk result (string_bytes text.new ≡ string_bytes text.old
+        ++ expected_line (map string_bytes accepted.now) name.now reply) }
+{
+    if is_accepted(accepted, name) {
+        push_accepted(text, name, reply)
+    } else {
+        push_unexpected(text, name, reply)
+    }
+}
+
+/// Adds the lines of the questions that aren't as expected.
+fn push_questions(
+    text: &mut String,
+    accepted: &[String],
+    questions: &[Question],
+    replies: &[Reply],
+) -> Result<(), AllocError>
+    requires { length questions.now ≡ length replies.now }
+    ensures { OnOk result (string_bytes text.new ≡ string_bytes text.old
+        ++ expected_lines (map string_bytes accepted.now) questions.now replies.now) }
+{
+    for (i, question) in questions.iter().enumerate() {
+        push_expected(text, accepted, question.name(), replies[i])?;
+    }
+    Ok(())
+}
+
+/// The lines behind a report that tell what isn't as expected: questions of the control that aren't allowed, questions that
+/// are allowed and not accepted, and accepted ones that are never. An error where an allocation is refused.
+pub fn text_of_expected(
+    alloc: Global,
+    expected: &Expected,
+    outcome: &Outcome,
+) -> Result<String, AllocError>
+    ensures { IfOk result (λ text. string_bytes text ≡ expected_text expected.now outcome.now) }
+{
+    let mut text = String::new(alloc);
+    push_controls(&mut text, expected.control(), &expected.held)?;
+    push_questions(
+        &mut text,
+        &expected.accepted,
+        outcome.questions(),
+        outcome.replies(),
+    )?;
+    Ok(text)
+}
+
+/// Whether a question is allowed, and its name isn't an accepted one.
+fn is_unexpected(accepted: &[String], name: &str, reply: &Reply) -> bool
+    ensures { result ≡ is_unexpected (map string_bytes accepted.now) name.now reply.now }
+{
+    is_allowed(reply) && !is_accepted(accepted, name)
+}
+
+/// Whether some question is allowed whose name isn't an accepted one.
+fn has_unexpected(accepted: &[String], questions: &[Question], replies: &[Reply]) -> bool
+    requires { length questions.now ≡ length replies.now }
+    ensures { result
+        ≡ has_unexpected (map string_bytes accepted.now) questions.now replies.now }
+{
+    for (i, question) in questions.iter().enumerate() {
+        if is_unexpected(accepted, question.name(), &replies[i]) {
+            return true;
+        }
+    }
+    false
+}
