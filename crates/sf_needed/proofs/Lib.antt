@@ -1,0 +1,5 @@
+pub mod PlaceLemmas
+pub mod LeftLemmas
+pub mod AllowLemmas
+pub mod MeaningLemmas
+pub mod NeedsLemmas

@@ -1,0 +1,114 @@
+//! Filters that are dropped one after another, while what is left answers as the whole stack does.
+
+ghost use Rattle.std.specs.Prelude.{◌≡◌, ◌≢◌, ◌⊎◌, ◌<◌, ◌≤◌, false, true, length, IfOk, IfErr, OnOk};
+ghost use Rattle.sf_compare.specs.declared.changes.Change.TheVariants.{Never as NeverChange};
+ghost use Rattle.sf_needed.specs.Needs.{AreKept, AreTrials, IsDroppable, IsKept, IsLeft, AreRefusedTogether, IsTrialOf, at_places};
+ghost use Rattle.sf_policy.specs.declared.fault.Fault.TheVariants.{Memory as MemoryFault};
+
+use crate::trial::{Task, Trial, try_without};
+use sf_compare::Change;
+use sf_crew::Gate;
+use sf_policy::Fault;
+use std::alloc::Global;
+use std::sync::Wait;
+use std::thread::Threads;
+
+/// What is found of the filters that are left and these without the one at a place of the list. The whole stack was
+/// tried without each filter; that isn't done again.
+fn trial_of<R: Threads + Wait + Sync, G: Gate>(
+    rt: &R,
+    alloc: Global,
+    task: &Task<'_>,
+    trials: &[Trial],
+    kept: &[usize],
+    place: usize,
+    gate: &G,
+) -> Result<Trial, Fault>
+    requires trials { AreTrials task.now.files task.now.budget trials.now }
+    requires kept { IsLeft task.now.files task.now.budget kept.now }
+    requires place { place < length kept.now }
+    ensures tried { IfOk result (IsTrialOf (at_places task.now.files kept.now) place
+        task.now.budget) }
+    ensures refused { IfErr result (λ e. (e ≡ MemoryFault)
+        ⊎ AreRefusedTogether task.now.files task.now.budget e) }
+{
+    if kept.len() == trials.len() {
+        return Ok(trials[place]);
+    }
+    try_without(rt, alloc, task, kept, place, gate)
+}
+
+/// Whether nothing is changed so, whatever the input.
+fn is_never(change: Change) -> bool
+    ensures never { result ≡ true → change ≡ NeverChange }
+    ensures other { result ≡ false → change ≢ NeverChange }
+{
+    matches!(change, Change::Never)
+}
+
+/// Whether the filter at a place of the list can be dropped: the others that are left answer each input as before.
+fn is_droppable<R: Threads + Wait + Sync, G: Gate>(
+    rt: &R,
+    alloc: Global,
+    task: &Task<'_>,
+    trials: &[Trial],
+    kept: &[usize],
+    place: usize,
+    gate: &G,
+) -> Result<bool, Fault>
+    requires trials { AreTrials task.now.files task.now.budget trials.now }
+    requires kept { IsLeft task.now.files task.now.budget kept.now }
+    requires place { place < length kept.now }
+    ensures droppable { IfOk result (λ b. b ≡ true
+        → IsDroppable task.now.files task.now.budget kept.now place) }
+    ensures kept { IfOk result (λ b. b ≡ false
+        → IsKept task.now.files task.now.budget kept.now place) }
+    ensures refused { IfErr result (λ e. (e ≡ MemoryFault)
+        ⊎ AreRefusedTogether task.now.files task.now.budget e) }
+{
+    let trial = trial_of(rt, alloc, task, trials, kept, place, gate)?;
+    Ok(is_never(trial.different))
+}
+
+/// The place of a list that is tried next: its first after its end.
+fn place_to_try(place: usize, count: usize) -> usize
+    requires { (0 < count) × (place ≤ count) }
+    ensures { ((result ≡ place) × (place < count)) ⊎ ((result ≡ 0) × (place ≡ count)) }
+{
+    if place == count { 0 } else { place }
+}
+
+/// Drops filters of which the others do the work: goes through the list in order and from its end on to its beginning,
+/// until each that is left was tried after the last one was dropped.
+pub(crate) fn drop_unneeded<R: Threads + Wait + Sync, G: Gate>(
+    rt: &R,
+    alloc: Global,
+    task: &Task<'_>,
+    trials: &[Trial],
+    kept: &mut Vec<usize>,
+    gate: &G,
+) -> Result<(), Fault>
+    requires trials { AreTrials task.now.files task.now.budget trials.now }
+    requires kept { IsLeft task.now.files task.now.budget kept.old.items }
+    ensures left { OnOk result (IsLeft task.now.files task.now.budget
+        kept.new.items) }
+    ensures kept { OnOk result (AreKept task.now.files task.now.budget
+        kept.new.items) }
+    ensures refused { IfErr result (λ e. (e ≡ MemoryFault) ⊎ AreRefusedTogether
+        task.now.files task.now.budget e) }
+{
+    let mut next = 0;
+    let mut tried = 0;
+    while tried < kept.len() {
+        let place = place_to_try(next, kept.len());
+        if is_droppable(rt, alloc, task, trials, kept, place, gate)? {
+            kept.remove(place);
+            next = place;
+            tried = 0;
+        } else {
+            next = place + 1;
+            tried += 1;
+        }
+    }
+    Ok(())
+}

@@ -1,0 +1,132 @@
+//! The text that tells which filters of a stack are needed.
+
+ghost use Rattle.std.specs.Prelude.{◌≡◌, ◌⊎◌, ◌++◌, ◌<◌, ◌^◌, All, IfOk, IfErr, OnOk, OnErr, length, string_bytes};
+ghost use Rattle.std.specs.Io.KnownBytes.{Appends};
+ghost use Rattle.sf_policy.specs.Texts.{AppendsFront};
+ghost use Rattle.sf_policy.specs.declared.fault.Fault.TheVariants.{Memory as MemoryFault, Write as WriteFault};
+ghost use Rattle.sf_needed.specs.Texts.{finding_line, finding_lines, head_text, kept_line, kept_words, needs_text, size_line, total_line};
+
+use crate::needs::Needs;
+use sf_compare::Change;
+use sf_policy::{Fault, hex_of, write_bytes};
+use std::alloc::{AllocError, Global};
+use std::io::Write;
+
+/// Adds the line of a filter: its number and what was found of it, and the example where it is needed.
+fn push_finding(
+    alloc: Global,
+    text: &mut String,
+    number: usize,
+    finding: Change,
+) -> Result<(), AllocError>
+    ensures { OnOk result (string_bytes text.new ≡ string_bytes text.old
+        ++ finding_line number finding) }
+{
+    match finding {
+        Change::Never => write!(text, "filter {number} spare\n"),
+        Change::Unsettled => write!(text, "filter {number} unsettled\n"),
+        Change::Found(example) => {
+            let digits = hex_of(alloc, &example.input)?;
+            write!(text, "filter {number} needed {digits}\n")
+        }
+    }
+}
+
+/// Adds the lines of all filters, in their order.
+fn push_findings(alloc: Global, text: &mut String, findings: &[Change]) -> Result<(), AllocError>
+    ensures { OnOk result (string_bytes text.new ≡ string_bytes text.old
+        ++ finding_lines 1 findings.now) }
+{
+    for (place, finding) in findings.iter().enumerate() {
+        push_finding(alloc, text, place + 1, *finding)?;
+    }
+    Ok(())
+}
+
+/// Adds the numbers of the filters that are kept, or a dash where there are none.
+fn push_numbers(text: &mut String, kept: &[usize]) -> Result<(), AllocError>
+    requires { All (λ p. p < 64) kept.now }
+    ensures { OnOk result (string_bytes text.new ≡ string_bytes text.old ++ kept_words kept.now) }
+{
+    if kept.is_empty() {
+        return text.push_str(" -");
+    }
+    for place in kept {
+        write!(text, " {}", *place + 1)?;
+    }
+    Ok(())
+}
+
+/// Adds the line of the filters that are kept.
+fn push_kept(text: &mut String, kept: &[usize]) -> Result<(), AllocError>
+    requires { All (λ p. p < 64) kept.now }
+    ensures { OnOk result (string_bytes text.new ≡ string_bytes text.old ++ kept_line kept.now) }
+{
+    text.push_str("kept")?;
+    push_numbers(text, kept)?;
+    text.push_str("\n")
+}
+
+/// Adds the line that tells the size of the stack.
+fn push_size(text: &mut String, filters: usize, path: usize) -> Result<(), AllocError>
+    ensures { OnOk result (string_bytes text.new ≡ string_bytes text.old
+        ++ size_line filters path) }
+{
+    write!(text, "filters {filters} path {path}\n")
+}
+
+/// Adds what stands above the filters: the version of the text and the size of the stack.
+fn push_head(text: &mut String, needs: &Needs) -> Result<(), AllocError>
+    ensures { OnOk result (string_bytes text.new ≡ string_bytes text.old ++ head_text needs.now) }
+{
+    text.push_str("seccomp_audit needed 1\n")?;
+    push_size(text, needs.findings().len(), needs.path_length())
+}
+
+/// Adds the last line: how often each was found, and how many filters are kept.
+fn push_total(text: &mut String, needs: &Needs) -> Result<(), AllocError>
+    ensures { OnOk result (string_bytes text.new ≡ string_bytes text.old
+        ++ total_line needs.now) }
+{
+    let needed = needs.count_needed();
+    let spare = needs.count_spare();
+    let unsettled = needs.count_unsettled();
+    let kept = needs.kept().len();
+    write!(
+        text,
+        "total needed {needed} spare {spare} unsettled {unsettled} kept {kept}\n"
+    )
+}
+
+/// The whole text that tells which filters are needed. An error where an allocation is refused.
+pub fn text_of_needs(alloc: Global, needs: &Needs) -> Result<String, AllocError>
+    ensures { IfOk result (λ text. string_bytes text ≡ needs_text needs.now) }
+{
+    let mut text = String::new(alloc);
+    push_head(&mut text, needs)?;
+    push_findings(alloc, &mut text, needs.findings())?;
+    push_kept(&mut text, needs.kept())?;
+    push_total(&mut text, needs)?;
+    Ok(text)
+}
+
+/// Writes the text that tells which filters are needed.
+///
+/// `Write` where a write fails or takes no byte: a beginning of the text was written then. `Memory` where the text
+/// can't be built: nothing was written then.
+pub fn write_needed<W: Write>(alloc: Global, needs: &Needs, out: &mut W) -> Result<(), Fault>
+    // The text is written, where the writer tells its bytes.
+    ensures written { OnOk result (Appends (W.contents out.old) (W.contents out.new)
+        (needs_text needs.now)) }
+
+    // After an error a beginning of the text is written.
+    ensures begun { OnErr result (AppendsFront (W.contents out.old) (W.contents out.new)
+        (needs_text needs.now)) }
+
+    // The only errors are that writing failed, or that memory ran out: then nothing was written.
+    ensures refused { IfErr result (λ e. (e ≡ WriteFault)
+        ⊎ ((e ≡ MemoryFault) × (out.new ≡ out.old))) }
+{
+    let text = text_of_needs(alloc, needs)?;
+    write_bytes(text.as_bytes(), out)
+}

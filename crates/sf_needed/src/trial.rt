@@ -1,0 +1,143 @@
+//! Comparisons of stacks with what is left of them without one filter.
+
+ghost use Rattle.std.specs.Prelude.{◌≡◌, ◌⊎◌, ◌++◌, ◌<◌, ◌≤◌, length, map, remove, All, IfOk, IfErr, OnOk};
+ghost use Rattle.sf_policy.specs.Filters.{IsFirstRefusal};
+ghost use Rattle.sf_policy.specs.declared.fault.Fault.TheVariants.{Memory as MemoryFault};
+ghost use Rattle.sf_needed.specs.Needs.{IsTrialOf, at_places, or_allow_all, with_rest};
+
+use sf_compare::{Change, Relation, compare};
+use sf_crew::Gate;
+use sf_policy::Fault;
+use std::alloc::{AllocError, Global};
+use std::marker::Model;
+use std::sync::Wait;
+use std::thread::Threads;
+
+/// The filter that allows all: one instruction, `ret ALLOW`.
+const ALLOW_ALL: [u8; 8] = [0x06, 0x00, 0x00, 0x00, 0x00, 0x00, 0xff, 0x7f];
+
+/// The filter files of the whole stack, and how each comparison is done.
+#[derive(Drop)]
+pub(crate) struct Task<'a> {
+    pub(crate) filters: &'a [Vec<u8>],
+    pub(crate) budget: u32,
+    pub(crate) workers: usize,
+}
+
+impl<'a> Model for Task<'a> {
+    ghost use Rattle.std.specs.Prelude.{map};
+    ghost use Rattle.sf_needed.specs.Needs.{TaskData, HasWorkers};
+
+    ghost Value = { TaskData };
+
+    ghost view = { λ t. record {
+      files = map (λ f. f.items) t.filters.now;
+      budget = t.budget;
+      workers = t.workers;
+    } };
+
+    ghost invariant = { λ t. HasWorkers (record {
+      files = map (λ f. f.items) t.filters.now;
+      budget = t.budget;
+      workers = t.workers;
+    }) };
+}
+
+/// What a comparison of a stack with the stack without one filter found.
+#[derive(Clone, Copy, Debug, PartialEq, Eq)]
+pub(crate) struct Trial {
+    pub(crate) looser: Change,
+    pub(crate) different: Change,
+}
+
+/// A copy of a filter file.
+fn copy_of(filter: &Vec<u8>) -> Result<Vec<u8>, AllocError>
+    ensures { IfOk result (λ v. v.items ≡ filter.now.items) }
+{
+    let copy = filter.clone()?;
+    Ok(copy)
+}
+
+/// Adds copies of the filter files at these places.
+fn push_filters(
+    files: &mut Vec<Vec<u8>>,
+    filters: &[Vec<u8>],
+    places: &[usize],
+) -> Result<(), AllocError>
+    requires { All (λ p. p < length filters.now) places.now }
+    ensures { OnOk result (map (λ f. f.items) files.new.items
+        ≡ map (λ f. f.items) files.old.items
+        ++ at_places (map (λ f. f.items) filters.now) places.now) }
+{
+    for place in places {
+        let file = copy_of(&filters[*place])?;
+        files.push(file)?;
+    }
+    Ok(())
+}
+
+/// Adds the filter files at these places but the one at a place of the list; where no other is there, the one that allows
+/// all.
+fn push_rest(
+    alloc: Global,
+    files: &mut Vec<Vec<u8>>,
+    filters: &[Vec<u8>],
+    places: &[usize],
+    place: usize,
+) -> Result<(), AllocError>
+    requires places { All (λ p. p < length filters.now) places.now }
+    requires place { place < length places.now }
+    ensures { OnOk result (map (λ f. f.items) files.new.items
+        ≡ map (λ f. f.items) files.old.items
+        ++ or_allow_all (remove (at_places (map (λ f. f.items) filters.now) places.now) place)) }
+{
+    if places.len() == 1 {
+        files.push(Vec::from_array(alloc, ALLOW_ALL)?)?;
+        return Ok(());
+    }
+    push_filters(files, filters, &places[..place])?;
+    push_filters(files, filters, &places[place + 1..])
+}
+
+/// The filter files at these places, and then those of the stack without the one at a place of the list.
+fn files_of_both(
+    alloc: Global,
+    filters: &[Vec<u8>],
+    places: &[usize],
+    place: usize,
+) -> Result<Vec<Vec<u8>>, AllocError>
+    requires places { All (λ p. p < length filters.now) places.now }
+    requires place { place < length places.now }
+    ensures { IfOk result (λ v. map (λ f. f.items) v.items
+        ≡ with_rest (at_places (map (λ f. f.items) filters.now) places.now) place) }
+{
+    let mut files = Vec::new(alloc);
+    push_filters(&mut files, filters, places)?;
+    push_rest(alloc, &mut files, filters, places, place)?;
+    Ok(files)
+}
+
+/// Compares the stack of the filters at these places with the stack without the one at a place of the list.
+pub(crate) fn try_without<R: Threads + Wait + Sync, G: Gate>(
+    rt: &R,
+    alloc: Global,
+    task: &Task<'_>,
+    places: &[usize],
+    place: usize,
+    gate: &G,
+) -> Result<Trial, Fault>
+    requires places { All (λ p. p < length task.now.files) places.now }
+    requires place { place < length places.now }
+    ensures tried { IfOk result (IsTrialOf (at_places task.now.files places.now) place
+        task.now.budget) }
+    ensures refused { IfErr result (λ e. (e ≡ MemoryFault) ⊎ IsFirstRefusal (with_rest
+        (at_places task.now.files places.now) place) e) }
+{
+    let files = files_of_both(alloc, task.filters, places, place)?;
+    let older = places.len();
+    let comparison = compare(rt, alloc, &files, older, task.budget, task.workers, gate)?;
+    Ok(Trial {
+        looser: comparison.change(Relation::Looser),
+        different: comparison.change(Relation::Different),
+    })
+}
