@@ -1,6 +1,9 @@
 //! Audits a stack of seccomp filters: hands the system's files and streams to the command line.
 #![tactic(auto)]
 
+mod meter;
+
+use meter::Progress;
 use sf_command::command;
 use sf_evaluate::{Files, MOST_BYTES, tell_fault};
 use sf_policy::Fault;
@@ -25,6 +28,20 @@ struct Disk<'a, R> {
     reason: InlineText<REASON>,
     /// Whether the environment asks that each fault is explained.
     explains: bool,
+    /// Whether standard input was read.
+    is_input_read: bool,
+}
+
+/// The path that stands for standard input.
+const STANDARD_INPUT: &str = "-";
+
+/// The bytes of standard input. Of one that is longer than `MOST_BYTES`, only one byte more than that is read.
+fn bytes_of_input<R: Input + AllocGlobal>(rt: &R) -> io::Result<Vec<u8>> {
+    let mut bytes = Vec::new(rt.alloc());
+    rt.reader()
+        .take(MOST_BYTES as u64 + 1)
+        .read_to_end(&mut bytes)?;
+    Ok(bytes)
 }
 
 /// The bytes of a file. Of one that is longer than `MOST_BYTES`, only one byte more than that is read, which shows that
@@ -36,9 +53,24 @@ fn bytes_of<R: FileSystem + AllocGlobal>(rt: &R, path: &str) -> io::Result<Vec<u
     Ok(bytes)
 }
 
-impl<R: FileSystem + AllocGlobal> Files for Disk<'_, R> {
+impl<R: FileSystem + Input + AllocGlobal> Disk<'_, R> {
+    /// The bytes of the file at a path, or of standard input.
+    fn bytes_at(&mut self, path: &str) -> io::Result<Vec<u8>> {
+        if path != STANDARD_INPUT {
+            return bytes_of(self.rt, path);
+        }
+        self.is_input_read = true;
+        bytes_of_input(self.rt)
+    }
+}
+
+impl<R: FileSystem + Input + AllocGlobal> Files for Disk<'_, R> {
     fn read(&mut self, path: &str) -> Result<Vec<u8>, Fault> {
-        match bytes_of(self.rt, path) {
+        if path == STANDARD_INPUT && self.is_input_read {
+            self.reason = InlineText::of(format_args!("standard input is read only once"));
+            return Err(Fault::Read);
+        }
+        match self.bytes_at(path) {
             Ok(bytes) => {
                 if bytes.len() <= MOST_BYTES {
                     Ok(bytes)
@@ -130,13 +162,24 @@ fn main(rt: HostRuntime) -> ExitCode {
         rt: &rt,
         reason: InlineText::new(),
         explains: asks_to_explain(&rt),
+        is_input_read: false,
     };
     let mut out = rt.stdout();
-    let status = command(&rt, rt.alloc(), &words, &mut disk, &mut out, &mut err);
+    let meter = Progress::new(&rt);
+    let status = command(
+        &rt,
+        rt.alloc(),
+        &words,
+        &mut disk,
+        &meter,
+        &mut out,
+        &mut err,
+    );
     let Disk {
         rt: _,
         reason: _,
         explains: _,
+        is_input_read: _,
     } = disk;
     ExitCode::from(status)
 }

@@ -8,6 +8,7 @@ use Rattle.sf_audit.specs.Audits.{IsAuditRefusal}
 use Rattle.sf_policy.specs.Filters.{SpellStack, IsFirstRefusal}
 use Rattle.sf_evaluate.specs.Files.{AreKept, AreRead}
 use Rattle.sf_evaluate.specs.KeptLaws.{counted_of, few_are_all, kept_refusal, refusal_of_all, stack_is_few}
+use Rattle.sf_command.specs.Audits.{IsRefusedFor, ReadData}
 use Rattle.sf_command.specs.Comparisons.{AreBothKept, AreBothRead}
 
 module _ (holds : List ℕ → Option (List ℕ)) (paths : List (Bor (List ℕ))) (kept : List (List ℕ))
@@ -22,6 +23,11 @@ module _ (holds : List ℕ → Option (List ℕ)) (paths : List (Bor (List ℕ))
     count = wrong.count;
   }
   kept_audit_refusal questions e refused = kept_refusal holds paths kept all e refused
+
+  -- the same by what was read
+  pub kept_refused_for : (read : ReadData) (e : Fault) → IsRefusedFor kept read e → IsRefusedFor all.files read e
+  kept_refused_for read e (inl refused) = inl (kept_audit_refusal read.questions e refused)
+  kept_refused_for read e (inr count) = inr count
 
 -- a choice of two with a weaker second statement
 pub second_weaker : {P Q R : Type 0} → (Q → R) → P ⊎ Q → P ⊎ R

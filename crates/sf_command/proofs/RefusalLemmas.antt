@@ -1,23 +1,16 @@
--- Why an audit, a comparison or a listing of files is refused.
-use Rattle.std.proofs.Common.{◌≡◌, ◌⊎◌, inl, inr, ℕ, List, None, Option, Bor}
-use Rattle.sf_ask.specs.QuestionData.{QuestionData}
+-- Why what is done with files is refused.
+use Rattle.std.proofs.Common.{◌≡◌, ◌⊎◌, inl, inr, ℕ, List, Option, Bor}
 use Rattle.sf_policy.specs.declared.fault.Fault.{Fault}
 use Rattle.sf_policy.specs.declared.fault.Fault.TheVariants.{Memory, Read}
-use Rattle.sf_audit.specs.Audits.{IsAuditRefusal}
 use Rattle.sf_policy.specs.Filters.{IsFirstRefusal}
-use Rattle.sf_evaluate.specs.Policies.{IsPolicyFile, RefusesPolicyFile}
-use Rattle.sf_command.specs.Audits.{RefusesAudit}
+use Rattle.sf_command.specs.Audits.{AskedData, IsAskedBy, IsRefusedFor, ReadData, RefusesAudit}
 use Rattle.sf_command.specs.Comparisons.{AreBothRead, RefusesComparison}
-use Rattle.sf_evaluate.specs.Files.{AreRead}
+use Rattle.sf_needed.specs.Needs.{IsRefusedLater}
+use Rattle.sf_evaluate.specs.Files.{AreKept, AreRead, HasUnknown}
+use Rattle.sf_evaluate.specs.FilesLaws.{still_unknown}
+use Rattle.sf_evaluate.specs.KeptLaws.{kept_refusal, kept_stack}
 use Rattle.sf_command.specs.Listings.{RefusesListing}
-
--- where the policy file is refused, the audit is
-pub policy_why : (holds : List ℕ → Option (List ℕ)) (policy : List ℕ) (paths : List (Bor (List ℕ))) (e : Fault)
-    → ((e ≡ Read) × (holds policy ≡ None)) ⊎ (e ≡ Memory) ⊎ RefusesPolicyFile (holds policy) e
-    → RefusesAudit holds policy paths e
-policy_why holds policy paths e (inl read) = inr (inr (inl read))
-policy_why holds policy paths e (inr (inl memory)) = inr (inl memory)
-policy_why holds policy paths e (inr (inr why)) = inr (inr (inr (inl why)))
+use Rattle.sf_command.specs.Needs.{RefusesNeeds}
 
 -- where the comparison of what the files hold is refused, that of the files is
 pub comparison_why : (holds : List ℕ → Option (List ℕ)) (old new : List (Bor (List ℕ))) (files : List (List ℕ))
@@ -27,15 +20,23 @@ pub comparison_why : (holds : List ℕ → Option (List ℕ)) (old new : List (B
 comparison_why holds old new files older e read (inl memory) = inr (inr (inl memory))
 comparison_why holds old new files older e read (inr why) = inr (inr (inr (files, older, read, why)))
 
+-- where a filter file can't be read after the files that ask, the audit is refused
+pub unread_why : (before after : List ℕ → Option (List ℕ)) (asked : AskedData) (paths : List (Bor (List ℕ)))
+    (read : ReadData) (e : Fault) → ((p : List ℕ) → after p ≡ before p) → IsAskedBy before asked read
+    → ((e ≡ Read) × HasUnknown after paths) ⊎ (e ≡ Memory)
+    → RefusesAudit before asked paths e
+unread_why before after asked paths read e same asks (inl (is, left)) =
+    inr (inr (inr (read, asks, inl (is, still_unknown before after paths same left))))
+unread_why before after asked paths read e same asks (inr memory) = inr (inl memory)
+
 -- where the audit of what the files hold is refused, that of the files is
-pub audit_why : (holds : List ℕ → Option (List ℕ)) (policy : List ℕ) (paths : List (Bor (List ℕ)))
-    (questions : List QuestionData) (files : List (List ℕ)) (e : Fault)
-    → IsPolicyFile (holds policy) questions → AreRead holds paths files → (e ≡ Memory)
-    ⊎ IsAuditRefusal files questions e
-    → RefusesAudit holds policy paths e
-audit_why holds policy paths questions files e asked read (inl memory) = inr (inl memory)
-audit_why holds policy paths questions files e asked read (inr why) =
-    inr (inr (inr (inr (questions, asked, inr (files, read, why)))))
+pub audit_why : (holds : List ℕ → Option (List ℕ)) (asked : AskedData) (paths : List (Bor (List ℕ)))
+    (read : ReadData) (files : List (List ℕ)) (e : Fault)
+    → IsAskedBy holds asked read → AreRead holds paths files → (e ≡ Memory) ⊎ IsRefusedFor files read e
+    → RefusesAudit holds asked paths e
+audit_why holds asked paths read files e asks are_read (inl memory) = inr (inl memory)
+audit_why holds asked paths read files e asks are_read (inr why) =
+    inr (inr (inr (read, asks, inr (files, are_read, why))))
 
 -- the listing of what the files hold is refused
 pub listing_why : (holds : List ℕ → Option (List ℕ)) (paths : List (Bor (List ℕ))) (files : List (List ℕ)) (e : Fault)
@@ -43,3 +44,13 @@ pub listing_why : (holds : List ℕ → Option (List ℕ)) (paths : List (Bor (L
     → RefusesListing holds paths e
 listing_why holds paths files e read (inl memory) = inr (inr (inl memory))
 listing_why holds paths files e read (inr why) = inr (inr (inr (files, read, why)))
+
+-- where `needed` is refused for the files that are kept, it is for those that were read
+pub needs_why : (holds : List ℕ → Option (List ℕ)) (paths : List (Bor (List ℕ))) (kept : List (List ℕ)) (budget : ℕ)
+    (e : Fault) → AreKept holds paths kept → (e ≡ Memory) ⊎ (IsFirstRefusal kept e ⊎ IsRefusedLater kept budget e)
+    → RefusesNeeds holds paths budget e
+needs_why holds paths kept budget e all (inl memory) = inr (inr (inl memory))
+needs_why holds paths kept budget e all (inr (inl first)) =
+    inr (inr (inr (all.files, all.read, inl (kept_refusal holds paths kept all e first))))
+needs_why holds paths kept budget e all (inr (inr later)) =
+    inr (inr (inr (kept, kept_stack holds paths kept all later.programs later.spelled, inr later)))

@@ -1,21 +1,52 @@
 -- What `audit` reads and writes.
-use Rattle.std.specs.Prelude.{◌≡◌, ◌⊎◌, ℕ, Bool, true, false, List, [], ◌∷◌, Option, None}
+use Rattle.std.specs.Prelude.{◌≡◌, ◌⊎◌, ◌<◌, ◌||◌, ◌++◌, ℕ, Bool, true, false, List, [], ◌∷◌, Option, is_some, length, if◌then◌else◌}
 use Rattle.std.specs.Borrow.{Bor}
 use Rattle.std.specs.Io.KnownBytes.{Appends}
 use Rattle.sf_check.specs.declared.insn.Insn.{Insn}
 use Rattle.sf_ask.specs.QuestionData.{QuestionData}
 use Rattle.sf_ask.specs.declared.verdict.Reply.{Reply}
 use Rattle.sf_ask.specs.declared.verdict.Reply.TheVariants.{Never, Allowed, Unsettled}
+use Rattle.sf_crew.specs.Sweeps.{AreRightReplies}
 use Rattle.sf_names.specs.Names.{NamesData}
 use Rattle.sf_policy.specs.declared.fault.Fault.{Fault}
-use Rattle.sf_policy.specs.declared.fault.Fault.TheVariants.{Memory, Read, Write}
+use Rattle.sf_policy.specs.declared.fault.Fault.TheVariants.{Count, Memory, Read, Write}
 use Rattle.sf_audit.specs.Outcomes.{Found}
 use Rattle.sf_audit.specs.Audits.{IsAudit, IsAuditRefusal}
+use Rattle.sf_audit.specs.Expectations.{ExpectedData, expected_text}
 use Rattle.sf_audit.specs.Reports.{report_text}
+use Rattle.sf_evaluate.specs.Expecting.{AreAcceptedIn, IsControl, RefusesAccepted, RefusesControl}
 use Rattle.sf_evaluate.specs.Files.{AreRead, HasUnknown}
-use Rattle.sf_evaluate.specs.Policies.{IsPolicyFile, RefusesPolicyFile}
+use Rattle.sf_evaluate.specs.Policies.{AreAsked, RefusesAsking}
 use Rattle.sf_evaluate.specs.Traces.{IsWhy}
-use Rattle.sf_command.specs.Status.{replies_status}
+use Rattle.sf_command.specs.Status.{audit_status}
+
+-- the files that an audit is asked by: policies, and where they are given that of a control and that of the questions
+-- that may be allowed
+pub record AskedData : Type 0 where
+  pub policies : List (Bor (List ℕ))
+  pub control : Option (List ℕ)
+  pub accept : Option (List ℕ)
+
+-- what these files hold: questions, those of the control, and the names of questions that may be allowed
+pub record ReadData : Type 0 where
+  pub questions : List QuestionData
+  pub control : List QuestionData
+  pub accepted : List (List ℕ)
+
+-- the files hold this
+pub record IsAskedBy (holds : List ℕ → Option (List ℕ)) (asked : AskedData) (read : ReadData) : Type 0 where
+  pub questions : AreAsked holds asked.policies read.questions
+  pub control : IsControl holds asked.control read.control
+  pub accepted : AreAcceptedIn holds asked.accept read.questions read.accepted
+
+-- what is expected, where these are the replies to the control
+abbrev pub expected_of : ReadData → List Reply → ExpectedData
+expected_of read held = record { control = read.control; held = held; accepted = read.accepted }
+
+-- what is told behind a report: where a control is given, or questions that may be allowed, what isn't as expected
+abbrev pub behind_text : AskedData → ExpectedData → Found → List ℕ
+behind_text asked expected found =
+    if is_some asked.control || is_some asked.accept then expected_text expected found else []
 
 -- the remark on a reply: where it has an example, why the stack answers to this as it does
 abbrev pub IsRemark : List NamesData → List (List Insn) → Reply → List ℕ → Type 0
@@ -35,33 +66,54 @@ abbrev pub HasRemarks : (why : Bool) → List NamesData → Found → List (List
 HasRemarks true names found remarks = AreRemarks names found.settled.stack found.replies remarks
 HasRemarks false names found remarks = remarks ≡ []
 
--- `audit`: the files at the paths are read and audited by the questions of the policy file; the report is written, with
--- remarks where they are asked for, and the status is that of the replies
-pub record AuditsFiles (holds : List ℕ → Option (List ℕ)) (policy : List ℕ) (paths : List (Bor (List ℕ)))
+-- what was found of the stack of these files, and what was expected: right replies to the questions and to the control
+pub record IsFoundFor (files : List (List ℕ)) (read : ReadData) (budget : ℕ) (found : Found)
+    (expected : ExpectedData) : Type 0 where
+  pub audit : IsAudit files read.questions budget found
+  pub held : List Reply
+  pub right : AreRightReplies found.settled read.control held
+  pub expects : expected ≡ expected_of read held
+
+-- `audit`: the files at the paths are read and audited by the questions that the files of the policies ask; the report
+-- is written, with remarks where they are asked for, and behind it what isn't as expected; the status tells of both
+pub record AuditsFiles (holds : List ℕ → Option (List ℕ)) (asked : AskedData) (paths : List (Bor (List ℕ)))
     (names : List NamesData) (budget : ℕ) (regions why : Bool) (status : ℕ) (old new : Option (List ℕ)) : Type 0 where
-  pub questions : List QuestionData
-  pub asked : IsPolicyFile (holds policy) questions
+  pub read : ReadData
+  pub asked_by : IsAskedBy holds asked read
   pub files : List (List ℕ)
-  pub read : AreRead holds paths files
+  pub are_read : AreRead holds paths files
   pub found : Found
-  pub audit : IsAudit files questions budget found
+  pub expected : ExpectedData
+  pub is_found : IsFoundFor files read budget found expected
   pub remarks : List (List ℕ)
   pub remarked : HasRemarks why names found remarks
-  pub written : Appends old new (report_text found regions remarks)
-  pub told : status ≡ replies_status found.replies
+  pub written : Appends old new (report_text found regions remarks ++ behind_text asked expected found)
+  pub told : status ≡ audit_status expected found
 
--- Why an audit by these questions is refused: a filter file whose bytes aren't known can't be read; or all were read,
+-- Why the files that an audit is asked by are refused: a policy is; or the control; or the questions that may be
+-- allowed.
+abbrev pub RefusesAsked : (List ℕ → Option (List ℕ)) → AskedData → Fault → Type 0
+RefusesAsked holds asked fault =
+    RefusesAsking holds asked.policies fault ⊎ RefusesControl holds asked.control fault
+    ⊎ ((questions : List QuestionData) × AreAsked holds asked.policies questions
+    × RefusesAccepted holds asked.accept questions fault)
+
+-- Why the audit of files is refused: the files make no stack or there are too many questions; or the control has too
+-- many.
+abbrev pub IsRefusedFor : List (List ℕ) → ReadData → Fault → Type 0
+IsRefusedFor files read fault =
+    IsAuditRefusal files read.questions fault ⊎ ((fault ≡ Count) × (256 < length read.control))
+
+-- Why an audit by what was read is refused: a filter file whose bytes aren't known can't be read; or all were read,
 -- and the audit of what they hold is refused.
-abbrev pub RefusesAsked : (List ℕ → Option (List ℕ)) → List (Bor (List ℕ)) → List QuestionData → Fault → Type 0
-RefusesAsked holds paths questions fault =
+abbrev pub RefusesFiles : (List ℕ → Option (List ℕ)) → List (Bor (List ℕ)) → ReadData → Fault → Type 0
+RefusesFiles holds paths read fault =
     ((fault ≡ Read) × HasUnknown holds paths)
-    ⊎ ((files : List (List ℕ)) × AreRead holds paths files × IsAuditRefusal files questions fault)
+    ⊎ ((files : List (List ℕ)) × AreRead holds paths files × IsRefusedFor files read fault)
 
--- Why an audit is refused: writing or memory failed; the policy file, whose bytes aren't known, can't be read; it was
--- read and is no policy; or it is one, and the audit by its questions is refused.
-abbrev pub RefusesAudit : (List ℕ → Option (List ℕ)) → List ℕ → List (Bor (List ℕ)) → Fault → Type 0
-RefusesAudit holds policy paths fault =
-    (fault ≡ Write) ⊎ (fault ≡ Memory)
-    ⊎ ((fault ≡ Read) × (holds policy ≡ None)) ⊎ RefusesPolicyFile (holds policy) fault
-    ⊎ ((questions : List QuestionData) × IsPolicyFile (holds policy) questions
-    × RefusesAsked holds paths questions fault)
+-- Why an audit is refused: writing or memory failed; the files that it is asked by are refused; or these were read, and
+-- the audit by what they hold is refused.
+abbrev pub RefusesAudit : (List ℕ → Option (List ℕ)) → AskedData → List (Bor (List ℕ)) → Fault → Type 0
+RefusesAudit holds asked paths fault =
+    (fault ≡ Write) ⊎ (fault ≡ Memory) ⊎ RefusesAsked holds asked fault
+    ⊎ ((read : ReadData) × IsAskedBy holds asked read × RefusesFiles holds paths read fault)

@@ -2,4 +2,5 @@ pub mod Status
 pub mod Audits
 pub mod Comparisons
 pub mod Listings
+pub mod Needs
 pub mod Runs

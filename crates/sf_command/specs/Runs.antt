@@ -1,5 +1,5 @@
 -- What the program does, by the words of its command line.
-use Rattle.std.specs.Prelude.{◌≡◌, ◌⊎◌, ◌&&◌, ℕ, Bool, true, false, if◌then◌else◌, List, [], Option, Some, codes, option_map}
+use Rattle.std.specs.Prelude.{◌≡◌, ◌⊎◌, ◌&&◌, ℕ, Bool, true, false, if◌then◌else◌, List, [], ◌∷◌, ◌++◌, Option, Some, codes, drop, option_map}
 use Rattle.std.specs.Str.{bytes_eq}
 use Rattle.std.specs.Borrow.{Bor}
 use Rattle.std.specs.Io.KnownBytes.{Appends}
@@ -14,13 +14,15 @@ use Rattle.sf_compare.specs.declared.relation.Relation.{Relation}
 use Rattle.sf_compare.specs.declared.relation.Relation.TheVariants.{Looser, Tighter, Different}
 use Rattle.sf_command_line.specs.CommandLine.{errors_at, subcommand_at}
 use Rattle.sf_command_line.specs.Options.{ArePaths, IsOptionNumber, IsSwitch, text_of}
-use Rattle.sf_command.specs.Audits.{AuditsFiles, RefusesAudit}
+use Rattle.sf_command.specs.Audits.{AskedData, AuditsFiles, RefusesAudit}
 use Rattle.sf_command.specs.Comparisons.{ComparesFiles, RefusesComparison}
 use Rattle.sf_command.specs.Listings.{ListsFiles, RefusesListing}
+use Rattle.sf_command.specs.Needs.{RefusesNeeds, TellsNeeds}
 use Rattle.sf_evaluate.specs.Names.{AreNamesRead, RefusesNaming}
 use Rattle.sf_evaluate.specs.Outputs.{AnswersFiles, ChecksFiles, RefusesCheck}
 use Rattle.sf_evaluate.specs.Asking.{AsksInput, LacksName, eval_words_fit, spells_input}
 use Rattle.sf_evaluate.specs.Profiles.{RefusesProfile, WritesProfile, words_fit}
+use Rattle.sf_evaluate.specs.Expecting.{audit_words_fit}
 use Rattle.sf_evaluate.specs.Wanted.{are_known, calls_asked, calls_fit, rows_fit}
 use Rattle.sf_list.specs.Differences.{ShownData}
 
@@ -50,8 +52,14 @@ pub record AreNamed (holds : Text → Option Text) (rows : List Row) (names : Li
   pub named : ArePaths (codes "names") rows paths
   pub read : AreNamesRead holds paths names
 
+-- these are the files by which an audit is asked
+pub record IsAskedFor (rows : List Row) (asked : AskedData) : Type 0 where
+  pub policies : ArePaths (codes "policy") rows asked.policies
+  pub control : asked.control ≡ first_of (codes "control") rows
+  pub accept : asked.accept ≡ first_of (codes "accept") rows
+
 module _ (holds : Text → Option Text) (rows : List Row) (status : ℕ) (old new : Option Text) where
-  -- the files that are named were audited by the policy file that is named
+  -- the files that are named were audited by the files that ask
   pub record Audits : Type 0 where
     pub paths : List (Bor Text)
     pub named : ArePaths (codes "filters") rows paths
@@ -63,7 +71,9 @@ module _ (holds : Text → Option Text) (rows : List Row) (status : ℕ) (old ne
     pub explained : IsSwitch (one_of (codes "why") rows) why
     pub names : List NamesData
     pub called : AreNamed holds rows names
-    pub audited : AuditsFiles holds (text_of (codes "policy") rows) paths names budget regions why status old new
+    pub asked : AskedData
+    pub asked_for : IsAskedFor rows asked
+    pub audited : AuditsFiles holds asked paths names budget regions why status old new
 
   -- the files that are named were checked
   pub record Checks : Type 0 where
@@ -117,18 +127,28 @@ module _ (holds : Text → Option Text) (rows : List Row) (status : ℕ) (old ne
     pub known : are_known names (calls_asked rows) ≡ true
     pub listed : ListsFiles holds paths names (calls_asked rows) budget status old new
 
+  -- what is needed of the files that are named was told
+  pub record Needs : Type 0 where
+    pub paths : List (Bor Text)
+    pub named : ArePaths (codes "filters") rows paths
+    pub budget : ℕ
+    pub counted : IsOptionNumber (one_of (codes "budget") rows) 1000000 100000 budget
+    pub needed : TellsNeeds holds paths budget status old new
+
   -- the filter of the profile that is named was written, or what is told of it
   pub record Profiles : Type 0 where
     pub written : WritesProfile holds rows old new
     pub told : status ≡ 0
 
--- one of the six subcommands is named, and what belongs to its name holds of the values of its arguments
-abbrev pub ByName : (audit check eval compare list profile : List Row → Type 0) → Option (Text × List Row) → Type 0
-ByName audit check eval compare list profile named =
+-- one of the seven subcommands is named, and what belongs to its name holds of the values of its arguments
+abbrev pub ByName : (audit check eval compare list needed profile : List Row → Type 0)
+    → Option (Text × List Row) → Type 0
+ByName audit check eval compare list needed profile named =
     (found : Text × List Row) × (named ≡ Some found)
     × (((found.0 ≡ codes "audit") × audit found.1) ⊎ ((found.0 ≡ codes "check") × check found.1)
     ⊎ ((found.0 ≡ codes "eval") × eval found.1) ⊎ ((found.0 ≡ codes "compare") × compare found.1)
-    ⊎ ((found.0 ≡ codes "list") × list found.1) ⊎ ((found.0 ≡ codes "profile") × profile found.1))
+    ⊎ ((found.0 ≡ codes "list") × list found.1) ⊎ ((found.0 ≡ codes "needed") × needed found.1)
+    ⊎ ((found.0 ≡ codes "profile") × profile found.1))
 
 -- what was done is what the named subcommand asks for
 abbrev pub RunsAs : (Text → Option Text) → Option (Text × List Row) → ℕ → Option Text → Option Text → Type 0
@@ -138,6 +158,7 @@ RunsAs holds named status old new = ByName
     (λ rows. Evaluates holds rows status old new)
     (λ rows. Compares holds rows status old new)
     (λ rows. Lists holds rows status old new)
+    (λ rows. Needs holds rows status old new)
     (λ rows. Profiles holds rows status old new)
     named
 
@@ -148,11 +169,21 @@ words_fit_for name rows =
     else if bytes_eq name (codes "list") then calls_fit rows
     else if bytes_eq name (codes "compare") then calls_fit rows && rows_fit rows
     else if bytes_eq name (codes "eval") then eval_words_fit rows
+    else if bytes_eq name (codes "audit") then audit_words_fit rows
     else true
 
 -- a subcommand is named, and a word isn't one that its option takes
 abbrev pub HasWrongWord : Option (Text × List Row) → Type 0
 HasWrongWord named = (found : Text × List Row) × (named ≡ Some found) × (words_fit_for found.0 found.1 ≡ false)
+
+-- the first word is `help`
+abbrev pub begins_with_help : List Text → Bool
+begins_with_help [] = false
+begins_with_help (word ∷ words) = bytes_eq word (codes "help")
+
+-- the words that are meant: `help`, and the name of a subcommand, asks for what `--help` behind this name asks for
+abbrev pub meant_words : List Text → List Text
+meant_words words = if begins_with_help words then drop 1 words ++ codes "--help" ∷ [] else words
 
 -- the words are refused: they don't fit the form, or one isn't a word that its option takes
 abbrev pub RefusesWords : List Text → Type 0
@@ -219,12 +250,14 @@ RefusesEval holds rows fault =
 abbrev pub RefusesAs : (Text → Option Text) → Option (Text × List Row) → Fault → Type 0
 RefusesAs holds named fault = ByName
     (λ rows. OnNames holds rows fault (OnPaths (codes "filters") rows
-    (λ paths. RefusesAudit holds (text_of (codes "policy") rows) paths fault)))
+    (λ paths. (asked : AskedData) × IsAskedFor rows asked × RefusesAudit holds asked paths fault)))
     (λ rows. OnPaths (codes "filters") rows (λ paths. RefusesCheck holds paths fault))
     (λ rows. OnNames holds rows fault (RefusesEval holds rows fault))
     (λ rows. OnCalls holds rows fault (OnPaths (codes "old") rows (λ old. OnPaths (codes "new") rows
     (λ new. RefusesComparison holds old new fault))))
     (λ rows. OnCalls holds rows fault (OnPaths (codes "filters") rows (λ paths. RefusesListing holds paths fault)))
+    (λ rows. OnPaths (codes "filters") rows
+    (λ paths. (budget : ℕ) × RefusesNeeds holds paths budget fault))
     (λ rows. RefusesProfile holds rows fault)
     named
 

@@ -1,20 +1,23 @@
-//! The subcommand `audit`: reads the policy file and the filter files, audits the stack and writes the report.
+//! The subcommand `audit`: reads the files that ask and the filter files, audits the stack and writes the report.
 
-ghost use Rattle.std.specs.Prelude.{◌≡◌, ◌<◌, ◌≤◌, ◌⊎◌, IfOk, IfErr, map, string_bytes};
-ghost use Rattle.sf_policy.specs.declared.fault.Fault.TheVariants.{Memory as MemoryFault, Write as WriteFault};
-ghost use Rattle.sf_command.specs.Audits.{AreRemarks, AuditsFiles, HasRemarks, IsRemark, RefusesAudit};
+ghost use Rattle.std.specs.Prelude.{◌≡◌, ◌<◌, ◌≤◌, ◌⊎◌, ◌||◌, ℕ, List, IfOk, IfErr, is_some, length, map, string_bytes};
+ghost use Rattle.sf_crew.specs.Sweeps.{AreRightReplies};
+ghost use Rattle.sf_policy.specs.declared.fault.Fault.TheVariants.{Count as CountFault, Memory as MemoryFault, Write as WriteFault};
+ghost use Rattle.sf_command.specs.Audits.{AreRemarks, AuditsFiles, HasRemarks, IsAskedBy, IsFoundFor, IsRefusedFor, IsRemark, RefusesAsked, RefusesAudit, behind_text};
 
-use crate::status::status_of_replies;
-use sf_ask::Reply;
-use sf_audit::{Outcome, write_report};
+use crate::status::status_of_audit;
+use sf_ask::{Question, Reply};
+use sf_audit::{Expected, Outcome, reply_to, text_of_expected, write_report};
+use sf_book::Settled;
 use sf_check::Stack;
-use sf_crew::Open;
-use sf_evaluate::{Files, Notes, questions_in, read_all, why_text};
+use sf_crew::Gate;
+use sf_evaluate::{Files, Notes, accepted_in, all_questions_in, control_in, read_all, why_text};
 use sf_names::Names;
 use sf_policy::Fault;
 use sf_warnings::warnings_of_stack;
-use std::alloc::Global;
+use std::alloc::{AllocError, Global};
 use std::io::Write;
+use std::marker::Model;
 use std::sync::Wait;
 use std::thread::Threads;
 
@@ -29,6 +32,147 @@ pub struct Options {
     pub regions: bool,
     /// Whether the report tells of each example why the stack answers so.
     pub why: bool,
+}
+
+/// The files that an audit is asked by.
+#[derive(Drop)]
+pub struct Asked<'m, 'a> {
+    /// The paths of the policy files.
+    pub policies: &'m [&'a str],
+    /// The path of the policy file of the control, if there is one.
+    pub control: Option<&'a str>,
+    /// The path of the file of the questions that may be allowed, if there is one.
+    pub accept: Option<&'a str>,
+}
+
+impl<'m, 'a> Model for Asked<'m, 'a> {
+    ghost use Rattle.std.specs.Prelude.{option_map};
+    ghost use Rattle.sf_command.specs.Audits.{AskedData};
+
+    ghost Value = { AskedData };
+
+    ghost view = { λ a. record {
+      policies = a.policies.now;
+      control = option_map (λ t. t.now) a.control;
+      accept = option_map (λ t. t.now) a.accept;
+    } };
+}
+
+impl Asked<'_, '_> {
+    /// Whether it is told what isn't as expected.
+    fn is_expecting(&self) -> bool
+        ensures { result ≡ (is_some self.now.control || is_some self.now.accept) }
+    {
+        self.control.is_some() || self.accept.is_some()
+    }
+}
+
+/// What these files hold.
+#[derive(Drop)]
+struct Read {
+    questions: Vec<Question>,
+    control: Vec<Question>,
+    accepted: Vec<String>,
+}
+
+impl Model for Read {
+    ghost use Rattle.std.specs.Prelude.{map, string_bytes};
+    ghost use Rattle.sf_command.specs.Audits.{ReadData};
+
+    ghost Value = { ReadData };
+
+    ghost view = { λ r. record {
+      questions = r.questions.items;
+      control = r.control.items;
+      accepted = map string_bytes r.accepted.items;
+    } };
+}
+
+/// Reads the policy files, then that of the control, and then that of the questions that may be allowed. The refusal is
+/// that of the first file that is refused.
+fn read_asked<F: Files>(
+    alloc: Global,
+    asked: &Asked<'_, '_>,
+    files: &mut F,
+    notes: &mut Notes,
+) -> Result<Read, Fault>
+    ensures read { IfOk result (IsAskedBy (F.holds files.old) asked.now) }
+    ensures refused { IfErr result (RefusesAsked (F.holds files.old) asked.now) }
+    ensures same { (p : List ℕ) → F.holds files.new p ≡ F.holds files.old p }
+{
+    let questions = all_questions_in(alloc, asked.policies, files, notes)?;
+    let control = control_in(alloc, asked.control, files, notes)?;
+    let accepted = accepted_in(alloc, asked.accept, &questions, files, notes)?;
+    Ok(Read {
+        questions,
+        control,
+        accepted,
+    })
+}
+
+/// The replies to the questions of a control; none where it has none. `Count` where they are more than 256, `Memory` where
+/// an allocation is refused.
+fn replies_to<R: Threads + Wait + Sync, G: Gate>(
+    rt: &R,
+    alloc: Global,
+    settled: &Settled,
+    control: &[Question],
+    workers: usize,
+    gate: &G,
+) -> Result<Vec<Reply>, Fault>
+    requires workers { (0 < workers) × (workers ≤ 64) }
+    ensures right { IfOk result (λ v. AreRightReplies settled.now control.now v.items) }
+    ensures refused { IfErr result (λ e. (e ≡ MemoryFault)
+        ⊎ ((e ≡ CountFault) × (256 < length control.now))) }
+{
+    if control.is_empty() {
+        return Ok(Vec::new(alloc));
+    }
+    reply_to(rt, alloc, settled, control, workers, gate)
+}
+
+/// What is found of the stack of these filters by what was read, and what is expected of it. Refusals: those of `audit` of
+/// the library, and then `Count` where the control has more than 256 questions. `Memory` can come anywhere.
+fn find<R: Threads + Wait + Sync, G: Gate>(
+    rt: &R,
+    alloc: Global,
+    filters: &[Vec<u8>],
+    read: Read,
+    options: Options,
+    gate: &G,
+) -> Result<(Outcome, Expected), Fault>
+    requires workers { (0 < options.workers) × (options.workers ≤ 64) }
+    ensures found { IfOk result (λ r. IsFoundFor (map (λ f. f.items) filters.now) read
+        options.budget r.0 r.1) }
+    ensures refused { IfErr result (λ e. (e ≡ MemoryFault)
+        ⊎ IsRefusedFor (map (λ f. f.items) filters.now) read e) }
+{
+    let Read {
+        questions,
+        control,
+        accepted,
+    } = read;
+    let workers = usize::from(options.workers);
+    let outcome = sf_audit::audit(rt, alloc, filters, questions, options.budget, workers, gate)?;
+    let held = replies_to(rt, alloc, outcome.settled(), &control, workers, gate)?;
+    Ok((outcome, Expected::of(control, held, accepted)))
+}
+
+/// What is told behind a report: what isn't as expected, where something is. An error where an allocation is refused.
+fn behind_of(
+    alloc: Global,
+    asked: &Asked<'_, '_>,
+    expected: &Expected,
+    outcome: &Outcome,
+) -> Result<String, AllocError>
+    ensures { IfOk result (λ text. string_bytes text
+        ≡ behind_text asked.now expected.now outcome.now) }
+{
+    if asked.is_expecting() {
+        text_of_expected(alloc, expected, outcome)
+    } else {
+        Ok(String::new(alloc))
+    }
 }
 
 /// Why the stack answers as it does to the example of a reply; empty where it has none.
@@ -79,50 +223,44 @@ fn asked_remarks(
     remarks_of(alloc, names, outcome.settled().stack(), outcome.replies())
 }
 
-/// Reads the policy file and then the filter files, which are named in order of installation; audits the stack of the
-/// filters, writes the report, and gives the exit status of the replies. Where the options ask for it, lines under each
-/// allowed question tell why the stack answers so to its example, with these names of calls.
+/// Reads the files that ask and then the filter files, which are named in order of installation; audits the stack of the
+/// filters, writes the report, and behind it what isn't as expected, and gives the exit status. Where the options ask for
+/// it, lines under each allowed question tell why the stack answers so to its example, with these names of calls. The gate
+/// sees each work before it is committed, and each sheet of verdicts before it is entered.
 ///
-/// Refusals, tried in this order: of the policy file `Read`, `Syntax` where it isn't UTF-8, and what `read_policy`
-/// refuses; `Read` where a filter file can't be read; what `audit` of the library refuses; `Write` where standard
-/// output can't be written, after a beginning of the report. `Memory` can come anywhere. After any error but `Write`
-/// nothing is written.
-pub fn audit<R: Threads + Wait + Sync, F: Files, O: Write>(
+/// Refusals, tried in this order: of the policy files, of that of the control and of that of the questions that may be
+/// allowed `Read`, `Syntax` where it isn't UTF-8, and what `read_policy` or `read_accepted` refuses; `Read` where a filter
+/// file can't be read; what `audit` of the library refuses; `Write` where standard output can't be written, after a
+/// beginning of the report. `Memory` can come anywhere. After any error but `Write` nothing is written.
+pub fn audit<R: Threads + Wait + Sync, F: Files, G: Gate, O: Write>(
     rt: &R,
     alloc: Global,
-    policy: &str,
+    asked: &Asked<'_, '_>,
     paths: &[&str],
     names: &[Names],
     options: Options,
     files: &mut F,
     notes: &mut Notes,
+    gate: &G,
     out: &mut O,
 ) -> Result<u8, Fault>
     requires workers { (0 < options.workers) × (options.workers ≤ 64) }
-    ensures written { IfOk result (λ s. AuditsFiles (F.holds files.old) policy.now paths.now
+    ensures written { IfOk result (λ s. AuditsFiles (F.holds files.old) asked.now paths.now
         names.now options.budget options.regions options.why s
         (O.contents out.old) (O.contents out.new)) }
     ensures status { IfOk result (λ s. s ≤ 2) }
-    ensures refused { IfErr result (RefusesAudit (F.holds files.old) policy.now paths.now) }
+    ensures refused { IfErr result (RefusesAudit (F.holds files.old) asked.now paths.now) }
     ensures quiet { IfErr result (λ e. (e ≡ WriteFault) ⊎ (out.new ≡ out.old)) }
 {
-    let questions = questions_in(alloc, policy, files, notes)?;
+    let read = read_asked(alloc, asked, files, notes)?;
     let filters = read_all(alloc, paths, files, notes)?;
-    let workers = usize::from(options.workers);
-    let outcome = sf_audit::audit(
-        rt,
-        alloc,
-        &filters,
-        questions,
-        options.budget,
-        workers,
-        &Open,
-    )?;
+    let (outcome, expected) = find(rt, alloc, &filters, read, options, gate)?;
     notes.warnings = warnings_of_stack(alloc, &filters, outcome.settled());
     notes.warn_of_questions(outcome.questions(), names);
     let remarks = asked_remarks(alloc, options.why, names, &outcome)?;
-    write_report(alloc, &outcome, options.regions, &remarks, out)?;
-    let status = status_of_replies(outcome.replies());
+    let behind = behind_of(alloc, asked, &expected, &outcome)?;
+    write_report(alloc, &outcome, options.regions, &remarks, &behind, out)?;
+    let status = status_of_audit(&expected, &outcome);
     files.take_over(outcome);
     Ok(status)
 }

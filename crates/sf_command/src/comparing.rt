@@ -7,7 +7,7 @@ ghost use Rattle.sf_evaluate.specs.Files.{HasUnknown};
 
 use crate::status::status_of_change;
 use sf_compare::{Comparison, Relation, write_comparison};
-use sf_crew::Open;
+use sf_crew::Gate;
 use sf_evaluate::{Files, Notes, read_all};
 use sf_list::{Shown, draw_differences, write_differences};
 use sf_names::Names;
@@ -80,12 +80,13 @@ fn write_compared<O: Write>(
 }
 
 /// Reads the old filter files and then the new ones, each named in order of installation; compares their stacks, writes
-/// what is found, and gives the exit status of the relation that is asked for.
+/// what is found, and gives the exit status of the relation that is asked for. The gate sees each work before it is
+/// committed.
 ///
 /// Refusals, tried in this order: `Read` where a file can't be read; what `compare` of the library refuses; `Write`
 /// where standard output can't be written, after a beginning of the text. `Memory` can come anywhere. After any error
 /// but `Write` nothing is written.
-pub fn compare<R: Threads + Wait + Sync, F: Files, O: Write>(
+pub fn compare<R: Threads + Wait + Sync, F: Files, G: Gate, O: Write>(
     rt: &R,
     alloc: Global,
     old: &[&str],
@@ -95,6 +96,7 @@ pub fn compare<R: Threads + Wait + Sync, F: Files, O: Write>(
     shown: &Shown<'_>,
     files: &mut F,
     notes: &mut Notes,
+    gate: &G,
     out: &mut O,
 ) -> Result<u8, Fault>
     requires workers { (0 < terms.workers) × (terms.workers ≤ 64) }
@@ -107,7 +109,7 @@ pub fn compare<R: Threads + Wait + Sync, F: Files, O: Write>(
 {
     let (filters, older) = read_both(alloc, old, new, files, notes)?;
     let workers = usize::from(terms.workers);
-    let comparison = sf_compare::compare(rt, alloc, &filters, older, terms.budget, workers, &Open)?;
+    let comparison = sf_compare::compare(rt, alloc, &filters, older, terms.budget, workers, gate)?;
     let (settled, answers) = (comparison.settled(), comparison.answers());
     notes.warnings = warnings_of_both(alloc, &filters, older, settled, answers);
     write_compared(alloc, &comparison, sets, terms, shown, out)?;

@@ -1,36 +1,39 @@
 //! What the program does, from the words of its command line to its exit status.
-ghost use Rattle.std.specs.Prelude.{◌≡◌, ◌≢◌, ◌≤◌, ◌⊎◌, ℕ, List, [], codes, map, option_map, string_bytes, IfOk, IfErr};
+ghost use Rattle.std.specs.Prelude.{◌≡◌, ◌≢◌, ◌<◌, ◌≤◌, ◌⊎◌, ℕ, List, [], codes, length, map, string_bytes, true, ◌++◌, IfOk, IfErr, OnOk};
 ghost use Rattle.clap.specs.Words.{first_of, found_of, kind_of, one_of, rows_of, subcommand_rows_of};
 ghost use Rattle.sf_policy.specs.Faults.{fault_number};
 ghost use Rattle.sf_policy.specs.declared.fault.Fault.TheVariants.{Memory as MemoryFault, Write as WriteFault};
-ghost use Rattle.sf_command.specs.Audits.{RefusesAudit};
+ghost use Rattle.sf_command.specs.Audits.{AskedData, RefusesAudit};
 ghost use Rattle.sf_command.specs.Comparisons.{RefusesComparison};
 ghost use Rattle.sf_command.specs.Listings.{RefusesListing};
+ghost use Rattle.sf_command.specs.Needs.{RefusesNeeds};
 ghost use Rattle.sf_evaluate.specs.Names.{RefusesNaming};
 ghost use Rattle.sf_evaluate.specs.Outputs.{RefusesCheck};
-ghost use Rattle.sf_command.specs.Runs.{AreNamed, Audits, Checks, Compares, Evaluates, RunsAs, IsAskedRelation, IsHelp, Lists, DoesAsTold, HasWrongWord, OnCalls, OnNames, OnPaths, RefusesAs, RefusesAsTold, RefusesEval, RefusesWords, WritesText, relation_asked, relation_named, words_fit_for};
+ghost use Rattle.sf_command.specs.Runs.{AreNamed, Audits, Checks, Compares, Evaluates, RunsAs, IsAskedFor, IsAskedRelation, IsHelp, Lists, Needs, DoesAsTold, HasWrongWord, OnCalls, OnNames, OnPaths, RefusesAs, RefusesAsTold, RefusesEval, RefusesWords, WritesText, begins_with_help, meant_words, relation_asked, relation_named, words_fit_for};
 ghost use Rattle.sf_command_line.specs.CommandLine.{IsKnown, errors_at};
-ghost use Rattle.sf_command_line.specs.Options.{text_of};
 ghost use Rattle.sf_evaluate.specs.Status.{fault_status};
 
-use crate::auditing::{Options, audit};
+use crate::auditing::{Asked, Options, audit};
 use crate::comparing::{Terms, compare};
 use crate::listing::{Limits, list};
+use crate::needing::needed;
+use crate::watching::{Meter, Watched};
 use clap::ArgMatches;
 use clap::error::ErrorKind;
 use sf_command_line::{
-    budget_of, command_form, leaves_of, text_of, wants_brief, wants_instructions, wants_regions,
-    wants_rows, wants_same, wants_trace, wants_why, workers_of,
+    budget_of, command_form, given_text, leaves_of, wants_brief, wants_instructions,
+    wants_progress, wants_regions, wants_rows, wants_same, wants_trace, wants_why, workers_of,
 };
 use sf_compare::Relation;
 use sf_evaluate::{
-    Files, Notes, asked_input, calls_fit, check, eval_words_fit, evaluate, known_calls, print,
-    profile, read_all_names, rows_fit, spells_input, tell, tell_wrong_words, warn, words_fit,
+    Files, Notes, asked_input, audit_words_fit, calls_fit, check, eval_words_fit, evaluate,
+    known_calls, print, profile, read_all_names, rows_fit, spells_input, tell, tell_wrong_words,
+    warn, words_fit,
 };
 use sf_list::Shown;
 use sf_names::Names;
 use sf_policy::Fault;
-use std::alloc::Global;
+use std::alloc::{AllocError, Global};
 use std::io::Write;
 use std::sync::Wait;
 use std::thread::Threads;
@@ -52,13 +55,19 @@ fn names_of<F: Files>(
     read_all_names(alloc, paths, files, notes)
 }
 
+/// The meter of a run: it is told of what happens only where progress is asked for.
+fn watched<'a, M: Meter>(found: &ArgMatches<'_>, meter: &'a M) -> Watched<'a, M> {
+    Watched::of(meter, wants_progress(found), budget_of(found))
+}
+
 /// Runs `audit` as the matches of the subcommand say.
-fn run_audit<R: Threads + Wait + Sync, F: Files, O: Write>(
+fn run_audit<R: Threads + Wait + Sync, F: Files, M: Meter, O: Write>(
     rt: &R,
     alloc: Global,
     found: &ArgMatches<'_>,
     files: &mut F,
     notes: &mut Notes,
+    meter: &M,
     out: &mut O,
 ) -> Result<u8, Fault>
     ensures done { IfOk result (λ s. Audits (F.holds files.old) (rows_of (found_of found.now)) s
@@ -68,8 +77,8 @@ fn run_audit<R: Threads + Wait + Sync, F: Files, O: Write>(
     ensures refused { IfErr result (λ e. OnNames (F.holds files.old)
         (rows_of (found_of found.now)) e
         (OnPaths (codes "filters") (rows_of (found_of found.now))
-        (λ paths. RefusesAudit (F.holds files.old)
-        (text_of (codes "policy") (rows_of (found_of found.now))) paths e))) }
+        (λ paths. (asked : AskedData) × IsAskedFor (rows_of (found_of found.now)) asked
+        × RefusesAudit (F.holds files.old) asked paths e))) }
 {
     let names = names_of(alloc, found, files, notes)?;
     let paths = found.get_strs("filters").unwrap_or(&[]);
@@ -79,8 +88,15 @@ fn run_audit<R: Threads + Wait + Sync, F: Files, O: Write>(
         regions: wants_regions(found),
         why: wants_why(found),
     };
-    let policy = text_of(found, "policy");
-    audit(rt, alloc, policy, paths, &names, options, files, notes, out)
+    let asked = Asked {
+        policies: found.get_strs("policy").unwrap_or(&[]),
+        control: given_text(found, "control"),
+        accept: given_text(found, "accept"),
+    };
+    let gate = watched(found, meter);
+    audit(
+        rt, alloc, &asked, paths, &names, options, files, notes, &gate, out,
+    )
 }
 
 /// Runs `check` on the filter files that the matches of the subcommand name.
@@ -157,31 +173,24 @@ fn relation_named(word: &str) -> Relation
     }
 }
 
-/// The word behind `--only`, where it is given.
-fn only_word<'a>(found: &ArgMatches<'a>) -> Option<&'a str>
-    ensures { option_map (λ t. t.now) result
-        ≡ first_of (codes "only") (rows_of (found_of found.now)) }
-{
-    found.get_str("only")
-}
-
 /// The relation by which rows of a comparison are asked for; none where all are shown.
 fn relation_asked(found: &ArgMatches<'_>) -> Option<Relation>
     ensures { result ≡ relation_asked (first_of (codes "only") (rows_of (found_of found.now))) }
 {
-    match only_word(found) {
+    match given_text(found, "only") {
         Some(word) => Some(relation_named(word)),
         None => None,
     }
 }
 
 /// Runs `compare` as the matches of the subcommand say.
-fn run_compare<R: Threads + Wait + Sync, F: Files, O: Write>(
+fn run_compare<R: Threads + Wait + Sync, F: Files, M: Meter, O: Write>(
     rt: &R,
     alloc: Global,
     found: &ArgMatches<'_>,
     files: &mut F,
     notes: &mut Notes,
+    meter: &M,
     out: &mut O,
 ) -> Result<u8, Fault>
     ensures done { IfOk result (λ s. Compares (F.holds files.old) (rows_of (found_of found.now)) s
@@ -208,18 +217,20 @@ fn run_compare<R: Threads + Wait + Sync, F: Files, O: Write>(
         rows: wants_rows(found),
         leaves: leaves_of(found),
     };
+    let gate = watched(found, meter);
     compare(
-        rt, alloc, old, new, &names, terms, &shown, files, notes, out,
+        rt, alloc, old, new, &names, terms, &shown, files, notes, &gate, out,
     )
 }
 
 /// Runs `list` as the matches of the subcommand say.
-fn run_list<R: Threads + Wait + Sync, F: Files, O: Write>(
+fn run_list<R: Threads + Wait + Sync, F: Files, M: Meter, O: Write>(
     rt: &R,
     alloc: Global,
     found: &ArgMatches<'_>,
     files: &mut F,
     notes: &mut Notes,
+    meter: &M,
     out: &mut O,
 ) -> Result<u8, Fault>
     ensures done { IfOk result (λ s. Lists (F.holds files.old) (rows_of (found_of found.now)) s
@@ -239,7 +250,33 @@ fn run_list<R: Threads + Wait + Sync, F: Files, O: Write>(
         workers: workers_of(found),
         leaves: leaves_of(found),
     };
-    list(rt, alloc, paths, &names, &calls, limits, files, notes, out)
+    let gate = watched(found, meter);
+    list(
+        rt, alloc, paths, &names, &calls, limits, files, notes, &gate, out,
+    )
+}
+
+/// Runs `needed` as the matches of the subcommand say.
+fn run_needed<R: Threads + Wait + Sync, F: Files, M: Meter, O: Write>(
+    rt: &R,
+    alloc: Global,
+    found: &ArgMatches<'_>,
+    files: &mut F,
+    notes: &mut Notes,
+    meter: &M,
+    out: &mut O,
+) -> Result<u8, Fault>
+    ensures done { IfOk result (λ s. Needs (F.holds files.old) (rows_of (found_of found.now)) s
+        (O.contents out.old) (O.contents out.new)) }
+    ensures status { IfOk result (λ s. s ≤ 2) }
+    ensures quiet { IfErr result (λ e. (e ≡ WriteFault) ⊎ (out.new ≡ out.old)) }
+    ensures refused { IfErr result (λ e. OnPaths (codes "filters") (rows_of (found_of found.now))
+        (λ paths. (budget : ℕ) × RefusesNeeds (F.holds files.old) paths budget e)) }
+{
+    let paths = found.get_strs("filters").unwrap_or(&[]);
+    let (budget, workers) = (budget_of(found), workers_of(found));
+    let gate = watched(found, meter);
+    needed(rt, alloc, paths, budget, workers, files, notes, &gate, out)
 }
 
 /// Whether the words behind the options of a subcommand, which has this name, are among those that the options take.
@@ -251,18 +288,20 @@ fn words_fit_for(name: &str, found: &ArgMatches<'_>) -> bool
         "eval" => eval_words_fit(found),
         "list" => calls_fit(found),
         "compare" => calls_fit(found) && rows_fit(found),
+        "audit" => audit_words_fit(found),
         _ => true,
     }
 }
 
-/// Runs the subcommand that the command line names, and gives its exit status; 4 where it names none of the six, or where a
-/// word isn't one that its option takes.
-fn run<R: Threads + Wait + Sync, F: Files, O: Write>(
+/// Runs the subcommand that the command line names, and gives its exit status; 4 where it names none of the seven, or where
+/// a word isn't one that its option takes.
+fn run<R: Threads + Wait + Sync, F: Files, M: Meter, O: Write>(
     rt: &R,
     alloc: Global,
     matches: &ArgMatches<'_>,
     files: &mut F,
     notes: &mut Notes,
+    meter: &M,
     out: &mut O,
 ) -> Result<u8, Fault>
     ensures status { IfOk result (λ s. (s ≤ 2) ⊎ (s ≡ 4)) }
@@ -282,11 +321,12 @@ fn run<R: Threads + Wait + Sync, F: Files, O: Write>(
         return Ok(4);
     }
     match name {
-        "audit" => run_audit(rt, alloc, found, files, notes, out),
+        "audit" => run_audit(rt, alloc, found, files, notes, meter, out),
         "check" => run_check(alloc, found, files, notes, out),
         "eval" => run_eval(alloc, found, files, notes, out),
-        "compare" => run_compare(rt, alloc, found, files, notes, out),
-        "list" => run_list(rt, alloc, found, files, notes, out),
+        "compare" => run_compare(rt, alloc, found, files, notes, meter, out),
+        "list" => run_list(rt, alloc, found, files, notes, meter, out),
+        "needed" => run_needed(rt, alloc, found, files, notes, meter, out),
         "profile" => profile(alloc, found, files, notes, out),
         _ => Ok(4),
     }
@@ -327,29 +367,70 @@ fn write_usage<O: Write, E: Write>(
     }
 }
 
+/// Adds copies of words. An error where an allocation is refused.
+fn push_words(alloc: Global, all: &mut Vec<String>, words: &[String]) -> Result<(), AllocError>
+    ensures { OnOk result (map string_bytes all.new.items
+        ≡ map string_bytes all.old.items ++ map string_bytes words.now) }
+{
+    for word in words {
+        all.push(String::from_str(alloc, word.as_str())?)?;
+    }
+    Ok(())
+}
+
+/// Whether the first word is `help`.
+fn begins_with_help(words: &[String]) -> bool
+    ensures help { result ≡ begins_with_help (map string_bytes words.now) }
+    ensures some { result ≡ true → 0 < length words.now }
+{
+    match words.first() {
+        Some(word) => word.as_str() == "help",
+        None => false,
+    }
+}
+
+/// The words that are meant: `help`, and the name of a subcommand, asks for what `--help` behind this name asks for. An error
+/// where an allocation is refused.
+fn meant_words(alloc: Global, words: &[String]) -> Result<Vec<String>, AllocError>
+    ensures { IfOk result (λ v. map string_bytes v.items
+        ≡ meant_words (map string_bytes words.now)) }
+{
+    let mut meant = Vec::new(alloc);
+    if begins_with_help(words) {
+        push_words(alloc, &mut meant, &words[1..])?;
+        meant.push(String::from_str(alloc, "--help")?)?;
+    } else {
+        push_words(alloc, &mut meant, words)?;
+    }
+    Ok(meant)
+}
+
 /// Does what the words of the command line ask for, and gives the exit status, or the fault for which it could not be
 /// done.
-fn reply<R: Threads + Wait + Sync, F: Files, O: Write, E: Write>(
+fn reply<R: Threads + Wait + Sync, F: Files, M: Meter, O: Write, E: Write>(
     rt: &R,
     alloc: Global,
     words: &[String],
     files: &mut F,
     notes: &mut Notes,
+    meter: &M,
     out: &mut O,
     err: &mut E,
 ) -> Result<u8, Fault>
     ensures status { IfOk result (λ s. (s ≤ 2) ⊎ (s ≡ 4)) }
     ensures done { IfOk result (λ s. s ≤ 2 → DoesAsTold (F.holds files.old)
-        (map string_bytes words.now) s (O.contents out.old) (O.contents out.new)) }
-    ensures usage { IfOk result (λ s. s ≡ 4 → RefusesWords (map string_bytes words.now)
+        (meant_words (map string_bytes words.now)) s (O.contents out.old) (O.contents out.new)) }
+    ensures usage { IfOk result (λ s. s ≡ 4 → RefusesWords
+        (meant_words (map string_bytes words.now))
         × (files.new ≡ files.old) × (out.new ≡ out.old)) }
     ensures quiet { IfErr result (λ e. (e ≡ WriteFault) ⊎ (out.new ≡ out.old)) }
     ensures refused { IfErr result (RefusesAsTold (F.holds files.old)
-        (map string_bytes words.now)) }
+        (meant_words (map string_bytes words.now))) }
 {
-    match command_form(alloc)?.try_get_matches_from(words) {
+    let meant = meant_words(alloc, words)?;
+    match command_form(alloc)?.try_get_matches_from(&meant) {
         Ok(matches) => {
-            let ran = run(rt, alloc, &matches, files, notes, out);
+            let ran = run(rt, alloc, &matches, files, notes, meter, out);
             notes.explain(alloc, &matches, &ran, files.explains(), files.reason());
             if ran.is_ok() {
                 warn(&matches, &notes.warnings, err);
@@ -363,42 +444,46 @@ fn reply<R: Threads + Wait + Sync, F: Files, O: Write, E: Write>(
 
 /// Does what the words after the program's name ask for, and gives the exit status:
 ///
-/// - 0: done; after an audit each question is never, after a comparison the relation that is asked for is never, and after a
-///   listing each row has one answer.
-/// - 1: some question of an audit is allowed, or the relation that is asked for is found.
-/// - 2: none is, and some is unsettled; after a listing some row has several answers, or a piece is
-///   outstanding.
+/// - 0: done; after an audit each question is never, after a comparison the relation that is asked for is never, after a
+///   listing each row has one answer, and after `needed` each filter is.
+/// - 1: some question of an audit is allowed, and not accepted; the relation that is asked for is found; or some filter is
+///   spare.
+/// - 2: none is, and some is unsettled; the control of an audit doesn't hold; after a listing some row has several answers,
+///   or a piece is outstanding.
 /// - 3: the filters, the policy, a profile, a file of names or the input are refused. Standard output is left as it was.
 /// - 4: the command line is refused. No file was read, standard output is left as it was, and standard error has the
 ///   text of `clap`, or of `tell_wrong_words`.
 /// - 5: reading, writing or memory failed. Standard output is left as it was, unless writing failed.
 ///
+/// The meter is told of each step where `--progress` is given.
+///
 /// At 3 and 5 one line on standard error names the fault: `error`, its number, its name and its place. With
 /// `--explain-errors`, or where `files` say so, lines for a person follow.
-pub fn command<R: Threads + Wait + Sync, F: Files, O: Write, E: Write>(
+pub fn command<R: Threads + Wait + Sync, F: Files, M: Meter, O: Write, E: Write>(
     rt: &R,
     alloc: Global,
     words: &[String],
     files: &mut F,
+    meter: &M,
     out: &mut O,
     err: &mut E,
 ) -> u8
     ensures status { result ≤ 5 }
     ensures done { result ≤ 2 → DoesAsTold (F.holds files.old)
-        (map string_bytes words.now) result
+        (meant_words (map string_bytes words.now)) result
         (O.contents out.old) (O.contents out.new) }
-    ensures usage { result ≡ 4 → RefusesWords (map string_bytes words.now)
+    ensures usage { result ≡ 4 → RefusesWords (meant_words (map string_bytes words.now))
         × (files.new ≡ files.old) × (out.new ≡ out.old) }
     ensures refused { result ≡ 3 → (out.new ≡ out.old)
         × ((e : Fault) × (fault_status (fault_number e) ≡ 3)
-        × RefusesAsTold (F.holds files.old) (map string_bytes words.now) e) }
+        × RefusesAsTold (F.holds files.old) (meant_words (map string_bytes words.now)) e) }
     ensures failed { result ≡ 5 → (e : Fault) × (fault_status (fault_number e) ≡ 5)
-        × RefusesAsTold (F.holds files.old) (map string_bytes words.now) e
+        × RefusesAsTold (F.holds files.old) (meant_words (map string_bytes words.now)) e
         × ((e ≡ WriteFault) ⊎ (out.new ≡ out.old)) }
 {
     let mut notes = Notes::new(alloc);
-    match reply(rt, alloc, words, files, &mut notes, out, err) {
+    match reply(rt, alloc, words, files, &mut notes, meter, out, err) {
         Ok(status) => status,
-        Err(fault) => tell(alloc, &fault, notes.explanation, err),
+        Err(fault) => tell(alloc, &fault, &notes, err),
     }
 }

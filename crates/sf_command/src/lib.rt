@@ -6,6 +6,9 @@ mod comparing;
 mod dispatch;
 pub mod laws;
 mod listing;
+mod needing;
 mod status;
+mod watching;
 
 pub use dispatch::command;
+pub use watching::Meter;

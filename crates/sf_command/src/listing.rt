@@ -5,7 +5,7 @@ ghost use Rattle.sf_policy.specs.declared.fault.Fault.TheVariants.{Write as Writ
 ghost use Rattle.sf_command.specs.Listings.{ListsFiles, RefusesListing};
 
 use crate::status::status_of_listing;
-use sf_crew::Open;
+use sf_crew::Gate;
 use sf_evaluate::{Files, Notes, read_all};
 use sf_list::write_listing;
 use sf_names::Names;
@@ -33,7 +33,7 @@ pub struct Limits {
 /// Refusals, tried in this order: `Read` where a file can't be read; what `list` of the library refuses; `Write` where
 /// standard output can't be written, after a beginning of the text. `Memory` can come anywhere. After any error but
 /// `Write` nothing is written.
-pub fn list<R: Threads + Wait + Sync, F: Files, O: Write>(
+pub fn list<R: Threads + Wait + Sync, F: Files, G: Gate, O: Write>(
     rt: &R,
     alloc: Global,
     paths: &[&str],
@@ -42,6 +42,7 @@ pub fn list<R: Threads + Wait + Sync, F: Files, O: Write>(
     limits: Limits,
     files: &mut F,
     notes: &mut Notes,
+    gate: &G,
     out: &mut O,
 ) -> Result<u8, Fault>
     requires workers { (0 < limits.workers) × (limits.workers ≤ 64) }
@@ -55,7 +56,7 @@ pub fn list<R: Threads + Wait + Sync, F: Files, O: Write>(
     let filters = read_all(alloc, paths, files, notes)?;
     let workers = usize::from(limits.workers);
     let leaves = limits.leaves as usize;
-    let listing = sf_list::list(rt, alloc, &filters, limits.budget, workers, leaves, &Open)?;
+    let listing = sf_list::list(rt, alloc, &filters, limits.budget, workers, leaves, gate)?;
     notes.warnings = warnings_of_stack(alloc, &filters, listing.settled());
     let whole = write_listing(alloc, &listing, sets, calls, out)?;
     let status = status_of_listing(whole);

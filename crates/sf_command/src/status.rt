@@ -1,20 +1,23 @@
 //! The exit statuses of what was found.
 
-ghost use Rattle.std.specs.Prelude.{◌≡◌};
-ghost use Rattle.sf_command.specs.Status.{change_status, listing_status, replies_status};
+ghost use Rattle.std.specs.Prelude.{◌≡◌, ◌≤◌};
+ghost use Rattle.sf_command.specs.Status.{audit_status, change_status, listing_status, needs_status};
 
-use sf_ask::Reply;
-use sf_audit::{count_allowed, count_unsettled};
+use sf_audit::{Expected, Outcome, count_unsettled};
 use sf_compare::Change;
+use sf_needed::Needs;
 
-/// The exit status of an audit: 1 where some question is allowed, 2 where none is allowed and some is unsettled, 0
-/// where all are never.
-pub fn status_of_replies(replies: &[Reply]) -> u8
-    ensures { result ≡ replies_status replies.now }
+/// The exit status of an audit: 2 where the control doesn't hold; else 1 where some question is allowed whose name isn't an
+/// accepted one; else 2 where some question is unsettled; else 0.
+pub fn status_of_audit(expected: &Expected, outcome: &Outcome) -> u8
+    ensures told { result ≡ audit_status expected.now outcome.now }
+    ensures few { result ≤ 2 }
 {
-    if 0 < count_allowed(replies) {
+    if !expected.does_hold() {
+        2
+    } else if expected.has_unexpected(outcome) {
         1
-    } else if 0 < count_unsettled(replies) {
+    } else if 0 < count_unsettled(outcome.replies()) {
         2
     } else {
         0
@@ -38,4 +41,18 @@ pub fn status_of_listing(whole: bool) -> u8
     ensures { result ≡ listing_status whole }
 {
     if whole { 0 } else { 2 }
+}
+
+/// The status of what is found of filters: 1 where some is spare, 2 where none is and some is unsettled, 0 where all are
+/// needed.
+pub fn status_of_needs(needs: &Needs) -> u8
+    ensures { result ≡ needs_status needs.now.findings }
+{
+    if 0 < needs.count_spare() {
+        1
+    } else if 0 < needs.count_unsettled() {
+        2
+    } else {
+        0
+    }
 }

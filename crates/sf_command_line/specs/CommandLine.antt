@@ -52,6 +52,10 @@ word_rule name usual = record (option_rule name) { defaults = usual ∷ [] }
 abbrev pub repeated_rule : Text → Rule
 repeated_rule name = record (option_rule name) { action = Some Append }
 
+-- an option `--name FILE` that must be given, and may be given more than once, with one value each time
+abbrev pub needed_repeated_rule : Text → Rule
+needed_repeated_rule name = record (needed_rule name) { action = Some Append }
+
 -- an option `--name` with a value or without one, which is then the empty text
 abbrev pub choice_rule : Text → Rule
 choice_rule name = record (option_rule name) {
@@ -59,17 +63,21 @@ choice_rule name = record (option_rule name) {
   missing = [] ∷ [];
 }
 
--- `audit --policy FILE [--budget N] [--workers N] [--regions] [--why] [--names FILE].. [--quiet]
--- [--explain-errors] FILTER..`
+-- `audit --policy FILE.. [--control FILE] [--accept FILE] [--budget N] [--workers N] [--regions] [--why]
+-- [--names FILE].. [--progress] [--quiet] [--explain-errors] FILTER..`
 abbrev pub audit_line : App
 audit_line = with_rule (with_rule (with_rule (with_rule (with_rule (with_rule (with_rule (with_rule (with_rule
+    (with_rule (with_rule (with_rule
     (new_app (codes "audit"))
-    (needed_rule (codes "policy")))
+    (needed_repeated_rule (codes "policy")))
+    (option_rule (codes "control")))
+    (option_rule (codes "accept")))
     (number_rule (codes "budget") 1000000 (codes "100000")))
     (number_rule (codes "workers") 64 (codes "4")))
     (switch_rule (codes "regions")))
     (switch_rule (codes "why")))
     (repeated_rule (codes "names")))
+    (switch_rule (codes "progress")))
     (switch_rule (codes "quiet")))
     (switch_rule (codes "explain-errors")))
     filters_rule
@@ -99,10 +107,11 @@ eval_line = with_rule (with_rule (with_rule (with_rule (with_rule (with_rule (wi
     filters_rule
 
 -- `compare --old FILE.. --new FILE.. [--budget N] [--workers N] [--same] [--rows] [--only RELATION]
--- [--calls [NAME,..]] [--leaves N] [--names FILE].. [--quiet] [--explain-errors]`
+-- [--calls [NAME,..]] [--leaves N] [--names FILE].. [--progress] [--quiet] [--explain-errors]`
 abbrev pub compare_line : App
 compare_line = with_rule (with_rule (with_rule (with_rule (with_rule (with_rule (with_rule (with_rule (with_rule
-    (with_rule (with_rule (with_rule (new_app (codes "compare"))
+    (with_rule (with_rule (with_rule (with_rule
+    (new_app (codes "compare"))
     (files_rule (codes "old")))
     (files_rule (codes "new")))
     (number_rule (codes "budget") 1000000 (codes "100000")))
@@ -113,19 +122,32 @@ compare_line = with_rule (with_rule (with_rule (with_rule (with_rule (with_rule 
     (choice_rule (codes "calls")))
     (number_rule (codes "leaves") 1000000 (codes "20000")))
     (repeated_rule (codes "names")))
+    (switch_rule (codes "progress")))
     (switch_rule (codes "quiet")))
     (switch_rule (codes "explain-errors"))
 
--- `list [--budget N] [--workers N] [--leaves N] [--names FILE].. [--calls [NAME,..]] [--quiet] [--explain-errors]
--- FILTER..`
+-- `list [--budget N] [--workers N] [--leaves N] [--names FILE].. [--calls [NAME,..]] [--progress] [--quiet]
+-- [--explain-errors] FILTER..`
 abbrev pub list_line : App
-list_line = with_rule (with_rule (with_rule (with_rule (with_rule (with_rule (with_rule (with_rule
+list_line = with_rule (with_rule (with_rule (with_rule (with_rule (with_rule (with_rule (with_rule (with_rule
     (new_app (codes "list"))
     (number_rule (codes "budget") 1000000 (codes "100000")))
     (number_rule (codes "workers") 64 (codes "4")))
     (number_rule (codes "leaves") 1000000 (codes "20000")))
     (repeated_rule (codes "names")))
     (choice_rule (codes "calls")))
+    (switch_rule (codes "progress")))
+    (switch_rule (codes "quiet")))
+    (switch_rule (codes "explain-errors")))
+    filters_rule
+
+-- `needed [--budget N] [--workers N] [--progress] [--quiet] [--explain-errors] FILTER..`
+abbrev pub needed_line : App
+needed_line = with_rule (with_rule (with_rule (with_rule (with_rule (with_rule
+    (new_app (codes "needed"))
+    (number_rule (codes "budget") 1000000 (codes "100000")))
+    (number_rule (codes "workers") 64 (codes "4")))
+    (switch_rule (codes "progress")))
     (switch_rule (codes "quiet")))
     (switch_rule (codes "explain-errors")))
     filters_rule
@@ -158,11 +180,11 @@ program_line = let new = new_app (codes "seccomp_audit") in record new {
   };
 }
 
--- the whole command line: the program with its six subcommands
+-- the whole command line: the program with its seven subcommands
 unfoldable pub command_line : App
-command_line =
-    with_subcommand (with_subcommand (with_subcommand (with_subcommand (with_subcommand (with_subcommand program_line
-    audit_line.top) check_line.top) eval_line.top) compare_line.top) list_line.top) profile_line.top
+command_line = with_subcommand (with_subcommand (with_subcommand (with_subcommand (with_subcommand (with_subcommand
+    (with_subcommand program_line audit_line.top) check_line.top) eval_line.top) compare_line.top) list_line.top)
+    needed_line.top) profile_line.top
 
 -- the errors that `clap` may give for the words; none where the words fit the form
 unfoldable pub errors_at : List Text → Kinds
@@ -172,9 +194,10 @@ errors_at words = fault_of command_line words
 unfoldable pub subcommand_at : List Text → Option (Text × List Row)
 subcommand_at words = subcommand_of command_line words
 
--- one of the six subcommands is named
+-- one of the seven subcommands is named
 abbrev pub IsKnown : Option (Text × List Row) → Type 0
 IsKnown named =
     (found : Text × List Row) × (named ≡ Some found)
     × ((found.0 ≡ codes "audit") ⊎ (found.0 ≡ codes "check") ⊎ (found.0 ≡ codes "eval")
-    ⊎ (found.0 ≡ codes "compare") ⊎ (found.0 ≡ codes "list") ⊎ (found.0 ≡ codes "profile"))
+    ⊎ (found.0 ≡ codes "compare") ⊎ (found.0 ≡ codes "list") ⊎ (found.0 ≡ codes "needed")
+    ⊎ (found.0 ≡ codes "profile"))

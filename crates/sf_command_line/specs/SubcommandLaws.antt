@@ -51,42 +51,48 @@ first_of_six : (p : Shape → Bool) (u v w x y z s : Shape) → find p (u ∷ v 
     → (s ≡ u) ⊎ (s ≡ v) ⊎ (s ≡ w) ⊎ (s ≡ x) ⊎ (s ≡ y) ⊎ (s ≡ z)
 first_of_six p u v w x y z s found = grind (arith, common_steps, first_of_five)
 
--- a subcommand that was entered has the name of one of the six
-pub entered_name : (a : App) (u v w x y z : Shape) → a.subs ≡ u ∷ v ∷ w ∷ x ∷ y ∷ z ∷ []
+-- the first of seven
+first_of_seven : (p : Shape → Bool) (t u v w x y z s : Shape) → find p (t ∷ u ∷ v ∷ w ∷ x ∷ y ∷ z ∷ []) ≡ Some s
+    → (s ≡ t) ⊎ (s ≡ u) ⊎ (s ≡ v) ⊎ (s ≡ w) ⊎ (s ≡ x) ⊎ (s ≡ y) ⊎ (s ≡ z)
+first_of_seven p t u v w x y z s found = grind (arith, common_steps, first_of_six)
+
+-- a subcommand that was entered has the name of one of the seven
+pub entered_name : (a : App) (t u v w x y z : Shape) → a.subs ≡ t ∷ u ∷ v ∷ w ∷ x ∷ y ∷ z ∷ []
     → (stop : Option (Text × List Text)) → is_some (entered a stop) ≡ true
     → (found : Text × List Row) × (entered a stop ≡ Some found)
-    × ((found.0 ≡ u.name) ⊎ (found.0 ≡ v.name) ⊎ (found.0 ≡ w.name) ⊎ (found.0 ≡ x.name) ⊎ (found.0 ≡ y.name)
-    ⊎ (found.0 ≡ z.name))
-entered_name a u v w x y z subs None some = cc
-entered_name a u v w x y z subs (Some p) some = go (find (λ s. answers_to p.0 (label_of s)) a.subs) refl some
+    × ((found.0 ≡ t.name) ⊎ (found.0 ≡ u.name) ⊎ (found.0 ≡ v.name) ⊎ (found.0 ≡ w.name) ⊎ (found.0 ≡ x.name)
+    ⊎ (found.0 ≡ y.name) ⊎ (found.0 ≡ z.name))
+entered_name a t u v w x y z subs None some = cc
+entered_name a t u v w x y z subs (Some p) some = go (find (λ s. answers_to p.0 (label_of s)) a.subs) refl some
   where
-    named : (s : Shape) → (s ≡ u) ⊎ (s ≡ v) ⊎ (s ≡ w) ⊎ (s ≡ x) ⊎ (s ≡ y) ⊎ (s ≡ z)
-        → (s.name ≡ u.name) ⊎ (s.name ≡ v.name) ⊎ (s.name ≡ w.name) ⊎ (s.name ≡ x.name) ⊎ (s.name ≡ y.name)
-        ⊎ (s.name ≡ z.name)
-    named s (inl is) = inl (ap (λ (t : Shape). t.name) is)
-    named s (inr (inl is)) = inr (inl (ap (λ (t : Shape). t.name) is))
-    named s (inr (inr (inl is))) = inr (inr (inl (ap (λ (t : Shape). t.name) is)))
-    named s (inr (inr (inr (inl is)))) = inr (inr (inr (inl (ap (λ (t : Shape). t.name) is))))
-    named s (inr (inr (inr (inr (inl is))))) = inr (inr (inr (inr (inl (ap (λ (t : Shape). t.name) is)))))
-    named s (inr (inr (inr (inr (inr is))))) = inr (inr (inr (inr (inr (ap (λ (t : Shape). t.name) is)))))
+    named : (s : Shape) → (s ≡ t) ⊎ (s ≡ u) ⊎ (s ≡ v) ⊎ (s ≡ w) ⊎ (s ≡ x) ⊎ (s ≡ y) ⊎ (s ≡ z)
+        → (s.name ≡ t.name) ⊎ (s.name ≡ u.name) ⊎ (s.name ≡ v.name) ⊎ (s.name ≡ w.name) ⊎ (s.name ≡ x.name)
+        ⊎ (s.name ≡ y.name) ⊎ (s.name ≡ z.name)
+    named s (inl is) = inl (ap (λ (r : Shape). r.name) is)
+    named s (inr (inl is)) = inr (inl (ap (λ (r : Shape). r.name) is))
+    named s (inr (inr (inl is))) = inr (inr (inl (ap (λ (r : Shape). r.name) is)))
+    named s (inr (inr (inr (inl is)))) = inr (inr (inr (inl (ap (λ (r : Shape). r.name) is))))
+    named s (inr (inr (inr (inr (inl is))))) = inr (inr (inr (inr (inl (ap (λ (r : Shape). r.name) is)))))
+    named s (inr (inr (inr (inr (inr (inl is)))))) = inr (inr (inr (inr (inr (inl (ap (λ (r : Shape). r.name) is))))))
+    named s (inr (inr (inr (inr (inr (inr is)))))) = inr (inr (inr (inr (inr (inr (ap (λ (r : Shape). r.name) is))))))
 
     go : (o : Option Shape) → find (λ s. answers_to p.0 (label_of s)) a.subs ≡ o
         → is_some (option_map (λ s. rows_at s p.1) o) ≡ true
         → (found : Text × List Row) × (option_map (λ s. rows_at s p.1)
         (find (λ s. answers_to p.0 (label_of s)) a.subs) ≡ Some found)
-        × ((found.0 ≡ u.name) ⊎ (found.0 ≡ v.name) ⊎ (found.0 ≡ w.name) ⊎ (found.0 ≡ x.name) ⊎ (found.0 ≡ y.name)
-        ⊎ (found.0 ≡ z.name))
+        × ((found.0 ≡ t.name) ⊎ (found.0 ≡ u.name) ⊎ (found.0 ≡ v.name) ⊎ (found.0 ≡ w.name) ⊎ (found.0 ≡ x.name)
+        ⊎ (found.0 ≡ y.name) ⊎ (found.0 ≡ z.name))
     go None is h = cc
     go (Some s) is h = (
       rows_at s p.1,
-      ap (option_map (λ t. rows_at t p.1)) is,
-      named s (first_of_six (λ t. answers_to p.0 (label_of t)) u v w x y z s (rw subs at is)),
+      ap (option_map (λ r. rows_at r p.1)) is,
+      named s (first_of_seven (λ r. answers_to p.0 (label_of r)) t u v w x y z s (rw subs at is)),
     )
 
--- words that fit the form of the program name one of its six subcommands
+-- words that fit the form of the program name one of its seven subcommands
 pub known_subcommand : (words : List Text) → errors_at words ≡ [] → IsKnown (subcommand_at words)
 unfolding command_line errors_at subcommand_at
 known_subcommand words fits =
     let a = built command_line in
-    entered_name a _ _ _ _ _ _ refl (stop_after a.top.rules (names_of a) (argument_words command_line words))
+    entered_name a _ _ _ _ _ _ _ refl (stop_after a.top.rules (names_of a) (argument_words command_line words))
     (needs_subcommand a (argument_words command_line words) refl fits)

@@ -1,12 +1,13 @@
 //! The command line: its form, by `clap`, and what is read of the words that fit it.
 #![tactic(auto)]
 
+mod arguments;
 mod options;
 mod words;
 
 pub use options::{
-    budget_of, leaves_of, text_of, wants_brief, wants_explanation, wants_instructions, wants_newer,
-    wants_notes, wants_quiet, wants_regions, wants_rows, wants_same, wants_trace, wants_why,
-    workers_of,
+    budget_of, given_text, leaves_of, text_of, wants_brief, wants_explanation, wants_instructions,
+    wants_newer, wants_notes, wants_progress, wants_quiet, wants_regions, wants_rows, wants_same,
+    wants_trace, wants_why, workers_of,
 };
 pub use words::command_form;

@@ -1,6 +1,6 @@
 //! What the matches of a subcommand ask for.
-ghost use Rattle.std.specs.Prelude.{◌≡◌, ◌<◌, ◌≤◌, codes};
-ghost use Rattle.clap.specs.Words.{found_of, one_of, rows_of};
+ghost use Rattle.std.specs.Prelude.{◌≡◌, ◌<◌, ◌≤◌, codes, option_map};
+ghost use Rattle.clap.specs.Words.{first_of, found_of, one_of, rows_of};
 ghost use Rattle.sf_command_line.specs.Options.{IsOptionNumber, IsSwitch, text_of};
 
 use clap::ArgMatches;
@@ -10,6 +10,13 @@ pub fn text_of<'a>(found: &ArgMatches<'a>, name: &str) -> &'a str
     ensures { result.now ≡ text_of name.now (rows_of (found_of found.now)) }
 {
     found.get_str(name).unwrap_or("")
+}
+
+/// The text behind an option, where it is given.
+pub fn given_text<'a>(found: &ArgMatches<'a>, name: &str) -> Option<&'a str>
+    ensures { option_map (λ t. t.now) result ≡ first_of name.now (rows_of (found_of found.now)) }
+{
+    found.get_str(name)
 }
 
 /// The budget of an exploration; 100,000 where it isn't given. The form of the command line lets only 1 to 1,000,000
@@ -128,4 +135,11 @@ pub fn wants_why(found: &ArgMatches<'_>) -> bool
     ensures { IsSwitch (one_of (codes "why") (rows_of (found_of found.now))) result }
 {
     is_on(found, "why")
+}
+
+/// Whether it is told how far an exploration is.
+pub fn wants_progress(found: &ArgMatches<'_>) -> bool
+    ensures { IsSwitch (one_of (codes "progress") (rows_of (found_of found.now))) result }
+{
+    is_on(found, "progress")
 }

@@ -10,3 +10,4 @@ pub mod WordLemmas
 pub mod ProfilingLemmas
 pub mod AskingLemmas
 pub mod WantedLemmas
+pub mod AskedLemmas

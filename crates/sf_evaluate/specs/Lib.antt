@@ -4,6 +4,7 @@ pub mod FilesLaws
 pub mod KeptLaws
 pub mod Names
 pub mod Policies
+pub mod Expecting
 pub mod Instructions
 pub mod Texts
 pub mod Traces

@@ -1,13 +1,16 @@
--- The policy file of an audit.
-use Rattle.std.specs.Prelude.{◌≡◌, ◌⊎◌, ℕ, List, Option, Some, None, Ok, Err}
+-- The policy files of an audit.
+use Rattle.std.specs.Prelude.{◌≡◌, ◌⊎◌, ℕ, List, Option, Some, None, Ok, Err, slice_get}
+use Rattle.std.specs.Borrow.{Bor}
+use Rattle.std.specs.List.{flat_map}
 use Rattle.std.specs.Str.{IsUtf8}
 use Rattle.toml.specs.Data.{Members}
 use Rattle.toml.specs.Parse.{parse_document}
 use Rattle.sf_ask.specs.QuestionData.{QuestionData}
 use Rattle.sf_policy.specs.declared.fault.Fault.{Fault}
-use Rattle.sf_policy.specs.declared.fault.Fault.TheVariants.{Syntax}
+use Rattle.sf_policy.specs.declared.fault.Fault.TheVariants.{Memory, Read, Syntax}
 use Rattle.sf_policy.specs.Policies.{policy_of}
-use Rattle.sf_evaluate.specs.Files.{AreKnownBytes}
+use Rattle.sf_evaluate.specs.Files.{AreKnownBytes, HasUnknown}
+use Rattle.sf_evaluate.specs.Pairs.{Pairwise}
 
 -- the bytes are a policy with these questions
 abbrev pub IsPolicy : List ℕ → List QuestionData → Type 0
@@ -26,3 +29,30 @@ RefusesPolicy bytes fault =
 -- the file, whose bytes may be known, is no policy for this reason
 abbrev pub RefusesPolicyFile : Option (List ℕ) → Fault → Type 0
 RefusesPolicyFile known fault = (bytes : List ℕ) × AreKnownBytes known bytes × RefusesPolicy bytes fault
+
+-- the files at the paths are policies with these questions, path by path
+abbrev pub ArePolicyFiles : (List ℕ → Option (List ℕ)) → List (Bor (List ℕ)) → List (List QuestionData) → Type 0
+ArePolicyFiles holds paths files = Pairwise (λ path asked. IsPolicyFile (holds path.now) asked) paths files
+
+-- the questions of policies, one policy after the other
+abbrev pub all_questions : List (List QuestionData) → List QuestionData
+all_questions files = flat_map (λ (asked : List QuestionData). asked) files
+
+-- the files at the paths are policies, and these are their questions, one policy after the other
+pub record AreAsked (holds : List ℕ → Option (List ℕ)) (paths : List (Bor (List ℕ)))
+    (questions : List QuestionData) : Type 0 where
+  pub files : List (List QuestionData)
+  pub read : ArePolicyFiles holds paths files
+  pub all : questions ≡ all_questions files
+
+-- the file at one of the paths is no policy for this reason
+pub record HasNoPolicy (holds : List ℕ → Option (List ℕ)) (paths : List (Bor (List ℕ))) (fault : Fault) : Type 0 where
+  pub place : ℕ
+  pub path : Bor (List ℕ)
+  pub at : slice_get paths place ≡ Some path
+  pub refused : RefusesPolicyFile (holds path.now) fault
+
+-- Why policy files are refused: one whose bytes aren't known can't be read; memory ran out; or one is no policy.
+abbrev pub RefusesAsking : (List ℕ → Option (List ℕ)) → List (Bor (List ℕ)) → Fault → Type 0
+RefusesAsking holds paths fault =
+    ((fault ≡ Read) × HasUnknown holds paths) ⊎ (fault ≡ Memory) ⊎ HasNoPolicy holds paths fault

@@ -5,14 +5,13 @@ use sf_ask::Question;
 use sf_names::Names;
 use std::alloc::AllocError;
 
-/// Whether a question asks about the architecture of some set.
-fn asks_about(question: &Question, sets: &[Names]) -> bool {
+/// Whether a question asks about one architecture, and no set has it. A range of architectures is meant as it is written.
+fn is_strange(question: &Question, sets: &[Names]) -> bool {
     let (low, high) = question.range(1);
-    sets.iter()
-        .any(|names| low <= names.arch() && names.arch() <= high)
+    low == high && !sets.iter().any(|names| names.arch() == low)
 }
 
-/// Adds the warning of the questions that ask about no set's architecture: the first of them, and how many more there are.
+/// Adds the warning of the first question that asks about an architecture of no set, where there is one.
 fn push_warning(
     text: &mut String,
     questions: &[Question],
@@ -20,7 +19,7 @@ fn push_warning(
 ) -> Result<(), AllocError> {
     let Some(place) = questions
         .iter()
-        .position(|question| !asks_about(question, sets))
+        .position(|question| is_strange(question, sets))
     else {
         return Ok(());
     };
@@ -36,7 +35,7 @@ fn push_warning(
 }
 
 impl Notes {
-    /// Keeps a warning where a question asks about an architecture that none of the sets has; nothing where there are no sets.
+    /// Keeps a warning where a question asks about one architecture that none of the sets has; nothing where there are no sets.
     pub fn warn_of_questions(&mut self, questions: &[Question], sets: &[Names]) {
         if sets.is_empty() {
             return;

@@ -15,6 +15,10 @@ use crate::kinds::{Kind, bytes_of_text, kind_of};
 use crate::meanings::meaning_of;
 use crate::places::position_of;
 use crate::policies::Page;
+use crate::refusals::{OtherSet, push_profile};
+use crate::roles::{
+    Role, Which, count_before_filters, count_of, file_at, filter_path, which_policy,
+};
 use clap::ArgMatches;
 use sf_ask::Question;
 use sf_calls::{read_arguments, read_word};
@@ -22,21 +26,12 @@ use sf_command_line::{text_of, wants_explanation};
 use sf_policy::{Fault, Refusal};
 use std::alloc::{AllocError, Global};
 
-/// A set of names that is none of the five sets of calls.
-#[derive(Drop)]
-pub(crate) struct OtherSet {
-    /// Its place among all sets that were read, counted from 0.
-    pub(crate) place: usize,
-    /// Its name.
-    pub(crate) name: String,
-}
-
 /// What was read before a fault came, and the text that explains the fault.
 #[derive(Drop)]
 pub struct Notes {
-    /// The bytes of the policy file once it is read, and empty before.
+    /// The bytes of the policy file that was read last, and empty before one is.
     pub policy: Vec<u8>,
-    /// Why the policy is refused, if `read_policy` refuses it.
+    /// Why a policy is refused, if `read_policy` refuses it.
     pub refusal: Option<Refusal>,
     /// The key for which a profile is refused, where one is known, or that there is no memory for it.
     pub key: Result<Option<String>, AllocError>,
@@ -44,10 +39,12 @@ pub struct Notes {
     pub(crate) other: Result<Option<OtherSet>, AllocError>,
     /// How many sets each of the files of names has that were read, in order; less of them where an allocation was refused.
     sets: Vec<usize>,
-    /// How many files were read, the policy file and files of names among them.
+    /// How many files were read, of whatever kind.
     pub files: usize,
     /// What each of these files seems to hold, in order; less of them where an allocation was refused.
     kinds: Vec<Kind>,
+    /// Which of the policies is refused, where one is.
+    pub(crate) which: Which,
     /// The lines that explain the fault, where they are asked for and there is memory for them.
     pub explanation: Option<String>,
     /// The lines of warnings, or that there is no memory for them.
@@ -73,6 +70,7 @@ impl Notes {
             sets: Vec::new(alloc),
             files: 0,
             kinds: Vec::new(alloc),
+            which: Which::Only,
             explanation: None,
             warnings: Ok(String::new(alloc)),
             is_set_known: true,
@@ -98,7 +96,7 @@ impl Notes {
     }
 
     /// The place of the file of names that has the set at a place, and how many sets it has; none where that isn't known.
-    fn file_of_set(&self, place: usize) -> Option<(usize, usize)> {
+    pub(crate) fn file_of_set(&self, place: usize) -> Option<(usize, usize)> {
         let mut before = 0usize;
         for (file, count) in self.sets.iter().enumerate() {
             before = before.saturating_add(*count);
@@ -134,8 +132,8 @@ impl Notes {
         }
     }
 
-    /// Keeps the lines that explain a fault, if the run ended with one, and the matches ask for them or `explains` says
-    /// that each fault is explained. `reason` says why the last file was refused, in words for a person.
+    /// Keeps which of the policies is refused, if the run ended with a fault, and the lines that explain it, if the matches
+    /// ask for them or `explains` says that each fault is explained. `reason` says why the last file was refused, in words for a person.
     pub fn explain(
         &mut self,
         alloc: Global,
@@ -151,48 +149,28 @@ impl Notes {
             × (self.new.refusal ≡ self.old.refusal) × (self.new.files ≡ self.old.files) }
     {
         if let Err(fault) = ran {
+            if let Some((_, found)) = matches.subcommand() {
+                self.which = which_policy(found, fault, self.files);
+            }
             self.explanation = explanation(alloc, matches, fault, self, explains, reason);
         }
     }
 }
 
-/// The path of the filter file at a place, counted from 0; empty where there is none. In a comparison the files of the
-/// old stack stand before those of the new one.
-fn filter_path<'a>(found: &ArgMatches<'a>, place: usize) -> &'a str {
-    let mut place = place;
-    for name in ["filters", "old", "new", "profile"] {
-        let paths = found.get_strs(name).unwrap_or(&[]);
-        if let Some(path) = paths.get(place) {
-            return *path;
-        }
-        place = place.saturating_sub(paths.len());
-    }
-    ""
-}
-
-/// How many files of names there are.
-fn count_names(found: &ArgMatches<'_>) -> usize {
-    found.get_strs("names").unwrap_or(&[]).len()
-}
-
-/// The path of the file at a place among all that are read, counted from 0. The files of names are read first, and a policy
-/// file before the filter files.
+/// The path of the file at a place among all that are read, counted from 0; empty where there is none.
 fn path_at<'a>(found: &ArgMatches<'a>, place: usize) -> &'a str {
-    let names = found.get_strs("names").unwrap_or(&[]);
-    if let Some(path) = names.get(place) {
-        return *path;
-    }
-    let place = place.saturating_sub(names.len());
-    match found.get_str("policy") {
-        Some(policy) if place == 0 => policy,
-        Some(_) => filter_path(found, place.saturating_sub(1)),
-        None => filter_path(found, place),
+    match file_at(found, place) {
+        Some((_, path)) => path,
+        None => "",
     }
 }
 
-/// Whether the file that was read last is a policy file, if it is a policy file or a file of names.
-fn is_policy_last(found: &ArgMatches<'_>, notes: &Notes) -> bool {
-    found.get_str("policy").is_some() && count_names(found) < notes.files
+/// What the file that was read last is read as; a filter where none was read.
+fn role_of_last(found: &ArgMatches<'_>, notes: &Notes) -> Role {
+    match file_at(found, notes.files.saturating_sub(1)) {
+        Some((role, _)) => role,
+        None => Role::Filter,
+    }
 }
 
 /// Adds the line of the file of names that was read last, which is refused.
@@ -201,17 +179,29 @@ fn push_names(text: &mut String, found: &ArgMatches<'_>, notes: &Notes) -> Resul
     write!(text, "names {path:?}\n")
 }
 
-/// Adds what `push_policy` adds, where a policy file was read last, and else what `push_names` adds.
+/// Adds the line of the file of the questions that may be allowed.
+fn push_accept(text: &mut String, found: &ArgMatches<'_>) -> Result<(), AllocError> {
+    let path = text_of(found, "accept");
+    write!(text, "accept {path:?}\n")
+}
+
+/// Adds the lines of the file that was read last and is refused, where it is a policy, a file of names or one of questions
+/// that may be allowed.
 fn push_asked(
     alloc: Global,
     text: &mut String,
     found: &ArgMatches<'_>,
     notes: &Notes,
 ) -> Result<(), AllocError> {
-    if is_policy_last(found, notes) {
-        return push_policy(alloc, text, text_of(found, "policy"), notes);
+    match role_of_last(found, notes) {
+        Role::Policy | Role::Control => {
+            let path = path_at(found, notes.files.saturating_sub(1));
+            push_policy(alloc, text, path, notes)
+        }
+        Role::Names => push_names(text, found, notes),
+        Role::Accept => push_accept(text, found),
+        Role::Filter | Role::Profile => Ok(()),
     }
-    push_names(text, found, notes)
 }
 
 /// Adds the line of a file that can't be read, with the reason where it is known.
@@ -299,58 +289,6 @@ fn push_policy(
     }
 }
 
-/// Adds the line of the file of names that has a set that is none of the five, and that of the set, if the file has others.
-fn push_other_set(
-    text: &mut String,
-    found: &ArgMatches<'_>,
-    notes: &Notes,
-    other: &OtherSet,
-) -> Result<(), AllocError> {
-    let Some((file, count)) = notes.file_of_set(other.place) else {
-        return Err(AllocError);
-    };
-    let path = path_at(found, file);
-    write!(text, "names {path:?}\n")?;
-    if count > 1 {
-        let set = &other.name;
-        write!(text, "set {set:?}\n")?;
-    }
-    Ok(())
-}
-
-/// Adds the line of the profile, and the key for which it is refused, where one is known.
-fn push_refused_profile(
-    text: &mut String,
-    found: &ArgMatches<'_>,
-    notes: &Notes,
-) -> Result<(), AllocError> {
-    let path = text_of(found, "profile");
-    write!(text, "profile {path:?}\n")?;
-    match &notes.key {
-        Ok(Some(key)) => push_key(text, key),
-        Ok(None) => Ok(()),
-        Err(_) => Err(AllocError),
-    }
-}
-
-/// Adds the lines of what is refused: a set of names, or the profile.
-fn push_profile(
-    text: &mut String,
-    found: &ArgMatches<'_>,
-    notes: &Notes,
-) -> Result<(), AllocError> {
-    match &notes.other {
-        Ok(Some(other)) => push_other_set(text, found, notes, other),
-        Ok(None) => push_refused_profile(text, found, notes),
-        Err(_) => Err(AllocError),
-    }
-}
-
-/// Adds the line of a key.
-fn push_key(text: &mut String, key: &str) -> Result<(), AllocError> {
-    write!(text, "key {key:?}\n")
-}
-
 /// The number of the filter that is refused for a fault, from 1.
 fn filter_of(fault: &Fault) -> Option<usize> {
     match fault {
@@ -402,33 +340,24 @@ fn push_place(
         Fault::Profile(_) => push_profile(text, found, notes),
         Fault::Input => push_misspelled(text, found),
         Fault::UnknownName => push_unknown(text, found, notes),
+        Fault::Accepted { .. } => push_accept(text, found),
         Fault::Read => push_unread(text, path_at(found, notes.files), reason),
         _ if is_of_text(fault) => push_asked(alloc, text, found, notes),
         _ => Ok(()),
     }
 }
 
-/// How many files are read before the filter files.
-fn files_before_filters(found: &ArgMatches<'_>) -> usize {
-    let policies = if found.get_str("policy").is_some() {
-        1
-    } else {
-        0
-    };
-    count_names(found).saturating_add(policies)
-}
-
-/// The hint for a file that can't be read: none for a filter.
+/// The hint for a file that can't be read: none for a filter or a profile.
 fn hint_of_read(found: &ArgMatches<'_>, place: usize, reason: &str) -> Option<Hint> {
-    if files_before_filters(found) <= place {
-        return None;
-    }
-    let ready = if place < count_names(found) {
-        "a file of names is wanted, as policies/names/x86_64.toml is one"
-    } else {
-        "a policy file is wanted, as policies/x86_64.toml is one"
+    let (role, path) = file_at(found, place)?;
+    let ready = match role {
+        Role::Names => "a file of names is wanted, as policies/names/x86_64.toml is one",
+        Role::Policy => "a policy file is wanted, as policies/x86_64.toml is one",
+        Role::Control => "a policy file is wanted, whose questions must be allowed",
+        Role::Accept => "a file is wanted with the name of a question on each line",
+        Role::Filter | Role::Profile => return None,
     };
-    hint_of_unread(path_at(found, place), reason, ready)
+    hint_of_unread(path, reason, ready)
 }
 
 /// What a person may have meant who gave what is refused, where that is known. An error where an allocation is refused.
@@ -440,22 +369,34 @@ fn hint_of(
     reason: &str,
 ) -> Result<Option<Hint>, AllocError> {
     if let Some(filter) = filter_of(fault) {
-        let place = files_before_filters(found).saturating_add(filter.saturating_sub(1));
+        let place = count_before_filters(found).saturating_add(filter.saturating_sub(1));
         return Ok(hint_of_filter(notes.kind_at(place), fault));
     }
     match fault {
-        Fault::Profile(_) => Ok(hint_of_profile(notes.kind_at(notes.files.saturating_sub(1)))),
+        Fault::Profile(_) if matches!(&notes.other, Ok(None)) => {
+            Ok(hint_of_profile(notes.kind_at(notes.files.saturating_sub(1))))
+        }
         Fault::Input if is_given(found, "input") => Ok(Some(hint_of_input())),
-        Fault::UnknownName if count_names(found) == 0 => Ok(Some(hint_of_unknown())),
+        Fault::UnknownName if count_of(found, Role::Names) == 0 => Ok(Some(hint_of_unknown())),
         Fault::Read => Ok(hint_of_read(found, notes.files, reason)),
         _ if is_of_text(fault) => {
             let kind = notes.kind_at(notes.files.saturating_sub(1));
-            if is_policy_last(found, notes) {
-                return hint_of_policy(alloc, kind, &notes.refusal);
+            match role_of_last(found, notes) {
+                Role::Policy | Role::Control => hint_of_policy(alloc, kind, &notes.refusal),
+                Role::Names => Ok(hint_of_names(kind)),
+                Role::Accept | Role::Filter | Role::Profile => Ok(None),
             }
-            Ok(hint_of_names(kind))
         }
         _ => Ok(None),
+    }
+}
+
+/// What it means that a file of a role is no UTF-8 or no TOML.
+fn meaning_of_syntax(role: Role) -> &'static str {
+    match role {
+        Role::Names => "the file of names is no UTF-8 or no TOML",
+        Role::Accept => "the file of questions that may be allowed is no UTF-8",
+        Role::Policy | Role::Control | Role::Filter | Role::Profile => meaning_of(&Fault::Syntax),
     }
 }
 
@@ -470,9 +411,7 @@ fn fault_text(
     let mut text = String::new(alloc);
     push_place(alloc, &mut text, found, fault, notes, reason)?;
     let meaning = match fault {
-        Fault::Syntax if !is_policy_last(found, notes) => {
-            "the file of names is no UTF-8 or no TOML"
-        }
+        Fault::Syntax => meaning_of_syntax(role_of_last(found, notes)),
         Fault::Input if !is_given(found, "input") => "a number with too many bits for its place",
         _ => meaning_of(fault),
     };

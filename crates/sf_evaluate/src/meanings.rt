@@ -35,6 +35,9 @@ pub(crate) fn meaning_of(fault: &Fault) -> &'static str {
         }
         Fault::NamesRange => "a number outside 0 to 4294967295",
         Fault::UnknownName => "a name of a call or of a set of calls that no file of names has",
+        Fault::Accepted { .. } => {
+            "a line that isn't the name of one question: two names, or a name that no question has, or several"
+        }
         Fault::Read => "a file can't be read, or has more than 1 MiB",
         Fault::Write => "standard output can't be written, or a signal interrupted that",
         Fault::Memory => "memory ran out",
@@ -57,7 +60,7 @@ fn meaning_of_refusal(refusal: sf_profile::Fault) -> &'static str {
         sf_profile::Fault::RuleName { .. } => "a name that isn't 1 to 64 letters, digits and _",
         sf_profile::Fault::Syntax => "the profile is no UTF-8 or no JSON, or nests deeper than 127",
         sf_profile::Fault::Set => {
-            "a set of calls that isn't known, or has no file of names or several: give --names once for each set"
+            "a set of calls that isn't known, or that no file of names has: policies/names.toml has all five"
         }
         sf_profile::Fault::Memory => "memory ran out",
     }

@@ -174,6 +174,21 @@ fn wrong_rows_text(alloc: Global, found: &ArgMatches<'_>) -> Result<String, Allo
     Ok(text)
 }
 
+/// The lines that tell that the control is one of the policies that ask the questions.
+fn wrong_control_text(alloc: Global, found: &ArgMatches<'_>) -> Result<String, AllocError> {
+    let mut text = String::new(alloc);
+    let control = text_of(found, "control");
+    write!(
+        text,
+        "error: {control:?} is given as --control and as --policy\n"
+    )?;
+    text.push_str(
+        "  A control asks about calls that must get through, a policy about calls that must not.\n",
+    )?;
+    text.push_str("\nFor more information, try '--help'.\n")?;
+    Ok(text)
+}
+
 /// Writes to standard error which words of the command line don't fit, if a run ended for that reason, with status 4, and
 /// there is memory to say so.
 pub fn tell_wrong_words<E: Write>(
@@ -186,6 +201,7 @@ pub fn tell_wrong_words<E: Write>(
         return;
     };
     let text = match name {
+        "audit" => wrong_control_text(alloc, found),
         "eval" => misfit_text(alloc, found),
         "list" | "compare" => wrong_rows_text(alloc, found),
         _ => return tell_wrong_word(alloc, matches, ran, err),

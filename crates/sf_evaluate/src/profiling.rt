@@ -7,9 +7,10 @@ ghost use Rattle.sf_evaluate.specs.Profiles.{IsReadFor, RefusesNamesOf, RefusesP
 
 use crate::calls::calls_of;
 use crate::checking::print;
-use crate::explaining::{Notes, OtherSet};
+use crate::explaining::Notes;
 use crate::files::Files;
 use crate::naming::read_all_names;
+use crate::refusals::OtherSet;
 use crate::words::{settings_of, words_fit};
 use clap::ArgMatches;
 use sf_command_line::{text_of, wants_notes, wants_quiet};

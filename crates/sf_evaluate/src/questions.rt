@@ -1,8 +1,8 @@
-//! The questions of the policy file that the command line names.
+//! The questions of the policy files that the command line names.
 
 ghost use Rattle.std.specs.Prelude.{◌≡◌, ◌⊎◌, ℕ, List, None, IfOk, IfErr};
 ghost use Rattle.sf_policy.specs.declared.fault.Fault.TheVariants.{Memory as MemoryFault, Read as ReadFault};
-ghost use Rattle.sf_evaluate.specs.Policies.{IsPolicyFile, RefusesPolicyFile};
+ghost use Rattle.sf_evaluate.specs.Policies.{AreAsked, IsPolicyFile, RefusesAsking, RefusesPolicyFile};
 
 use crate::explaining::Notes;
 use crate::files::Files;
@@ -13,7 +13,7 @@ use std::alloc::Global;
 /// The questions of the policy file at a path. Its bytes are kept in the notes, and its refusal too, if `read_policy`
 /// refuses it. `Read` where the file can't be read, `Syntax` where it isn't UTF-8, then what `read_policy` refuses;
 /// `Memory` can come anywhere.
-pub fn questions_in<F: Files>(
+pub(crate) fn questions_in<F: Files>(
     alloc: Global,
     path: &str,
     files: &mut F,
@@ -35,4 +35,24 @@ pub fn questions_in<F: Files>(
         }
         Err(_) => Err(Fault::Syntax),
     }
+}
+
+/// The questions of the policy files at these paths, one file after the other. The refusal is that of the first file that is
+/// refused, as `questions_in` refuses it.
+pub fn all_questions_in<F: Files>(
+    alloc: Global,
+    paths: &[&str],
+    files: &mut F,
+    notes: &mut Notes,
+) -> Result<Vec<Question>, Fault>
+    ensures asked { IfOk result (λ v. AreAsked (F.holds files.old) paths.now v.items) }
+    ensures refused { IfErr result (RefusesAsking (F.holds files.old) paths.now) }
+    ensures same { (p : List ℕ) → F.holds files.new p ≡ F.holds files.old p }
+{
+    let mut all = Vec::new(alloc);
+    for path in paths {
+        let mut questions = questions_in(alloc, path, files, notes)?;
+        all.append(&mut questions)?;
+    }
+    Ok(all)
 }

@@ -6,6 +6,8 @@ ghost use Rattle.sf_command_line.specs.Options.{IsQuiet};
 ghost use Rattle.sf_policy.specs.Faults.{fault_number};
 ghost use Rattle.sf_evaluate.specs.Status.{fault_status};
 
+use crate::explaining::Notes;
+use crate::roles::Which;
 use clap::ArgMatches;
 use sf_command_line::wants_quiet;
 use sf_policy::Fault;
@@ -29,14 +31,44 @@ fn line_of(fault: &Fault) -> InlineText<LINE> {
     InlineText::of(format_args!("error {fault}\n"))
 }
 
-/// Writes the line of a fault to standard error, and gives the exit status. The line is one write, so that it stays
-/// whole beside the lines of other programs. It allocates nothing, since memory may have run out.
+/// The line of a fault in one of several policies, or in that of the control: which one it is stands before the question.
+fn line_in(fault: &Fault, policy: &str) -> InlineText<LINE> {
+    let line: InlineText<LINE> = InlineText::of(format_args!("{fault}"));
+    match line.as_str().split_once(" question ") {
+        Some((name, question)) => {
+            InlineText::of(format_args!("error {name} {policy} question {question}\n"))
+        }
+        None => InlineText::of(format_args!("error {fault} {policy}\n")),
+    }
+}
+
+/// The line of a fault, with the policy in which it lies, where there are several.
+fn placed_line(fault: &Fault, which: Which) -> InlineText<LINE> {
+    match which {
+        Which::Only => line_of(fault),
+        Which::Number(number) => {
+            let policy: InlineText<LINE> = InlineText::of(format_args!("policy {number}"));
+            line_in(fault, policy.as_str())
+        }
+        Which::Control => line_in(fault, "control"),
+    }
+}
+
+/// Writes the line of a fault to standard error, with one write, so that it stays whole beside the lines of other programs.
+/// Gives the exit status.
+fn tell_line<E: Write>(line: &InlineText<LINE>, fault: &Fault, err: &mut E) -> u8
+    ensures { result ≡ fault_status (fault_number fault.now) }
+{
+    let _ = err.write_all(line.as_str().as_bytes());
+    status_of(fault)
+}
+
+/// Writes the line of a fault to standard error, and gives the exit status. It allocates nothing, since memory may have run
+/// out.
 pub fn tell_fault<E: Write>(fault: &Fault, err: &mut E) -> u8
     ensures { result ≡ fault_status (fault_number fault.now) }
 {
-    let line = line_of(fault);
-    let _ = err.write_all(line.as_str().as_bytes());
-    status_of(fault)
+    tell_line(&line_of(fault), fault, err)
 }
 
 /// A line with more lines under it.
@@ -48,20 +80,19 @@ fn with_more(alloc: Global, line: &str, more: &str) -> Result<String, AllocError
     Ok(text)
 }
 
-/// Writes the line of a fault to standard error, and under it the lines that explain the fault, if there are any and
-/// memory for both. All is one write too. Gives the exit status.
-pub fn tell<E: Write>(alloc: Global, fault: &Fault, more: Option<String>, err: &mut E) -> u8
+/// Writes the line of a fault to standard error, and under it the lines that explain the fault, if the notes have any and
+/// there is memory for both. All is one write too. Gives the exit status.
+pub fn tell<E: Write>(alloc: Global, fault: &Fault, notes: &Notes, err: &mut E) -> u8
     ensures { result ≡ fault_status (fault_number fault.now) }
 {
-    let Some(more) = more else {
-        return tell_fault(fault, err);
-    };
-    let line = line_of(fault);
-    if let Ok(text) = with_more(alloc, line.as_str(), more.as_str()) {
-        let _ = err.write_all(text.as_bytes());
-        return status_of(fault);
+    let line = placed_line(fault, notes.which);
+    if let Some(more) = &notes.explanation {
+        if let Ok(text) = with_more(alloc, line.as_str(), more.as_str()) {
+            let _ = err.write_all(text.as_bytes());
+            return status_of(fault);
+        }
     }
-    tell_fault(fault, err)
+    tell_line(&line, fault, err)
 }
 
 /// Whether the matches of the command line ask for no warnings.

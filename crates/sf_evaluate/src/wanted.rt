@@ -12,7 +12,7 @@ ghost use Rattle.sf_evaluate.specs.Wanted.{are_known, calls_asked, calls_fit, ha
 use crate::asking::{has_names, is_given};
 use crate::explaining::Notes;
 use clap::ArgMatches;
-use sf_command_line::text_of;
+use sf_command_line::{given_text, text_of};
 use sf_names::{Names, is_call_name};
 use sf_policy::Fault;
 use std::alloc::{AllocError, Global};
@@ -37,13 +37,6 @@ fn are_names(text: &str) -> bool
     ensures { result ≡ list_all (is_name_once (names_in_text text.now)) (names_in_text text.now) }
 {
     text.is_empty() || text.split(',').all(|name| is_name_once(text, name))
-}
-
-/// The text behind an option, where it is given.
-fn given_text<'a>(found: &ArgMatches<'a>, name: &str) -> Option<&'a str>
-    ensures { option_map (λ t. t.now) result ≡ first_of name.now (rows_of (found_of found.now)) }
-{
-    found.get_str(name)
 }
 
 /// Whether calls are told by files of names, and each name that is given can be that of a call, and stands once.

@@ -93,7 +93,7 @@ fn has_text(texts: &[&str], text: &str) -> bool
 }
 
 /// Whether a text is one of these. For the prover: over the texts themselves.
-fn is_among(text: &str, texts: &[&str]) -> bool
+pub(crate) fn is_among(text: &str, texts: &[&str]) -> bool
     ensures { result ≡ list_any (bytes_eq text.now) (map (λ t. t.now) texts.now) }
 {
     has_text(texts, text)

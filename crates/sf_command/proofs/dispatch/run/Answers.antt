@@ -56,7 +56,7 @@ returns-in-profile-clause-done g c = IfOk-weaker c.profile.result _ _
     (λ s done small. (
       (_, _),
       joined _ _ _ _ _ c.in-Some.ensures.name c.in-Some.ensures.rows,
-      inr (inr (inr (inr (inr (c.in-profile.is, record { written = (done small).1; told = (done small).0 }))))),
+      inr (inr (inr (inr (inr (inr (c.in-profile.is, record { written = (done small).1; told = (done small).0 })))))),
     )) (profile_ran _ c.profile.result c.profile.ensures.status c.profile.ensures.done)
 
 pub returns-in-profile-clause-usage : goal.returns-in-profile-clause-usage
@@ -77,7 +77,7 @@ returns-in-profile-clause-refused g c = IfErr-weaker c.profile.result _ _
     (λ e why. (
       (_, _),
       joined _ _ _ _ _ c.in-Some.ensures.name c.in-Some.ensures.rows,
-      inr (inr (inr (inr (inr (c.in-profile.is, why))))),
+      inr (inr (inr (inr (inr (inr (c.in-profile.is, why)))))),
     ))
     c.profile.ensures.refused
 
@@ -115,3 +115,19 @@ returns-in-compare-clause-done g c = IfOk-weaker c.run_compare.result _ _
       joined _ _ _ _ _ c.in-Some.ensures.name c.in-Some.ensures.rows,
       inr (inr (inr (inl (c.in-compare.is, done)))),
     )) c.run_compare.ensures.done
+
+pub returns-in-needed-clause-done : goal.returns-in-needed-clause-done
+returns-in-needed-clause-done g c = IfOk-weaker c.run_needed.result _ _
+    (λ s done small. (
+      (_, _),
+      joined _ _ _ _ _ c.in-Some.ensures.name c.in-Some.ensures.rows,
+      inr (inr (inr (inr (inr (inl (c.in-needed.is, done)))))),
+    )) c.run_needed.ensures.done
+
+pub returns-in-needed-clause-refused : goal.returns-in-needed-clause-refused
+returns-in-needed-clause-refused g c = IfErr-weaker c.run_needed.result _ _
+    (λ e why. (
+      (_, _),
+      joined _ _ _ _ _ c.in-Some.ensures.name c.in-Some.ensures.rows,
+      inr (inr (inr (inr (inr (inl (c.in-needed.is, why)))))),
+    )) c.run_needed.ensures.refused

@@ -1,8 +1,8 @@
 use Rattle.std.proofs.Common.{codes, refl, inr}
+use Rattle.std.proofs.Math.Path.{fun_ext}
 use Rattle.std.proofs.lemmas.Result.{IfErr-weaker, IfOk-weaker}
 use Rattle.clap.specs.Words.{found_of}
 use Rattle.sf_command_line.specs.OptionsLaws.{paths_found}
-use Rattle.sf_command.proofs.NamingLemmas.{audited_same, unaudited_same}
 use Rattle.sf_command.proofs.dispatch.run_audit.Goals as goal
 
 pub returns-clause-done : goal.returns-clause-done
@@ -18,8 +18,14 @@ returns-clause-done g c = IfOk-weaker c.audit.result _ _ (λ s written. record {
   explained = c.wants_why.ensures;
   names = c.in_ok-names.names.items;
   called = c.in_ok-names.ensures.called;
-  audited = audited_same _ _ c.names_of.ensures.same _ _ _ _ _ _ _ _ _
-      (rw (c.text_of-policy.ensures, c.deref.ensures.value) at written);
+  asked = _;
+  asked_for = record {
+    policies = rw c.unwrap_or.ensures (paths_found (found_of c.args.found.now) (codes "policy")
+        c.get_strs-2.result _ c.get_strs-2.ensures refl);
+    control = c.given_text.ensures;
+    accept = c.given_text-2.ensures;
+  };
+  audited = rw (c.deref.ensures.value, fun_ext c.names_of.ensures.same) at written;
 }) c.audit.ensures.written
 
 pub returns-clause-refused : goal.returns-clause-refused
@@ -27,5 +33,14 @@ returns-clause-refused g c = IfErr-weaker c.audit.result _ _ (λ e why. inr (
   c.unwrap_or-paths.result.now,
   rw c.unwrap_or-paths.ensures (paths_found (found_of c.args.found.now)
       (codes "filters") c.get_strs.result _ c.get_strs.ensures refl),
-  unaudited_same _ _ c.names_of.ensures.same _ _ _ (rw c.text_of-policy.ensures at why),
+  (
+    _,
+    record {
+      policies = rw c.unwrap_or.ensures (paths_found (found_of c.args.found.now) (codes "policy")
+          c.get_strs-2.result _ c.get_strs-2.ensures refl);
+      control = c.given_text.ensures;
+      accept = c.given_text-2.ensures;
+    },
+    rw (fun_ext c.names_of.ensures.same) at why,
+  ),
 )) c.audit.ensures.refused

@@ -1,9 +1,8 @@
 use Rattle.std.proofs.Common.{codes, refl, inr}
+use Rattle.std.proofs.Math.Path.{fun_ext}
 use Rattle.std.proofs.lemmas.Result.{IfErr-weaker, IfOk-weaker}
 use Rattle.clap.specs.Words.{found_of}
 use Rattle.sf_command_line.specs.OptionsLaws.{paths_found}
-use Rattle.sf_command.proofs.NamingLemmas.{calls_refused, compared_same, uncompared_same}
-use Rattle.sf_evaluate.specs.FilesLaws.{handed_on}
 use Rattle.sf_command.proofs.dispatch.run_compare.Goals as goal
 
 pub returns-clause-done : goal.returns-clause-done
@@ -23,8 +22,12 @@ returns-clause-done g c = IfOk-weaker c.compare.result _ _ (λ s written. record
   names = c.in_ok-names.names.items;
   called = c.in_ok-names.ensures.called;
   known = rw c.deref.ensures.value at c.in_ok-known_calls.ensures.known;
-  compared = compared_same _ _ c.names_of.ensures.same _ _ _ _ _ _ _ _ _ _
-      (rw c.deref-2.ensures.value at (rw (c.relation_asked.ensures, c.in_ok-known_calls.ensures.asked) at written));
+  compared = rw (
+    c.relation_asked.ensures,
+    c.in_ok-known_calls.ensures.asked,
+    c.deref-2.ensures.value,
+    fun_ext c.names_of.ensures.same,
+  ) at written;
 }) c.compare.ensures.written
 
 pub returns-clause-refused : goal.returns-clause-refused
@@ -36,6 +39,6 @@ returns-clause-refused g c = IfErr-weaker c.compare.result _ _ (λ e why. inr (i
     c.unwrap_or-new.result.now,
     rw c.unwrap_or-new.ensures (paths_found (found_of c.args.found.now) (codes "new") c.get_strs-2.result _
         c.get_strs-2.ensures refl),
-    uncompared_same _ _ c.names_of.ensures.same _ _ _ why,
+    rw (fun_ext c.names_of.ensures.same) at why,
   ),
 ))) c.compare.ensures.refused

@@ -1,8 +1,9 @@
-use Rattle.std.proofs.Common.{codes, refl, inl, inr}
+use Rattle.std.proofs.Math.Path.{fun_ext}
+use Rattle.std.proofs.Common.{codes, refl, inr}
 use Rattle.clap.specs.Words.{found_of}
 use Rattle.sf_command_line.specs.OptionsLaws.{paths_found}
 use Rattle.sf_command.proofs.CommandLineLemmas.{without_third}
-use Rattle.sf_command.proofs.NamingLemmas.{asked_why, evaluated_same, unchecked_same}
+use Rattle.sf_command.proofs.NamingLemmas.{asked_why}
 use Rattle.sf_evaluate.specs.FilesLaws.{handed_on}
 use Rattle.sf_command.proofs.dispatch.run_eval.Goals as goal
 
@@ -19,8 +20,7 @@ returns-clause-done g c = record {
   called = c.in_ok-names.ensures.called;
   input = c.in_ok-input.input;
   asked = rw c.deref.ensures.value at c.in_ok-input.ensures.asked;
-  evaluated = evaluated_same _ _ c.names_of.ensures.same _ _ _ _ _ _ _
-      (rw c.deref-2.ensures.value at c.in_ok-evaluate.ensures.written);
+  evaluated = rw (c.deref-2.ensures.value, fun_ext c.names_of.ensures.same) at c.in_ok-evaluate.ensures.written;
   told = refl;
 }
 
@@ -45,6 +45,6 @@ returns-in_err-evaluate-clause-refused g c =
         c.unwrap_or-paths.result.now,
         rw c.unwrap_or-paths.ensures (paths_found (found_of c.args.found.now) (codes "filters") c.get_strs.result _
             c.get_strs.ensures refl),
-        unchecked_same _ _ c.names_of.ensures.same _ _ (without_third c.in_err-evaluate.ensures.refused),
+        rw (fun_ext c.names_of.ensures.same) at (without_third c.in_err-evaluate.ensures.refused),
       ),
     ))))

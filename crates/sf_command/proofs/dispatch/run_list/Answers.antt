@@ -1,8 +1,9 @@
 use Rattle.std.proofs.Common.{codes, refl, inr}
+use Rattle.std.proofs.Math.Path.{fun_ext}
 use Rattle.std.proofs.lemmas.Result.{IfErr-weaker, IfOk-weaker}
 use Rattle.clap.specs.Words.{found_of}
 use Rattle.sf_command_line.specs.OptionsLaws.{paths_found}
-use Rattle.sf_command.proofs.NamingLemmas.{calls_refused, listed_same, unlisted_same}
+use Rattle.sf_command.proofs.NamingLemmas.{calls_refused}
 use Rattle.sf_evaluate.specs.FilesLaws.{handed_on}
 use Rattle.sf_command.proofs.dispatch.run_list.Goals as goal
 
@@ -16,8 +17,7 @@ returns-clause-done g c = IfOk-weaker c.list.result _ _ (λ s written. record {
   names = c.in_ok-names.names.items;
   called = c.in_ok-names.ensures.called;
   known = rw c.deref.ensures.value at c.in_ok-calls.ensures.known;
-  listed = listed_same _ _ c.names_of.ensures.same _ _ _ _ _ _ _
-      (rw c.deref-2.ensures.value at (rw c.in_ok-calls.ensures.asked at written));
+  listed = rw (c.in_ok-calls.ensures.asked, c.deref-2.ensures.value, fun_ext c.names_of.ensures.same) at written;
 }) c.list.ensures.written
 
 pub returns-in_err-calls-clause-refused : goal.returns-in_err-calls-clause-refused
@@ -30,5 +30,5 @@ returns-clause-refused g c = IfErr-weaker c.list.result _ _ (λ e why. inr (inr 
   c.unwrap_or-paths.result.now,
   rw c.unwrap_or-paths.ensures (paths_found (found_of c.args.found.now) (codes "filters") c.get_strs.result _
       c.get_strs.ensures refl),
-  unlisted_same _ _ c.names_of.ensures.same _ _ why,
+  rw (fun_ext c.names_of.ensures.same) at why,
 ))) c.list.ensures.refused

@@ -23,6 +23,9 @@ returns c =
     let with_list = c.in_ok-subcommand-5.ensures.shape
     (third_is_off _ _ _ _ (ap (λ (a : App). a.top.is_plain) c.in_ok-list.ensures))
     ∙ ap₂ with_subcommand with_compare (ap (λ (a : App). a.top) c.in_ok-list.ensures) in
-    IfOk-weaker c.subcommand-6.result _ _ (λ r h.
+    let with_needed = c.in_ok-subcommand-6.ensures.shape
+    (third_is_off _ _ _ _ (ap (λ (a : App). a.top.is_plain) c.in_ok-needed.ensures))
+    ∙ ap₂ with_subcommand with_list (ap (λ (a : App). a.top) c.in_ok-needed.ensures) in
+    IfOk-weaker c.subcommand-7.result _ _ (λ r h.
     h.shape (third_is_off _ _ _ _ (ap (λ (a : App). a.top.is_plain) c.in_ok-profile.ensures))
-    ∙ ap₂ with_subcommand with_list (ap (λ (a : App). a.top) c.in_ok-profile.ensures)) c.subcommand-6.ensures
+    ∙ ap₂ with_subcommand with_needed (ap (λ (a : App). a.top) c.in_ok-profile.ensures)) c.subcommand-7.ensures

@@ -1,0 +1,85 @@
+//! How far a run is, told on standard error.
+
+use sf_command::Meter;
+use sf_crew::Gate;
+use std::fmt::InlineText;
+use std::io::Write;
+use std::sync::atomic::{AtomicU64, Ordering};
+use std::time::{Clock, Instant};
+
+/// The most bytes of a line that tells how far a run is.
+const LINE: usize = 96;
+
+/// After how many steps the clock is looked at again.
+const STEPS: u64 = 64;
+
+/// Counts steps, works and judged regions alike, and writes a line to standard error each second.
+#[derive(Drop)]
+pub struct Progress<'a, R> {
+    rt: &'a R,
+    started: Option<Instant>,
+    budget: AtomicU64,
+    steps: AtomicU64,
+    last: AtomicU64,
+}
+
+impl<'a, R: Clock> Progress<'a, R> {
+    /// Nothing is done yet. Where the clock can't be read, nothing is ever told.
+    pub fn new(rt: &'a R) -> Progress<'a, R> {
+        Progress {
+            rt,
+            started: Instant::now(rt).ok(),
+            budget: AtomicU64::new(0),
+            steps: AtomicU64::new(0),
+            last: AtomicU64::new(0),
+        }
+    }
+
+    /// The whole seconds since the beginning; 0 where the clock can't be read.
+    fn seconds(&self) -> u64 {
+        match &self.started {
+            Some(started) => match started.elapsed(self.rt) {
+                Ok(elapsed) => elapsed.as_secs(),
+                Err(_) => 0,
+            },
+            None => 0,
+        }
+    }
+}
+
+impl Progress<'_, HostRuntime> {
+    /// Writes the line for this second.
+    fn tell(&self, steps: u64, seconds: u64) {
+        let budget = self.budget.load(Ordering::Relaxed);
+        let line: InlineText<LINE> = InlineText::of(format_args!(
+            "progress: {steps} steps, budget {budget}, {seconds} s\n"
+        ));
+        let mut err = self.rt.stderr();
+        let _ = err.write_all(line.as_str().as_bytes());
+    }
+}
+
+impl Gate for Progress<'_, HostRuntime> {
+    fn pass(&self, _worker: usize, _call: usize) {
+        let steps = self.steps.fetch_add(1, Ordering::Relaxed).wrapping_add(1);
+        if steps % STEPS != 0 {
+            return;
+        }
+        let seconds = self.seconds();
+        let last = self.last.load(Ordering::Relaxed);
+        if last < seconds
+            && self
+                .last
+                .compare_exchange(last, seconds, Ordering::Relaxed, Ordering::Relaxed)
+                .is_ok()
+        {
+            self.tell(steps, seconds);
+        }
+    }
+}
+
+impl Meter for Progress<'_, HostRuntime> {
+    fn begin(&self, budget: u32) {
+        self.budget.store(u64::from(budget), Ordering::Relaxed);
+    }
+}

@@ -1,0 +1,23 @@
+use Rattle.std.proofs.Common.{codes, refl}
+use Rattle.std.proofs.lemmas.Result.{IfErr-weaker, IfOk-weaker}
+use Rattle.clap.specs.Words.{found_of}
+use Rattle.sf_command_line.specs.OptionsLaws.{paths_found}
+use Rattle.sf_command.proofs.dispatch.run_needed.Goals as goal
+
+pub returns-clause-done : goal.returns-clause-done
+returns-clause-done g c = IfOk-weaker c.needed.result _ _ (λ s written. record {
+  paths = c.unwrap_or-paths.result.now;
+  named = rw c.unwrap_or-paths.ensures (paths_found (found_of c.args.found.now) (codes "filters") c.get_strs.result _
+      c.get_strs.ensures refl);
+  budget = c.budget_of-budget.result;
+  counted = c.budget_of-budget.ensures;
+  needed = written;
+}) c.needed.ensures.written
+
+pub returns-clause-refused : goal.returns-clause-refused
+returns-clause-refused g c = IfErr-weaker c.needed.result _ _ (λ e why. (
+  c.unwrap_or-paths.result.now,
+  rw c.unwrap_or-paths.ensures (paths_found (found_of c.args.found.now)
+      (codes "filters") c.get_strs.result _ c.get_strs.ensures refl),
+  (c.budget_of-budget.result, why),
+)) c.needed.ensures.refused

@@ -1,0 +1,59 @@
+-- The questions of policy files, one file after the other.
+use Rattle.std.proofs.lemmas.Grind.{flat_map-append}
+use Rattle.std.proofs.Common.{◌≡◌, ◌⊎◌, inl, inr, ℕ, ◌+◌, ◌≤◌, ◌∙◌, List, [], ◌∷◌, ◌++◌, append-nil, ap, length, Option, Some, None, Bor, slice_get, refl, sym, subst}
+use Rattle.sf_ask.specs.QuestionData.{QuestionData}
+use Rattle.sf_policy.specs.declared.fault.Fault.{Fault}
+use Rattle.sf_policy.specs.declared.fault.Fault.TheVariants as faults
+use Rattle.sf_evaluate.specs.Policies.{AreAsked, IsPolicyFile, RefusesAsking, RefusesPolicyFile, all_questions}
+use Rattle.sf_evaluate.proofs.NamingLemmas.{ReadSoFar, all_read, one_read}
+
+-- The questions of the files at the first of the paths are these. What is known of files stays what it was before.
+pub record AskedSoFar (before after : List ℕ → Option (List ℕ)) (paths : List (Bor (List ℕ))) (place : ℕ)
+    (all : List QuestionData) : Type 0 where
+  pub files : List (List QuestionData)
+  pub read : ReadSoFar IsPolicyFile before after paths place files
+  pub all_of : all ≡ all_questions files
+
+asked_more : (files : List (List QuestionData)) (asked : List QuestionData)
+    → all_questions (files ++ asked ∷ []) ≡ all_questions files ++ asked
+asked_more files asked =
+    flat_map-append (λ (l : List QuestionData). l) files (asked ∷ [])
+    ∙ ap (λ l. all_questions files ++ l) (append-nil asked)
+
+module _ (before after next : List ℕ → Option (List ℕ)) (paths : List (Bor (List ℕ))) (place : ℕ)
+    (all asked : List QuestionData) (path : Bor (List ℕ)) (so_far : AskedSoFar before after paths place all)
+    (here : slice_get paths place ≡ Some path) where
+  -- one file more was read
+  pub one_asked : IsPolicyFile (after path.now) asked → (more : List QuestionData)
+      → ((p : List ℕ) → next p ≡ after p) → more ≡ all ++ asked → AskedSoFar before next paths (place + 1) more
+  one_asked meant more same added = record {
+    files = so_far.files ++ asked ∷ [];
+    read = one_read IsPolicyFile before after next paths place so_far.files _ path asked so_far.read here
+        meant same refl;
+    all_of = added ∙ ap (λ l. l ++ asked) so_far.all_of ∙ sym (asked_more so_far.files asked);
+  }
+
+-- a file more is refused
+pub asking_why : (before after : List ℕ → Option (List ℕ)) (paths : List (Bor (List ℕ))) (place : ℕ)
+    (path : Bor (List ℕ)) (fault : Fault) → ((p : List ℕ) → after p ≡ before p) → slice_get paths place ≡ Some path
+    → ((fault ≡ faults.Read) × (after path.now ≡ None)) ⊎ (fault ≡ faults.Memory)
+    ⊎ RefusesPolicyFile (after path.now) fault → RefusesAsking before paths fault
+asking_why before after paths place path fault same here (inl (is, unknown)) =
+    inl (is, record { place = place; path = path; at = here; unknown = sym (same path.now) ∙ unknown })
+asking_why before after paths place path fault same here (inr (inl is)) = inr (inl is)
+asking_why before after paths place path fault same here (inr (inr why)) = inr (inr (record {
+  place = place;
+  path = path;
+  at = here;
+  refused = subst (λ known. RefusesPolicyFile known fault) (same path.now) why;
+}))
+
+-- all files were read
+pub all_asked : (before after : List ℕ → Option (List ℕ)) (paths : List (Bor (List ℕ))) (place : ℕ)
+    (all : List QuestionData) → AskedSoFar before after paths place all → length paths ≤ place → place ≤ length paths
+    → AreAsked before paths all
+all_asked before after paths place all so_far over under = record {
+  files = so_far.files;
+  read = all_read IsPolicyFile before after paths place so_far.files so_far.read over under;
+  all = so_far.all_of;
+}

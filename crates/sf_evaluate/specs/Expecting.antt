@@ -1,0 +1,57 @@
+-- The files that say what a build expects of an audit: a control, and the questions that may be allowed.
+use Rattle.std.specs.Prelude.{◌≡◌, ◌⊎◌, ◌+◌, ℕ, Bool, true, not, List, [], Option, Some, None, codes}
+use Rattle.std.specs.List.{list_any}
+use Rattle.std.specs.Str.{IsUtf8, bytes_eq}
+use Rattle.clap.specs.Words.{Row, first_of}
+use Rattle.sf_ask.specs.QuestionData.{QuestionData}
+use Rattle.sf_policy.specs.declared.fault.Fault.{Fault}
+use Rattle.sf_policy.specs.declared.fault.Fault.TheVariants.{Accepted, Memory, Read, Syntax}
+use Rattle.sf_policy.specs.Accepted.{AreAccepted, IsMisfitAt}
+use Rattle.sf_command_line.specs.Options.{paths_of}
+use Rattle.sf_evaluate.specs.Files.{AreKnownBytes}
+use Rattle.sf_evaluate.specs.Policies.{IsPolicyFile, RefusesPolicyFile}
+
+-- the questions of the control, if a policy file is named for it; else there are none
+abbrev pub IsControl : (List ℕ → Option (List ℕ)) → Option (List ℕ) → List QuestionData → Type 0
+IsControl holds None control = control ≡ []
+IsControl holds (Some path) control = IsPolicyFile (holds path) control
+
+-- the file, whose bytes may be known, names some of the questions
+abbrev pub IsAcceptFile : Option (List ℕ) → List QuestionData → List (List ℕ) → Type 0
+IsAcceptFile known questions names = (bytes : List ℕ) × AreKnownBytes known bytes × AreAccepted questions bytes names
+
+-- the names of the questions that may be allowed, if a file is named for them; else there are none
+abbrev pub AreAcceptedIn : (List ℕ → Option (List ℕ)) → Option (List ℕ) → List QuestionData → List (List ℕ) → Type 0
+AreAcceptedIn holds None questions names = names ≡ []
+AreAcceptedIn holds (Some path) questions names = IsAcceptFile (holds path) questions names
+
+-- Why a control is refused: its file, whose bytes aren't known, can't be read; memory ran out; or it is no policy.
+abbrev pub RefusesControl : (List ℕ → Option (List ℕ)) → Option (List ℕ) → Fault → Type 0
+RefusesControl holds control fault =
+    (fault ≡ Memory)
+    ⊎ ((path : List ℕ) × (control ≡ Some path)
+    × (((fault ≡ Read) × (holds path ≡ None)) ⊎ RefusesPolicyFile (holds path) fault))
+
+-- Why the bytes name no questions that may be allowed: they are no UTF-8, or a line doesn't name one of the questions.
+abbrev pub RefusesNamed : List QuestionData → List ℕ → Fault → Type 0
+RefusesNamed questions bytes fault =
+    ((fault ≡ Syntax) × (IsUtf8 bytes → ⊥))
+    ⊎ ((place : ℕ) × (fault ≡ Accepted (place + 1)) × IsMisfitAt questions bytes place)
+
+-- Why the questions that may be allowed are refused: their file, whose bytes aren't known, can't be read; memory ran
+-- out; or the bytes don't name them.
+abbrev pub RefusesAccepted : (List ℕ → Option (List ℕ)) → Option (List ℕ) → List QuestionData → Fault → Type 0
+RefusesAccepted holds accept questions fault =
+    (fault ≡ Memory)
+    ⊎ ((path : List ℕ) × (accept ≡ Some path)
+    × (((fault ≡ Read) × (holds path ≡ None))
+    ⊎ ((bytes : List ℕ) × AreKnownBytes (holds path) bytes × RefusesNamed questions bytes fault)))
+
+-- the policy of the control isn't one of those that ask the questions
+abbrev pub is_other_policy : Option (List ℕ) → List (List ℕ) → Bool
+is_other_policy None policies = true
+is_other_policy (Some path) policies = not (list_any (bytes_eq path) policies)
+
+-- the words of `audit` fit: the control is another policy than those that ask the questions
+abbrev pub audit_words_fit : List Row → Bool
+audit_words_fit rows = is_other_policy (first_of (codes "control") rows) (paths_of (codes "policy") rows)
