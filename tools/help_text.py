@@ -14,6 +14,8 @@ def sections_of(text):
         if found:
             title = found[1]
             sections[title] = [found[2].strip()] if found[2].strip() else []
+        elif title == "Exit status" and re.match(r"   +\S", line):
+            sections[title][-1] += f" {line.strip()}"  # goes on with the status above
         elif line.startswith("  "):
             sections[title].append(line.strip())
         elif line:
@@ -33,3 +35,5 @@ class Help:
         lines = dict(re.split(r"  +", line, maxsplit=1) for line in self.top["Commands"])
         self.abouts = lines
         self.commands = {command: sections_of(said(command, "--help")) for command in lines}
+        # Whether `help COMMAND` is a way to the help of a subcommand: then it is one that takes no options.
+        self.has_help = any("help COMMAND" in line for line in self.top.get("end", []))

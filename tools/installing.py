@@ -1,17 +1,34 @@
 """What goes with the program when it is installed, and where it goes."""
 import os
 import shutil
+import subprocess
+import tempfile
 
 from kit import PROGRAM, ROOT
 
-# What is copied beside the program: from where in the repository, and to where below PREFIX.
+# What is copied beside the program: from where in the repository, and to where below PREFIX. {doc} is the folder of pages.
 FILES = [
     ("docs/seccomp_audit.1", "share/man/man1/seccomp_audit.1"),
     ("docs/completions/seccomp_audit.bash", "share/bash-completion/completions/seccomp_audit"),
     ("docs/completions/_seccomp_audit", "share/zsh/vendor-completions/_seccomp_audit"),
     ("docs/completions/seccomp_audit.fish", "share/fish/vendor_completions.d/seccomp_audit.fish"),
+    ("docs/GUIDE.md", "share/doc/{doc}/GUIDE.md"),
+    ("docs/POLICIES.md", "share/doc/{doc}/POLICIES.md"),
+    ("examples/ci/github.yml", "share/doc/{doc}/ci/github.yml"),
+    ("examples/ci/gitlab.yml", "share/doc/{doc}/ci/gitlab.yml"),
 ]
 POLICIES = "share/seccomp_audit/policies"
+
+# Folders below PREFIX that nobody else writes in: they are told as wholes.
+OWN = ["libexec/seccomp_audit", "share/doc/{doc}", "share/seccomp_audit"]
+
+# Helpers in Python, and what a C compiler makes: the source below tools/, the compiler's options, the target.
+# `kernel_agrees` does nothing without `ask_kernel`, so it goes where that goes.
+FILTER_OF_PROFILE = ("tools/filter_of_profile", "bin/seccomp_audit_filter_of_profile")
+KERNEL_AGREES = ("tools/kernel_agrees", "bin/seccomp_audit_kernel_agrees")
+READ_FILTERS = ("read_filters.c", (), "bin/seccomp_audit_read_filters")
+ASK_KERNEL = ("ask_kernel.c", ("-pthread",), "libexec/seccomp_audit/ask_kernel")
+COMPILED = (READ_FILTERS[2], ASK_KERNEL[2])
 
 
 def copy(source, target, mode=0o644):
@@ -20,13 +37,56 @@ def copy(source, target, mode=0o644):
     os.chmod(target, mode)
 
 
-def install(program, prefix):
-    """Copies all, and gives what it has written: the files, and the folder of the policies."""
-    copy(program, f"{prefix}/bin/{PROGRAM}", 0o755)
-    for source, target in FILES:
-        copy(os.path.join(ROOT, source), f"{prefix}/{target}")
+def is_compiled(source, options, target):
+    """Compiles a source of tools/. Whether that went well: it doesn't where there is no compiler, or another machine."""
+    with tempfile.TemporaryDirectory() as room:
+        made = os.path.join(room, "made")
+        words = [os.environ.get("CC") or "cc", "-O2", "-s", *options, "-o", made, source]
+        try:
+            ran = subprocess.run(words, cwd=os.path.join(ROOT, "tools"), stdin=subprocess.DEVNULL, capture_output=True)
+        except FileNotFoundError:
+            return False
+        if ran.returncode == 0:
+            copy(made, target, 0o755)
+        return ran.returncode == 0
+
+
+def install_helpers(prefix):
+    """Installs the helpers. Gives the places of those that are written, and the names of those that are left out."""
+    written, left_out = [FILTER_OF_PROFILE[1]], []
+    copy(os.path.join(ROOT, FILTER_OF_PROFILE[0]), f"{prefix}/{FILTER_OF_PROFILE[1]}", 0o755)
+    if is_compiled(READ_FILTERS[0], READ_FILTERS[1], f"{prefix}/{READ_FILTERS[2]}"):
+        written.append(READ_FILTERS[2])
+    else:
+        left_out.append(os.path.basename(READ_FILTERS[2]))
+    if is_compiled(ASK_KERNEL[0], ASK_KERNEL[1], f"{prefix}/{ASK_KERNEL[2]}"):
+        copy(os.path.join(ROOT, KERNEL_AGREES[0]), f"{prefix}/{KERNEL_AGREES[1]}", 0o755)
+        written += [ASK_KERNEL[2], KERNEL_AGREES[1]]
+    else:
+        left_out.append(os.path.basename(KERNEL_AGREES[1]))
+    return written, left_out
+
+
+def install_policies(prefix):
+    """Installs the policies and the names of calls, and gives their places."""
+    written = []
     for folder in ("", "names/"):
         for name in sorted(os.listdir(os.path.join(ROOT, "policies", folder))):
             if name.endswith(".toml"):
                 copy(os.path.join(ROOT, "policies", folder, name), f"{prefix}/{POLICIES}/{folder}{name}")
-    return [f"{prefix}/bin/{PROGRAM}", *(f"{prefix}/{target}" for _, target in FILES), f"{prefix}/{POLICIES}"]
+                written.append(f"{POLICIES}/{folder}{name}")
+    return written
+
+
+def install(program, prefix, doc=PROGRAM):
+    """Copies all. Gives the paths that it has written (files, and in their place folders of its own), and the names of the
+    helpers that it has left out, since no C compiler makes them here."""
+    copy(program, f"{prefix}/bin/{PROGRAM}", 0o755)
+    helpers, left_out = install_helpers(prefix)
+    files = [(source, target.format(doc=doc)) for source, target in FILES]
+    for source, target in files:
+        copy(os.path.join(ROOT, source), f"{prefix}/{target}")
+    written = [f"bin/{PROGRAM}", *helpers, *(target for _, target in files), *install_policies(prefix)]
+    own = [folder.format(doc=doc) for folder in OWN]
+    told = [next((folder for folder in own if path.startswith(f"{folder}/")), path) for path in written]
+    return [f"{prefix}/{path}" for path in dict.fromkeys(told)], left_out
