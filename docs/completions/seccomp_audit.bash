@@ -3,11 +3,12 @@
 _seccomp_audit() {
     local word=${COMP_WORDS[COMP_CWORD]} before=${COMP_WORDS[COMP_CWORD - 1]} options="--help --version"
     case ${COMP_WORDS[1]} in
-        audit) options="--policy --budget --workers --regions --why --names --quiet --explain-errors --help" ;;
+        audit) options="--policy --control --accept --budget --workers --regions --why --names --progress --quiet --explain-errors --help" ;;
         check) options="--instructions --quiet --explain-errors --help" ;;
         eval) options="--input --call --nr --arch --args --trace --trace-true --names --explain-errors --help" ;;
-        compare) options="--old --new --budget --workers --same --rows --only --calls --leaves --names --quiet --explain-errors --help" ;;
-        list) options="--budget --workers --leaves --names --calls --quiet --explain-errors --help" ;;
+        compare) options="--old --new --budget --workers --same --rows --only --calls --leaves --names --progress --quiet --explain-errors --help" ;;
+        list) options="--budget --workers --leaves --names --calls --progress --quiet --explain-errors --help" ;;
+        needed) options="--budget --workers --progress --quiet --explain-errors --help" ;;
         profile) options="--machine --names --cap --kernel --conflicts --newer --notes --quiet --explain-errors --help" ;;
     esac
     COMPREPLY=()
@@ -17,7 +18,9 @@ _seccomp_audit() {
     if [[ $word == -* ]]; then
         mapfile -t COMPREPLY < <(compgen -W "$options" -- "$word")
     elif ((COMP_CWORD == 1)); then
-        mapfile -t COMPREPLY < <(compgen -W "audit check eval compare list profile" -- "$word")
+        mapfile -t COMPREPLY < <(compgen -W "audit check eval compare list needed profile help" -- "$word")
+    elif [[ ${COMP_WORDS[1]} == help ]]; then
+        mapfile -t COMPREPLY < <(compgen -W "audit check eval compare list needed profile" -- "$word")
     else
         compopt -o filenames 2> /dev/null
         mapfile -t COMPREPLY < <(compgen -f -- "$word")
