@@ -1,0 +1,33 @@
+-- Values without a float.
+use Rattle.std.proofs.Common.{◌≡◌, ℕ, List, [], ◌∷◌, ◌++◌, false}
+use Rattle.std.specs.Ordering.{nat_cmp, match_ordering}
+use Rattle.std.specs.Cmp.Lexicographic.{slice_cmp}
+use Rattle.std.specs.declared.cmp.Ordering.{Ordering}
+use Rattle.std.specs.declared.cmp.Ordering.TheVariants.{Less, Equal, Greater}
+use Rattle.std.proofs.lemmas.Bool.{or_parts}
+use Rattle.serde_json.specs.Data.{Data, Members, no_members, member, put}
+use Rattle.serde_json.specs.View.{items_view, view}
+use Rattle.serde_json.specs.Written.{has_float, items_have_float, members_have_float}
+use Rattle.serde_json.specs.declared.value.Value.{Value}
+
+-- one more value without a float behind values without one
+pub no_float_behind : (vs : List Value) (v : Value) → items_have_float (items_view vs) ≡ false
+    → has_float (view v) ≡ false → items_have_float (items_view (vs ++ v ∷ [])) ≡ false
+no_float_behind [] v h k = rw k
+no_float_behind (w ∷ ws) v h k =
+    let p = or_parts (has_float (view w)) _ h in rw (p.0, no_float_behind ws v p.1 k)
+
+-- either of three without a float
+of_three : (o : Ordering) (a b c : Members) → members_have_float a ≡ false → members_have_float b ≡ false
+    → members_have_float c ≡ false → members_have_float (match_ordering o a b c) ≡ false
+of_three Less a b c ha hb hc = ha
+of_three Equal a b c ha hb hc = hb
+of_three Greater a b c ha hb hc = hc
+
+-- one more value without a float among members without one
+pub no_float_among : (k : List ℕ) (d : Data) (ms : Members) → members_have_float ms ≡ false
+    → has_float d ≡ false → members_have_float (put k d ms) ≡ false
+no_float_among k d no_members h e = rw e
+no_float_among k d (member l f ms) h e =
+    let p = or_parts (has_float f) (members_have_float ms) h in
+    of_three (slice_cmp nat_cmp k l) _ _ _ (rw (e, p.0, p.1)) (rw (e, p.1)) (rw (p.0, no_float_among k d ms p.1 e))

@@ -1,0 +1,53 @@
+//! What is told of an exploration as JSON: the sizes of its stack, and its counts.
+
+ghost use Rattle.std.specs.Prelude.{◌≡◌, ◌≤◌, length, IfOk};
+ghost use Rattle.sf_book.specs.Books.{counts_of};
+ghost use Rattle.sf_json.specs.Documents.{counts_document, sizes_document};
+ghost use Rattle.serde_json.specs.View.{view};
+
+use crate::document::{Document, Fields};
+use sf_book::{Counts, Settled};
+use sf_check::{Program, path_length};
+use std::alloc::{AllocError, Global};
+
+/// How many programs there are, and the length of the path through them. The caller's condition: at most 64 programs. An
+/// error where an allocation is refused.
+pub fn sizes_document(alloc: Global, programs: &[Program]) -> Result<Document, AllocError>
+    requires { length programs.now ≤ 64 }
+    ensures { IfOk result (λ d. view d ≡ sizes_document programs.now) }
+{
+    let filters = programs.len();
+    let path = path_length(programs);
+    let fields = Fields::new(alloc)
+        .with("filters", Document::count(filters))?
+        .with("path", Document::count(path))?;
+    Ok(Document::object(fields))
+}
+
+/// How many programs the stack of an exploration has, and the length of the path through them. An error where an
+/// allocation is refused.
+pub fn stack_document(alloc: Global, exploration: &Settled) -> Result<Document, AllocError>
+    ensures { IfOk result (λ d. view d ≡ sizes_document exploration.now.stack) }
+{
+    sizes_document(alloc, exploration.stack().programs())
+}
+
+/// Counts as JSON.
+fn document_of_counts(alloc: Global, counts: Counts) -> Result<Document, AllocError>
+    ensures { IfOk result (λ d. view d ≡ counts_document counts) }
+{
+    let fields = Fields::new(alloc)
+        .with("regions", Document::count(counts.settled))?
+        .with("open", Document::count(counts.left))?
+        .with("emptied", Document::count(counts.emptied))?
+        .with("splits", Document::number(counts.splits))?
+        .with("commits", Document::number(counts.commits))?;
+    Ok(Document::object(fields))
+}
+
+/// The counts of an exploration. An error where an allocation is refused.
+pub fn counts_document(alloc: Global, exploration: &Settled) -> Result<Document, AllocError>
+    ensures { IfOk result (λ d. view d ≡ counts_document (counts_of exploration.now)) }
+{
+    document_of_counts(alloc, exploration.counts())
+}

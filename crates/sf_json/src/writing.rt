@@ -1,0 +1,47 @@
+//! How a document is written.
+
+ghost use Rattle.std.specs.Prelude.{◌≡◌, ◌⊎◌, string_bytes, IfErr, IfOk, OnErr, OnOk};
+ghost use Rattle.std.specs.Io.KnownBytes.{Appends};
+ghost use Rattle.serde_json.specs.View.{view};
+ghost use Rattle.sf_json.specs.Documents.{document_line};
+ghost use Rattle.sf_policy.specs.Texts.{AppendsFront};
+ghost use Rattle.sf_policy.specs.declared.fault.Fault.TheVariants.{Memory as MemoryFault, Write as WriteFault};
+
+use crate::document::Document;
+use sf_policy::{Fault, write_bytes};
+use std::alloc::{AllocError, Global};
+use std::io::Write;
+
+/// A document on a line of its own, without blanks. An error where an allocation is refused.
+pub fn line_of(alloc: Global, document: &Document) -> Result<String, AllocError>
+    ensures { IfOk result (λ text. string_bytes text ≡ document_line (view document.now)) }
+{
+    let mut text = document.value().to_string(alloc)?;
+    text.push_str("\n")?;
+    Ok(text)
+}
+
+/// Writes a document on a line of its own, without blanks.
+///
+/// `Write` where a write fails or takes no byte: a beginning of the line was written then. `Memory` where the text can't
+/// be built: nothing was written then.
+pub fn write_document<W: Write>(
+    alloc: Global,
+    document: &Document,
+    out: &mut W,
+) -> Result<(), Fault>
+    // The line is written, where the writer tells its bytes.
+    ensures written { OnOk result (Appends (W.contents out.old) (W.contents out.new)
+        (document_line (view document.now))) }
+
+    // After an error a beginning of the line is written.
+    ensures begun { OnErr result (AppendsFront (W.contents out.old) (W.contents out.new)
+        (document_line (view document.now))) }
+
+    // The only errors are that writing failed, or that memory ran out: then nothing was written.
+    ensures refused { IfErr result (λ e. (e ≡ WriteFault)
+        ⊎ ((e ≡ MemoryFault) × (out.new ≡ out.old))) }
+{
+    let line = line_of(alloc, document)?;
+    write_bytes(line.as_bytes(), out)
+}
