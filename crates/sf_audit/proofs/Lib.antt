@@ -2,3 +2,4 @@ pub mod ExpectedLemmas
 pub mod RegionLines
 pub mod Exclusive
 pub mod OneReport
+pub mod RegionDocuments

@@ -1,4 +1,5 @@
 pub mod Outcomes
 pub mod Reports
 pub mod Audits
+pub mod Documents
 pub mod Expectations

@@ -58,11 +58,33 @@ impl Expected {
     }
 
     /// The questions of the control.
-    fn control(&self) -> &[Question]
+    pub(crate) fn control(&self) -> &[Question]
         ensures same { result.now ≡ self.now.control }
         ensures held { length self.now.control ≡ length self.now.held }
     {
         self.control.as_slice()
+    }
+
+    /// The replies to the questions of the control.
+    pub(crate) fn held(&self) -> &[Reply]
+        ensures same { result.now ≡ self.now.held }
+        ensures held { length self.now.control ≡ length self.now.held }
+    {
+        self.held.as_slice()
+    }
+
+    /// Whether a name is an accepted one.
+    pub(crate) fn is_accepted(&self, name: &str) -> bool
+        ensures { result ≡ is_accepted self.now.accepted name.now }
+    {
+        is_accepted(&self.accepted, name)
+    }
+
+    /// Whether a question with this name and reply is allowed, and its name isn't an accepted one.
+    pub(crate) fn is_unexpected(&self, name: &str, reply: Reply) -> bool
+        ensures { result ≡ is_unexpected self.now.accepted name.now reply }
+    {
+        is_unexpected(&self.accepted, name, &reply)
     }
 
     /// Whether the control holds: each of its questions is allowed.

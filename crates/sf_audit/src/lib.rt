@@ -3,6 +3,7 @@
 
 mod auditing;
 mod counting;
+mod document;
 mod expecting;
 pub mod laws;
 mod outcome;
@@ -10,6 +11,7 @@ mod report;
 
 pub use auditing::{audit, reply_to};
 pub use counting::{count_allowed, count_never, count_unsettled};
+pub use document::{Telling, audit_document};
 pub use expecting::{Expected, text_of_expected};
 pub use outcome::Outcome;
 pub use report::write_report;

@@ -1,3 +1,4 @@
 pub mod Relations
 pub mod Changes
 pub mod Comparisons
+pub mod Documents

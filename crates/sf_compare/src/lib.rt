@@ -4,11 +4,13 @@
 
 mod changes;
 mod comparison;
+mod document;
 pub mod laws;
 mod relation;
 mod text;
 
 pub use changes::{Change, Example};
 pub use comparison::{Comparison, compare};
+pub use document::{comparison_document, comparison_fields};
 pub use relation::Relation;
 pub use text::{text_of_comparison, write_comparison};

@@ -1,5 +1,5 @@
 -- What differs between the answers of two stacks that were explored as one, and the rows that show it.
-use Rattle.std.specs.Prelude.{◌≡◌, ℕ, ◌+◌, ◌<◌, ◌==◌, not, Bool, true, false, List, [], ◌∷◌, ◌++◌, codes, All, length, map, nat_lt, Option, None, Some, MatchOption, slice_get, slice_index}
+use Rattle.std.specs.Prelude.{◌≡◌, ℕ, ◌<◌, ◌==◌, not, Bool, true, false, List, [], ◌∷◌, ◌++◌, codes, All, length, nat_lt, Option, None, Some, MatchOption, slice_get, slice_index}
 use Rattle.std.specs.List.{filter, list_any}
 use Rattle.std.specs.Option.{option_map_or}
 use Rattle.std.specs.List.Sorted.{IsNonDecreasingBy}

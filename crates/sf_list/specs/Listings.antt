@@ -14,7 +14,7 @@ use Rattle.sf_policy.specs.Filters.{SpellStack}
 use Rattle.sf_names.specs.Names.{NamesData}
 use Rattle.sf_policy.specs.Texts.{answer_words, counts_line, line}
 use Rattle.sf_rows.specs.Answers.{AreFirstPlaces, answer_order}
-use Rattle.sf_rows.specs.Rows.{RowData, listed_rows, rows_of}
+use Rattle.sf_rows.specs.Rows.{listed_rows, rows_of}
 use Rattle.sf_rows.specs.Lines.{is_undetermined}
 use Rattle.sf_rows.specs.Written.{written_count, written_lines, written_undetermined}
 

@@ -101,7 +101,7 @@ impl<'a> Model for Shown<'a> {
 }
 
 /// The rows that are shown. `Memory` where an allocation is refused.
-fn rows_of(
+pub(crate) fn rows_of(
     alloc: Global,
     differences: &Differences,
     only: Option<Relation>,
@@ -118,7 +118,7 @@ fn rows_of(
 }
 
 /// What the rows that are shown have in common.
-fn words_of(only: Option<Relation>) -> &'static str
+pub(crate) fn words_of(only: Option<Relation>) -> &'static str
     ensures { result.now ≡ shown_words only }
 {
     match only {

@@ -4,11 +4,13 @@
 
 mod changed;
 mod differences;
+mod document;
 pub mod laws;
 mod listing;
 mod text;
 
 pub use changed::{Shown, write_differences};
 pub use differences::{Differences, draw_differences};
+pub use document::{ListingDocument, differences_document, listing_document};
 pub use listing::{Listing, list};
 pub use text::write_listing;

@@ -100,7 +100,7 @@ fn text_of(
 }
 
 /// Whether each input lies in a row with one answer: there is a picture, and no row has several answers, as is counted.
-fn is_whole(listing: &Listing, undetermined: usize) -> bool
+pub(crate) fn is_whole(listing: &Listing, undetermined: usize) -> bool
     requires { undetermined ≡ count_by is_undetermined (listed_rows listing.now.picture) }
     ensures { result ≡ is_whole_listing listing.now.picture }
 {

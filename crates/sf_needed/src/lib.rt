@@ -3,11 +3,13 @@
 #![tactic(auto)]
 
 mod counting;
+mod document;
 mod dropping;
 pub mod laws;
 mod needs;
 mod text;
 mod trial;
 
+pub use document::needs_document;
 pub use needs::{Needs, needed};
 pub use text::{text_of_needs, write_needed};

@@ -6,3 +6,4 @@ pub mod Lines
 pub mod Calls
 pub mod Unnamed
 pub mod Written
+pub mod Documents

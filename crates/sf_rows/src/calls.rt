@@ -33,6 +33,27 @@ impl<'a> Model for CallRow<'a> {
 }
 
 impl<'a> CallRow<'a> {
+    /// The name of the call's set.
+    pub(crate) fn set(&self) -> &str
+        ensures { result.now ≡ self.now.set }
+    {
+        self.names.set()
+    }
+
+    /// The name of the call.
+    pub(crate) fn name(&self) -> &str
+        ensures { result.now ≡ self.now.name }
+    {
+        self.call.name()
+    }
+
+    /// The row.
+    pub(crate) fn row(&self) -> &Row
+        ensures { result.now ≡ self.now.row }
+    {
+        self.row
+    }
+
     /// Whether the row has several labels.
     fn is_undetermined(&self) -> bool
         ensures { result ≡ is_undetermined self.now.row }

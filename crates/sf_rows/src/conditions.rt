@@ -165,7 +165,7 @@ fn push_axis(text: &mut String, axis: Axis) -> Result<(), AllocError>
 }
 
 /// Adds a condition.
-fn push_condition(text: &mut String, condition: &Condition) -> Result<(), AllocError>
+pub(crate) fn push_condition(text: &mut String, condition: &Condition) -> Result<(), AllocError>
     ensures { OnOk result (string_bytes text.new ≡ string_bytes text.old
         ++ condition_words condition.now) }
 {

@@ -4,6 +4,7 @@
 pub mod answers;
 mod calls;
 mod conditions;
+mod document;
 pub mod laws;
 mod lines;
 mod named;
@@ -14,5 +15,6 @@ mod spans;
 mod unnamed;
 mod written;
 
+pub use document::{RowDocuments, documents_of_rows};
 pub use rows::{Row, count_undetermined, rows_in};
 pub use written::{Lines, push_lines};

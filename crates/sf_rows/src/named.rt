@@ -26,7 +26,7 @@ fn number_of(spans: &[Span]) -> Option<u32>
 }
 
 /// The architecture that is meant, where it is only one.
-fn only_arch(arch: &Option<Part>) -> Option<u32>
+pub(crate) fn only_arch(arch: &Option<Part>) -> Option<u32>
     ensures { result ≡ only_arch arch.now }
 {
     match arch {

@@ -23,7 +23,7 @@ pub struct Lines {
 
 /// The rows that are told beside those of calls: where no call is asked for by its name, those of the inputs that belong to
 /// no call with a name. `Memory` where an allocation is refused.
-fn other_rows(
+pub(crate) fn other_rows(
     alloc: Global,
     sets: &[Names],
     wanted: &[&str],

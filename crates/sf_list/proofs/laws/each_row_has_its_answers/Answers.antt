@@ -1,4 +1,4 @@
-use Rattle.std.proofs.Common.{◌≡◌, sym, subst}
+use Rattle.std.proofs.Common.{sym, subst}
 use Rattle.std.specs.Prelude.{MatchOption, Contains, ◌<◌, length}
 use Rattle.sf_list.specs.Listings.{IsPictured}
 use Rattle.sf_list.proofs.laws.each_row_has_its_answers.Goals as goal

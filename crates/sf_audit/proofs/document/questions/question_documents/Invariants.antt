@@ -1,0 +1,9 @@
+use Rattle.std.proofs.Common.{◌≡◌, ◌++◌, drop, map}
+use Rattle.serde_json.specs.View.{view}
+use Rattle.sf_audit.specs.Documents.{question_documents, telling_data}
+use Rattle.sf_audit.proofs.document.questions.question_documents.Given as goal
+
+abbrev pub invariant-loop-i : goal.invariant-loop-i
+invariant-loop-i l = map view l.documents.items
+    ++ question_documents (telling_data l.telling) l.expected l.i (drop l.i l.questions) (drop l.i l.replies)
+    ≡ question_documents (telling_data l.telling) l.expected 0 l.questions l.replies

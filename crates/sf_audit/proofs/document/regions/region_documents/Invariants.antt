@@ -1,0 +1,8 @@
+use Rattle.std.proofs.Common.{◌≡◌, ◌+◌, ◌++◌, drop, map}
+use Rattle.serde_json.specs.View.{view}
+use Rattle.sf_audit.specs.Documents.{region_documents}
+use Rattle.sf_audit.proofs.document.regions.region_documents.Given as goal
+
+abbrev pub invariant-loop-i : goal.invariant-loop-i
+invariant-loop-i l = map view l.documents.items ++ region_documents (l.i + 1) (drop l.i l.settled.regions)
+    ≡ region_documents 1 l.settled.regions

@@ -1,0 +1,73 @@
+//! An audit as JSON.
+
+mod expectations;
+mod questions;
+mod regions;
+
+ghost use Rattle.std.specs.Prelude.{◌≡◌, IfOk};
+ghost use Rattle.serde_json.specs.View.{view};
+ghost use Rattle.sf_audit.specs.Documents.{audit_document, telling_data, totals_document};
+
+use crate::counting::{count_allowed, count_never, count_unsettled};
+use crate::expecting::Expected;
+use crate::outcome::Outcome;
+use expectations::shown_expected;
+use questions::questions_document;
+use regions::shown_regions;
+use sf_ask::Reply;
+use sf_json::{Document, Fields, counts_document, stack_document};
+use sf_names::Names;
+use std::alloc::{AllocError, Global};
+
+/// How an audit is told.
+#[derive(Drop)]
+pub struct Telling<'m> {
+    /// Whether the settled regions are told.
+    pub regions: bool,
+    /// Whether it is told what was expected.
+    pub is_expecting: bool,
+    /// The names of calls with which inputs are told.
+    pub names: &'m [Names],
+    /// Where each question stands, at its place; nothing is told where there is nothing at its place.
+    pub origins: &'m [Document],
+    /// The remark on each question, at its place: text of its own lines.
+    pub remarks: &'m [String],
+}
+
+/// How many replies are of each kind.
+fn totals_document(alloc: Global, replies: &[Reply]) -> Result<Document, AllocError>
+    ensures { IfOk result (λ d. view d ≡ totals_document replies.now) }
+{
+    let fields = Fields::new(alloc)
+        .with("never", Document::count(count_never(replies)))?
+        .with("allowed", Document::count(count_allowed(replies)))?
+        .with("unsettled", Document::count(count_unsettled(replies)))?;
+    Ok(Document::object(fields))
+}
+
+/// An audit as JSON: the size of the stack, the counts of its exploration, each question with its reply, what was expected,
+/// the regions where they are asked for, and how many replies are of each kind. An error where an allocation is refused.
+pub fn audit_document(
+    alloc: Global,
+    outcome: &Outcome,
+    expected: &Expected,
+    telling: &Telling<'_>,
+) -> Result<Document, AllocError>
+    ensures { IfOk result (λ d. view d ≡ audit_document (telling_data telling.now)
+        expected.now outcome.now) }
+{
+    let settled = outcome.settled();
+    let questions = questions_document(alloc, outcome, expected, telling)?;
+    let shown = shown_expected(alloc, telling.is_expecting, expected)?;
+    let regions = shown_regions(alloc, telling.regions, settled)?;
+    let fields = Fields::new(alloc)
+        .with("seccomp_audit", Document::copy_of(alloc, "audit")?)?
+        .with("version", Document::number(1))?
+        .with("stack", stack_document(alloc, settled)?)?
+        .with("counts", counts_document(alloc, settled)?)?
+        .with("questions", questions)?
+        .with("expected", shown)?
+        .with("regions", regions)?
+        .with("totals", totals_document(alloc, outcome.replies())?)?;
+    Ok(Document::object(fields))
+}

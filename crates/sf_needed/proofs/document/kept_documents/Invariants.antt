@@ -1,0 +1,7 @@
+use Rattle.std.proofs.Common.{◌≡◌, ◌+◌, map, take}
+use Rattle.serde_json.specs.View.{view}
+use Rattle.sf_json.specs.Documents.{count}
+use Rattle.sf_needed.proofs.document.kept_documents.Given as goal
+
+abbrev pub invariant-loop-place : goal.invariant-loop-place
+invariant-loop-place l = map view l.documents.items ≡ map (λ p. count (p + 1)) (take l.place-index l.kept)

@@ -1,0 +1,111 @@
+//! Which filters of a stack are needed, as JSON.
+
+ghost use Rattle.std.specs.Prelude.{◌≡◌, ◌<◌, ◌+◌, All, map, IfOk};
+ghost use Rattle.serde_json.specs.View.{view};
+ghost use Rattle.sf_json.specs.Documents.{count};
+ghost use Rattle.sf_needed.specs.Documents.{finding_document, finding_documents, found_document, needed_document, needs_document, size_document, totals_document};
+
+use crate::needs::Needs;
+use sf_compare::Change;
+use sf_insn::Input;
+use sf_json::{Document, Fields, input_document};
+use std::alloc::{AllocError, Global};
+
+/// A filter: its number, what was found of it, and an example.
+fn found_document(
+    alloc: Global,
+    number: usize,
+    word: &str,
+    example: Document,
+) -> Result<Document, AllocError>
+    ensures { IfOk result (λ d. view d ≡ found_document number word.now (view example)) }
+{
+    let fields = Fields::new(alloc)
+        .with("number", Document::count(number))?
+        .with("result", Document::copy_of(alloc, word)?)?
+        .with("example", example)?;
+    Ok(Document::object(fields))
+}
+
+/// A filter that is needed, for which this input is an example.
+fn needed_document(alloc: Global, number: usize, input: &Input) -> Result<Document, AllocError>
+    ensures { IfOk result (λ d. view d ≡ needed_document number input.now) }
+{
+    let example = input_document(alloc, &[], input)?;
+    found_document(alloc, number, "needed", example)
+}
+
+/// A filter: its number, and what was found of it.
+fn finding_document(alloc: Global, number: usize, finding: Change) -> Result<Document, AllocError>
+    ensures { IfOk result (λ d. view d ≡ finding_document number finding) }
+{
+    match finding {
+        Change::Never => found_document(alloc, number, "spare", Document::null()),
+        Change::Unsettled => found_document(alloc, number, "unsettled", Document::null()),
+        Change::Found(example) => needed_document(alloc, number, &example.input),
+    }
+}
+
+/// All filters, in their order.
+fn finding_documents(alloc: Global, findings: &[Change]) -> Result<Vec<Document>, AllocError>
+    ensures { IfOk result (λ v. map view v.items ≡ finding_documents 1 findings.now) }
+{
+    let mut documents = Vec::new(alloc);
+    for (place, finding) in findings.iter().enumerate() {
+        let document = finding_document(alloc, place + 1, *finding)?;
+        documents.push(document)?;
+    }
+    Ok(documents)
+}
+
+/// The numbers of the filters that are kept.
+fn kept_documents(alloc: Global, kept: &[usize]) -> Result<Vec<Document>, AllocError>
+    requires { All (λ p. p < 64) kept.now }
+    ensures { IfOk result (λ v. map view v.items ≡ map (λ p. count (p + 1)) kept.now) }
+{
+    let mut documents = Vec::new(alloc);
+    for place in kept {
+        documents.push(Document::count(*place + 1))?;
+    }
+    Ok(documents)
+}
+
+/// How many filters the stack has, and the length of the path through them.
+fn size_document(alloc: Global, needs: &Needs) -> Result<Document, AllocError>
+    ensures { IfOk result (λ d. view d ≡ size_document needs.now) }
+{
+    let fields = Fields::new(alloc)
+        .with("filters", Document::count(needs.findings().len()))?
+        .with("path", Document::count(needs.path_length()))?;
+    Ok(Document::object(fields))
+}
+
+/// How often each was found, and how many filters are kept.
+fn totals_document(alloc: Global, needs: &Needs) -> Result<Document, AllocError>
+    ensures { IfOk result (λ d. view d ≡ totals_document needs.now) }
+{
+    let fields = Fields::new(alloc)
+        .with("needed", Document::count(needs.count_needed()))?
+        .with("spare", Document::count(needs.count_spare()))?
+        .with("unsettled", Document::count(needs.count_unsettled()))?
+        .with("kept", Document::count(needs.kept().len()))?;
+    Ok(Document::object(fields))
+}
+
+/// Which filters of a stack are needed, as JSON: the size of the stack, what was found of each filter with an example where it
+/// is needed, the numbers of the filters that are kept, and how often each was found. An error where an allocation is
+/// refused.
+pub fn needs_document(alloc: Global, needs: &Needs) -> Result<Document, AllocError>
+    ensures { IfOk result (λ d. view d ≡ needs_document needs.now) }
+{
+    let filters = finding_documents(alloc, needs.findings())?;
+    let kept = kept_documents(alloc, needs.kept())?;
+    let fields = Fields::new(alloc)
+        .with("seccomp_audit", Document::copy_of(alloc, "needed")?)?
+        .with("version", Document::number(1))?
+        .with("stack", size_document(alloc, needs)?)?
+        .with("filters", Document::array(alloc, filters)?)?
+        .with("kept", Document::array(alloc, kept)?)?
+        .with("totals", totals_document(alloc, needs)?)?;
+    Ok(Document::object(fields))
+}
