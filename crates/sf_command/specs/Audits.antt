@@ -1,7 +1,9 @@
 -- What `audit` reads and writes.
-use Rattle.std.specs.Prelude.{◌≡◌, ◌⊎◌, ◌<◌, ◌||◌, ◌++◌, ℕ, Bool, true, false, List, [], ◌∷◌, Option, is_some, length, if◌then◌else◌}
+use Rattle.std.specs.Prelude.{◌≡◌, ◌⊎◌, ◌<◌, ◌||◌, ◌++◌, ℕ, Bool, true, false, List, [], ◌∷◌, Option, is_some, length, map, string_bytes, if◌then◌else◌}
 use Rattle.std.specs.Borrow.{Bor}
 use Rattle.std.specs.Io.KnownBytes.{Appends}
+use Rattle.serde_json.specs.Data.{Data}
+use Rattle.serde_json.specs.View.{view}
 use Rattle.sf_check.specs.declared.insn.Insn.{Insn}
 use Rattle.sf_ask.specs.QuestionData.{QuestionData}
 use Rattle.sf_ask.specs.declared.verdict.Reply.{Reply}
@@ -9,15 +11,19 @@ use Rattle.sf_ask.specs.declared.verdict.Reply.TheVariants.{Never, Allowed, Unse
 use Rattle.sf_crew.specs.Sweeps.{AreRightReplies}
 use Rattle.sf_names.specs.Names.{NamesData}
 use Rattle.sf_policy.specs.declared.fault.Fault.{Fault}
-use Rattle.sf_policy.specs.declared.fault.Fault.TheVariants.{Count, Memory, Read, Write}
+use Rattle.sf_policy.specs.declared.fault.Fault.TheVariants.{Count, Memory, Read as ReadFault, Write}
 use Rattle.sf_audit.specs.Outcomes.{Found}
 use Rattle.sf_audit.specs.Audits.{IsAudit, IsAuditRefusal}
+use Rattle.sf_audit.specs.Documents.{TellingData, audit_document}
 use Rattle.sf_audit.specs.Expectations.{ExpectedData, expected_text}
 use Rattle.sf_audit.specs.Reports.{report_text}
 use Rattle.sf_evaluate.specs.Expecting.{AreAcceptedIn, IsControl, RefusesAccepted, RefusesControl}
 use Rattle.sf_evaluate.specs.Files.{AreRead, HasUnknown}
+use Rattle.sf_evaluate.specs.Origins.{AreOrigins}
 use Rattle.sf_evaluate.specs.Policies.{AreAsked, RefusesAsking}
 use Rattle.sf_evaluate.specs.Traces.{IsWhy}
+use Rattle.sf_json.specs.Documents.{document_line}
+use Rattle.sf_command.specs.declared.auditing.Read.{Read}
 use Rattle.sf_command.specs.Status.{audit_status}
 
 -- the files that an audit is asked by: policies, and where they are given that of a control and that of the questions
@@ -27,15 +33,27 @@ pub record AskedData : Type 0 where
   pub control : Option (List ℕ)
   pub accept : Option (List ℕ)
 
--- what these files hold: questions, those of the control, and the names of questions that may be allowed
+-- what these files hold: questions, where each of them stands, the questions of the control, and the names of questions
+-- that may be allowed
 pub record ReadData : Type 0 where
   pub questions : List QuestionData
+  pub origins : List Data
   pub control : List QuestionData
   pub accepted : List (List ℕ)
+
+-- what was read of the files, by what the code keeps of them
+abbrev pub read_data : Read → ReadData
+read_data read = record {
+  questions = read.questions.items;
+  origins = map view read.origins.items;
+  control = read.control.items;
+  accepted = map string_bytes read.accepted.items;
+}
 
 -- the files hold this
 pub record IsAskedBy (holds : List ℕ → Option (List ℕ)) (asked : AskedData) (read : ReadData) : Type 0 where
   pub questions : AreAsked holds asked.policies read.questions
+  pub origins : AreOrigins holds asked.policies read.questions read.origins
   pub control : IsControl holds asked.control read.control
   pub accepted : AreAcceptedIn holds asked.accept read.questions read.accepted
 
@@ -43,10 +61,30 @@ pub record IsAskedBy (holds : List ℕ → Option (List ℕ)) (asked : AskedData
 abbrev pub expected_of : ReadData → List Reply → ExpectedData
 expected_of read held = record { control = read.control; held = held; accepted = read.accepted }
 
--- what is told behind a report: where a control is given, or questions that may be allowed, what isn't as expected
-abbrev pub behind_text : AskedData → ExpectedData → Found → List ℕ
-behind_text asked expected found =
-    if is_some asked.control || is_some asked.accept then expected_text expected found else []
+-- it is told what isn't as expected: where a control is given, or questions that may be allowed
+abbrev pub is_expecting : AskedData → Bool
+is_expecting asked = is_some asked.control || is_some asked.accept
+
+-- what is told behind a report: what isn't as expected, where that is told
+abbrev pub behind_text : TellingData → ExpectedData → Found → List ℕ
+behind_text telling expected found = if telling.is_expecting then expected_text expected found else []
+
+-- what is written of an audit: the report, and behind it what isn't as expected; or one JSON document
+abbrev pub audit_output : (json : Bool) → TellingData → ExpectedData → Found → List ℕ
+audit_output false telling expected found =
+    report_text found telling.regions telling.remarks ++ behind_text telling expected found
+audit_output true telling expected found = document_line (audit_document telling expected found)
+
+-- how an audit is told that is asked by these files
+abbrev pub telling_of : AskedData → ReadData → List NamesData → (regions : Bool)
+    → (remarks : List (List ℕ)) → TellingData
+telling_of asked read names regions remarks = record {
+  regions = regions;
+  is_expecting = is_expecting asked;
+  names = names;
+  origins = read.origins;
+  remarks = remarks;
+}
 
 -- the remark on a reply: where it has an example, why the stack answers to this as it does
 abbrev pub IsRemark : List NamesData → List (List Insn) → Reply → List ℕ → Type 0
@@ -74,10 +112,11 @@ pub record IsFoundFor (files : List (List ℕ)) (read : ReadData) (budget : ℕ)
   pub right : AreRightReplies found.settled read.control held
   pub expects : expected ≡ expected_of read held
 
--- `audit`: the files at the paths are read and audited by the questions that the files of the policies ask; the report
--- is written, with remarks where they are asked for, and behind it what isn't as expected; the status tells of both
+-- `audit`: the files at the paths are read and audited by the questions that the files of the policies ask; what is
+-- found is written, with remarks where they are asked for, and what isn't as expected; the status tells of both
 pub record AuditsFiles (holds : List ℕ → Option (List ℕ)) (asked : AskedData) (paths : List (Bor (List ℕ)))
-    (names : List NamesData) (budget : ℕ) (regions why : Bool) (status : ℕ) (old new : Option (List ℕ)) : Type 0 where
+    (names : List NamesData) (budget : ℕ) (regions why json : Bool) (status : ℕ) (old new : Option (List ℕ))
+    : Type 0 where
   pub read : ReadData
   pub asked_by : IsAskedBy holds asked read
   pub files : List (List ℕ)
@@ -87,7 +126,7 @@ pub record AuditsFiles (holds : List ℕ → Option (List ℕ)) (asked : AskedDa
   pub is_found : IsFoundFor files read budget found expected
   pub remarks : List (List ℕ)
   pub remarked : HasRemarks why names found remarks
-  pub written : Appends old new (report_text found regions remarks ++ behind_text asked expected found)
+  pub written : Appends old new (audit_output json (telling_of asked read names regions remarks) expected found)
   pub told : status ≡ audit_status expected found
 
 -- Why the files that an audit is asked by are refused: a policy is; or the control; or the questions that may be
@@ -108,7 +147,7 @@ IsRefusedFor files read fault =
 -- and the audit of what they hold is refused.
 abbrev pub RefusesFiles : (List ℕ → Option (List ℕ)) → List (Bor (List ℕ)) → ReadData → Fault → Type 0
 RefusesFiles holds paths read fault =
-    ((fault ≡ Read) × HasUnknown holds paths)
+    ((fault ≡ ReadFault) × HasUnknown holds paths)
     ⊎ ((files : List (List ℕ)) × AreRead holds paths files × IsRefusedFor files read fault)
 
 -- Why an audit is refused: writing or memory failed; the files that it is asked by are refused; or these were read, and

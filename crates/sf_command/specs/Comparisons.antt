@@ -7,18 +7,32 @@ use Rattle.sf_policy.specs.declared.fault.Fault.TheVariants.{Memory, Read, Write
 use Rattle.sf_policy.specs.Filters.{IsFirstRefusal}
 use Rattle.sf_names.specs.Names.{NamesData}
 use Rattle.sf_compare.specs.declared.relation.Relation.{Relation}
+use Rattle.sf_json.specs.Documents.{document_line}
 use Rattle.sf_compare.specs.Comparisons.{Compared, IsComparison, change_of, comparison_text}
+use Rattle.sf_compare.specs.Documents.{comparison_document}
 use Rattle.sf_list.specs.Differences.{AreDifferences, DifferencesData, ShownData, compared_text}
+use Rattle.sf_list.specs.Documents.{differences_document}
 use Rattle.sf_evaluate.specs.Files.{AreKept, AreRead, HasUnknown}
 use Rattle.sf_command.specs.Status.{change_status}
 
--- What is written of a comparison: its text, and where it is asked for the rows in which the answers differ, with
--- these sets of calls.
-abbrev pub WritesCompared : (rows : Bool) → List NamesData → ShownData → Compared → (old new : Option (List ℕ)) → Type 0
-WritesCompared false sets shown found old new = Appends old new (comparison_text found)
-WritesCompared true sets shown found old new =
+-- a comparison: its text, or one JSON document
+abbrev pub comparison_output : (json : Bool) → List NamesData → Compared → List ℕ
+comparison_output false sets found = comparison_text found
+comparison_output true sets found = document_line (comparison_document sets found)
+
+-- a comparison with the rows in which the answers differ: its text, or one JSON document
+abbrev pub compared_output : (json : Bool) → List NamesData → ShownData → Compared → DifferencesData → List ℕ
+compared_output false sets shown found x = compared_text sets shown found x
+compared_output true sets shown found x = document_line (differences_document sets shown found x)
+
+-- what is written of a comparison, with these sets of calls: the comparison, and where it is asked for the rows in
+-- which the answers differ
+abbrev pub WritesCompared : (rows json : Bool) → List NamesData → ShownData → Compared → (old new : Option (List ℕ))
+    → Type 0
+WritesCompared false json sets shown found old new = Appends old new (comparison_output json sets found)
+WritesCompared true json sets shown found old new =
     (x : DifferencesData) × AreDifferences found.settled found.older x
-    × Appends old new (compared_text sets shown found x)
+    × Appends old new (compared_output json sets shown found x)
 
 module _ (holds : List ℕ → Option (List ℕ)) (old_paths new_paths : List (Bor (List ℕ))) where
   -- the files are those at the old paths, `older` of them, and then those at the new paths
@@ -41,14 +55,15 @@ module _ (holds : List ℕ → Option (List ℕ)) (old_paths new_paths : List (B
 
   -- `compare`: the files at the paths are read, their two stacks are compared, and what was found is written; the
   -- status is that of the relation that is asked for
-  pub record ComparesFiles (sets : List NamesData) (budget : ℕ) (asked : Relation) (rows : Bool) (shown : ShownData)
+  pub record ComparesFiles (sets : List NamesData) (budget : ℕ) (asked : Relation) (rows json : Bool)
+      (shown : ShownData)
       (status : ℕ) (old new : Option (List ℕ)) : Type 0 where
     pub files : List (List ℕ)
     pub older : ℕ
     pub read : AreBothRead files older
     pub found : Compared
     pub comparison : IsComparison files older budget found
-    pub written : WritesCompared rows sets shown found old new
+    pub written : WritesCompared rows json sets shown found old new
     pub told : status ≡ change_status (change_of found asked)
 
   -- Why a comparison is refused: a file whose bytes aren't known can't be read; writing or memory failed; or the files

@@ -69,11 +69,13 @@ module _ (holds : Text → Option Text) (rows : List Row) (status : ℕ) (old ne
     pub listed : IsSwitch (one_of (codes "regions") rows) regions
     pub why : Bool
     pub explained : IsSwitch (one_of (codes "why") rows) why
+    pub json : Bool
+    pub in_json : IsSwitch (one_of (codes "json") rows) json
     pub names : List NamesData
     pub called : AreNamed holds rows names
     pub asked : AskedData
     pub asked_for : IsAskedFor rows asked
-    pub audited : AuditsFiles holds asked paths names budget regions why status old new
+    pub audited : AuditsFiles holds asked paths names budget regions why json status old new
 
   -- the files that are named were checked
   pub record Checks : Type 0 where
@@ -81,7 +83,9 @@ module _ (holds : Text → Option Text) (rows : List Row) (status : ℕ) (old ne
     pub named : ArePaths (codes "filters") rows paths
     pub with_instructions : Bool
     pub listed : IsSwitch (one_of (codes "instructions") rows) with_instructions
-    pub checked : ChecksFiles with_instructions holds paths old new
+    pub json : Bool
+    pub in_json : IsSwitch (one_of (codes "json") rows) json
+    pub checked : ChecksFiles with_instructions json holds paths old new
     pub told : status ≡ 0
 
   -- the input that is asked for was evaluated by the files that are named
@@ -92,11 +96,14 @@ module _ (holds : Text → Option Text) (rows : List Row) (status : ℕ) (old ne
     pub in_full : IsSwitch (one_of (codes "trace") rows) traced
     pub brief : Bool
     pub in_brief : IsSwitch (one_of (codes "trace-true") rows) brief
+    pub json : Bool
+    pub in_json : IsSwitch (one_of (codes "json") rows) json
     pub names : List NamesData
     pub called : AreNamed holds rows names
     pub input : Input
     pub asked : AsksInput rows names input
-    pub evaluated : AnswersFiles input traced brief holds paths names old new
+    pub evaluated : AnswersFiles input (record { traced = traced; brief = brief; json = json }) holds
+        paths names old new
     pub told : status ≡ 0
 
   -- the old and the new files that are named were compared
@@ -114,7 +121,10 @@ module _ (holds : Text → Option Text) (rows : List Row) (status : ℕ) (old ne
     pub names : List NamesData
     pub called : AreNamed holds rows names
     pub known : are_known names (calls_asked rows) ≡ true
-    pub compared : ComparesFiles holds old_paths new_paths names budget asked with_rows (shown_by rows) status old new
+    pub json : Bool
+    pub in_json : IsSwitch (one_of (codes "json") rows) json
+    pub compared : ComparesFiles holds old_paths new_paths names budget asked with_rows json (shown_by rows) status
+        old new
 
   -- the files that are named were listed
   pub record Lists : Type 0 where
@@ -125,7 +135,9 @@ module _ (holds : Text → Option Text) (rows : List Row) (status : ℕ) (old ne
     pub names : List NamesData
     pub called : AreNamed holds rows names
     pub known : are_known names (calls_asked rows) ≡ true
-    pub listed : ListsFiles holds paths names (calls_asked rows) budget status old new
+    pub json : Bool
+    pub in_json : IsSwitch (one_of (codes "json") rows) json
+    pub listed : ListsFiles holds paths names (calls_asked rows) json budget status old new
 
   -- what is needed of the files that are named was told
   pub record Needs : Type 0 where
@@ -133,7 +145,9 @@ module _ (holds : Text → Option Text) (rows : List Row) (status : ℕ) (old ne
     pub named : ArePaths (codes "filters") rows paths
     pub budget : ℕ
     pub counted : IsOptionNumber (one_of (codes "budget") rows) 1000000 100000 budget
-    pub needed : TellsNeeds holds paths budget status old new
+    pub json : Bool
+    pub in_json : IsSwitch (one_of (codes "json") rows) json
+    pub needed : TellsNeeds holds paths budget json status old new
 
   -- the filter of the profile that is named was written, or what is told of it
   pub record Profiles : Type 0 where

@@ -1,17 +1,22 @@
 //! The subcommand `audit`: reads the files that ask and the filter files, audits the stack and writes the report.
 
-ghost use Rattle.std.specs.Prelude.{◌≡◌, ◌<◌, ◌≤◌, ◌⊎◌, ◌||◌, ℕ, List, IfOk, IfErr, is_some, length, map, string_bytes};
+ghost use Rattle.std.specs.Prelude.{◌≡◌, ◌<◌, ◌≤◌, ◌⊎◌, ℕ, List, IfOk, IfErr, OnOk, length, map, string_bytes};
+ghost use Rattle.std.specs.Io.KnownBytes.{Appends};
+ghost use Rattle.sf_audit.specs.Documents.{telling_data};
 ghost use Rattle.sf_crew.specs.Sweeps.{AreRightReplies};
 ghost use Rattle.sf_policy.specs.declared.fault.Fault.TheVariants.{Count as CountFault, Memory as MemoryFault, Write as WriteFault};
-ghost use Rattle.sf_command.specs.Audits.{AreRemarks, AuditsFiles, HasRemarks, IsAskedBy, IsFoundFor, IsRefusedFor, IsRemark, RefusesAsked, RefusesAudit, behind_text};
+ghost use Rattle.sf_command.specs.Audits.{AreRemarks, AuditsFiles, HasRemarks, IsAskedBy, IsFoundFor, IsRefusedFor, IsRemark, RefusesAsked, RefusesAudit, audit_output, behind_text, is_expecting, read_data};
 
 use crate::status::status_of_audit;
 use sf_ask::{Question, Reply};
-use sf_audit::{Expected, Outcome, reply_to, text_of_expected, write_report};
+use sf_audit::{
+    Expected, Outcome, Telling, audit_document, reply_to, text_of_expected, write_report,
+};
 use sf_book::Settled;
 use sf_check::Stack;
 use sf_crew::Gate;
 use sf_evaluate::{Files, Notes, accepted_in, all_questions_in, control_in, read_all, why_text};
+use sf_json::{Document, write_document};
 use sf_names::Names;
 use sf_policy::Fault;
 use sf_warnings::warnings_of_stack;
@@ -32,6 +37,8 @@ pub struct Options {
     pub regions: bool,
     /// Whether the report tells of each example why the stack answers so.
     pub why: bool,
+    /// Whether one JSON document is written in place of the report.
+    pub json: bool,
 }
 
 /// The files that an audit is asked by.
@@ -61,7 +68,7 @@ impl<'m, 'a> Model for Asked<'m, 'a> {
 impl Asked<'_, '_> {
     /// Whether it is told what isn't as expected.
     fn is_expecting(&self) -> bool
-        ensures { result ≡ (is_some self.now.control || is_some self.now.accept) }
+        ensures { result ≡ is_expecting self.now }
     {
         self.control.is_some() || self.accept.is_some()
     }
@@ -71,21 +78,9 @@ impl Asked<'_, '_> {
 #[derive(Drop)]
 struct Read {
     questions: Vec<Question>,
+    origins: Vec<Document>,
     control: Vec<Question>,
     accepted: Vec<String>,
-}
-
-impl Model for Read {
-    ghost use Rattle.std.specs.Prelude.{map, string_bytes};
-    ghost use Rattle.sf_command.specs.Audits.{ReadData};
-
-    ghost Value = { ReadData };
-
-    ghost view = { λ r. record {
-      questions = r.questions.items;
-      control = r.control.items;
-      accepted = map string_bytes r.accepted.items;
-    } };
 }
 
 /// Reads the policy files, then that of the control, and then that of the questions that may be allowed. The refusal is
@@ -96,15 +91,16 @@ fn read_asked<F: Files>(
     files: &mut F,
     notes: &mut Notes,
 ) -> Result<Read, Fault>
-    ensures read { IfOk result (IsAskedBy (F.holds files.old) asked.now) }
+    ensures read { IfOk result (λ r. IsAskedBy (F.holds files.old) asked.now (read_data r)) }
     ensures refused { IfErr result (RefusesAsked (F.holds files.old) asked.now) }
     ensures same { (p : List ℕ) → F.holds files.new p ≡ F.holds files.old p }
 {
-    let questions = all_questions_in(alloc, asked.policies, files, notes)?;
+    let (questions, origins) = all_questions_in(alloc, asked.policies, files, notes)?;
     let control = control_in(alloc, asked.control, files, notes)?;
     let accepted = accepted_in(alloc, asked.accept, &questions, files, notes)?;
     Ok(Read {
         questions,
+        origins,
         control,
         accepted,
     })
@@ -131,8 +127,9 @@ fn replies_to<R: Threads + Wait + Sync, G: Gate>(
     reply_to(rt, alloc, settled, control, workers, gate)
 }
 
-/// What is found of the stack of these filters by what was read, and what is expected of it. Refusals: those of `audit` of
-/// the library, and then `Count` where the control has more than 256 questions. `Memory` can come anywhere.
+/// What is found of the stack of these filters by what was read, what is expected of it, and where its questions stand.
+/// Refusals: those of `audit` of the library, and then `Count` where the control has more than 256 questions. `Memory` can
+/// come anywhere.
 fn find<R: Threads + Wait + Sync, G: Gate>(
     rt: &R,
     alloc: Global,
@@ -140,35 +137,38 @@ fn find<R: Threads + Wait + Sync, G: Gate>(
     read: Read,
     options: Options,
     gate: &G,
-) -> Result<(Outcome, Expected), Fault>
+) -> Result<(Outcome, Expected, Vec<Document>), Fault>
     requires workers { (0 < options.workers) × (options.workers ≤ 64) }
-    ensures found { IfOk result (λ r. IsFoundFor (map (λ f. f.items) filters.now) read
-        options.budget r.0 r.1) }
+    ensures found { IfOk result (λ r. IsFoundFor (map (λ f. f.items) filters.now)
+        (read_data read) options.budget r.0 r.1) }
+    ensures placed { IfOk result (λ r. r.2.items ≡ read.origins.items) }
     ensures refused { IfErr result (λ e. (e ≡ MemoryFault)
-        ⊎ IsRefusedFor (map (λ f. f.items) filters.now) read e) }
+        ⊎ IsRefusedFor (map (λ f. f.items) filters.now) (read_data read) e) }
 {
     let Read {
         questions,
+        origins,
         control,
         accepted,
     } = read;
     let workers = usize::from(options.workers);
     let outcome = sf_audit::audit(rt, alloc, filters, questions, options.budget, workers, gate)?;
     let held = replies_to(rt, alloc, outcome.settled(), &control, workers, gate)?;
-    Ok((outcome, Expected::of(control, held, accepted)))
+    let expected = Expected::of(control, held, accepted);
+    Ok((outcome, expected, origins))
 }
 
-/// What is told behind a report: what isn't as expected, where something is. An error where an allocation is refused.
+/// What is told behind a report: what isn't as expected, where that is told. An error where an allocation is refused.
 fn behind_of(
     alloc: Global,
-    asked: &Asked<'_, '_>,
+    telling: &Telling<'_>,
     expected: &Expected,
     outcome: &Outcome,
 ) -> Result<String, AllocError>
     ensures { IfOk result (λ text. string_bytes text
-        ≡ behind_text asked.now expected.now outcome.now) }
+        ≡ behind_text (telling_data telling.now) expected.now outcome.now) }
 {
-    if asked.is_expecting() {
+    if telling.is_expecting {
         text_of_expected(alloc, expected, outcome)
     } else {
         Ok(String::new(alloc))
@@ -223,10 +223,41 @@ fn asked_remarks(
     remarks_of(alloc, names, outcome.settled().stack(), outcome.replies())
 }
 
+/// Writes what an audit found: the report, and behind it what isn't as expected; or one JSON document. `Write` where that
+/// fails, after a beginning of it; `Memory` where an allocation is refused: nothing was written then.
+fn write_audit<O: Write>(
+    alloc: Global,
+    json: bool,
+    telling: &Telling<'_>,
+    expected: &Expected,
+    outcome: &Outcome,
+    out: &mut O,
+) -> Result<(), Fault>
+    ensures written { OnOk result (Appends (O.contents out.old) (O.contents out.new)
+        (audit_output json (telling_data telling.now) expected.now outcome.now)) }
+    ensures refused { IfErr result (λ e. (e ≡ WriteFault)
+        ⊎ ((e ≡ MemoryFault) × (out.new ≡ out.old))) }
+{
+    if json {
+        let document = audit_document(alloc, outcome, expected, telling)?;
+        return write_document(alloc, &document, out);
+    }
+    let behind = behind_of(alloc, telling, expected, outcome)?;
+    write_report(
+        alloc,
+        outcome,
+        telling.regions,
+        telling.remarks,
+        &behind,
+        out,
+    )
+}
+
 /// Reads the files that ask and then the filter files, which are named in order of installation; audits the stack of the
 /// filters, writes the report, and behind it what isn't as expected, and gives the exit status. Where the options ask for
-/// it, lines under each allowed question tell why the stack answers so to its example, with these names of calls. The gate
-/// sees each work before it is committed, and each sheet of verdicts before it is entered.
+/// it, lines under each allowed question tell why the stack answers so to its example, with these names of calls; and one
+/// JSON document is written in place of all that text. The gate sees each work before it is committed, and each sheet of
+/// verdicts before it is entered.
 ///
 /// Refusals, tried in this order: of the policy files, of that of the control and of that of the questions that may be
 /// allowed `Read`, `Syntax` where it isn't UTF-8, and what `read_policy` or `read_accepted` refuses; `Read` where a filter
@@ -246,7 +277,7 @@ pub fn audit<R: Threads + Wait + Sync, F: Files, G: Gate, O: Write>(
 ) -> Result<u8, Fault>
     requires workers { (0 < options.workers) × (options.workers ≤ 64) }
     ensures written { IfOk result (λ s. AuditsFiles (F.holds files.old) asked.now paths.now
-        names.now options.budget options.regions options.why s
+        names.now options.budget options.regions options.why options.json s
         (O.contents out.old) (O.contents out.new)) }
     ensures status { IfOk result (λ s. s ≤ 2) }
     ensures refused { IfErr result (RefusesAudit (F.holds files.old) asked.now paths.now) }
@@ -254,12 +285,18 @@ pub fn audit<R: Threads + Wait + Sync, F: Files, G: Gate, O: Write>(
 {
     let read = read_asked(alloc, asked, files, notes)?;
     let filters = read_all(alloc, paths, files, notes)?;
-    let (outcome, expected) = find(rt, alloc, &filters, read, options, gate)?;
+    let (outcome, expected, origins) = find(rt, alloc, &filters, read, options, gate)?;
     notes.warnings = warnings_of_stack(alloc, &filters, outcome.settled());
     notes.warn_of_questions(outcome.questions(), names);
     let remarks = asked_remarks(alloc, options.why, names, &outcome)?;
-    let behind = behind_of(alloc, asked, &expected, &outcome)?;
-    write_report(alloc, &outcome, options.regions, &remarks, &behind, out)?;
+    let telling = Telling {
+        regions: options.regions,
+        is_expecting: asked.is_expecting(),
+        names,
+        origins: &origins,
+        remarks: &remarks,
+    };
+    write_audit(alloc, options.json, &telling, &expected, &outcome, out)?;
     let status = status_of_audit(&expected, &outcome);
     files.take_over(outcome);
     Ok(status)

@@ -1,15 +1,17 @@
 //! The subcommand `compare`: reads the filter files of two stacks, compares the stacks and writes what is found.
 
 ghost use Rattle.std.specs.Prelude.{◌≡◌, ◌<◌, ◌≤◌, ◌⊎◌, length, map, IfOk, IfErr, OnOk};
+ghost use Rattle.std.specs.Io.KnownBytes.{Appends};
 ghost use Rattle.sf_policy.specs.declared.fault.Fault.TheVariants.{Memory as MemoryFault, Read as ReadFault, Write as WriteFault};
-ghost use Rattle.sf_command.specs.Comparisons.{AreBothKept, ComparesFiles, RefusesComparison, WritesCompared};
+ghost use Rattle.sf_command.specs.Comparisons.{AreBothKept, ComparesFiles, RefusesComparison, WritesCompared, compared_output, comparison_output};
 ghost use Rattle.sf_evaluate.specs.Files.{HasUnknown};
 
 use crate::status::status_of_change;
-use sf_compare::{Comparison, Relation, write_comparison};
+use sf_compare::{Comparison, Relation, comparison_document, write_comparison};
 use sf_crew::Gate;
 use sf_evaluate::{Files, Notes, read_all};
-use sf_list::{Shown, draw_differences, write_differences};
+use sf_json::write_document;
+use sf_list::{Differences, Shown, differences_document, draw_differences, write_differences};
 use sf_names::Names;
 use sf_policy::Fault;
 use sf_warnings::warnings_of_both;
@@ -29,6 +31,8 @@ pub struct Terms {
     pub asked: Relation,
     /// Whether the rows in which the answers differ are written too.
     pub rows: bool,
+    /// Whether one JSON document is written in place of the text.
+    pub json: bool,
     /// After how many leaves no fork of their picture is begun any more, 1 to 1,000,000.
     pub leaves: u32,
 }
@@ -56,6 +60,50 @@ fn read_both<F: Files>(
     Ok((filters, older))
 }
 
+/// Writes what is found of two stacks: its text, or one JSON document. `Write` where that fails, after a beginning of it;
+/// `Memory` where an allocation is refused: nothing was written then.
+fn write_found<O: Write>(
+    alloc: Global,
+    comparison: &Comparison,
+    sets: &[Names],
+    json: bool,
+    out: &mut O,
+) -> Result<(), Fault>
+    ensures written { OnOk result (Appends (O.contents out.old) (O.contents out.new)
+        (comparison_output json sets.now comparison.now)) }
+    ensures refused { IfErr result (λ e. (e ≡ WriteFault)
+        ⊎ ((e ≡ MemoryFault) × (out.new ≡ out.old))) }
+{
+    if !json {
+        return write_comparison(alloc, comparison, out);
+    }
+    let document = comparison_document(alloc, comparison, sets)?;
+    write_document(alloc, &document, out)
+}
+
+/// Writes what is found of two stacks, and the rows in which their answers differ: the text, or one JSON document. `Write`
+/// where that fails, after a beginning of it; `Memory` where an allocation is refused: nothing was written then.
+fn write_rows<O: Write>(
+    alloc: Global,
+    comparison: &Comparison,
+    differences: &Differences,
+    sets: &[Names],
+    shown: &Shown<'_>,
+    json: bool,
+    out: &mut O,
+) -> Result<(), Fault>
+    ensures written { OnOk result (Appends (O.contents out.old) (O.contents out.new)
+        (compared_output json sets.now shown.now comparison.now differences.now)) }
+    ensures refused { IfErr result (λ e. (e ≡ WriteFault)
+        ⊎ ((e ≡ MemoryFault) × (out.new ≡ out.old))) }
+{
+    if !json {
+        return write_differences(alloc, comparison, differences, sets, shown, out);
+    }
+    let document = differences_document(alloc, comparison, differences, sets, shown)?;
+    write_document(alloc, &document, out)
+}
+
 /// Writes what is found of two stacks, and where it is asked for the rows in which their answers differ, with these sets of
 /// calls. `Write` where that fails, after a beginning of the text; `Memory` where an allocation is refused: nothing was
 /// written then.
@@ -67,16 +115,25 @@ fn write_compared<O: Write>(
     shown: &Shown<'_>,
     out: &mut O,
 ) -> Result<(), Fault>
-    ensures written { OnOk result (WritesCompared terms.rows sets.now shown.now comparison.now
+    ensures written { OnOk result (WritesCompared terms.rows terms.json sets.now
+        shown.now comparison.now
         (O.contents out.old) (O.contents out.new)) }
     ensures refused { IfErr result (λ e. (e ≡ WriteFault)
         ⊎ ((e ≡ MemoryFault) × (out.new ≡ out.old))) }
 {
     if !terms.rows {
-        return write_comparison(alloc, comparison, out);
+        return write_found(alloc, comparison, sets, terms.json, out);
     }
     let differences = draw_differences(alloc, comparison, terms.leaves as usize)?;
-    write_differences(alloc, comparison, &differences, sets, shown, out)
+    write_rows(
+        alloc,
+        comparison,
+        &differences,
+        sets,
+        shown,
+        terms.json,
+        out,
+    )
 }
 
 /// Reads the old filter files and then the new ones, each named in order of installation; compares their stacks, writes
@@ -101,7 +158,7 @@ pub fn compare<R: Threads + Wait + Sync, F: Files, G: Gate, O: Write>(
 ) -> Result<u8, Fault>
     requires workers { (0 < terms.workers) × (terms.workers ≤ 64) }
     ensures written { IfOk result (λ s. ComparesFiles (F.holds files.old) old.now new.now
-        sets.now terms.budget terms.asked terms.rows shown.now s
+        sets.now terms.budget terms.asked terms.rows terms.json shown.now s
         (O.contents out.old) (O.contents out.new)) }
     ensures status { IfOk result (λ s. s ≤ 2) }
     ensures refused { IfErr result (RefusesComparison (F.holds files.old) old.now new.now) }

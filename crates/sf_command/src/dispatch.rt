@@ -16,17 +16,17 @@ ghost use Rattle.sf_evaluate.specs.Status.{fault_status};
 use crate::auditing::{Asked, Options, audit};
 use crate::comparing::{Terms, compare};
 use crate::listing::{Limits, list};
-use crate::needing::needed;
+use crate::needing::{Manner as Finding, needed};
 use crate::watching::{Meter, Watched};
 use clap::ArgMatches;
 use clap::error::ErrorKind;
 use sf_command_line::{
-    budget_of, command_form, given_text, leaves_of, wants_brief, wants_instructions,
+    budget_of, command_form, given_text, leaves_of, wants_brief, wants_instructions, wants_json,
     wants_progress, wants_regions, wants_rows, wants_same, wants_trace, wants_why, workers_of,
 };
 use sf_compare::Relation;
 use sf_evaluate::{
-    Files, Notes, asked_input, audit_words_fit, calls_fit, check, eval_words_fit, evaluate,
+    Files, Manner, Notes, asked_input, audit_words_fit, calls_fit, check, eval_words_fit, evaluate,
     known_calls, print, profile, read_all_names, rows_fit, spells_input, tell, tell_wrong_words,
     warn, words_fit,
 };
@@ -87,6 +87,7 @@ fn run_audit<R: Threads + Wait + Sync, F: Files, M: Meter, O: Write>(
         workers: workers_of(found),
         regions: wants_regions(found),
         why: wants_why(found),
+        json: wants_json(found),
     };
     let asked = Asked {
         policies: found.get_strs("policy").unwrap_or(&[]),
@@ -115,7 +116,8 @@ fn run_check<F: Files, O: Write>(
 {
     let paths = found.get_strs("filters").unwrap_or(&[]);
     let listed = wants_instructions(found);
-    check(alloc, paths, listed, files, notes, out)?;
+    let json = wants_json(found);
+    check(alloc, paths, listed, json, files, notes, out)?;
     Ok(0)
 }
 
@@ -143,11 +145,12 @@ fn run_eval<F: Files, O: Write>(
     let names = names_of(alloc, found, files, notes)?;
     let input = asked_input(found, &names, notes)?;
     let paths = found.get_strs("filters").unwrap_or(&[]);
-    let traced = wants_trace(found);
-    let brief = wants_brief(found);
-    evaluate(
-        alloc, &input, traced, brief, &names, paths, files, notes, out,
-    )?;
+    let manner = Manner {
+        traced: wants_trace(found),
+        brief: wants_brief(found),
+        json: wants_json(found),
+    };
+    evaluate(alloc, &input, manner, &names, paths, files, notes, out)?;
     Ok(0)
 }
 
@@ -215,6 +218,7 @@ fn run_compare<R: Threads + Wait + Sync, F: Files, M: Meter, O: Write>(
         workers: workers_of(found),
         asked: relation_of(found),
         rows: wants_rows(found),
+        json: wants_json(found),
         leaves: leaves_of(found),
     };
     let gate = watched(found, meter);
@@ -249,6 +253,7 @@ fn run_list<R: Threads + Wait + Sync, F: Files, M: Meter, O: Write>(
         budget: budget_of(found),
         workers: workers_of(found),
         leaves: leaves_of(found),
+        json: wants_json(found),
     };
     let gate = watched(found, meter);
     list(
@@ -274,9 +279,13 @@ fn run_needed<R: Threads + Wait + Sync, F: Files, M: Meter, O: Write>(
         (λ paths. (budget : ℕ) × RefusesNeeds (F.holds files.old) paths budget e)) }
 {
     let paths = found.get_strs("filters").unwrap_or(&[]);
-    let (budget, workers) = (budget_of(found), workers_of(found));
+    let manner = Finding {
+        budget: budget_of(found),
+        workers: workers_of(found),
+        json: wants_json(found),
+    };
     let gate = watched(found, meter);
-    needed(rt, alloc, paths, budget, workers, files, notes, &gate, out)
+    needed(rt, alloc, paths, manner, files, notes, &gate, out)
 }
 
 /// Whether the words behind the options of a subcommand, which has this name, are among those that the options take.

@@ -1,13 +1,16 @@
 //! The subcommand `list`: reads the filter files of a stack, explores the stack and writes its rows.
 
-ghost use Rattle.std.specs.Prelude.{◌≡◌, ◌<◌, ◌≤◌, ◌⊎◌, IfOk, IfErr, map, option_map};
-ghost use Rattle.sf_policy.specs.declared.fault.Fault.TheVariants.{Write as WriteFault};
-ghost use Rattle.sf_command.specs.Listings.{ListsFiles, RefusesListing};
+ghost use Rattle.std.specs.Prelude.{◌≡◌, ◌<◌, ◌≤◌, ◌⊎◌, IfOk, IfErr, OnOk, map, option_map};
+ghost use Rattle.std.specs.Io.KnownBytes.{Appends};
+ghost use Rattle.sf_policy.specs.declared.fault.Fault.TheVariants.{Memory as MemoryFault, Write as WriteFault};
+ghost use Rattle.sf_command.specs.Listings.{ListsFiles, RefusesListing, listing_output};
+ghost use Rattle.sf_list.specs.Listings.{is_whole_listing};
 
 use crate::status::status_of_listing;
 use sf_crew::Gate;
 use sf_evaluate::{Files, Notes, read_all};
-use sf_list::write_listing;
+use sf_json::write_document;
+use sf_list::{Listing, ListingDocument, listing_document, write_listing};
 use sf_names::Names;
 use sf_policy::Fault;
 use sf_warnings::warnings_of_stack;
@@ -25,6 +28,33 @@ pub struct Limits {
     pub workers: u8,
     /// After how many leaves no fork of the picture is begun any more, 1 to 1,000,000.
     pub leaves: u32,
+    /// Whether one JSON document is written in place of the text.
+    pub json: bool,
+}
+
+/// Writes a listing, and says whether it is whole: its text, or one JSON document. `Write` where that fails, after a beginning
+/// of it; `Memory` where an allocation is refused: nothing was written then.
+fn write_listed<O: Write>(
+    alloc: Global,
+    listing: &Listing,
+    sets: &[Names],
+    calls: &Option<Vec<&str>>,
+    json: bool,
+    out: &mut O,
+) -> Result<bool, Fault>
+    ensures written { OnOk result (Appends (O.contents out.old) (O.contents out.new)
+        (listing_output json sets.now (option_map (λ v. map (λ t. t.now) v.items) calls.now)
+        listing.now)) }
+    ensures whole { IfOk result (λ b. b ≡ is_whole_listing listing.now.picture) }
+    ensures refused { IfErr result (λ e. (e ≡ WriteFault)
+        ⊎ ((e ≡ MemoryFault) × (out.new ≡ out.old))) }
+{
+    if !json {
+        return write_listing(alloc, listing, sets, calls, out);
+    }
+    let ListingDocument { document, is_whole } = listing_document(alloc, listing, sets, calls)?;
+    write_document(alloc, &document, out)?;
+    Ok(is_whole)
 }
 
 /// Reads the filter files, which are named in order of installation; explores their stack, writes its rows, with these sets
@@ -47,7 +77,7 @@ pub fn list<R: Threads + Wait + Sync, F: Files, G: Gate, O: Write>(
 ) -> Result<u8, Fault>
     requires workers { (0 < limits.workers) × (limits.workers ≤ 64) }
     ensures written { IfOk result (λ s. ListsFiles (F.holds files.old) paths.now sets.now
-        (option_map (λ v. map (λ t. t.now) v.items) calls.now) limits.budget s
+        (option_map (λ v. map (λ t. t.now) v.items) calls.now) limits.json limits.budget s
         (O.contents out.old) (O.contents out.new)) }
     ensures status { IfOk result (λ s. s ≤ 2) }
     ensures refused { IfErr result (RefusesListing (F.holds files.old) paths.now) }
@@ -58,7 +88,7 @@ pub fn list<R: Threads + Wait + Sync, F: Files, G: Gate, O: Write>(
     let leaves = limits.leaves as usize;
     let listing = sf_list::list(rt, alloc, &filters, limits.budget, workers, leaves, gate)?;
     notes.warnings = warnings_of_stack(alloc, &filters, listing.settled());
-    let whole = write_listing(alloc, &listing, sets, calls, out)?;
+    let whole = write_listed(alloc, &listing, sets, calls, limits.json, out)?;
     let status = status_of_listing(whole);
     files.take_over(listing);
     Ok(status)

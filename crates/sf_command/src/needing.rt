@@ -1,18 +1,46 @@
 //! The subcommand `needed`: reads the filter files of a stack, finds which of them are needed and tells it.
 
-ghost use Rattle.std.specs.Prelude.{◌≡◌, ◌<◌, ◌≤◌, ◌⊎◌, IfOk, IfErr, map};
-ghost use Rattle.sf_policy.specs.declared.fault.Fault.TheVariants.{Write as WriteFault};
-ghost use Rattle.sf_command.specs.Needs.{RefusesNeeds, TellsNeeds};
+ghost use Rattle.std.specs.Prelude.{◌≡◌, ◌<◌, ◌≤◌, ◌⊎◌, IfOk, IfErr, OnOk, map};
+ghost use Rattle.std.specs.Io.KnownBytes.{Appends};
+ghost use Rattle.sf_policy.specs.declared.fault.Fault.TheVariants.{Memory as MemoryFault, Write as WriteFault};
+ghost use Rattle.sf_command.specs.Needs.{RefusesNeeds, TellsNeeds, needs_output};
 
 use crate::status::status_of_needs;
 use sf_crew::Gate;
 use sf_evaluate::{Files, Notes, read_all};
-use sf_needed::write_needed;
+use sf_json::write_document;
+use sf_needed::{Needs, needs_document, write_needed};
 use sf_policy::Fault;
 use std::alloc::Global;
 use std::io::Write;
 use std::sync::Wait;
 use std::thread::Threads;
+
+/// How it is found which filters are needed, and how it is told.
+#[derive(Clone, Copy)]
+pub struct Manner {
+    /// The most works that are committed in each comparison, 1 to 1,000,000.
+    pub budget: u32,
+    /// The number of workers, 1 to 64.
+    pub workers: u8,
+    /// Whether one JSON document is written in place of the text.
+    pub json: bool,
+}
+
+/// Writes which filters are needed: a text, or one JSON document. `Write` where that fails, after a beginning of it; `Memory`
+/// where an allocation is refused: nothing was written then.
+fn write_needs<O: Write>(alloc: Global, needs: &Needs, json: bool, out: &mut O) -> Result<(), Fault>
+    ensures written { OnOk result (Appends (O.contents out.old) (O.contents out.new)
+        (needs_output json needs.now)) }
+    ensures refused { IfErr result (λ e. (e ≡ WriteFault)
+        ⊎ ((e ≡ MemoryFault) × (out.new ≡ out.old))) }
+{
+    if !json {
+        return write_needed(alloc, needs, out);
+    }
+    let document = needs_document(alloc, needs)?;
+    write_document(alloc, &document, out)
+}
 
 /// Reads the filter files, which are named in order of installation; finds which of the filters are needed, each comparison
 /// by so many works at most, tells it, and gives the exit status.
@@ -24,22 +52,23 @@ pub fn needed<R: Threads + Wait + Sync, F: Files, G: Gate, O: Write>(
     rt: &R,
     alloc: Global,
     paths: &[&str],
-    budget: u32,
-    workers: u8,
+    manner: Manner,
     files: &mut F,
     notes: &mut Notes,
     gate: &G,
     out: &mut O,
 ) -> Result<u8, Fault>
-    requires workers { (0 < workers) × (workers ≤ 64) }
-    ensures written { IfOk result (λ s. TellsNeeds (F.holds files.old) paths.now budget s
+    requires workers { (0 < manner.workers) × (manner.workers ≤ 64) }
+    ensures written { IfOk result (λ s. TellsNeeds (F.holds files.old) paths.now manner.budget
+        manner.json s
         (O.contents out.old) (O.contents out.new)) }
     ensures status { IfOk result (λ s. s ≤ 2) }
-    ensures refused { IfErr result (RefusesNeeds (F.holds files.old) paths.now budget) }
+    ensures refused { IfErr result (RefusesNeeds (F.holds files.old) paths.now manner.budget) }
     ensures quiet { IfErr result (λ e. (e ≡ WriteFault) ⊎ (out.new ≡ out.old)) }
 {
     let filters = read_all(alloc, paths, files, notes)?;
-    let needs = sf_needed::needed(rt, alloc, &filters, budget, usize::from(workers), gate)?;
-    write_needed(alloc, &needs, out)?;
+    let workers = usize::from(manner.workers);
+    let needs = sf_needed::needed(rt, alloc, &filters, manner.budget, workers, gate)?;
+    write_needs(alloc, &needs, manner.json, out)?;
     Ok(status_of_needs(&needs))
 }

@@ -64,10 +64,10 @@ choice_rule name = record (option_rule name) {
 }
 
 -- `audit --policy FILE.. [--control FILE] [--accept FILE] [--budget N] [--workers N] [--regions] [--why]
--- [--names FILE].. [--progress] [--quiet] [--explain-errors] FILTER..`
+-- [--names FILE].. [--json] [--progress] [--quiet] [--explain-errors] FILTER..`
 abbrev pub audit_line : App
 audit_line = with_rule (with_rule (with_rule (with_rule (with_rule (with_rule (with_rule (with_rule (with_rule
-    (with_rule (with_rule (with_rule
+    (with_rule (with_rule (with_rule (with_rule
     (new_app (codes "audit"))
     (needed_repeated_rule (codes "policy")))
     (option_rule (codes "control")))
@@ -77,23 +77,25 @@ audit_line = with_rule (with_rule (with_rule (with_rule (with_rule (with_rule (w
     (switch_rule (codes "regions")))
     (switch_rule (codes "why")))
     (repeated_rule (codes "names")))
+    (switch_rule (codes "json")))
     (switch_rule (codes "progress")))
     (switch_rule (codes "quiet")))
     (switch_rule (codes "explain-errors")))
     filters_rule
 
--- `check [--instructions] [--quiet] [--explain-errors] FILTER..`
+-- `check [--instructions] [--json] [--quiet] [--explain-errors] FILTER..`
 abbrev pub check_line : App
-check_line = with_rule (with_rule (with_rule (with_rule (new_app (codes "check"))
+check_line = with_rule (with_rule (with_rule (with_rule (with_rule (new_app (codes "check"))
     (switch_rule (codes "instructions")))
+    (switch_rule (codes "json")))
     (switch_rule (codes "quiet")))
     (switch_rule (codes "explain-errors")))
     filters_rule
 
 -- `eval [--input HEX] [--call NAME] [--nr N] [--arch SET] [--args A,..] [--trace] [--trace-true] [--names FILE]..
--- [--explain-errors] FILTER..`
+-- [--json] [--explain-errors] FILTER..`
 abbrev pub eval_line : App
-eval_line = with_rule (with_rule (with_rule (with_rule (with_rule (with_rule (with_rule (with_rule (with_rule
+eval_line = with_rule (with_rule (with_rule (with_rule (with_rule (with_rule (with_rule (with_rule (with_rule (with_rule
     (with_rule (new_app (codes "eval"))
     (option_rule (codes "input")))
     (option_rule (codes "call")))
@@ -103,14 +105,15 @@ eval_line = with_rule (with_rule (with_rule (with_rule (with_rule (with_rule (wi
     (switch_rule (codes "trace")))
     (switch_rule (codes "trace-true")))
     (repeated_rule (codes "names")))
+    (switch_rule (codes "json")))
     (switch_rule (codes "explain-errors")))
     filters_rule
 
 -- `compare --old FILE.. --new FILE.. [--budget N] [--workers N] [--same] [--rows] [--only RELATION]
--- [--calls [NAME,..]] [--leaves N] [--names FILE].. [--progress] [--quiet] [--explain-errors]`
+-- [--calls [NAME,..]] [--leaves N] [--names FILE].. [--json] [--progress] [--quiet] [--explain-errors]`
 abbrev pub compare_line : App
 compare_line = with_rule (with_rule (with_rule (with_rule (with_rule (with_rule (with_rule (with_rule (with_rule
-    (with_rule (with_rule (with_rule (with_rule
+    (with_rule (with_rule (with_rule (with_rule (with_rule
     (new_app (codes "compare"))
     (files_rule (codes "old")))
     (files_rule (codes "new")))
@@ -122,31 +125,34 @@ compare_line = with_rule (with_rule (with_rule (with_rule (with_rule (with_rule 
     (choice_rule (codes "calls")))
     (number_rule (codes "leaves") 1000000 (codes "20000")))
     (repeated_rule (codes "names")))
+    (switch_rule (codes "json")))
     (switch_rule (codes "progress")))
     (switch_rule (codes "quiet")))
     (switch_rule (codes "explain-errors"))
 
--- `list [--budget N] [--workers N] [--leaves N] [--names FILE].. [--calls [NAME,..]] [--progress] [--quiet]
--- [--explain-errors] FILTER..`
+-- `list [--budget N] [--workers N] [--leaves N] [--names FILE].. [--calls [NAME,..]] [--json] [--progress]
+-- [--quiet] [--explain-errors] FILTER..`
 abbrev pub list_line : App
-list_line = with_rule (with_rule (with_rule (with_rule (with_rule (with_rule (with_rule (with_rule (with_rule
+list_line = with_rule (with_rule (with_rule (with_rule (with_rule (with_rule (with_rule (with_rule (with_rule (with_rule
     (new_app (codes "list"))
     (number_rule (codes "budget") 1000000 (codes "100000")))
     (number_rule (codes "workers") 64 (codes "4")))
     (number_rule (codes "leaves") 1000000 (codes "20000")))
     (repeated_rule (codes "names")))
     (choice_rule (codes "calls")))
+    (switch_rule (codes "json")))
     (switch_rule (codes "progress")))
     (switch_rule (codes "quiet")))
     (switch_rule (codes "explain-errors")))
     filters_rule
 
--- `needed [--budget N] [--workers N] [--progress] [--quiet] [--explain-errors] FILTER..`
+-- `needed [--budget N] [--workers N] [--json] [--progress] [--quiet] [--explain-errors] FILTER..`
 abbrev pub needed_line : App
-needed_line = with_rule (with_rule (with_rule (with_rule (with_rule (with_rule
+needed_line = with_rule (with_rule (with_rule (with_rule (with_rule (with_rule (with_rule
     (new_app (codes "needed"))
     (number_rule (codes "budget") 1000000 (codes "100000")))
     (number_rule (codes "workers") 64 (codes "4")))
+    (switch_rule (codes "json")))
     (switch_rule (codes "progress")))
     (switch_rule (codes "quiet")))
     (switch_rule (codes "explain-errors")))

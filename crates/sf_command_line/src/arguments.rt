@@ -61,6 +61,14 @@ pub(crate) fn progress<'a>(alloc: Global) -> Arg<'a>
     switch(alloc, "progress").help("Tell each second on standard error how much is done")
 }
 
+/// `--json`: whether one JSON document is written in place of the text.
+pub(crate) fn json<'a>(alloc: Global) -> Arg<'a>
+    ensures rule { rule_of result ≡ switch_rule (codes "json") }
+    ensures own { result.global ≡ false }
+{
+    switch(alloc, "json").help("Write one JSON document in place of the text")
+}
+
 /// `--budget`: the most works that are committed.
 pub(crate) fn budget<'a>(alloc: Global) -> Arg<'a>
     ensures rule { rule_of result ≡ number_rule (codes "budget") 1000000 (codes "100000") }

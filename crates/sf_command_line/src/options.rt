@@ -143,3 +143,10 @@ pub fn wants_progress(found: &ArgMatches<'_>) -> bool
 {
     is_on(found, "progress")
 }
+
+/// Whether one JSON document is written in place of the text.
+pub fn wants_json(found: &ArgMatches<'_>) -> bool
+    ensures { IsSwitch (one_of (codes "json") (rows_of (found_of found.now))) result }
+{
+    is_on(found, "json")
+}

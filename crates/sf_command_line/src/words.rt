@@ -5,7 +5,7 @@ ghost use Rattle.sf_command_line.specs.CommandLine.{audit_line, check_line, comm
 
 use crate::arguments::{
     accept, arch, arguments, budget, call, calls, cap, conflicts, control, explain, files, filters,
-    input, instructions, kernel, leaves, machine, names, newer, notes, nr, only, policy,
+    input, instructions, json, kernel, leaves, machine, names, newer, notes, nr, only, policy,
     profile_file, progress, quiet, regions, rows, same_switch, trace, trace_true, why, workers,
 };
 use clap::Command;
@@ -57,6 +57,7 @@ fn audit<'a>(alloc: Global) -> Result<Command<'a>, AllocError>
         .arg(regions(alloc))?
         .arg(why(alloc))?
         .arg(names(alloc))?
+        .arg(json(alloc))?
         .arg(progress(alloc))?
         .arg(quiet(alloc))?
         .arg(explain(alloc))?
@@ -70,6 +71,7 @@ fn check<'a>(alloc: Global) -> Result<Command<'a>, AllocError>
     Command::new(alloc, "check")
         .about("Check whether files are lawful filters that make a lawful stack")
         .arg(instructions(alloc))?
+        .arg(json(alloc))?
         .arg(quiet(alloc))?
         .arg(explain(alloc))?
         .arg(filters(alloc))
@@ -89,6 +91,7 @@ fn eval<'a>(alloc: Global) -> Result<Command<'a>, AllocError>
         .arg(trace(alloc))?
         .arg(trace_true(alloc))?
         .arg(names(alloc))?
+        .arg(json(alloc))?
         .arg(explain(alloc))?
         .arg(filters(alloc))
 }
@@ -113,6 +116,7 @@ fn compare<'a>(alloc: Global) -> Result<Command<'a>, AllocError>
         .arg(calls(alloc))?
         .arg(leaves(alloc))?
         .arg(names(alloc))?
+        .arg(json(alloc))?
         .arg(progress(alloc))?
         .arg(quiet(alloc))?
         .arg(explain(alloc))
@@ -129,6 +133,7 @@ fn list<'a>(alloc: Global) -> Result<Command<'a>, AllocError>
         .arg(leaves(alloc))?
         .arg(names(alloc))?
         .arg(calls(alloc))?
+        .arg(json(alloc))?
         .arg(progress(alloc))?
         .arg(quiet(alloc))?
         .arg(explain(alloc))?
@@ -143,6 +148,7 @@ fn needed<'a>(alloc: Global) -> Result<Command<'a>, AllocError>
         .about("Tell for each filter of a stack whether more gets through without it")
         .arg(budget(alloc))?
         .arg(workers(alloc))?
+        .arg(json(alloc))?
         .arg(progress(alloc))?
         .arg(quiet(alloc))?
         .arg(explain(alloc))?

@@ -9,6 +9,7 @@ use Rattle.sf_names.specs.Names.{NamesData}
 use Rattle.sf_policy.specs.Filters.{IsFirstRefusal}
 use Rattle.sf_evaluate.specs.Files.{AreKept, AreKnownBytes, HasUnknown}
 use Rattle.sf_evaluate.specs.KeptLaws.{few_are_all, kept_refusal, kept_stack, many_of_many}
+use Rattle.sf_evaluate.specs.declared.checking.Manner.{Manner}
 use Rattle.sf_evaluate.specs.Outputs.{AnswersFiles, ChecksFiles, RefusesFiles, WritesAnswer, WritesCheck}
 use Rattle.sf_evaluate.proofs.Pairing.{PairedSoFar, paired_all, paired_more}
 
@@ -73,15 +74,15 @@ all_kept before after paths place kept so_far over under = search (arith, paired
 
 module _ (holds : List ℕ → Option (List ℕ)) (paths : List (Bor (List ℕ))) (kept : List (List ℕ))
     (all : AreKept holds paths kept) where
-  pub kept_checks : (listed : Bool) (old new : Option (List ℕ)) → WritesCheck listed kept old new
-      → ChecksFiles listed holds paths old new
-  kept_checks listed old new (programs, text, spell, told, written) =
+  pub kept_checks : (listed json : Bool) (old new : Option (List ℕ)) → WritesCheck listed json kept old new
+      → ChecksFiles listed json holds paths old new
+  kept_checks listed json old new (programs, text, spell, told, written) =
       (kept, kept_stack holds paths kept all programs spell, (programs, text, spell, told, written))
 
-  pub kept_answers : (input : Input) (traced brief : Bool) (names : List NamesData) (old new : Option (List ℕ))
-      → WritesAnswer kept input traced brief names old new
-      → AnswersFiles input traced brief holds paths names old new
-  kept_answers input traced brief names old new (programs, answer, spell, answers, written) = (
+  pub kept_answers : (input : Input) (how : Manner) (names : List NamesData) (old new : Option (List ℕ))
+      → WritesAnswer kept input how names old new
+      → AnswersFiles input how holds paths names old new
+  kept_answers input how names old new (programs, answer, spell, answers, written) = (
     kept,
     kept_stack holds paths kept all programs spell,
     (programs, answer, spell, answers, written),

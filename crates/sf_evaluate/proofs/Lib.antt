@@ -10,4 +10,6 @@ pub mod WordLemmas
 pub mod ProfilingLemmas
 pub mod AskingLemmas
 pub mod WantedLemmas
+pub mod DocumentLemmas
 pub mod AskedLemmas
+pub mod OriginLemmas

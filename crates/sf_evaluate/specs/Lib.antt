@@ -13,3 +13,6 @@ pub mod Status
 pub mod Profiles
 pub mod Asking
 pub mod Wanted
+pub mod CheckDocuments
+pub mod TraceDocuments
+pub mod Origins

@@ -7,10 +7,11 @@ ghost use Rattle.sf_insn.specs.Inputs.{input_bytes};
 ghost use Rattle.sf_run.specs.Answers.{Answers};
 ghost use Rattle.sf_run.specs.declared.action.Answer.{Answer};
 ghost use Rattle.sf_evaluate.specs.Traces.{eval_text};
-ghost use Rattle.sf_evaluate.specs.Outputs.{AnswersFiles, ChecksFiles, RefusesFiles, WritesAnswer, WritesCheck};
+ghost use Rattle.sf_evaluate.specs.Outputs.{AnswersFiles, ChecksFiles, IsCheckOutput, RefusesFiles, WritesAnswer, WritesCheck, eval_output};
 ghost use Rattle.sf_policy.specs.Filters.{IsFirstRefusal};
 ghost use Rattle.sf_policy.specs.declared.fault.Fault.TheVariants.{Memory as MemoryFault, Input as InputFault, Write as WriteFault};
 
+use crate::document::{check_document, eval_document};
 use crate::explaining::Notes;
 use crate::files::{Files, read_all};
 use crate::texts::{answer_text, check_text};
@@ -18,12 +19,24 @@ use crate::tracing::{Trace, push_trace};
 use hex::FromHex;
 use sf_check::Stack;
 use sf_insn::{Input, input_of_bytes};
+use sf_json::line_of;
 use sf_names::Names;
 use sf_policy::{Fault, stack_of, write_bytes};
 use sf_run::answer;
 use sf_warnings::warnings_of_files;
-use std::alloc::Global;
+use std::alloc::{AllocError, Global};
 use std::io::Write;
+
+/// How an answer is told.
+#[derive(Clone, Copy)]
+pub struct Manner {
+    /// Whether lines under the answer show where it comes from.
+    pub traced: bool,
+    /// The same, in brief: without what is false.
+    pub brief: bool,
+    /// Whether all of it is one JSON document.
+    pub json: bool,
+}
 
 /// Writes a text to standard output. `Write` where that fails, after a beginning of the text.
 pub fn print<O: Write>(text: &str, out: &mut O) -> Result<(), Fault>
@@ -44,16 +57,33 @@ pub fn input_of(text: &str) -> Result<Input, Fault>
     Ok(input_of_bytes(&bytes))
 }
 
+/// What `check` tells of a stack: a text, or one JSON document.
+fn check_output(
+    alloc: Global,
+    stack: &Stack,
+    listed: bool,
+    json: bool,
+) -> Result<String, AllocError>
+    ensures { IfOk result (λ text. IsCheckOutput listed json stack.now (string_bytes text)) }
+{
+    if !json {
+        return check_text(alloc, stack, listed);
+    }
+    let document = check_document(alloc, stack, listed)?;
+    line_of(alloc, &document)
+}
+
 /// Writes the number of instructions of each filter and the path length of their stack, and the instructions too where
-/// `listed` asks for them. The notes get the warnings that the files call for.
+/// `listed` asks for them; as text, or as one JSON document. The notes get the warnings that the files call for.
 fn check_filters<O: Write>(
     alloc: Global,
     filters: &[Vec<u8>],
     listed: bool,
+    json: bool,
     notes: &mut Notes,
     out: &mut O,
 ) -> Result<(), Fault>
-    ensures written { OnOk result (WritesCheck listed (map (λ f. f.items) filters.now)
+    ensures written { OnOk result (WritesCheck listed json (map (λ f. f.items) filters.now)
         (O.contents out.old) (O.contents out.new)) }
     ensures refused { IfErr result (λ e. (e ≡ WriteFault)
         ⊎ (((e ≡ MemoryFault) ⊎ IsFirstRefusal (map (λ f. f.items) filters.now) e)
@@ -61,7 +91,7 @@ fn check_filters<O: Write>(
 {
     let stack = stack_of(alloc, filters)?;
     notes.warnings = warnings_of_files(alloc, filters, stack.programs());
-    let text = check_text(alloc, &stack, listed)?;
+    let text = check_output(alloc, &stack, listed, json)?;
     print(&text, out)
 }
 
@@ -95,31 +125,49 @@ fn eval_text(
     Ok(text)
 }
 
-/// Writes what the stack of the filters answers to the input. Where `traced` or `brief` asks for it, lines under the
-/// answer show where it comes from.
+/// What `eval` tells of the stack's answer to the input: a text, or one JSON document.
+fn eval_output(
+    alloc: Global,
+    stack: &Stack,
+    input: &Input,
+    how: Manner,
+    names: &[Names],
+) -> Result<String, Fault>
+    ensures told { IfOk result (λ text. (a : Answer) × Answers stack.now input.now a
+        × (string_bytes text ≡ eval_output how.traced how.brief how.json names.now stack.now
+        input.now a)) }
+    ensures refused { IfErr result (λ e. e ≡ MemoryFault) }
+{
+    if !how.json {
+        return eval_text(alloc, stack, input, how.traced, how.brief, names);
+    }
+    let document = eval_document(alloc, stack, input, how.traced, how.brief, names)?;
+    Ok(line_of(alloc, &document)?)
+}
+
+/// Writes what the stack of the filters answers to the input, as it is asked for.
 fn evaluate_filters<O: Write>(
     alloc: Global,
     input: &Input,
-    traced: bool,
-    brief: bool,
+    how: Manner,
     names: &[Names],
     filters: &[Vec<u8>],
     out: &mut O,
 ) -> Result<(), Fault>
-    ensures written { OnOk result (WritesAnswer (map (λ f. f.items) filters.now) input.now traced
-        brief names.now (O.contents out.old) (O.contents out.new)) }
+    ensures written { OnOk result (WritesAnswer (map (λ f. f.items) filters.now) input.now how
+        names.now (O.contents out.old) (O.contents out.new)) }
     ensures refused { IfErr result (λ e. (e ≡ WriteFault)
         ⊎ (((e ≡ MemoryFault) ⊎ IsFirstRefusal (map (λ f. f.items) filters.now) e)
         × (out.new ≡ out.old))) }
 {
     let stack = stack_of(alloc, filters)?;
-    let text = eval_text(alloc, &stack, input, traced, brief, names)?;
+    let text = eval_output(alloc, &stack, input, how, names)?;
     print(&text, out)
 }
 
 /// Reads the filter files, which are named in order of installation, and writes the number of instructions of each and
 /// the path length of their stack. Where `listed` asks for it, the instructions of each filter stand under its line, and
-/// those to which no path through the filter comes have a comment.
+/// those to which no path through the filter comes have a comment. Where `json` asks for it, all that is one JSON document.
 ///
 /// Refusals, tried in this order: `Read` where a file can't be read; what `stack_of` refuses; `Write` where standard
 /// output can't be written, after a beginning of the text. `Memory` can come anywhere. After any error but `Write`
@@ -128,38 +176,37 @@ pub fn check<F: Files, O: Write>(
     alloc: Global,
     paths: &[&str],
     listed: bool,
+    json: bool,
     files: &mut F,
     notes: &mut Notes,
     out: &mut O,
 ) -> Result<(), Fault>
-    ensures written { OnOk result (ChecksFiles listed (F.holds files.old) paths.now
+    ensures written { OnOk result (ChecksFiles listed json (F.holds files.old) paths.now
         (O.contents out.old) (O.contents out.new)) }
     ensures refused { IfErr result (λ e. (e ≡ WriteFault)
         ⊎ (RefusesFiles (F.holds files.old) paths.now e × (out.new ≡ out.old))) }
 {
     let filters = read_all(alloc, paths, files, notes)?;
-    check_filters(alloc, &filters, listed, notes, out)
+    check_filters(alloc, &filters, listed, json, notes, out)
 }
 
-/// Reads the filter files, which are named in order of installation, and writes what their stack answers to the input.
-/// Where `traced` or `brief` asks for it, lines under the answer show where it comes from; in brief without what is
-/// false. The refusals are those of `check`.
+/// Reads the filter files, which are named in order of installation, and writes what their stack answers to the input, as it
+/// is asked for. The refusals are those of `check`.
 pub fn evaluate<F: Files, O: Write>(
     alloc: Global,
     input: &Input,
-    traced: bool,
-    brief: bool,
+    how: Manner,
     names: &[Names],
     paths: &[&str],
     files: &mut F,
     notes: &mut Notes,
     out: &mut O,
 ) -> Result<(), Fault>
-    ensures written { OnOk result (AnswersFiles input.now traced brief
+    ensures written { OnOk result (AnswersFiles input.now how
         (F.holds files.old) paths.now names.now (O.contents out.old) (O.contents out.new)) }
     ensures refused { IfErr result (λ e. (e ≡ WriteFault)
         ⊎ (RefusesFiles (F.holds files.old) paths.now e × (out.new ≡ out.old))) }
 {
     let filters = read_all(alloc, paths, files, notes)?;
-    evaluate_filters(alloc, input, traced, brief, names, &filters, out)
+    evaluate_filters(alloc, input, how, names, &filters, out)
 }

@@ -1,7 +1,7 @@
 //! On which line of a policy a key or a question stands. The tokens of the policy are read for it once more. It is for
 //! a person, so no contract speaks of it.
 
-use std::alloc::Global;
+use std::alloc::{AllocError, Global};
 use toml_parser::text::{first, skip, skip_blank, skip_ws};
 use toml_parser::{Key, dotted_key, quoted, starts_string, unquoted};
 
@@ -147,6 +147,42 @@ pub fn line_of(
         rest = after;
     }
     None
+}
+
+/// How many lines end in the first `length` bytes of a text.
+fn count_ends(text: &str, length: usize) -> usize {
+    let front = text.as_bytes().iter().take(length);
+    front.filter(|byte| **byte == b'\n').count()
+}
+
+/// The numbers, from 1, of the lines on which the questions of a policy begin, in their order, as far as they are found. An
+/// error where an allocation is refused.
+pub fn lines_of_questions(alloc: Global, policy: &str) -> Result<Vec<usize>, AllocError> {
+    let mut reading = Reading {
+        question: None,
+        key: None,
+        is_top: true,
+        depth: 0,
+        depth_of_questions: None,
+        questions: 0,
+    };
+    let mut lines = Vec::new(alloc);
+    let mut line = 1usize;
+    let mut rest = policy;
+    for _ in 0..policy.len() {
+        let start = skip_blank(rest, true);
+        line = line.saturating_add(count_ends(rest, rest.len().saturating_sub(start.len())));
+        let begun = reading.questions;
+        let Some((_, after)) = reading.step(alloc, start) else {
+            break;
+        };
+        if begun < reading.questions {
+            lines.push(line)?;
+        }
+        line = line.saturating_add(count_ends(start, start.len().saturating_sub(after.len())));
+        rest = after;
+    }
+    Ok(lines)
 }
 
 /// The line and the column, both from 1, of the place in a policy that has `before` bytes before it. A column counts

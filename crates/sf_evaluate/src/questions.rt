@@ -1,12 +1,16 @@
 //! The questions of the policy files that the command line names.
 
-ghost use Rattle.std.specs.Prelude.{◌≡◌, ◌⊎◌, ℕ, List, None, IfOk, IfErr};
+ghost use Rattle.std.specs.Prelude.{◌≡◌, ◌⊎◌, ℕ, List, None, map, IfOk, IfErr};
+ghost use Rattle.serde_json.specs.View.{view};
 ghost use Rattle.sf_policy.specs.declared.fault.Fault.TheVariants.{Memory as MemoryFault, Read as ReadFault};
+ghost use Rattle.sf_evaluate.specs.Origins.{AreOrigins};
 ghost use Rattle.sf_evaluate.specs.Policies.{AreAsked, IsPolicyFile, RefusesAsking, RefusesPolicyFile};
 
 use crate::explaining::Notes;
 use crate::files::Files;
+use crate::origins::push_origins;
 use sf_ask::Question;
+use sf_json::Document;
 use sf_policy::{Fault, read_policy_at};
 use std::alloc::Global;
 
@@ -37,22 +41,26 @@ pub(crate) fn questions_in<F: Files>(
     }
 }
 
-/// The questions of the policy files at these paths, one file after the other. The refusal is that of the first file that is
-/// refused, as `questions_in` refuses it.
+/// The questions of the policy files at these paths, one file after the other, and where each of them stands. The refusal is
+/// that of the first file that is refused, as `questions_in` refuses it.
 pub fn all_questions_in<F: Files>(
     alloc: Global,
     paths: &[&str],
     files: &mut F,
     notes: &mut Notes,
-) -> Result<Vec<Question>, Fault>
-    ensures asked { IfOk result (λ v. AreAsked (F.holds files.old) paths.now v.items) }
+) -> Result<(Vec<Question>, Vec<Document>), Fault>
+    ensures asked { IfOk result (λ r. AreAsked (F.holds files.old) paths.now r.0.items) }
+    ensures placed { IfOk result (λ r. AreOrigins (F.holds files.old) paths.now r.0.items
+        (map view r.1.items)) }
     ensures refused { IfErr result (RefusesAsking (F.holds files.old) paths.now) }
     ensures same { (p : List ℕ) → F.holds files.new p ≡ F.holds files.old p }
 {
     let mut all = Vec::new(alloc);
+    let mut origins = Vec::new(alloc);
     for path in paths {
         let mut questions = questions_in(alloc, path, files, notes)?;
+        push_origins(alloc, &mut origins, path, &notes.policy, questions.len())?;
         all.append(&mut questions)?;
     }
-    Ok(all)
+    Ok((all, origins))
 }

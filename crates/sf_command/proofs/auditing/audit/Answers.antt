@@ -1,4 +1,5 @@
 use Rattle.std.proofs.Common.{inl, inr, map, string_bytes}
+use Rattle.sf_command.specs.Audits.{read_data}
 use Rattle.sf_command.proofs.KeptLemmas.{kept_refused_for, second_weaker}
 use Rattle.sf_command.proofs.RefusalLemmas.{audit_why, unread_why}
 use Rattle.sf_evaluate.specs.KeptLaws.{kept_stack}
@@ -7,7 +8,7 @@ use Rattle.sf_command.proofs.auditing.audit.Goals as goal
 
 pub returns-clause-written : goal.returns-clause-written
 returns-clause-written g c = record {
-  read = c.in_ok-read.read;
+  read = read_data c.in_ok-read.read;
   asked_by = c.in_ok-read.ensures.read;
   files = map (λ f. f.items) c.in_ok-filters.filters.items;
   are_read = kept_stack _ _ _ (kept_same _ _ _ _ c.in_ok-read.ensures.same c.in_ok-filters.ensures.read) _
@@ -17,8 +18,12 @@ returns-clause-written g c = record {
   is_found = rw c.deref.ensures.value at c.in_ok-outcome.ensures.found;
   remarks = map string_bytes c.in_ok-remarks.remarks.items;
   remarked = c.in_ok-remarks.ensures.told;
-  written = rw (c.deref-3.ensures.value, c.deref-4.ensures, c.in_ok-behind.ensures) at
-      c.in_ok-write_report.ensures.written;
+  written = rw (
+    c.is_expecting.ensures,
+    c.deref-3.ensures.value,
+    c.deref-4.ensures.value,
+    c.in_ok-outcome.ensures.placed,
+  ) at c.in_ok-write_audit.ensures.written;
   told = c.status_of_audit-status.ensures.told;
 }
 
@@ -36,8 +41,8 @@ returns-in_err-filters-clause-refused g c =
 pub returns-in_err-outcome-clause-refused : goal.returns-in_err-outcome-clause-refused
 returns-in_err-outcome-clause-refused g c =
     let kept = kept_same _ _ _ _ c.in_ok-read.ensures.same c.in_ok-filters.ensures.read in
-    let why = audit_why _ _ _ c.in_ok-read.read _ _ c.in_ok-read.ensures.read kept.read
-    (second_weaker (kept_refused_for _ _ _ kept c.in_ok-read.read _)
+    let why = audit_why _ _ _ (read_data c.in_ok-read.read) _ _ c.in_ok-read.ensures.read kept.read
+    (second_weaker (kept_refused_for _ _ _ kept (read_data c.in_ok-read.read) _)
     (rw c.deref.ensures.value at c.in_err-outcome.ensures.refused)) in
     handed_on _ c.from_residual-in_err-outcome.result c.in_err-outcome.field-0.0
     c.from_residual-in_err-outcome.ensures.1 why

@@ -4,21 +4,19 @@ use Rattle.sf_command.proofs.KeptLemmas.{second_weaker}
 use Rattle.sf_command.proofs.auditing.find.Goals as goal
 
 pub returns-clause-found : goal.returns-clause-found
-returns-clause-found g c = rw (← c.read.view_is) (record {
+returns-clause-found g c = record {
   audit = c.in_ok-outcome.ensures.found;
   held = c.in_ok-held.held.items;
   right = rw (c.settled.ensures, c.deref.ensures.value) at c.in_ok-held.ensures.right;
-  expects = c.of.ensures;
-})
+  expects = c.of-expected.ensures;
+}
 
 pub returns-in_err-outcome-clause-refused : goal.returns-in_err-outcome-clause-refused
 returns-in_err-outcome-clause-refused g c =
-    rw (← c.read.view_is)
-    (handed_on _ c.from_residual.result c.in_err-outcome.field-0.0 c.from_residual.ensures.1
-    (second_weaker inl c.in_err-outcome.ensures.refused))
+    handed_on _ c.from_residual.result c.in_err-outcome.field-0.0 c.from_residual.ensures.1
+    (second_weaker inl c.in_err-outcome.ensures.refused)
 
 pub returns-in_err-held-clause-refused : goal.returns-in_err-held-clause-refused
 returns-in_err-held-clause-refused g c =
-    rw (← c.read.view_is)
-    (handed_on _ c.from_residual-in_err-held.result c.in_err-held.field-0.0 c.from_residual-in_err-held.ensures.1
-    (second_weaker inr (rw c.deref.ensures.value at c.in_err-held.ensures.refused)))
+    handed_on _ c.from_residual-in_err-held.result c.in_err-held.field-0.0 c.from_residual-in_err-held.ensures.1
+    (second_weaker inr (rw c.deref.ensures.value at c.in_err-held.ensures.refused))

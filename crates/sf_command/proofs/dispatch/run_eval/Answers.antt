@@ -12,10 +12,12 @@ returns-clause-done g c = record {
   paths = c.unwrap_or-paths.result.now;
   named = rw c.unwrap_or-paths.ensures (paths_found (found_of c.args.found.now) (codes "filters") c.get_strs.result _
       c.get_strs.ensures refl);
-  traced = c.wants_trace-traced.result;
-  in_full = c.wants_trace-traced.ensures;
-  brief = c.wants_brief-brief.result;
-  in_brief = c.wants_brief-brief.ensures;
+  traced = c.wants_trace.result;
+  in_full = c.wants_trace.ensures;
+  brief = c.wants_brief.result;
+  in_brief = c.wants_brief.ensures;
+  json = c.wants_json.result;
+  in_json = c.wants_json.ensures;
   names = c.in_ok-names.names.items;
   called = c.in_ok-names.ensures.called;
   input = c.in_ok-input.input;

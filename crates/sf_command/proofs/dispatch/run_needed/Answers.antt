@@ -9,8 +9,10 @@ returns-clause-done g c = IfOk-weaker c.needed.result _ _ (λ s written. record 
   paths = c.unwrap_or-paths.result.now;
   named = rw c.unwrap_or-paths.ensures (paths_found (found_of c.args.found.now) (codes "filters") c.get_strs.result _
       c.get_strs.ensures refl);
-  budget = c.budget_of-budget.result;
-  counted = c.budget_of-budget.ensures;
+  budget = c.budget_of.result;
+  counted = c.budget_of.ensures;
+  json = c.wants_json.result;
+  in_json = c.wants_json.ensures;
   needed = written;
 }) c.needed.ensures.written
 
@@ -19,5 +21,5 @@ returns-clause-refused g c = IfErr-weaker c.needed.result _ _ (λ e why. (
   c.unwrap_or-paths.result.now,
   rw c.unwrap_or-paths.ensures (paths_found (found_of c.args.found.now)
       (codes "filters") c.get_strs.result _ c.get_strs.ensures refl),
-  (c.budget_of-budget.result, why),
+  (c.budget_of.result, why),
 )) c.needed.ensures.refused

@@ -17,7 +17,7 @@ returns-clause-written g c = record {
     alike = rw c.deref.ensures.value at c.in_ok-needs.ensures.alike;
     path = rw c.deref.ensures.value at c.in_ok-needs.ensures.path;
   };
-  written = c.in_ok-write_needed.ensures.written;
+  written = c.in_ok-write_needs.ensures.written;
   told = c.status_of_needs.ensures;
 }
 

@@ -9,10 +9,12 @@ returns c =
     let bare : app_of c.about.result ≡ new_app (codes "check") = ap app_of_fields c.about.ensures ∙ c.new.ensures.app in
     let with_instructions = c.in_ok-arg.ensures.shape c.instructions.ensures.own
     ∙ ap₂ with_rule bare c.instructions.ensures.rule in
-    let with_quiet = c.in_ok-arg-2.ensures.shape c.quiet.ensures.own
-    ∙ ap₂ with_rule with_instructions c.quiet.ensures.rule in
-    let with_explain = c.in_ok-arg-3.ensures.shape c.explain.ensures.own
+    let with_json = c.in_ok-arg-2.ensures.shape c.json.ensures.own
+    ∙ ap₂ with_rule with_instructions c.json.ensures.rule in
+    let with_quiet = c.in_ok-arg-3.ensures.shape c.quiet.ensures.own
+    ∙ ap₂ with_rule with_json c.quiet.ensures.rule in
+    let with_explain = c.in_ok-arg-4.ensures.shape c.explain.ensures.own
     ∙ ap₂ with_rule with_quiet c.explain.ensures.rule in
-    IfOk-weaker c.arg-4.result _ _ (λ r h. h.shape c.filters.ensures.own
+    IfOk-weaker c.arg-5.result _ _ (λ r h. h.shape c.filters.ensures.own
     ∙ ap₂ with_rule with_explain c.filters.ensures.rule)
-    c.arg-4.ensures
+    c.arg-5.ensures

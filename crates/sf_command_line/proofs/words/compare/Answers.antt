@@ -28,10 +28,12 @@ returns c =
     ∙ ap₂ with_rule with_calls c.leaves.ensures.rule in
     let with_names = c.in_ok-arg-10.ensures.shape c.names.ensures.own
     ∙ ap₂ with_rule with_leaves c.names.ensures.rule in
-    let with_progress = c.in_ok-arg-11.ensures.shape c.progress.ensures.own
-    ∙ ap₂ with_rule with_names c.progress.ensures.rule in
-    let with_quiet = c.in_ok-arg-12.ensures.shape c.quiet.ensures.own
+    let with_json = c.in_ok-arg-11.ensures.shape c.json.ensures.own
+    ∙ ap₂ with_rule with_names c.json.ensures.rule in
+    let with_progress = c.in_ok-arg-12.ensures.shape c.progress.ensures.own
+    ∙ ap₂ with_rule with_json c.progress.ensures.rule in
+    let with_quiet = c.in_ok-arg-13.ensures.shape c.quiet.ensures.own
     ∙ ap₂ with_rule with_progress c.quiet.ensures.rule in
-    IfOk-weaker c.arg-13.result _ _ (λ r h. h.shape c.explain.ensures.own
+    IfOk-weaker c.arg-14.result _ _ (λ r h. h.shape c.explain.ensures.own
     ∙ ap₂ with_rule with_quiet c.explain.ensures.rule)
-    c.arg-13.ensures
+    c.arg-14.ensures

@@ -23,8 +23,10 @@ returns c =
     ∙ ap₂ with_rule with_trace c.trace_true.ensures.rule in
     let with_names = c.in_ok-arg-8.ensures.shape c.names.ensures.own
     ∙ ap₂ with_rule with_trace_true c.names.ensures.rule in
-    let with_explain = c.in_ok-arg-9.ensures.shape c.explain.ensures.own
-    ∙ ap₂ with_rule with_names c.explain.ensures.rule in
-    IfOk-weaker c.arg-10.result _ _ (λ r h. h.shape c.filters.ensures.own
+    let with_json = c.in_ok-arg-9.ensures.shape c.json.ensures.own
+    ∙ ap₂ with_rule with_names c.json.ensures.rule in
+    let with_explain = c.in_ok-arg-10.ensures.shape c.explain.ensures.own
+    ∙ ap₂ with_rule with_json c.explain.ensures.rule in
+    IfOk-weaker c.arg-11.result _ _ (λ r h. h.shape c.filters.ensures.own
     ∙ ap₂ with_rule with_explain c.filters.ensures.rule)
-    c.arg-10.ensures
+    c.arg-11.ensures

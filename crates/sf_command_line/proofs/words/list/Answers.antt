@@ -17,12 +17,14 @@ returns c =
     ∙ ap₂ with_rule with_leaves c.names.ensures.rule in
     let with_calls = c.in_ok-arg-5.ensures.shape c.calls.ensures.own
     ∙ ap₂ with_rule with_names c.calls.ensures.rule in
-    let with_progress = c.in_ok-arg-6.ensures.shape c.progress.ensures.own
-    ∙ ap₂ with_rule with_calls c.progress.ensures.rule in
-    let with_quiet = c.in_ok-arg-7.ensures.shape c.quiet.ensures.own
+    let with_json = c.in_ok-arg-6.ensures.shape c.json.ensures.own
+    ∙ ap₂ with_rule with_calls c.json.ensures.rule in
+    let with_progress = c.in_ok-arg-7.ensures.shape c.progress.ensures.own
+    ∙ ap₂ with_rule with_json c.progress.ensures.rule in
+    let with_quiet = c.in_ok-arg-8.ensures.shape c.quiet.ensures.own
     ∙ ap₂ with_rule with_progress c.quiet.ensures.rule in
-    let with_explain = c.in_ok-arg-8.ensures.shape c.explain.ensures.own
+    let with_explain = c.in_ok-arg-9.ensures.shape c.explain.ensures.own
     ∙ ap₂ with_rule with_quiet c.explain.ensures.rule in
-    IfOk-weaker c.arg-9.result _ _ (λ r h. h.shape c.filters.ensures.own
+    IfOk-weaker c.arg-10.result _ _ (λ r h. h.shape c.filters.ensures.own
     ∙ ap₂ with_rule with_explain c.filters.ensures.rule)
-    c.arg-9.ensures
+    c.arg-10.ensures

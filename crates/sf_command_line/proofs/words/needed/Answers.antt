@@ -12,12 +12,14 @@ returns c =
     ∙ ap₂ with_rule bare c.budget.ensures.rule in
     let with_workers = c.in_ok-arg-2.ensures.shape c.workers.ensures.own
     ∙ ap₂ with_rule with_budget c.workers.ensures.rule in
-    let with_progress = c.in_ok-arg-3.ensures.shape c.progress.ensures.own
-    ∙ ap₂ with_rule with_workers c.progress.ensures.rule in
-    let with_quiet = c.in_ok-arg-4.ensures.shape c.quiet.ensures.own
+    let with_json = c.in_ok-arg-3.ensures.shape c.json.ensures.own
+    ∙ ap₂ with_rule with_workers c.json.ensures.rule in
+    let with_progress = c.in_ok-arg-4.ensures.shape c.progress.ensures.own
+    ∙ ap₂ with_rule with_json c.progress.ensures.rule in
+    let with_quiet = c.in_ok-arg-5.ensures.shape c.quiet.ensures.own
     ∙ ap₂ with_rule with_progress c.quiet.ensures.rule in
-    let with_explain = c.in_ok-arg-5.ensures.shape c.explain.ensures.own
+    let with_explain = c.in_ok-arg-6.ensures.shape c.explain.ensures.own
     ∙ ap₂ with_rule with_quiet c.explain.ensures.rule in
-    IfOk-weaker c.arg-6.result _ _ (λ r h. h.shape c.filters.ensures.own
+    IfOk-weaker c.arg-7.result _ _ (λ r h. h.shape c.filters.ensures.own
     ∙ ap₂ with_rule with_explain c.filters.ensures.rule)
-    c.arg-6.ensures
+    c.arg-7.ensures

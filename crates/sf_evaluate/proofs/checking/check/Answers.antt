@@ -4,7 +4,7 @@ use Rattle.sf_evaluate.proofs.checking.check.Goals as goal
 
 pub returns-clause-written : goal.returns-clause-written
 returns-clause-written g c = on_ok_weaker c.check_filters.result
-    (λ w. kept_checks _ _ _ c.in_ok-filters.ensures.read _ _ _ w)
+    (λ w. kept_checks _ _ _ c.in_ok-filters.ensures.read _ _ _ _ w)
     (rw c.deref.ensures.value at c.check_filters.ensures.written)
 
 pub returns-clause-refused : goal.returns-clause-refused
