@@ -3,12 +3,12 @@
 _seccomp_audit() {
     local word=${COMP_WORDS[COMP_CWORD]} before=${COMP_WORDS[COMP_CWORD - 1]} options="--help --version"
     case ${COMP_WORDS[1]} in
-        audit) options="--policy --control --accept --budget --workers --regions --why --names --progress --quiet --explain-errors --help" ;;
-        check) options="--instructions --quiet --explain-errors --help" ;;
-        eval) options="--input --call --nr --arch --args --trace --trace-true --names --explain-errors --help" ;;
-        compare) options="--old --new --budget --workers --same --rows --only --calls --leaves --names --progress --quiet --explain-errors --help" ;;
-        list) options="--budget --workers --leaves --names --calls --progress --quiet --explain-errors --help" ;;
-        needed) options="--budget --workers --progress --quiet --explain-errors --help" ;;
+        audit) options="--policy --control --accept --budget --workers --regions --why --names --json --progress --quiet --explain-errors --help" ;;
+        check) options="--instructions --json --quiet --explain-errors --help" ;;
+        eval) options="--input --call --nr --arch --args --trace --trace-true --names --json --explain-errors --help" ;;
+        compare) options="--old --new --budget --workers --same --rows --only --calls --leaves --names --json --progress --quiet --explain-errors --help" ;;
+        list) options="--budget --workers --leaves --names --calls --json --progress --quiet --explain-errors --help" ;;
+        needed) options="--budget --workers --json --progress --quiet --explain-errors --help" ;;
         profile) options="--machine --names --cap --kernel --conflicts --newer --notes --quiet --explain-errors --help" ;;
     esac
     COMPREPLY=()
