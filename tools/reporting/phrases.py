@@ -1,0 +1,57 @@
+"""What the texts for reviews and for build systems say alike."""
+from .documents import KINDS, Refused
+
+# What made a text, and how far that can be trusted.
+MADE_BY = "Made by seccomp_audit's report, outside the proofs, from what the program printed."
+
+SHORT = {"\n": "\\n", "\r": "\\r", "\t": "\\t"}
+UNSETTLED = "no example was found, and no proof that there is none"
+
+
+def visible(text):
+    """A text in which each character that can't be seen is written as its number."""
+    return "".join(it if it.isprintable() else SHORT.get(it) or numbered(it) for it in text)
+
+
+def numbered(character):
+    return f"\\u{ord(character):04x}" if ord(character) <= 0xFFFF else f"\\U{ord(character):08x}"
+
+
+def counted(number, one, several):
+    """A number with its noun."""
+    return f"{number} {one if number == 1 else several}"
+
+
+def call_of(example):
+    """An input as a call in words, or by its numbers where no set of names has the call."""
+    if example["call"] is not None:
+        return visible(example["call"])
+    arguments = ",".join(hex(int(one, 16)) for one in example["args"])
+    return f"arch {example['arch']} nr {example['nr']} args {arguments}"
+
+
+def source_of(document):
+    """Where a document was read."""
+    return "standard input" if document.path == "-" else visible(document.path)
+
+
+def not_complete(number):
+    """What is said where the exploration has pieces that are outstanding."""
+    pieces = counted(number, "piece of the exploration is", "pieces of the exploration are")
+    return f"Not complete: {pieces} outstanding. Raise --budget."
+
+
+def control_of(document):
+    """The questions of the control, with their replies."""
+    return (document.value["expected"] or {"control": []})["control"]
+
+
+def audits_of(documents, option):
+    """The audits among documents. Refused where there is none, and where a document is of an unknown kind."""
+    for document in documents:
+        if document.kind not in (*KINDS, "compare-rows"):
+            raise Refused(f"{document.path}: {option} knows no document of kind {document.kind!r:.40}")
+    audits = [document for document in documents if document.kind == "audit"]
+    if not audits:
+        raise Refused(f"{option} tells of audits, and none of the documents is one")
+    return audits
