@@ -1,0 +1,189 @@
+"""Tries SARIF."""
+import copy
+import json
+import re
+import subprocess
+
+from reporting import groups, sarif
+from reporting.documents import Document, Refused
+from reporting.schema import faults
+
+from . import making
+from .making import ROOT, audit_of, question
+
+SCHEMA = ROOT / "tools/report_tests/sarif-2.1.0.schema.json"
+
+# Checks a value on standard input against the schema by python3-jsonschema. Ends with 3 where that isn't there.
+BY_LIBRARY = """
+import json, sys
+try:
+    import jsonschema
+except ImportError:
+    sys.exit(3)
+schema = json.load(open(sys.argv[1]))
+jsonschema.Draft202012Validator.check_schema(schema)
+print([error.message[:100] for error in jsonschema.Draft202012Validator(schema).iter_errors(json.load(sys.stdin))])
+"""
+
+# Changes after which a value breaks the standard: where, and what stands there then (None: it is taken out).
+BROKEN = [
+    (["version"], "2.0.0"), (["version"], None), (["runs", 0, "tool"], None),
+    (["runs", 0, "tool", "driver", "name"], None), (["runs", 0, "tool", "driver", "rules", 0, "id"], None),
+    (["runs", 0, "results", 0, "level"], "fatal"), (["runs", 0, "results", 0, "message"], "text"),
+    (["runs", 0, "results", 0, "message", "text"], None), (["runs", 0, "results", 0, "more"], 1),
+    (["runs", 0, "results", 0, "locations", 0, "physicalLocation", "region", "startLine"], 0),
+    (["runs", 0, "results", 0, "locations", 0, "physicalLocation", "artifactLocation", "uri"], "a b"),
+    (["runs", 0, "invocations", 0, "executionSuccessful"], None),
+]
+
+# Paths of policies, and how a reference to each is written, by RFC 3986.
+REFERENCES = {
+    "policies/x86_64.toml": "policies/x86_64.toml", "a b/ü:#?%.toml": "a%20b/%C3%BC%3A%23%3F%25.toml",
+    "/x y": "file:///x%20y", "../a.toml": "../a.toml", "a:b.toml": "a%3Ab.toml", "<|`\n": "%3C%7C%60%0A",
+    "\ud800": "%ED%A0%80",
+}
+
+
+def misfits(value):
+    schema = json.loads(SCHEMA.read_text())
+    return list(faults(schema, value, schema))
+
+
+def broken(value, path, put):
+    """The value with another one at a path."""
+    value = copy.deepcopy(value)
+    at = value
+    for key in path[:-1]:
+        at = at[key]
+    if put is None:
+        del at[path[-1]]
+    else:
+        at[path[-1]] = put
+    return value
+
+
+def results_in(text):
+    return json.loads(text)["runs"][0]["results"]
+
+
+def of_schema(value):
+    """Whether the schema finds what breaks the standard."""
+    for path, put in BROKEN:
+        yield f"sarif: the schema finds {put!r} at {path}", misfits(broken(value, path, put)) != [], ""
+
+
+def of_library(text):
+    """What another checker says, where there is one."""
+    for python in ("python3", "/usr/bin/python3"):
+        try:
+            ran = subprocess.run([python, "-c", BY_LIBRARY, str(SCHEMA)], input=text, capture_output=True, text=True)
+        except OSError:
+            continue
+        if ran.returncode != 3:
+            yield f"sarif: jsonschema of {python} finds nothing", ran.stdout == "[]\n", (ran.stdout, ran.stderr[-200:])
+
+
+def lines_of(results):
+    """Whether each result's line is the one on which the question begins."""
+    for result in results:
+        place = result["locations"][0]["physicalLocation"]
+        lines = (ROOT / place["artifactLocation"]["uri"]).read_text().splitlines()
+        line = place["region"]["startLine"]
+        if lines[line - 1] != "[[question]]" or lines[line] != f'name = "{result["ruleId"]}"':
+            yield result["ruleId"], line
+
+
+def of_real(maker):
+    """Of docker's profile: what docs/POLICIES.md tells of it."""
+    document = maker.audit(making.DOCKER, *making.CONTROL, *making.NAMES)
+    text = sarif.text([document], groups.load(ROOT / "policies/groups.toml"))
+    value, results = json.loads(text), results_in(text)
+    yield "sarif: docker fits the schema", misfits(value) == [], misfits(value)
+    yield from of_schema(value)
+    yield from of_library(text)
+    names = {result["ruleId"] for result in results}
+    is_well = {"ptrace", "chroot", "fanotify-mark", "i386-calls", "x32-calls"} <= names and "mount" not in names
+    yield "sarif: docker: results for what is open, and for nothing else", is_well, names
+    yield "sarif: docker: each is an error", {result["level"] for result in results} == {"error"}, ""
+    wrong = list(lines_of(results))
+    yield "sarif: each line is that of its question", not wrong and len(results) == 102, (wrong, len(results))
+    rules = value["runs"][0]["tool"]["driver"]["rules"]
+    wrong = [result for result in results if rules[result["ruleIndex"]]["id"] != result["ruleId"]]
+    yield "sarif: each result has its rule", not wrong and len({rule["id"] for rule in rules}) == len(rules), wrong
+    rule = next(rule for rule in rules if rule["id"] == "ptrace")
+    is_well = "memory of other processes" in rule.get("fullDescription", {}).get("text", "")
+    yield "sarif: a rule tells what an attacker gains", is_well, rule
+    result = next(result for result in results if result["ruleId"] == "ptrace")
+    yield "sarif: the message has the call", "x86_64 ptrace()" in result["message"]["text"], result["message"]
+    is_well = re.fullmatch(r"65000000" "3e0000c0" "0{112}", result.get("properties", {}).get("bytes", ""))
+    yield "sarif: a result has the example's bytes", bool(is_well), result
+    invocations = value["runs"][0]["invocations"]
+    yield "sarif: where all is explored, it went well", invocations == [{"executionSuccessful": True}], invocations
+    alone = json.loads(sarif.text([document]))["runs"][0]["tool"]["driver"]["rules"]
+    is_well = all("fullDescription" not in rule for rule in alone)
+    yield "sarif: without groups a rule tells only its question", is_well, alone[:1]
+
+
+def of_open(maker):
+    """What is said where the exploration isn't complete, and where the control doesn't hold."""
+    document = maker.audit(making.SNAP, "--budget", "50", "--workers", "1")
+    value = json.loads(sarif.text([document]))
+    yield "sarif: open: it fits the schema", misfits(value) == [], misfits(value)
+    invocation = value["runs"][0]["invocations"][0]
+    said = [one["message"]["text"] for one in invocation.get("toolExecutionNotifications", [])]
+    is_well = invocation["executionSuccessful"] is False and len(said) == 1 and "Not complete" in said[0]
+    yield "sarif: open: it didn't go well, and that is said", is_well, invocation
+    levels = {result["ruleId"]: result["level"] for result in value["runs"][0]["results"]}
+    unsettled = {one["name"] for one in document.value["questions"] if one["reply"] == "unsettled"}
+    is_well = unsettled and all(levels.get(name) == "warning" for name in unsettled)
+    yield "sarif: open: each unsettled question is a warning", is_well, levels
+    text = sarif.text([audit_of([], control=[{"name": "read", "reply": "never"}])])
+    invocation = json.loads(text)["runs"][0]["invocations"][0]
+    is_well = invocation["executionSuccessful"] is False and "the control read is never" in json.dumps(invocation)
+    yield "sarif: a control that doesn't hold is said", is_well, invocation
+
+
+def of_made():
+    """What documents say that are made here."""
+    text = sarif.text([making.hostile_audit()])
+    yield "sarif: hostile texts fit the schema", misfits(json.loads(text)) == [], misfits(json.loads(text))[:3]
+    due = 2 * len(making.HOSTILE)
+    yield "sarif: hostile texts: no result is lost", len(results_in(text)) == due, len(results_in(text))
+    messages = [result["message"]["text"] for result in results_in(text)]
+    links = [one for one in messages if re.search(r"(?<!\\)[\[\]]|(?<!\{)\{(?!\{)", one)]
+    yield "sarif: hostile texts make no links and no arguments", not links, links
+    for path, due in REFERENCES.items():
+        got = sarif.reference_of(path)
+        yield f"sarif: the reference to {path!r}", got == due, got
+    known, unknown = audit_of([question(1, "q")]), audit_of([question(1, "q", origin={"line": None, "policy": "p"})])
+    place = results_in(sarif.text([unknown]))[0]["locations"][0]["physicalLocation"]
+    yield "sarif: a line that isn't known isn't told", place == {"artifactLocation": {"uri": "p"}}, place
+    prints = [results_in(sarif.text([one]))[0]["partialFingerprints"]["policyAndQuestion/v1"] for one in
+              (known, audit_of([question(7, "q", "unsettled")]), audit_of([question(1, "r")]), unknown)]
+    is_well = prints[0] == prints[1] and len(set(prints)) == 3
+    yield "sarif: a fingerprint is of the policy and the name, and of nothing else", is_well, prints
+    two = sarif.text([known, audit_of([question(1, "q")], "b.json")])
+    said = [result["message"]["text"] for result in results_in(two)]
+    is_told = [f"in {path}" in one for path, one in zip(("audit.json", "b.json"), said)]
+    is_well = len(json.loads(two)["runs"]) == 1 and is_told == [True, True]
+    yield "sarif: several audits are one run, and each result tells its document", is_well, said
+    passed = sarif.text([audit_of([question(1, "q", "never"), question(2, "r", accepted=True, unexpected=False)])])
+    yield "sarif: never and accepted are no results", results_in(passed) == [] and passed.endswith("}\n"), passed[-50:]
+
+
+def of_refusals():
+    """Whether documents of other kinds are refused."""
+    for what, documents in (("no audit", [Document("needed", {}, "n.json")]), ("nothing", []),
+                            ("an unknown kind", [audit_of([]), Document("check", {}, "c.json")])):
+        try:
+            got = sarif.text(documents)
+        except Refused as refused:
+            got = refused
+        yield f"sarif: {what} is refused", isinstance(got, Refused), got
+
+
+def cases(maker):
+    yield from of_real(maker)
+    yield from of_open(maker)
+    yield from of_made()
+    yield from of_refusals()
