@@ -22,6 +22,14 @@ POLICIES = "share/seccomp_audit/policies"
 # Folders below PREFIX that nobody else writes in: they are told as wholes.
 OWN = ["libexec/seccomp_audit", "share/doc/{doc}", "share/seccomp_audit"]
 
+# The report's modules and the schemas of the documents that it reads: the folder in the repository, what is copied of it,
+# and the folder below PREFIX.
+REPORT = ("tools/report", "bin/seccomp_audit_report")
+FOLDERS = [
+    ("tools/reporting", (".py", ".css", ".js"), "libexec/seccomp_audit/reporting"),
+    ("docs/schema", (".json",), "share/seccomp_audit/schema"),
+]
+
 # Helpers in Python, and what a C compiler makes: the source below tools/, the compiler's options, the target.
 # `kernel_agrees` does nothing without `ask_kernel`, so it goes where that goes.
 FILTER_OF_PROFILE = ("tools/filter_of_profile", "bin/seccomp_audit_filter_of_profile")
@@ -53,8 +61,9 @@ def is_compiled(source, options, target):
 
 def install_helpers(prefix):
     """Installs the helpers. Gives the places of those that are written, and the names of those that are left out."""
-    written, left_out = [FILTER_OF_PROFILE[1]], []
-    copy(os.path.join(ROOT, FILTER_OF_PROFILE[0]), f"{prefix}/{FILTER_OF_PROFILE[1]}", 0o755)
+    written, left_out = [FILTER_OF_PROFILE[1], REPORT[1]], []
+    for source, target in (FILTER_OF_PROFILE, REPORT):
+        copy(os.path.join(ROOT, source), f"{prefix}/{target}", 0o755)
     if is_compiled(READ_FILTERS[0], READ_FILTERS[1], f"{prefix}/{READ_FILTERS[2]}"):
         written.append(READ_FILTERS[2])
     else:
@@ -78,6 +87,15 @@ def install_policies(prefix):
     return written
 
 
+def install_folders(prefix):
+    """Installs the report's modules and the schemas, and gives their places."""
+    places = [(f"{source}/{name}", f"{target}/{name}") for source, ends, target in FOLDERS
+              for name in sorted(os.listdir(os.path.join(ROOT, source))) if name.endswith(ends)]
+    for source, target in places:
+        copy(os.path.join(ROOT, source), f"{prefix}/{target}")
+    return [target for _, target in places]
+
+
 def install(program, prefix, doc=PROGRAM):
     """Copies all. Gives the paths that it has written (files, and in their place folders of its own), and the names of the
     helpers that it has left out, since no C compiler makes them here."""
@@ -86,7 +104,7 @@ def install(program, prefix, doc=PROGRAM):
     files = [(source, target.format(doc=doc)) for source, target in FILES]
     for source, target in files:
         copy(os.path.join(ROOT, source), f"{prefix}/{target}")
-    written = [f"bin/{PROGRAM}", *helpers, *(target for _, target in files), *install_policies(prefix)]
+    written = [f"bin/{PROGRAM}", *helpers, *(target for _, target in files), *install_policies(prefix), *install_folders(prefix)]
     own = [folder.format(doc=doc) for folder in OWN]
     told = [next((folder for folder in own if path.startswith(f"{folder}/")), path) for path in written]
     return [f"{prefix}/{path}" for path in dict.fromkeys(told)], left_out

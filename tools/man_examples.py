@@ -83,6 +83,8 @@ FILES = [
      "Makes the filter that this machine's libseccomp makes of a JSON profile. It takes python3."),
     ("/usr/bin/seccomp_audit_kernel_agrees",
      "Compares what eval says of inputs with what this machine's kernel does. It takes python3."),
+    ("/usr/bin/seccomp_audit_report",
+     "Makes a page, a summary, or what build systems read, of what --json wrote. It takes python3."),
 ]
 WHERE = [
     "These are the places of Debian's package.",
