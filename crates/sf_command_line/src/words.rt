@@ -12,7 +12,7 @@ use clap::Command;
 use std::alloc::{AllocError, Global};
 
 /// The version of the program, as `--version` shows it.
-const VERSION: &str = "1.4.0";
+const VERSION: &str = "1.5.0";
 
 /// What stands at the end of `--help`.
 const AFTER_HELP: &str = "Exit status:
