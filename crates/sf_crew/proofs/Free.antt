@@ -4,15 +4,13 @@ use Rattle.std.proofs.Common.{◌≡◌, ℕ, ◌<◌, ◌==◌, Bool, true, fal
 use Rattle.std.specs.List.{All}
 use Rattle.std.proofs.lemmas.Bool.Decides.{nat_tests}
 use Rattle.std.specs.Arc.{arc_value}
-use Rattle.std.specs.Option.{option_map}
-use Rattle.std.proofs.lemmas.Option.{same_Some}
-use Rattle.std.proofs.lemmas.List.Elements.{All-head, All-tail, All-cons, All-nil, All-filter, All-map}
-use Rattle.sf_piece.specs.Pieces.{PieceData, StepData, WorkData, Split, Settled, Empty, children_of}
+use Rattle.std.proofs.lemmas.List.Elements.{All-head, All-tail, All-cons, All-nil, All-map}
+use Rattle.sf_piece.specs.Pieces.{PieceData, StepData, WorkData, Split, Settled, Empty}
 use Rattle.sf_book.specs.Books.{OutstandingData, BookData, IsLawfulBook, IsOutstanding}
 use Rattle.sf_book.specs.Changes.{outstanding_at, with_lease_at, with_lease, without, CommitsAs, Leases, MayCommit}
 use Rattle.sf_book.specs.ChangeLaws.{all_at, leased_at}
 use Rattle.sf_book.specs.declared.book.Lease.{Lease}
-use Rattle.sf_crew.specs.Explorations.{IsExhausted, IsFree, IsOnlyLease, MayWork, GoesOn}
+use Rattle.sf_crew.specs.Explorations.{IsExhausted, IsFree, MayWork, TakesTurn}
 
 abbrev Free : OutstandingData → Type 0
 Free e = e.leased ≡ false
@@ -49,9 +47,9 @@ leased_there es id p at =
     leased_at es id (record { id = id; piece = p; leased = false }) at
     ∙ ap (λ (b : Bool). Some (record { id = id; piece = p; leased = cond b true false })) same
 
-pub only_leased : (b c : BookData) (x : Lease) → IsFree b.outstanding → Leases b x.id (arc_value x.piece) c
-    → IsOnlyLease c x
-only_leased b c x h l = grind (arith, common_steps, leased_there, left_free)
+may_work : (b c : BookData) (x : Lease) → IsFree b.outstanding → b.commits < b.budget
+    → Leases b x.id (arc_value x.piece) c → MayWork c x
+may_work b c x h room l = grind (arith, common_steps, leased_there, left_free)
 
 -- the piece that is leased is of the book's stack
 pub leased_of : (b c : BookData) (x : Lease) → IsLawfulBook b → Leases b x.id (arc_value x.piece) c
@@ -66,7 +64,7 @@ pub leased_or_end : (b c : BookData) (l : Option Lease) → IsFree b.outstanding
     → MatchOption l ((c ≡ b) × All (λ e. e.leased ≡ true) b.outstanding) (λ x. Leases b x.id (arc_value x.piece) c)
     → MatchOption l (IsExhausted c) (λ x. MayWork c x)
 leased_or_end b c None free room h = rw h.0 (inl (none_left b.outstanding free h.1))
-leased_or_end b c (Some x) free room h = record { lease = only_leased b c x free h; room = rw h.after room }
+leased_or_end b c (Some x) free room h = may_work b c x free room h
 
 -- ---- a commit of the leased piece's work
 
@@ -76,60 +74,52 @@ pub may_commit : (b : BookData) (x : Lease) (w : WorkData) → IsLawfulBook b �
 may_commit b x w h m is =
     let e : OutstandingData = record { id = x.id; piece = arc_value x.piece; leased = true } in
     let o : IsOutstanding b.stack e = all_at (IsOutstanding b.stack) b.outstanding x.id e h.outstanding
-    m.lease.there in
+    m.there in
     record {
       same_stack = ap (λ (q : PieceData). q.stack) is ∙ o.of;
       under_id = e;
-      there = m.lease.there;
+      there = m.there;
       same_name = ap (λ (q : PieceData). q.name) is;
     }
 
--- ---- a split, after which the second child is given back
+-- ---- a turn, at whose end the children of a split are given back
 
-first_there : (es : List OutstandingData) (i j : ℕ) (f t : PieceData) → All (λ e. e.id < i) es → i < j
-    → outstanding_at i (map (with_lease_at j false) (es ++ record { id = i; piece = f; leased = true }
-    ∷ record { id = j; piece = t; leased = true } ∷ [])) ≡ Some (record { id = i; piece = f; leased = true })
-first_there [] i j f t h lt =
-    let same : (i == i) ≡ true = grind (arith, nat_tests) in
-    let other : (i == j) ≡ false = grind (arith, nat_tests) in
-    rw (same, other) refl
-first_there (e ∷ es) i j f t h lt =
-    let below : e.id < i = All-head (λ e. e.id < i) e es h in
-    let other : (e.id == i) ≡ false = grind (arith, nat_tests) in
-    rw other (first_there es i j f t (All-tail (λ e. e.id < i) e es h) lt)
+-- given back under its id, a piece is on lease no more
+given_back : (e : OutstandingData) → (with_lease_at e.id false e).leased ≡ false
+given_back e = let same : (e.id == e.id) ≡ true = grind (arith, nat_tests) in rw same refl
 
-rest_free : (es : List OutstandingData) (i j : ℕ) (f t : PieceData) → IsFree es → All (λ e. e.id < i) es → i < j
-    → IsFree (without i (map (with_lease_at j false) (es ++ record { id = i; piece = f; leased = true }
-    ∷ record { id = j; piece = t; leased = true } ∷ [])))
-rest_free [] i j f t free h lt =
-    let same : (i == i) ≡ true = grind (arith, nat_tests) in
-    let other : (j == i) ≡ false = grind (arith, nat_tests) in
-    let T : OutstandingData = record { id = j; piece = t; leased = true } in
-    let back : (with_lease_at j false T).leased ≡ false =
-    (let is : (j == j) ≡ true = grind (arith, nat_tests) in rw is refl) in
-    rw (same, other) (All-cons Free (with_lease_at j false T) [] back (All-nil Free))
-rest_free (e ∷ es) i j f t free h lt =
-    let below : e.id < i = All-head (λ e. e.id < i) e es h in
-    let other : (e.id == i) ≡ false = grind (arith, nat_tests) in
-    let R = without i (map (with_lease_at j false) (es ++ record { id = i; piece = f; leased = true }
-    ∷ record { id = j; piece = t; leased = true } ∷ [])) in
-    rw other (All-cons Free (with_lease_at j false e) R (marked_free j e (All-head Free e es free))
-    (rest_free es i j f t (All-tail Free e es free) (All-tail (λ e. e.id < i) e es h) lt))
+-- both children are given back
+children_free : (es : List OutstandingData) (i j : ℕ) (f t : PieceData) → IsFree es
+    → IsFree (map (with_lease_at j false) (map (with_lease_at i false)
+    (es ++ record { id = i; piece = f; leased = true } ∷ record { id = j; piece = t; leased = true } ∷ [])))
+children_free [] i j f t free =
+    let F : OutstandingData = with_lease_at i false (record { id = i; piece = f; leased = true }) in
+    let T : OutstandingData = with_lease_at i false (record { id = j; piece = t; leased = true }) in
+    let first : F.leased ≡ false = given_back (record { id = i; piece = f; leased = true }) in
+    All-cons Free (with_lease_at j false F) (with_lease_at j false T ∷ []) (marked_free j F first)
+    (All-cons Free (with_lease_at j false T) [] (given_back T) (All-nil Free))
+children_free (e ∷ es) i j f t free =
+    let E : OutstandingData = with_lease_at i false e in
+    let R = map (with_lease_at j false) (map (with_lease_at i false)
+    (es ++ record { id = i; piece = f; leased = true } ∷ record { id = j; piece = t; leased = true } ∷ [])) in
+    All-cons Free (with_lease_at j false E) R (marked_free j E (marked_free i e (All-head Free e es free)))
+    (children_free es i j f t (All-tail Free e es free))
 
-pub goes_split : (b c : BookData) (x y : Lease) (i j : ℕ) (p : PieceData) (n : List Bool) (s : StepData) → MayWork b x
+pub split_turn : (b c : BookData) (x : Lease) (i j : ℕ) (p : PieceData) (n : List Bool) (s : StepData) → MayWork b x
     → CommitsAs b x.id p n s (Some (i, j)) c
-    → y.id ≡ i → Some (arc_value y.piece) ≡ option_map (λ k. k.0) (children_of s)
-    → GoesOn b (Some y) (record c { outstanding = map (with_lease_at j false) c.outstanding })
-goes_split b c x y i j p n (Split f t) m k id is =
-    let rest : List OutstandingData = without x.id b.outstanding in
-    let below : All (λ e. e.id < i) rest = All-filter (λ e. not (e.id == x.id)) (λ e. e.id < i) b.outstanding k.0.0 in
-    let piece : arc_value y.piece ≡ f = same_Some (arc_value y.piece) f is in
-    rw (k.1, id, piece) (record {
-      commits = refl;
-      only = search (arith, first_there, rest_free);
+    → TakesTurn b (record c {
+      outstanding = map (with_lease_at j false) (map (with_lease_at i false) c.outstanding);
     })
-goes_split b c x y i j p n (Settled a) m k id is = absurd k
-goes_split b c x y i j p n Empty m k id is = absurd k
+split_turn b c x i j p n (Split f t) m k =
+    rw k.1 (record { commits = refl; free = children_free (without x.id b.outstanding) i j f t m.others })
+split_turn b c x i j p n (Settled a) m k = absurd k
+split_turn b c x i j p n Empty m k = absurd k
+
+pub other_turn : (b c : BookData) (x : Lease) (p : PieceData) (n : List Bool) (s : StepData) → MayWork b x
+    → CommitsAs b x.id p n s None c → TakesTurn b c
+other_turn b c x p n (Split f t) m k = absurd k
+other_turn b c x p n (Settled a) m k = rw k (record { commits = refl; free = m.others })
+other_turn b c x p n Empty m k = rw k (record { commits = refl; free = m.others })
 
 pub recalled_free : (es : List OutstandingData) → IsFree (map (with_lease false) es)
 recalled_free es = All-map Free (with_lease false) es (λ k d l. refl)

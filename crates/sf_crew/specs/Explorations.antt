@@ -1,5 +1,5 @@
 -- Turns of a worker, and where an exploration ends.
-use Rattle.std.specs.Prelude.{◌≡◌, ℕ, ◌+◌, ◌*◌, ◌<◌, ◌≤◌, ◌↔◌, List, [], All, length, true, false, Option, Some, None, ◌⊎◌}
+use Rattle.std.specs.Prelude.{◌≡◌, ℕ, ◌+◌, ◌*◌, ◌<◌, ◌≤◌, ◌↔◌, List, [], All, length, true, false, Some, ◌⊎◌}
 use Rattle.std.specs.Arc.{arc_value}
 use Rattle.sf_book.specs.Books.{OutstandingData, BookData, IsSettled}
 use Rattle.sf_check.specs.declared.insn.Insn.{Insn}
@@ -21,25 +21,17 @@ pub record IsSameExploration (b c : BookData) : Type 0 where
   pub stack : c.stack ≡ b.stack
   pub budget : c.budget ≡ b.budget
 
--- the lease's piece is on lease under its id, and no other piece is
-pub record IsOnlyLease (b : BookData) (x : Lease) : Type 0 where
+-- The lease's piece may be worked, and its work committed: it is on lease under its id, no other piece is, and the
+-- budget isn't spent.
+pub record MayWork (b : BookData) (x : Lease) : Type 0 where
   pub there : outstanding_at x.id b.outstanding ≡ Some (record { id = x.id; piece = arc_value x.piece; leased = true })
   pub others : IsFree (without x.id b.outstanding)
-
--- no piece is on lease but that of this lease, if there is one
-abbrev pub HasOnly : BookData → Option Lease → Type 0
-HasOnly b None = IsFree b.outstanding
-HasOnly b (Some x) = IsOnlyLease b x
-
--- the lease's piece may be worked, and its work committed
-pub record MayWork (b : BookData) (x : Lease) : Type 0 where
-  pub lease : IsOnlyLease b x
   pub room : b.commits < b.budget
 
--- there is one commit more, and no piece is on lease but that of the lease that is left, if there is one
-pub record GoesOn (b : BookData) (left : Option Lease) (c : BookData) : Type 0 where
+-- there is one commit more, and no piece is on lease
+pub record TakesTurn (b c : BookData) : Type 0 where
   pub commits : c.commits ≡ b.commits + 1
-  pub only : HasOnly c left
+  pub free : IsFree c.outstanding
 
 -- the end of an exploration of the stack with the budget
 pub record IsExplorationOf (stack : List (List Insn)) (budget : ℕ) (s : BookData) : Type 0 where

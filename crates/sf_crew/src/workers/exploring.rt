@@ -1,10 +1,9 @@
 //! Turns of one worker that has the book to itself: pieces are leased, worked and committed until none is left or the
 //! budget is spent.
 
-ghost use Rattle.std.specs.Prelude.{◌≡◌, IfOk, IfErr, OnOk, MatchOption, option_map};
+ghost use Rattle.std.specs.Prelude.{◌≡◌, IfOk, IfErr, OnOk, MatchOption};
 ghost use Rattle.std.specs.Arc.{arc_value};
-ghost use Rattle.sf_piece.specs.Pieces.{children_of};
-ghost use Rattle.sf_crew.specs.Explorations.{IsExhausted, IsFree, HasOnly, MayWork, IsSameExploration, GoesOn, IsExplorationOf, IsExactExploration};
+ghost use Rattle.sf_crew.specs.Explorations.{IsExhausted, IsFree, MayWork, IsSameExploration, TakesTurn, IsExplorationOf, IsExactExploration};
 ghost use Rattle.sf_crew.specs.declared.fault.Fault.TheVariants.{Memory};
 ghost use Rattle.sf_check.specs.Stacks.{IsPlain};
 
@@ -12,14 +11,13 @@ use crate::fault::Fault;
 use crate::gate::Gate;
 use sf_book::{Book, Lease, Settled};
 use sf_check::Stack;
-use sf_piece::{Piece, Work, advance};
+use sf_piece::advance;
 use std::alloc::Global;
 use std::sync::Arc;
 
-/// The lease that the last turn left, or else one of the first piece. `None` where no piece is left, or the budget is
-/// spent.
-fn next_lease(book: &mut Book, left: Option<Lease>) -> Result<Option<Lease>, Fault>
-    requires { HasOnly book.old left }
+/// A lease of the first piece. `None` where no piece is left, or the budget is spent.
+fn next_lease(book: &mut Book) -> Result<Option<Lease>, Fault>
+    requires { IsFree book.old.outstanding }
     ensures same { IsSameExploration book.old book.new }
     ensures commits { book.new.commits ≡ book.old.commits }
     ensures ok { IfOk result (λ l. MatchOption l (IsExhausted book.new)
@@ -29,27 +27,11 @@ fn next_lease(book: &mut Book, left: Option<Lease>) -> Result<Option<Lease>, Fau
     if book.counts().commits == book.budget() {
         return Ok(None);
     }
-    if let Some(lease) = left {
-        return Ok(Some(lease));
-    }
     Ok(book.lease()?)
 }
 
-/// The false child of a work that split its piece; none of another work.
-fn false_child(work: &Work) -> Result<Option<Arc<Piece>>, Fault>
-    ensures ok { IfOk result (λ c. option_map (λ p. arc_value p) c
-        ≡ option_map (λ c. c.0) (children_of work.now.step)) }
-    ensures err { IfErr result (λ f. f ≡ Memory) }
-{
-    match work.children() {
-        Some((on_false, _)) => Ok(Some(Arc::try_clone(on_false)?)),
-        None => Ok(None),
-    }
-}
-
-/// One turn: the piece of the lease is worked and committed. Where it is split, the true child is given back, and the
-/// lease of the false one is answered: its name is the first of all. The book is in hand from lease to commit, so the
-/// work is known to be of it, and their stacks aren't compared.
+/// One turn: the piece of the lease is worked and committed, and the children of a split are given back. The book is in
+/// hand from lease to commit, so the work is known to be of it, and their stacks aren't compared.
 fn turn<G: Gate>(
     alloc: Global,
     book: &mut Book,
@@ -57,23 +39,21 @@ fn turn<G: Gate>(
     worker: usize,
     call: usize,
     lease: Lease,
-) -> Result<Option<Lease>, Fault>
+) -> Result<(), Fault>
     requires { MayWork book.old lease }
     ensures same { IsSameExploration book.old book.new }
-    ensures ok { IfOk result (λ left. GoesOn book.old left book.new) }
+    ensures ok { OnOk result (TakesTurn book.old book.new) }
     ensures err { IfErr result (λ f. f ≡ Memory) }
 {
     let work = advance(alloc, &lease.piece)?;
-    let child = false_child(&work)?;
     gate.pass(worker, call);
     // For the prover: the book is lawful.
     let _counts = book.counts();
-    let Some((f, t)) = book.commit_own(lease.id, work)? else {
-        return Ok(None);
-    };
-    let Some(piece) = child else { unreachable!() };
-    book.give_back(t);
-    Ok(Some(Lease { id: f, piece }))
+    if let Some((f, t)) = book.commit_own(lease.id, work)? {
+        book.give_back(f);
+        book.give_back(t);
+    }
+    Ok(())
 }
 
 /// Works pieces one after another until none is outstanding or the budget is spent. The calls of the worker are
@@ -90,12 +70,11 @@ pub(crate) fn work_off<G: Gate>(
     ensures err { IfErr result (λ f. f ≡ Memory) }
 {
     let budget = book.budget();
-    let mut left = None;
     for call in 0..budget {
-        let Some(lease) = next_lease(book, left)? else {
+        let Some(lease) = next_lease(book)? else {
             return Ok(());
         };
-        left = turn(alloc, book, gate, worker, call as usize + 1, lease)?;
+        turn(alloc, book, gate, worker, call as usize + 1, lease)?;
     }
     // For the prover: the book is lawful at the end too.
     let _end = book.counts();

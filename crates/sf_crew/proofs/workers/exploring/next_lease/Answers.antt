@@ -8,4 +8,4 @@ returns-clause-ok c =
     let commits : c.counts.result.commits ≡ c.args.book.now.commits =
     ap (λ (n : Counts). n.commits) c.counts.ensures.counts in
     let within : c.args.book.now.commits ≤ c.args.book.now.budget = c.counts.ensures.lawful.within in
-    leased_or_end _ _ _ (rw c.in_default.is at c.requires) (omega arith) c.in_ok-lease.ensures.ok
+    leased_or_end _ _ _ c.requires (omega arith) c.in_ok-lease.ensures.ok

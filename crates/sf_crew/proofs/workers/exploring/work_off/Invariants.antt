@@ -1,7 +1,7 @@
 use Rattle.std.proofs.Common.{◌≡◌, ◌≤◌}
-use Rattle.sf_crew.specs.Explorations.{HasOnly, IsSameExploration}
+use Rattle.sf_crew.specs.Explorations.{IsFree, IsSameExploration}
 use Rattle.sf_crew.proofs.workers.exploring.work_off.Given as goal
 
 abbrev pub invariant-loop-call : goal.invariant-loop-call
-invariant-loop-call g l = HasOnly l.book l.left × IsSameExploration l.fn.book l.book × (l.call ≤ l.book.commits)
+invariant-loop-call g l = IsFree l.book.outstanding × IsSameExploration l.fn.book l.book × (l.call ≤ l.book.commits)
     × (l.budget ≡ l.book.budget)
