@@ -4,9 +4,7 @@ use Rattle.std.proofs.Common.{◌≡◌, ℕ, ◌<◌, ◌≤◌, ◌⊎◌, ◌
 use Rattle.std.specs.Prelude.{slice_get, slice_index, bit_and, Contains, All}
 use Rattle.std.proofs.lemmas.Bool.{cases_eq}
 use Rattle.std.specs.List.{list_all}
-use Rattle.std.specs.List.Sorted.{IsPermutation}
 use Rattle.std.proofs.lemmas.List.{take_all, get_or_push, get_or_append_left, get_or_default}
-use Rattle.std.proofs.lemmas.List.Sorted.{Contains-permutation}
 use Rattle.std.proofs.lemmas.List.Folds.{list_all_at}
 use Rattle.std.proofs.lemmas.List.Elements.{All-weaker, All-more, All-push, Contains-append_left, Contains-push, Contains-get_or}
 use Rattle.std.proofs.lemmas.Option.{get_or_from_slice_get, slice_get_within}
@@ -124,13 +122,12 @@ labelled-more held i h labels more lt is keeps here before = All-more (IsLabelle
     (All-weaker (IsLabelled labels) (IsLabelled more) (λ k f d m. keeps k.label (f d m)) (take i held) before)
     (subst (IsLabelled more) is here)
 
--- labels in another order
-pub labelled-sorted : (held : List HeldData) (labels sorted : List ℕ) (n : ℕ) → length held ≤ n
-    → IsPermutation labels sorted → All (IsLabelled labels) (take n held) → All (IsLabelled sorted) held
-labelled-sorted held labels sorted n le moved all =
-    All-weaker (IsLabelled labels) (IsLabelled sorted) (λ k f d m.
-    Contains-permutation labels sorted k.label moved (f d m))
-    held (subst (All (IsLabelled labels)) (take_all n held le) all)
+-- a list of the labels, once all are there
+pub labelled-all : (held : List HeldData) (labels list : List ℕ) (n : ℕ) → length held ≤ n → list ≡ labels
+    → All (IsLabelled labels) (take n held) → All (IsLabelled list) held
+labelled-all held labels list n le same all =
+    subst (λ (l : List ℕ). All (IsLabelled l) held) (sym same)
+    (subst (All (IsLabelled labels)) (take_all n held le) all)
 
 -- what is kept of one region more
 pub kept-more : (held : List HeldData) (i : ℕ) (h : HeldData) (inside more : List HeldData) (axis : Axis)
@@ -208,9 +205,7 @@ at-most-short label labels (inl none) = let e : length labels ≡ 0 = ap length 
 at-most-short label labels (inr one) = let e : length labels ≡ 1 = ap length one in omega arith
 
 -- labels of what is held, where that has one
-pub one-short : (held : List HeldData) (labels sorted : List ℕ) (n : ℕ) → length sorted ≡ length labels
-    → length labels ≤ n → n ≤ length held → ((k : HeldData) → Contains held k → AreAtMost k.label labels)
-    → length sorted ≤ 1
-one-short [] labels sorted n same few le one = omega arith
-one-short (h ∷ hs) labels sorted n same few le one =
-    let short = at-most-short h.label labels (one h (Contains-get_or (h ∷ hs) 0 h (omega arith))) in omega arith
+pub one-short : (held : List HeldData) (labels : List ℕ) → length labels ≤ length held
+    → ((k : HeldData) → Contains held k → AreAtMost k.label labels) → length labels ≤ 1
+one-short [] labels few one = omega arith
+one-short (h ∷ hs) labels few one = at-most-short h.label labels (one h (Contains-get_or (h ∷ hs) 0 h (omega arith)))

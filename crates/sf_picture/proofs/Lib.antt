@@ -10,3 +10,4 @@ pub mod PlainLemmas
 pub mod AttainLemmas
 pub mod LawLemmas
 pub mod ConstantLemmas
+pub mod LabelLemmas

@@ -1,5 +1,5 @@
 -- The order of axes, by which forks come and rows are told.
-use Rattle.std.specs.Prelude.{◌≡◌, ℕ, ◌+◌, ◌*◌, ◌-◌, ◌^◌, List, [], ◌∷◌, slice_index_or}
+use Rattle.std.specs.Prelude.{ℕ, ◌+◌, ◌*◌, ◌-◌, ◌^◌, List, [], ◌∷◌, slice_index_or}
 use Rattle.sf_picture.specs.declared.axis.Axis.{Axis}
 
 -- The place of each word in the order of axes: architecture, call number, then the arguments and the instruction

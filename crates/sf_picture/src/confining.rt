@@ -1,9 +1,8 @@
 //! Facts, confined to spans of axes.
 
-ghost use Rattle.std.specs.Prelude.{◌≡◌, ◌<◌, ◌≤◌, ◌^◌, ◌↔◌, ℕ, true, Ok, IsTrue, IfOk, IfErr, IfSome, IsSomeAnd, MatchBool, MatchOption, List, bit_and};
+ghost use Rattle.std.specs.Prelude.{◌≡◌, ◌<◌, ◌≤◌, ◌↔◌, ℕ, true, Ok, IsTrue, IfOk, IfErr, IfSome, IsSomeAnd, MatchBool, MatchOption, bit_and};
 ghost use Rattle.sf_insn.specs.Words.{IsOneBit};
 ghost use Rattle.sf_dom.specs.Facts.{Covers};
-ghost use Rattle.sf_sym.specs.declared.pool.Node.{Node as ANode};
 ghost use Rattle.sf_picture.specs.Spans.{NoneInSpan, KeepsSpan, KeepsOnlySpan, IsSpanOfBit, IsExactSpan};
 ghost use Rattle.sf_picture.specs.declared.fault.Fault.TheVariants.{Memory};
 

@@ -2,10 +2,9 @@
 
 ghost use Rattle.std.specs.Prelude.{◌≡◌, ◌≢◌, ◌<◌, ◌≤◌, ◌+◌, ◌-◌, ◌^◌, ◌↔◌, ◌⊎◌, ℕ, true, false, length, All, Contains, IsTrue, IfOk, IfErr, IfSome, MatchOption, Some, min, max};
 ghost use Rattle.sf_insn.specs.Words.{passes};
-ghost use Rattle.sf_sym.specs.declared.pool.Node.{Node as ANode};
 ghost use Rattle.sf_sym.specs.declared.pool.Node.TheVariants.{Const};
 ghost use Rattle.sf_sym.specs.Pool.{IsPool, node_at};
-ghost use Rattle.sf_dom.specs.Facts.{Covers, IsWordOrConst, IsPlainTest, IsPlainCondition};
+ghost use Rattle.sf_dom.specs.Facts.{IsWordOrConst, IsPlainTest, IsPlainCondition};
 ghost use Rattle.sf_piece.specs.PlainPieces.{IsPlainPiece};
 ghost use Rattle.sf_picture.specs.declared.cuts.Cut.{Cut as ACut};
 ghost use Rattle.sf_picture.specs.Cuts.{IsCutOfWord, IsPlainCut, SomeLiesBetweenNumbers, LieBetweenResults, IsMovedTo, SaysNumber, NeedNoCut, AreCutsOf, AreEqualAlike};

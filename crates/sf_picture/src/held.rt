@@ -1,6 +1,6 @@
 //! What is held of the regions of an exploration while a picture of it is drawn: facts, confined to spans of axes.
 
-ghost use Rattle.std.specs.Prelude.{◌≡◌, ◌<◌, ℕ, true, List, IfOk, IfErr, IfSome, All, Contains, MatchOption};
+ghost use Rattle.std.specs.Prelude.{◌≡◌, ◌<◌, true, List, IfOk, IfErr, IfSome, All, Contains, MatchOption};
 ghost use Rattle.std.specs.Arc.{arc_value};
 ghost use Rattle.sf_dom.specs.Facts.{Covers};
 ghost use Rattle.sf_piece.specs.PlainPieces.{IsPlainPiece};

@@ -1,7 +1,7 @@
 //! The labels of what is held.
 
 ghost use Rattle.std.specs.Prelude.{◌≡◌, ◌≤◌, ◌+◌, ℕ, true, length, All, Contains, IfOk, IfErr, IsTrue, ◌↔◌};
-ghost use Rattle.std.specs.List.Sorted.{IsNonDecreasing, IsPermutation};
+ghost use Rattle.std.specs.List.Sorted.{IsNonDecreasing};
 ghost use Rattle.sf_insn.specs.declared.input.Input.{Input as AnInput};
 ghost use Rattle.sf_picture.specs.Holding.{IsHeldBy, HeldData, AreOneLabel, AreAtMost};
 ghost use Rattle.sf_picture.specs.declared.fault.Fault.TheVariants.{Memory};
@@ -9,41 +9,39 @@ ghost use Rattle.sf_picture.specs.declared.fault.Fault.TheVariants.{Memory};
 use crate::fault::Fault;
 use crate::held::{Held, is_ruled_out};
 use std::alloc::Global;
+use std::collections::BTreeSet;
 
 /// Whether a label is among others.
-fn has(labels: &Vec<usize>, label: usize) -> bool
-    ensures { IsTrue result ↔ Contains labels.now.items label }
+fn has(labels: &BTreeSet<usize>, label: usize) -> bool
+    ensures { IsTrue result ↔ Contains labels.now.keys label }
 {
     labels.contains(&label)
 }
 
 /// Adds a label, unless it is there. `Memory` where an allocation is refused.
-fn push_label(labels: &mut Vec<usize>, label: usize) -> Result<(), Fault>
-    ensures has { IfOk result (λ _. Contains labels.new.items label) }
-    ensures keeps { IfOk result (λ _. (n : ℕ) → Contains labels.old.items n
-        → Contains labels.new.items n) }
-    ensures once { IfOk result (λ _. AreAtMost label labels.old.items
-        → AreAtMost label labels.new.items) }
-    ensures few { IfOk result (λ _. length labels.new.items ≤ length labels.old.items + 1) }
+fn insert_label(labels: &mut BTreeSet<usize>, label: usize) -> Result<(), Fault>
+    ensures has { IfOk result (λ _. Contains labels.new.keys label) }
+    ensures keeps { IfOk result (λ _. (n : ℕ) → Contains labels.old.keys n
+        → Contains labels.new.keys n) }
+    ensures once { IfOk result (λ _. AreAtMost label labels.old.keys
+        → AreAtMost label labels.new.keys) }
+    ensures few { IfOk result (λ _. length labels.new.keys ≤ length labels.old.keys + 1) }
     ensures err { IfErr result (λ f. f ≡ Memory) }
 {
-    if has(labels, label) {
-        return Ok(());
-    }
-    labels.push(label)?;
+    labels.insert(label)?;
     Ok(())
 }
 
 /// Adds the label of what is held, unless it is there, or conditions that are learnt once more rule it out. `Memory` where
 /// an allocation is refused.
-fn push_label_left(alloc: Global, labels: &mut Vec<usize>, one: &Held) -> Result<(), Fault>
+fn insert_label_left(alloc: Global, labels: &mut BTreeSet<usize>, one: &Held) -> Result<(), Fault>
     ensures has { IfOk result (λ _. (d : AnInput) → IsHeldBy one.now d
-        → Contains labels.new.items one.now.label) }
-    ensures keeps { IfOk result (λ _. (n : ℕ) → Contains labels.old.items n
-        → Contains labels.new.items n) }
-    ensures once { IfOk result (λ _. AreAtMost one.now.label labels.old.items
-        → AreAtMost one.now.label labels.new.items) }
-    ensures few { IfOk result (λ _. length labels.new.items ≤ length labels.old.items + 1) }
+        → Contains labels.new.keys one.now.label) }
+    ensures keeps { IfOk result (λ _. (n : ℕ) → Contains labels.old.keys n
+        → Contains labels.new.keys n) }
+    ensures once { IfOk result (λ _. AreAtMost one.now.label labels.old.keys
+        → AreAtMost one.now.label labels.new.keys) }
+    ensures few { IfOk result (λ _. length labels.new.keys ≤ length labels.old.keys + 1) }
     ensures err { IfErr result (λ f. f ≡ Memory) }
 {
     if has(labels, one.label()) {
@@ -52,7 +50,7 @@ fn push_label_left(alloc: Global, labels: &mut Vec<usize>, one: &Held) -> Result
     if is_ruled_out(alloc, one)? {
         return Ok(());
     }
-    push_label(labels, one.label())?;
+    insert_label(labels, one.label())?;
     Ok(())
 }
 
@@ -73,12 +71,13 @@ pub(crate) fn is_one_label(held: &[Held]) -> bool
     have_label(held, first.label())
 }
 
-/// Puts labels in rising order, in place.
-fn put_in_order(labels: &mut Vec<usize>)
-    ensures permutation { IsPermutation labels.old.items labels.new.items }
-    ensures rising { IsNonDecreasing labels.new.items }
+/// Labels as a list in rising order. `Memory` where an allocation is refused.
+fn list_of(alloc: Global, labels: BTreeSet<usize>) -> Result<Vec<usize>, Fault>
+    ensures same { IfOk result (λ v. v.items ≡ labels.keys) }
+    ensures rising { IfOk result (λ v. IsNonDecreasing v.items) }
+    ensures err { IfErr result (λ f. f ≡ Memory) }
 {
-    labels.sort_unstable();
+    Ok(labels.into_iter().collect(alloc)?)
 }
 
 /// The labels of all that is held, each once, in rising order. `Memory` where an allocation is refused.
@@ -90,12 +89,11 @@ pub(crate) fn labels_of(alloc: Global, held: &[Held]) -> Result<Vec<usize>, Faul
     ensures rising { IfOk result (λ v. IsNonDecreasing v.items) }
     ensures err { IfErr result (λ f. f ≡ Memory) }
 {
-    let mut labels = Vec::new(alloc);
+    let mut labels = BTreeSet::new(alloc);
     for one in held {
-        push_label(&mut labels, one.label())?;
+        insert_label(&mut labels, one.label())?;
     }
-    put_in_order(&mut labels);
-    Ok(labels)
+    list_of(alloc, labels)
 }
 
 /// The labels of all that is held and isn't ruled out by conditions that are learnt once more, each once, in rising order.
@@ -108,10 +106,9 @@ pub(crate) fn labels_left(alloc: Global, held: &[Held]) -> Result<Vec<usize>, Fa
     ensures rising { IfOk result (λ v. IsNonDecreasing v.items) }
     ensures err { IfErr result (λ f. f ≡ Memory) }
 {
-    let mut labels = Vec::new(alloc);
+    let mut labels = BTreeSet::new(alloc);
     for one in held {
-        push_label_left(alloc, &mut labels, one)?;
+        insert_label_left(alloc, &mut labels, one)?;
     }
-    put_in_order(&mut labels);
-    Ok(labels)
+    list_of(alloc, labels)
 }

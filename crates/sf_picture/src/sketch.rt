@@ -1,6 +1,6 @@
 //! Pictures while they are drawn: leaves and forks, each once.
 
-ghost use Rattle.std.specs.Prelude.{◌≡◌, ◌≢◌, ◌<◌, ◌≤◌, ◌+◌, ℕ, min, true, IfOk, IfErr, OnErr, All, length, IsTrue, ◌↔◌, IfNone, IfSome, slice_index_or, []};
+ghost use Rattle.std.specs.Prelude.{◌≡◌, ◌≢◌, ◌<◌, ◌≤◌, ◌+◌, min, true, IfOk, IfErr, All, length, IsTrue, ◌↔◌, IfNone, IfSome, slice_index_or, []};
 ghost use Rattle.sf_picture.specs.declared.fault.Fault.TheVariants.{Memory};
 
 use crate::axis::Axis;
@@ -77,7 +77,6 @@ fn are_same_runs(a: &[Run], b: &[Run]) -> bool
 impl Sketch {
     ghost use Rattle.std.specs.List.Sorted.{IsNonDecreasing};
     ghost use Rattle.sf_picture.specs.Pictures.{AreRightForks, IsRightFork, IsBelow, fork_at};
-    ghost use Rattle.sf_picture.specs.PictureData.{ForkData};
     ghost use Rattle.sf_picture.specs.Drawing.{Grows, AddsLeaf, IsLeafOf, IsForkOf, IsRightSketch};
 
     /// Nothing is drawn yet. After this many leaves no fork is to be begun.

@@ -1,36 +1,34 @@
-use Rattle.std.proofs.Common.{ℕ, subst, arith}
+use Rattle.std.proofs.Common.{ℕ, ap, subst, length, arith}
 use Rattle.std.specs.Prelude.{Contains}
 use Rattle.sf_picture.specs.Holding.{AreAtMost}
-use Rattle.std.proofs.lemmas.List.Sorted.{length_permutation}
-use Rattle.sf_picture.proofs.HoldingLemmas.{labelled-more, labelled-sorted, one-each, one-short}
+use Rattle.std.proofs.lemmas.Result.{IfOk-weaker}
+use Rattle.sf_picture.proofs.HoldingLemmas.{labelled-more, labelled-all, one-each, one-short}
 use Rattle.sf_picture.proofs.labels.labels_of.Goals as goal
 
 pub loop-one-preserved : goal.loop-one-preserved
 loop-one-preserved c =
     let i = c.loop-one.invariant in
     record {
-      labels = labelled-more c.args.held.now c.loop-one.one-index c.one-item.result c.loop-one.labels.items
-          c.push_label.new.labels.items (omega arith) c.one-item.is c.in_ok-push_label.ensures.keeps
-          (λ d m. subst (λ (l : ℕ). Contains c.push_label.new.labels.items l) c.label.ensures
-          c.in_ok-push_label.ensures.has) i.labels;
-      one = λ one. one-each c.args.held.now c.loop-one.one-index c.one-item.result c.loop-one.labels.items
-          c.push_label.new.labels.items one (omega arith) c.one-item.is
-          (subst (λ (l : ℕ). AreAtMost l c.loop-one.labels.items → AreAtMost l c.push_label.new.labels.items)
-          c.label.ensures c.in_ok-push_label.ensures.once) (i.one one);
-      few = omega (arith, c.in_ok-push_label.ensures.few, i.few);
+      labels = labelled-more c.args.held.now c.loop-one.one-index c.one-item.result c.loop-one.labels.keys
+          c.insert_label.new.labels.keys (omega arith) c.one-item.is c.in_ok-insert_label.ensures.keeps
+          (λ d m. subst (λ (l : ℕ). Contains c.insert_label.new.labels.keys l) c.label.ensures
+          c.in_ok-insert_label.ensures.has) i.labels;
+      one = λ one. one-each c.args.held.now c.loop-one.one-index c.one-item.result c.loop-one.labels.keys
+          c.insert_label.new.labels.keys one (omega arith) c.one-item.is
+          (subst (λ (l : ℕ). AreAtMost l c.loop-one.labels.keys → AreAtMost l c.insert_label.new.labels.keys)
+          c.label.ensures c.in_ok-insert_label.ensures.once) (i.one one);
+      few = omega (arith, c.in_ok-insert_label.ensures.few, i.few);
     }
 
 pub returns-clause-labels : goal.returns-clause-labels
-returns-clause-labels c = search (arith, labelled-sorted)
+returns-clause-labels c = IfOk-weaker c.list_of.result _ _
+    (λ v same. labelled-all c.args.held.now c.loop-one.labels.keys v.items c.loop-one.one-index (omega arith) same
+    c.loop-one.invariant.labels)
+    c.list_of.ensures.same
 
 pub returns-clause-one : goal.returns-clause-one
-returns-clause-one c = λ one.
-    one-short c.args.held.now c.loop-one.labels.items c.put_in_order.new.labels.items c.loop-one.one-index
-    (length_permutation c.loop-one.labels.items c.put_in_order.new.labels.items c.put_in_order.ensures.permutation)
-    c.loop-one.invariant.few (omega arith) (c.loop-one.invariant.one one)
-
-pub returns-clause-few : goal.returns-clause-few
-returns-clause-few c =
-    let count = length_permutation c.loop-one.labels.items c.put_in_order.new.labels.items
-    c.put_in_order.ensures.permutation in
-    omega (arith, count, c.loop-one.invariant.few)
+returns-clause-one c =
+    IfOk-weaker c.list_of.result _ _
+    (λ v same one. one-short c.args.held.now v.items (omega (arith, ap length same, c.loop-one.invariant.few))
+    (λ k there. rw same (c.loop-one.invariant.one one k there)))
+    c.list_of.ensures.same

@@ -6,7 +6,7 @@ use Rattle.sf_picture.proofs.labels.labels_of.Given as goal
 
 abbrev pub invariant-loop-one : goal.invariant-loop-one
 invariant-loop-one l = record {
-  labels : All (IsLabelled l.labels.items) (take l.one-index l.held);
-  one : AreOneLabel l.held → (k : HeldData) → Contains l.held k → AreAtMost k.label l.labels.items;
-  few : length l.labels.items ≤ l.one-index;
+  labels : All (IsLabelled l.labels.keys) (take l.one-index l.held);
+  one : AreOneLabel l.held → (k : HeldData) → Contains l.held k → AreAtMost k.label l.labels.keys;
+  few : length l.labels.keys ≤ l.one-index;
 }
