@@ -44,16 +44,16 @@ class Changes:
         return any(it.effect != "same" for it in self.picture.bands(self.numbers[arch], first, last))
 
 
-def both_maps(lists, sets, changes):
-    """The maps of both stacks, with what is changed marked, and their rows."""
+def both_maps(lists, sets, changes, identity):
+    """The maps of both stacks, with what is changed marked, and their rows, in tables whose identities begin so."""
     parts, shown = [], []
     for name, document in zip(("OLD", "NEW"), lists):
         picture = Picture(rows_of(document.value, sets), sets)
         found = picture.maps()
         shown += found
-        identity = f"rows-{name.lower()}"
-        rows = element("details", element("summary", f"All rows of {name}") + rows_table(picture, identity))
-        parts.append(element("section", element("h3", name) + maps(found, identity, changes.between) + rows))
+        own = f"{identity}-{name.lower()}"
+        rows = element("details", element("summary", f"All rows of {name}") + rows_table(picture, own))
+        parts.append(element("section", element("h3", name) + maps(found, own, changes.between) + rows))
     note = paragraph("What the change is about has a thick frame.", "soft")
     return element("h3", "Where") + key(kinds_in(shown)) + note + element("div", "".join(parts), class_="maps two")
 
@@ -77,7 +77,7 @@ def rows_part(document, sets, lists, identity):
     plain = Picture(rows_of(document.value, sets), sets, is_of_change=True)
     picture = Picture(looser_first(plain.rows, plain.effects), sets, is_of_change=True)
     heading = element("h3", f"The rows that are {escaped(document.value['shown'])}")
-    where = both_maps(lists, sets, Changes(picture)) if lists else change_maps(picture.maps(), identity)
+    where = both_maps(lists, sets, Changes(picture), identity) if lists else change_maps(picture.maps(), identity)
     return heading + key(CHANGES) + rows_table(picture, identity) + where
 
 
