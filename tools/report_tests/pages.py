@@ -14,8 +14,7 @@ NAMES = ROOT / "policies/names.toml"
 DATA = ROOT / "crates/examples_run/data"
 STACKS = sorted(path.name for path in DATA.iterdir())
 
-# The calls of x86-64 that these stacks let through, under conditions or not, in numbers that were counted by hand in
-# what their authors wrote, or with `eval`: see the known answers of the examples.
+# What a stranger may call something.
 HOSTILE = ["<script>alert(1)</script>", '"><img src=x onerror=alert(1)>', "a\u202eb", "</title></style>", "&lt;", "\u0001"]
 
 # How a page begins that isn't the whole truth.
@@ -62,7 +61,7 @@ def agreements(program, count):
 
 
 def facts(program):
-    """What is known of real stacks, found by hand in their sources."""
+    """What the guide and the page about policies tell of real stacks, and what their profiles are known to do."""
     effects = {}
     for stack in ("docker-default-x86_64", "flatpak-run", "sshd-preauth", "snap-default"):
         effects[stack] = Page(page_of(listed(program, filters_of(stack))))

@@ -2,16 +2,12 @@
 from .effects import CHANGES, EFFECTS, told_in_words
 from .markup import badge, breakable, element, escaped, listed, table
 from .picture import Band
+from .rows import number_in_words
 
 MARKS = {**EFFECTS, **CHANGES}
 
 # The most names of a row that are shown at once.
 MOST_NAMES = 8
-
-
-def number_in_words(number):
-    """A number as a row's line has it."""
-    return str(number) if number < 1 << 16 else f"0x{number:X}"
 
 
 def range_in_words(first, last):

@@ -96,6 +96,11 @@ def row_of(fields):
     return Row(words, architectures_of(fields["arch"]), nr, on_call, conditions, fields["answers"], fields["calls"])
 
 
+def number_in_words(number):
+    """A number of a call as a row's line has it."""
+    return str(number) if number < 1 << 16 else f"0x{number:X}"
+
+
 def row_of_call(fields, sets):
     """A row of a named call. Refused where no set has the call."""
     found = next((it for it in sets if it.name == fields["set"]), None)
@@ -104,7 +109,7 @@ def row_of_call(fields, sets):
         raise Refused(f"no set has {whose}: give the file of names that the document was made with")
     number = found.calls[fields["call"]]
     conditions = [in_words(text) for text in fields["conditions"]]
-    words = f"0x{found.arch:08X}", str(number) if number < 1 << 16 else f"0x{number:X}"
+    words = f"0x{found.arch:08X}", number_in_words(number)
     arch, nr = [(found.arch, found.arch)], [(number, number)]
     return Row(words, arch, nr, [], conditions, fields["answers"], [fields["call"]])
 
