@@ -13,10 +13,10 @@ use Rattle.sf_sym.specs.ValueLaws.{value-node}
 use Rattle.sf_insn.specs.declared.input.Input.{Input}
 use Rattle.sf_dom.specs.declared.known.Known.{Known}
 use Rattle.sf_dom.specs.Known.{Admits, Leaves, IsNarrower, IsDecided, IsConsistent, IsTight, known_of}
-use Rattle.sf_dom.specs.Propagation.{IsReady, IsPropagatedAt, IsReducedNode, IsLeft, AreTightWords, KeepsTight, AreOthersTight, AddsNumber, AreExcluded, AreBothExcluded, IsAssumed, IsRestricted, IsPropagated, IsSharp, IsMovedPast, Tells, TestGives, AllNarrower, KeepsAgreeing, NoneAgreesWith, KeepsAgreeingOn, NoneAgreesOn, LeavesPair, HasGoneBack, Holds}
+use Rattle.sf_dom.specs.Propagation.{IsReady, IsPropagatedAt, IsReducedNode, IsLeft, AreClosedWords, KeepsClosed, AreOthersClosed, AreExcludedAt, AddsNumber, AreExcluded, AreBothExcluded, IsAssumed, IsRestricted, IsPropagated, IsSharp, IsMovedPast, Tells, TestGives, AllNarrower, KeepsAgreeing, NoneAgreesWith, KeepsAgreeingOn, NoneAgreesOn, LeavesPair, HasGoneBack, Holds}
 use Rattle.sf_dom.specs.Conditions.{AreLeftAlone, AreSet, IsTold}
 use Rattle.sf_dom.specs.Backward.{IsPropagatedBack}
-use Rattle.sf_dom.proofs.Propagations.{AllNarrower-trans, AllNarrower-set, AllNarrower-refl, IsReady-set, propagate-set, word-below, operands-below}
+use Rattle.sf_dom.proofs.Propagations.{own-excluded, AllNarrower-trans, AllNarrower-set, AllNarrower-refl, IsReady-set, propagate-set, word-below, operands-below}
 use Rattle.sf_dom.proofs.GuardLemmas.{gives-differs}
 use Rattle.sf_dom.proofs.Reductions.{IsNarrower-trans, IsNarrower-refl}
 use Rattle.sf_dom.specs.FactsLaws.{narrower-admits, value-word}
@@ -25,6 +25,8 @@ use Rattle.sf_insn.specs.declared.ops.Test.{Test}
 use Rattle.sf_insn.specs.declared.ops.Test.TheVariants.{Equal, Greater, GreaterOrEqual, AnyBit}
 use Rattle.sf_dom.specs.Facts.{known_at, numbers_at, excluded_of, AgreesWith, KnowDecided}
 use Rattle.sf_dom.specs.Reduction.{IsMeet}
+use Rattle.sf_dom.specs.Rules.{IsClosed, IsClosedAt, IsReduction, HasNoReduction}
+use Rattle.sf_dom.specs.Passes.{IsStill, IsAtRest}
 
 -- a node's knowledge is met with more that holds of its value
 pub met-left : (ks : List Known) (ex : List (List ℕ)) (ns : List Node) (d : Input) (i : ℕ) (more both : Known)
@@ -38,18 +40,23 @@ narrower-at ks i more next l h = rw (get_or-set_same ks i next (known_of 0 0 0 0
 
 -- what is left of a node whose facts are met with more
 pub left-of : (o : Option Known) (ks : List Known) (ex : List (List ℕ)) (ns : List Node) (i : ℕ) (more met : Known)
-    → i < length ks → IsMeet (known_at ks i) more met
-    → MatchOption o ((n : ℕ) → ¬ Leaves met (excluded_of ex (node_at ns i)) n)
-    (λ r. IsReducedNode met r ex (node_at ns i))
+    → IsPool ns → i < length ks → IsMeet (known_at ks i) more met
+    → MatchOption o ((xs : List ℕ) → AreExcludedAt ex i xs → (n : ℕ) → ¬ Leaves met xs n)
+    (λ r. (xs : List ℕ) → AreExcludedAt ex i xs → IsReducedNode met r xs)
+    → MatchOption o (HasNoReduction ex i met) (IsReduction ex i met)
     → MatchOption o (NoneAgreesOn ks ex ns (λ d. Admits more (value_of ns d i))) (λ next. IsLeft ks ex ns i more next)
-left-of None ks ex ns i more met l m h = λ d p a t. h (value_of ns d i) (met-left ks ex ns d i more met l a t m)
-left-of (Some r) ks ex ns i more met l m h = record {
-  kept = λ d p a t. h.same (value_of ns d i) (met-left ks ex ns d i more met l a t m);
-  narrower = IsNarrower-trans (known_at ks i) met r m.left h.narrower;
-  told = IsNarrower-trans more met r m.right h.narrower;
-  consistent = h.consistent;
-  tight = h.tight;
-}
+left-of None ks ex ns i more met p l m h rule =
+    λ d v a t. h (excluded_of ex (node_at ns i)) (own-excluded ex ns i p) (value_of ns d i)
+    (met-left ks ex ns d i more met l a t m)
+left-of (Some r) ks ex ns i more met p l m all rule =
+    let h = all _ (own-excluded ex ns i p) in
+    record {
+      kept = λ d v a t. h.same (value_of ns d i) (met-left ks ex ns d i more met l a t m);
+      narrower = IsNarrower-trans (known_at ks i) met r m.left h.narrower;
+      told = IsNarrower-trans more met r m.right h.narrower;
+      consistent = h.consistent;
+      closed = rule.is;
+    }
 
 -- the values of a condition's nodes are left by its test
 pub values-left : (ks : List Known) (ex : List (List ℕ)) (ns : List Node) (cond : Cond) (v' w' : Known)
@@ -151,6 +158,10 @@ both-excluded ks ex mid ex' ns cond p len lv lw h k et es = record {
     ]
   ];
   added_other = λ i e dec et2 es2. k.added i e dec;
+  only = λ w m l c. elim (k.only w m l c) [
+    | inr new ↦ inr (et, es, inr new)
+    | inl old ↦ elim (h.only w m l old) [ inr new ↦ inr (et, es, inl new) | inl older ↦ inl older ]
+  ];
   added = search (arith, word-below, operands-below);
 }
 
@@ -170,7 +181,7 @@ tells-narrower AnyBit true v w a b c e h k t = (t.0, λ d one i. omega (arith, h
 tells-narrower AnyBit false v w a b c e h k t = λ d i. omega (arith, h.zeros i, t d i)
 
 -- the value of the second node of a condition is as it is told
-value-told : (ns : List Node) (cond : Cond) (w' node told : Known) (d : Input) → IsTold cond w' node told
+pub value-told : (ns : List Node) (cond : Cond) (w' node told : Known) (d : Input) → IsTold cond w' node told
     → Admits w' (value_of ns d cond.other.0) → Admits node (value_of ns d cond.node.0)
     → Admits told (value_of ns d cond.other.0)
 value-told ns cond w' node told d t h k = t.admits (value_of ns d cond.other.0) h (λ e. rw (← e) k)
@@ -214,10 +225,10 @@ left-alone ks ex ns cond v' w' told node other lv lw pair tells sharp decided mo
   decided = λ s d1 d2 x h. decided s d1 d2 x (narrower-admits v' node x one.told h);
 }
 
--- what is known of the two nodes of a condition leaves the other words as tight as they are
+-- what is written of the two nodes of a condition changes no other word
 others-set : (ks : List Known) (ex : List (List ℕ)) (ns : List Node) (cond : Cond) (i : ℕ) (next : Known) → IsPool ns
     → i < length ns → ((w : ℕ) → w < 16 → node_at ns cond.node.0 ≢ Word w → node_at ns cond.other.0 ≢ Word w → w ≢ i)
-    → AreOthersTight ks ex ns cond → AreOthersTight (set ks i next) ex ns cond
+    → AreOthersClosed ks ex ns cond → AreOthersClosed (set ks i next) ex ns cond
 others-set ks ex ns cond i next p l apart h w b one two =
     rw (get_or-set_other ks i w next (known_of 0 0 0 0) (apart w b one two)) (h w b one two)
 
@@ -225,9 +236,9 @@ others-set ks ex ns cond i next p l apart h w b one two =
 pub set-both : (ks : List Known) (ex : List (List ℕ)) (ns : List Node) (cond : Cond) (node other : Known)
     → IsPool ns → IsReady ks ns → cond.node.0 < length ns → cond.other.0 < length ns
     → AreLeftAlone ks ex ns cond node other
-    → AreOthersTight ks ex ns cond
+    → AreOthersClosed ks ex ns cond
     → AreSet ks (set (set ks cond.node.0 node) cond.other.0 other) ex ns cond node other
-set-both ks ex ns cond node other p ready lv lw left tight =
+set-both ks ex ns cond node other p ready lv lw left closed =
     let count = ready.count in
     let v = cond.node.0 in
     let w = cond.other.0 in
@@ -247,8 +258,8 @@ set-both ks ex ns cond node other p ready lv lw left tight =
       narrower = AllNarrower-trans ks first (set first w other) (sym (length-set ks v node)) step step-2;
       node = rw (get_or-set_same ks v node none iv) at (step-2 v (omega (arith, iv, length-set ks v node)));
       other = rw (get_or-set_same first w other none iw) (IsNarrower-refl other);
-      tight = others-set first ex ns cond w other p lw (λ x b one two e. two (rw e (p.word w (rw e at b))))
-          (others-set ks ex ns cond v node p lv (λ x b one two e. one (rw e (p.word v (rw e at b)))) tight);
+      closed = others-set first ex ns cond w other p lw (λ x b one two e. two (rw e (p.word w (rw e at b))))
+          (others-set ks ex ns cond v node p lv (λ x b one two e. one (rw e (p.word v (rw e at b)))) closed);
     }
 
 -- a node is a word, or it isn't
@@ -261,18 +272,34 @@ is-word (Word i) w = elim (cases_eq i w) [
   | inr ne ↦ inr (λ e. let both : Word i ≡ Word w = e in let same : i ≡ w = cc in ne same)
 ]
 
--- all words are tight, once the two nodes of a condition are
-pub tight-all : (o a b : List Known) (ex : List (List ℕ)) (ns : List Node) (cond : Cond) → AreOthersTight o ex ns cond
-    → KeepsTight o a ex → KeepsTight a b ex
-    → ((i : ℕ) → node_at ns cond.node.0 ≡ Word i → IsTight (known_at a i) (numbers_at ex i))
-    → ((i : ℕ) → node_at ns cond.other.0 ≡ Word i → IsTight (known_at b i) (numbers_at ex i)) → AreTightWords b ex
-tight-all o a b ex ns cond h k m one two w l = elim (is-word (node_at ns cond.other.0) w) [
+-- nothing more follows for any word, once nothing does for the two nodes of a condition
+pub closed-all : (o a b : List Known) (ex : List (List ℕ)) (ns : List Node) (cond : Cond) → AreOthersClosed o ex ns cond
+    → KeepsClosed o a ex → KeepsClosed a b ex
+    → ((i : ℕ) → node_at ns cond.node.0 ≡ Word i → IsClosedAt ex i (known_at a i))
+    → ((i : ℕ) → node_at ns cond.other.0 ≡ Word i → IsClosedAt ex i (known_at b i)) → AreClosedWords b ex
+closed-all o a b ex ns cond h k m one two w l = elim (is-word (node_at ns cond.other.0) w) [
   | inl e ↦ two w e
   | inr other ↦ m w l (elim (is-word (node_at ns cond.node.0) w) [
     | inl e ↦ one w e
     | inr node ↦ k w l (h w l node other)
   ])
 ]
+
+-- nor does anything where those of them that are words are tight
+pub words-closed : (ks : List Known) (ex : List (List ℕ)) (ns : List Node) (cond : Cond) → IsPool ns
+    → cond.node.0 < length ns → cond.other.0 < length ns → AreOthersClosed ks ex ns cond
+    → ((i : ℕ) → i < length ns → IsClosed (known_at ks i))
+    → ((i : ℕ) → node_at ns cond.node.0 ≡ Word i → IsTight (known_at ks i) (numbers_at ex i))
+    → ((i : ℕ) → node_at ns cond.other.0 ≡ Word i → IsTight (known_at ks i) (numbers_at ex i)) → AreClosedWords ks ex
+words-closed ks ex ns cond p lv lw others known node other =
+    let words = p.words in
+    let closed : (i : ℕ) → i < 16 → IsTight (known_at ks i) (numbers_at ex i) → IsClosedAt ex i (known_at ks i)
+    = λ i b tight. record { known = known i (omega arith); tight = λ l. tight } in
+    closed-all ks ks ks ex ns cond others (λ w l h. h) (λ w l h. h)
+    (λ i e. closed i (word-below cond.node.0 (node_at ns cond.node.0)
+    (operands-below ns cond.node.0 p lv) i e) (node i e))
+    (λ i e. closed i (word-below cond.other.0 (node_at ns cond.other.0) (operands-below ns cond.other.0 p lw) i e)
+    (other i e))
 
 -- how a condition is taken in: what is known at first, once its two nodes are written, and after bits have gone back
 -- from each
@@ -349,17 +376,39 @@ assumed-all true o b c e n ex ns cond v' w' s tells b1 b2 sharp decided propagat
 assumed-all false o b c e n ex ns cond v' w' s tells b1 b2 sharp decided none =
     λ d p agrees h. none d p (steps-keep o b c e ex ns cond v' w' s d p agrees h)
 
--- what holds of each node where facts are ready and as tight as they get
+-- nodes are at rest where nothing follows for any, and no more for the words
+pub at-rest : (o : List Known) (ex : List (List ℕ)) (ns : List Node) → AreClosedWords o ex
+    → ((i : ℕ) → i < length ns → IsClosed (known_at o i)) → ((i : ℕ) → i < length ns → IsStill o ns i)
+    → (i : ℕ) → i < length ns → IsAtRest o ex ns i
+at-rest o ex ns closed known still i l = record {
+  closed = record { known = known i l; tight = λ b. (closed i b).tight b };
+  still = still i l;
+}
+
+-- what holds of each node where nothing more follows for any
 pub already-passed : (o : List Known) (ex : List (List ℕ)) (ns : List Node) → IsReady o ns → KnowDecided o ns
-    → AreTightWords o ex → (i : ℕ) → i < length ns → IsPropagatedAt o ex ns i
-already-passed o ex ns ready decided tight i l = search arith
+    → AreClosedWords o ex → ((i : ℕ) → i < length ns → IsClosed (known_at o i))
+    → ((i : ℕ) → i < length ns → IsStill o ns i) → (i : ℕ) → i < length ns → IsPropagatedAt o ex ns i
+already-passed o ex ns ready decided closed known still i l =
+    let count = ready.count in
+    let here : i < length o = omega arith in
+    record {
+      consistent = ready.consistent i here;
+      tight = λ b. (closed i b).tight b;
+      decided = decided i here;
+      constant = λ c e. ready.constants i c here e;
+      rest = at-rest o ex ns closed known still i l;
+    }
 
 -- a condition that changes nothing is taken in
 pub assumed-nothing : (o : List Known) (ex : List (List ℕ)) (ns : List Node) (cond : Cond) → IsReady o ns
     → KnowDecided o ns → AreLeftAlone o ex ns cond (known_at o cond.node.0) (known_at o cond.other.0)
     → ((m : ℕ) → IsPropagatedBack m o ns cond.node.0) → ((m : ℕ) → IsPropagatedBack m o ns cond.other.0)
-    → AreTightWords o ex → IsAssumed o o ex ns cond
-assumed-nothing o ex ns cond ready decided left b1 b2 tight = search (arith, walked, already-passed)
+    → AreClosedWords o ex → ((i : ℕ) → i < length ns → IsClosed (known_at o i))
+    → ((i : ℕ) → i < length ns → IsStill o ns i) → IsAssumed o o ex ns cond
+assumed-nothing o ex ns cond ready decided left b1 b2 closed known still =
+    let passed = already-passed o ex ns ready decided closed known still in
+    search (arith, walked)
 
 -- what is left of a word is known of it
 pub left-set : (o : List Known) (ex : List (List ℕ)) (ns : List Node) (w : ℕ) (more next : Known) → w < length o

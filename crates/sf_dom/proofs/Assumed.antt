@@ -1,51 +1,48 @@
 -- What a condition that is taken in leaves, and what else is known of a word.
-use Rattle.std.proofs.Common.{◌≡◌, ℕ, ◌<◌, ◌^◌, length, List, Bool, true, false, Result, Ok, Err, arith}
-use Rattle.std.specs.Prelude.{slice_index, IfOk, MatchBool}
-use Rattle.sf_sym.specs.Pool.{IsPool, IsCondBelow}
+use Rattle.std.proofs.Common.{ℕ, ◌<◌, ◌^◌, length, List, Bool, true, false, Result, Ok, Err, arith}
+use Rattle.std.specs.Prelude.{slice_index, Contains, IfOk, MatchBool}
+use Rattle.sf_sym.specs.Pool.{IsCondBelow}
 use Rattle.sf_sym.specs.ValueLaws.{met-passes, passes-met}
 use Rattle.sf_sym.specs.declared.pool.Cond.{Cond}
 use Rattle.sf_sym.specs.declared.pool.Node.{Node}
 use Rattle.sf_dom.specs.declared.known.Known.{Known}
 use Rattle.sf_dom.specs.Known.{Admits}
-use Rattle.sf_dom.specs.Facts.{FactsView, Agrees, Covers, KeepsOnly, NoInput, HasIn, ConfinesWord, IsPlainCondition}
+use Rattle.sf_dom.specs.Facts.{known_at, numbers_at, FactsView, Agrees, Covers, KeepsOnly, NoInput, HasIn, ConfinesWord, IsPlainCondition}
 use Rattle.sf_dom.specs.FactsLaws.{narrower-admits, some-such}
-use Rattle.sf_dom.specs.Conditions.{AreLeftAlone}
-use Rattle.sf_dom.specs.Propagation.{AreTightWords, AreOthersTight, AreBothExcluded, IsLearnt, IsRestricted, Meets, Learns}
-use Rattle.sf_dom.proofs.Sampled.{propagate-facts, agrees-back, agrees-with-fewer, admits-word, decides-test, plain-gives}
+use Rattle.sf_dom.specs.Propagation.{AreClosedWords, AreOthersClosed, AreBothExcluded, IsLearnt, IsRestricted, Meets, Learns}
+use Rattle.sf_dom.proofs.Sampled.{fixed-after, propagate-facts, agrees-back, agrees-with-fewer, admits-word, decides-test, plain-gives}
 
--- the words that are no nodes of a condition are as tight as they were, since it excludes no number for them
-pub others-tight : (ks : List Known) (ex ex' : List (List ℕ)) (ns : List Node) (cond : Cond) → AreTightWords ks ex
-    → AreBothExcluded ks ex ex' ns cond → AreOthersTight ks ex' ns cond
-others-tight ks ex ex' ns cond tight both w l one two = search arith
-
--- what a condition leaves of its nodes it leaves where more numbers are excluded
-pub alone-with-more : (ks : List Known) (ex ex' : List (List ℕ)) (ns : List Node) (cond : Cond) (node other : Known)
-    → IsPool ns → length ks ≡ length ns → AreBothExcluded ks ex ex' ns cond → AreLeftAlone ks ex ns cond node other
-    → AreLeftAlone ks ex' ns cond node other
-alone-with-more ks ex ex' ns cond node other p len both h = record {
-  admits = λ d i a holds. h.admits d i (agrees-with-fewer ks ex ex' ns d p len both.more a) holds;
-  narrower = h.narrower;
-  consistent = h.consistent;
-  other_narrower = h.other_narrower;
-  other_consistent = h.other_consistent;
-  tells = h.tells;
-  sharp = h.sharp;
-  decided = h.decided;
-}
+-- nothing more follows for the words that are no nodes of a condition, since it excludes no number for them
+pub others-closed : (ks : List Known) (ex ex' : List (List ℕ)) (ns : List Node) (cond : Cond) → AreClosedWords ks ex
+    → AreBothExcluded ks ex ex' ns cond → AreOthersClosed ks ex' ns cond
+others-closed ks ex ex' ns cond closed both w l one two =
+    let k = closed w l in
+    let t = k.tight l in
+    let kept : (m : ℕ) → ¬ Contains (numbers_at ex w) m → ¬ Contains (numbers_at ex' w) m
+    = λ m h z. h (both.others w m l one two z) in
+    record {
+      known = k.known;
+      tight = λ b. record {
+        low = record { admitted = t.low.admitted; kept = kept (known_at ks w).low t.low.kept };
+        high = record { admitted = t.high.admitted; kept = kept (known_at ks w).high t.high.kept };
+      };
+    }
 
 -- a condition that is taken in is learnt
-pub assumed-learns : (old new : List Known) (ex ex' : List (List ℕ)) (ns : List Node) (cond : Cond)
-    → Covers (record { known = old; excluded = ex }) ns → IsCondBelow (length ns) cond
+pub assumed-learns : (places : List ℕ) (old new : List Known) (ex ex' : List (List ℕ)) (ns : List Node) (cond : Cond)
+    → Covers (record { known = old; variables = places; excluded = ex }) ns → IsCondBelow (length ns) cond
     → IsLearnt old ex new ex' ns cond
-    → Learns (record { known = old; excluded = ex }) (record { known = new; excluded = ex' }) ns cond
+    → Learns (record { known = old; variables = places; excluded = ex })
+    (record { known = new; variables = places; excluded = ex' }) ns cond
 unfolding Agrees
-assumed-learns old new ex ex' ns cond h below t =
+assumed-learns places old new ex ex' ns cond h below t =
     let count = h.count in
     let after = t.consistent.count in
     let consistent = h.lawful.consistent cond.node.0 (omega (arith, below.0)) in
-    let before : FactsView = record { known = old; excluded = ex } in
-    let facts : FactsView = record { known = new; excluded = ex' } in
-    let covers = propagate-facts new ex' ns h.pool after t.words t.consistent.passed in
+    let before : FactsView = record { known = old; variables = places; excluded = ex } in
+    let facts : FactsView = record { known = new; variables = places; excluded = ex' } in
+    let covers = propagate-facts places new ex' ns h.pool after t.words t.consistent.passed
+    (fixed-after places old new ex ex' ns h t.consistent.narrower t.consistent.passed) in
     let only : IsPlainCondition ns cond → KeepsOnly before facts ns (Meets ns cond) = λ plain d i a. (
       agrees-with-fewer old ex ex' ns d h.pool count t.both.more
           (agrees-back old new ex' ns d (omega arith) t.consistent.narrower a),
@@ -64,17 +61,18 @@ assumed-learns old new ex ex' ns cond h below t =
     }
 
 -- facts are confined where more is known of a word
-pub restricted-word : (old new : List Known) (ex : List (List ℕ)) (ns : List Node) (w : ℕ) (more : Known)
-    → Covers (record { known = old; excluded = ex }) ns → w < 16
-    → IsRestricted old new ex ns w more → ConfinesWord (record { known = old; excluded = ex })
-    (record { known = new; excluded = ex }) ns w (Admits more)
+pub restricted-word : (places : List ℕ) (old new : List Known) (ex : List (List ℕ)) (ns : List Node) (w : ℕ)
+    (more : Known) → Covers (record { known = old; variables = places; excluded = ex }) ns → w < 16
+    → IsRestricted old new ex ns w more → ConfinesWord (record { known = old; variables = places; excluded = ex })
+    (record { known = new; variables = places; excluded = ex }) ns w (Admits more)
 unfolding Agrees
-restricted-word old new ex ns w more h l n =
+restricted-word places old new ex ns w more h l n =
     let count = h.count in
     let after = n.count in
-    let before : FactsView = record { known = old; excluded = ex } in
-    let facts : FactsView = record { known = new; excluded = ex } in
-    let covers = propagate-facts new ex ns h.pool after h.lawful.words n.passed in
+    let before : FactsView = record { known = old; variables = places; excluded = ex } in
+    let facts : FactsView = record { known = new; variables = places; excluded = ex } in
+    let covers = propagate-facts places new ex ns h.pool after h.lawful.words n.passed
+    (fixed-after places old new ex ex ns h n.narrower n.passed) in
     let only : KeepsOnly before facts ns (HasIn w (Admits more)) = λ d i a. (
       agrees-back old new ex ns d (omega arith) n.narrower a,
       admits-word new ex ns d w more h.pool l after n.word a,

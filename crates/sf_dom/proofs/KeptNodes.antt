@@ -233,3 +233,9 @@ kept-variable slots os x k = record {
     newest : slice_index (places_of (os ++ v ∷ [])) (length os) ≡ length slots
     newest = ap (λ ps. slice_index ps (length os)) places ∙ get_or_push (places_of os) (length slots) 0 (length os)
         (places-length os)
+
+-- the place of a variable that is added stands behind the others
+pub places-variable : (slots : List Slot) (os : List Variable) (x : Known)
+    → places_of (os ++ variable_of (length slots) x ∷ []) ≡ places_of os ++ length (known_by os slots) ∷ []
+places-variable slots os x = map-append (λ (o : Variable). o.place) os (variable_of (length slots) x ∷ [])
+    ∙ ap (λ n. places_of os ++ n ∷ []) (sym (known-length slots os))

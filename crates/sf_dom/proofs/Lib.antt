@@ -18,4 +18,8 @@ pub mod Tellings
 pub mod RuleLemmas
 pub mod ClosedLemmas
 pub mod RuleLaws
+pub mod Passes
+pub mod StepsBack
+pub mod Learnings
+pub mod Builds
 pub mod AssumedLemmas

@@ -17,7 +17,9 @@ use Rattle.sf_dom.specs.declared.known.Known.{Known}
 use Rattle.sf_dom.specs.Known.{Admits, Leaves, IsConsistent, IsDecided, IsNarrower}
 use Rattle.sf_dom.specs.Facts.{FactsView, known_at, numbers_at, excluded_of, AgreesWith, AreFacts, Agrees, Covers, TakesIn, NoneAgrees, IsPlainCondition, IsPlainTest, IsWordOrConst}
 use Rattle.sf_dom.specs.FactsLaws.{narrower-admits, sampled, words-agree, value-word, decided-admits}
-use Rattle.sf_dom.specs.Propagation.{IsPropagatedAt, AllNarrower, IsGrown, NoneAgreesWith, IsAssumed, AreBothExcluded, IsSharp, TestGives, Holds}
+use Rattle.sf_dom.specs.Passes.{IsAtRest, AreFixed}
+use Rattle.sf_dom.proofs.Passes.{fixed-narrower, forward-same}
+use Rattle.sf_dom.specs.Propagation.{IsPropagatedAt, AllNarrower, IsGrown, KeepsFixed, NoneAgreesWith, IsAssumed, AreBothExcluded, IsSharp, TestGives, Holds}
 use Rattle.sf_dom.proofs.GuardLemmas.{differs-gives}
 use Rattle.sf_dom.proofs.Propagations.{operands-below, word-below}
 
@@ -49,11 +51,36 @@ undecided f ns i n h plain l ne all = elim (cases_lt i 16) [
       ne (k.0 ∙ sym k.1))
 ]
 
+-- where more has become known, each node is a variable still, or no more can become known of it
+pub fixed-after : (places : List ℕ) (old new : List Known) (ex ex' : List (List ℕ)) (ns : List Node)
+    → Covers (record { known = old; variables = places; excluded = ex }) ns → AllNarrower old new
+    → ((i : ℕ) → i < length ns → IsPropagatedAt new ex' ns i) → AreFixed places new ns
+fixed-after places old new ex ex' ns h narrower passed =
+    let count = h.count in
+    fixed-narrower places old new ns h.pool (λ i l. h.lawful.consistent i (omega arith))
+    (λ i l. (passed i l).consistent)
+    (λ i l. narrower i (omega arith)) h.fixed
+
 -- facts after forward propagation
-pub propagate-facts : (ks : List Known) (ex : List (List ℕ)) (ns : List Node) → IsPool ns → length ks ≡ length ns
-    → length ex ≡ 16 → ((i : ℕ) → i < length ns → IsPropagatedAt ks ex ns i)
-    → Covers (record { known = ks; excluded = ex }) ns
-propagate-facts ks ex ns p len lex passed = search arith
+pub propagate-facts : (places : List ℕ) (ks : List Known) (ex : List (List ℕ)) (ns : List Node) → IsPool ns
+    → length ks ≡ length ns → length ex ≡ 16 → ((i : ℕ) → i < length ns → IsPropagatedAt ks ex ns i)
+    → AreFixed places ks ns → Covers (record { known = ks; variables = places; excluded = ex }) ns
+propagate-facts places ks ex ns p len lex passed fixed =
+    let words = p.words in
+    record {
+      pool = p;
+      lawful = record {
+        count = omega arith;
+        words = lex;
+        consistent = λ i l. (passed i (omega arith)).consistent;
+        tight = λ w l. (passed w (omega arith)).tight l;
+      };
+      count = len;
+      constants = λ i c l e. (passed i (omega arith)).constant c e;
+      decided = λ i l o. (passed i (omega arith)).decided o;
+      rest = λ i l. (passed i l).rest;
+      fixed = fixed;
+    }
 
 pub agrees-back : (old new : List Known) (ex : List (List ℕ)) (ns : List Node) (d : Input) → length old ≡ length new
     → AllNarrower old new → AgreesWith new ex ns d → AgreesWith old ex ns d
@@ -84,49 +111,80 @@ agrees-kept : (old new : List Known) (ex : List (List ℕ)) (ns : List Node) (d 
 agrees-kept old new ex ns d kept le a i l = search (arith, get_or-take)
 
 -- what is known after new nodes are taken in
-pub grown-facts : (old new : List Known) (ex : List (List ℕ)) (ns : List Node) → IsPool ns
-    → AreFacts (record { known = old; excluded = ex })
+pub grown-facts : (places more : List ℕ) (old new : List Known) (ex : List (List ℕ)) (ns : List Node) → IsPool ns
+    → AreFacts (record { known = old; variables = places; excluded = ex })
     → length old ≤ length ns → IsGrown old new ex ns
-    → AreFacts (record { known = new; excluded = ex }) × ((i : ℕ) → i < length old → known_at old i ≡ known_at new i)
-grown-facts old new ex ns p h le g = search (arith, get_or-take, cases_lt)
+    → AreFacts (record { known = new; variables = more; excluded = ex })
+    × ((i : ℕ) → i < length old → known_at old i ≡ known_at new i)
+grown-facts places more old new ex ns p h le g = search (arith, get_or-take, cases_lt)
 
-pub grown-of : (old new : List Known) (ex : List (List ℕ)) (before ns : List Node) → IsPool ns
-    → Covers (record { known = old; excluded = ex }) before → Extends before ns
-    → length old ≤ length ns → IsGrown old new ex ns → Covers (record { known = new; excluded = ex }) ns
-grown-of old new ex before ns p h more le g =
+-- a node at rest is so in a longer pool, where nothing is known of newer nodes before
+older-rest : (old new : List Known) (ex : List (List ℕ)) (before ns : List Node) (i : ℕ) → IsPool before
+    → i < length before → ((j : ℕ) → j ≤ i → known_at old j ≡ known_at new j) → node_at ns i ≡ node_at before i
+    → IsAtRest old ex before i → IsAtRest new ex ns i
+older-rest old new ex before ns i p l same node h =
+    let here = same i (omega arith) in
+    record {
+      closed = rw here at h.closed;
+      still = rw (
+        node,
+        ← here,
+        ← forward-same old new i (node_at before i) (operands-below before i p l)
+            (λ j b. same j (omega arith)),
+      ) h.still;
+    }
+
+pub grown-of : (places more : List ℕ) (old new : List Known) (ex : List (List ℕ)) (before ns : List Node) → IsPool ns
+    → Covers (record { known = old; variables = places; excluded = ex }) before → Extends before ns
+    → length old ≤ length ns → IsGrown old new ex ns
+    → KeepsFixed (record { known = old; variables = places }) (record { known = new; variables = more }) ns
+    → Covers (record { known = new; variables = more; excluded = ex }) ns
+grown-of places more old new ex before ns p h longer le g fixed =
     let covers = g.covers in
     let count = h.count in
-    let facts = grown-facts old new ex ns p h.lawful le g in
+    let facts = grown-facts places more old new ex ns p h.lawful le g in
     let same = facts.1 in
     let older : (i : ℕ) → i < length old → node_at ns i ≡ node_at before i =
-    λ i l. node-older before ns i more (omega arith) in
+    λ i l. node-older before ns i longer (omega arith) in
     record {
       pool = p;
       lawful = facts.0;
       count = g.covers;
       constants = search (arith, cases_lt);
       decided = search (arith, cases_lt, operands-below);
+      rest = λ i l. elim (cases_lt i (length old)) [
+        | inl b ↦ older-rest old new ex before ns i h.pool (omega arith) (λ j c. same j (omega arith)) (older i b)
+            (h.rest i (omega arith))
+        | inr a ↦ (g.passed h.lawful.consistent i a l).rest
+      ];
+      fixed = fixed h.lawful.consistent (λ i l. elim (h.fixed i (omega arith)) [
+        | inl v ↦ inl v
+        | inr f ↦ inr (record { operands = rw (older i l) f.operands; still = rw (older i l) f.still })
+      ]);
     }
 
 -- Where the new nodes of a longer pool are taken in, the inputs that agreed on its beginning agree, and no others;
 -- where no input agrees on the longer pool, none did on its beginning.
-module _ (old : List Known) (ex : List (List ℕ)) (before ns : List Node)
-    (h : Covers (record { known = old; excluded = ex }) before) (more : Extends before ns) where
-  pub grown-takes-in : (new : List Known) → IsPool ns → length old ≤ length ns → IsGrown old new ex ns
-      → TakesIn (record { known = old; excluded = ex }) (record { known = new; excluded = ex }) before ns
+module _ (places : List ℕ) (old : List Known) (ex : List (List ℕ)) (before ns : List Node)
+    (h : Covers (record { known = old; variables = places; excluded = ex }) before) (longer : Extends before ns) where
+  pub grown-takes-in : (more : List ℕ) (new : List Known) → IsPool ns → length old ≤ length ns → IsGrown old new ex ns
+      → KeepsFixed (record { known = old; variables = places }) (record { known = new; variables = more }) ns
+      → TakesIn (record { known = old; variables = places; excluded = ex })
+      (record { known = new; variables = more; excluded = ex }) before ns
   unfolding Agrees
-  grown-takes-in new p le g =
+  grown-takes-in more new p le g fixed =
       let covers = g.covers in
       record {
-        covers = grown-of old new ex before ns p h more le g;
-        keeps = λ d i a. g.keeps d i (agrees-after old ex before ns d h.count more a);
-        only = λ d i a. agrees-before old ex before ns d h.count more
+        covers = grown-of places more old new ex before ns p h longer le g fixed;
+        keeps = λ d i a. g.keeps d i (agrees-after old ex before ns d h.count longer a);
+        only = λ d i a. agrees-before old ex before ns d h.count longer
             (agrees-kept old new ex ns d g.kept (omega arith) a);
       }
 
-  pub none-agreed : NoneAgreesWith old ex ns → NoneAgrees (record { known = old; excluded = ex }) before
+  pub none-agreed : NoneAgreesWith old ex ns
+      → NoneAgrees (record { known = old; variables = places; excluded = ex }) before
   unfolding Agrees
-  none-agreed none d p a = none d p (agrees-after old ex before ns d h.count more a)
+  none-agreed none d p a = none d p (agrees-after old ex before ns d h.count longer a)
 
 -- an excluded number is not agreed with any more
 pub agrees-with-fewer : (ks : List Known) (ex ex' : List (List ℕ)) (ns : List Node) (d : Input) → IsPool ns

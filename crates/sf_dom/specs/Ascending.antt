@@ -1,5 +1,5 @@
 -- Numbers in ascending order, and numbers that are shared.
-use Rattle.std.specs.Prelude.{◌≡◌, ℕ, ◌-◌, ◌<◌, ◌≤◌, List, [], ◌++◌, length, slice_index, Contains, Option, Some, None}
+use Rattle.std.specs.Prelude.{◌≡◌, ℕ, ◌<◌, ◌≤◌, List, [], ◌++◌, length, slice_index, Contains, Option, Some, None}
 use Rattle.std.specs.Arc.{arc_value, arc_slice_items}
 use Rattle.std.specs.declared.sync.Arc.{Arc}
 use Rattle.std.specs.declared.sync.ArcSlice.{ArcSlice}

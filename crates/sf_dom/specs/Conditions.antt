@@ -8,7 +8,7 @@ use Rattle.sf_sym.specs.declared.pool.Node.{Node}
 use Rattle.sf_dom.specs.declared.known.Known.{Known}
 use Rattle.sf_dom.specs.Known.{Admits, IsNarrower, IsConsistent, IsDecided}
 use Rattle.sf_dom.specs.Facts.{known_at, AgreesWith}
-use Rattle.sf_dom.specs.Propagation.{Holds, IsSharp, Tells, TestGives, IsReady, AllNarrower, AreOthersTight}
+use Rattle.sf_dom.specs.Propagation.{Holds, IsSharp, Tells, TestGives, IsReady, AllNarrower, AreOthersClosed}
 
 -- what a condition leaves of its two nodes: of the first by itself, and of the second once this is known of the first
 -- (both may be one node)
@@ -41,4 +41,4 @@ pub record AreSet (old new : List Known) (ex : List (List ℕ)) (ns : List Node)
   pub narrower : AllNarrower old new
   pub node : IsNarrower one (known_at new cond.node.0)
   pub other : IsNarrower two (known_at new cond.other.0)
-  pub tight : AreOthersTight new ex ns cond
+  pub closed : AreOthersClosed new ex ns cond

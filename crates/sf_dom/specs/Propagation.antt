@@ -14,6 +14,9 @@ use Rattle.sf_dom.specs.declared.known.Known.{Known}
 use Rattle.sf_dom.specs.Known.{AreBitsOf, Admits, Leaves, IsNarrower, IsConsistent, IsTight, IsDecided}
 use Rattle.sf_dom.specs.Backward.{IsPropagatedBack}
 use Rattle.sf_dom.specs.Nodes.{NodesView, IsLaidOut}
+use Rattle.sf_dom.specs.Rules.{IsClosedAt}
+use Rattle.sf_dom.specs.Passes.{IsPassedAt, IsAtRest, IsVariableAt, IsFixedAt, AreFixed}
+use Rattle.sf_dom.specs.Learning.{Excludes}
 use Rattle.sf_dom.specs.Facts.{KnowConstants, known_at, numbers_at, excluded_of, AgreesWith, AreDecidedOperands, FactsView, Agrees, Covers, AreNarrower, KeepsInputs, KeepsOnly, SomeInput, IsPlainCondition, DecidesTest}
 
 -- every input that agreed agrees still
@@ -30,14 +33,17 @@ AreConsistentOperands ks (Bin op a b) = IsConsistent (known_at ks a.0) × IsCons
 AreConsistentOperands ks (Neg a) = IsConsistent (known_at ks a.0)
 AreConsistentOperands ks _ = Unit {0}
 
--- a node's facts, reduced
-pub record IsReducedNode (old new : Known) (ex : List (List ℕ)) (n : Node) : Type 0 where
-  pub same : (m : ℕ) → Leaves old (excluded_of ex n) m → Leaves new (excluded_of ex n) m
+-- these are the numbers that are excluded for the node at a place, where that is one of the sixteen words
+abbrev pub AreExcludedAt : List (List ℕ) → ℕ → List ℕ → Type 0
+AreExcludedAt ex i xs = i < 16 → xs ≡ numbers_at ex i
+
+-- a node's facts, reduced; xs are the numbers that are excluded for it
+pub record IsReducedNode (old new : Known) (xs : List ℕ) : Type 0 where
+  pub same : (m : ℕ) → Leaves old xs m → Leaves new xs m
   pub narrower : IsNarrower old new
   pub consistent : IsConsistent new
   pub ones_low : new.ones ≤ new.low
   pub high_zeros : new.high ≤ 4294967295 - new.zeros
-  pub tight : (i : ℕ) → n ≡ Word i → IsTight new (numbers_at ex i)
 
 -- something is known of each node of the pool, every interval holds a number, and a constant's interval is its number
 pub record IsReady (ks : List Known) (ns : List Node) : Type 0 where
@@ -51,6 +57,7 @@ pub record IsPropagatedAt (ks : List Known) (ex : List (List ℕ)) (ns : List No
   pub tight : i < 16 → IsTight (known_at ks i) (numbers_at ex i)
   pub decided : AreDecidedOperands ks (node_at ns i) → IsDecided (known_at ks i)
   pub constant : (c : ℕ) → node_at ns i ≡ Const c → ((known_at ks i).low ≡ c) × ((known_at ks i).high ≡ c)
+  pub rest : IsAtRest ks ex ns i
 
 -- forward propagation has gone through all nodes before the variable at a rank
 abbrev pub ArePassedBefore : NodesView → List (List ℕ) → List Node → ℕ → Type 0
@@ -58,19 +65,19 @@ ArePassedBefore n ex ns rank = (k : ℕ) → k < length n.known
     → ((j : ℕ) → rank ≤ j → j < length n.variables → k < slice_index n.variables j)
     → IsPropagatedAt n.known ex ns k
 
--- both ends of each word's interval are left for it
-abbrev pub AreTightWords : List Known → List (List ℕ) → Type 0
-AreTightWords ks ex = (w : ℕ) → w < 16 → IsTight (known_at ks w) (numbers_at ex w)
+-- nothing more follows from what is known of each word by itself
+abbrev pub AreClosedWords : List Known → List (List ℕ) → Type 0
+AreClosedWords ks ex = (w : ℕ) → w < 16 → IsClosedAt ex w (known_at ks w)
 
--- each word whose ends were left for it has ends that are left for it still
-abbrev pub KeepsTight : List Known → List Known → List (List ℕ) → Type 0
-KeepsTight old new ex = (w : ℕ) → w < 16 → IsTight (known_at old w) (numbers_at ex w)
-    → IsTight (known_at new w) (numbers_at ex w)
+-- where nothing more followed for a word, nothing more follows for it still
+abbrev pub KeepsClosed : List Known → List Known → List (List ℕ) → Type 0
+KeepsClosed old new ex = (w : ℕ) → w < 16 → IsClosedAt ex w (known_at old w)
+    → IsClosedAt ex w (known_at new w)
 
--- both ends of the interval of each word that is neither node of a condition are left for it
-abbrev pub AreOthersTight : List Known → List (List ℕ) → List Node → Cond → Type 0
-AreOthersTight ks ex ns cond = (w : ℕ) → w < 16 → node_at ns cond.node.0 ≢ Word w → node_at ns cond.other.0 ≢ Word w
-    → IsTight (known_at ks w) (numbers_at ex w)
+-- nothing more follows for each word that is neither node of a condition
+abbrev pub AreOthersClosed : List Known → List (List ℕ) → List Node → Cond → Type 0
+AreOthersClosed ks ex ns cond = (w : ℕ) → w < 16 → node_at ns cond.node.0 ≢ Word w → node_at ns cond.other.0 ≢ Word w
+    → IsClosedAt ex w (known_at ks w)
 
 -- nothing known of any node is lost
 abbrev pub AllNarrower : List Known → List Known → Type 0
@@ -91,18 +98,23 @@ pub record PropagatesThrough (old new : NodesView) (ex : List (List ℕ)) (ns : 
   pub variables : new.variables ≡ old.variables
   pub laid_out : IsLaidOut new
   pub passed : ArePassedBefore new ex ns rank
+  pub same : (i : ℕ) → ((j : ℕ) → j < rank → j < length new.variables → slice_index new.variables j ≢ i)
+      → known_at new.known i ≡ known_at old.known i
+  pub ruled : (k : ℕ) → k < length new.known
+      → ((j : ℕ) → rank ≤ j → j < length new.variables → k < slice_index new.variables j)
+      → IsPassedAt old.known new.known ex ns k
 
 -- more has become known, and every input that agreed agrees still
 pub record IsNarrowed (old new : List Known) (ex : List (List ℕ)) (ns : List Node) : Type 0 where
   pub keeps : KeepsAgreeing old new ex ns
   pub narrower : AllNarrower old new
   pub ready : IsReady new ns
-  pub tight : KeepsTight old new ex
+  pub closed : KeepsClosed old new ex
 
 -- a node that is a word has been made tight
 pub record IsTightened (old new : List Known) (ex : List (List ℕ)) (ns : List Node) (at : ℕ) : Type 0 where
   pub step : IsNarrowed old new ex ns
-  pub word : (i : ℕ) → node_at ns at ≡ Word i → IsTight (known_at new i) (numbers_at ex i)
+  pub word : (i : ℕ) → node_at ns at ≡ Word i → IsClosedAt ex i (known_at new i)
 
 -- known bits have gone back from a node, from operand to operand
 pub record GoesBack (old new : List Known) (ex : List (List ℕ)) (ns : List Node) (at : ℕ) : Type 0 where
@@ -116,6 +128,17 @@ pub record IsGrown (old new : List Known) (ex : List (List ℕ)) (ns : List Node
   pub keeps : KeepsAgreeing old new ex ns
   pub passed : ((i : ℕ) → i < length old → IsConsistent (known_at old i)) → (i : ℕ) → length old ≤ i → i < length ns
       → IsPropagatedAt new ex ns i
+
+-- what is known of each node is consistent
+abbrev pub AreConsistent : List Known → Type 0
+AreConsistent ks = (i : ℕ) → i < length ks → IsConsistent (known_at ks i)
+
+-- where each older node is a variable, or no more can become known of it, each node is so once the new ones are taken
+-- in
+abbrev pub KeepsFixed : NodesView → NodesView → List Node → Type 0
+KeepsFixed old new ns = AreConsistent old.known
+    → ((i : ℕ) → i < length old.known → IsVariableAt old.variables i ⊎ IsFixedAt old.known ns i)
+    → AreFixed new.variables new.known ns
 
 -- the test of two numbers has this result
 abbrev pub TestGives : Test → ℕ → ℕ → Bool → Type 0
@@ -132,7 +155,7 @@ pub record IsLeft (ks : List Known) (ex : List (List ℕ)) (ns : List Node) (at 
   pub narrower : IsNarrower (known_at ks at) next
   pub told : IsNarrower more next
   pub consistent : IsConsistent next
-  pub tight : (i : ℕ) → node_at ns at ≡ Word i → IsTight next (numbers_at ex i)
+  pub closed : IsClosedAt ex at next
 
 -- what a test of two words with this result leaves of both
 abbrev pub LeavesPair : Known → Known → Known → Known → (ℕ → ℕ → Type 0) → Type 0
@@ -232,6 +255,8 @@ pub record AreBothExcluded (ks : List Known) (old new : List (List ℕ)) (ns : L
   pub added_other : (i : ℕ) → node_at ns cond.other.0 ≡ Word i → IsDecided (known_at ks cond.node.0) → cond.test ≡ Equal
       → cond.sense ≡ false
       → Contains (numbers_at new i) (known_at ks cond.node.0).low
+  pub only : (w m : ℕ) → w < 16 → Contains (numbers_at new w) m
+      → Contains (numbers_at old w) m ⊎ Excludes ks ns cond w m
 
 -- a condition is taken into the facts of a pool
 pub record IsLearnt (old : List Known) (ex : List (List ℕ)) (new : List Known) (ex' : List (List ℕ)) (ns : List Node)

@@ -12,7 +12,7 @@ use Rattle.sf_dom.specs.declared.known.Known.{Known}
 use Rattle.sf_dom.specs.declared.guards.Pair.{Pair}
 use Rattle.sf_dom.specs.Known.{IsNarrower, IsTight, known_of}
 use Rattle.sf_dom.specs.Reduction.{AreApart}
-use Rattle.sf_dom.specs.Facts.{known_at}
+use Rattle.sf_dom.specs.Reading.{known_at, numbers_at}
 
 -- an interval, with no bit known
 abbrev pub between : ℕ → ℕ → Known
@@ -21,6 +21,10 @@ between low high = known_of low high 0 0
 -- nothing is known
 abbrev pub full : Known
 full = between 0 4294967295
+
+-- a word that has the bits of a value where a mask has ones
+abbrev pub masked : ℕ → ℕ → Known
+masked mask value = known_of 0 4294967295 (bit_and mask (4294967295 - value)) value
 
 -- moved left by s bits
 abbrev pub moved_left : Known → ℕ → Known
@@ -102,15 +106,19 @@ pub record IsWidest (kind : Known → Type 0) (old new : Known) : Type 0 where
 abbrev pub HasNone : (Known → Type 0) → Known → Type 0
 HasNone kind old = (k : Known) → kind k → ¬ IsNarrower old k
 
--- what is left of a node
-abbrev pub IsReduction : List ℕ → Node → Known → Known → Type 0
-IsReduction xs (Word i) old new = IsWidest (IsClosedWord xs) old new
-IsReduction xs _ old new = IsWidest IsClosed old new
+-- Nothing more follows from what is known of the node at a place by itself. The first sixteen nodes are the words of
+-- the input, for which numbers are excluded.
+pub record IsClosedAt (ex : List (List ℕ)) (i : ℕ) (k : Known) : Type 0 where
+  pub known : IsClosed k
+  pub tight : i < 16 → IsTight k (numbers_at ex i)
 
--- nothing is left of a node
-abbrev pub HasNoReduction : List ℕ → Node → Known → Type 0
-HasNoReduction xs (Word i) old = HasNone (IsClosedWord xs) old
-HasNoReduction xs _ old = HasNone IsClosed old
+-- what is left of the node at a place
+abbrev pub IsReduction : List (List ℕ) → ℕ → Known → Known → Type 0
+IsReduction ex i old new = IsWidest (IsClosedAt ex i) old new
+
+-- nothing is left of the node at a place
+abbrev pub HasNoReduction : List (List ℕ) → ℕ → Known → Type 0
+HasNoReduction ex i old = HasNone (IsClosedAt ex i) old
 
 -- A round of reduction: it keeps every closed knowledge in which nothing is lost, and one that changes nothing is the
 -- last.

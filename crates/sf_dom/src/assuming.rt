@@ -1,13 +1,17 @@
 //! A condition taken into what is known of the nodes of a pool.
 
-ghost use Rattle.std.specs.Prelude.{◌≡◌, ◌≢◌, ℕ, ◌+◌, ◌-◌, ◌*◌, ◌/◌, ◌%◌, ◌<◌, ◌≤◌, ◌^◌, ◌⊎◌, length, MatchOption, MatchBool, IfSome, IfOk, IsTrue, false, None};
+ghost use Rattle.std.specs.Prelude.{◌≡◌, ◌≢◌, ℕ, ◌+◌, ◌-◌, ◌*◌, ◌/◌, ◌%◌, ◌<◌, ◌≤◌, ◌^◌, ◌⊎◌, length, set, MatchOption, MatchBool, IfSome, IfOk, IsTrue, false, None};
 ghost use Rattle.sf_insn.specs.Words.{apply};
 ghost use Rattle.sf_sym.specs.Pool.{node_at, value_of};
 ghost use Rattle.sf_dom.specs.Known.{AreBitsOf, HasBits, Admits, IsNarrower, IsConsistent, IsDecided, IsTight};
-ghost use Rattle.sf_dom.specs.Propagation.{NoneAgreesWith, KeepsAgreeingOn, NoneAgreesOn, LeavesPair, LeavesNoPair, IsSharp, Tells, TestGives, IsReady, IsLeft, IsAssumed, AreExcluded, AreBothExcluded, Holds, IsPropagated, AreOthersTight, GoesBack};
+ghost use Rattle.sf_dom.specs.Propagation.{NoneAgreesWith, KeepsAgreeingOn, NoneAgreesOn, LeavesPair, LeavesNoPair, IsSharp, Tells, TestGives, IsReady, IsLeft, IsAssumed, AreExcluded, AreBothExcluded, Holds, IsPropagated, AreOthersClosed, AreClosedWords, GoesBack};
 ghost use Rattle.sf_dom.specs.Conditions.{AreLeftAlone, AreSet, IsTold};
 ghost use Rattle.sf_sym.specs.Operands.{IsSwappable};
-ghost use Rattle.sf_dom.specs.Rules.{assumed, LeavesNothing};
+ghost use Rattle.sf_dom.specs.Rules.{assumed, met, IsClosed, HasNoReduction, LeavesNothing};
+ghost use Rattle.sf_dom.specs.Passes.{IsPass, HasNoPass, IsLeftBy, IsStill, AreFixed};
+ghost use Rattle.sf_dom.specs.declared.known.Known.{Known as AKnown};
+ghost use Rattle.sf_dom.specs.Learning.{AreBothLeft, IsLearntBy, CantBeLearnt};
+ghost use Rattle.sf_dom.specs.GoingBack.{with_bits as with_bits_of, gained, BitsGoBack, BitsCantGoBack};
 ghost use Rattle.sf_dom.specs.Backward.{HandsOn, IsPropagatedBack};
 ghost use Rattle.sf_dom.specs.Facts.{known_at, numbers_at, KnowDecided};
 
@@ -16,7 +20,7 @@ use crate::fault::Fault;
 use crate::guards::{Pair, at_least, common_bit, differs, equal, greater, no_common_bit};
 use crate::known::{Known, is_same};
 use crate::nodes::Nodes;
-use crate::propagation::{is_tight_at, propagate, reduce_node, tighten};
+use crate::propagation::{is_tight_at, propagate, reduce_at, tighten};
 use crate::telling::are_propagated_back;
 use sf_insn::{BinOp, Test};
 use sf_sym::{Cond, Node, NodeId, Pool, constant_operand};
@@ -28,6 +32,7 @@ fn with_bits(known: Known, zeros: u32, ones: u32) -> Known
     ensures more { AreBitsOf zeros result.zeros × AreBitsOf ones result.ones }
     ensures narrower { IsNarrower known result }
     ensures same { AreBitsOf zeros known.zeros → AreBitsOf ones known.ones → result ≡ known }
+    ensures rule { result ≡ with_bits_of known zeros ones }
 {
     Known {
         zeros: known.zeros | zeros,
@@ -46,6 +51,7 @@ pub(crate) fn backward(op: BinOp, node: Known, c: u32, operand: Known) -> Option
     ensures told { IfSome result (λ g. HandsOn op c node g) }
     ensures narrower { IfSome result (λ g. IsNarrower operand g) }
     ensures same { IfSome result (λ g. HandsOn op c node operand → g ≡ operand) }
+    ensures rule { IfSome result (λ g. g ≡ gained op c node operand) }
 {
     match op {
         BinOp::And => Some(with_bits(operand, node.zeros & c, node.ones)),
@@ -64,16 +70,21 @@ pub(crate) fn backward(op: BinOp, node: Known, c: u32, operand: Known) -> Option
 fn propagate_back(nodes: &mut Nodes, excluded: &Excluded, pool: &Pool, from: usize) -> bool
     requires ready { IsReady nodes.old.known pool.now }
     requires start { from < length pool.now }
-    ensures { MatchBool result
+    ensures back { MatchBool result
         (GoesBack nodes.old.known nodes.new.known excluded.now pool.now from)
         (NoneAgreesWith nodes.old.known excluded.now pool.now) }
+    ensures rule { MatchBool result
+        (BitsGoBack nodes.old.known excluded.now pool.now from nodes.new.known)
+        (BitsCantGoBack nodes.old.known excluded.now pool.now from) }
+    ensures variables { nodes.new.variables ≡ nodes.old.variables }
 {
+    // For the prover: the pool is lawful.
+    let _count = pool.len();
     let mut at = from;
     while let Some((op, x, c)) = constant_operand(pool, at) {
-        let node = pool.node_at(x);
         match backward(op, nodes.get(at), c, nodes.get(x)) {
             None => return true,
-            Some(gained) => match reduce_node(gained, node, excluded) {
+            Some(gained) => match reduce_at(gained, x, excluded) {
                 None => return false,
                 Some(next) => nodes.set(x, next),
             },
@@ -140,19 +151,25 @@ pub(crate) fn known_left(
 ) -> Option<Known>
     requires covers { length nodes.now.known ≡ length pool.now }
     requires place { at < length pool.now }
-    ensures { MatchOption result
+    ensures left { MatchOption result
         (NoneAgreesOn nodes.now.known excluded.now pool.now
         (λ d. Admits more (value_of pool.now d at)))
         (λ next. IsLeft nodes.now.known excluded.now pool.now at more next) }
+    ensures rule { MatchOption result
+        (HasNoReduction excluded.now at (met (known_at nodes.now.known at) more))
+        (IsLeftBy nodes.now.known excluded.now at more) }
 {
-    let node = pool.node_at(at);
-    reduce_node(nodes.get(at).meet(more), node, excluded)
+    // For the prover: the pool is lawful.
+    let _count = pool.len();
+    reduce_at(nodes.get(at).meet(more), at, excluded)
 }
 
 /// What is told of the second node of a condition: what its test tells, and where both are one node, also what is left
 /// of the first.
 fn told_of_other(cond: &Cond, told: Known, node: Known) -> Known
-    ensures { IsTold cond.now told node result }
+    ensures told { IsTold cond.now told node result }
+    ensures apart { cond.now.node.0 ≢ cond.now.other.0 → result ≡ told }
+    ensures one { cond.now.node.0 ≡ cond.now.other.0 → result ≡ met told node }
 {
     if cond.node.0 == cond.other.0 {
         told.meet(node)
@@ -172,9 +189,12 @@ pub(crate) fn pair_left(
     requires covers { length nodes.now.known ≡ length pool.now }
     requires node { cond.now.node.0 < length pool.now }
     requires other { cond.now.other.0 < length pool.now }
-    ensures { MatchOption result
+    ensures left { MatchOption result
         (NoneAgreesOn nodes.now.known excluded.now pool.now (Holds pool.now cond.now))
         (λ p. AreLeftAlone nodes.now.known excluded.now pool.now cond.now p.node p.other) }
+    ensures rule { MatchOption result
+        ((node other : AKnown) → ¬ AreBothLeft nodes.now.known excluded.now cond.now node other)
+        (λ p. AreBothLeft nodes.now.known excluded.now cond.now p.node p.other) }
 {
     let v = cond.node.0 as usize;
     let w = cond.other.0 as usize;
@@ -192,9 +212,12 @@ fn set_both(nodes: &mut Nodes, excluded: &Excluded, pool: &Pool, cond: &Cond, al
     requires other { cond.now.other.0 < length pool.now }
     requires left { AreLeftAlone nodes.old.known excluded.now pool.now cond.now
         alone.node alone.other }
-    requires tight { AreOthersTight nodes.old.known excluded.now pool.now cond.now }
-    ensures { AreSet nodes.old.known nodes.new.known excluded.now pool.now cond.now
+    requires closed { AreOthersClosed nodes.old.known excluded.now pool.now cond.now }
+    ensures written { AreSet nodes.old.known nodes.new.known excluded.now pool.now cond.now
         alone.node alone.other }
+    ensures known { nodes.new.known ≡ set (set nodes.old.known cond.now.node.0 alone.node)
+        cond.now.other.0 alone.other }
+    ensures variables { nodes.new.variables ≡ nodes.old.variables }
 {
     // For the prover: the pool is lawful.
     let _count = pool.len();
@@ -208,11 +231,19 @@ fn propagate_on(nodes: &mut Nodes, excluded: &Excluded, pool: &Pool, cond: &Cond
     requires ready { IsReady nodes.old.known pool.now }
     requires node { cond.now.node.0 < length pool.now }
     requires other { cond.now.other.0 < length pool.now }
-    requires tight { AreOthersTight nodes.old.known excluded.now pool.now cond.now }
-    ensures { MatchBool result
+    requires closed { AreOthersClosed nodes.old.known excluded.now pool.now cond.now }
+    requires fixed { AreFixed nodes.old.variables nodes.old.known pool.now }
+    ensures propagated { MatchBool result
         (IsPropagated nodes.old.known nodes.new.known excluded.now pool.now)
         (NoneAgreesWith nodes.old.known excluded.now pool.now) }
+    ensures rule { MatchBool result
+        (IsPass nodes.old.known nodes.new.known excluded.now pool.now)
+        (HasNoPass nodes.old.known excluded.now pool.now) }
+    ensures variables { MatchBool result (nodes.new.variables ≡ nodes.old.variables)
+        (Unit {0}) }
 {
+    // For the prover: the pool is lawful.
+    let _count = pool.len();
     if !tighten(nodes, excluded, pool, cond.node) {
         return false;
     }
@@ -253,10 +284,17 @@ pub(crate) fn changes_nothing(
     requires other { cond.now.other.0 < length pool.now }
     requires left { AreLeftAlone nodes.now.known excluded.now pool.now cond.now
         alone.node alone.other }
-    requires tight { AreOthersTight nodes.now.known excluded.now pool.now cond.now }
-    ensures { IsTrue result → IsAssumed nodes.now.known nodes.now.known excluded.now pool.now
-        cond.now }
+    requires closed { AreOthersClosed nodes.now.known excluded.now pool.now cond.now }
+    requires both { AreBothLeft nodes.now.known excluded.now cond.now alone.node alone.other }
+    requires known { (i : ℕ) → i < length pool.now → IsClosed (known_at nodes.now.known i) }
+    requires still { (i : ℕ) → i < length pool.now → IsStill nodes.now.known pool.now i }
+    ensures assumed { IsTrue result → IsAssumed nodes.now.known nodes.now.known excluded.now
+        pool.now cond.now }
+    ensures rule { IsTrue result → IsLearntBy nodes.now.known nodes.now.known excluded.now
+        pool.now cond.now }
 {
+    // For the prover: the pool is lawful.
+    let _count = pool.len();
     stays(nodes, excluded, pool, cond.node, alone.node)
         && stays(nodes, excluded, pool, cond.other, alone.other)
 }
@@ -275,10 +313,17 @@ pub(crate) fn assume_cond(
     requires other { cond.now.other.0 < length pool.now }
     requires left { AreLeftAlone nodes.old.known excluded.now pool.now cond.now
         alone.node alone.other }
-    requires tight { AreOthersTight nodes.old.known excluded.now pool.now cond.now }
-    ensures { MatchBool result
+    requires both { AreBothLeft nodes.old.known excluded.now cond.now alone.node alone.other }
+    requires closed { AreOthersClosed nodes.old.known excluded.now pool.now cond.now }
+    requires fixed { AreFixed nodes.old.variables nodes.old.known pool.now }
+    ensures assumed { MatchBool result
         (IsAssumed nodes.old.known nodes.new.known excluded.now pool.now cond.now)
         (NoneAgreesOn nodes.old.known excluded.now pool.now (Holds pool.now cond.now)) }
+    ensures rule { MatchBool result
+        (IsLearntBy nodes.old.known nodes.new.known excluded.now pool.now cond.now)
+        (CantBeLearnt nodes.old.known excluded.now pool.now cond.now) }
+    ensures variables { MatchBool result (nodes.new.variables ≡ nodes.old.variables)
+        (Unit {0}) }
 {
     // For the prover: the pool is lawful.
     let _count = pool.len();

@@ -1,11 +1,13 @@
 //! What is left of the facts of a pool where a condition is met, or where more is known of a word. The facts that are
 //! handed in stay as they are.
 
-ghost use Rattle.std.specs.Prelude.{◌≡◌, ◌<◌, ◌≤◌, length, slice_index, MatchOption, IfOk, unwrap_or};
+ghost use Rattle.std.specs.Prelude.{◌≡◌, ℕ, ◌<◌, ◌≤◌, List, length, slice_index, MatchOption, IfOk, IfSome, unwrap_or};
 ghost use Rattle.sf_sym.specs.Pool.{IsCondBelow};
 ghost use Rattle.sf_dom.specs.Known.{Admits};
 ghost use Rattle.sf_dom.specs.Facts.{KnowDecided};
-ghost use Rattle.sf_dom.specs.Propagation.{NoneAgreesOn, Holds, IsReady, IsRestricted, IsLearnt, AreBothExcluded, AreTightWords};
+ghost use Rattle.sf_dom.specs.Propagation.{NoneAgreesOn, Holds, IsReady, IsRestricted, IsLearnt, AreBothExcluded};
+ghost use Rattle.sf_dom.specs.Learning.{AreExcludedBy, IsLearntBy, CantBeLearnt};
+ghost use Rattle.sf_dom.specs.Passes.{IsAtRest, AreFixed, IsTakenIn, CantTakeIn};
 
 use crate::assuming::{assume_cond, changes_nothing, exclude_both, known_left, pair_left};
 use crate::exclusions::Excluded;
@@ -60,20 +62,29 @@ pub(crate) fn learn_cond(
     cond: &Cond,
 ) -> Result<Option<(Changed, Excluded)>, Fault>
     requires ready { IsReady nodes.now.known pool.now }
-    requires tight { AreTightWords nodes.now.known excluded.now }
+    requires rest { (i : ℕ) → i < length pool.now
+        → IsAtRest nodes.now.known excluded.now pool.now i }
+    requires fixed { AreFixed nodes.now.variables nodes.now.known pool.now }
     requires decided { KnowDecided nodes.now.known pool.now }
     requires below { IsCondBelow (length pool.now) cond.now }
-    ensures { IfOk result (λ o. MatchOption o
+    ensures learnt { IfOk result (λ o. MatchOption o
         (NoneAgreesOn nodes.now.known excluded.now pool.now (Holds pool.now cond.now))
         (λ r. IsLearnt nodes.now.known excluded.now (unwrap_or r.0 nodes.now).known r.1
         pool.now cond.now)) }
+    ensures rule { IfOk result (λ o. MatchOption o
+        ((ex : List (List ℕ)) → AreExcludedBy nodes.now.known excluded.now ex pool.now cond.now
+        → CantBeLearnt nodes.now.known ex pool.now cond.now)
+        (λ r. AreExcludedBy nodes.now.known excluded.now r.1 pool.now cond.now
+        × IsLearntBy nodes.now.known (unwrap_or r.0 nodes.now).known r.1 pool.now cond.now)) }
+    ensures variables { IfOk result (λ o. IfSome o (λ r. (unwrap_or r.0 nodes.now).variables
+        ≡ nodes.now.variables)) }
 {
     // For the prover: the pool is lawful.
     let _count = pool.len();
-    let Some(alone) = pair_left(nodes, excluded, pool, cond) else {
+    let lists = with_excluded_by(alloc, excluded, nodes, pool, cond)?;
+    let Some(alone) = pair_left(nodes, &lists, pool, cond) else {
         return Ok(None);
     };
-    let lists = with_excluded_by(alloc, excluded, nodes, pool, cond)?;
     if changes_nothing(nodes, &lists, pool, cond, alone) {
         return Ok(Some((None, lists)));
     }
@@ -96,14 +107,22 @@ pub(crate) fn restrict(
     more: Known,
 ) -> Result<Option<Changed>, Fault>
     requires ready { IsReady nodes.now.known pool.now }
-    requires tight { AreTightWords nodes.now.known excluded.now }
+    requires rest { (i : ℕ) → i < length pool.now
+        → IsAtRest nodes.now.known excluded.now pool.now i }
+    requires fixed { AreFixed nodes.now.variables nodes.now.known pool.now }
     requires decided { KnowDecided nodes.now.known pool.now }
     requires word { word < 16 }
-    ensures { IfOk result (λ o. MatchOption o
+    ensures restricted { IfOk result (λ o. MatchOption o
         (NoneAgreesOn nodes.now.known excluded.now pool.now
         (λ d. Admits more (slice_index d.words word)))
         (λ r. IsRestricted nodes.now.known (unwrap_or r nodes.now).known excluded.now
         pool.now word more)) }
+    ensures rule { IfOk result (λ o. MatchOption o
+        (CantTakeIn nodes.now.known excluded.now pool.now word more)
+        (λ r. IsTakenIn nodes.now.known (unwrap_or r nodes.now).known excluded.now
+        pool.now word more)) }
+    ensures variables { IfOk result (λ o. IfSome o (λ r. (unwrap_or r nodes.now).variables
+        ≡ nodes.now.variables)) }
 {
     // For the prover: the pool has all words.
     let count = pool.len();

@@ -1,6 +1,6 @@
 //! What is known of each node of a pool, kept so that forks share what doesn't change.
 
-ghost use Rattle.std.specs.Prelude.{◌≡◌, ◌<◌, ◌∷◌, ◌++◌, [], length, set, slice_index, IsTrue, IfOk, OnOk, OnErr, Ok, false, ◌-◌};
+ghost use Rattle.std.specs.Prelude.{◌≡◌, ◌<◌, ◌⊎◌, ◌∷◌, ◌++◌, [], length, set, slice_index, IsTrue, IfOk, OnOk, OnErr, Ok, false, ◌-◌};
 ghost use Rattle.std.specs.Arc.{arc_value};
 ghost use Rattle.sf_dom.specs.Known.{IsDecided, known_of};
 ghost use Rattle.sf_dom.specs.Facts.{known_at};
@@ -18,9 +18,9 @@ use std::sync::Arc;
 /// How many words an input has. They are the first nodes of each pool.
 pub(crate) const WORDS: usize = 16;
 
-/// What is known of the nodes of a pool, oldest first. A node that comes with only one number, as each constant does,
-/// has it in its slot. Forks share the slots until one of them gets another node. The other nodes are the variables:
-/// only of them more can become known, and a fork has its own list of them.
+/// What is known of the nodes of a pool, oldest first. A constant has its number in its slot, and so has an operation on
+/// operands that have only one number each. Forks share the slots until one of them gets another node. The other nodes
+/// are the variables: only of them more can become known, and a fork has its own list of them.
 #[derive(Drop)]
 pub(crate) struct Nodes {
     slots: Arc<Slots>,
@@ -121,15 +121,18 @@ impl Nodes {
         }
     }
 
-    /// Adds what is known of the next node. `Memory` where an allocation is refused; what is known then stays as it
-    /// was.
-    pub(crate) fn push(&mut self, known: Known) -> Result<(), Fault>
+    /// Adds what is known of the next node. `fixed`: no more can become known of it. `Memory` where an allocation is
+    /// refused; what is known then stays as it was.
+    pub(crate) fn push(&mut self, known: Known, fixed: bool) -> Result<(), Fault>
         ensures ok { IfOk result (λ _. self.new.known ≡ self.old.known ++ known ∷ []) }
+        ensures variables { IfOk result (λ _. (IsTrue fixed
+            × (self.new.variables ≡ self.old.variables))
+            ⊎ (self.new.variables ≡ self.old.variables ++ length self.old.known ∷ [])) }
         ensures err { OnErr result (self.new ≡ self.old) }
     {
         let alloc = *self.variables.allocator();
         let place = self.slots.len();
-        if place >= WORDS && is_number(known) {
+        if fixed && place >= WORDS && is_number(known) {
             add_slot(alloc, &mut self.slots, Slot::Number(known.low))?;
             return Ok(());
         }

@@ -5,9 +5,10 @@ ghost use Rattle.std.specs.Arc.{arc_value};
 ghost use Rattle.sf_insn.specs.Inputs.{IsInput};
 ghost use Rattle.sf_sym.specs.Pool.{OperandsBelow, node_at, node_value};
 ghost use Rattle.sf_insn.specs.declared.input.Input.{Input};
-ghost use Rattle.sf_dom.specs.Known.{Admits, Leaves, IsTight};
-ghost use Rattle.sf_dom.specs.Propagation.{NoneAgreesWith, AreConsistentOperands, IsReducedNode, IsReady, IsPropagated, IsGrown, AreTightWords, IsTightened};
-ghost use Rattle.sf_dom.specs.Facts.{known_at, numbers_at, excluded_of, AreDecidedOperands};
+ghost use Rattle.sf_dom.specs.Known.{Admits, Leaves, IsDecided, IsTight};
+ghost use Rattle.sf_dom.specs.Propagation.{NoneAgreesWith, AreConsistentOperands, IsReducedNode, IsReady, IsPropagated, IsGrown, AreClosedWords, IsTightened, KeepsFixed, AreConsistent, AreExcludedAt};
+ghost use Rattle.sf_dom.specs.Passes.{IsPass, HasNoPass, HaveSamePass, AreAllDecided, AreFixed, AreTakenIn, CantBeTakenIn};
+ghost use Rattle.sf_dom.specs.Facts.{known_at, numbers_at, AreDecidedOperands};
 ghost use Rattle.sf_dom.specs.Reduction.{IsForced};
 ghost use Rattle.sf_dom.specs.Rules.{forward_node, IsReduction, HasNoReduction};
 
@@ -21,19 +22,21 @@ use sf_sym::{Node, NodeId, Pool};
 use std::alloc::Global;
 use std::sync::Arc;
 
-/// What is known of a node, reduced; `None` where no number is left.
-pub(crate) fn reduce_node(known: Known, node: Node, excluded: &Excluded) -> Option<Known>
-    requires word { (i : ℕ) → node ≡ Node.Word i → i < 16 }
+/// What is known of the node at a place, reduced; `None` where no number is left. The first sixteen nodes are the words
+/// of the input, for which numbers are excluded.
+pub(crate) fn reduce_at(known: Known, place: usize, excluded: &Excluded) -> Option<Known>
     ensures reduced { MatchOption result
-        ((n : ℕ) → ¬ Leaves known (excluded_of excluded.now node) n)
-        (λ r. IsReducedNode known r excluded.now node) }
-    ensures rule { MatchOption result
-        (HasNoReduction (excluded_of excluded.now node) node known)
-        (IsReduction (excluded_of excluded.now node) node known) }
+        ((xs : List ℕ) → AreExcludedAt excluded.now place xs → (n : ℕ)
+        → ¬ Leaves known xs n)
+        (λ r. (xs : List ℕ) → AreExcludedAt excluded.now place xs
+        → IsReducedNode known r xs) }
+    ensures rule { MatchOption result (HasNoReduction excluded.now place known)
+        (IsReduction excluded.now place known) }
 {
-    match node {
-        Node::Word(i) => reduce_word(known, excluded.of_word(i as usize)),
-        _ => reduce_known(known),
+    if place < WORDS {
+        reduce_word(known, excluded.of_word(place))
+    } else {
+        reduce_known(known)
     }
 }
 
@@ -59,6 +62,29 @@ fn transfer(nodes: &Nodes, node: Node) -> Known
     }
 }
 
+/// Whether a node has only one number.
+fn is_decided(nodes: &Nodes, at: NodeId) -> bool
+    requires { at.0 < length nodes.now.known }
+    ensures { IsTrue result → IsDecided (known_at nodes.now.known at.0) }
+{
+    let known = nodes.get(at.0 as usize);
+    known.low == known.high
+}
+
+/// Whether a node is a constant, or an operation on operands that have only one number each: no more can become known of
+/// it then.
+fn is_fixed(nodes: &Nodes, node: Node) -> bool
+    requires { OperandsBelow (length nodes.now.known) node }
+    ensures { IsTrue result → AreAllDecided nodes.now.known node }
+{
+    match node {
+        Node::Const(_) => true,
+        Node::Word(_) => false,
+        Node::Bin(_, a, b) => is_decided(nodes, a) && is_decided(nodes, b),
+        Node::Neg(a) => is_decided(nodes, a),
+    }
+}
+
 /// Whether a node that is a word is tight: both ends of its interval are numbers that are left for it. True of any
 /// other node.
 pub(crate) fn is_tight_at(nodes: &Nodes, excluded: &Excluded, pool: &Pool, at: NodeId) -> bool
@@ -73,23 +99,24 @@ pub(crate) fn is_tight_at(nodes: &Nodes, excluded: &Excluded, pool: &Pool, at: N
     }
 }
 
-/// Makes a node that is a word tight: both ends of its interval become numbers that are left for it. `false`: no input
+/// Reduces a node that is a word, so that both ends of its interval are numbers that are left for it. `false`: no input
 /// agrees.
 pub(crate) fn tighten(nodes: &mut Nodes, excluded: &Excluded, pool: &Pool, at: NodeId) -> bool
     requires ready { IsReady nodes.old.known pool.now }
     requires place { at.0 < length pool.now }
-    ensures { MatchBool result
+    ensures tightened { MatchBool result
         (IsTightened nodes.old.known nodes.new.known excluded.now pool.now at.0)
         (NoneAgreesWith nodes.old.known excluded.now pool.now) }
+    ensures rule { MatchBool result
+        (HaveSamePass nodes.old.known nodes.new.known excluded.now pool.now)
+        (HasNoPass nodes.old.known excluded.now pool.now) }
+    ensures variables { nodes.new.variables ≡ nodes.old.variables }
 {
     let Node::Word(i) = pool.node(at) else {
         return true;
     };
     let known = nodes.get(i as usize);
-    if is_tight(known, excluded.of_word(i as usize)) {
-        return true;
-    }
-    let Some(next) = reduce_node(known, Node::Word(i), excluded) else {
+    let Some(next) = reduce_at(known, i as usize, excluded) else {
         return false;
     };
     nodes.set(i as usize, next);
@@ -100,10 +127,16 @@ pub(crate) fn tighten(nodes: &mut Nodes, excluded: &Excluded, pool: &Pool, at: N
 /// are the words, which have no operands, so nothing follows for them. `false`: no input agrees.
 pub(crate) fn propagate(nodes: &mut Nodes, excluded: &Excluded, pool: &Pool) -> bool
     requires ready { IsReady nodes.old.known pool.now }
-    requires tight { AreTightWords nodes.old.known excluded.now }
-    ensures { MatchBool result
+    requires words { AreClosedWords nodes.old.known excluded.now }
+    requires fixed { AreFixed nodes.old.variables nodes.old.known pool.now }
+    ensures propagated { MatchBool result
         (IsPropagated nodes.old.known nodes.new.known excluded.now pool.now)
         (NoneAgreesWith nodes.old.known excluded.now pool.now) }
+    ensures rule { MatchBool result
+        (IsPass nodes.old.known nodes.new.known excluded.now pool.now)
+        (HasNoPass nodes.old.known excluded.now pool.now) }
+    ensures variables { MatchBool result (nodes.new.variables ≡ nodes.old.variables)
+        (Unit {0}) }
 {
     // For the prover: the pool is lawful.
     let _count = pool.len();
@@ -111,7 +144,7 @@ pub(crate) fn propagate(nodes: &mut Nodes, excluded: &Excluded, pool: &Pool) -> 
         let here = nodes.variable(rank);
         let node = pool.node_at(here.place as usize);
         let known = here.known.meet(transfer(nodes, node));
-        let Some(next) = reduce_node(known, node, excluded) else {
+        let Some(next) = reduce_at(known, here.place as usize, excluded) else {
             return false;
         };
         nodes.set_variable(rank, next);
@@ -128,6 +161,11 @@ pub(crate) fn append(nodes: &mut Nodes, excluded: &Excluded, pool: &Pool) -> Res
     ensures grown { IfOk result (λ b. MatchBool b
         (IsGrown nodes.old.known nodes.new.known excluded.now pool.now)
         (NoneAgreesWith nodes.old.known excluded.now pool.now)) }
+    ensures fixed { IfOk result (λ b. MatchBool b
+        (KeepsFixed nodes.old nodes.new pool.now) (Unit {0})) }
+    ensures rule { IfOk result (λ b. AreConsistent nodes.old.known → MatchBool b
+        (AreTakenIn nodes.old.known nodes.new.known excluded.now pool.now)
+        (CantBeTakenIn nodes.old.known excluded.now pool.now)) }
     ensures false_unchanged { length pool.now ≤ length nodes.old.known + 1 → result ≡ Ok false
         → nodes.new ≡ nodes.old }
     ensures err { length pool.now ≤ length nodes.old.known + 1
@@ -136,9 +174,10 @@ pub(crate) fn append(nodes: &mut Nodes, excluded: &Excluded, pool: &Pool) -> Res
     for i in nodes.len()..pool.len() {
         let node = pool.node_at(i);
         let known = transfer(nodes, node);
-        match reduce_node(known, node, excluded) {
+        let fixed = is_fixed(nodes, node);
+        match reduce_at(known, i, excluded) {
             None => return Ok(false),
-            Some(next) => nodes.push(next)?,
+            Some(next) => nodes.push(next, fixed)?,
         }
     }
     Ok(true)
@@ -158,6 +197,11 @@ fn extend_copy(
     ensures grown { IfOk result (λ b. MatchBool b
         (IsGrown (arc_value nodes.old).known (arc_value nodes.new).known excluded.now pool.now)
         (NoneAgreesWith (arc_value nodes.old).known excluded.now pool.now)) }
+    ensures fixed { IfOk result (λ b. MatchBool b
+        (KeepsFixed (arc_value nodes.old) (arc_value nodes.new) pool.now) (Unit {0})) }
+    ensures rule { IfOk result (λ b. AreConsistent (arc_value nodes.old).known → MatchBool b
+        (AreTakenIn (arc_value nodes.old).known (arc_value nodes.new).known excluded.now pool.now)
+        (CantBeTakenIn (arc_value nodes.old).known excluded.now pool.now)) }
     ensures false_unchanged { result ≡ Ok false → arc_value nodes.new ≡ arc_value nodes.old }
     ensures err { OnErr result (arc_value nodes.new ≡ arc_value nodes.old) }
 {
@@ -183,6 +227,11 @@ pub(crate) fn extend(
     ensures grown { IfOk result (λ b. MatchBool b
         (IsGrown (arc_value nodes.old).known (arc_value nodes.new).known excluded.now pool.now)
         (NoneAgreesWith (arc_value nodes.old).known excluded.now pool.now)) }
+    ensures fixed { IfOk result (λ b. MatchBool b
+        (KeepsFixed (arc_value nodes.old) (arc_value nodes.new) pool.now) (Unit {0})) }
+    ensures rule { IfOk result (λ b. AreConsistent (arc_value nodes.old).known → MatchBool b
+        (AreTakenIn (arc_value nodes.old).known (arc_value nodes.new).known excluded.now pool.now)
+        (CantBeTakenIn (arc_value nodes.old).known excluded.now pool.now)) }
     ensures false_unchanged { result ≡ Ok false → arc_value nodes.new ≡ arc_value nodes.old }
     ensures err { OnErr result (arc_value nodes.new ≡ arc_value nodes.old) }
 {

@@ -1,6 +1,8 @@
-use Rattle.std.proofs.Common.{◌≡◌, ℕ, ◌<◌, ◌≤◌, length, take}
-use Rattle.sf_dom.specs.Known.{IsConsistent}
-use Rattle.sf_dom.specs.Propagation.{KeepsAgreeing, IsPropagatedAt}
+use Rattle.std.proofs.Common.{◌≡◌, ℕ, ◌<◌, ◌≤◌, ◌⊎◌, length, take}
+use Rattle.sf_sym.specs.Pool.{node_at}
+use Rattle.sf_dom.specs.Rules.{forward_node, IsReduction}
+use Rattle.sf_dom.specs.Passes.{IsVariableAt, IsFixedAt}
+use Rattle.sf_dom.specs.Propagation.{KeepsAgreeing, AreConsistent, IsPropagatedAt}
 use Rattle.sf_dom.proofs.propagation.append.Given as goal
 use Rattle.sf_dom.specs.Facts.{known_at}
 
@@ -11,6 +13,12 @@ invariant-loop-i l = record {
   longer : length l.fn.nodes.known ≤ length l.nodes.known;
   untouched : l.i ≡ length l.fn.nodes.known → l.nodes ≡ l.fn.nodes;
   keeps : KeepsAgreeing l.fn.nodes.known l.nodes.known l.excluded l.pool;
-  passed : ((k : ℕ) → k < length l.fn.nodes.known → IsConsistent (known_at l.fn.nodes.known k)) → (k : ℕ)
+  passed : AreConsistent l.fn.nodes.known → (k : ℕ)
       → length l.fn.nodes.known ≤ k → k < l.i → IsPropagatedAt l.nodes.known l.excluded l.pool k;
+  fixed : AreConsistent l.fn.nodes.known
+      → ((k : ℕ) → k < length l.fn.nodes.known → IsVariableAt l.fn.nodes.variables k
+      ⊎ IsFixedAt l.fn.nodes.known l.pool k)
+      → (k : ℕ) → k < l.i → IsVariableAt l.nodes.variables k ⊎ IsFixedAt l.nodes.known l.pool k;
+  ruled : AreConsistent l.fn.nodes.known → (k : ℕ) → length l.fn.nodes.known ≤ k → k < l.i
+      → IsReduction l.excluded k (forward_node l.nodes.known (node_at l.pool k)) (known_at l.nodes.known k);
 }

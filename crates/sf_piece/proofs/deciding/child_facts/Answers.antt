@@ -5,4 +5,4 @@ pub returns : goal.returns
 returns c =
     let plain = rw (← c.run.view_is) at c.requires.plain in
     rw (← c.run.view_is) (learnt_child _ c.args.cond c.args.sense c.in_ok-learnt.learnt
-    (rw (← c.run.view_is) at c.requires.lawful).run plain c.in_ok-learnt.ensures)
+    (rw (← c.run.view_is) at c.requires.lawful).run plain c.in_ok-learnt.ensures.learnt)

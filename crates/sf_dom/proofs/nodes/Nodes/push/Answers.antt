@@ -1,7 +1,7 @@
 use Rattle.std.proofs.lemmas.Grind.{common_steps}
-use Rattle.std.proofs.Common.{◌≡◌, length, arith}
+use Rattle.std.proofs.Common.{◌≡◌, length, arith, inr}
 use Rattle.std.specs.Arc.{arc_value}
-use Rattle.sf_dom.proofs.KeptNodes.{variables-fit, kept-number, known-variable, kept-variable}
+use Rattle.sf_dom.proofs.KeptNodes.{variables-fit, kept-number, known-variable, kept-variable, places-variable}
 use Rattle.sf_dom.proofs.nodes.Nodes.push.Goals as goal
 
 pub overflow_cast-rank : goal.overflow_cast-rank
@@ -36,3 +36,9 @@ returns-clause-ok c =
       count,
     )
     (known-variable (arc_value c.self.inside.slots) items c.args.known c.self.invariant)
+
+pub returns-clause-variables : goal.returns-clause-variables
+returns-clause-variables c =
+    let items = c.self.inside.variables.items in
+    rw (← c.self.view_is, c.in_ok-add_variable.ensures.variable, c.len-place.ensures.value, c.deref.ensures)
+    (inr (places-variable (arc_value c.self.inside.slots) items c.args.known))

@@ -1,0 +1,269 @@
+-- What stays as it is in a forward pass, and what a pass leaves.
+use Rattle.std.proofs.Common.{◌≡◌, ◌≢◌, ℕ, ◌+◌, ◌-◌, ◌<◌, ◌≤◌, List, length, set, arith, refl, sym, ap, ◌∙◌, inl, inr, zero, suc}
+use Rattle.std.specs.Prelude.{Option, Some, None, MatchOption, Bool, true, false, MatchBool}
+use Rattle.std.proofs.lemmas.Bool.{cases_lt, cases_eq}
+use Rattle.std.proofs.lemmas.List.{get_or-set_same, get_or-set_other, ext_get_or}
+use Rattle.std.proofs.lemmas.Nat.Bits.{bit_at_or, bit_at-zero}
+use Rattle.sf_sym.specs.Pool.{IsPool, OperandsBelow, node_at}
+use Rattle.sf_sym.specs.declared.pool.Node.{Node}
+use Rattle.sf_sym.specs.declared.pool.Node.TheVariants.{Const, Word, Bin, Neg}
+use Rattle.sf_sym.specs.ValueLaws.{OperandsBelow-at}
+use Rattle.sf_dom.specs.declared.known.Known.{Known}
+use Rattle.sf_dom.specs.Known.{IsNarrower, IsConsistent, IsDecided, known_of}
+use Rattle.sf_dom.specs.Reading.{known_at}
+use Rattle.sf_dom.specs.Rules.{met, forward_node, IsClosed, IsClosedAt, IsReduction, HasNoReduction, IsWidest, HasNone}
+use Rattle.sf_dom.specs.Passes.{IsPassedAt, IsPass, HasNoPass, HaveSamePass, IsAtRest, AreAllDecided, IsFixedAt, AreFixed}
+use Rattle.sf_dom.proofs.Reductions.{IsNarrower-trans, IsNarrower-refl}
+use Rattle.sf_dom.proofs.Bits.{bits-of-or, bits-of-or_right}
+use Rattle.sf_dom.proofs.ClosedLemmas.{closed-number}
+use Rattle.sf_dom.proofs.RuleLaws.{one-reduction}
+
+-- what is met loses nothing of either
+pub met-left : (a b : Known) → IsNarrower a (met a b)
+met-left a b = record {
+  low = omega arith;
+  high = omega arith;
+  zeros = bits-of-or a.zeros b.zeros;
+  ones = bits-of-or a.ones b.ones;
+}
+
+pub met-right : (a b : Known) → IsNarrower b (met a b)
+met-right a b = record {
+  low = omega arith;
+  high = omega arith;
+  zeros = bits-of-or_right a.zeros b.zeros;
+  ones = bits-of-or_right a.ones b.ones;
+}
+
+pub met-below : (a b k : Known) → IsNarrower a k → IsNarrower b k → IsNarrower (met a b) k
+met-below a b k h l = record {
+  low = omega (arith, h.low, l.low);
+  high = omega (arith, h.high, l.high);
+  zeros = λ i. omega (arith, bit_at_or a.zeros b.zeros i, h.zeros i, l.zeros i);
+  ones = λ i. omega (arith, bit_at_or a.ones b.ones i, h.ones i, l.ones i);
+}
+
+-- where nothing follows, reduction leaves what was known
+pub still-reduction : (kind : Known → Type 0) (k f : Known) → kind k → IsNarrower f k → IsWidest kind (met k f) k
+still-reduction kind k f h n = record {
+  is = h;
+  narrower = met-below k f k (IsNarrower-refl k) n;
+  widest = λ s t m. IsNarrower-trans k (met k f) s (met-left k f) m;
+}
+
+-- operands are older
+lower : (ns : List Node) (i : ℕ) → IsPool ns → i < length ns → OperandsBelow i (node_at ns i)
+lower ns i p l = let e : 0 + i ≡ i = omega arith in rw e at (OperandsBelow-at 0 ns i p.ordered l)
+
+-- what has one number with all its bits is that number
+pub one-number : (k : Known) → IsConsistent k → IsDecided k → k ≡ known_of k.low k.low (4294967295 - k.low) k.low
+one-number k h e = made k.low k.high k.zeros k.ones k.low k.low (4294967295 - k.low) k.low refl (sym e) (h.zeros e)
+    (h.ones e)
+  where
+    made : (l h z o m i y p : ℕ) → l ≡ m → h ≡ i → z ≡ y → o ≡ p → known_of l h z o ≡ known_of m i y p
+    made l h z o m i y p a b c d = cc
+
+-- no more becomes known of what has one number
+pub number-stays : (a b : Known) → IsConsistent a → IsConsistent b → IsNarrower a b → IsDecided a → b ≡ a
+number-stays a b h k n e =
+    let nl = n.low in let nh = n.high in let o = k.ordered in
+    let same : b.low ≡ a.low = omega arith in
+    one-number b k (omega arith) ∙ ap (λ m. known_of m m (4294967295 - m) m) same ∙ sym (one-number a h e)
+
+pub decided-closed : (k : Known) → IsConsistent k → IsDecided k → IsClosed k
+decided-closed k h e = rw (one-number k h e) (closed-number k.low (omega (arith, h.fits, e)))
+
+-- what follows from operands that are the same
+pub forward-same : (ks js : List Known) (k : ℕ) (n : Node) → OperandsBelow k n
+    → ((j : ℕ) → j < k → known_at ks j ≡ known_at js j) → forward_node ks n ≡ forward_node js n
+forward-same ks js k (Const c) o h = refl
+forward-same ks js k (Word i) o h = refl
+forward-same ks js k (Bin op a b) o h = rw (h a.0 o.0, h b.0 o.1) refl
+forward-same ks js k (Neg a) o h = rw (h a.0 o) refl
+
+-- operands with one number keep it
+pub decided-same : (ks js : List Known) (k : ℕ) (n : Node) → OperandsBelow k n
+    → ((j : ℕ) → j < k → IsDecided (known_at ks j) → known_at js j ≡ known_at ks j) → AreAllDecided ks n
+    → AreAllDecided js n × (forward_node js n ≡ forward_node ks n)
+decided-same ks js k (Const c) o h d = (tt, refl)
+decided-same ks js k (Word i) o h d = elim d [ ]
+decided-same ks js k (Bin op a b) o h d =
+    let ea = h a.0 o.0 d.0 in let eb = h b.0 o.1 d.1 in
+    ((rw ea d.0, rw eb d.1), rw (ea, eb) refl)
+decided-same ks js k (Neg a) o h d = let e = h a.0 o d in (rw e d, rw e refl)
+
+-- no more becomes known of a node of which no more can
+pub fixed-same : (ks js : List Known) (ns : List Node) (i : ℕ) → IsPool ns → i < length ns
+    → ((j : ℕ) → j < i → IsDecided (known_at ks j) → known_at js j ≡ known_at ks j)
+    → IsNarrower (known_at ks i) (known_at js i) → IsFixedAt ks ns i → IsFixedAt js ns i
+fixed-same ks js ns i p l same n f =
+    let t = decided-same ks js i (node_at ns i) (lower ns i p l) same f.operands in
+    record {
+      operands = t.0;
+      still = rw t.1 (IsNarrower-trans (forward_node ks (node_at ns i)) (known_at ks i) (known_at js i) f.still n);
+    }
+
+-- where more becomes known, each node is a variable still, or no more can become known of it
+pub fixed-narrower : (places : List ℕ) (old new : List Known) (ns : List Node) → IsPool ns
+    → ((i : ℕ) → i < length ns → IsConsistent (known_at old i))
+    → ((i : ℕ) → i < length ns → IsConsistent (known_at new i))
+    → ((i : ℕ) → i < length ns → IsNarrower (known_at old i) (known_at new i)) → AreFixed places old ns
+    → AreFixed places new ns
+fixed-narrower places old new ns p co cn narrower fixed i l = elim (fixed i l) [
+  | inl v ↦ inl v
+  | inr f ↦ inr (fixed-same old new ns i p l (λ j b. number-stays (known_at old j) (known_at new j) (co j (omega arith))
+      (cn j (omega arith)) (narrower j (omega arith))) (narrower i l) f)
+]
+
+-- a node of which no more can become known is at rest
+pub fixed-rest : (ks : List Known) (ex : List (List ℕ)) (ns : List Node) (i : ℕ) → IsConsistent (known_at ks i)
+    → 16 ≤ i → IsDecided (known_at ks i) → IsFixedAt ks ns i → IsAtRest ks ex ns i
+fixed-rest ks ex ns i c l d f = record {
+  closed = record { known = decided-closed (known_at ks i) c d; tight = λ b. absurd (omega arith) };
+  still = f.still;
+}
+
+-- a word has no operands, so nothing follows for it
+pub word-rest : (ks : List Known) (ex : List (List ℕ)) (ns : List Node) (i : ℕ) → IsPool ns → i < 16
+    → IsClosedAt ex i (known_at ks i) → IsAtRest ks ex ns i
+word-rest ks ex ns i p l h =
+    let f = h.known.fits in
+    record {
+      closed = h;
+      still = rw (p.word i l) (record {
+        low = omega arith;
+        high = omega arith;
+        zeros = λ j. omega (arith, bit_at-zero j);
+        ones = λ j. omega (arith, bit_at-zero j);
+      });
+    }
+
+-- a node at rest is as a pass leaves it
+pub rest-passed : (old new : List Known) (ex : List (List ℕ)) (ns : List Node) (k : ℕ)
+    → known_at new k ≡ known_at old k → IsAtRest new ex ns k → IsPassedAt old new ex ns k
+rest-passed old new ex ns k e h =
+    rw (← e) (still-reduction _ (known_at new k) (forward_node new (node_at ns k)) h.closed h.still)
+
+-- where all nodes are at rest, a pass changes nothing
+pub rest-pass : (ks : List Known) (ex : List (List ℕ)) (ns : List Node) → length ks ≡ length ns
+    → ((i : ℕ) → i < length ns → IsAtRest ks ex ns i) → IsPass ks ks ex ns
+rest-pass ks ex ns count rest = record {
+  count = count;
+  each = λ k l. rest-passed ks ks ex ns k refl (rest k l);
+}
+
+-- what a pass leaves of a node depends on what it leaves of older ones
+pub passed-same : (old new js : List Known) (ex : List (List ℕ)) (ns : List Node) (k : ℕ) → IsPool ns → k < length ns
+    → ((j : ℕ) → j ≤ k → known_at new j ≡ known_at js j) → IsPassedAt old new ex ns k → IsPassedAt old js ex ns k
+passed-same old new js ex ns k p l same h =
+    rw (forward-same new js k (node_at ns k) (lower ns k p l) (λ j b. same j (omega arith)), same k (omega arith)) at h
+
+-- two passes leave the same of each node, up to one that only the second has come to
+pub same-up_to : (old a b : List Known) (ex : List (List ℕ)) (ns : List Node) → IsPool ns → (m : ℕ) → m ≤ length ns
+    → ((k : ℕ) → k < m → IsPassedAt old a ex ns k) → ((k : ℕ) → k < m → IsPassedAt old b ex ns k) → (k : ℕ) → k < m
+    → known_at a k ≡ known_at b k
+same-up_to old a b ex ns p zero l h g k lk = absurd (omega arith)
+same-up_to old a b ex ns p (suc m) l h g k lk =
+    let before = same-up_to old a b ex ns p m (omega arith) (λ j s. h j (omega arith)) (λ j s. g j (omega arith)) in
+    elim (cases_lt k m) [
+      | inl s ↦ before k s
+      | inr o ↦
+          let older = forward-same a b k (node_at ns k) (lower ns k p (omega arith)) (λ j s. before j (omega arith)) in
+          one-reduction _ _ (known_at a k) (known_at b k) (rw older at (h k lk)) (g k lk)
+    ]
+
+-- there is one pass at most
+pub one-pass : (old a b : List Known) (ex : List (List ℕ)) (ns : List Node) → IsPool ns → IsPass old a ex ns
+    → IsPass old b ex ns → a ≡ b
+one-pass old a b ex ns p h g =
+    ext_get_or (known_of 0 0 0 0) a b (h.count ∙ sym g.count)
+    (λ k l. same-up_to old a b ex ns p (length ns) (omega arith) h.each g.each k (omega (arith, h.count)))
+
+-- where a node is left nothing, there is no pass
+pub pass-none : (old new : List Known) (ex : List (List ℕ)) (ns : List Node) (i : ℕ) → IsPool ns → i < length ns
+    → ((k : ℕ) → k < i → IsPassedAt old new ex ns k)
+    → HasNoReduction ex i (met (known_at old i) (forward_node new (node_at ns i)))
+    → HasNoPass old ex ns
+pass-none old new ex ns i p l before none = λ last pass.
+    let older = forward-same last new i (node_at ns i) (lower ns i p l)
+    (same-up_to old last new ex ns p i (omega arith) (λ k b. pass.each k (omega arith)) before) in
+    let r = rw older at (pass.each i l) in
+    none (known_at last i) r.is r.narrower
+
+-- kinds that are the same have the same reductions
+module _ (kind other : Known → Type 0) (to : (k : Known) → kind k → other k) (from : (k : Known) → other k → kind k)
+    (old : Known) where
+  pub reduction-as : (o : Option Known) → MatchOption o (HasNone kind old) (IsWidest kind old)
+      → MatchOption o (HasNone other old) (IsWidest other old)
+  reduction-as None h = λ k is n. h k (from k is) n
+  reduction-as (Some r) h = record {
+    is = to r h.is;
+    narrower = h.narrower;
+    widest = λ k is n. h.widest k (from k is) n;
+  }
+
+-- to reduce before a meeting and after it leaves the same as to reduce after it
+pub in-parts : (kind : Known → Type 0) (a left b r : Known) → IsWidest kind a left → IsWidest kind (met left b) r
+    → IsWidest kind (met a b) r
+in-parts kind a left b r h k = record {
+  is = k.is;
+  narrower = met-below a b r
+      (IsNarrower-trans a left r h.narrower (IsNarrower-trans left (met left b) r (met-left left b) k.narrower))
+      (IsNarrower-trans b (met left b) r (met-right left b) k.narrower);
+  widest = λ s t n. k.widest s t (met-below left b s (h.widest s t (IsNarrower-trans a (met a b) s (met-left a b) n))
+      (IsNarrower-trans b (met a b) s (met-right a b) n));
+}
+
+pub at-once : (kind : Known → Type 0) (a left b r : Known) → IsWidest kind a left → IsWidest kind (met a b) r
+    → IsWidest kind (met left b) r
+at-once kind a left b r h k = record {
+  is = k.is;
+  narrower = met-below left b r
+      (h.widest r k.is (IsNarrower-trans a (met a b) r (met-left a b) k.narrower))
+      (IsNarrower-trans b (met a b) r (met-right a b) k.narrower);
+  widest = λ s t n. k.widest s t (met-below a b s (IsNarrower-trans a left s h.narrower
+      (IsNarrower-trans left (met left b) s (met-left left b) n))
+      (IsNarrower-trans b (met left b) s (met-right left b) n));
+}
+
+-- a word may be reduced before a pass
+pub same-pass : (ks : List Known) (ex : List (List ℕ)) (ns : List Node) (i : ℕ) (next : Known) → IsPool ns
+    → i < length ns → length ks ≡ length ns → i < 16 → IsReduction ex i (known_at ks i) next
+    → HaveSamePass ks (set ks i next) ex ns
+same-pass ks ex ns i next p l count w h last =
+    let here : i < length ks = omega arith in
+    let own : known_at (set ks i next) i ≡ next = get_or-set_same ks i next (known_of 0 0 0 0) here in
+    let other : (k : ℕ) → k ≢ i → known_at (set ks i next) k ≡ known_at ks k
+    = λ k ne. get_or-set_other ks i k next (known_of 0 0 0 0) ne in (
+      (λ pass. record {
+        count = pass.count;
+        each = λ k lk. elim (cases_eq k i) [
+          | inl e ↦ rw e (in-parts (IsClosedAt ex i) (known_at ks i) next (forward_node last (node_at ns i))
+              (known_at last i) h (rw own at (pass.each i l)))
+          | inr ne ↦ rw (other k ne) at (pass.each k lk)
+        ];
+      }),
+      (λ pass. record {
+        count = pass.count;
+        each = λ k lk. elim (cases_eq k i) [
+          | inl e ↦ rw (e, own) (at-once (IsClosedAt ex i) (known_at ks i) next (forward_node last (node_at ns i))
+              (known_at last i) h (pass.each i l))
+          | inr ne ↦ rw (other k ne) (pass.each k lk)
+        ];
+      }),
+    )
+
+-- where a node is left nothing by itself, there is no pass
+pub none-before : (ks : List Known) (ex : List (List ℕ)) (ns : List Node) (i : ℕ) → IsPool ns → i < length ns
+    → HasNoReduction ex i (known_at ks i) → HasNoPass ks ex ns
+none-before ks ex ns i p l none = λ last pass.
+    let f : Known = forward_node last (node_at ns i) in
+    let r = pass.each i l in
+    none (known_at last i) r.is (IsNarrower-trans (known_at ks i) (met (known_at ks i) f) (known_at last i)
+    (met-left (known_at ks i) f) r.narrower)
+
+-- and then the same pass follows
+pub same-after : (r : Bool) (a b n : List Known) (ex : List (List ℕ)) (ns : List Node) → HaveSamePass a b ex ns
+    → MatchBool r (IsPass b n ex ns) (HasNoPass b ex ns) → MatchBool r (IsPass a n ex ns) (HasNoPass a ex ns)
+same-after true a b n ex ns s h = (s n).0 h
+same-after false a b n ex ns s h = λ last pass. h last ((s last).1 pass)
