@@ -17,7 +17,7 @@ use crate::axis::Axis;
 use crate::ends::Ends;
 use crate::fault::Fault;
 use crate::held::{Held, all_ends, held_within};
-use crate::labels::{is_one_label, labels_left, labels_of};
+use crate::labels::{Which, is_one_label, labels_of};
 use crate::lasts::lasts_of;
 use crate::picture::{Branch, Picture, Run};
 use crate::runs::{close_runs, push_run};
@@ -46,8 +46,14 @@ fn leaf_of(sketch: &mut Sketch, labels: Vec<usize>) -> Result<Option<Branch>, Fa
     Ok(Some(leaf))
 }
 
-/// A leaf with the labels of all that is held, or none where nothing is. `Memory` where an allocation is refused.
-fn leaf_of_all(alloc: Global, sketch: &mut Sketch, held: &[Held]) -> Result<Option<Branch>, Fault>
+/// A leaf with the labels of what is held, all or what is left, or none where there are none. `Memory` where an allocation
+/// is refused.
+fn leaf_of_held(
+    alloc: Global,
+    sketch: &mut Sketch,
+    held: &[Held],
+    which: Which,
+) -> Result<Option<Branch>, Fault>
     requires right { IsRightSketch sketch.old }
     ensures grows { IfOk result (λ _. Grows sketch.old sketch.new) }
     ensures right { IfOk result (λ _. IsRightSketch sketch.new) }
@@ -61,28 +67,7 @@ fn leaf_of_all(alloc: Global, sketch: &mut Sketch, held: &[Held]) -> Result<Opti
     ensures spent { IfOk result (λ _. sketch.new.spent ≡ sketch.old.spent) }
     ensures err { IfErr result (λ f. f ≡ Memory) }
 {
-    let labels = labels_of(alloc, held)?;
-    let leaf = leaf_of(sketch, labels)?;
-    Ok(leaf)
-}
-
-/// A leaf with the labels of what is held and isn't ruled out by conditions that are learnt once more, or none where all is
-/// ruled out. `Memory` where an allocation is refused.
-fn leaf_of_left(alloc: Global, sketch: &mut Sketch, held: &[Held]) -> Result<Option<Branch>, Fault>
-    requires right { IsRightSketch sketch.old }
-    ensures grows { IfOk result (λ _. Grows sketch.old sketch.new) }
-    ensures right { IfOk result (λ _. IsRightSketch sketch.new) }
-    ensures drawn { IfOk result (λ o. MatchOption o (NoneIsHeld held.now)
-        (λ b. IsShownAt sketch.new b held.now)) }
-    ensures short { IfOk result (λ _. AreOneLabel held.now
-        → KeepsShort sketch.old sketch.new) }
-    ensures attained { IfOk result (λ o. (s : BookData) (labels : List ℕ) (box : List ASpan)
-        → All (IsPlainHeld s labels box) held.now
-        → AreAttainedAt (length sketch.old.leaves) sketch.new held.now o) }
-    ensures spent { IfOk result (λ _. sketch.new.spent ≡ sketch.old.spent) }
-    ensures err { IfErr result (λ f. f ≡ Memory) }
-{
-    let labels = labels_left(alloc, held)?;
+    let labels = labels_of(alloc, held, which)?;
     let leaf = leaf_of(sketch, labels)?;
     Ok(leaf)
 }
@@ -103,7 +88,7 @@ fn early_leaf_of(alloc: Global, sketch: &mut Sketch, held: &[Held]) -> Result<Op
     ensures err { IfErr result (λ f. f ≡ Memory) }
 {
     sketch.spend();
-    leaf_of_all(alloc, sketch, held)
+    leaf_of_held(alloc, sketch, held, Which::All)
 }
 
 /// A fork of these runs; the last one goes on to the greatest number of the axis. Of one run it is the branch to which the
@@ -233,10 +218,10 @@ fn draw(
     ensures err { IfErr result (λ f. f ≡ Memory) }
 {
     if is_one_label(held) {
-        return leaf_of_all(alloc, sketch, held);
+        return leaf_of_held(alloc, sketch, held, Which::All);
     }
     if at == axes.len() {
-        return leaf_of_left(alloc, sketch, held);
+        return leaf_of_held(alloc, sketch, held, Which::Left);
     }
     if sketch.is_full() {
         return early_leaf_of(alloc, sketch, held);

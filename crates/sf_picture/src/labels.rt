@@ -11,6 +11,15 @@ use crate::held::{Held, is_ruled_out};
 use std::alloc::Global;
 use std::collections::BTreeSet;
 
+/// Of which of what is held the labels are gathered.
+#[derive(Clone, Copy, Debug, PartialEq, Eq)]
+pub(crate) enum Which {
+    /// All.
+    All,
+    /// What is left, where conditions that are learnt once more rule some out.
+    Left,
+}
+
 /// Whether a label is among others.
 fn has(labels: &BTreeSet<usize>, label: usize) -> bool
     ensures { IsTrue result ↔ Contains labels.now.keys label }
@@ -32,9 +41,13 @@ fn insert_label(labels: &mut BTreeSet<usize>, label: usize) -> Result<(), Fault>
     Ok(())
 }
 
-/// Adds the label of what is held, unless it is there, or conditions that are learnt once more rule it out. `Memory` where
-/// an allocation is refused.
-fn insert_label_left(alloc: Global, labels: &mut BTreeSet<usize>, one: &Held) -> Result<(), Fault>
+/// Adds the label of what is held, unless it is there, or `which` leaves it out. `Memory` where an allocation is refused.
+fn insert_label_of(
+    alloc: Global,
+    labels: &mut BTreeSet<usize>,
+    one: &Held,
+    which: Which,
+) -> Result<(), Fault>
     ensures has { IfOk result (λ _. (d : AnInput) → IsHeldBy one.now d
         → Contains labels.new.keys one.now.label) }
     ensures keeps { IfOk result (λ _. (n : ℕ) → Contains labels.old.keys n
@@ -47,7 +60,7 @@ fn insert_label_left(alloc: Global, labels: &mut BTreeSet<usize>, one: &Held) ->
     if has(labels, one.label()) {
         return Ok(());
     }
-    if is_ruled_out(alloc, one)? {
+    if which == Which::Left && is_ruled_out(alloc, one)? {
         return Ok(());
     }
     insert_label(labels, one.label())?;
@@ -80,8 +93,8 @@ fn list_of(alloc: Global, labels: BTreeSet<usize>) -> Result<Vec<usize>, Fault>
     Ok(labels.into_iter().collect(alloc)?)
 }
 
-/// The labels of all that is held, each once, in rising order. `Memory` where an allocation is refused.
-pub(crate) fn labels_of(alloc: Global, held: &[Held]) -> Result<Vec<usize>, Fault>
+/// The labels of what is held, all or what is left, each once, in rising order. `Memory` where an allocation is refused.
+pub(crate) fn labels_of(alloc: Global, held: &[Held], which: Which) -> Result<Vec<usize>, Fault>
     ensures labels { IfOk result (λ v. All (λ (h : HeldData). (d : AnInput) → IsHeldBy h d
         → Contains v.items h.label) held.now) }
     ensures one { IfOk result (λ v. AreOneLabel held.now → length v.items ≤ 1) }
@@ -91,24 +104,7 @@ pub(crate) fn labels_of(alloc: Global, held: &[Held]) -> Result<Vec<usize>, Faul
 {
     let mut labels = BTreeSet::new(alloc);
     for one in held {
-        insert_label(&mut labels, one.label())?;
-    }
-    list_of(alloc, labels)
-}
-
-/// The labels of all that is held and isn't ruled out by conditions that are learnt once more, each once, in rising order.
-/// `Memory` where an allocation is refused.
-pub(crate) fn labels_left(alloc: Global, held: &[Held]) -> Result<Vec<usize>, Fault>
-    ensures labels { IfOk result (λ v. All (λ (h : HeldData). (d : AnInput) → IsHeldBy h d
-        → Contains v.items h.label) held.now) }
-    ensures one { IfOk result (λ v. AreOneLabel held.now → length v.items ≤ 1) }
-    ensures few { IfOk result (λ v. length v.items ≤ length held.now) }
-    ensures rising { IfOk result (λ v. IsNonDecreasing v.items) }
-    ensures err { IfErr result (λ f. f ≡ Memory) }
-{
-    let mut labels = BTreeSet::new(alloc);
-    for one in held {
-        insert_label_left(alloc, &mut labels, one)?;
+        insert_label_of(alloc, &mut labels, one, which)?;
     }
     list_of(alloc, labels)
 }

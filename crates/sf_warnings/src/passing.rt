@@ -1,10 +1,6 @@
 //! Whether any call gets through a stack.
 
-ghost use Rattle.std.specs.Prelude.{◌≡◌, ◌<◌, ℕ, false, length, IsTrue, All};
-ghost use Rattle.sf_insn.specs.Inputs.{IsInput};
-ghost use Rattle.sf_insn.specs.declared.input.Input.{Input as AnInput};
-ghost use Rattle.sf_run.specs.Answers.{Answers};
-ghost use Rattle.sf_run.specs.declared.action.Answer.{Answer as AnAnswer};
+ghost use Rattle.std.specs.Prelude.{◌≡◌, false, IsTrue};
 ghost use Rattle.sf_warnings.specs.Passing.{LetsNoneThrough, may_let_through};
 
 use sf_book::Settled;

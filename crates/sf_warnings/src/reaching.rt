@@ -1,6 +1,6 @@
 //! Which instructions of a filter control may come to.
 
-ghost use Rattle.std.specs.Prelude.{◌≡◌, ◌+◌, ◌<◌, ◌≤◌, ℕ, length, IfOk};
+ghost use Rattle.std.specs.Prelude.{◌≡◌, ◌+◌, ◌<◌, length, IfOk};
 ghost use Rattle.sf_check.specs.Insns.{successors};
 ghost use Rattle.sf_check.specs.Programs.{AllBelow};
 ghost use Rattle.sf_warnings.specs.Reaching.{AreReached, with_found};

@@ -127,13 +127,13 @@ draw-loop-last-preserved t c =
     }
 
 pub draw-returns-then-is_one_label-clause-short : goal.draw-returns-then-is_one_label-clause-short
-draw-returns-then-is_one_label-clause-short t c = IfOk-weaker c.leaf_of_all.result _ _
-    (λ _ h s labels box task. h (c.if-is_one_label.ensures refl)) c.leaf_of_all.ensures.short
+draw-returns-then-is_one_label-clause-short t c = IfOk-weaker c.leaf_of_held.result _ _
+    (λ _ h s labels box task. h (c.if-is_one_label.ensures refl)) c.leaf_of_held.ensures.short
 
 pub draw-returns-then-at-axes-clause-short : goal.draw-returns-then-at-axes-clause-short
-draw-returns-then-at-axes-clause-short t c = IfOk-weaker c.leaf_of_left.result _ _
+draw-returns-then-at-axes-clause-short t c = IfOk-weaker c.leaf_of_held-then-at-axes.result _ _
     (λ _ h s labels box task. h (one-label s labels box c.args.held.now c.args.axes.now c.args.at task (omega arith)))
-    c.leaf_of_left.ensures.short
+    c.leaf_of_held-then-at-axes.ensures.short
 
 pub draw-returns-then-len-eq1-clause-short : goal.draw-returns-then-len-eq1-clause-short
 draw-returns-then-len-eq1-clause-short t c =

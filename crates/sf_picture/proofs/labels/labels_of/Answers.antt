@@ -1,6 +1,4 @@
-use Rattle.std.proofs.Common.{ℕ, ap, subst, length, arith}
-use Rattle.std.specs.Prelude.{Contains}
-use Rattle.sf_picture.specs.Holding.{AreAtMost}
+use Rattle.std.proofs.Common.{ap, length, arith}
 use Rattle.std.proofs.lemmas.Result.{IfOk-weaker}
 use Rattle.sf_picture.proofs.HoldingLemmas.{labelled-more, labelled-all, one-each, one-short}
 use Rattle.sf_picture.proofs.labels.labels_of.Goals as goal
@@ -10,14 +8,12 @@ loop-one-preserved c =
     let i = c.loop-one.invariant in
     record {
       labels = labelled-more c.args.held.now c.loop-one.one-index c.one-item.result c.loop-one.labels.keys
-          c.insert_label.new.labels.keys (omega arith) c.one-item.is c.in_ok-insert_label.ensures.keeps
-          (λ d m. subst (λ (l : ℕ). Contains c.insert_label.new.labels.keys l) c.label.ensures
-          c.in_ok-insert_label.ensures.has) i.labels;
+          c.insert_label_of.new.labels.keys (omega arith) c.one-item.is c.in_ok-insert_label_of.ensures.keeps
+          c.in_ok-insert_label_of.ensures.has i.labels;
       one = λ one. one-each c.args.held.now c.loop-one.one-index c.one-item.result c.loop-one.labels.keys
-          c.insert_label.new.labels.keys one (omega arith) c.one-item.is
-          (subst (λ (l : ℕ). AreAtMost l c.loop-one.labels.keys → AreAtMost l c.insert_label.new.labels.keys)
-          c.label.ensures c.in_ok-insert_label.ensures.once) (i.one one);
-      few = omega (arith, c.in_ok-insert_label.ensures.few, i.few);
+          c.insert_label_of.new.labels.keys one (omega arith) c.one-item.is
+          c.in_ok-insert_label_of.ensures.once (i.one one);
+      few = omega (arith, c.in_ok-insert_label_of.ensures.few, i.few);
     }
 
 pub returns-clause-labels : goal.returns-clause-labels

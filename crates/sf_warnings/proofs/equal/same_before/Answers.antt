@@ -1,5 +1,5 @@
 use Rattle.std.proofs.lemmas.Grind.{common_steps}
-use Rattle.std.proofs.Common.{arith, below_more, length, map, get_or, ◌≡◌, []}
+use Rattle.std.proofs.Common.{arith, below_more, map}
 use Rattle.std.proofs.lemmas.List.{get_or-map, length-map}
 use Rattle.sf_warnings.specs.Equal.{AreSame}
 use Rattle.sf_warnings.proofs.equal.same_before.Goals as goal

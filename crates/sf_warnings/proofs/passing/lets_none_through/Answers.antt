@@ -1,4 +1,4 @@
-use Rattle.std.proofs.Common.{◌≡◌, ◌≤◌, [], length, arith}
+use Rattle.std.proofs.Common.{◌≡◌, [], arith}
 use Rattle.sf_warnings.proofs.PassingLemmas.{none_left, passes_none}
 use Rattle.sf_warnings.proofs.passing.lets_none_through.Goals as goal
 

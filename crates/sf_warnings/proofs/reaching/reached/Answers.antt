@@ -1,8 +1,6 @@
 use Rattle.std.proofs.lemmas.Grind.{common_steps}
-use Rattle.std.proofs.Common.{length, get_or, ◌≡◌, ◌≤◌, ◌<◌, ◌∙◌, true, false, sym, ap, subst, arith, rules}
-use Rattle.sf_check.specs.declared.insn.Insn.{Insn}
+use Rattle.std.proofs.Common.{length, get_or, ◌≡◌, ◌<◌, ◌∙◌, false, sym, ap, arith, rules}
 use Rattle.sf_warnings.proofs.ReachingLemmas.{IsFound, Passes, pass_begins, pass_ends, pass_on, pass_over, read_there, written_whole}
-use Rattle.sf_warnings.specs.Reaching.{AreReached}
 use Rattle.sf_warnings.proofs.reaching.reached.Goals.{then-index, else-index}
 use Rattle.sf_warnings.proofs.reaching.reached.Goals as goal
 

@@ -2,7 +2,7 @@ use Rattle.std.proofs.Common.{arith}
 use Rattle.std.proofs.lemmas.Grind.{common_steps}
 use Rattle.sf_picture.proofs.DrawLemmas.{drawn-leaf}
 use Rattle.sf_picture.proofs.AttainLemmas.{short-drawn, attained-drawn}
-use Rattle.sf_picture.proofs.drawing.leaf_of_all.Goals as goal
+use Rattle.sf_picture.proofs.drawing.leaf_of_held.Goals as goal
 
 pub returns-clause-drawn : goal.returns-clause-drawn
 returns-clause-drawn c =
