@@ -76,7 +76,8 @@ FILES = [
      "process needs."),
     (f"{SHARED}/policies/names.toml", "The names of calls for --names: all five sets. names/ has a file for each."),
     ("/usr/share/doc/seccomp-audit/GUIDE.md",
-     "The guide. Beside it POLICIES.md tells what the ready policies ask, and what a control is."),
+     "The guide. Beside it GETTING-FILTERS.md says how to get filters, REFERENCE.md has formats and limits, and "
+     "POLICIES.md says what the ready policies ask, and what a control is."),
     ("/usr/bin/seccomp_audit_read_filters",
      "Reads back, as root, the filters of a thread, or with --all-threads of a process, and writes a file for each."),
     ("/usr/bin/seccomp_audit_filter_of_profile",
@@ -88,7 +89,7 @@ FILES = [
 ]
 WHERE = [
     "These are the places of Debian's package.",
-    "After tools/install PREFIX, PREFIX stands in the place of /usr, and the guide is in share/doc/seccomp_audit.",
+    "After tools/install PREFIX, PREFIX stands in the place of /usr, and these pages are in share/doc/seccomp_audit.",
 ]
 
 ENVIRONMENT = [
