@@ -1,7 +1,6 @@
-#!/usr/bin/env python3
-"""Looks whether names in code use the words of docs/ARCHITECTURE.md in the sense that they have there.
+"""Whether names in code use the words of docs/ARCHITECTURE.md in the sense that they have there.
 
-    tools/words [CRATE ..]
+    tools/look words [CRATE ..]
 
 A word of the table below may be part of a name only in the crates that stand beside it: elsewhere it would mean another
 thing. Names are those of functions, types, fields, variants, parameters, constants and modules of `src/`, labels of
@@ -9,16 +8,12 @@ clauses, and the definitions of `specs/` with their fields. A name is taken apar
 Names of lemmas and of local values aren't looked at, nor are the toolchain's own.
 
 KNOWN has the names that break the rule today, each with its reason; one that is no longer there has to be taken out,
-so the list only gets shorter.
-
-The last line, `N passed, M failed`, counts names; where M isn't 0, the status is 1.
+so the list only gets shorter. Names are counted.
 """
-import pathlib
 import re
-import sys
 
-ROOT = pathlib.Path(__file__).resolve().parent.parent
-CRATES = ROOT / "crates"
+from looking.rattle import names_declared, names_defined
+from looking.tree import crates, shown, sources
 
 # The crates from the lowest upwards, and those that try them.
 ORDER = "insn check run blocks sym dom piece book ask warnings policy command_line evaluate crew audit compare needed picture rows list command".split()
@@ -161,34 +156,14 @@ def parts(name):
     return [part.lower() for part in re.findall(r"[A-Z]+(?![a-z])|[A-Z]?[a-z]+", name)]
 
 
-def names_of_code(text):
-    """The names that a module declares, and the labels of its clauses."""
-    text = re.sub(r"//.*", "", text)
-    found = set(re.findall(r"\b(?:fn|struct|enum|trait|type|const|static|mod)\s+(\w+)", text))
-    found |= set(re.findall(r"\b(?:requires|ensures|ghost)\s+(\w+)\s*[{:]", text))
-    # Fields and parameters.
-    found |= set(re.findall(r"(?:^ +(?:pub(?:\(\w+\))? )?|[(,]\s*(?:mut )?)(\w+): (?!:)", text, re.M))
-    for body in re.findall(r"\benum \w+[^{]*\{(.*?)^\}", text, re.M | re.S):
-        found |= set(re.findall(r"^    ([A-Z]\w*)", body, re.M))
-    return found
-
-
-def names_of_definitions(text):
-    """The definitions of a file, and their fields."""
-    text = re.sub(r"^\s*--.*", "", text, flags=re.M)
-    kinds = "abbrev|unfoldable|record|data"
-    found = set(re.findall(rf"^ *(?:(?:{kinds}|pub) )*(?:{kinds})(?: pub)? ([\w']+)", text, re.M))
-    return found | set(re.findall(r"^  pub (\w+) :", text, re.M))
-
-
 def names(crate):
     """Each name that the crate declares, with a file in which it stands."""
     found = {}
-    for path in sorted((crate / "src").rglob("*.rt")):
-        for name in names_of_code(path.read_text()) | {path.stem}:
+    for path in sources(crate):
+        for name in names_declared(path.read_text()) | {path.stem}:
             found.setdefault(name, path)
     for path in sorted((crate / "specs").rglob("*.antt")):
-        for name in names_of_definitions(path.read_text()) | {path.stem}:
+        for name in names_defined(path.read_text()) | {path.stem}:
             found.setdefault(name, path)
     return found
 
@@ -200,31 +175,19 @@ def faults(crate):
     known = KNOWN.get(crate.name, {})
     for name, path in sorted(here.items()):
         for part in parts(name):
-            crates, meaning = WORD.get(part, (None, None))
-            if crates is None or crate.name in crates:
+            allowed, meaning = WORD.get(part, (None, None))
+            if allowed is None or crate.name in allowed:
                 continue
             broken.add(name)
             if name not in known:
-                found.append(f"{path.relative_to(ROOT)}: {name}, but `{part}` is kept for: {meaning}")
+                found.append(f"{shown(path)}: {name}, but `{part}` is kept for: {meaning}")
                 break
     found += [f"{crate.name}: {name} is known as broken, and isn't any more" for name in sorted(set(known) - broken)]
     return found, len(here)
 
 
-def main():
-    """Looks at the crates that are named, or at all."""
-    every = sorted(path for path in CRATES.iterdir() if (path / "src").is_dir())
-    crates = [CRATES / name for name in sys.argv[1:]] or every
-    wrong, count = [], 0
-    for crate in crates:
-        found, here = faults(crate)
-        wrong += found
-        count += here
-    for line in wrong:
-        print(line)
-    print(f"{count - len(wrong)} passed, {len(wrong)} failed")
-    return 1 if wrong else 0
-
-
-if __name__ == "__main__":
-    sys.exit(main())
+def look(named):
+    """The faults of the crates that are named, or of all, and how many names are right."""
+    every = [faults(crate) for crate in crates(named)]
+    wrong = [fault for found, _ in every for fault in found]
+    return wrong, sum(count for _, count in every) - len(wrong)

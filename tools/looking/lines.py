@@ -1,9 +1,8 @@
-#!/usr/bin/env python3
-"""Finds lines that are too long to be read: of proofs, definitions and documents past 120 columns, and of clauses past
-100 bytes.
+"""Which lines are too long to be read: of proofs, definitions and documents past 120 columns, and of clauses past 100
+bytes.
 
-    tools/lines            names the files that have one
-    tools/lines --write    breaks them, and lays the files of crates out anew (`rattle fmt`)
+    tools/look lines            the files that have one
+    tools/look lines --write    breaks them first, and lays the files of crates out anew (`rattle fmt`)
 
 Of crates/ the .antt files are looked at, but for their `use` lines, and in .rt files clauses (`requires`, `ensures`)
 and ghost items. Of those bytes are counted, as many tools do, so a clause of symbols is broken earlier. A line is
@@ -13,17 +12,13 @@ tokens stay what they are, so nothing changes for the prover.
 
 Documents are the .md files that git knows outside crates/. A row of a table may be longer there, and in a block what a
 command prints, or a line with the digits of an input. --write fills each paragraph anew that has a long line; commands
-are broken by hand.
-
-The last line is `N passed, M failed`, of files; where M isn't 0, the status is 1.
+are broken by hand. Files are counted.
 """
-import pathlib
 import re
 import subprocess
-import sys
 
-ROOT = pathlib.Path(__file__).resolve().parent.parent
-CRATES = ROOT / "crates"
+from looking.tree import CRATES, ROOT, shown
+
 OF_PROOFS = 120
 OF_CLAUSES = 100
 OF_DOCUMENTS = 120
@@ -254,35 +249,28 @@ def of_document(text):
 
 
 def documents():
-    """The documents that git knows, but for those of crates, which are lists that tools/edits reads."""
+    """The documents that git knows, but for those of crates, which are lists that `edits` reads."""
     listed = subprocess.run(["git", "-C", str(ROOT), "ls-files", "*.md"], capture_output=True, text=True, check=True)
     return [ROOT / name for name in listed.stdout.splitlines() if not name.startswith("crates/")]
 
 
-def look(path, is_writing):
-    """Whether the file has no line that is too long, or none any more."""
+def fault(path, is_writing):
+    """What is wrong with a file that has a line that is too long, or still has one after writing; else None."""
     text = path.read_text()
     new, long = {".antt": of_proofs, ".rt": of_code, ".md": of_document}[path.suffix](text)
     if new == text and not long:
-        return True
+        return None
     if is_writing and new != text:
         path.write_text(new)
         if path.suffix != ".md":
             subprocess.run(["rattle", "fmt", "--write", str(path)], check=True)
-        return look(path, path.read_text() != text)
-    print(f"{path.relative_to(ROOT)}: {long or 'has'} lines that are too long")
-    return False
+        return fault(path, path.read_text() != text)
+    return f"{shown(path)}: {long or 'has'} lines that are too long"
 
 
-def main():
-    is_writing = sys.argv[1:] == ["--write"]
-    if sys.argv[1:] and not is_writing:
-        sys.exit(__doc__)
+def look(words):
+    """The files with long lines, and how many have none."""
     files = [p for p in sorted(CRATES.rglob("*")) if p.suffix in (".antt", ".rt") and "out" not in p.parts]
-    files += documents()
-    right = sum(look(path, is_writing) for path in files)
-    print(f"{right} passed, {len(files) - right} failed")
-    return right < len(files)
-
-
-sys.exit(main())
+    found = [fault(path, words == ["--write"]) for path in [*files, *documents()]]
+    faults = [one for one in found if one]
+    return faults, len(found) - len(faults)
