@@ -1,4 +1,4 @@
-# Completions of seccomp_audit for bash, made by tools/completions.
+# Completions of seccomp_audit for bash, made by tools/documents.
 
 _seccomp_audit() {
     local word=${COMP_WORDS[COMP_CWORD]} before=${COMP_WORDS[COMP_CWORD - 1]} options="--help --version"

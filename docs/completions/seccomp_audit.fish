@@ -1,4 +1,4 @@
-# Completions of seccomp_audit for fish, made by tools/completions.
+# Completions of seccomp_audit for fish, made by tools/documents.
 
 complete -c seccomp_audit -f
 complete -c seccomp_audit -n __fish_use_subcommand -l help -d 'Print help'

@@ -6,7 +6,7 @@
 //! Where another call gets none, all calls on that stack are made once more. (A book can be compared whole only once,
 //! with another one that took the same works. So all calls are made once more then too.) If one allocation is refused,
 //! whichever it is, the answers therefore stay the same, and only the last line differs: it counts the calls that got
-//! no memory, and what was wrong. `tools/memory_sweep` runs this program many times, and each time refuses another
+//! no memory, and what was wrong. `tools/test memory_sweep` runs this program many times, and each time refuses another
 //! allocation.
 #![tactic(auto)]
 

@@ -1,7 +1,6 @@
-#!/usr/bin/env python3
 """Tries tools/read_filters.c: how it groups threads, and, where that can be, what it reads of a real process.
 
-    tools/test_read_filters
+    tools/test read_filters
 
 It takes a C compiler. A process is read only by root with CAP_SYS_ADMIN, where no filter is in force; elsewhere these
 cases are left out, and told. The last line is `N passed, M failed`; where M isn't 0, or nothing was tried, the status
@@ -12,7 +11,8 @@ import subprocess
 import sys
 import tempfile
 
-ROOT = os.path.dirname(os.path.dirname(os.path.abspath(__file__)))
+from building.kit import ROOT
+
 SOURCE = os.path.join(ROOT, "tools/read_filters.c")
 FILTERS = [os.path.join(ROOT, "examples", path) for path in ("p1.bpf", "snap-default/02.bpf")]
 
@@ -214,7 +214,3 @@ def main():
                 try_ended(reader, room)
     print(f"{passed} passed, {failed} failed")
     return 1 if failed or not passed else 0
-
-
-if __name__ == "__main__":
-    sys.exit(main())

@@ -1,20 +1,8 @@
-#!/usr/bin/env python3
-"""Makes the completions of the command line for bash, zsh and fish, of what the program's `--help` says.
-
-    tools/completions [--write] [PROGRAM]
-
-PROGRAM is the built seccomp_audit, out/proved/seccomp_audit if not given. Prints the three texts, or with --write puts them
-into docs/completions. tools/documents compares those files with them.
-"""
-import argparse
-import os
+"""Makes the completions of the command line for bash, zsh and fish, of what the program's `--help` says."""
 import re
 from collections import namedtuple
 
-from help_text import ROOT, Help
-from kit import built
-
-FOLDER = os.path.join(ROOT, "docs/completions")
+from documenting.help_text import Help
 
 # What is said of `help`, of which the help doesn't tell in its list.
 HELP = "Print the help of a command"
@@ -50,7 +38,7 @@ def bash(told, options):
     whole = [option for some in options.values() for option in some]
     cases = "\n".join(f'        {command}) options="{" ".join(names(some))}" ;;' for command, some in options.items())
     numbers = "|".join(sorted({option.name for option in whole if option.value not in (None, "FILE")}))
-    return f"""# Completions of seccomp_audit for bash, made by tools/completions.
+    return f"""# Completions of seccomp_audit for bash, made by tools/documents.
 
 _seccomp_audit() {{
     local word=${{COMP_WORDS[COMP_CWORD]}} before=${{COMP_WORDS[COMP_CWORD - 1]}} options="{' '.join(names(options_of(told.top['Options'])))}"
@@ -94,7 +82,7 @@ def zsh(told, options):
     top = " ".join(f"'{it.name}[{for_zsh(it.about)}]'" for it in options_of(told.top["Options"]))
     cases = "\n".join(parts)
     return f"""#compdef seccomp_audit
-# Completions of seccomp_audit for zsh, made by tools/completions.
+# Completions of seccomp_audit for zsh, made by tools/documents.
 
 _seccomp_audit() {{
     local -a commands
@@ -128,7 +116,7 @@ def for_fish(text):
 
 def fish(told, options):
     """For fish: a line for each subcommand and for each option."""
-    lines = ["# Completions of seccomp_audit for fish, made by tools/completions.", "", "complete -c seccomp_audit -f"]
+    lines = ["# Completions of seccomp_audit for fish, made by tools/documents.", "", "complete -c seccomp_audit -f"]
     for it in options_of(told.top["Options"]):
         lines.append(f"complete -c seccomp_audit -n __fish_use_subcommand -l {it.name[2:]} -d '{for_fish(it.about)}'")
     for command, about in {**told.abouts, **{word: HELP for word in help_word(told)}}.items():
@@ -148,21 +136,5 @@ def texts(program):
     """The three texts, by the names of their files."""
     told = Help(program)
     options = {command: options_of(parts["Options"]) for command, parts in told.commands.items()}
-    return {"seccomp_audit.bash": bash(told, options), "_seccomp_audit": zsh(told, options), "seccomp_audit.fish": fish(told, options)}
-
-
-def main():
-    parser = argparse.ArgumentParser(description=__doc__, formatter_class=argparse.RawDescriptionHelpFormatter)
-    parser.add_argument("--write", action="store_true")
-    parser.add_argument("program", nargs="?", default=built("proved"))
-    words = parser.parse_args()
-    for name, text in texts(os.path.abspath(words.program)).items():
-        if words.write:
-            with open(os.path.join(FOLDER, name), "w", encoding="utf-8") as file:
-                file.write(text)
-        else:
-            print(text, end="")
-
-
-if __name__ == "__main__":
-    main()
+    makers = {"seccomp_audit.bash": bash, "_seccomp_audit": zsh, "seccomp_audit.fish": fish}
+    return {f"docs/completions/{name}": make(told, options) for name, make in makers.items()}

@@ -8,7 +8,7 @@ import tempfile
 from . import agreement
 from .dom import Page
 
-ROOT = pathlib.Path(__file__).resolve().parent.parent.parent
+ROOT = pathlib.Path(__file__).resolve().parent.parent.parent.parent
 REPORT = ROOT / "tools/report"
 NAMES = ROOT / "policies/names.toml"
 DATA = ROOT / "crates/examples_run/data"

@@ -10,7 +10,7 @@ import shutil
 import signal
 import subprocess
 
-from kit import Refused
+from building.kit import Refused
 
 # The commands that run.
 RUNNING = set()

@@ -1,21 +1,12 @@
-#!/usr/bin/env python3
-"""Makes the man page of what the program and docs/REFERENCE.md say: `--help`, of each subcommand too, and the table of faults.
-Its examples, files and environment stand in man_examples.py; tools/documents runs the examples.
-
-    tools/man_page [--write] [PROGRAM]
-
-PROGRAM is the built seccomp_audit, out/proved/seccomp_audit if not given. Prints the page, or with
---write puts it into docs/seccomp_audit.1. tools/documents compares that file with it.
-"""
-import argparse
+"""Makes the man page of what the program and docs/REFERENCE.md say: `--help`, of each subcommand too, and the table of
+faults. Its examples, files and environment stand in man_examples.py."""
 import os
 import re
 
-from help_text import ROOT, Help
-from kit import built
-from man_examples import ENVIRONMENT, EXAMPLES, FILES, WHERE
+from building.kit import ROOT
+from documenting.help_text import Help
+from documenting.man_examples import ENVIRONMENT, EXAMPLES, FILES, WHERE
 
-PAGE = os.path.join(ROOT, "docs/seccomp_audit.1")
 FAULT = re.compile(r"\| (\d\d) \| `(\w+)` \|([^|]*)\|([^|]*)\|([^|]*)\|")
 
 
@@ -68,9 +59,13 @@ def leads_on(line):
     return line.startswith("docs/")
 
 
+def texts(program):
+    """The page, by the name of its file."""
+    return {"docs/seccomp_audit.1": page(program)}
+
+
 def page(program):
     """The whole page."""
-
     told = Help(program)
     top, parts = told.top, told.commands
     out = [
@@ -98,20 +93,3 @@ def page(program):
         ".SH SEE ALSO", *(roff(line) for line in top["end"] if leads_on(line)), ".BR seccomp (2)",
     ]
     return "\n".join(out) + "\n"
-
-
-def main():
-    parser = argparse.ArgumentParser(description=__doc__, formatter_class=argparse.RawDescriptionHelpFormatter)
-    parser.add_argument("--write", action="store_true")
-    parser.add_argument("program", nargs="?", default=built("proved"))
-    words = parser.parse_args()
-    text = page(os.path.abspath(words.program))
-    if words.write:
-        with open(PAGE, "w", encoding="utf-8") as file:
-            file.write(text)
-    else:
-        print(text, end="")
-
-
-if __name__ == "__main__":
-    main()

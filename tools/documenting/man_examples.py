@@ -7,7 +7,7 @@ import tempfile
 import uuid
 from collections import namedtuple
 
-ROOT = os.path.dirname(os.path.dirname(os.path.abspath(__file__)))
+from building.kit import ROOT
 
 # Where the package puts what is shared. In a trial the repository's folder stands there.
 SHARED = "/usr/share/seccomp_audit"

@@ -1,7 +1,6 @@
-#!/usr/bin/env python3
 """Tries the completions in real shells: types the beginning of a line and a tab, and looks what the line becomes.
 
-    tools/test_completions [bash|zsh|fish ..]
+    tools/test completions [bash|zsh|fish ..]
 
 Tries each shell that is on the path, or those that are named. The last line is `N passed, M failed`; where M isn't 0, or
 there is no shell, the status is 1.
@@ -16,7 +15,9 @@ import sys
 import tempfile
 import time
 
-FOLDER = os.path.join(os.path.dirname(os.path.dirname(os.path.abspath(__file__))), "docs/completions")
+from building.kit import ROOT
+
+FOLDER = os.path.join(ROOT, "docs/completions")
 END = "all-was-typed"
 
 # What is typed before the tab, and what the line becomes.
@@ -116,6 +117,3 @@ def main():
     print(f"tried in {', '.join(shells)}")
     print(f"{passed} passed, {failed} failed")
     return 1 if failed or not shells else 0
-
-
-sys.exit(main())

@@ -4,7 +4,7 @@ import pathlib
 import subprocess
 import tempfile
 
-CRATES = pathlib.Path(__file__).resolve().parent.parent / "crates"
+CRATES = pathlib.Path(__file__).resolve().parent.parent.parent / "crates"
 
 
 def has_tests(crate):

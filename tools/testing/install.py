@@ -1,7 +1,6 @@
-#!/usr/bin/env python3
 """Tries what tools/install and tools/release put beside the program: whether all is there, runs, and goes again.
 
-    tools/test_install
+    tools/test install
 
 A stand-in takes the program's place, so nothing has to be built. Cases that need a C compiler, or dpkg and objdump, are
 left out where these aren't there, and told. The last line is `N passed, M failed`; where M isn't 0, the status is 1.
@@ -15,8 +14,8 @@ import subprocess
 import sys
 import tempfile
 
-import installing
-from kit import PROGRAM, ROOT
+from building import installing
+from building.kit import PROGRAM, ROOT
 
 HELPERS = ["seccomp_audit_filter_of_profile", "seccomp_audit_kernel_agrees", "seccomp_audit_read_filters", "seccomp_audit_report"]
 PROFILE = os.path.join(ROOT, "examples/profiles/sockets.json")
@@ -205,7 +204,3 @@ def main():
             print("left out: the package, which takes a C compiler, dpkg and objdump")
     print(f"{passed} passed, {failed} failed")
     return 1 if failed else 0
-
-
-if __name__ == "__main__":
-    sys.exit(main())

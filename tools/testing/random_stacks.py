@@ -1,7 +1,6 @@
-#!/usr/bin/env python3
 """Audits random filter stacks with two programs of the same command line and compares what they print.
 
-    tools/random_stacks PROGRAM [--peer PEER] [SEED [CASES [KIND ..]]]
+    tools/test random_stacks PROGRAM [--peer PEER] [SEED [CASES [KIND ..]]]
 
 PEER is the plain program of bench/plain if none is given; cargo builds it first.
 
@@ -18,10 +17,11 @@ import subprocess
 import sys
 import tempfile
 
-from random_filters import KINDS, encoded
+from building.kit import ROOT
+from testing.random_filters import KINDS, encoded
 
-sys.path.append(os.path.join(os.path.dirname(os.path.dirname(os.path.abspath(__file__))), "bench"))
-from runs import audit_of, plain
+sys.path.append(os.path.join(ROOT, "bench"))
+from runs import audit_of, plain  # noqa: E402
 
 # Longer filters aren't shown.
 SHORT = 1024
@@ -94,6 +94,3 @@ def main():
     with tempfile.TemporaryDirectory() as folder:
         differ = sum(compare(programs, kind, asked.seed, asked.cases, folder) for kind in kinds)
     sys.exit(1 if differ else 0)
-
-
-main()

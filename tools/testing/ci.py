@@ -1,7 +1,6 @@
-#!/usr/bin/env python3
 """Runs the commands of the jobs in examples/ci, as a build does, on profiles that are fine, looser, tighter and missing.
 
-    tools/test_ci [PROGRAM]
+    tools/test ci [PROGRAM]
 
 PROGRAM is the built seccomp_audit, crates/seccomp_audit/out/seccomp_audit if not given. The commands are those behind
 `run:` in github.yml, and below `script:` in gitlab.yml, but for the one that installs the package. A job stops at the
@@ -17,7 +16,8 @@ import sys
 import tempfile
 from collections import namedtuple
 
-ROOT = os.path.dirname(os.path.dirname(os.path.abspath(__file__)))
+from building.kit import ROOT
+
 POLICIES = "/usr/share/seccomp_audit/policies"
 MOST_LINES = 12
 
@@ -124,7 +124,3 @@ def main():
             tell(well, f"{name}: {case.name}: status {status} for {case.status}, lacks {lacks}, may not have {wrong}\n" + "\n".join(said))
     print(f"{passed} passed, {failed} failed")
     return 1 if failed else 0
-
-
-if __name__ == "__main__":
-    sys.exit(main())

@@ -1,7 +1,6 @@
-#!/usr/bin/env python3
 """Tries what tools/report makes of the program's JSON: pages, summaries, and what build systems read.
 
-    tools/test_report [--inputs N] [--all] [PROGRAM]
+    tools/test report [--inputs N] [--all] [PROGRAM]
 
 PROGRAM is crates/seccomp_audit/out/seccomp_audit if none is named. Pages of the nine real stacks in
 crates/examples_run/data are compared with what `eval` answers, for N inputs a stack (40 if not given). Pages are opened
@@ -14,11 +13,9 @@ import argparse
 import pathlib
 import sys
 
-sys.dont_write_bytecode = True
+from testing.reports import browser, pages, samples, texts
 
-from report_tests import browser, pages, samples, texts  # noqa: E402
-
-ROOT = pathlib.Path(__file__).resolve().parent.parent
+ROOT = pathlib.Path(__file__).resolve().parent.parent.parent
 BUILT = ROOT / "crates/seccomp_audit/out/seccomp_audit"
 
 
@@ -46,7 +43,3 @@ def main():
             print(f"{what}: {str(got)[:300]}")
     print(f"{passed} passed, {failed} failed")
     sys.exit(1 if failed or not passed else 0)
-
-
-if __name__ == "__main__":
-    main()

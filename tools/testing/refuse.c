@@ -9,7 +9,7 @@
  * REFUSE_COUNTS=FILE     FILE, 32 bytes, gets four 64-bit numbers: growths asked for and refused, threads asked for and refused
  *
  * The file is mapped, so the counts stand even where the program is killed. A program that is linked with a malloc of its own, as one
- * with an address sanitizer is, isn't reached: its counts stay 0. tools/memory_sweep builds and uses this.
+ * with an address sanitizer is, isn't reached: its counts stay 0. tools/test memory_sweep builds and uses this.
  */
 #define _GNU_SOURCE
 #include <dlfcn.h>

@@ -1,9 +1,6 @@
 """What the built program says of itself by `--help`, in parts."""
-import os
 import re
 import subprocess
-
-ROOT = os.path.dirname(os.path.dirname(os.path.abspath(__file__)))
 
 
 def sections_of(text):

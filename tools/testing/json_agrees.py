@@ -1,7 +1,6 @@
-#!/usr/bin/env python3
 """Compares what `seccomp_audit .. --json` writes with the schemas and with the text without `--json`.
 
-    tools/json_agrees [PROGRAM]        (crates/seccomp_audit/out/seccomp_audit if none is named)
+    tools/test json_agrees [PROGRAM]        (crates/seccomp_audit/out/seccomp_audit if none is named)
 
 Command lines over examples/, policies/ and filters made here are run both ways, and those of crates/command_run/stdin. Each
 document has to be one line, to fit its schema in docs/schema/, and to say what the text says: the text is made again from
@@ -20,16 +19,14 @@ import subprocess
 import sys
 import tempfile
 
-sys.dont_write_bytecode = True
-
-from reporting.schema import faults  # noqa: E402
+from reporting.schema import faults
 
 try:
     import jsonschema
 except ImportError:
     jsonschema = None
 
-ROOT = pathlib.Path(__file__).resolve().parent.parent
+ROOT = pathlib.Path(__file__).resolve().parent.parent.parent
 BUILT = ROOT / "crates/seccomp_audit/out/seccomp_audit"
 SCHEMAS = {path.name.removesuffix(".schema.json"): json.loads(path.read_text()) for path in (ROOT / "docs/schema").glob("*.schema.json")}
 NAMES = "policies/names.toml"
@@ -353,6 +350,3 @@ def main():
                 print(f"{' '.join(words)}: {line}")
     print(f"{agree} passed, {differ} failed")
     sys.exit(0 if agree and not differ else 1)
-
-
-main()

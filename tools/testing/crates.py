@@ -1,7 +1,6 @@
-#!/usr/bin/env python3
 """Runs all tests and programs of the crates, without proofs: for a look, where there is no time for the gate.
 
-    tools/tests [NAME ..]
+    tools/test crates [NAME ..]
 
 Each program, and the tests of each crate that has some, are built without proofs and run; what a program writes is
 compared. (The product itself is the one that `tools/build --unproved` has built.) As many are built side by side as there
@@ -15,9 +14,9 @@ import sys
 import tempfile
 from concurrent.futures import ThreadPoolExecutor, as_completed
 
-from kit import PROGRAM, Refused, built, found
-from programs import CRATES, has_tests, is_program, why_wrong
-from unproved import make
+from building.kit import PROGRAM, Refused, built, found
+from building.programs import CRATES, has_tests, is_program, why_wrong
+from building.unproved import make
 
 # The seconds that a test is given.
 SECONDS = "120"
@@ -50,8 +49,8 @@ def tried(kit, crate, tests):
         return int(wrong is None), int(wrong is not None), wrong or ""
 
 
-def main():
-    kit, names = found(), sys.argv[1:]
+def tried_all(kit, names):
+    """Tries the crates of these names, or all; answers how many tests and programs pass, and how many fail."""
     crates = [path for path in sorted(CRATES.iterdir()) if (path / "src").is_dir() and (not names or path.name in names)]
     tasks = [(crate, tests) for crate in crates for tests in (True, False) if (has_tests(crate) if tests else is_program(crate))]
     passed = failed = 0
@@ -63,13 +62,14 @@ def main():
             if said:
                 print(said, flush=True)
             passed, failed = passed + good, failed + bad
+    return passed, failed
+
+
+def main():
+    try:
+        passed, failed = tried_all(found(), sys.argv[1:])
+    except Refused as why:
+        print(f"tools/test crates: {why}", file=sys.stderr)
+        return 1
     print(f"{passed} passed, {failed} failed")
     return 1 if failed or not passed else 0
-
-
-if __name__ == "__main__":
-    try:
-        sys.exit(main())
-    except Refused as why:
-        print(f"tools/tests: {why}", file=sys.stderr)
-        sys.exit(1)

@@ -1,8 +1,7 @@
-#!/usr/bin/env python3
 """Compares the rows of `seccomp_audit list` with what `seccomp_audit eval` answers to inputs.
 
-    tools/list_agrees [--names FILE] [--random N] [--seed SEED] [--program PROGRAM] FILE..
-    tools/list_agrees --programs N [--names FILE] [--random N] [--seed SEED] [--program PROGRAM]
+    tools/test list_agrees [--names FILE] [--random N] [--seed SEED] [--program PROGRAM] FILE..
+    tools/test list_agrees --programs N [--names FILE] [--random N] [--seed SEED] [--program PROGRAM]
 
 FILE.. is a stack, as the program takes it; --programs makes so many random ones, with masks, computed numbers and tests
 of single bits, every fourth with whole words and constants only. For each stack N inputs are made: a half lies in rows
@@ -24,11 +23,10 @@ import sys
 import tempfile
 import tomllib
 
-from random_filters import ADD, AND, LSH, MUL, NEGATE, OR, RSH, SUB, XOR
-from random_filters import ANY_BIT, AT_LEAST, BY_X, EQUAL, GREATER, LOAD, LOAD_SCRATCH, RETURN, STORE, TAX, encoded
+from building.kit import built
+from testing.random_filters import ADD, AND, LSH, MUL, NEGATE, OR, RSH, SUB, XOR
+from testing.random_filters import ANY_BIT, AT_LEAST, BY_X, EQUAL, GREATER, LOAD, LOAD_SCRATCH, RETURN, STORE, TAX, encoded
 
-ROOT = os.path.dirname(os.path.dirname(os.path.abspath(__file__)))
-BUILT = os.path.join(ROOT, "out/proved/seccomp_audit")
 ALL = 0xFFFFFFFF
 X86_64, I386, ARM_64 = 0xC000003E, 0x40000003, 0xC00000B7
 WORDS = ["nr", "arch", "ip_lo", "ip_hi"] + [f"arg{n}_{half}" for n in range(6) for half in ("lo", "hi")]
@@ -245,7 +243,7 @@ def main():
     parser.add_argument("--random", type=int, default=2000)
     parser.add_argument("--seed", default="1")
     parser.add_argument("--names")
-    parser.add_argument("--program", default=BUILT)
+    parser.add_argument("--program", default=built("proved"))
     parser.add_argument("files", nargs="*", metavar="FILE")
     asked = parser.parse_args()
     agree = differ = several = stacks = 0
@@ -259,6 +257,3 @@ def main():
     print(f"{stacks} stacks, {several} rows with several answers")
     print(f"{agree} agree, {differ} differ")
     sys.exit(0 if agree and not differ else 1)
-
-
-main()

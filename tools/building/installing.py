@@ -4,7 +4,7 @@ import shutil
 import subprocess
 import tempfile
 
-from kit import PROGRAM, ROOT
+from building.kit import PROGRAM, ROOT
 
 # What is copied beside the program: from where in the repository, and to where below PREFIX. {doc} is the folder of pages.
 FILES = [
