@@ -1,30 +1,17 @@
 -- Known bits that go back from a node to its operands.
-use Rattle.std.proofs.Common.{◌≡◌, ℕ, zero, suc, ◌<◌, List, length, set, arith, refl, ◌∙◌}
-use Rattle.std.proofs.lemmas.List.{get_or-set_same, get_or-set_other}
+use Rattle.std.proofs.Common.{◌≡◌, ℕ, zero, suc, List, refl, ap}
 use Rattle.std.specs.Prelude.{Some, None}
 use Rattle.sf_insn.specs.declared.ops.BinOp.{BinOp}
 use Rattle.sf_insn.specs.declared.ops.BinOp.TheVariants.{Add, Sub, Mul, Div, Or, And, Lsh, Rsh, Xor}
 use Rattle.sf_sym.specs.Pool.{node_at}
 use Rattle.sf_sym.specs.declared.pool.Node.{Node}
 use Rattle.sf_dom.specs.declared.known.Known.{Known}
-use Rattle.sf_dom.specs.Known.{IsNarrower, known_of}
+use Rattle.sf_dom.specs.Known.{AreBitsOf, known_of}
 use Rattle.sf_dom.specs.Facts.{known_at}
 use Rattle.sf_sym.specs.Operands.{IsSwappable, constant_operand_of}
-use Rattle.sf_dom.specs.Backward.{HandsOn, IsPropagatedBack, Carries}
-use Rattle.sf_dom.proofs.Reductions.{IsNarrower-refl}
-
--- more is known of the operand
-pub hands-on-narrower : (op : BinOp) (c : ℕ) (node x y : Known) → IsNarrower x y → HandsOn op c node x
-    → HandsOn op c node y
-hands-on-narrower Or c node x y n h = ((λ i. omega (arith, h.0 i, n.zeros i)), (λ i. omega (arith, h.1 i, n.ones i)))
-hands-on-narrower And c node x y n h = ((λ i. omega (arith, h.0 i, n.zeros i)), (λ i. omega (arith, h.1 i, n.ones i)))
-hands-on-narrower Xor c node x y n h = ((λ i. omega (arith, h.0 i, n.zeros i)), (λ i. omega (arith, h.1 i, n.ones i)))
-hands-on-narrower Add c node x y n h = tt
-hands-on-narrower Sub c node x y n h = tt
-hands-on-narrower Mul c node x y n h = tt
-hands-on-narrower Div c node x y n h = tt
-hands-on-narrower Lsh c node x y n h = tt
-hands-on-narrower Rsh c node x y n h = tt
+use Rattle.sf_dom.specs.Backward.{HandsOn, IsPropagatedBack}
+use Rattle.sf_dom.specs.GoingBack.{with_bits, gained}
+use Rattle.sf_dom.proofs.Bits.{bits-of-or_right, or-same}
 
 -- what is propagated back from an operand that has its node's bits is propagated back from the node
 pub walked-step : (ks : List Known) (ns : List Node) (at x c : ℕ) (op : BinOp)
@@ -58,21 +45,38 @@ pub walked-other : (ks : List Known) (ns : List Node) (at x c : ℕ) (op : BinOp
 walked-other ks ns at x c op e never zero = tt
 walked-other ks ns at x c op e never (suc n) = rw e (λ s. absurd (never s))
 
--- one step of backward propagation
-pub carries-step : (ks : List Known) (ns : List Node) (from at x c : ℕ) (op : BinOp) (next : Known)
-    → x < at → x < length ks
-    → constant_operand_of ns (node_at ns at) ≡ Some (op, x, c) → HandsOn op c (known_at ks at) next
-    → Carries ks ns from at → Carries (set ks x next) ns from x
-carries-step ks ns from at x c op next lx l e hands h last same narrower more =
-    let older : (j : ℕ) → x < j → known_at last j ≡ known_at ks j =
-    λ j b. same j b ∙ get_or-set_other ks x j next (known_of 0 0 0 0) (λ f. absurd (omega arith)) in
-    let here : known_at last at ≡ known_at ks at = older at lx in
-    let gained : IsNarrower next (known_at last x) = rw (get_or-set_same ks x next (known_of 0 0 0 0) l) at narrower in
-    h last (λ j b. older j (omega arith)) (rw here (IsNarrower-refl (known_at ks at)))
-    (walked-step last ns at x c op e (rw here
-    (hands-on-narrower op c (known_at ks at) next (known_at last x) gained hands)) more)
+-- where the bits of a node are known of its operand, the operand gains nothing
+bits-same : (k : Known) (z o : ℕ) → AreBitsOf z k.zeros → AreBitsOf o k.ones → with_bits k z o ≡ k
+bits-same k z o a b = made k.low k.high k.zeros k.ones _ _ (or-same k.zeros z a) (or-same k.ones o b)
+  where
+    made : (l h z o y p : ℕ) → y ≡ z → p ≡ o → known_of l h y p ≡ known_of l h z o
+    made l h z o y p a b = cc
 
--- the end of backward propagation
-pub carried : (ks : List Known) (ns : List Node) (from at : ℕ) → Carries ks ns from at
-    → ((n : ℕ) → IsPropagatedBack n ks ns at) → (n : ℕ) → IsPropagatedBack n ks ns from
-carried ks ns from at h more = h ks (λ j b. refl) (IsNarrower-refl (known_at ks at)) more
+pub gained-same : (op : BinOp) (c : ℕ) (node x : Known) → HandsOn op c node x → gained op c node x ≡ x
+gained-same Or c node x h = bits-same x _ _ h.0 h.1
+gained-same And c node x h = bits-same x _ _ h.0 h.1
+gained-same Xor c node x h = bits-same x _ _ h.0 h.1
+gained-same Add c node x h = refl
+gained-same Sub c node x h = refl
+gained-same Mul c node x h = refl
+gained-same Div c node x h = refl
+gained-same Lsh c node x h = refl
+gained-same Rsh c node x h = refl
+
+-- and the other way round
+same-bits : (k : Known) (z o : ℕ) → with_bits k z o ≡ k → AreBitsOf z k.zeros × AreBitsOf o k.ones
+same-bits k z o e = (
+  rw (ap (λ (x : Known). x.zeros) e) at (bits-of-or_right k.zeros z),
+  rw (ap (λ (x : Known). x.ones) e) at (bits-of-or_right k.ones o),
+)
+
+pub gained-hands : (op : BinOp) (c : ℕ) (node x : Known) → gained op c node x ≡ x → HandsOn op c node x
+gained-hands Or c node x e = same-bits x _ _ e
+gained-hands And c node x e = same-bits x _ _ e
+gained-hands Xor c node x e = same-bits x _ _ e
+gained-hands Add c node x e = tt
+gained-hands Sub c node x e = tt
+gained-hands Mul c node x e = tt
+gained-hands Div c node x e = tt
+gained-hands Lsh c node x e = tt
+gained-hands Rsh c node x e = tt

@@ -8,12 +8,12 @@ use Rattle.std.specs.Int.Bits.{and_lt}
 use Rattle.std.proofs.Math.Pow.{pow_mono}
 use Rattle.std.proofs.lemmas.Nat.Bits.{bit_at_and, bit_at_or, bit_at_not, bit_at_xor, bit_at-lt, bit_at-zero, bit_at_above, bit_at_mask_below, bit_at_mask_inside, same_from_bits}
 use Rattle.sf_dom.specs.declared.known.Known.{Known}
-use Rattle.sf_dom.specs.Known.{HasBits, IsNarrower, known_of}
-use Rattle.sf_dom.specs.Reduction.{AreApart, IsLeadingMask, IsReducedWord}
+use Rattle.sf_dom.specs.Known.{HasBits, IsNarrower, IsConsistent, known_of}
+use Rattle.sf_dom.specs.Reduction.{AreApart, IsLeadingMask}
 use Rattle.sf_dom.specs.Rules.{IsClosed, IsClosedWord, HasNone}
 use Rattle.sf_dom.specs.FactsLaws.{bit_at-complement}
 use Rattle.sf_dom.proofs.Reductions.{AreApart-and}
-use Rattle.sf_dom.proofs.Bits.{div_mono, bits-le}
+use Rattle.sf_dom.proofs.Bits.{div_mono, bits-le, join-bits, ones-le, zeros-le}
 
 no-bits : (n : ℕ) → bit_xor n n ≡ 0
 no-bits n = same_from_bits (bit_xor n n) 0 (λ i. bit_at_xor n n i ∙ twice _ ∙ sym (bit_at-zero i))
@@ -152,6 +152,27 @@ closed-leading r z o mask ord fits apart lo hi m ez eo = record {
         → (y ≡ 1 - l) × (p ≡ l)
     both y p z o n l m ey ep em en a b = (omega arith, omega arith)
 
+-- closed knowledge of one number has all its bits
+pub closed-consistent : (k : Known) → IsClosed k → IsConsistent k
+closed-consistent k h =
+    let ordered = h.ordered in
+    let fits = h.fits in
+    let top = h.high in
+    let bottom = h.low in
+    record {
+      ordered = ordered;
+      fits = fits;
+      zeros = λ e. same_from_bits k.zeros (4294967295 - k.low) (λ i. elim (cases_lt i 32) [
+        | inl l ↦ (h.leading i l (ap (λ n. n / 2 ^ i) e)).0 ∙ sym (bit_at_not w32 k.low i (omega arith) l)
+        | inr g ↦ bit_at_above k.zeros 32 i (omega arith) g
+            ∙ sym (bit_at_above (4294967295 - k.low) 32 i (omega arith) g)
+      ]);
+      ones = λ e. same_from_bits k.ones k.low (λ i. elim (cases_lt i 32) [
+        | inl l ↦ (h.leading i l (ap (λ n. n / 2 ^ i) e)).1
+        | inr g ↦ bit_at_above k.ones 32 i (omega arith) g ∙ sym (bit_at_above k.low 32 i (omega arith) g)
+      ]);
+    }
+
 -- a round that changes nothing is the last
 pub round-last : (k r : Known) (mask : ℕ) → r.low ≡ max k.low k.ones → r.high ≡ min k.high (4294967295 - k.zeros)
     → k.zeros < 2 ^ 32 → r.low ≤ r.high → r.high < 2 ^ 32 → bit_and k.zeros k.ones ≡ 0 → IsLeadingMask r.low r.high mask
@@ -196,20 +217,47 @@ word-none k xs low high a b up = λ s h n.
     let nl = n.low in let nh = n.high in let so = h.known.ordered in
     h.tight.low.kept (up s.low (omega arith) (omega arith) (fewer-bits k s s.low n h.tight.low.admitted.bits))
 
-pub word-closed : (k r : Known) (xs : List ℕ) (mask : ℕ) → IsReducedWord k r xs → IsLeadingMask r.low r.high mask
-    → k.zeros < 2 ^ 32 → mask < 2 ^ 32
+-- what a mask marks of the ends of an interval that agree there
+marked : (low mask n : ℕ) → low < 2 ^ 32 → ((i : ℕ) → bit_at mask i ≡ 1 → bit_at n i ≡ bit_at low i)
+    → HasBits n (bit_and (4294967295 - low) mask) (bit_and low mask)
+marked low mask n l same = record {
+  zero = λ i. rw (bit_at_and (4294967295 - low) mask i) (zero _ _ _ _ (bit_at-complement low i l) (same i)
+      (bit_at-lt mask i) (bit_at-lt n i));
+  one = λ i. rw (bit_at_and low mask i) (one _ _ _ (same i) (bit_at-lt mask i));
+}
+  where
+    zero : (z m n o : ℕ) → z + o ≤ 1 → (m ≡ 1 → n ≡ o) → m < 2 → n < 2 → min z m + n ≤ 1
+    zero z m n o h same lm ln = elim (cases_lt 0 m) [
+      | inl p ↦ let e = same (omega arith) in omega arith
+      | inr p ↦ omega arith
+    ]
+
+    one : (m n o : ℕ) → (m ≡ 1 → n ≡ o) → m < 2 → min o m ≤ n
+    one m n o same lm = elim (cases_lt 0 m) [
+      | inl p ↦ let e = same (omega arith) in omega arith
+      | inr p ↦ omega arith
+    ]
+
+pub word-closed : (k r : Known) (xs : List ℕ) (mask : ℕ) → r.low ≤ r.high → r.high < 2 ^ 32
+    → IsLeadingMask r.low r.high mask → k.zeros < 2 ^ 32 → mask < 2 ^ 32
     → r.zeros ≡ bit_or k.zeros (bit_and (4294967295 - r.low) mask) → r.ones ≡ bit_or k.ones (bit_and r.low mask)
+    → HasBits r.low k.zeros k.ones → ¬ Contains xs r.low → HasBits r.high k.zeros k.ones → ¬ Contains xs r.high
     → IsClosedWord xs r
-word-closed k r xs mask h m fz fm ez eo =
-    let f = or_lt 32 k.zeros (bit_and (4294967295 - r.low) mask) fz
-    (and_lt 32 (4294967295 - r.low) mask (omega arith) fm) in
-    let c = h.consistent in let ol = h.ones_low in let hz = h.high_zeros in
-    let b = h.tight.low.admitted.bits in
+word-closed k r xs mask ord fits m fz fm ez eo bl kl bh kh =
+    let fl : r.low < 2 ^ 32 = omega arith in
+    let f : r.zeros < 2 ^ 32 = rw ez (or_lt 32 k.zeros (bit_and (4294967295 - r.low) mask) fz
+    (and_lt 32 (4294967295 - r.low) mask (omega arith) fm)) in
+    let low : HasBits r.low r.zeros r.ones = rw (ez, eo) (join-bits r.low k.zeros k.ones _ _ bl
+    (marked r.low mask r.low fl (λ i e. refl))) in
+    let high : HasBits r.high r.zeros r.ones = rw (ez, eo) (join-bits r.high k.zeros k.ones _ _ bh
+    (marked r.low mask r.high fl (λ i e. sym (ap (λ q. q % 2) (m.only i e))))) in
     record {
-      known = closed-leading r k.zeros k.ones mask c.ordered c.fits
-          (λ i. apart _ _ _ (b.zero i) (b.one i)) ol (omega arith)
-          m ez eo;
-      tight = h.tight;
+      known = closed-leading r k.zeros k.ones mask ord fits (λ i. apart _ _ _ (low.zero i) (low.one i))
+          (ones-le r.low r.zeros r.ones low) (omega (arith, zeros-le r.high r.zeros r.ones fits f high)) m ez eo;
+      tight = record {
+        low = record { admitted = record { above = omega arith; below = ord; bits = low }; kept = kl };
+        high = record { admitted = record { above = ord; below = omega arith; bits = high }; kept = kh };
+      };
     }
   where
     apart : (z o n : ℕ) → z + n ≤ 1 → o ≤ n → z + o ≤ 1

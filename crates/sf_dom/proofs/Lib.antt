@@ -8,7 +8,6 @@ pub mod Halves
 pub mod NextFitting
 pub mod CommonBits
 pub mod Backs
-pub mod AssumeLemmas
 pub mod GuardLemmas
 pub mod Sampled
 pub mod Masks
@@ -19,7 +18,15 @@ pub mod RuleLemmas
 pub mod ClosedLemmas
 pub mod RuleLaws
 pub mod Passes
-pub mod StepsBack
-pub mod Learnings
 pub mod Builds
-pub mod AssumedLemmas
+pub mod Then
+pub mod Lawful
+pub mod BackLaws
+pub mod PassLaws
+pub mod TestLaws
+pub mod ConditionSteps
+pub mod WordsClosed
+pub mod PairLeft
+pub mod Excluding
+pub mod Covering
+pub mod NewNodes

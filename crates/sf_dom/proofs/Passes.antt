@@ -1,6 +1,6 @@
 -- What stays as it is in a forward pass, and what a pass leaves.
-use Rattle.std.proofs.Common.{◌≡◌, ◌≢◌, ℕ, ◌+◌, ◌-◌, ◌<◌, ◌≤◌, List, length, set, arith, refl, sym, ap, ◌∙◌, inl, inr, zero, suc}
-use Rattle.std.specs.Prelude.{Option, Some, None, MatchOption, Bool, true, false, MatchBool}
+use Rattle.std.proofs.Common.{◌≡◌, ℕ, ◌+◌, ◌-◌, ◌<◌, ◌≤◌, List, length, set, arith, refl, sym, ap, ◌∙◌, inl, inr, zero, suc}
+use Rattle.std.specs.Prelude.{Option, Some, None, MatchOption}
 use Rattle.std.proofs.lemmas.Bool.{cases_lt, cases_eq}
 use Rattle.std.proofs.lemmas.List.{get_or-set_same, get_or-set_other, ext_get_or}
 use Rattle.std.proofs.lemmas.Nat.Bits.{bit_at_or, bit_at-zero}
@@ -12,7 +12,7 @@ use Rattle.sf_dom.specs.declared.known.Known.{Known}
 use Rattle.sf_dom.specs.Known.{IsNarrower, IsConsistent, IsDecided, known_of}
 use Rattle.sf_dom.specs.Reading.{known_at}
 use Rattle.sf_dom.specs.Rules.{met, forward_node, IsClosed, IsClosedAt, IsReduction, HasNoReduction, IsWidest, HasNone}
-use Rattle.sf_dom.specs.Passes.{IsPassedAt, IsPass, HasNoPass, HaveSamePass, IsAtRest, AreAllDecided, IsFixedAt, AreFixed}
+use Rattle.sf_dom.specs.Passes.{IsPassedAt, IsPass, PassFails, HasPassOf, IsAtRest, AreAllDecided, IsFixedAt, AreFixed}
 use Rattle.sf_dom.proofs.Reductions.{IsNarrower-trans, IsNarrower-refl}
 use Rattle.sf_dom.proofs.Bits.{bits-of-or, bits-of-or_right}
 use Rattle.sf_dom.proofs.ClosedLemmas.{closed-number}
@@ -52,8 +52,8 @@ still-reduction kind k f h n = record {
 }
 
 -- operands are older
-lower : (ns : List Node) (i : ℕ) → IsPool ns → i < length ns → OperandsBelow i (node_at ns i)
-lower ns i p l = let e : 0 + i ≡ i = omega arith in rw e at (OperandsBelow-at 0 ns i p.ordered l)
+pub operands-below : (ns : List Node) (i : ℕ) → IsPool ns → i < length ns → OperandsBelow i (node_at ns i)
+operands-below ns i p l = let e : 0 + i ≡ i = omega arith in rw e at (OperandsBelow-at 0 ns i p.ordered l)
 
 -- what has one number with all its bits is that number
 pub one-number : (k : Known) → IsConsistent k → IsDecided k → k ≡ known_of k.low k.low (4294967295 - k.low) k.low
@@ -97,7 +97,7 @@ pub fixed-same : (ks js : List Known) (ns : List Node) (i : ℕ) → IsPool ns �
     → ((j : ℕ) → j < i → IsDecided (known_at ks j) → known_at js j ≡ known_at ks j)
     → IsNarrower (known_at ks i) (known_at js i) → IsFixedAt ks ns i → IsFixedAt js ns i
 fixed-same ks js ns i p l same n f =
-    let t = decided-same ks js i (node_at ns i) (lower ns i p l) same f.operands in
+    let t = decided-same ks js i (node_at ns i) (operands-below ns i p l) same f.operands in
     record {
       operands = t.0;
       still = rw t.1 (IsNarrower-trans (forward_node ks (node_at ns i)) (known_at ks i) (known_at js i) f.still n);
@@ -156,7 +156,10 @@ rest-pass ks ex ns count rest = record {
 pub passed-same : (old new js : List Known) (ex : List (List ℕ)) (ns : List Node) (k : ℕ) → IsPool ns → k < length ns
     → ((j : ℕ) → j ≤ k → known_at new j ≡ known_at js j) → IsPassedAt old new ex ns k → IsPassedAt old js ex ns k
 passed-same old new js ex ns k p l same h =
-    rw (forward-same new js k (node_at ns k) (lower ns k p l) (λ j b. same j (omega arith)), same k (omega arith)) at h
+    rw (
+      forward-same new js k (node_at ns k) (operands-below ns k p l) (λ j b. same j (omega arith)),
+      same k (omega arith),
+    ) at h
 
 -- two passes leave the same of each node, up to one that only the second has come to
 pub same-up_to : (old a b : List Known) (ex : List (List ℕ)) (ns : List Node) → IsPool ns → (m : ℕ) → m ≤ length ns
@@ -168,7 +171,8 @@ same-up_to old a b ex ns p (suc m) l h g k lk =
     elim (cases_lt k m) [
       | inl s ↦ before k s
       | inr o ↦
-          let older = forward-same a b k (node_at ns k) (lower ns k p (omega arith)) (λ j s. before j (omega arith)) in
+          let older = forward-same a b k (node_at ns k) (operands-below ns k p (omega arith))
+          (λ j s. before j (omega arith)) in
           one-reduction _ _ (known_at a k) (known_at b k) (rw older at (h k lk)) (g k lk)
     ]
 
@@ -183,9 +187,9 @@ one-pass old a b ex ns p h g =
 pub pass-none : (old new : List Known) (ex : List (List ℕ)) (ns : List Node) (i : ℕ) → IsPool ns → i < length ns
     → ((k : ℕ) → k < i → IsPassedAt old new ex ns k)
     → HasNoReduction ex i (met (known_at old i) (forward_node new (node_at ns i)))
-    → HasNoPass old ex ns
+    → (last : List Known) → ¬ IsPass old last ex ns
 pass-none old new ex ns i p l before none = λ last pass.
-    let older = forward-same last new i (node_at ns i) (lower ns i p l)
+    let older = forward-same last new i (node_at ns i) (operands-below ns i p l)
     (same-up_to old last new ex ns p i (omega arith) (λ k b. pass.each k (omega arith)) before) in
     let r = rw older at (pass.each i l) in
     none (known_at last i) r.is r.narrower
@@ -214,56 +218,56 @@ in-parts kind a left b r h k = record {
       (IsNarrower-trans b (met a b) s (met-right a b) n));
 }
 
-pub at-once : (kind : Known → Type 0) (a left b r : Known) → IsWidest kind a left → IsWidest kind (met a b) r
-    → IsWidest kind (met left b) r
-at-once kind a left b r h k = record {
-  is = k.is;
-  narrower = met-below left b r
-      (h.widest r k.is (IsNarrower-trans a (met a b) r (met-left a b) k.narrower))
-      (IsNarrower-trans b (met a b) r (met-right a b) k.narrower);
-  widest = λ s t n. k.widest s t (met-below a b s (IsNarrower-trans a left s h.narrower
-      (IsNarrower-trans left (met left b) s (met-left left b) n))
-      (IsNarrower-trans b (met left b) s (met-right left b) n));
+-- a word may be reduced before a pass
+pub passed-before : (ks last : List Known) (ex : List (List ℕ)) (ns : List Node) (i : ℕ) (next : Known)
+    → i < length ks → IsReduction ex i (known_at ks i) next → (k : ℕ) → IsPassedAt (set ks i next) last ex ns k
+    → IsPassedAt ks last ex ns k
+passed-before ks last ex ns i next l h k pass = elim (cases_eq k i) [
+  | inl e ↦ rw e (in-parts (IsClosedAt ex i) (known_at ks i) next (forward_node last (node_at ns i)) (known_at last i) h
+      (rw (e, get_or-set_same ks i next (known_of 0 0 0 0) l) at pass))
+  | inr ne ↦ rw (get_or-set_other ks i k next (known_of 0 0 0 0) ne) at pass
+]
+
+-- where it leaves nothing then, it leaves nothing before
+none-parts : (ks last : List Known) (ex : List (List ℕ)) (ns : List Node) (i : ℕ) (next : Known)
+    → i < length ks → IsReduction ex i (known_at ks i) next → (k : ℕ)
+    → HasNoReduction ex k (met (known_at (set ks i next) k) (forward_node last (node_at ns k)))
+    → HasNoReduction ex k (met (known_at ks k) (forward_node last (node_at ns k)))
+none-parts ks last ex ns i next l h k none = elim (cases_eq k i) [
+  | inl e ↦ rw e (λ s is n.
+      let f : Known = forward_node last (node_at ns i) in
+      let own : Known = known_at ks i in
+      (rw (e, get_or-set_same ks i next (known_of 0 0 0 0) l) at none) s is
+      (met-below next f s (h.widest s is (IsNarrower-trans own (met own f) s (met-left own f) n))
+      (IsNarrower-trans f (met own f) s (met-right own f) n)))
+  | inr ne ↦ rw (get_or-set_other ks i k next (known_of 0 0 0 0) ne) at none
+]
+
+-- so the same pass follows
+pub same-pass : (ks : List Known) (ex : List (List ℕ)) (ns : List Node) (i : ℕ) (next : Known)
+    → i < length ks → IsReduction ex i (known_at ks i) next → HasPassOf ks (set ks i next) ex ns
+same-pass ks ex ns i next l h (Some last) pass = record {
+  count = pass.count;
+  each = λ k lk. passed-before ks last ex ns i next l h k (pass.each k lk);
+}
+same-pass ks ex ns i next l h None pass = record {
+  new = pass.new;
+  place = pass.place;
+  within = pass.within;
+  before = λ g k lk. passed-before ks pass.new ex ns i next l h k (pass.before g k lk);
+  none = none-parts ks pass.new ex ns i next l h pass.place pass.none;
 }
 
--- a word may be reduced before a pass
-pub same-pass : (ks : List Known) (ex : List (List ℕ)) (ns : List Node) (i : ℕ) (next : Known) → IsPool ns
-    → i < length ns → length ks ≡ length ns → i < 16 → IsReduction ex i (known_at ks i) next
-    → HaveSamePass ks (set ks i next) ex ns
-same-pass ks ex ns i next p l count w h last =
-    let here : i < length ks = omega arith in
-    let own : known_at (set ks i next) i ≡ next = get_or-set_same ks i next (known_of 0 0 0 0) here in
-    let other : (k : ℕ) → k ≢ i → known_at (set ks i next) k ≡ known_at ks k
-    = λ k ne. get_or-set_other ks i k next (known_of 0 0 0 0) ne in (
-      (λ pass. record {
-        count = pass.count;
-        each = λ k lk. elim (cases_eq k i) [
-          | inl e ↦ rw e (in-parts (IsClosedAt ex i) (known_at ks i) next (forward_node last (node_at ns i))
-              (known_at last i) h (rw own at (pass.each i l)))
-          | inr ne ↦ rw (other k ne) at (pass.each k lk)
-        ];
-      }),
-      (λ pass. record {
-        count = pass.count;
-        each = λ k lk. elim (cases_eq k i) [
-          | inl e ↦ rw (e, own) (at-once (IsClosedAt ex i) (known_at ks i) next (forward_node last (node_at ns i))
-              (known_at last i) h (pass.each i l))
-          | inr ne ↦ rw (other k ne) (pass.each k lk)
-        ];
-      }),
-    )
-
--- where a node is left nothing by itself, there is no pass
-pub none-before : (ks : List Known) (ex : List (List ℕ)) (ns : List Node) (i : ℕ) → IsPool ns → i < length ns
-    → HasNoReduction ex i (known_at ks i) → HasNoPass ks ex ns
-none-before ks ex ns i p l none = λ last pass.
-    let f : Known = forward_node last (node_at ns i) in
-    let r = pass.each i l in
-    none (known_at last i) r.is (IsNarrower-trans (known_at ks i) (met (known_at ks i) f) (known_at last i)
-    (met-left (known_at ks i) f) r.narrower)
-
--- and then the same pass follows
-pub same-after : (r : Bool) (a b n : List Known) (ex : List (List ℕ)) (ns : List Node) → HaveSamePass a b ex ns
-    → MatchBool r (IsPass b n ex ns) (HasNoPass b ex ns) → MatchBool r (IsPass a n ex ns) (HasNoPass a ex ns)
-same-after true a b n ex ns s h = (s n).0 h
-same-after false a b n ex ns s h = λ last pass. h last ((s last).1 pass)
+-- where a word is left nothing by itself, a pass fails
+pub word-fails : (ks : List Known) (ex : List (List ℕ)) (ns : List Node) (i : ℕ) → i < length ns → i < 16
+    → HasNoReduction ex i (known_at ks i) → PassFails ks ex ns
+word-fails ks ex ns i l b none = record {
+  new = ks;
+  place = i;
+  within = l;
+  before = λ g. absurd (omega arith);
+  none = λ s is n.
+      let f : Known = forward_node ks (node_at ns i) in
+      let own : Known = known_at ks i in
+      none s is (IsNarrower-trans own (met own f) s (met-left own f) n);
+}

@@ -13,27 +13,28 @@ use Rattle.sf_insn.specs.Words.{apply, negation_of}
 use Rattle.sf_dom.specs.declared.known.Known.{Known}
 use Rattle.sf_dom.specs.Known.{Admits, Leaves, IsNarrower, known_of}
 use Rattle.sf_dom.specs.FactsLaws.{bit_at-complement}
-use Rattle.sf_dom.specs.Rules.{between, full, forward_known, forward_negated, moved_left, IsClosed, IsClosedWord, IsWidest, HasNone}
+use Rattle.sf_dom.specs.Rules.{between, full, forward_known, forward_negated, moved_left, IsClosed, IsClosedAt, IsClosedWord, IsWidest, HasNone}
+use Rattle.sf_dom.specs.Reading.{numbers_at}
 use Rattle.sf_dom.proofs.Bits.{bits-le}
-use Rattle.sf_dom.proofs.ForwardLemmas.{mul_mono, div_between, quotient, or-admits, and-admits, xor-admits, shl-fits as shl-fits-admits, shl-top as shl-full-admits, shr-admits}
+use Rattle.sf_dom.proofs.ForwardLemmas.{mul_mono, div_between, quotient, or-admits, and-admits, xor-admits, shl-fits as shl-fits-admits, shl-top, shr-admits}
 use Rattle.sf_dom.proofs.RuleLemmas.{add-sure, add-full, sub-sure, sub-full, mul-fits, mul-full, div-some, div-none, negate-some, negate-zero, negate-full, shl-fits, shl-full, shr-all, left-decided, left-full, right-decided, right-full}
 use Rattle.sf_dom.proofs.ClosedLemmas.{closed-number}
 
-between-admits : (low high n : ℕ) → low ≤ n → n ≤ high → Admits (between low high) n
+pub between-admits : (low high n : ℕ) → low ≤ n → n ≤ high → Admits (between low high) n
 between-admits low high n a b = record {
   above = a;
   below = b;
   bits = record { zero = λ i. omega (arith, bit_at-zero i, bit_at-lt n i); one = λ i. omega (arith, bit_at-zero i) };
 }
 
-full-admits : (n : ℕ) → n < 2 ^ 32 → Admits full n
+pub full-admits : (n : ℕ) → n < 2 ^ 32 → Admits full n
 full-admits n f = between-admits 0 4294967295 n (omega arith) (omega arith)
 
 left-admits : (a : Known) (x s : ℕ) → s < 32 → Admits a x → Admits (moved_left a s) (x * 2 ^ s % 2 ^ 32)
 left-admits a x s l h =
     let xa = h.above in let xb = h.below in
     elim (cases_lt (4294967295 / 2 ^ s) a.high) [
-      | inl t ↦ rw (← shl-full a s l t) (shl-full-admits a x s l h)
+      | inl t ↦ rw (← shl-full a s l t) (shl-top a x s l h)
       | inr t ↦ rw (← shl-fits a s l (omega arith) t) (shl-fits-admits a x s l t h)
     ]
 
@@ -170,6 +171,14 @@ number-tight xs n f kept =
       known = closed-number n f;
       tight = record { low = record { admitted = own; kept = kept }; high = record { admitted = own; kept = kept } };
     }
+
+-- the knowledge that a number gives is closed, where it isn't excluded
+pub number-closed : (ex : List (List ℕ)) (i n : ℕ) → n < 2 ^ 32 → (i < 16 → ¬ Contains (numbers_at ex i) n)
+    → IsClosedAt ex i (known_of n n (4294967295 - n) n)
+number-closed ex i n f kept = record {
+  known = closed-number n f;
+  tight = λ b. (number-tight (numbers_at ex i) n f (kept b)).tight;
+}
 
 pub word-sound : (xs : List ℕ) (old new : Known) (n : ℕ) → n < 2 ^ 32 → old.zeros < 2 ^ 32
     → IsWidest (IsClosedWord xs) old new → Leaves old xs n → Leaves new xs n

@@ -1,12 +1,12 @@
 -- How known bits go back from a node to its operand, where the other operand is a constant.
-use Rattle.std.specs.Prelude.{◌≡◌, ℕ, zero, suc, ◌<◌, ◌-◌, List, IfSome, bit_and, bit_or}
+use Rattle.std.specs.Prelude.{ℕ, zero, suc, ◌-◌, List, IfSome, bit_and, bit_or}
 use Rattle.sf_insn.specs.declared.ops.BinOp.{BinOp}
 use Rattle.sf_insn.specs.declared.ops.BinOp.TheVariants.{Or, And, Xor}
 use Rattle.sf_sym.specs.Pool.{node_at}
 use Rattle.sf_sym.specs.Operands.{IsSwappable, constant_operand_of}
 use Rattle.sf_sym.specs.declared.pool.Node.{Node}
 use Rattle.sf_dom.specs.declared.known.Known.{Known}
-use Rattle.sf_dom.specs.Known.{AreBitsOf, IsNarrower}
+use Rattle.sf_dom.specs.Known.{AreBitsOf}
 use Rattle.sf_dom.specs.Facts.{known_at}
 
 -- what the known bits of a node `x op c` say of the bits of x is known of x
@@ -25,11 +25,3 @@ IsPropagatedBack zero ks ns at = Unit {0}
 IsPropagatedBack (suc n) ks ns at =
     IfSome (constant_operand_of ns (node_at ns at)) (λ o. IsSwappable o.0
     → HandsOn o.0 o.2 (known_at ks at) (known_at ks o.1) × IsPropagatedBack n ks ns o.1)
-
--- Backward propagation began at `from` and has come to the older node `at`: once it is through from `at` on, it is
--- through from `from` on.
-abbrev pub Carries : List Known → List Node → ℕ → ℕ → Type 0
-Carries ks ns from at =
-    (last : List Known) → ((j : ℕ) → at < j → known_at last j ≡ known_at ks j)
-    → IsNarrower (known_at ks at) (known_at last at)
-    → ((n : ℕ) → IsPropagatedBack n last ns at) → (n : ℕ) → IsPropagatedBack n last ns from

@@ -1,5 +1,5 @@
 -- What a condition leaves of facts, by the rules.
-use Rattle.std.specs.Prelude.{◌≡◌, ℕ, ◌<◌, ◌⊎◌, List, [], ◌∷◌, length, set, Contains, false}
+use Rattle.std.specs.Prelude.{◌≡◌, ℕ, ◌<◌, ◌⊎◌, List, [], ◌∷◌, ◌++◌, length, set, Contains, false, Option, Some, None}
 use Rattle.sf_insn.specs.declared.ops.Test.TheVariants.{Equal}
 use Rattle.sf_sym.specs.Pool.{node_at}
 use Rattle.sf_sym.specs.declared.pool.Cond.{Cond}
@@ -10,9 +10,9 @@ use Rattle.sf_dom.specs.declared.guards.Pair.{Pair}
 use Rattle.sf_dom.specs.Known.{IsDecided}
 use Rattle.sf_dom.specs.Reading.{known_at, numbers_at}
 use Rattle.sf_dom.specs.Facts.{FactsView}
-use Rattle.sf_dom.specs.Rules.{assumed}
-use Rattle.sf_dom.specs.Passes.{IsPass, IsLeftBy, IsTakenIn, AreTakenIn}
-use Rattle.sf_dom.specs.GoingBack.{BitsGoBack}
+use Rattle.sf_dom.specs.Rules.{assumed, met, ReductionGives, Then}
+use Rattle.sf_dom.specs.Passes.{AreTakenIn, TakingInFails, PassGives}
+use Rattle.sf_dom.specs.GoingBack.{WritingGives, GoingBackGives}
 
 -- A condition that says that its two nodes differ excludes a number for a word: where one node is the word, and the
 -- other has only one number, that number.
@@ -33,36 +33,37 @@ pub record AreExcludedBy (ks : List Known) (old new : List (List ℕ)) (ns : Lis
 abbrev pub assumed_of : List Known → Cond → Pair
 assumed_of ks cond = assumed cond.test cond.sense (known_at ks cond.node.0) (known_at ks cond.other.0)
 
--- what is left of the two nodes of a condition, one after the other
-abbrev pub AreBothLeft : List Known → List (List ℕ) → Cond → Known → Known → Type 0
-AreBothLeft ks ex cond node other =
-    IsLeftBy ks ex cond.node.0 (assumed_of ks cond).node node
-    × IsLeftBy (set ks cond.node.0 node) ex cond.other.0 (assumed_of ks cond).other other
+-- what is left of the two nodes of a condition, one after the other: what was known of each, met with what its test
+-- leaves, and reduced
+abbrev pub PairGives : List Known → List (List ℕ) → Cond → Option Pair → Type 0
+PairGives ks ex cond =
+    Then (ReductionGives ex cond.node.0 (met (known_at ks cond.node.0) (assumed_of ks cond).node)) (λ node.
+    Then (ReductionGives ex cond.other.0
+    (met (known_at (set ks cond.node.0 node) cond.other.0) (assumed_of ks cond).other)) (λ other r.
+    r ≡ Some (record { node = node; other = other })))
 
--- A condition is taken into what is known: its test is assumed of both nodes, then known bits go back from the one and
+-- the two nodes of a condition are written
+abbrev pub with_pair : List Known → Cond → Pair → List Known
+with_pair ks cond pair = set (set ks cond.node.0 pair.node) cond.other.0 pair.other
+
+-- What is left where a condition is met: its test is assumed of both nodes, then known bits go back from the one and
 -- from the other, and then comes a forward pass.
-pub record IsLearntBy (old new : List Known) (ex : List (List ℕ)) (ns : List Node) (cond : Cond) : Type 0 where
-  pub node : Known
-  pub other : Known
-  pub between : List Known
-  pub walked : List Known
-  pub left : AreBothLeft old ex cond node other
-  pub from_node : BitsGoBack (set (set old cond.node.0 node) cond.other.0 other) ex ns cond.node.0 between
-  pub from_other : BitsGoBack between ex ns cond.other.0 walked
-  pub pass : IsPass walked new ex ns
-
--- it leaves some node nothing
-abbrev pub CantBeLearnt : List Known → List (List ℕ) → List Node → Cond → Type 0
-CantBeLearnt old ex ns cond = (new : List Known) → ¬ IsLearntBy old new ex ns cond
+abbrev pub ConditionGives : List Known → List (List ℕ) → List Node → Cond → Option (List Known) → Type 0
+ConditionGives ks ex ns cond =
+    Then (PairGives ks ex cond) (λ pair.
+    Then (GoingBackGives (with_pair ks cond pair) ex ns cond.node.0) (λ one.
+    Then (GoingBackGives one ex ns cond.other.0) (λ two s. PassGives two ex ns s)))
 
 -- facts learn a condition
 pub record LearnsBy (old new : FactsView) (ns : List Node) (cond : Cond) : Type 0 where
   pub excluded : AreExcludedBy old.known old.excluded new.excluded ns cond
-  pub known : IsLearntBy old.known new.known new.excluded ns cond
+  pub known : ConditionGives old.known new.excluded ns cond (Some new.known)
 
 -- facts can't learn a condition
-abbrev pub CantLearn : FactsView → List Node → Cond → Type 0
-CantLearn old ns cond = (new : FactsView) → ¬ LearnsBy old new ns cond
+pub record CantLearn (old : FactsView) (ns : List Node) (cond : Cond) : Type 0 where
+  pub lists : List (List ℕ)
+  pub excluded : AreExcludedBy old.known old.excluded lists ns cond
+  pub none : ConditionGives old.known lists ns cond None
 
 -- what is known at first: of each node what follows from its operands, and no number is excluded
 pub record StartsBy (f : FactsView) (ns : List Node) : Type 0 where
@@ -77,16 +78,21 @@ pub record GrowsBy (old new : FactsView) (ns : List Node) : Type 0 where
 
 -- facts can't take in the newer nodes of a pool
 abbrev pub CantGrow : FactsView → List Node → Type 0
-CantGrow old ns = (new : FactsView) → ¬ GrowsBy old new ns
+CantGrow old ns = TakingInFails old.known old.excluded ns
+
+-- What is left where more is known of the node at a place: it is met with that and reduced, and then comes a forward
+-- pass.
+abbrev pub MoreGives : List Known → List (List ℕ) → List Node → ℕ → Known → Option (List Known) → Type 0
+MoreGives ks ex ns i more = Then (WritingGives ks ex i (met (known_at ks i) more)) (λ next s. PassGives next ex ns s)
 
 -- facts take in more of a word
 pub record TakesInBy (old new : FactsView) (ns : List Node) (w : ℕ) (more : Known) : Type 0 where
-  pub known : IsTakenIn old.known new.known old.excluded ns w more
+  pub known : MoreGives old.known old.excluded ns w more (Some new.known)
   pub excluded : new.excluded ≡ old.excluded
 
 -- facts can't take in more of a word
 abbrev pub CantTakeInBy : FactsView → List Node → ℕ → Known → Type 0
-CantTakeInBy old ns w more = (new : FactsView) → ¬ TakesInBy old new ns w more
+CantTakeInBy old ns w more = MoreGives old.known old.excluded ns w more None
 
 -- facts learn conditions, one after the other
 abbrev pub LearnAll : FactsView → FactsView → List Node → List Cond → Type 0
@@ -97,6 +103,12 @@ LearnAll old new ns (cond ∷ conds) = (next : FactsView) × LearnsBy old next n
 abbrev pub AreBuiltBy : FactsView → List Node → List Cond → Type 0
 AreBuiltBy f ns conds = (first : FactsView) × StartsBy first ns × LearnAll first f ns conds
 
--- there are no facts of conditions
-abbrev pub CantBeBuilt : List Node → List Cond → Type 0
-CantBeBuilt ns conds = (f : FactsView) → ¬ AreBuiltBy f ns conds
+-- there are no facts of conditions: one of them can't be learnt after those before it
+pub record CantBeBuilt (ns : List Node) (conds : List Cond) : Type 0 where
+  pub earlier : List Cond
+  pub cond : Cond
+  pub later : List Cond
+  pub all : conds ≡ earlier ++ cond ∷ later
+  pub before : FactsView
+  pub built : AreBuiltBy before ns earlier
+  pub none : CantLearn before ns cond

@@ -1,12 +1,12 @@
 -- A forward pass, and when it changes nothing.
-use Rattle.std.specs.Prelude.{◌≡◌, ℕ, ◌<◌, ◌≤◌, ◌⊎◌, List, length, set, take, slice_index}
+use Rattle.std.specs.Prelude.{◌≡◌, ℕ, ◌<◌, ◌≤◌, ◌⊎◌, List, length, take, slice_index, Option, MatchOption}
 use Rattle.sf_sym.specs.Pool.{node_at}
 use Rattle.sf_sym.specs.declared.pool.Node.{Node}
 use Rattle.sf_sym.specs.declared.pool.Node.TheVariants.{Const, Word, Bin, Neg}
 use Rattle.sf_dom.specs.declared.known.Known.{Known}
 use Rattle.sf_dom.specs.Known.{IsNarrower, IsDecided}
 use Rattle.sf_dom.specs.Reading.{known_at}
-use Rattle.sf_dom.specs.Rules.{met, forward_node, IsClosedAt, IsReduction}
+use Rattle.sf_dom.specs.Rules.{met, forward_node, IsClosed, IsClosedAt, IsReduction, HasNoReduction}
 
 -- what a forward pass leaves of the node at a place: what was known of it, met with what follows from its operands as
 -- the pass left them, and reduced
@@ -19,9 +19,17 @@ pub record IsPass (old new : List Known) (ex : List (List ℕ)) (ns : List Node)
   pub count : length new ≡ length ns
   pub each : (i : ℕ) → i < length ns → IsPassedAt old new ex ns i
 
--- a forward pass leaves some node nothing
-abbrev pub HasNoPass : List Known → List (List ℕ) → List Node → Type 0
-HasNoPass old ex ns = (new : List Known) → ¬ IsPass old new ex ns
+-- a forward pass leaves a node nothing: a word of the input, or another node once it has gone through those before it
+pub record PassFails (old : List Known) (ex : List (List ℕ)) (ns : List Node) : Type 0 where
+  pub new : List Known
+  pub place : ℕ
+  pub within : place < length ns
+  pub before : 16 ≤ place → (k : ℕ) → k < place → IsPassedAt old new ex ns k
+  pub none : HasNoReduction ex place (met (known_at old place) (forward_node new (node_at ns place)))
+
+-- what a forward pass gives
+abbrev pub PassGives : List Known → List (List ℕ) → List Node → Option (List Known) → Type 0
+PassGives old ex ns r = MatchOption r (PassFails old ex ns) (λ new. IsPass old new ex ns)
 
 -- nothing follows for the node at a place from its operands
 abbrev pub IsStill : List Known → List Node → ℕ → Type 0
@@ -34,33 +42,34 @@ pub record AreTakenIn (old new : List Known) (ex : List (List ℕ)) (ns : List N
   pub each : (i : ℕ) → length old ≤ i → i < length ns
       → IsReduction ex i (forward_node new (node_at ns i)) (known_at new i)
 
--- some newer node is left nothing
-abbrev pub CantBeTakenIn : List Known → List (List ℕ) → List Node → Type 0
-CantBeTakenIn old ex ns = (new : List Known) → ¬ AreTakenIn old new ex ns
+-- a newer node is left nothing, once those before it are taken in
+pub record TakingInFails (old : List Known) (ex : List (List ℕ)) (ns : List Node) : Type 0 where
+  pub new : List Known
+  pub place : ℕ
+  pub newer : length old ≤ place
+  pub within : place < length ns
+  pub kept : take (length old) new ≡ old
+  pub before : (i : ℕ) → length old ≤ i → i < place
+      → IsReduction ex i (forward_node new (node_at ns i)) (known_at new i)
+  pub none : HasNoReduction ex place (forward_node new (node_at ns place))
 
--- what is left of the node at a place once more is known of it
-abbrev pub IsLeftBy : List Known → List (List ℕ) → ℕ → Known → Known → Type 0
-IsLeftBy ks ex i more left = IsReduction ex i (met (known_at ks i) more) left
+-- what it gives to take in newer nodes
+abbrev pub TakingInGives : List Known → List (List ℕ) → List Node → Option (List Known) → Type 0
+TakingInGives old ex ns r = MatchOption r (TakingInFails old ex ns) (λ new. AreTakenIn old new ex ns)
 
--- more is taken into what is known of the node at a place, and a pass follows
-pub record IsTakenIn (old new : List Known) (ex : List (List ℕ)) (ns : List Node) (i : ℕ) (more : Known) : Type 0 where
-  pub left : Known
-  pub reduced : IsLeftBy old ex i more left
-  pub pass : IsPass (set old i left) new ex ns
-
--- it leaves some node nothing
-abbrev pub CantTakeIn : List Known → List (List ℕ) → List Node → ℕ → Known → Type 0
-CantTakeIn old ex ns i more = (new : List Known) → ¬ IsTakenIn old new ex ns i more
-
--- the same pass follows from both
-abbrev pub HaveSamePass : List Known → List Known → List (List ℕ) → List Node → Type 0
-HaveSamePass old new ex ns = (last : List Known) → (IsPass new last ex ns → IsPass old last ex ns)
-    × (IsPass old last ex ns → IsPass new last ex ns)
+-- what a pass gives from the second, it gives from the first
+abbrev pub HasPassOf : List Known → List Known → List (List ℕ) → List Node → Type 0
+HasPassOf old new ex ns = (r : Option (List Known)) → PassGives new ex ns r → PassGives old ex ns r
 
 -- nothing more follows for the node at a place, neither by itself nor from its operands
 pub record IsAtRest (ks : List Known) (ex : List (List ℕ)) (ns : List Node) (i : ℕ) : Type 0 where
   pub closed : IsClosedAt ex i (known_at ks i)
   pub still : IsStill ks ns i
+
+-- something is known of each node of a pool, and nothing more follows from it by itself
+pub record AreClosed (ks : List Known) (ns : List Node) : Type 0 where
+  pub count : length ks ≡ length ns
+  pub each : (i : ℕ) → i < length ns → IsClosed (known_at ks i)
 
 -- a constant, or an operation on operands that have only one number each
 abbrev pub AreAllDecided : List Known → Node → Type 0

@@ -1,6 +1,6 @@
 -- The rules of facts: what is known of a node by its operation, what two pieces of knowledge say together, and what is
 -- left when nothing more follows.
-use Rattle.std.specs.Prelude.{◌≡◌, ℕ, ◌+◌, ◌-◌, ◌*◌, ◌/◌, ◌%◌, ◌<◌, ◌≤◌, ◌^◌, ◌⊎◌, Bool, true, false, List, if◌then◌else◌, ◌==◌, nat_lt, nat_le, max, min, bit_and, bit_or}
+use Rattle.std.specs.Prelude.{◌≡◌, ℕ, ◌+◌, ◌-◌, ◌*◌, ◌/◌, ◌%◌, ◌<◌, ◌≤◌, ◌^◌, Bool, true, false, List, if◌then◌else◌, ◌==◌, nat_lt, nat_le, max, min, bit_and, bit_or, Option, None, MatchOption}
 use Rattle.std.specs.Int.{bit_at, w32, trailing_zeros}
 use Rattle.sf_insn.specs.declared.ops.BinOp.{BinOp}
 use Rattle.sf_insn.specs.declared.ops.BinOp.TheVariants.{Add, Sub, Mul, Div, Or, And, Lsh, Rsh, Xor}
@@ -120,9 +120,19 @@ IsReduction ex i old new = IsWidest (IsClosedAt ex i) old new
 abbrev pub HasNoReduction : List (List ℕ) → ℕ → Known → Type 0
 HasNoReduction ex i old = HasNone (IsClosedAt ex i) old
 
--- A round of reduction: it keeps every closed knowledge in which nothing is lost, and one that changes nothing is the
--- last.
+-- what reduction gives for the node at a place: what is left of it, or nothing
+abbrev pub ReductionGives : List (List ℕ) → ℕ → Known → Option Known → Type 0
+ReductionGives ex i old r = MatchOption r (HasNoReduction ex i old) (IsReduction ex i old)
+
+-- one step and then another, where each may give nothing: the second goes on from what the first gives
+abbrev pub Then : {A B : Type 0} → (Option A → Type 0) → (A → Option B → Type 0) → Option B → Type 0
+Then {A} first second r = (o : Option A) × first o × MatchOption o (r ≡ None) (λ a. second a r)
+
+-- A round of reduction loses nothing. It keeps every closed knowledge in which nothing is lost, and one that changes
+-- nothing is the last.
 pub record IsRound (old new : Known) : Type 0 where
+  pub narrower : IsNarrower old new
+  pub ordered : new.low ≤ new.high
   pub widest : (k : Known) → IsClosed k → IsNarrower old k → IsNarrower new k
   pub last : new ≡ old → IsClosed old
 
@@ -134,14 +144,27 @@ at_least n k = known_of (max k.low n) k.high k.zeros k.ones
 abbrev pub at_most : ℕ → Known → Known
 at_most n k = known_of k.low (min k.high n) k.zeros k.ones
 
--- an end that is c moves past it
-abbrev pub past : ℕ → Known → Known
-past c k =
-    known_of (if k.low == c then c + 1 else k.low) (if k.high == c then c - 1 else k.high) k.zeros k.ones
-
 -- no number is left
 abbrev pub nothing : Known
 nothing = between 1 0
+
+-- it is more than n
+abbrev pub more_than : ℕ → Known → Known
+more_than n k = if n == 4294967295 then nothing else at_least (n + 1) k
+
+-- it is less than n
+abbrev pub less_than : ℕ → Known → Known
+less_than n k = if n == 0 then nothing else at_most (n - 1) k
+
+-- it isn't c: an end that is c moves past it
+abbrev pub past_low : ℕ → Known → Known
+past_low c k = if k.low == c then more_than c k else k
+
+abbrev pub past_high : ℕ → Known → Known
+past_high c k = if k.high == c then less_than c k else k
+
+abbrev pub past : ℕ → Known → Known
+past c k = past_high c (past_low c k)
 
 -- it has at least one of these bits: where all of them are known to be 0, it can't be; where only one isn't, it is 1
 abbrev pub some_of : ℕ → Known → Known
@@ -159,18 +182,13 @@ none_of bits k = known_of k.low k.high (bit_or k.zeros bits) k.ones
 abbrev pub where_decided : Known → (ℕ → Known → Known) → Known → Known
 where_decided other rule k = if other.low == other.high then rule other.low k else k
 
--- What a test with this result leaves of its two words, by what was known of them. Numbers beyond the words say that it
--- can't be.
+-- what a test with this result leaves of its two words, by what was known of them
 unfoldable pub assumed : Test → Bool → Known → Known → Pair
 assumed Equal true v w = record { node = met v w; other = met v w }
 assumed Equal false v w = record { node = where_decided w past v; other = where_decided v past w }
-assumed Greater true v w = record { node = at_least (w.low + 1) v; other = at_most (v.high - 1) w }
+assumed Greater true v w = record { node = more_than w.low v; other = less_than v.high w }
 assumed Greater false v w = record { node = at_most w.high v; other = at_least v.low w }
 assumed GreaterOrEqual true v w = record { node = at_least w.low v; other = at_most v.high w }
-assumed GreaterOrEqual false v w = record { node = at_most (w.high - 1) v; other = at_least (v.low + 1) w }
+assumed GreaterOrEqual false v w = record { node = less_than w.high v; other = more_than v.low w }
 assumed AnyBit true v w = record { node = where_decided w some_of v; other = w }
 assumed AnyBit false v w = record { node = where_decided w none_of v; other = w }
-
--- one of two words is left nothing
-abbrev pub LeavesNothing : Pair → Type 0
-LeavesNothing p = HasNone IsClosed p.node ⊎ HasNone IsClosed p.other

@@ -1,13 +1,10 @@
 //! What is left of the facts of a pool where a condition is met, or where more is known of a word. The facts that are
 //! handed in stay as they are.
 
-ghost use Rattle.std.specs.Prelude.{◌≡◌, ℕ, ◌<◌, ◌≤◌, List, length, slice_index, MatchOption, IfOk, IfSome, unwrap_or};
+ghost use Rattle.std.specs.Prelude.{◌≡◌, ℕ, ◌<◌, ◌≤◌, List, length, MatchOption, IfOk, IfSome, unwrap_or, Some, None};
 ghost use Rattle.sf_sym.specs.Pool.{IsCondBelow};
-ghost use Rattle.sf_dom.specs.Known.{Admits};
-ghost use Rattle.sf_dom.specs.Facts.{KnowDecided};
-ghost use Rattle.sf_dom.specs.Propagation.{NoneAgreesOn, Holds, IsReady, IsRestricted, IsLearnt, AreBothExcluded};
-ghost use Rattle.sf_dom.specs.Learning.{AreExcludedBy, IsLearntBy, CantBeLearnt};
-ghost use Rattle.sf_dom.specs.Passes.{IsAtRest, AreFixed, IsTakenIn, CantTakeIn};
+ghost use Rattle.sf_dom.specs.Learning.{AreExcludedBy, ConditionGives, MoreGives};
+ghost use Rattle.sf_dom.specs.Passes.{IsAtRest, AreFixed};
 
 use crate::assuming::{assume_cond, changes_nothing, exclude_both, known_left, pair_left};
 use crate::exclusions::Excluded;
@@ -33,7 +30,7 @@ fn with_excluded_by(
 ) -> Result<Excluded, Fault>
     requires covers { length nodes.now.known ≡ length pool.now }
     requires below { IsCondBelow (length pool.now) cond.now }
-    ensures told { IfOk result (λ e. AreBothExcluded nodes.now.known excluded.now e
+    ensures rule { IfOk result (λ e. AreExcludedBy nodes.now.known excluded.now e
         pool.now cond.now) }
     ensures words { IfOk result (λ e. length e ≡ 16) }
 {
@@ -49,7 +46,7 @@ fn with_excluded_by(
     }
 }
 
-/// What a condition leaves of the facts; `None` where no input that agrees meets it. `Memory` where an allocation is
+/// What a condition leaves of the facts; `None` where it leaves a node nothing. `Memory` where an allocation is
 /// refused.
 ///
 /// Nodes are copied only where something that is known changes. To see that, the condition is first tried on its two
@@ -61,28 +58,25 @@ pub(crate) fn learn_cond(
     pool: &Pool,
     cond: &Cond,
 ) -> Result<Option<(Changed, Excluded)>, Fault>
-    requires ready { IsReady nodes.now.known pool.now }
+    requires count { length nodes.now.known ≡ length pool.now }
     requires rest { (i : ℕ) → i < length pool.now
         → IsAtRest nodes.now.known excluded.now pool.now i }
     requires fixed { AreFixed nodes.now.variables nodes.now.known pool.now }
-    requires decided { KnowDecided nodes.now.known pool.now }
     requires below { IsCondBelow (length pool.now) cond.now }
-    ensures learnt { IfOk result (λ o. MatchOption o
-        (NoneAgreesOn nodes.now.known excluded.now pool.now (Holds pool.now cond.now))
-        (λ r. IsLearnt nodes.now.known excluded.now (unwrap_or r.0 nodes.now).known r.1
-        pool.now cond.now)) }
     ensures rule { IfOk result (λ o. MatchOption o
-        ((ex : List (List ℕ)) → AreExcludedBy nodes.now.known excluded.now ex pool.now cond.now
-        → CantBeLearnt nodes.now.known ex pool.now cond.now)
+        ((ex : List (List ℕ)) × AreExcludedBy nodes.now.known excluded.now ex pool.now cond.now
+        × ConditionGives nodes.now.known ex pool.now cond.now None)
         (λ r. AreExcludedBy nodes.now.known excluded.now r.1 pool.now cond.now
-        × IsLearntBy nodes.now.known (unwrap_or r.0 nodes.now).known r.1 pool.now cond.now)) }
+        × ConditionGives nodes.now.known r.1 pool.now cond.now
+        (Some (unwrap_or r.0 nodes.now).known))) }
+    ensures words { IfOk result (λ o. IfSome o (λ r. length r.1 ≡ 16)) }
     ensures variables { IfOk result (λ o. IfSome o (λ r. (unwrap_or r.0 nodes.now).variables
         ≡ nodes.now.variables)) }
 {
     // For the prover: the pool is lawful.
     let _count = pool.len();
     let lists = with_excluded_by(alloc, excluded, nodes, pool, cond)?;
-    let Some(alone) = pair_left(nodes, &lists, pool, cond) else {
+    let Some(alone) = pair_left(nodes, &lists, cond) else {
         return Ok(None);
     };
     if changes_nothing(nodes, &lists, pool, cond, alone) {
@@ -95,9 +89,8 @@ pub(crate) fn learn_cond(
     Ok(Some((Some(left), lists)))
 }
 
-/// What is left of the nodes where `more` is known of a word; `None` where no input that agrees has such a number
-/// there. `Memory` where an allocation is refused. Nodes are copied only where something that is known of the word
-/// changes.
+/// What is left of the nodes where `more` is known of a word; `None` where a node is left nothing. `Memory` where an
+/// allocation is refused. Nodes are copied only where something that is known of the word changes.
 pub(crate) fn restrict(
     alloc: Global,
     nodes: &Nodes,
@@ -106,28 +99,22 @@ pub(crate) fn restrict(
     word: usize,
     more: Known,
 ) -> Result<Option<Changed>, Fault>
-    requires ready { IsReady nodes.now.known pool.now }
+    requires count { length nodes.now.known ≡ length pool.now }
     requires rest { (i : ℕ) → i < length pool.now
         → IsAtRest nodes.now.known excluded.now pool.now i }
     requires fixed { AreFixed nodes.now.variables nodes.now.known pool.now }
-    requires decided { KnowDecided nodes.now.known pool.now }
     requires word { word < 16 }
-    ensures restricted { IfOk result (λ o. MatchOption o
-        (NoneAgreesOn nodes.now.known excluded.now pool.now
-        (λ d. Admits more (slice_index d.words word)))
-        (λ r. IsRestricted nodes.now.known (unwrap_or r nodes.now).known excluded.now
-        pool.now word more)) }
     ensures rule { IfOk result (λ o. MatchOption o
-        (CantTakeIn nodes.now.known excluded.now pool.now word more)
-        (λ r. IsTakenIn nodes.now.known (unwrap_or r nodes.now).known excluded.now
-        pool.now word more)) }
+        (MoreGives nodes.now.known excluded.now pool.now word more None)
+        (λ r. MoreGives nodes.now.known excluded.now pool.now word more
+        (Some (unwrap_or r nodes.now).known))) }
     ensures variables { IfOk result (λ o. IfSome o (λ r. (unwrap_or r nodes.now).variables
         ≡ nodes.now.variables)) }
 {
     // For the prover: the pool has all words.
     let count = pool.len();
     prove!(word < count);
-    let Some(left) = known_left(nodes, excluded, pool, word, more) else {
+    let Some(left) = known_left(nodes, excluded, word, more) else {
         return Ok(None);
     };
     if is_same(left, nodes.get(word)) {

@@ -1,10 +1,6 @@
 //! The transfer functions: what is known of the result of each operation, by what is known of its operands.
 
 ghost use Rattle.std.specs.Prelude.{◌≡◌, ℕ, ◌+◌, ◌-◌, ◌*◌, ◌/◌, ◌%◌, ◌<◌, ◌≤◌, ◌^◌, if◌then◌else◌, ◌==◌, bit_and, bit_or, bit_xor};
-ghost use Rattle.sf_insn.specs.Words.{apply};
-ghost use Rattle.sf_dom.specs.Known.{Admits, IsConsistent, IsDecided};
-ghost use Rattle.sf_dom.specs.Facts.{KeepsDecided};
-ghost use Rattle.sf_dom.specs.Reduction.{IsForced};
 ghost use Rattle.sf_dom.specs.Rules.{forward_known, forward_negated, moved_left, moved_right};
 
 use crate::known::Known;
@@ -12,11 +8,7 @@ use sf_insn::BinOp;
 
 /// A sum. Where no possible sum wraps, or all of them do, they lie between those of the ends.
 fn add(a: Known, b: Known) -> Known
-    ensures admits { (x y : ℕ) → Admits a x → Admits b y
-        → Admits result ((x + y) % 2 ^ 32) }
-    ensures forced { IsConsistent a → IsConsistent b → IsDecided a → IsDecided b
-        → IsForced result }
-    ensures rule { a.low ≤ a.high → b.low ≤ b.high → result
+    ensures { a.low ≤ a.high → b.low ≤ b.high → result
         ≡ forward_known BinOp.Add a b }
 {
     let fits = a.high <= u32::MAX - b.high;
@@ -30,11 +22,7 @@ fn add(a: Known, b: Known) -> Known
 
 /// A difference. Where no possible difference wraps, or all of them do, they lie between those of the ends.
 fn sub(a: Known, b: Known) -> Known
-    ensures admits { (x y : ℕ) → Admits a x → Admits b y
-        → Admits result ((x + (2 ^ 32 - y)) % 2 ^ 32) }
-    ensures forced { IsConsistent a → IsConsistent b → IsDecided a → IsDecided b
-        → IsForced result }
-    ensures rule { a.low ≤ a.high → b.low ≤ b.high → result
+    ensures { a.low ≤ a.high → b.low ≤ b.high → result
         ≡ forward_known BinOp.Sub a b }
 {
     if a.low >= b.high || a.high < b.low {
@@ -46,9 +34,7 @@ fn sub(a: Known, b: Known) -> Known
 
 /// A product. Where the greatest possible product fits, the products lie between those of the ends.
 fn mul(a: Known, b: Known) -> Known
-    ensures admits { (x y : ℕ) → Admits a x → Admits b y
-        → Admits result ((x * y) % 2 ^ 32) }
-    ensures rule { a.low ≤ a.high → b.low ≤ b.high → result
+    ensures { a.low ≤ a.high → b.low ≤ b.high → result
         ≡ forward_known BinOp.Mul a b }
 {
     match a.high.checked_mul(b.high) {
@@ -60,9 +46,7 @@ fn mul(a: Known, b: Known) -> Known
 /// A quotient, which is 0 where the divisor is 0. Where the divisor can't be 0, the quotients lie between those of the
 /// ends; otherwise they are at most the dividend.
 fn div(a: Known, b: Known) -> Known
-    ensures admits { (x y : ℕ) → Admits a x → Admits b y
-        → Admits result (if y == 0 then 0 else x / y) }
-    ensures rule { a.low ≤ a.high → b.low ≤ b.high → result
+    ensures { a.low ≤ a.high → b.low ≤ b.high → result
         ≡ forward_known BinOp.Div a b }
 {
     if b.low >= 1 && b.high >= 1 {
@@ -74,10 +58,7 @@ fn div(a: Known, b: Known) -> Known
 
 /// An OR is at least each operand; its bit is 0 where both are, and 1 where one is.
 fn or(a: Known, b: Known) -> Known
-    ensures admits { (x y : ℕ) → Admits a x → Admits b y → Admits result (bit_or x y) }
-    ensures forced { IsConsistent a → IsConsistent b → IsDecided a → IsDecided b
-        → IsForced result }
-    ensures rule { result ≡ forward_known BinOp.Or a b }
+    ensures { result ≡ forward_known BinOp.Or a b }
 {
     Known {
         low: a.low.max(b.low),
@@ -89,10 +70,7 @@ fn or(a: Known, b: Known) -> Known
 
 /// An AND is at most each operand; its bit is 0 where one is, and 1 where both are.
 fn and(a: Known, b: Known) -> Known
-    ensures admits { (x y : ℕ) → Admits a x → Admits b y → Admits result (bit_and x y) }
-    ensures forced { IsConsistent a → IsConsistent b → IsDecided a → IsDecided b
-        → IsForced result }
-    ensures rule { result ≡ forward_known BinOp.And a b }
+    ensures { result ≡ forward_known BinOp.And a b }
 {
     Known {
         low: 0,
@@ -104,10 +82,7 @@ fn and(a: Known, b: Known) -> Known
 
 /// The bit of an XOR is known where both are.
 fn xor(a: Known, b: Known) -> Known
-    ensures admits { (x y : ℕ) → Admits a x → Admits b y → Admits result (bit_xor x y) }
-    ensures forced { IsConsistent a → IsConsistent b → IsDecided a → IsDecided b
-        → IsForced result }
-    ensures rule { result ≡ forward_known BinOp.Xor a b }
+    ensures { result ≡ forward_known BinOp.Xor a b }
 {
     Known {
         low: 0,
@@ -120,8 +95,7 @@ fn xor(a: Known, b: Known) -> Known
 /// Moved to the left by `s` bits: the low bits are 0, and where the high end fits, the ends move along.
 fn shift_left_by(a: Known, s: u32) -> Known
     requires { s < 32 }
-    ensures admits { (x : ℕ) → Admits a x → Admits result ((x * 2 ^ s) % 2 ^ 32) }
-    ensures rule { a.low ≤ a.high → result ≡ moved_left a s }
+    ensures { a.low ≤ a.high → result ≡ moved_left a s }
 {
     let zeros = (a.zeros << s) | !(u32::MAX << s);
     let ones = a.ones << s;
@@ -145,8 +119,7 @@ fn shift_left_by(a: Known, s: u32) -> Known
 /// Moved to the right by `s` bits: the high bits are 0, and the ends move along.
 fn shift_right_by(a: Known, s: u32) -> Known
     requires { s < 32 }
-    ensures admits { (x : ℕ) → Admits a x → Admits result (x / 2 ^ s) }
-    ensures rule { result ≡ moved_right a s }
+    ensures { result ≡ moved_right a s }
 {
     Known {
         low: a.low >> s,
@@ -158,9 +131,7 @@ fn shift_right_by(a: Known, s: u32) -> Known
 
 /// A shift to the left goes by the second operand modulo 32; where that is not decided, nothing is known.
 fn shift_left(a: Known, b: Known) -> Known
-    ensures admits { (x y : ℕ) → Admits a x → Admits b y
-        → Admits result ((x * 2 ^ (y % 32)) % 2 ^ 32) }
-    ensures rule { a.low ≤ a.high → result ≡ forward_known BinOp.Lsh a b }
+    ensures { a.low ≤ a.high → result ≡ forward_known BinOp.Lsh a b }
 {
     match b.decided() {
         Some(bits) => shift_left_by(a, bits % 32),
@@ -171,9 +142,7 @@ fn shift_left(a: Known, b: Known) -> Known
 /// A shift to the right goes by the second operand modulo 32; where that is not decided, the result is at most the
 /// first operand.
 fn shift_right(a: Known, b: Known) -> Known
-    ensures admits { (x y : ℕ) → Admits a x → Admits b y
-        → Admits result (x / 2 ^ (y % 32)) }
-    ensures rule { result ≡ forward_known BinOp.Rsh a b }
+    ensures { result ≡ forward_known BinOp.Rsh a b }
 {
     match b.decided() {
         Some(bits) => shift_right_by(a, bits % 32),
@@ -183,11 +152,7 @@ fn shift_right(a: Known, b: Known) -> Known
 
 /// What is known of the result of an operation, by what is known of its operands.
 pub(crate) fn forward(op: BinOp, a: Known, b: Known) -> Known
-    ensures admits { (x y : ℕ) → Admits a x → Admits b y → Admits result (apply op x y) }
-    ensures forced { KeepsDecided op → IsConsistent a → IsConsistent b
-        → IsDecided a → IsDecided b
-        → IsForced result }
-    ensures rule { a.low ≤ a.high → b.low ≤ b.high → result ≡ forward_known op a b }
+    ensures { a.low ≤ a.high → b.low ≤ b.high → result ≡ forward_known op a b }
 {
     match op {
         BinOp::Add => add(a, b),
@@ -204,9 +169,7 @@ pub(crate) fn forward(op: BinOp, a: Known, b: Known) -> Known
 
 /// What is known of the negation of a word.
 pub(crate) fn negate(a: Known) -> Known
-    ensures admits { (x : ℕ) → Admits a x → Admits result ((2 ^ 32 - x) % 2 ^ 32) }
-    ensures forced { IsConsistent a → IsDecided a → IsForced result }
-    ensures rule { a.low ≤ a.high → result ≡ forward_negated a }
+    ensures { a.low ≤ a.high → result ≡ forward_negated a }
 {
     if a.low >= 1 && a.high >= 1 {
         Known::interval(a.high.wrapping_neg(), a.low.wrapping_neg())

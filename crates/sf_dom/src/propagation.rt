@@ -1,16 +1,13 @@
 //! Forward propagation: what is known of each node, met with what follows from its operands.
 
-ghost use Rattle.std.specs.Prelude.{◌≡◌, ℕ, ◌+◌, ◌-◌, ◌*◌, ◌/◌, ◌%◌, ◌<◌, ◌≤◌, ◌↔◌, ◌⊎◌, ◌^◌, List, [], ◌∷◌, ◌++◌, length, slice_index, MatchBool, MatchOption, true, false, IfOk, OnErr, IsTrue, Ok};
+ghost use Rattle.std.specs.Prelude.{◌≡◌, ℕ, ◌+◌, ◌-◌, ◌*◌, ◌/◌, ◌%◌, ◌<◌, ◌≤◌, ◌↔◌, ◌⊎◌, ◌^◌, List, [], ◌∷◌, ◌++◌, length, slice_index, MatchBool, MatchOption, true, false, IfOk, OnErr, IsTrue, Ok, Some, None};
 ghost use Rattle.std.specs.Arc.{arc_value};
-ghost use Rattle.sf_insn.specs.Inputs.{IsInput};
-ghost use Rattle.sf_sym.specs.Pool.{OperandsBelow, node_at, node_value};
-ghost use Rattle.sf_insn.specs.declared.input.Input.{Input};
-ghost use Rattle.sf_dom.specs.Known.{Admits, Leaves, IsDecided, IsTight};
-ghost use Rattle.sf_dom.specs.Propagation.{NoneAgreesWith, AreConsistentOperands, IsReducedNode, IsReady, IsPropagated, IsGrown, AreClosedWords, IsTightened, KeepsFixed, AreConsistent, AreExcludedAt};
-ghost use Rattle.sf_dom.specs.Passes.{IsPass, HasNoPass, HaveSamePass, AreAllDecided, AreFixed, AreTakenIn, CantBeTakenIn};
-ghost use Rattle.sf_dom.specs.Facts.{known_at, numbers_at, AreDecidedOperands};
-ghost use Rattle.sf_dom.specs.Reduction.{IsForced};
-ghost use Rattle.sf_dom.specs.Rules.{forward_node, IsReduction, HasNoReduction};
+ghost use Rattle.sf_sym.specs.Pool.{OperandsBelow, node_at};
+ghost use Rattle.sf_dom.specs.Known.{IsDecided, IsTight};
+ghost use Rattle.sf_dom.specs.Propagation.{AreConsistentOperands, AreClosedWords, IsTightened, KeepsFixed, AreConsistent};
+ghost use Rattle.sf_dom.specs.Passes.{AreClosed, PassFails, PassGives, AreAllDecided, AreFixed, AreTakenIn, TakingInFails};
+ghost use Rattle.sf_dom.specs.Facts.{known_at, numbers_at};
+ghost use Rattle.sf_dom.specs.Rules.{forward_node, ReductionGives};
 
 use crate::exclusions::Excluded;
 use crate::fault::Fault;
@@ -25,13 +22,7 @@ use std::sync::Arc;
 /// What is known of the node at a place, reduced; `None` where no number is left. The first sixteen nodes are the words
 /// of the input, for which numbers are excluded.
 pub(crate) fn reduce_at(known: Known, place: usize, excluded: &Excluded) -> Option<Known>
-    ensures reduced { MatchOption result
-        ((xs : List ℕ) → AreExcludedAt excluded.now place xs → (n : ℕ)
-        → ¬ Leaves known xs n)
-        (λ r. (xs : List ℕ) → AreExcludedAt excluded.now place xs
-        → IsReducedNode known r xs) }
-    ensures rule { MatchOption result (HasNoReduction excluded.now place known)
-        (IsReduction excluded.now place known) }
+    ensures { ReductionGives excluded.now place known result }
 {
     if place < WORDS {
         reduce_word(known, excluded.of_word(place))
@@ -43,15 +34,7 @@ pub(crate) fn reduce_at(known: Known, place: usize, excluded: &Excluded) -> Opti
 /// What is known of a node by its operation, from what is known of its operands.
 fn transfer(nodes: &Nodes, node: Node) -> Known
     requires { OperandsBelow (length nodes.now.known) node }
-    ensures value { (d : Input) (older : List ℕ) → IsInput d
-        → ((i : ℕ) → i < length nodes.now.known
-        → Admits (known_at nodes.now.known i) (slice_index older i))
-        → Admits result (node_value d older node) }
-    ensures forced { AreConsistentOperands nodes.now.known node
-        → AreDecidedOperands nodes.now.known node → IsForced result }
-    ensures constant { (c : ℕ) → node ≡ Node.Const c → (result.low ≡ c)
-        × (result.high ≡ c) }
-    ensures rule { AreConsistentOperands nodes.now.known node
+    ensures { AreConsistentOperands nodes.now.known node
         → result ≡ forward_node nodes.now.known node }
 {
     match node {
@@ -88,7 +71,7 @@ fn is_fixed(nodes: &Nodes, node: Node) -> bool
 /// Whether a node that is a word is tight: both ends of its interval are numbers that are left for it. True of any
 /// other node.
 pub(crate) fn is_tight_at(nodes: &Nodes, excluded: &Excluded, pool: &Pool, at: NodeId) -> bool
-    requires ready { IsReady nodes.now.known pool.now }
+    requires closed { AreClosed nodes.now.known pool.now }
     requires place { at.0 < length pool.now }
     ensures { IsTrue result → (i : ℕ) → node_at pool.now at.0 ≡ Node.Word i
         → IsTight (known_at nodes.now.known i) (numbers_at excluded.now i) }
@@ -102,14 +85,11 @@ pub(crate) fn is_tight_at(nodes: &Nodes, excluded: &Excluded, pool: &Pool, at: N
 /// Reduces a node that is a word, so that both ends of its interval are numbers that are left for it. `false`: no input
 /// agrees.
 pub(crate) fn tighten(nodes: &mut Nodes, excluded: &Excluded, pool: &Pool, at: NodeId) -> bool
-    requires ready { IsReady nodes.old.known pool.now }
+    requires closed { AreClosed nodes.old.known pool.now }
     requires place { at.0 < length pool.now }
     ensures tightened { MatchBool result
         (IsTightened nodes.old.known nodes.new.known excluded.now pool.now at.0)
-        (NoneAgreesWith nodes.old.known excluded.now pool.now) }
-    ensures rule { MatchBool result
-        (HaveSamePass nodes.old.known nodes.new.known excluded.now pool.now)
-        (HasNoPass nodes.old.known excluded.now pool.now) }
+        (PassFails nodes.old.known excluded.now pool.now) }
     ensures variables { nodes.new.variables ≡ nodes.old.variables }
 {
     let Node::Word(i) = pool.node(at) else {
@@ -126,15 +106,12 @@ pub(crate) fn tighten(nodes: &mut Nodes, excluded: &Excluded, pool: &Pool, at: N
 /// Adds to what is known of each variable what follows from its operands, the oldest variable first. The first sixteen
 /// are the words, which have no operands, so nothing follows for them. `false`: no input agrees.
 pub(crate) fn propagate(nodes: &mut Nodes, excluded: &Excluded, pool: &Pool) -> bool
-    requires ready { IsReady nodes.old.known pool.now }
+    requires closed { AreClosed nodes.old.known pool.now }
     requires words { AreClosedWords nodes.old.known excluded.now }
     requires fixed { AreFixed nodes.old.variables nodes.old.known pool.now }
-    ensures propagated { MatchBool result
-        (IsPropagated nodes.old.known nodes.new.known excluded.now pool.now)
-        (NoneAgreesWith nodes.old.known excluded.now pool.now) }
-    ensures rule { MatchBool result
-        (IsPass nodes.old.known nodes.new.known excluded.now pool.now)
-        (HasNoPass nodes.old.known excluded.now pool.now) }
+    ensures pass { MatchBool result
+        (PassGives nodes.old.known excluded.now pool.now (Some nodes.new.known))
+        (PassGives nodes.old.known excluded.now pool.now None) }
     ensures variables { MatchBool result (nodes.new.variables ≡ nodes.old.variables)
         (Unit {0}) }
 {
@@ -156,16 +133,11 @@ pub(crate) fn propagate(nodes: &mut Nodes, excluded: &Excluded, pool: &Pool) -> 
 /// single new node leaves what is known as it was; of several, some may have been taken in.
 pub(crate) fn append(nodes: &mut Nodes, excluded: &Excluded, pool: &Pool) -> Result<bool, Fault>
     requires covers { length nodes.old.known ≤ length pool.now }
-    requires none { (16 ≤ length nodes.old.known)
-        ⊎ ((w : ℕ) → numbers_at excluded.now w ≡ []) }
-    ensures grown { IfOk result (λ b. MatchBool b
-        (IsGrown nodes.old.known nodes.new.known excluded.now pool.now)
-        (NoneAgreesWith nodes.old.known excluded.now pool.now)) }
     ensures fixed { IfOk result (λ b. MatchBool b
         (KeepsFixed nodes.old nodes.new pool.now) (Unit {0})) }
     ensures rule { IfOk result (λ b. AreConsistent nodes.old.known → MatchBool b
         (AreTakenIn nodes.old.known nodes.new.known excluded.now pool.now)
-        (CantBeTakenIn nodes.old.known excluded.now pool.now)) }
+        (TakingInFails nodes.old.known excluded.now pool.now)) }
     ensures false_unchanged { length pool.now ≤ length nodes.old.known + 1 → result ≡ Ok false
         → nodes.new ≡ nodes.old }
     ensures err { length pool.now ≤ length nodes.old.known + 1
@@ -192,16 +164,11 @@ fn extend_copy(
     pool: &Pool,
 ) -> Result<bool, Fault>
     requires covers { length (arc_value nodes.old).known ≤ length pool.now }
-    requires none { (16 ≤ length (arc_value nodes.old).known)
-        ⊎ ((w : ℕ) → numbers_at excluded.now w ≡ []) }
-    ensures grown { IfOk result (λ b. MatchBool b
-        (IsGrown (arc_value nodes.old).known (arc_value nodes.new).known excluded.now pool.now)
-        (NoneAgreesWith (arc_value nodes.old).known excluded.now pool.now)) }
     ensures fixed { IfOk result (λ b. MatchBool b
         (KeepsFixed (arc_value nodes.old) (arc_value nodes.new) pool.now) (Unit {0})) }
     ensures rule { IfOk result (λ b. AreConsistent (arc_value nodes.old).known → MatchBool b
         (AreTakenIn (arc_value nodes.old).known (arc_value nodes.new).known excluded.now pool.now)
-        (CantBeTakenIn (arc_value nodes.old).known excluded.now pool.now)) }
+        (TakingInFails (arc_value nodes.old).known excluded.now pool.now)) }
     ensures false_unchanged { result ≡ Ok false → arc_value nodes.new ≡ arc_value nodes.old }
     ensures err { OnErr result (arc_value nodes.new ≡ arc_value nodes.old) }
 {
@@ -222,16 +189,11 @@ pub(crate) fn extend(
     pool: &Pool,
 ) -> Result<bool, Fault>
     requires covers { length (arc_value nodes.old).known ≤ length pool.now }
-    requires none { (16 ≤ length (arc_value nodes.old).known)
-        ⊎ ((w : ℕ) → numbers_at excluded.now w ≡ []) }
-    ensures grown { IfOk result (λ b. MatchBool b
-        (IsGrown (arc_value nodes.old).known (arc_value nodes.new).known excluded.now pool.now)
-        (NoneAgreesWith (arc_value nodes.old).known excluded.now pool.now)) }
     ensures fixed { IfOk result (λ b. MatchBool b
         (KeepsFixed (arc_value nodes.old) (arc_value nodes.new) pool.now) (Unit {0})) }
     ensures rule { IfOk result (λ b. AreConsistent (arc_value nodes.old).known → MatchBool b
         (AreTakenIn (arc_value nodes.old).known (arc_value nodes.new).known excluded.now pool.now)
-        (CantBeTakenIn (arc_value nodes.old).known excluded.now pool.now)) }
+        (TakingInFails (arc_value nodes.old).known excluded.now pool.now)) }
     ensures false_unchanged { result ≡ Ok false → arc_value nodes.new ≡ arc_value nodes.old }
     ensures err { OnErr result (arc_value nodes.new ≡ arc_value nodes.old) }
 {

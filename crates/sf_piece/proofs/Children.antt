@@ -1,6 +1,7 @@
 -- Pieces with one more truth value in their names; names are routes.
 use Rattle.std.proofs.lemmas.Grind.{common_steps}
 use Rattle.std.proofs.Common.{◌≡◌, ℕ, zero, suc, ◌+◌, ◌-◌, ◌<◌, ◌&&◌, not, Bool, true, false, List, [], ◌∷◌, ◌++◌, length, refl, sym, ap, subst, ◌∙◌, inl, inr, arith, append_assoc, append-nil, length-append}
+use Rattle.std.proofs.lemmas.Bool.{false≢true}
 use Rattle.std.specs.List.{AllByRecursion, list_all}
 use Rattle.std.specs.Prelude.{if◌then◌else◌}
 use Rattle.sf_insn.specs.declared.input.Input.{Input}
@@ -22,7 +23,7 @@ use Rattle.sf_sym.specs.declared.pool.Cond.{Cond}
 use Rattle.sf_sym.specs.Pool.{is_met, same, IsCondBelow}
 use Rattle.sf_dom.specs.Facts.{FactsView}
 use Rattle.sf_piece.specs.declared.machine.SymbolicMachine.{SymbolicMachine}
-use Rattle.sf_piece.specs.Pieces.{PieceData, is_member, is_prefix, IsTrulyNamed}
+use Rattle.sf_piece.specs.Pieces.{PieceData, is_member, is_prefix, IsTrulyNamed, HasNoMember}
 use Rattle.sf_piece.specs.SymbolicRun.{IsPending, StandsAt, IsPiece, IsLawfulPiece, concrete_state}
 use Rattle.sf_piece.specs.Works.{HasAtHand, Asks, NextIs, IsQuery, IsForeseen, AfterTruthValue, with_sense, IsNever, IsImplied, AreChildFacts, IsChild, HasAdvanced}
 use Rattle.sf_piece.proofs.Moves.{made}
@@ -88,6 +89,14 @@ other_way false true h = absurd cc
 -- where no member has the other truth value, every member has this one
 pub never_implies : (p : PieceData) (cond : Cond) (b : Bool) → IsNever p cond (not b) → IsImplied p cond b
 never_implies p cond b h d inp member = search (arith, other_way)
+
+-- where no member has either truth value, there is no member
+pub never_both : (p : PieceData) (cond : Cond) → IsNever p cond false → IsNever p cond true → HasNoMember p
+never_both p cond f t = record { none = λ d i. none d i (is_member p d) refl }
+  where
+    none : (d : Input) → IsInput d → (b : Bool) → is_member p d ≡ b → is_member p d ≡ false
+    none d i false e = e
+    none d i true e = absurd (false≢true (sym (t d i e) ∙ never_implies p cond true f d i e))
 
 -- after a test
 pub branch_after : (p : PieceData) (i : Insn) (test : Test) (other : Operand) (t f next : ℕ) (b : Bool)

@@ -20,6 +20,7 @@ use Rattle.sf_dom.specs.declared.known.Known.{Known}
 use Rattle.sf_dom.specs.Known.{Admits}
 use Rattle.sf_dom.specs.Facts.{FactsView, known_at, Covers, Agrees, NoInput, TakesIn}
 use Rattle.sf_dom.specs.Propagation.{Meets, Learns}
+use Rattle.sf_dom.specs.Learning.{LearnsBy, CantLearn}
 use Rattle.sf_dom.specs.Facts.{IsPlainCondition}
 use Rattle.sf_piece.specs.declared.machine.SymbolicMachine.{SymbolicMachine}
 use Rattle.sf_piece.specs.Pieces.{PieceData, is_member}
@@ -81,14 +82,16 @@ pub learnt_child : (p : PieceData) (cond : Cond) (b : Bool) (o : Option FactsVie
     → (IsPlain p.stack → IsPlainCondition p.pool cond)
     → MatchOption o (NoInput p.facts p.pool (Meets p.pool (with_sense cond b)))
     (λ fs. Learns p.facts fs p.pool (with_sense cond b))
+    → MatchOption o (CantLearn p.facts p.pool (with_sense cond b))
+    (λ fs. LearnsBy p.facts fs p.pool (with_sense cond b))
     → MatchOption o (IsNever p cond b) (λ fs. AreChildFacts p cond b fs)
-learnt_child p cond b None h plain none =
+learnt_child p cond b None h plain none cant =
     λ d inp member. false_from_ne_true _ (none d inp (h.known d inp member))
-learnt_child p cond b (Some fs) h plain learns = record {
+learnt_child p cond b (Some fs) h plain learns rule = record {
   covers = learns.covers;
   known = λ d inp member. learns.keeps d inp (h.known d inp member);
   narrower = learns.narrower;
-  told = learns.told;
+  rule = rule;
   decided = learns.decided;
   plain = λ is. learns.only (sensed_plain p.pool cond b (plain is));
 }

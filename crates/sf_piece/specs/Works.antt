@@ -24,8 +24,9 @@ use Rattle.sf_insn.specs.Words.{apply, passes}
 use Rattle.sf_dom.specs.declared.known.Known.{Known}
 use Rattle.sf_dom.specs.Known.{Admits}
 use Rattle.sf_dom.specs.Facts.{FactsView, Covers, Agrees, AreNarrower, DecidesTest, KeepsOnly}
-use Rattle.sf_dom.specs.Propagation.{IsTold, Meets}
-use Rattle.sf_dom.specs.Backward.{IsPropagatedBack}
+use Rattle.sf_dom.specs.Propagation.{Meets}
+use Rattle.sf_dom.specs.GoingBack.{GoingBackGives}
+use Rattle.sf_dom.specs.Learning.{LearnsBy}
 use Rattle.sf_dom.specs.Facts.{IsPlainCondition}
 use Rattle.sf_piece.specs.declared.machine.SymbolicMachine.{SymbolicMachine}
 use Rattle.sf_piece.specs.Machines.{after_return}
@@ -210,9 +211,9 @@ abbrev pub IsOperandNumber : PieceData → Operand → ℕ → Type 0
 IsOperandNumber p other n = (d : Input) → IsInput d → Agrees p.facts p.pool d
     → operand_of (concrete_state p.pool p.machine d) other ≡ n
 
--- no known bits would go back from a node
+-- known bits that go back from a node change nothing
 abbrev pub NothingGoesBack : PieceData → NodeId → Type 0
-NothingGoesBack p node = (n : ℕ) → IsPropagatedBack n p.facts.known p.pool node.0
+NothingGoesBack p node = GoingBackGives p.facts.known p.facts.excluded p.pool node.0 (Some p.facts.known)
 
 -- the next truth value is this on every member
 pub record IsForeseen (p : PieceData) (i : Insn) (b : Bool) : Type 0 where
@@ -244,15 +245,15 @@ IsNever p cond b = (d : Input) → IsInput d → is_member p d ≡ true → is_m
 abbrev pub IsImplied : PieceData → Cond → Bool → Type 0
 IsImplied p cond b = (d : Input) → IsInput d → is_member p d ≡ true → is_met p.pool d (with_sense cond b) ≡ true
 
--- Facts of the members on which the condition has this truth value: nothing that was known is lost, and what the truth
--- value tells is known. On a plain stack these are exact: an input that agrees with them agreed before, and the
--- condition has this truth value on it.
+-- Facts of the members on which the condition has this truth value: the piece's facts learn it, by the rules of facts,
+-- and nothing that was known is lost. On a plain stack these are exact: an input that agrees with them agreed before,
+-- and the condition has this truth value on it.
 pub record AreChildFacts (p : PieceData) (cond : Cond) (b : Bool) (facts : FactsView) : Type 0 where
   pub covers : Covers facts p.pool
   pub known : (d : Input) → IsInput d → is_member p d ≡ true → is_met p.pool d (with_sense cond b) ≡ true
       → Agrees facts p.pool d
   pub narrower : AreNarrower p.facts facts
-  pub told : IsTold p.facts facts p.pool (with_sense cond b)
+  pub rule : LearnsBy p.facts facts p.pool (with_sense cond b)
   pub decided : DecidesTest p.facts (with_sense cond b)
   pub plain : IsPlain p.stack → KeepsOnly p.facts facts p.pool (Meets p.pool (with_sense cond b))
 

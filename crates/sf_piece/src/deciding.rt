@@ -5,8 +5,9 @@ ghost use Rattle.std.specs.Arc.{arc_value};
 ghost use Rattle.sf_check.specs.Stacks.{IsPlain};
 ghost use Rattle.sf_sym.specs.Pool.{IsCondBelow};
 ghost use Rattle.sf_dom.specs.Facts.{IsPlainCondition};
+ghost use Rattle.sf_dom.specs.Learning.{LearnsBy, CantLearn};
 ghost use Rattle.sf_piece.specs.SymbolicRun.{IsLawfulPiece};
-ghost use Rattle.sf_piece.specs.Works.{HasAtHand, IsQuery, AfterTruthValue, HasAdvanced, IsChild, IsForeseen, Asks, AreChildFacts, IsNever};
+ghost use Rattle.sf_piece.specs.Works.{HasAtHand, IsQuery, AfterTruthValue, HasAdvanced, IsChild, IsForeseen, Asks, AreChildFacts, IsNever, with_sense};
 ghost use Rattle.sf_piece.specs.SmallSteps.{IsSmallStep};
 
 use crate::fault::Fault;
@@ -124,8 +125,11 @@ fn child_facts(alloc: Global, run: &Run, cond: Cond, sense: bool) -> Result<Opti
     requires lawful { IsLawfulPiece run.now }
     requires below { IsCondBelow (length run.now.pool) cond }
     requires plain { IsPlain run.now.stack → IsPlainCondition run.now.pool cond }
-    ensures { IfOk result (λ o. MatchOption o (IsNever run.now cond sense)
+    ensures facts { IfOk result (λ o. MatchOption o (IsNever run.now cond sense)
         (λ fs. AreChildFacts run.now cond sense fs)) }
+    ensures rule { IfOk result (λ o. MatchOption o
+        (CantLearn run.now.facts run.now.pool (with_sense cond sense))
+        (λ fs. LearnsBy run.now.facts fs run.now.pool (with_sense cond sense))) }
 {
     let learnt = run
         .facts

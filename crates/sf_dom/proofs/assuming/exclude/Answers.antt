@@ -1,4 +1,4 @@
-use Rattle.sf_dom.proofs.AssumeLemmas.{excluded-word}
+use Rattle.sf_dom.proofs.Excluding.{excluded-word}
 use Rattle.sf_dom.proofs.assuming.exclude.Goals as goal
 
 pub returns-in_ok-add : goal.returns-in_ok-add

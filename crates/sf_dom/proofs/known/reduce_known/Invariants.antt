@@ -1,5 +1,4 @@
-use Rattle.std.proofs.Common.{ℕ}
-use Rattle.sf_dom.specs.Known.{Admits, IsNarrower}
+use Rattle.sf_dom.specs.Known.{IsNarrower}
 use Rattle.sf_dom.specs.Rules.{IsClosed}
 use Rattle.sf_dom.specs.declared.known.Known.{Known}
 use Rattle.sf_dom.proofs.known.reduce_known.Given as goal
@@ -7,7 +6,6 @@ use Rattle.sf_dom.specs.Reduction.{freedom}
 
 abbrev pub invariant-loop-next : goal.invariant-loop-next
 invariant-loop-next l = record {
-  same : (n : ℕ) → Admits l.fn.known n → Admits l.at n;
   narrower : IsNarrower l.fn.known l.at;
   widest : (k : Known) → IsClosed k → IsNarrower l.fn.known k → IsNarrower l.at k;
 }

@@ -2,7 +2,7 @@ use Rattle.std.proofs.Common.{◌≡◌, ℕ, ◌<◌, ◌≤◌, ◌⊎◌, len
 use Rattle.sf_sym.specs.Pool.{node_at}
 use Rattle.sf_dom.specs.Rules.{forward_node, IsReduction}
 use Rattle.sf_dom.specs.Passes.{IsVariableAt, IsFixedAt}
-use Rattle.sf_dom.specs.Propagation.{KeepsAgreeing, AreConsistent, IsPropagatedAt}
+use Rattle.sf_dom.specs.Propagation.{AreConsistent}
 use Rattle.sf_dom.proofs.propagation.append.Given as goal
 use Rattle.sf_dom.specs.Facts.{known_at}
 
@@ -12,9 +12,6 @@ invariant-loop-i l = record {
   kept : take (length l.fn.nodes.known) l.nodes.known ≡ l.fn.nodes.known;
   longer : length l.fn.nodes.known ≤ length l.nodes.known;
   untouched : l.i ≡ length l.fn.nodes.known → l.nodes ≡ l.fn.nodes;
-  keeps : KeepsAgreeing l.fn.nodes.known l.nodes.known l.excluded l.pool;
-  passed : AreConsistent l.fn.nodes.known → (k : ℕ)
-      → length l.fn.nodes.known ≤ k → k < l.i → IsPropagatedAt l.nodes.known l.excluded l.pool k;
   fixed : AreConsistent l.fn.nodes.known
       → ((k : ℕ) → k < length l.fn.nodes.known → IsVariableAt l.fn.nodes.variables k
       ⊎ IsFixedAt l.fn.nodes.known l.pool k)

@@ -1,8 +1,8 @@
 use Rattle.sf_piece.proofs.Lawful.{learnt_child}
 use Rattle.sf_piece.proofs.deciding.child_facts.Goals as goal
 
-pub returns : goal.returns
-returns c =
+pub returns-clause-facts : goal.returns-clause-facts
+returns-clause-facts c =
     let plain = rw (← c.run.view_is) at c.requires.plain in
     rw (← c.run.view_is) (learnt_child _ c.args.cond c.args.sense c.in_ok-learnt.learnt
-    (rw (← c.run.view_is) at c.requires.lawful).run plain c.in_ok-learnt.ensures.learnt)
+    (rw (← c.run.view_is) at c.requires.lawful).run plain c.in_ok-learnt.ensures.learnt c.in_ok-learnt.ensures.rule)

@@ -1,5 +1,5 @@
 use Rattle.std.proofs.Common.{arith}
-use Rattle.sf_dom.proofs.AssumeLemmas.{added-at}
+use Rattle.sf_dom.proofs.Excluding.{added-at}
 use Rattle.sf_dom.proofs.exclusions.Excluded.add.Goals as goal
 
 pub returns-in_ok-self-clause-ok : goal.returns-in_ok-self-clause-ok

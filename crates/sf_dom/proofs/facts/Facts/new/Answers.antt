@@ -1,12 +1,27 @@
-use Rattle.std.proofs.lemmas.Grind.{common_steps}
 use Rattle.std.proofs.Common.{arith}
-use Rattle.sf_dom.specs.Facts.{Agrees}
-use Rattle.sf_dom.proofs.Sampled.{no-input}
+use Rattle.sf_dom.proofs.Sampled.{first-covers, first-sound, first-fails}
 use Rattle.sf_dom.proofs.facts.Facts.new.Goals as goal
 
 pub unreachable-requires : goal.unreachable-requires
-unreachable-requires c = grind (arith, common_steps, no-input)
+unreachable-requires c =
+    let none = rw (c.in_ok-nodes.ensures, c.if-branch.false) at c.in_ok-append.ensures.rule in
+    first-fails c.in_ok-excluded.excluded c.args.pool.now c.len-count.ensures.lawful c.in_ok-excluded.ensures.1
+    (none (λ i l. absurd (omega arith)))
+
+pub returns-clause-covers : goal.returns-clause-covers
+returns-clause-covers c =
+    let taken = rw (c.in_ok-nodes.ensures, c.if-branch.true) at c.in_ok-append.ensures.rule in
+    let fixed = rw c.if-branch.true at c.in_ok-append.ensures.fixed in
+    rw c.in_ok-new.ensures.ok (first-covers c.in_ok-excluded.excluded c.args.pool.now c.len-count.ensures.lawful
+    c.in_ok-excluded.ensures.1 _ _ _ c.in_ok-excluded.ensures.0 (taken (λ i l. absurd (omega arith)))
+    (rw c.in_ok-nodes.ensures
+    at fixed))
 
 pub returns-clause-sound : goal.returns-clause-sound
-unfolding Agrees
-returns-clause-sound c = search arith
+returns-clause-sound c =
+    let taken = rw (c.in_ok-nodes.ensures, c.if-branch.true) at c.in_ok-append.ensures.rule in
+    rw c.in_ok-new.ensures.ok (first-sound c.in_ok-excluded.excluded c.args.pool.now c.len-count.ensures.lawful
+    c.in_ok-excluded.ensures.1 _ _ (taken (λ i l. absurd (omega arith))))
+
+pub invariant_of-result : goal.invariant_of-result
+invariant_of-result c = (returns-clause-covers c).lawful

@@ -48,6 +48,5 @@ returns-clause-rule c = rw (take_all c.loop-cond.cond-index c.args.conds.now (om
 
 pub returns-then-not-branch-clause-rule : goal.returns-then-not-branch-clause-rule
 returns-then-not-branch-clause-rule c =
-    let none = rw c.if-not-branch.true at c.in_ok-learn.ensures.rule in
-    none-built c.args.conds.now c.loop-cond.cond-index _ c.loop-cond.facts c.args.pool.now
-    c.loop-cond.invariant.covers.pool (omega arith) c.loop-cond.invariant.built none
+    none-built c.args.conds.now c.loop-cond.cond-index _ c.loop-cond.facts c.args.pool.now (omega arith)
+    c.loop-cond.invariant.built (rw c.if-not-branch.true at c.in_ok-learn.ensures.rule)

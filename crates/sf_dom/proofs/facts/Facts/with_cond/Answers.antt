@@ -1,35 +1,36 @@
-use Rattle.std.proofs.Common.{arith}
-use Rattle.sf_sym.specs.ValueLaws.{met-passes}
-use Rattle.sf_dom.specs.Facts.{Agrees}
-use Rattle.sf_dom.proofs.Assumed.{assumed-learns}
+use Rattle.sf_dom.proofs.Assumed.{learns, cant-learn}
 use Rattle.sf_dom.proofs.facts.Facts.with_cond.Goals as goal
-
-pub returns-in-None-clause-learnt : goal.returns-in-None-clause-learnt
-unfolding Agrees
-returns-in-None-clause-learnt c = grind (arith, met-passes)
-
-pub returns-in_ok-nodes-in-Some-clause-learnt : goal.returns-in_ok-nodes-in-Some-clause-learnt
-returns-in_ok-nodes-in-Some-clause-learnt c =
-    let told = rw (c.in-Some.is, c.deref.ensures) at c.in_ok-learn_cond.ensures.learnt in
-    let places = rw (c.in-Some.is, c.deref.ensures) at c.in_ok-learn_cond.ensures.variables in
-    rw (← c.self.view_is, c.in_ok-nodes-in-Some.ensures, places)
-    (assumed-learns _ _ _ _ _ c.args.pool.now c.args.cond.now
-    (rw (← c.self.view_is) at c.requires.covers) c.requires.below told)
 
 pub returns-in-None-clause-rule : goal.returns-in-None-clause-rule
 returns-in-None-clause-rule c =
     let none = rw (c.in-None.is, c.deref.ensures) at c.in_ok-learn_cond.ensures.rule in
-    rw (← c.self.view_is) (λ new t. none new.excluded t.excluded new.known t.known)
+    rw (← c.self.view_is) (record { lists = none.0; excluded = none.1; none = none.2 })
+
+pub returns-in-None-clause-learnt : goal.returns-in-None-clause-learnt
+returns-in-None-clause-learnt c =
+    let none = rw (c.in-None.is, c.deref.ensures) at c.in_ok-learn_cond.ensures.rule in
+    rw (← c.self.view_is) (cant-learn _ c.args.pool.now c.args.cond.now (rw (← c.self.view_is) at c.requires.covers)
+    c.requires.below (record { lists = none.0; excluded = none.1; none = none.2 }))
 
 pub returns-in_ok-nodes-in-Some-clause-rule : goal.returns-in_ok-nodes-in-Some-clause-rule
 returns-in_ok-nodes-in-Some-clause-rule c =
     let told = rw (c.in-Some.is, c.deref.ensures) at c.in_ok-learn_cond.ensures.rule in
     rw (← c.self.view_is, c.in_ok-nodes-in-Some.ensures) (record { excluded = told.0; known = told.1 })
 
+pub returns-in_ok-nodes-in-Some-clause-learnt : goal.returns-in_ok-nodes-in-Some-clause-learnt
+returns-in_ok-nodes-in-Some-clause-learnt c =
+    let told = rw (c.in-Some.is, c.deref.ensures) at c.in_ok-learn_cond.ensures.rule in
+    let places = rw (c.in-Some.is, c.deref.ensures) at c.in_ok-learn_cond.ensures.variables in
+    let words = rw c.in-Some.is at c.in_ok-learn_cond.ensures.words in
+    rw (← c.self.view_is, c.in_ok-nodes-in-Some.ensures, places)
+    (learns _ c.args.pool.now c.args.cond.now (rw (← c.self.view_is) at c.requires.covers) c.requires.below _ _ words
+    told.0 told.1)
+
 pub invariant_of-result : goal.invariant_of-result
 invariant_of-result c =
-    let told = rw (c.in-Some.is, c.deref.ensures) at c.in_ok-learn_cond.ensures.learnt in
+    let told = rw (c.in-Some.is, c.deref.ensures) at c.in_ok-learn_cond.ensures.rule in
     let places = rw (c.in-Some.is, c.deref.ensures) at c.in_ok-learn_cond.ensures.variables in
-    let all = assumed-learns _ _ _ _ _ c.args.pool.now c.args.cond.now
-    (rw (← c.self.view_is) at c.requires.covers) c.requires.below told in
+    let words = rw c.in-Some.is at c.in_ok-learn_cond.ensures.words in
+    let all = learns _ c.args.pool.now c.args.cond.now (rw (← c.self.view_is) at c.requires.covers) c.requires.below _ _
+    words told.0 told.1 in
     rw (c.in_ok-nodes-in-Some.ensures, places) all.covers.lawful

@@ -1,0 +1,259 @@
+-- To take a condition into what is known is a lawful step, and so is to take in more of a node.
+use Rattle.std.proofs.Common.{◌≡◌, ℕ, ◌<◌, ◌^◌, List, length, set, arith, refl, sym, ◌∙◌}
+use Rattle.std.proofs.lemmas.List.{get_or-set_same, set-get_or}
+use Rattle.std.proofs.lemmas.Nat.{or_lt}
+use Rattle.std.specs.Prelude.{Option, Some, None, MatchOption, IfSome, Bool, true, false, MatchBool}
+use Rattle.sf_insn.specs.Inputs.{IsInput}
+use Rattle.sf_insn.specs.declared.input.Input.{Input}
+use Rattle.sf_sym.specs.Pool.{IsPool, IsCondBelow, value_of}
+use Rattle.sf_sym.specs.declared.pool.Cond.{Cond}
+use Rattle.sf_sym.specs.declared.pool.Node.{Node}
+use Rattle.sf_dom.specs.declared.known.Known.{Known}
+use Rattle.sf_dom.specs.declared.guards.Pair.{Pair}
+use Rattle.sf_dom.specs.Known.{Admits, IsNarrower, known_of}
+use Rattle.sf_dom.specs.Facts.{known_at, AgreesWith}
+use Rattle.sf_dom.specs.Propagation.{IsNarrowed, AllNarrower, Holds}
+use Rattle.sf_dom.specs.Backward.{IsPropagatedBack}
+use Rattle.sf_dom.specs.Rules.{met, IsClosedAt, IsReduction, ReductionGives, Then}
+use Rattle.sf_dom.specs.Passes.{PassGives, IsAtRest, AreClosed}
+use Rattle.sf_dom.specs.GoingBack.{WritingGives, GoingBackGives}
+use Rattle.sf_dom.specs.Learning.{assumed_of, PairGives, with_pair, ConditionGives, MoreGives}
+use Rattle.sf_dom.proofs.BackLaws.{back-lawful, back-still}
+use Rattle.sf_dom.proofs.Lawful.{IsLawful, AnyInput, narrowed-set, narrowed-more, narrowed-trans, agrees-set, kept-at, met-admits, closed-zeros, reduction-holds, reduction-one, value-fits, writing-lawful, then-lawful}
+use Rattle.sf_dom.proofs.PassLaws.{pass-lawful, pass-rest}
+use Rattle.sf_dom.proofs.Passes.{met-left, met-right, rest-pass}
+use Rattle.sf_dom.proofs.Reductions.{IsNarrower-trans}
+use Rattle.sf_dom.proofs.TestLaws.{test-admits, test-zeros}
+use Rattle.sf_dom.proofs.Then.{then-one, then-some, then-if}
+
+-- what is left of the two nodes of a condition
+pub record AreLeft (ks : List Known) (ex : List (List ℕ)) (cond : Cond) (pair : Pair) : Type 0 where
+  pub node : IsReduction ex cond.node.0 (met (known_at ks cond.node.0) (assumed_of ks cond).node) pair.node
+  pub other : IsReduction ex cond.other.0
+      (met (known_at (set ks cond.node.0 pair.node) cond.other.0) (assumed_of ks cond).other) pair.other
+
+pub pair-left : (ks : List Known) (ex : List (List ℕ)) (cond : Cond) (r : Option Pair) → PairGives ks ex cond r
+    → IfSome r (AreLeft ks ex cond)
+pair-left ks ex cond =
+    then-if (ReductionGives ex cond.node.0 (met (known_at ks cond.node.0) (assumed_of ks cond).node)) _
+    (AreLeft ks ex cond) (λ node h. then-if (ReductionGives ex cond.other.0
+    (met (known_at (set ks cond.node.0 node) cond.other.0) (assumed_of ks cond).other)) _ (AreLeft ks ex cond)
+    (λ other k r e. rw e (record { node = h; other = k })))
+
+-- once both are written, what is known is closed, and nothing is lost
+pub pair-narrowed : (ks : List Known) (ex : List (List ℕ)) (ns : List Node) (cond : Cond) (pair : Pair)
+    → AreClosed ks ns → IsCondBelow (length ns) cond → AreLeft ks ex cond pair
+    → IsNarrowed ks (with_pair ks cond pair) ex ns
+pair-narrowed ks ex ns cond pair h below left =
+    let v : Known = known_at ks cond.node.0 in
+    let a = assumed_of ks cond in
+    let first = narrowed-set ks ex ns cond.node.0 pair.node h below.0 left.node.is
+    (IsNarrower-trans v (met v a.node) pair.node (met-left v a.node) left.node.narrower) in
+    let w : Known = known_at (set ks cond.node.0 pair.node) cond.other.0 in
+    narrowed-trans ks (set ks cond.node.0 pair.node) (with_pair ks cond pair) ex ns h first
+    (narrowed-set (set ks cond.node.0 pair.node) ex ns cond.other.0 pair.other first.closed below.1 left.other.is
+    (IsNarrower-trans w (met w a.other) pair.other (met-left w a.other) left.other.narrower))
+
+pair-narrowed-if : (ks : List Known) (ex : List (List ℕ)) (ns : List Node) (cond : Cond) → AreClosed ks ns
+    → IsCondBelow (length ns) cond → (pair : Pair) → PairGives ks ex cond (Some pair)
+    → IsNarrowed ks (with_pair ks cond pair) ex ns
+pair-narrowed-if ks ex ns cond h below pair g =
+    pair-narrowed ks ex ns cond pair h below (pair-left ks ex cond (Some pair) g)
+
+pair-one : (ks : List Known) (ex : List (List ℕ)) (cond : Cond) (r s : Option Pair) → PairGives ks ex cond r
+    → PairGives ks ex cond s → r ≡ s
+pair-one ks ex cond =
+    let first : Known = met (known_at ks cond.node.0) (assumed_of ks cond).node in
+    then-one (ReductionGives ex cond.node.0 first) _ (reduction-one ex cond.node.0 first) (λ node h.
+    let second : Known = met (known_at (set ks cond.node.0 node) cond.other.0) (assumed_of ks cond).other in
+    then-one (ReductionGives ex cond.other.0 second) _ (reduction-one ex cond.other.0 second)
+    (λ other k r s e f. e ∙ sym f))
+
+-- an input that agrees and meets the condition agrees once both are written
+pair-sound : (ks : List Known) (ex : List (List ℕ)) (ns : List Node) (cond : Cond) → IsPool ns → AreClosed ks ns
+    → IsCondBelow (length ns) cond → (d : Input) → IsInput d → Holds ns cond d → AgreesWith ks ex ns d
+    → (r : Option Pair) → PairGives ks ex cond r → MatchOption r ⊥ (λ pair. AgreesWith (with_pair ks cond pair) ex ns d)
+pair-sound ks ex ns cond p h below d i holds a =
+    let count = h.count in
+    let iv = below.0 in let iw = below.1 in
+    let v : Known = known_at ks cond.node.0 in
+    let w : Known = known_at ks cond.other.0 in
+    let cv = h.each cond.node.0 iv in
+    let cw = h.each cond.other.0 iw in
+    let lv : cond.node.0 < length ks = omega arith in
+    let x : ℕ = value_of ns d cond.node.0 in
+    let y : ℕ = value_of ns d cond.other.0 in
+    let hx = (a cond.node.0 lv).admitted in
+    let hy = (a cond.other.0 (omega arith)).admitted in
+    let t = test-admits cond.test cond.sense v w x y cv cw hx hy holds in
+    let z = test-zeros cond.test cond.sense v w cv cw in
+    let first : Known = met v (assumed_of ks cond).node in
+    then-some (ReductionGives ex cond.node.0 first) _ (λ node. Admits node x)
+    (λ pair. AgreesWith (with_pair ks cond pair) ex ns d)
+    (λ o g. reduction-holds o ex cond.node.0 x first (value-fits ks ex ns d cond.node.0 h iv a)
+    (or_lt 32 v.zeros (assumed_of ks cond).node.zeros (closed-zeros v cv) z.0)
+    (λ b. kept-at ks ex ns d cond.node.0 p lv a b) (met-admits v (assumed_of ks cond).node x hx t.0) g)
+    (λ node g k.
+    let ks' : List Known = set ks cond.node.0 node in
+    let h' = (narrowed-set ks ex ns cond.node.0 node h iv g.is
+    (IsNarrower-trans v first node (met-left v (assumed_of ks cond).node) g.narrower)).closed in
+    let count' = h'.count in
+    let lw : cond.other.0 < length ks' = omega arith in
+    let a' = agrees-set ks ex ns d cond.node.0 node lv a k in
+    let w' : Known = known_at ks' cond.other.0 in
+    let second : Known = met w' (assumed_of ks cond).other in
+    then-some (ReductionGives ex cond.other.0 second) _ (λ other. Admits other y)
+    (λ pair. AgreesWith (with_pair ks cond pair) ex ns d)
+    (λ o f. reduction-holds o ex cond.other.0 y second (value-fits ks ex ns d cond.other.0 h iw a)
+    (or_lt 32 w'.zeros (assumed_of ks cond).other.zeros (closed-zeros w' (h'.each cond.other.0 iw)) z.1)
+    (λ b. kept-at ks' ex ns d cond.other.0 p lw a' b)
+    (met-admits w' (assumed_of ks cond).other y (a' cond.other.0 lw).admitted t.1) f)
+    (λ other f l r e. rw e (agrees-set ks' ex ns d cond.other.0 other lw a' l)))
+
+-- after both nodes: known bits go back from each, and then comes a pass
+after-pair : (ks : List Known) (ex : List (List ℕ)) (ns : List Node) (cond : Cond) → IsPool ns → AreClosed ks ns
+    → IsCondBelow (length ns) cond → IsLawful AnyInput ks ex ns
+    (Then (GoingBackGives ks ex ns cond.node.0) (λ one. Then (GoingBackGives one ex ns cond.other.0) (λ two s.
+    PassGives two ex ns s)))
+after-pair ks ex ns cond p h below =
+    then-lawful AnyInput ks ex ns (GoingBackGives ks ex ns cond.node.0)
+    (λ one. Then (GoingBackGives one ex ns cond.other.0) (λ two s. PassGives two ex ns s)) h
+    (back-lawful ks ex ns cond.node.0 p h below.0) (λ one g.
+    then-lawful AnyInput one ex ns (GoingBackGives one ex ns cond.other.0) (λ two s. PassGives two ex ns s) g
+    (back-lawful one ex ns cond.other.0 p g below.1) (λ two k. pass-lawful two ex ns p k))
+
+-- to take in a condition is a lawful step for the inputs that meet it
+pub condition-lawful : (ks : List Known) (ex : List (List ℕ)) (ns : List Node) (cond : Cond) → IsPool ns
+    → AreClosed ks ns → IsCondBelow (length ns) cond
+    → IsLawful (Holds ns cond) ks ex ns (ConditionGives ks ex ns cond)
+condition-lawful ks ex ns cond p h below =
+    let rest : Pair → Option (List Known) → Type 0
+    = λ pair. Then (GoingBackGives (with_pair ks cond pair) ex ns cond.node.0) (λ one.
+    Then (GoingBackGives one ex ns cond.other.0) (λ two s. PassGives two ex ns s)) in
+    let narrowed = pair-narrowed-if ks ex ns cond h below in
+    let lawful : (pair : Pair) → PairGives ks ex cond (Some pair) → IsLawful AnyInput (with_pair ks cond pair) ex ns
+    (rest pair) = λ pair g. after-pair (with_pair ks cond pair) ex ns cond p (narrowed pair g).closed below in
+    record {
+      narrowed = then-if (PairGives ks ex cond) rest (λ next. IsNarrowed ks next ex ns) (λ pair g r f.
+          narrowed-more r ks (with_pair ks cond pair) ex ns h (narrowed pair g) ((lawful pair g).narrowed r f));
+      sound = λ d i holds a. then-some (PairGives ks ex cond) rest (λ pair. AgreesWith (with_pair ks cond pair) ex ns d)
+          (λ next. AgreesWith next ex ns d) (pair-sound ks ex ns cond p h below d i holds a)
+          (λ pair g b r f. (lawful pair g).sound d i tt b r f);
+      one = then-one (PairGives ks ex cond) rest (pair-one ks ex cond) (λ pair g r s f k. (lawful pair g).one r s f k);
+    }
+
+-- nothing more follows after a condition
+pub condition-rest : (ks : List Known) (ex : List (List ℕ)) (ns : List Node) (cond : Cond) (r : Option (List Known))
+    → ConditionGives ks ex ns cond r → IfSome r (λ next. (i : ℕ) → i < length ns → IsAtRest next ex ns i)
+condition-rest ks ex ns cond =
+    then-if (PairGives ks ex cond) _ (λ next. (i : ℕ) → i < length ns → IsAtRest next ex ns i) (λ pair g.
+    then-if (GoingBackGives (with_pair ks cond pair) ex ns cond.node.0) _
+    (λ next. (i : ℕ) → i < length ns → IsAtRest next ex ns i) (λ one f.
+    then-if (GoingBackGives one ex ns cond.other.0) _ (λ next. (i : ℕ) → i < length ns → IsAtRest next ex ns i)
+    (λ two k r l. pass-rest two ex ns r l)))
+
+-- what is left of the two nodes of a condition, of which what is known afterwards loses nothing
+pub record ComesFrom (ks new : List Known) (ex : List (List ℕ)) (cond : Cond) : Type 0 where
+  pub pair : Pair
+  pub left : AreLeft ks ex cond pair
+  pub narrower : AllNarrower (with_pair ks cond pair) new
+
+pub condition-from : (ks : List Known) (ex : List (List ℕ)) (ns : List Node) (cond : Cond) → IsPool ns
+    → AreClosed ks ns → IsCondBelow (length ns) cond → (r : Option (List Known)) → ConditionGives ks ex ns cond r
+    → IfSome r (λ new. ComesFrom ks new ex cond)
+condition-from ks ex ns cond p h below =
+    then-if (PairGives ks ex cond) _ (λ new. ComesFrom ks new ex cond) (λ pair g r f.
+    comes r pair g ((after-pair (with_pair ks cond pair) ex ns cond p
+    (pair-narrowed-if ks ex ns cond h below pair g).closed below).narrowed r f))
+  where
+    comes : (r : Option (List Known)) (pair : Pair) → PairGives ks ex cond (Some pair)
+        → IfSome r (λ new. IsNarrowed (with_pair ks cond pair) new ex ns) → IfSome r (λ new. ComesFrom ks new ex cond)
+    comes None pair g n = tt
+    comes (Some new) pair g n =
+        record { pair = pair; left = pair-left ks ex cond (Some pair) g; narrower = n.narrower }
+
+-- to take in more of a node is a lawful step for the inputs on which it has such a number
+pub more-lawful : (ks : List Known) (ex : List (List ℕ)) (ns : List Node) (i : ℕ) (more : Known) → IsPool ns
+    → AreClosed ks ns → i < length ns → more.zeros < 2 ^ 32
+    → IsLawful (λ d. Admits more (value_of ns d i)) ks ex ns (MoreGives ks ex ns i more)
+more-lawful ks ex ns i more p h l f =
+    let count = h.count in
+    let own : Known = known_at ks i in
+    then-lawful (λ d. Admits more (value_of ns d i)) ks ex ns (WritingGives ks ex i (met own more))
+    (λ next s. PassGives next ex ns s) h
+    (writing-lawful (λ d. Admits more (value_of ns d i)) ks ex ns i (met own more) p h l (met-left own more)
+    (or_lt 32 own.zeros more.zeros (closed-zeros own (h.each i l)) f)
+    (λ d v m a. met-admits own more (value_of ns d i) (a i (omega arith)).admitted m))
+    (λ next k. pass-lawful next ex ns p k)
+
+pub more-rest : (ks : List Known) (ex : List (List ℕ)) (ns : List Node) (i : ℕ) (more : Known)
+    (r : Option (List Known)) → MoreGives ks ex ns i more r
+    → IfSome r (λ next. (j : ℕ) → j < length ns → IsAtRest next ex ns j)
+more-rest ks ex ns i more =
+    then-if (WritingGives ks ex i (met (known_at ks i) more)) _ (λ next. (j : ℕ) → j < length ns
+    → IsAtRest next ex ns j)
+    (λ next g r f. pass-rest next ex ns r f)
+
+-- a condition is taken in step by step
+pub condition-steps : (b : Bool) (ks one two new : List Known) (ex : List (List ℕ)) (ns : List Node) (cond : Cond)
+    (pair : Pair) → PairGives ks ex cond (Some pair)
+    → GoingBackGives (with_pair ks cond pair) ex ns cond.node.0 (Some one)
+    → GoingBackGives one ex ns cond.other.0 (Some two)
+    → MatchBool b (PassGives two ex ns (Some new)) (PassGives two ex ns None)
+    → MatchBool b (ConditionGives ks ex ns cond (Some new)) (ConditionGives ks ex ns cond None)
+condition-steps true ks one two new ex ns cond pair g h k w = (Some pair, g, (Some one, h, (Some two, k, w)))
+condition-steps false ks one two new ex ns cond pair g h k w = (Some pair, g, (Some one, h, (Some two, k, w)))
+
+-- a condition of which nothing follows changes nothing
+pub condition-nothing : (ks : List Known) (ex : List (List ℕ)) (ns : List Node) (cond : Cond) (pair : Pair) → IsPool ns
+    → length ks ≡ length ns → IsCondBelow (length ns) cond → PairGives ks ex cond (Some pair)
+    → pair.node ≡ known_at ks cond.node.0 → pair.other ≡ known_at ks cond.other.0
+    → ((i : ℕ) → i < length ns → IsAtRest ks ex ns i)
+    → ((n : ℕ) → IsPropagatedBack n ks ns cond.node.0) → ((n : ℕ) → IsPropagatedBack n ks ns cond.other.0)
+    → ConditionGives ks ex ns cond (Some ks)
+condition-nothing ks ex ns cond pair p count below g en eo rest one two =
+    let none : Known = known_of 0 0 0 0 in
+    let closed : (i : ℕ) → i < length ns → IsClosedAt ex i (known_at ks i) = λ i l. (rest i l).closed in
+    let same : with_pair ks cond pair ≡ ks = rw (
+      en,
+      eo,
+      set-get_or ks cond.node.0 none,
+      set-get_or ks cond.other.0 none,
+    )
+    refl in (
+      Some pair,
+      g,
+      (
+        Some ks,
+        rw same (back-still (length ns) ks ex ns cond.node.0 p below.0 below.0 closed one),
+        (
+          Some ks,
+          back-still (length ns) ks ex ns cond.other.0 p below.1 below.1 closed two,
+          rest-pass ks ex ns count rest,
+        ),
+      ),
+    )
+
+-- and it is known afterwards
+pub more-known : (ks : List Known) (ex : List (List ℕ)) (ns : List Node) (i : ℕ) (more : Known) → IsPool ns
+    → AreClosed ks ns → i < length ns → (r : Option (List Known)) → MoreGives ks ex ns i more r
+    → IfSome r (λ new. IsNarrower more (known_at new i))
+more-known ks ex ns i more p h l =
+    let count = h.count in
+    let own : Known = known_at ks i in
+    let here : i < length ks = omega arith in
+    then-if (WritingGives ks ex i (met own more)) _ (λ new. IsNarrower more (known_at new i)) (λ next g r f.
+    let written = then-if (ReductionGives ex i (met own more)) (λ left r. r ≡ Some (set ks i left))
+    (λ next. IsNarrowed ks next ex ns × IsNarrower more (known_at next i)) (λ left k r e. rw e (
+      narrowed-set ks ex ns i left h l k.is (IsNarrower-trans own (met own more) left (met-left own more) k.narrower),
+      rw (get_or-set_same ks i left (known_of 0 0 0 0) here) (IsNarrower-trans more (met own more) left
+          (met-right own more) k.narrower),
+    )) (Some next) g in
+    on r next written ((pass-lawful next ex ns p written.0.closed).narrowed r f))
+  where
+    on : (r : Option (List Known)) (next : List Known) → IsNarrowed ks next ex ns × IsNarrower more (known_at next i)
+        → IfSome r (λ new. IsNarrowed next new ex ns) → IfSome r (λ new. IsNarrower more (known_at new i))
+    on None next w n = tt
+    on (Some new) next w n =
+        let all = w.0.closed.count in
+        IsNarrower-trans more (known_at next i) (known_at new i) w.1 (n.narrower i (omega arith))

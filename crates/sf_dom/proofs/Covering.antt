@@ -1,0 +1,125 @@
+-- Facts of which nothing more follows cover their pool: constants are known, and so are operations on decided operands.
+use Rattle.std.proofs.Common.{◌≡◌, ℕ, ◌<◌, ◌≤◌, ◌^◌, ◌+◌, ◌-◌, List, length, arith, refl, ◌⊎◌, inl, inr}
+use Rattle.std.proofs.lemmas.Bool.{cases_lt}
+use Rattle.std.specs.Prelude.{Option, Some, None, Bool, IfSome}
+use Rattle.sf_insn.specs.declared.ops.BinOp.{BinOp}
+use Rattle.sf_insn.specs.declared.ops.BinOp.TheVariants.{Add, Sub, Mul, Div, Or, And, Lsh, Rsh, Xor}
+use Rattle.sf_sym.specs.Pool.{IsPool, OperandsBelow, node_at}
+use Rattle.sf_sym.specs.declared.pool.Node.{Node}
+use Rattle.sf_sym.specs.declared.pool.Node.TheVariants.{Const, Word, Bin, Neg}
+use Rattle.sf_dom.specs.declared.known.Known.{Known}
+use Rattle.sf_dom.specs.Known.{IsNarrower, IsDecided, known_of}
+use Rattle.sf_dom.specs.Facts.{FactsView, known_at, Covers, KeepsDecided, AreDecidedOperands}
+use Rattle.sf_dom.specs.Passes.{IsAtRest, AreClosed, AreFixed}
+use Rattle.sf_dom.specs.Rules.{forward_known, forward_negated, forward_node, IsClosed}
+use Rattle.sf_dom.specs.Backward.{IsPropagatedBack}
+use Rattle.sf_dom.specs.GoingBack.{GoingBackGives}
+use Rattle.sf_dom.proofs.BackLaws.{back-still}
+use Rattle.sf_dom.proofs.Bits.{bits-le}
+use Rattle.sf_dom.proofs.ClosedLemmas.{closed-consistent}
+use Rattle.sf_dom.proofs.ForwardLemmas.{or-forced, and-forced, xor-forced}
+use Rattle.sf_dom.proofs.Passes.{operands-below, one-number}
+use Rattle.sf_dom.proofs.RuleLemmas.{add-sure, sub-sure, negate-some, negate-zero}
+
+-- once it is closed, it has only one number
+abbrev IsForced : Known → Type 0
+IsForced k = (k.high ≤ k.low) ⊎ (4294967295 ≤ k.zeros + k.ones)
+
+-- what is known of an operation on one number each
+number-forced : (op : BinOp) (x y : ℕ) → KeepsDecided op → x < 2 ^ 32 → y < 2 ^ 32
+    → IsForced (forward_known op (known_of x x (4294967295 - x) x) (known_of y y (4294967295 - y) y))
+unfolding forward_known
+number-forced Add x y k fx fy =
+    let a : Known = known_of x x (4294967295 - x) x in
+    let b : Known = known_of y y (4294967295 - y) y in
+    let sure : (x + y < 4294967296) ⊎ (4294967296 ≤ x + y) = elim (cases_lt (x + y) 4294967296) [
+      | inl l ↦ inl l
+      | inr l ↦ inr l
+    ] in
+    rw (← add-sure a b (omega arith) (omega arith) fx fy sure) (inl (omega arith))
+number-forced Sub x y k fx fy =
+    let a : Known = known_of x x (4294967295 - x) x in
+    let b : Known = known_of y y (4294967295 - y) y in
+    let sure : (y ≤ x) ⊎ (x < y) = elim (cases_lt x y) [ inl l ↦ inr l | inr l ↦ inl l ] in
+    rw (← sub-sure a b (omega arith) (omega arith) fx fy sure) (inl (omega arith))
+number-forced Or x y k fx fy = inr (or-forced x y fx fy)
+number-forced And x y k fx fy = inr (and-forced x y fx fy)
+number-forced Xor x y k fx fy = inr (xor-forced x y fx fy)
+number-forced Mul x y k fx fy = elim k [ ]
+number-forced Div x y k fx fy = elim k [ ]
+number-forced Lsh x y k fx fy = elim k [ ]
+number-forced Rsh x y k fx fy = elim k [ ]
+
+forced : (op : BinOp) (a b : Known) → KeepsDecided op → IsClosed a → IsClosed b → IsDecided a → IsDecided b
+    → IsForced (forward_known op a b)
+forced op a b k ca cb da db =
+    rw (one-number a (closed-consistent a ca) da, one-number b (closed-consistent b cb) db)
+    (number-forced op a.low b.low k (omega (arith, ca.fits, da)) (omega (arith, cb.fits, db)))
+
+negated-forced : (a : Known) → IsClosed a → IsDecided a → IsForced (forward_negated a)
+negated-forced a h d =
+    let fits = h.fits in
+    let ordered = h.ordered in
+    elim (cases_lt 0 a.low) [
+      | inl l ↦ rw (← negate-some a _ _ l ordered fits refl refl) (inl (omega arith))
+      | inr l ↦ rw (← negate-zero a (omega arith) (omega arith)) (inl (omega arith))
+    ]
+
+-- what narrows it has one number
+narrows-forced : (r k : Known) → IsForced r → IsNarrower r k → IsClosed k → IsDecided k
+narrows-forced r k (inl f) n h = omega (arith, n.low, n.high, h.ordered)
+narrows-forced r k (inr f) n h =
+    omega (arith, bits-le r.zeros k.zeros n.zeros, bits-le r.ones k.ones n.ones, h.low, h.high, h.ordered)
+
+-- an operation on decided operands is decided
+rest-decided : (ks : List Known) (ns : List Node) (k : ℕ) (n : Node) → OperandsBelow k n
+    → ((j : ℕ) → j < k → IsClosed (known_at ks j)) → AreDecidedOperands ks n → IsForced (forward_node ks n)
+rest-decided ks ns k (Const c) o h d = elim d [ ]
+rest-decided ks ns k (Word i) o h d = elim d [ ]
+rest-decided ks ns k (Bin op a b) o h d =
+    forced op (known_at ks a.0) (known_at ks b.0) d.0 (h a.0 o.0) (h b.0 o.1) d.1 d.2
+rest-decided ks ns k (Neg a) o h d = negated-forced (known_at ks a.0) (h a.0 o) d
+
+-- a constant is known
+rest-constant : (ks : List Known) (ns : List Node) (k c : ℕ) → IsClosed (known_at ks k)
+    → IsNarrower (forward_node ks (node_at ns k)) (known_at ks k) → node_at ns k ≡ Const c
+    → ((known_at ks k).low ≡ c) × ((known_at ks k).high ≡ c)
+rest-constant ks ns k c h n e =
+    let s = rw e at n in
+    (omega (arith, s.low, s.high, h.ordered), omega (arith, s.low, s.high, h.ordered))
+
+-- facts of which nothing more follows
+pub rest-covers : (places : List ℕ) (ks : List Known) (ex : List (List ℕ)) (ns : List Node) → IsPool ns
+    → length ks ≡ length ns → length ex ≡ 16 → ((i : ℕ) → i < length ns → IsAtRest ks ex ns i)
+    → AreFixed places ks ns → Covers (record { known = ks; variables = places; excluded = ex }) ns
+rest-covers places ks ex ns p len lex rest fixed =
+    let words = p.words in
+    record {
+      pool = p;
+      lawful = record {
+        count = omega arith;
+        words = lex;
+        consistent = λ i l. closed-consistent (known_at ks i) (rest i (omega arith)).closed.known;
+        tight = λ w l. (rest w (omega arith)).closed.tight l;
+      };
+      count = len;
+      constants = λ i c l e. let r = rest i (omega arith) in rest-constant ks ns i c r.closed.known r.still e;
+      decided = λ i l o.
+          let r = rest i (omega arith) in
+          narrows-forced (forward_node ks (node_at ns i)) (known_at ks i) (rest-decided ks ns i (node_at ns i)
+          (operands-below ns i p (omega arith)) (λ j b. (rest j (omega arith)).closed.known) o) r.still r.closed.known;
+      rest = rest;
+      fixed = fixed;
+    }
+
+-- what facts of a pool know is closed
+pub covers-closed : (f : FactsView) (ns : List Node) → Covers f ns → AreClosed f.known ns
+covers-closed f ns h = record { count = h.count; each = λ i l. (h.rest i l).closed.known }
+
+-- where the bits of a node are known of its operand, and so on, going back from it changes nothing
+pub told-back : (o : Option Bool) (f : FactsView) (ns : List Node) (at : ℕ) → Covers f ns → at < length ns
+    → IfSome o (λ b. (n : ℕ) → IsPropagatedBack n f.known ns at)
+    → IfSome o (λ b. GoingBackGives f.known f.excluded ns at (Some f.known))
+told-back None f ns at h l w = tt
+told-back (Some b) f ns at h l w =
+    back-still (length ns) f.known f.excluded ns at h.pool l l (λ i k. (h.rest i k).closed) w

@@ -1,0 +1,179 @@
+-- Steps by the rules: what each gives is closed and loses nothing, no input that agrees is lost, and there is one
+-- result.
+use Rattle.std.proofs.Common.{◌≡◌, ℕ, ◌<◌, ◌^◌, ◌-◌, List, length, set, arith, refl, sym, ap, ◌∙◌, inl, inr}
+use Rattle.std.proofs.lemmas.Bool.{cases_eq}
+use Rattle.std.proofs.lemmas.List.{get_or-set_same, get_or-set_other, length-set}
+use Rattle.std.specs.Prelude.{Option, Some, None, MatchOption, IfSome, Contains}
+use Rattle.sf_insn.specs.Inputs.{IsInput}
+use Rattle.sf_insn.specs.declared.input.Input.{Input}
+use Rattle.sf_sym.specs.Pool.{IsPool, value_of}
+use Rattle.sf_sym.specs.declared.pool.Node.{Node}
+use Rattle.sf_dom.specs.declared.known.Known.{Known}
+use Rattle.sf_dom.specs.Known.{Admits, IsNarrower, known_of}
+use Rattle.sf_dom.specs.Facts.{known_at, numbers_at, AgreesWith}
+use Rattle.sf_dom.specs.Propagation.{IsNarrowed}
+use Rattle.sf_dom.specs.Rules.{met, IsClosed, IsClosedAt, ReductionGives, Then}
+use Rattle.sf_dom.specs.Passes.{AreClosed}
+use Rattle.sf_dom.specs.GoingBack.{WritingGives}
+use Rattle.sf_dom.proofs.Bits.{join-bits}
+use Rattle.sf_dom.proofs.Propagations.{closed-set}
+use Rattle.sf_dom.proofs.Reductions.{IsNarrower-trans, IsNarrower-refl}
+use Rattle.sf_dom.proofs.RuleLaws.{number-narrows, narrows-number, number-closed, one-reduction}
+use Rattle.sf_dom.proofs.Then.{then-one, then-some, then-if}
+
+-- A step from what is known of the nodes of a pool: what it gives is closed and loses nothing, the inputs that agree
+-- and have a property go on to agree, and there is one result.
+pub record IsLawful (has : Input → Type 0) (ks : List Known) (ex : List (List ℕ)) (ns : List Node)
+    (gives : Option (List Known) → Type 0) : Type 0 where
+  pub narrowed : (r : Option (List Known)) → gives r → IfSome r (λ next. IsNarrowed ks next ex ns)
+  pub sound : (d : Input) → IsInput d → has d → AgreesWith ks ex ns d → (r : Option (List Known)) → gives r
+      → MatchOption r ⊥ (λ next. AgreesWith next ex ns d)
+  pub one : (r s : Option (List Known)) → gives r → gives s → r ≡ s
+
+-- any input
+abbrev pub AnyInput : Input → Type 0
+AnyInput d = Unit {0}
+
+pub narrowed-refl : (ks : List Known) (ex : List (List ℕ)) (ns : List Node) → AreClosed ks ns → IsNarrowed ks ks ex ns
+narrowed-refl ks ex ns h = record {
+  closed = h;
+  narrower = λ i l. IsNarrower-refl (known_at ks i);
+  kept = λ w b c. c;
+}
+
+pub narrowed-trans : (a b c : List Known) (ex : List (List ℕ)) (ns : List Node) → AreClosed a ns → IsNarrowed a b ex ns
+    → IsNarrowed b c ex ns
+    → IsNarrowed a c ex ns
+narrowed-trans a b c ex ns k h g =
+    let la = k.count in let lb = h.closed.count in
+    record {
+      closed = g.closed;
+      narrower = λ i l. IsNarrower-trans (known_at a i) (known_at b i) (known_at c i) (h.narrower i l)
+          (g.narrower i (omega arith));
+      kept = λ w b k. g.kept w b (h.kept w b k);
+    }
+
+-- a node is written
+pub narrowed-set : (ks : List Known) (ex : List (List ℕ)) (ns : List Node) (i : ℕ) (next : Known) → AreClosed ks ns
+    → i < length ns → IsClosedAt ex i next → IsNarrower (known_at ks i) next → IsNarrowed ks (set ks i next) ex ns
+narrowed-set ks ex ns i next h l closed narrower =
+    let count = h.count in
+    let none : Known = known_of 0 0 0 0 in
+    let here : i < length ks = omega arith in
+    record {
+      closed = record {
+        count = length-set ks i next ∙ count;
+        each = λ j lj. elim (cases_eq j i) [
+          | inl e ↦ rw (e, get_or-set_same ks i next none here) closed.known
+          | inr ne ↦ rw (get_or-set_other ks i j next none ne) (h.each j lj)
+        ];
+      };
+      narrower = λ j lj. elim (cases_eq j i) [
+        | inl e ↦ rw (e, get_or-set_same ks i next none here) narrower
+        | inr ne ↦ rw (get_or-set_other ks i j next none ne) (IsNarrower-refl (known_at ks j))
+      ];
+      kept = closed-set ks ex i next here closed;
+    }
+
+-- an input agrees still where a node is written that admits its value
+pub agrees-set : (ks : List Known) (ex : List (List ℕ)) (ns : List Node) (d : Input) (i : ℕ) (next : Known)
+    → i < length ks → AgreesWith ks ex ns d → Admits next (value_of ns d i) → AgreesWith (set ks i next) ex ns d
+agrees-set ks ex ns d i next l a h j lj =
+    let none : Known = known_of 0 0 0 0 in
+    let within : j < length ks = omega (arith, lj, length-set ks i next) in
+    elim (cases_eq j i) [
+      | inl e ↦ rw (e, get_or-set_same ks i next none l) (record { admitted = h; kept = (a i l).kept })
+      | inr ne ↦ rw (get_or-set_other ks i j next none ne) (a j within)
+    ]
+
+-- the value of a word is not excluded for it
+pub kept-at : (ks : List Known) (ex : List (List ℕ)) (ns : List Node) (d : Input) (i : ℕ) → IsPool ns
+    → i < length ks → AgreesWith ks ex ns d → i < 16 → ¬ Contains (numbers_at ex i) (value_of ns d i)
+kept-at ks ex ns d i p l a b = rw (p.word i b) at (a i l).kept
+
+-- two pieces of knowledge admit a number together that each of them admits
+pub met-admits : (a b : Known) (n : ℕ) → Admits a n → Admits b n → Admits (met a b) n
+met-admits a b n h k = record {
+  above = omega (arith, h.above, k.above);
+  below = omega (arith, h.below, k.below);
+  bits = join-bits n a.zeros a.ones b.zeros b.ones h.bits k.bits;
+}
+
+-- closed knowledge has its bits within a word
+pub closed-zeros : (k : Known) → IsClosed k → k.zeros < 2 ^ 32
+closed-zeros k h = omega (arith, h.high)
+
+pub closed-ones : (k : Known) → IsClosed k → k.ones < 2 ^ 32
+closed-ones k h = omega (arith, h.low, h.ordered, h.fits)
+
+-- reduction keeps each number that is left
+pub reduction-holds : (o : Option Known) (ex : List (List ℕ)) (i n : ℕ) (old : Known) → n < 2 ^ 32
+    → old.zeros < 2 ^ 32 → (i < 16 → ¬ Contains (numbers_at ex i) n) → Admits old n → ReductionGives ex i old o
+    → MatchOption o ⊥ (λ k. Admits k n)
+reduction-holds None ex i n old f fz kept h none =
+    none (known_of n n (4294967295 - n) n) (number-closed ex i n f kept) (number-narrows old n f fz h)
+reduction-holds (Some k) ex i n old f fz kept h w = narrows-number k n f
+    (w.widest (known_of n n (4294967295 - n) n) (number-closed ex i n f kept) (number-narrows old n f fz h))
+
+-- there is one reduction, or none
+pub reduction-one : (ex : List (List ℕ)) (i : ℕ) (old : Known) (o p : Option Known) → ReductionGives ex i old o
+    → ReductionGives ex i old p → o ≡ p
+reduction-one ex i old None None h k = refl
+reduction-one ex i old None (Some b) h k = absurd (h b k.is k.narrower)
+reduction-one ex i old (Some a) None h k = absurd (k a h.is h.narrower)
+reduction-one ex i old (Some a) (Some b) h k = ap Some (one-reduction (IsClosedAt ex i) old a b h k)
+
+-- a value lies within a word
+pub value-fits : (ks : List Known) (ex : List (List ℕ)) (ns : List Node) (d : Input) (i : ℕ) → AreClosed ks ns
+    → i < length ns → AgreesWith ks ex ns d → value_of ns d i < 2 ^ 32
+value-fits ks ex ns d i h l a =
+    let count = h.count in
+    omega (arith, (a i (omega arith)).admitted.below, (h.each i l).fits)
+
+-- to write a node is a lawful step
+pub writing-lawful : (has : Input → Type 0) (ks : List Known) (ex : List (List ℕ)) (ns : List Node) (i : ℕ)
+    (known : Known) → IsPool ns → AreClosed ks ns → i < length ns → IsNarrower (known_at ks i) known
+    → known.zeros < 2 ^ 32
+    → ((d : Input) → IsInput d → has d → AgreesWith ks ex ns d → Admits known (value_of ns d i))
+    → IsLawful has ks ex ns (WritingGives ks ex i known)
+writing-lawful has ks ex ns i known p h l narrower fz admits =
+    let count = h.count in
+    let here : i < length ks = omega arith in
+    record {
+      narrowed = then-if (ReductionGives ex i known) (λ left r. r ≡ Some (set ks i left))
+          (λ next. IsNarrowed ks next ex ns)
+          (λ left g r e. rw e (narrowed-set ks ex ns i left h l g.is
+          (IsNarrower-trans (known_at ks i) known left narrower g.narrower)));
+      sound = λ d v m a.
+          then-some (ReductionGives ex i known) (λ left r. r ≡ Some (set ks i left))
+          (λ left. Admits left (value_of ns d i))
+          (λ next. AgreesWith next ex ns d)
+          (λ o g. reduction-holds o ex i (value_of ns d i) known (value-fits ks ex ns d i h l a) fz
+          (λ b. kept-at ks ex ns d i p here a b) (admits d v m a) g)
+          (λ left g k r e. rw e (agrees-set ks ex ns d i left here a k));
+      one = then-one (ReductionGives ex i known) (λ left r. r ≡ Some (set ks i left)) (reduction-one ex i known)
+          (λ left g r s e f. e ∙ sym f);
+    }
+
+pub narrowed-more : (r : Option (List Known)) (a b : List Known) (ex : List (List ℕ)) (ns : List Node) → AreClosed a ns
+    → IsNarrowed a b ex ns
+    → IfSome r (λ c. IsNarrowed b c ex ns) → IfSome r (λ c. IsNarrowed a c ex ns)
+narrowed-more None a b ex ns k h g = tt
+narrowed-more (Some c) a b ex ns k h g = narrowed-trans a b c ex ns k h g
+
+-- one lawful step after another is lawful
+pub then-lawful : (has : Input → Type 0) (ks : List Known) (ex : List (List ℕ)) (ns : List Node)
+    (first : Option (List Known) → Type 0) (second : List Known → Option (List Known) → Type 0) → AreClosed ks ns
+    → IsLawful has ks ex ns first
+    → ((next : List Known) → AreClosed next ns → IsLawful AnyInput next ex ns (second next))
+    → IsLawful has ks ex ns (Then first second)
+then-lawful has ks ex ns first second k h g =
+    let step : (next : List Known) → first (Some next) → IsNarrowed ks next ex ns =
+    λ next f. h.narrowed (Some next) f in
+    record {
+      narrowed = then-if first second (λ next. IsNarrowed ks next ex ns) (λ next f r s.
+          let n = step next f in narrowed-more r ks next ex ns k n ((g next n.closed).narrowed r s));
+      sound = λ d v m a. then-some first second (λ next. AgreesWith next ex ns d) (λ next. AgreesWith next ex ns d)
+          (h.sound d v m a) (λ next f b r s. (g next (step next f).closed).sound d v tt b r s);
+      one = then-one first second h.one (λ next f r s x y. (g next (step next f).closed).one r s x y);
+    }

@@ -1,0 +1,139 @@
+-- Newer nodes that are taken in: inputs go on to agree, and nothing more follows for any of them.
+use Rattle.std.proofs.Common.{◌≡◌, ℕ, zero, suc, ◌<◌, ◌≤◌, ◌^◌, ◌/◌, ◌%◌, Bool, true, false, cond, List, [], length, take, arith, refl, ◌⊎◌, inl, inr}
+use Rattle.std.proofs.lemmas.Bool.{cases_lt}
+use Rattle.std.proofs.lemmas.Nat.{or_lt, xor_lt}
+use Rattle.std.proofs.Math.Nat.{div-le_self}
+use Rattle.std.specs.Int.Bits.{and_lt}
+use Rattle.std.specs.Prelude.{Option, Some, None, MatchOption, Contains, slice_index, ◌==◌}
+use Rattle.sf_insn.specs.Words.{apply}
+use Rattle.sf_insn.specs.declared.ops.BinOp.{BinOp}
+use Rattle.sf_insn.specs.declared.ops.BinOp.TheVariants.{Add, Sub, Mul, Div, Or, And, Lsh, Rsh, Xor}
+use Rattle.sf_insn.specs.Inputs.{IsInput}
+use Rattle.sf_insn.specs.declared.input.Input.{Input}
+use Rattle.sf_sym.specs.Pool.{IsPool, OperandsBelow, node_at, node_value, values_of, value_of}
+use Rattle.sf_sym.specs.ValueLaws.{value-node}
+use Rattle.sf_sym.specs.declared.pool.Node.{Node}
+use Rattle.sf_sym.specs.declared.pool.Node.TheVariants.{Const, Word, Bin, Neg}
+use Rattle.sf_dom.specs.declared.known.Known.{Known}
+use Rattle.sf_dom.specs.Known.{Admits}
+use Rattle.sf_dom.specs.Facts.{known_at, numbers_at, excluded_of, AgreesWith}
+use Rattle.sf_dom.specs.Passes.{IsAtRest, AreTakenIn, TakingInGives}
+use Rattle.sf_dom.specs.Rules.{forward_node, IsClosed, IsReduction, ReductionGives}
+use Rattle.sf_dom.proofs.Lawful.{reduction-holds}
+use Rattle.sf_dom.proofs.PassLaws.{follows}
+use Rattle.sf_dom.proofs.Passes.{operands-below}
+use Rattle.sf_dom.proofs.Propagations.{word-below, taken-older}
+
+-- no number is excluded, or all words are known already
+abbrev pub AreWordsKnown : List Known → List (List ℕ) → Type 0
+AreWordsKnown ks ex = (16 ≤ length ks) ⊎ ((w : ℕ) → numbers_at ex w ≡ [])
+
+-- the value of a word isn't excluded for it, where the word's own node is there, or nothing is excluded
+kept-node : (ks : List Known) (ex : List (List ℕ)) (ns : List Node) (d : Input) (n : Node) (k : ℕ) → IsPool ns
+    → k < length ns → node_at ns k ≡ n → AreWordsKnown ks ex → AgreesWith ks ex ns d
+    → ¬ Contains (excluded_of ex n) (value_of ns d k)
+kept-node ks ex ns d (Const c) k p l e h a w = absurd (omega (arith, w.1))
+kept-node ks ex ns d (Bin op x y) k p l e h a w = absurd (omega (arith, w.1))
+kept-node ks ex ns d (Neg x) k p l e h a w = absurd (omega (arith, w.1))
+kept-node ks ex ns d (Word i) k p l e (inl b) a w =
+    let words = p.words in
+    let small : i < 16 = word-below k (node_at ns k) (operands-below ns k p l) i e in
+    let here : node_at ns i ≡ Word i = p.word i small in
+    let same : value_of ns d i ≡ value_of ns d k = search (arith, value-node) in
+    (rw (here, same) at (a i (omega arith)).kept) w
+kept-node ks ex ns d (Word i) k p l e (inr none) a w = let z = (rw (none i) at w) in absurd (omega (arith, z.1))
+
+-- values are words
+apply-fits : (op : BinOp) (x y : ℕ) → x < 2 ^ 32 → y < 2 ^ 32 → apply op x y < 2 ^ 32
+apply-fits Add x y fx fy = omega arith
+apply-fits Sub x y fx fy = omega arith
+apply-fits Mul x y fx fy = omega arith
+apply-fits Div x y fx fy = quotient-fits (y == 0)
+  where
+    quotient-fits : (b : Bool) → cond b 0 (x / y) < 2 ^ 32
+    quotient-fits true = omega arith
+    quotient-fits false = omega (arith, div-le_self x y)
+apply-fits Or x y fx fy = or_lt 32 x y fx fy
+apply-fits And x y fx fy = and_lt 32 x y fx fy
+apply-fits Xor x y fx fy = xor_lt 32 x y fx fy
+apply-fits Lsh x y fx fy = omega arith
+apply-fits Rsh x y fx fy = omega (arith, div-le_self x (2 ^ (y % 32)))
+
+value-fits : (d : Input) (vs : List ℕ) (k : ℕ) (n : Node) → IsInput d → OperandsBelow k n
+    → ((j : ℕ) → j < k → slice_index vs j < 2 ^ 32) → node_value d vs n < 2 ^ 32
+value-fits d vs k (Const c) i o h = o
+value-fits d vs k (Word w) i o h = i.each w
+value-fits d vs k (Bin op a b) i o h = apply-fits op (slice_index vs a.0) (slice_index vs b.0) (h a.0 o.0) (h b.0 o.1)
+value-fits d vs k (Neg a) i o h = omega arith
+
+-- Newer nodes that are taken in, up to a place. The older nodes agree with an input.
+module _ (old new : List Known) (ex : List (List ℕ)) (ns : List Node) (d : Input) (p : IsPool ns) (i : IsInput d)
+    (closed : (j : ℕ) → j < length old → IsClosed (known_at old j)) (a : AgreesWith old ex ns d)
+    (words : AreWordsKnown old ex) (kept : take (length old) new ≡ old) where
+  older-closed : (m : ℕ) → ((k : ℕ) → length old ≤ k → k < m
+      → IsReduction ex k (forward_node new (node_at ns k)) (known_at new k))
+      → (k : ℕ) → k < m → IsClosed (known_at new k)
+  older-closed m before k l = elim (cases_lt k (length old)) [
+    | inl b ↦ rw (taken-older old new k kept b) at (closed k b)
+    | inr g ↦ (before k g l).is.known
+  ]
+
+  -- a value isn't excluded for its node
+  not-excluded : (k : ℕ) → length old ≤ k → k < 16 → ¬ Contains (numbers_at ex k) (value_of ns d k)
+  not-excluded k l b z = elim words [
+    | inl w ↦ absurd (omega arith)
+    | inr none ↦ let y = rw (none k) at z in absurd (omega (arith, y.1))
+  ]
+
+  -- what follows for a newer node admits its value
+  newer-holds : (k : ℕ) → k < length ns → length old ≤ k → ((j : ℕ) → j < k → Admits (known_at new j) (value_of ns d j))
+      → ((j : ℕ) → j < k → IsClosed (known_at new j)) → (o : Option Known)
+      → ReductionGives ex k (forward_node new (node_at ns k)) o → MatchOption o ⊥ (λ r. Admits r (value_of ns d k))
+  newer-holds k l g older closed o w =
+      let below = operands-below ns k p l in
+      let vs = values_of ns d in
+      let f = follows new d vs k (node_at ns k) i below closed older in
+      let fits = value-fits d vs k (node_at ns k) i below
+      (λ j b. omega (arith, (older j b).below, (closed j b).fits)) in
+      reduction-holds o ex k (value_of ns d k) (forward_node new (node_at ns k)) (rw (value-node ns d k p l) fits) f.1
+      (not-excluded k g) (rw (value-node ns d k p l) f.0) w
+
+  taken-holds : (m : ℕ) → m ≤ length ns → ((k : ℕ) → length old ≤ k → k < m
+      → IsReduction ex k (forward_node new (node_at ns k)) (known_at new k)) → (k : ℕ) → k < m
+      → Admits (known_at new k) (value_of ns d k)
+  taken-holds zero lm before k l = absurd (omega arith)
+  taken-holds (suc m) lm before k l =
+      let older = taken-holds m (omega arith) (λ j g b. before j g (omega arith)) in
+      elim (cases_lt k m) [
+        | inl b ↦ older k b
+        | inr g ↦
+            let e : k ≡ m = omega arith in
+            rw e (elim (cases_lt m (length old)) [
+              | inl b ↦ rw (taken-older old new m kept b) at (a m b).admitted
+              | inr g ↦ newer-holds m (omega arith) g older (older-closed m (λ j g b. before j g (omega arith)))
+                  (Some (known_at new m)) (before m g (omega arith))
+            ])
+      ]
+
+-- the inputs that agreed agree once newer nodes are taken in
+pub taking-sound : (old : List Known) (ex : List (List ℕ)) (ns : List Node) (d : Input) → IsPool ns → IsInput d
+    → ((j : ℕ) → j < length old → IsClosed (known_at old j)) → AgreesWith old ex ns d → AreWordsKnown old ex
+    → (r : Option (List Known)) → TakingInGives old ex ns r → MatchOption r ⊥ (λ new. AgreesWith new ex ns d)
+taking-sound old ex ns d p i closed a words (Some new) w =
+    let count = w.count in
+    λ k l. record {
+      admitted = taken-holds old new ex ns d p i closed a words w.kept (length ns) (omega arith) w.each k (omega arith);
+      kept = elim (cases_lt k (length old)) [
+        | inl b ↦ (a k b).kept
+        | inr g ↦ kept-node old ex ns d (node_at ns k) k p (omega arith) refl words a
+      ];
+    }
+taking-sound old ex ns d p i closed a words None w =
+    let older = taken-holds old w.new ex ns d p i closed a words w.kept w.place (omega (arith, w.within)) w.before in
+    newer-holds old w.new ex ns d p i closed a words w.kept w.place w.within w.newer older
+    (older-closed old w.new ex ns d p i closed a words w.kept w.place w.before) None w.none
+
+-- nothing more follows for a newer node
+pub taken-rest : (old new : List Known) (ex : List (List ℕ)) (ns : List Node) → AreTakenIn old new ex ns → (i : ℕ)
+    → length old ≤ i → i < length ns → IsAtRest new ex ns i
+taken-rest old new ex ns h i g l = let r = h.each i g l in record { closed = r.is; still = r.narrower }

@@ -1,0 +1,242 @@
+-- A forward pass is a lawful step, and after it nothing more follows for any node.
+use Rattle.std.proofs.Common.{◌≡◌, ℕ, zero, suc, ◌<◌, ◌≤◌, ◌^◌, ◌+◌, ◌-◌, ◌*◌, ◌/◌, ◌%◌, List, length, Bool, true, false, cond, arith, refl, ap, inl, inr}
+use Rattle.std.proofs.lemmas.Bool.{cases_lt}
+use Rattle.std.proofs.lemmas.Nat.{or_lt, pow_pos}
+use Rattle.std.proofs.Math.Pow.{pow-lt}
+use Rattle.std.proofs.Math.Nat.{div-le_self}
+use Rattle.std.specs.Int.Bits.{and_lt}
+use Rattle.std.specs.Prelude.{Option, Some, None, MatchOption, IfSome, bit_and, bit_or, slice_index, nat_lt, nat_le, ◌==◌}
+use Rattle.sf_insn.specs.Inputs.{IsInput}
+use Rattle.sf_insn.specs.declared.input.Input.{Input}
+use Rattle.sf_insn.specs.declared.ops.BinOp.{BinOp}
+use Rattle.sf_insn.specs.declared.ops.BinOp.TheVariants.{Add, Sub, Mul, Div, Or, And, Lsh, Rsh, Xor}
+use Rattle.sf_sym.specs.Pool.{IsPool, OperandsBelow, node_at, node_value, values_of, value_of}
+use Rattle.sf_sym.specs.ValueLaws.{value-node}
+use Rattle.sf_sym.specs.declared.pool.Node.{Node}
+use Rattle.sf_sym.specs.declared.pool.Node.TheVariants.{Const, Word, Bin, Neg}
+use Rattle.sf_dom.specs.declared.known.Known.{Known}
+use Rattle.sf_dom.specs.Known.{Admits, known_of}
+use Rattle.sf_dom.specs.Facts.{known_at, AgreesWith}
+use Rattle.sf_dom.specs.Rules.{between, full, moved_left, moved_right, met, forward_known, forward_negated, forward_node, IsClosed}
+use Rattle.sf_dom.specs.Passes.{IsPassedAt, IsPass, PassFails, PassGives, IsAtRest, AreClosed}
+use Rattle.sf_dom.specs.Propagation.{IsNarrowed}
+use Rattle.sf_dom.specs.FactsLaws.{constant-admits}
+use Rattle.sf_dom.proofs.Lawful.{IsLawful, AnyInput, met-admits, closed-zeros, closed-ones, kept-at, reduction-holds, value-fits}
+use Rattle.sf_dom.proofs.Passes.{operands-below, met-left, met-right, one-pass, pass-none}
+use Rattle.sf_dom.proofs.Reductions.{IsNarrower-trans}
+use Rattle.sf_dom.proofs.RuleLaws.{forward-sound, negate-sound, full-admits}
+
+-- its known zeros are those of a word
+record Fits (k : Known) : Type 0 where
+  zeros : k.zeros < 2 ^ 32
+
+if-fits : (b : Bool) (x y : Known) → Fits x → Fits y → Fits (cond b x y)
+if-fits true x y h k = h
+if-fits false x y h k = k
+
+none-fits : (low high : ℕ) → Fits (between low high)
+none-fits low high = record { zeros = omega arith }
+
+left-fits : (a : Known) (s : ℕ) → s < 32 → Fits (moved_left a s)
+left-fits a s l =
+    let p : 2 ^ s < 2 ^ 32 = pow-lt l in
+    let z : bit_or (a.zeros * 2 ^ s % 2 ^ 32) (2 ^ s - 1) < 2 ^ 32
+    = or_lt 32 (a.zeros * 2 ^ s % 2 ^ 32) (2 ^ s - 1) (omega arith) (omega arith) in
+    if-fits (nat_lt (a.high * 2 ^ s) (2 ^ 32))
+    (known_of (a.low * 2 ^ s) (a.high * 2 ^ s) (bit_or (a.zeros * 2 ^ s % 2 ^ 32) (2 ^ s - 1))
+    (a.ones * 2 ^ s % 2 ^ 32))
+    (known_of 0 4294967295 (bit_or (a.zeros * 2 ^ s % 2 ^ 32) (2 ^ s - 1)) (a.ones * 2 ^ s % 2 ^ 32))
+    (record { zeros = z }) (record { zeros = z })
+
+right-fits : (a : Known) (s : ℕ) → IsClosed a → Fits (moved_right a s)
+right-fits a s h =
+    let p : 0 < 2 ^ (32 - s) = pow_pos (32 - s) in
+    record {
+      zeros = or_lt 32 (a.zeros / 2 ^ s) (2 ^ 32 - 2 ^ (32 - s))
+          (omega (arith, div-le_self a.zeros (2 ^ s), closed-zeros a h)) (omega arith);
+    }
+
+two-fits : (b e : Bool) (x y z : Known) → Fits x → Fits y → Fits z → Fits (cond b x (cond e y z))
+two-fits b e x y z h k l = if-fits b x (cond e y z) h (if-fits e y z k l)
+
+-- the bits that follow for a node are those of a word
+forward-fits : (op : BinOp) (a b : Known) → IsClosed a → IsClosed b → Fits (forward_known op a b)
+unfolding forward_known
+forward-fits Add a b h k =
+    two-fits (nat_lt (a.high + b.high) (2 ^ 32)) (nat_le (2 ^ 32) (a.low + b.low))
+    (between (a.low + b.low) (a.high + b.high)) (between (a.low + b.low - 2 ^ 32) (a.high + b.high - 2 ^ 32)) full
+    (none-fits _ _) (none-fits _ _) (none-fits _ _)
+forward-fits Sub a b h k =
+    two-fits (nat_le b.high a.low) (nat_lt a.high b.low) (between (a.low - b.high) (a.high - b.low))
+    (between (a.low + 2 ^ 32 - b.high) (a.high + 2 ^ 32 - b.low)) full (none-fits _ _) (none-fits _ _) (none-fits _ _)
+forward-fits Mul a b h k =
+    if-fits (nat_lt (a.high * b.high) (2 ^ 32)) (between (a.low * b.low) (a.high * b.high)) full (none-fits _ _)
+    (none-fits _ _)
+forward-fits Div a b h k =
+    if-fits (nat_le 1 b.low) (between (a.low / b.high) (a.high / b.low)) (between 0 a.high) (none-fits _ _)
+    (none-fits _ _)
+forward-fits Or a b h k = record { zeros = and_lt 32 a.zeros b.zeros (closed-zeros a h) (closed-zeros b k) }
+forward-fits And a b h k = record { zeros = or_lt 32 a.zeros b.zeros (closed-zeros a h) (closed-zeros b k) }
+forward-fits Xor a b h k = record {
+  zeros = or_lt 32 (bit_and a.zeros b.zeros) (bit_and a.ones b.ones)
+      (and_lt 32 a.zeros b.zeros (closed-zeros a h) (closed-zeros b k))
+      (and_lt 32 a.ones b.ones (closed-ones a h) (closed-ones b k));
+}
+forward-fits Lsh a b h k =
+    if-fits (b.low == b.high) (moved_left a (b.low % 32)) full (left-fits a (b.low % 32) (omega arith)) (none-fits _ _)
+forward-fits Rsh a b h k =
+    if-fits (b.low == b.high) (moved_right a (b.low % 32)) (between 0 a.high) (right-fits a (b.low % 32) h)
+    (none-fits _ _)
+
+negated-fits : (a : Known) → Fits (forward_negated a)
+unfolding forward_negated
+negated-fits a =
+    two-fits (nat_le 1 a.low) (a.high == 0) (between (2 ^ 32 - a.high) (2 ^ 32 - a.low))
+    (between 0 0) full (none-fits _ _)
+    (none-fits _ _) (none-fits _ _)
+
+-- what follows for a node admits its value, where what is known of its operands admits theirs
+pub follows : (ks : List Known) (d : Input) (vs : List ℕ) (k : ℕ) (n : Node) → IsInput d → OperandsBelow k n
+    → ((j : ℕ) → j < k → IsClosed (known_at ks j)) → ((j : ℕ) → j < k → Admits (known_at ks j) (slice_index vs j))
+    → Admits (forward_node ks n) (node_value d vs n) × ((forward_node ks n).zeros < 2 ^ 32)
+follows ks d vs k (Const c) i o closed h = (constant-admits c o, omega arith)
+follows ks d vs k (Word w) i o closed h = (full-admits (slice_index d.words w) (i.each w), omega arith)
+follows ks d vs k (Bin op a b) i o closed h =
+    let ca = closed a.0 o.0 in let cb = closed b.0 o.1 in (
+      forward-sound op (known_at ks a.0) (known_at ks b.0) (slice_index vs a.0) (slice_index vs b.0) ca.fits cb.fits
+          (h a.0 o.0) (h b.0 o.1),
+      (forward-fits op (known_at ks a.0) (known_at ks b.0) ca cb).zeros,
+    )
+follows ks d vs k (Neg a) i o closed h =
+    let ca = closed a.0 o in
+    (negate-sound (known_at ks a.0) (slice_index vs a.0) ca.fits (h a.0 o), (negated-fits (known_at ks a.0)).zeros)
+
+-- what a pass meets of a node admits its value
+met-holds : (old new : List Known) (ex : List (List ℕ)) (ns : List Node) (d : Input) (k : ℕ) → IsPool ns
+    → AreClosed old ns → IsInput d → AgreesWith old ex ns d → k < length ns
+    → ((j : ℕ) → j < k → IsClosed (known_at new j)) → ((j : ℕ) → j < k → Admits (known_at new j) (value_of ns d j))
+    → Admits (met (known_at old k) (forward_node new (node_at ns k))) (value_of ns d k)
+    × ((met (known_at old k) (forward_node new (node_at ns k))).zeros < 2 ^ 32)
+met-holds old new ex ns d k p h i a l closed older =
+    let count = h.count in
+    let f = follows new d (values_of ns d) k (node_at ns k) i (operands-below ns k p l) closed older in
+    let own : Known = known_at old k in
+    let rule : Known = forward_node new (node_at ns k) in (
+      met-admits own rule (value_of ns d k) (a k (omega arith)).admitted (rw (value-node ns d k p l) f.0),
+      or_lt 32 own.zeros rule.zeros (closed-zeros own (h.each k l)) f.1,
+    )
+
+-- so it is of a word, which has no operands
+word-holds : (old new : List Known) (ex : List (List ℕ)) (ns : List Node) (d : Input) (k : ℕ) → IsPool ns
+    → AreClosed old ns → IsInput d → AgreesWith old ex ns d → k < length ns → k < 16
+    → Admits (met (known_at old k) (forward_node new (node_at ns k))) (value_of ns d k)
+    × ((met (known_at old k) (forward_node new (node_at ns k))).zeros < 2 ^ 32)
+word-holds old new ex ns d k p h i a l b =
+    let count = h.count in
+    let own : Known = known_at old k in
+    let here = p.word k b in
+    rw here (
+      met-admits own full (value_of ns d k) (a k (omega arith)).admitted
+          (full-admits (value_of ns d k) (value-fits old ex ns d k h l a)),
+      or_lt 32 own.zeros 0 (closed-zeros own (h.each k l)) (omega arith),
+    )
+
+-- what a pass leaves of a node admits its value
+passed-holds : (old new : List Known) (ex : List (List ℕ)) (ns : List Node) (d : Input) → IsPool ns
+    → AreClosed old ns → IsInput d → AgreesWith old ex ns d → (m : ℕ) → m ≤ length ns
+    → ((k : ℕ) → k < m → IsPassedAt old new ex ns k) → (k : ℕ) → k < m → Admits (known_at new k) (value_of ns d k)
+passed-holds old new ex ns d p h i a zero lm before k lk = absurd (omega arith)
+passed-holds old new ex ns d p h i a (suc m) lm before k lk =
+    let count = h.count in
+    let older = passed-holds old new ex ns d p h i a m (omega arith) (λ j s. before j (omega arith)) in
+    elim (cases_lt k m) [
+      | inl s ↦ older k s
+      | inr g ↦
+          let e : k ≡ m = omega arith in
+          let l : m < length ns = omega arith in
+          let both = met-holds old new ex ns d m p h i a l (λ j s. (before j (omega arith)).is.known) older in
+          rw e (reduction-holds (Some (known_at new m)) ex m (value_of ns d m)
+          (met (known_at old m) (forward_node new (node_at ns m)))
+          (value-fits old ex ns d m h l a) both.1 (λ b. kept-at old ex ns d m p (omega arith) a b) both.0
+          (before m (omega arith)))
+    ]
+
+pass-sound : (old : List Known) (ex : List (List ℕ)) (ns : List Node) (d : Input) → IsPool ns
+    → AreClosed old ns → IsInput d → AgreesWith old ex ns d → (r : Option (List Known)) → PassGives old ex ns r
+    → MatchOption r ⊥ (λ next. AgreesWith next ex ns d)
+pass-sound old ex ns d p h i a (Some new) w =
+    let count = h.count in let after = w.count in
+    λ k l. record {
+      admitted = passed-holds old new ex ns d p h i a (length ns) (omega arith) w.each k (omega arith);
+      kept = (a k (omega arith)).kept;
+    }
+pass-sound old ex ns d p h i a None w =
+    let count = h.count in
+    let within = w.within in
+    let own : Known = known_at old w.place in
+    let rule : Known = forward_node w.new (node_at ns w.place) in
+    let both : Admits (met own rule) (value_of ns d w.place) × ((met own rule).zeros < 2 ^ 32)
+    = elim (cases_lt w.place 16) [
+      | inl b ↦ word-holds old w.new ex ns d w.place p h i a within b
+      | inr g ↦
+          let before = w.before g in
+          let older = passed-holds old w.new ex ns d p h i a w.place (omega arith) before in
+          met-holds old w.new ex ns d w.place p h i a within (λ j s. (before j s).is.known) older
+    ] in
+    reduction-holds None ex w.place (value_of ns d w.place) (met own rule)
+    (value-fits old ex ns d w.place h within a) both.1 (λ b. kept-at old ex ns d w.place p (omega arith) a b) both.0
+    w.none
+
+pass-narrowed : (old : List Known) (ex : List (List ℕ)) (ns : List Node) → IsPool ns → AreClosed old ns
+    → (r : Option (List Known)) → PassGives old ex ns r → IfSome r (λ next. IsNarrowed old next ex ns)
+pass-narrowed old ex ns p h None w = tt
+pass-narrowed old ex ns p h (Some new) w =
+    let count = h.count in
+    let sixteen = p.words in
+    record {
+      closed = record { count = w.count; each = λ i l. (w.each i l).is.known };
+      narrower = λ i l.
+          let s = w.each i (omega arith) in
+          IsNarrower-trans (known_at old i) (met (known_at old i) (forward_node new (node_at ns i))) (known_at new i)
+          (met-left (known_at old i) (forward_node new (node_at ns i))) s.narrower;
+      kept = λ i b k. (w.each i (omega arith)).is;
+    }
+
+-- a pass that fails gives nothing
+fails-none : (old new : List Known) (ex : List (List ℕ)) (ns : List Node) → IsPool ns → PassFails old ex ns
+    → ¬ IsPass old new ex ns
+fails-none old new ex ns p w pass = elim (cases_lt w.place 16) [
+  | inl b ↦
+      let r = rw (p.word w.place b) at (pass.each w.place w.within) in
+      (rw (p.word w.place b) at w.none) (known_at new w.place) r.is r.narrower
+  | inr g ↦ pass-none old w.new ex ns w.place p w.within (w.before g) w.none new pass
+]
+
+pass-one : (old : List Known) (ex : List (List ℕ)) (ns : List Node) → IsPool ns → (r s : Option (List Known))
+    → PassGives old ex ns r → PassGives old ex ns s → r ≡ s
+pass-one old ex ns p None None h k = refl
+pass-one old ex ns p None (Some b) h k = absurd (fails-none old b ex ns p h k)
+pass-one old ex ns p (Some a) None h k = absurd (fails-none old a ex ns p k h)
+pass-one old ex ns p (Some a) (Some b) h k = ap Some (one-pass old a b ex ns p h k)
+
+-- a forward pass is a lawful step
+pub pass-lawful : (ks : List Known) (ex : List (List ℕ)) (ns : List Node) → IsPool ns → AreClosed ks ns
+    → IsLawful AnyInput ks ex ns (PassGives ks ex ns)
+pass-lawful ks ex ns p h = record {
+  narrowed = pass-narrowed ks ex ns p h;
+  sound = λ d i t a r w. pass-sound ks ex ns d p h i a r w;
+  one = pass-one ks ex ns p;
+}
+
+-- what a pass gives is at rest
+pub pass-rest : (ks : List Known) (ex : List (List ℕ)) (ns : List Node) (r : Option (List Known)) → PassGives ks ex ns r
+    → IfSome r (λ next. (i : ℕ) → i < length ns → IsAtRest next ex ns i)
+pass-rest ks ex ns None w = tt
+pass-rest ks ex ns (Some new) w = λ i l.
+    let s = w.each i l in
+    let rule : Known = forward_node new (node_at ns i) in
+    record {
+      closed = s.is;
+      still = IsNarrower-trans rule (met (known_at ks i) rule) (known_at new i) (met-right (known_at ks i) rule)
+          s.narrower;
+    }
