@@ -13,6 +13,8 @@ pub enum Step {
     Confine(usize, u32, u32),
     /// A word has, on the bits of the first number, those of the second.
     ConfineBits(usize, u32, u32),
+    /// The pool gains a node, and the facts take it in.
+    Push(Node),
 }
 
 /// A case.
@@ -82,10 +84,11 @@ fn node_of(words: &[&str]) -> Option<Node> {
     }
 }
 
-/// The step that words name: `word W from LOW to HIGH`, `word W bits MASK are VALUE`, or a test of two nodes and its
-/// result.
+/// The step that words name: `word W from LOW to HIGH`, `word W bits MASK are VALUE`, `push` and a node, or a test of two
+/// nodes and its result.
 fn step_of(words: &[&str]) -> Option<Step> {
     match words {
+        ["push", node @ ..] => Some(Step::Push(node_of(node)?)),
         ["word", w, "from", low, "to", high] => {
             Some(Step::Confine(place(w)?, number(low)?, number(high)?))
         }
@@ -144,5 +147,17 @@ pub fn case_of(alloc: Global, line: &str) -> Result<Option<Case>, AllocError> {
     match place(at.trim()) {
         Some(at) => Ok(Some(Case { nodes, steps, at })),
         None => Ok(None),
+    }
+}
+
+/// The count and the seed of made cases that a line names, as `made COUNT SEED`; `None` of any other line.
+pub fn made_of(alloc: Global, line: &str) -> Result<Option<(u32, u32)>, AllocError> {
+    let words: Vec<&str> = line.split_whitespace().collect(alloc)?;
+    let ["made", count, seed] = words.as_slice() else {
+        return Ok(None);
+    };
+    match (number(count), number(seed)) {
+        (Some(count), Some(seed)) => Ok(Some((count, seed))),
+        _ => Ok(None),
     }
 }

@@ -1,7 +1,7 @@
 //! Takes the steps of a case, and says what they leave.
 
 ghost use Rattle.std.specs.Prelude.{◌≡◌, All, IsTrue, IfOk, IfSome, length};
-ghost use Rattle.sf_sym.specs.Pool.{IsCondBelow, OperandsBelow};
+ghost use Rattle.sf_sym.specs.Pool.{IsCondBelow, OperandsBelow, Extends};
 ghost use Rattle.sf_dom.specs.Facts.{Covers};
 
 use crate::cases::{Case, Step};
@@ -12,7 +12,7 @@ use std::alloc::Global;
 use std::test::Fail;
 
 /// Whether the operands of a node are in the pool.
-fn is_lawful(pool: &Pool, node: Node) -> bool
+pub fn is_lawful(pool: &Pool, node: Node) -> bool
     ensures { IsTrue result → OperandsBelow (length pool.now) node }
 {
     let count = pool.len();
@@ -25,7 +25,7 @@ fn is_lawful(pool: &Pool, node: Node) -> bool
 }
 
 /// The pool of the words and these nodes.
-fn pool_of(alloc: Global, nodes: &[Node]) -> Result<Pool, Fail> {
+pub fn pool_of(alloc: Global, nodes: &[Node]) -> Result<Pool, Fail> {
     let mut pool = Pool::new(alloc)?;
     for node in nodes {
         if !is_lawful(&pool, *node) {
@@ -37,7 +37,13 @@ fn pool_of(alloc: Global, nodes: &[Node]) -> Result<Pool, Fail> {
 }
 
 /// The condition that the test of two nodes of the pool has this result.
-fn cond_of(pool: &Pool, node: usize, test: Test, other: usize, sense: bool) -> Result<Cond, Fail>
+pub fn cond_of(
+    pool: &Pool,
+    node: usize,
+    test: Test,
+    other: usize,
+    sense: bool,
+) -> Result<Cond, Fail>
     ensures { IfOk result (IsCondBelow (length pool.now)) }
 {
     if node >= pool.len() || other >= pool.len() {
@@ -66,12 +72,38 @@ fn learn(alloc: Global, facts: &mut Facts, pool: &Pool, cond: &Cond) -> Result<b
     }
 }
 
+/// A pool with one more node.
+pub fn longer(pool: &Pool, node: Node) -> Result<Pool, Fail>
+    ensures { IfOk result (Extends pool.now) }
+{
+    if !is_lawful(pool, node) {
+        return Err(Fail::from("a node whose operands aren't older"));
+    }
+    let mut longer = pool.fork()?;
+    longer.push(node)?;
+    Ok(longer)
+}
+
+/// Takes in one more node of the pool. `false`: nothing is left of it.
+pub fn push(alloc: Global, facts: &mut Facts, pool: &mut Pool, node: Node) -> Result<bool, Fail>
+    requires { Covers facts.old pool.old }
+    ensures { Covers facts.new pool.new }
+{
+    let longer = longer(pool, node)?;
+    if !facts.grow(alloc, &longer)? {
+        return Ok(false);
+    }
+    *pool = longer;
+    Ok(true)
+}
+
 /// Takes one step. `false`: it contradicts.
-fn take(alloc: Global, facts: &mut Facts, pool: &Pool, step: Step) -> Result<bool, Fail>
-    requires { Covers facts.old pool.now }
-    ensures { Covers facts.new pool.now }
+pub fn take(alloc: Global, facts: &mut Facts, pool: &mut Pool, step: Step) -> Result<bool, Fail>
+    requires { Covers facts.old pool.old }
+    ensures { Covers facts.new pool.new }
 {
     match step {
+        Step::Push(node) => push(alloc, facts, pool, node),
         Step::Learn(node, test, other, sense) => {
             let cond = cond_of(pool, node, test, other, sense)?;
             learn(alloc, facts, pool, &cond)
@@ -92,9 +124,9 @@ fn take(alloc: Global, facts: &mut Facts, pool: &Pool, step: Step) -> Result<boo
 }
 
 /// Takes steps until one contradicts. `false`: one did.
-fn take_all(alloc: Global, facts: &mut Facts, pool: &Pool, steps: &[Step]) -> Result<bool, Fail>
-    requires { Covers facts.old pool.now }
-    ensures { Covers facts.new pool.now }
+fn take_all(alloc: Global, facts: &mut Facts, pool: &mut Pool, steps: &[Step]) -> Result<bool, Fail>
+    requires { Covers facts.old pool.old }
+    ensures { Covers facts.new pool.new }
 {
     for step in steps {
         if !take(alloc, facts, pool, *step)? {
@@ -139,7 +171,7 @@ fn see_together(
 
 /// The facts of the pool. Facts of only the words have to become the same when they take in the other nodes, and stay
 /// so when they take them in again.
-fn facts_of(alloc: Global, pool: &Pool) -> Result<Facts, Fail>
+pub fn facts_of(alloc: Global, pool: &Pool) -> Result<Facts, Fail>
     ensures { IfOk result (λ facts. Covers facts pool.now) }
 {
     let facts = Facts::new(alloc, pool)?;
@@ -195,10 +227,10 @@ fn node_text(
 
 /// What is known of the node that the case shows, after its steps. Those after one that contradicts are not taken.
 pub fn look(alloc: Global, case: &Case) -> Result<String, Fail> {
-    let pool = pool_of(alloc, &case.nodes)?;
+    let mut pool = pool_of(alloc, &case.nodes)?;
     let mut facts = facts_of(alloc, &pool)?;
     let before = facts.fork()?;
-    let taken = take_all(alloc, &mut facts, &pool, &case.steps)?;
+    let taken = take_all(alloc, &mut facts, &mut pool, &case.steps)?;
     see_together(alloc, &pool, &case.steps, &facts, taken)?;
     let outcome = outcome(&case.steps, taken, facts.is_same(&before));
     node_text(alloc, &facts, &pool, case.at, outcome)
