@@ -1,5 +1,5 @@
 -- To take a condition into what is known is a lawful step, and so is to take in more of a node.
-use Rattle.std.proofs.Common.{◌≡◌, ℕ, ◌<◌, ◌^◌, List, length, set, arith, refl, sym, ◌∙◌}
+use Rattle.std.proofs.Common.{◌≡◌, ℕ, ◌<◌, ◌^◌, List, length, set, arith, refl}
 use Rattle.std.proofs.lemmas.List.{get_or-set_same, set-get_or}
 use Rattle.std.proofs.lemmas.Nat.{or_lt}
 use Rattle.std.specs.Prelude.{Option, Some, None, MatchOption, IfSome, Bool, true, false, MatchBool}
@@ -19,12 +19,12 @@ use Rattle.sf_dom.specs.Passes.{PassGives, IsAtRest, AreClosed}
 use Rattle.sf_dom.specs.GoingBack.{WritingGives, GoingBackGives}
 use Rattle.sf_dom.specs.Learning.{assumed_of, PairGives, with_pair, ConditionGives, MoreGives}
 use Rattle.sf_dom.proofs.BackLaws.{back-lawful, back-still}
-use Rattle.sf_dom.proofs.Lawful.{IsLawful, AnyInput, narrowed-set, narrowed-more, narrowed-trans, agrees-set, kept-at, met-admits, closed-zeros, reduction-holds, reduction-one, value-fits, writing-lawful, then-lawful}
+use Rattle.sf_dom.proofs.Lawful.{IsLawful, AnyInput, narrowed-set, narrowed-more, narrowed-trans, agrees-set, kept-at, met-admits, closed-zeros, reduction-holds, value-fits, writing-lawful, then-lawful}
 use Rattle.sf_dom.proofs.PassLaws.{pass-lawful, pass-rest}
 use Rattle.sf_dom.proofs.Passes.{met-left, met-right, rest-pass}
 use Rattle.sf_dom.proofs.Reductions.{IsNarrower-trans}
 use Rattle.sf_dom.proofs.TestLaws.{test-admits, test-zeros}
-use Rattle.sf_dom.proofs.Then.{then-one, then-some, then-if}
+use Rattle.sf_dom.proofs.Then.{then-some, then-if}
 
 -- what is left of the two nodes of a condition
 pub record AreLeft (ks : List Known) (ex : List (List ℕ)) (cond : Cond) (pair : Pair) : Type 0 where
@@ -59,15 +59,6 @@ pair-narrowed-if : (ks : List Known) (ex : List (List ℕ)) (ns : List Node) (co
     → IsNarrowed ks (with_pair ks cond pair) ex ns
 pair-narrowed-if ks ex ns cond h below pair g =
     pair-narrowed ks ex ns cond pair h below (pair-left ks ex cond (Some pair) g)
-
-pair-one : (ks : List Known) (ex : List (List ℕ)) (cond : Cond) (r s : Option Pair) → PairGives ks ex cond r
-    → PairGives ks ex cond s → r ≡ s
-pair-one ks ex cond =
-    let first : Known = met (known_at ks cond.node.0) (assumed_of ks cond).node in
-    then-one (ReductionGives ex cond.node.0 first) _ (reduction-one ex cond.node.0 first) (λ node h.
-    let second : Known = met (known_at (set ks cond.node.0 node) cond.other.0) (assumed_of ks cond).other in
-    then-one (ReductionGives ex cond.other.0 second) _ (reduction-one ex cond.other.0 second)
-    (λ other k r s e f. e ∙ sym f))
 
 -- an input that agrees and meets the condition agrees once both are written
 pair-sound : (ks : List Known) (ex : List (List ℕ)) (ns : List Node) (cond : Cond) → IsPool ns → AreClosed ks ns
@@ -139,7 +130,6 @@ condition-lawful ks ex ns cond p h below =
       sound = λ d i holds a. then-some (PairGives ks ex cond) rest (λ pair. AgreesWith (with_pair ks cond pair) ex ns d)
           (λ next. AgreesWith next ex ns d) (pair-sound ks ex ns cond p h below d i holds a)
           (λ pair g b r f. (lawful pair g).sound d i tt b r f);
-      one = then-one (PairGives ks ex cond) rest (pair-one ks ex cond) (λ pair g r s f k. (lawful pair g).one r s f k);
     }
 
 -- nothing more follows after a condition

@@ -48,7 +48,6 @@ excluded-word ex ex' i n other e d h = record {
   added = λ j f dd. let s : i ≡ j = cc in rw (← s) ((h.word other.low).1 (inr refl));
 }
 
--- a condition that doesn't say that its nodes differ excludes nothing
 -- the numbers of both nodes are excluded, one after the other
 pub both-excluded : (ks : List Known) (ex mid ex' : List (List ℕ)) (ns : List Node) (cond : Cond)
     → AreExcluded ex mid (node_at ns cond.node.0) (known_at ks cond.other.0)

@@ -1,6 +1,5 @@
--- Steps by the rules: what each gives is closed and loses nothing, no input that agrees is lost, and there is one
--- result.
-use Rattle.std.proofs.Common.{◌≡◌, ℕ, ◌<◌, ◌^◌, ◌-◌, List, length, set, arith, refl, sym, ap, ◌∙◌, inl, inr}
+-- Steps by the rules: what each gives is closed and loses nothing, and no input that agrees is lost.
+use Rattle.std.proofs.Common.{◌≡◌, ℕ, ◌<◌, ◌^◌, ◌-◌, List, length, set, arith, ◌∙◌, inl, inr}
 use Rattle.std.proofs.lemmas.Bool.{cases_eq}
 use Rattle.std.proofs.lemmas.List.{get_or-set_same, get_or-set_other, length-set}
 use Rattle.std.specs.Prelude.{Option, Some, None, MatchOption, IfSome, Contains}
@@ -18,17 +17,16 @@ use Rattle.sf_dom.specs.GoingBack.{WritingGives}
 use Rattle.sf_dom.proofs.Bits.{join-bits}
 use Rattle.sf_dom.proofs.Propagations.{closed-set}
 use Rattle.sf_dom.proofs.Reductions.{IsNarrower-trans, IsNarrower-refl}
-use Rattle.sf_dom.proofs.RuleLaws.{number-narrows, narrows-number, number-closed, one-reduction}
-use Rattle.sf_dom.proofs.Then.{then-one, then-some, then-if}
+use Rattle.sf_dom.proofs.RuleLaws.{number-narrows, narrows-number, number-closed}
+use Rattle.sf_dom.proofs.Then.{then-some, then-if}
 
--- A step from what is known of the nodes of a pool: what it gives is closed and loses nothing, the inputs that agree
--- and have a property go on to agree, and there is one result.
+-- A step from what is known of the nodes of a pool: what it gives is closed and loses nothing, and the inputs that
+-- agree and have a property go on to agree.
 pub record IsLawful (has : Input → Type 0) (ks : List Known) (ex : List (List ℕ)) (ns : List Node)
     (gives : Option (List Known) → Type 0) : Type 0 where
   pub narrowed : (r : Option (List Known)) → gives r → IfSome r (λ next. IsNarrowed ks next ex ns)
   pub sound : (d : Input) → IsInput d → has d → AgreesWith ks ex ns d → (r : Option (List Known)) → gives r
       → MatchOption r ⊥ (λ next. AgreesWith next ex ns d)
-  pub one : (r s : Option (List Known)) → gives r → gives s → r ≡ s
 
 -- any input
 abbrev pub AnyInput : Input → Type 0
@@ -115,14 +113,6 @@ reduction-holds None ex i n old f fz kept h none =
 reduction-holds (Some k) ex i n old f fz kept h w = narrows-number k n f
     (w.widest (known_of n n (4294967295 - n) n) (number-closed ex i n f kept) (number-narrows old n f fz h))
 
--- there is one reduction, or none
-pub reduction-one : (ex : List (List ℕ)) (i : ℕ) (old : Known) (o p : Option Known) → ReductionGives ex i old o
-    → ReductionGives ex i old p → o ≡ p
-reduction-one ex i old None None h k = refl
-reduction-one ex i old None (Some b) h k = absurd (h b k.is k.narrower)
-reduction-one ex i old (Some a) None h k = absurd (k a h.is h.narrower)
-reduction-one ex i old (Some a) (Some b) h k = ap Some (one-reduction (IsClosedAt ex i) old a b h k)
-
 -- a value lies within a word
 pub value-fits : (ks : List Known) (ex : List (List ℕ)) (ns : List Node) (d : Input) (i : ℕ) → AreClosed ks ns
     → i < length ns → AgreesWith ks ex ns d → value_of ns d i < 2 ^ 32
@@ -151,8 +141,6 @@ writing-lawful has ks ex ns i known p h l narrower fz admits =
           (λ o g. reduction-holds o ex i (value_of ns d i) known (value-fits ks ex ns d i h l a) fz
           (λ b. kept-at ks ex ns d i p here a b) (admits d v m a) g)
           (λ left g k r e. rw e (agrees-set ks ex ns d i left here a k));
-      one = then-one (ReductionGives ex i known) (λ left r. r ≡ Some (set ks i left)) (reduction-one ex i known)
-          (λ left g r s e f. e ∙ sym f);
     }
 
 pub narrowed-more : (r : Option (List Known)) (a b : List Known) (ex : List (List ℕ)) (ns : List Node) → AreClosed a ns
@@ -175,5 +163,4 @@ then-lawful has ks ex ns first second k h g =
           let n = step next f in narrowed-more r ks next ex ns k n ((g next n.closed).narrowed r s));
       sound = λ d v m a. then-some first second (λ next. AgreesWith next ex ns d) (λ next. AgreesWith next ex ns d)
           (h.sound d v m a) (λ next f b r s. (g next (step next f).closed).sound d v tt b r s);
-      one = then-one first second h.one (λ next f r s x y. (g next (step next f).closed).one r s x y);
     }

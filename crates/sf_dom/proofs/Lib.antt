@@ -21,6 +21,7 @@ pub mod Passes
 pub mod Builds
 pub mod Then
 pub mod Lawful
+pub mod ConstantOperands
 pub mod BackLaws
 pub mod PassLaws
 pub mod TestLaws
@@ -30,3 +31,9 @@ pub mod PairLeft
 pub mod Excluding
 pub mod Covering
 pub mod NewNodes
+pub mod OneResult
+pub mod Monotone
+pub mod Forcing
+pub mod Carried
+pub mod Forced
+pub mod ForcedTests

@@ -1,5 +1,5 @@
 -- A forward pass is a lawful step, and after it nothing more follows for any node.
-use Rattle.std.proofs.Common.{◌≡◌, ℕ, zero, suc, ◌<◌, ◌≤◌, ◌^◌, ◌+◌, ◌-◌, ◌*◌, ◌/◌, ◌%◌, List, length, Bool, true, false, cond, arith, refl, ap, inl, inr}
+use Rattle.std.proofs.Common.{◌≡◌, ℕ, zero, suc, ◌<◌, ◌≤◌, ◌^◌, ◌+◌, ◌-◌, ◌*◌, ◌/◌, ◌%◌, List, length, Bool, true, false, cond, arith, inl, inr}
 use Rattle.std.proofs.lemmas.Bool.{cases_lt}
 use Rattle.std.proofs.lemmas.Nat.{or_lt, pow_pos}
 use Rattle.std.proofs.Math.Pow.{pow-lt}
@@ -18,11 +18,11 @@ use Rattle.sf_dom.specs.declared.known.Known.{Known}
 use Rattle.sf_dom.specs.Known.{Admits, known_of}
 use Rattle.sf_dom.specs.Facts.{known_at, AgreesWith}
 use Rattle.sf_dom.specs.Rules.{between, full, moved_left, moved_right, met, forward_known, forward_negated, forward_node, IsClosed}
-use Rattle.sf_dom.specs.Passes.{IsPassedAt, IsPass, PassFails, PassGives, IsAtRest, AreClosed}
+use Rattle.sf_dom.specs.Passes.{IsPassedAt, PassGives, IsAtRest, AreClosed}
 use Rattle.sf_dom.specs.Propagation.{IsNarrowed}
 use Rattle.sf_dom.specs.FactsLaws.{constant-admits}
 use Rattle.sf_dom.proofs.Lawful.{IsLawful, AnyInput, met-admits, closed-zeros, closed-ones, kept-at, reduction-holds, value-fits}
-use Rattle.sf_dom.proofs.Passes.{operands-below, met-left, met-right, one-pass, pass-none}
+use Rattle.sf_dom.proofs.Passes.{operands-below, met-left, met-right}
 use Rattle.sf_dom.proofs.Reductions.{IsNarrower-trans}
 use Rattle.sf_dom.proofs.RuleLaws.{forward-sound, negate-sound, full-admits}
 
@@ -202,30 +202,12 @@ pass-narrowed old ex ns p h (Some new) w =
       kept = λ i b k. (w.each i (omega arith)).is;
     }
 
--- a pass that fails gives nothing
-fails-none : (old new : List Known) (ex : List (List ℕ)) (ns : List Node) → IsPool ns → PassFails old ex ns
-    → ¬ IsPass old new ex ns
-fails-none old new ex ns p w pass = elim (cases_lt w.place 16) [
-  | inl b ↦
-      let r = rw (p.word w.place b) at (pass.each w.place w.within) in
-      (rw (p.word w.place b) at w.none) (known_at new w.place) r.is r.narrower
-  | inr g ↦ pass-none old w.new ex ns w.place p w.within (w.before g) w.none new pass
-]
-
-pass-one : (old : List Known) (ex : List (List ℕ)) (ns : List Node) → IsPool ns → (r s : Option (List Known))
-    → PassGives old ex ns r → PassGives old ex ns s → r ≡ s
-pass-one old ex ns p None None h k = refl
-pass-one old ex ns p None (Some b) h k = absurd (fails-none old b ex ns p h k)
-pass-one old ex ns p (Some a) None h k = absurd (fails-none old a ex ns p k h)
-pass-one old ex ns p (Some a) (Some b) h k = ap Some (one-pass old a b ex ns p h k)
-
 -- a forward pass is a lawful step
 pub pass-lawful : (ks : List Known) (ex : List (List ℕ)) (ns : List Node) → IsPool ns → AreClosed ks ns
     → IsLawful AnyInput ks ex ns (PassGives ks ex ns)
 pass-lawful ks ex ns p h = record {
   narrowed = pass-narrowed ks ex ns p h;
   sound = λ d i t a r w. pass-sound ks ex ns d p h i a r w;
-  one = pass-one ks ex ns p;
 }
 
 -- what a pass gives is at rest

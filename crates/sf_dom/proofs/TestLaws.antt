@@ -45,7 +45,7 @@ decided-or rule other k kind f g = on (other.low == other.high) refl
     on true e = f (eqb-true other.low other.high e)
     on false e = g
 
-at-decided : (rule : ℕ → Known → Known) (other k : Known) → other.low ≡ other.high
+pub at-decided : (rule : ℕ → Known → Known) (other k : Known) → other.low ≡ other.high
     → where_decided other rule k ≡ rule other.low k
 at-decided rule other k e = ap (λ b. cond b (rule other.low k) k) ((Decides-eqb other.low other.high).1 e)
 
@@ -84,14 +84,14 @@ none-admits : (k : Known) (x bits : ℕ) → Admits k x → bit_and x bits ≡ 0
 none-admits k x bits h e = record { above = h.above; below = h.below; bits = no-common x bits k.zeros k.ones e h.bits }
 
 -- the power of two that a word is lies within a word
-small-place : (u t : ℕ) → u < 2 ^ 32 → u ≡ 2 ^ t → t < 32
+pub small-place : (u t : ℕ) → u < 2 ^ 32 → u ≡ 2 ^ t → t < 32
 small-place u t l e = elim (cases_lt t 32) [
   | inl b ↦ b
   | inr g ↦ let up : 2 ^ 32 ≤ 2 ^ t = pow_mono {i = 32} {j = t} g in absurd (omega arith)
 ]
 
 -- the cases of a word that has one of some bits
-some-cases : (bits : ℕ) (k : Known) (kind : Known → Type 0)
+pub some-cases : (bits : ℕ) (k : Known) (kind : Known → Type 0)
     → (bit_and bits (4294967295 - k.zeros) ≡ 0 → kind nothing)
     → (bit_and bits (4294967295 - k.zeros) ≢ 0
     → bit_and bits (4294967295 - k.zeros) ≡ 2 ^ trailing_zeros w32 (bit_and bits (4294967295 - k.zeros))

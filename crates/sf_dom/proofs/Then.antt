@@ -47,3 +47,13 @@ then-if {A} {B} first second other g r h = on h.0 h.1 h.2
     on : (o : Option A) → first o → MatchOption o (r ≡ None) (λ a. second a r) → IfSome r other
     on None i x = rw x tt
     on (Some a) i x = g a i r x
+
+-- other steps that give what these give
+pub then-map : {A B : Type 0} (first other : Option A → Type 0) (second last : A → Option B → Type 0)
+    → ((o : Option A) → first o → other o) → ((a : A) (r : Option B) → second a r → last a r) → (r : Option B)
+    → Then first second r → Then other last r
+then-map {A} {B} first other second last f g r h = (h.0, f h.0 h.1, on h.0 h.2)
+  where
+    on : (o : Option A) → MatchOption o (r ≡ None) (λ a. second a r) → MatchOption o (r ≡ None) (λ a. last a r)
+    on None x = x
+    on (Some a) x = g a r x

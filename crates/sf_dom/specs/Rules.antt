@@ -69,9 +69,13 @@ forward_negated a =
     else if a.high == 0 then between 0 0
     else full
 
+-- a number is known in full
+abbrev pub number_known : ℕ → Known
+number_known c = known_of c c (4294967295 - c) c
+
 -- what is known of a node by its operation, from what is known of its operands
 abbrev pub forward_node : List Known → Node → Known
-forward_node ks (Const c) = known_of c c (4294967295 - c) c
+forward_node ks (Const c) = number_known c
 forward_node ks (Word i) = full
 forward_node ks (Bin op a b) = forward_known op (known_at ks a.0) (known_at ks b.0)
 forward_node ks (Neg a) = forward_negated (known_at ks a.0)

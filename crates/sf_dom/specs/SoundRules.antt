@@ -1,10 +1,21 @@
 -- What the rules of facts promise, said of the rules alone.
-use Rattle.std.specs.Prelude.{◌≡◌, ℕ, ◌<◌, ◌^◌, List}
+use Rattle.std.specs.Prelude.{◌≡◌, ℕ, ◌<◌, ◌≤◌, ◌^◌, List, [], ◌∷◌, ◌++◌, length, Bool, not}
 use Rattle.sf_insn.specs.declared.ops.BinOp.{BinOp}
+use Rattle.sf_insn.specs.declared.ops.Test.{Test}
 use Rattle.sf_insn.specs.Words.{apply, negation_of}
 use Rattle.sf_dom.specs.declared.known.Known.{Known}
 use Rattle.sf_dom.specs.Known.{Admits, Leaves}
-use Rattle.sf_dom.specs.Rules.{forward_known, forward_negated, IsClosed, IsClosedWord, IsWidest, HasNone}
+use Rattle.sf_sym.specs.Pool.{IsPool, IsCondBelow, Extends, node_at}
+use Rattle.sf_sym.specs.declared.pool.Cond.{Cond}
+use Rattle.sf_sym.specs.declared.pool.Node.{Node}
+use Rattle.sf_sym.specs.declared.pool.Node.TheVariants.{Const, Word}
+use Rattle.sf_sym.specs.declared.pool.NodeId.{NodeId}
+use Rattle.sf_dom.specs.Facts.{FactsView, AreEqualFacts, known_at}
+use Rattle.sf_dom.specs.Learning.{StartsBy, LearnsBy, CantLearn, GrowsBy, CantGrow, TakesInBy, CantTakeInBy, AreBuiltBy}
+use Rattle.sf_dom.specs.Passes.{IsPass, IsAtRest}
+use Rattle.sf_dom.specs.Backward.{IsPropagatedBack}
+use Rattle.sf_dom.specs.Telling.{IsForcedBy}
+use Rattle.sf_dom.specs.Rules.{IsClosedAt, number_known, forward_known, forward_negated, IsClosed, IsClosedWord, IsWidest, HasNone}
 
 -- each number that comes of numbers that the operands may have is one that the result may have
 pub record IsForwardSound : Type 0 where
@@ -24,3 +35,88 @@ pub record IsReductionSound : Type 0 where
   pub one : (old a b : Known) → IsWidest IsClosed old a → IsWidest IsClosed old b → a ≡ b
   pub one_word : (xs : List ℕ) (old a b : Known) → IsWidest (IsClosedWord xs) old a → IsWidest (IsClosedWord xs) old b
       → a ≡ b
+
+-- The rules have one result. Equal facts learn equal ones, or neither can; and so it is with what they take in of newer
+-- nodes, or of a word. What is known at first is one thing too.
+pub record HaveOneResult : Type 0 where
+  pub started : (f g : FactsView) (ns : List Node) → IsPool ns → StartsBy f ns → StartsBy g ns → AreEqualFacts f g
+  pub learnt : (f g c e : FactsView) (ns : List Node) (cond : Cond) → IsPool ns → AreEqualFacts f g
+      → LearnsBy f c ns cond → LearnsBy g e ns cond → AreEqualFacts c e
+  pub learns_not : (f g c : FactsView) (ns : List Node) (cond : Cond) → IsPool ns → AreEqualFacts f g
+      → LearnsBy f c ns cond → ¬ CantLearn g ns cond
+  pub grown : (f g c e : FactsView) (ns : List Node) → IsPool ns → AreEqualFacts f g → GrowsBy f c ns
+      → GrowsBy g e ns → AreEqualFacts c e
+  pub grows_not : (f g c : FactsView) (ns : List Node) → IsPool ns → AreEqualFacts f g → GrowsBy f c ns
+      → ¬ CantGrow g ns
+  pub confined : (f g c e : FactsView) (ns : List Node) (w : ℕ) (more : Known) → IsPool ns → AreEqualFacts f g
+      → TakesInBy f c ns w more → TakesInBy g e ns w more → AreEqualFacts c e
+  pub confines_not : (f g c : FactsView) (ns : List Node) (w : ℕ) (more : Known) → IsPool ns → AreEqualFacts f g
+      → TakesInBy f c ns w more → ¬ CantTakeInBy g ns w more
+
+-- a forward pass changes nothing below the first node for which more follows
+abbrev pub PassKeepsOlder : Type 0
+PassKeepsOlder = (old new : List Known) (ex : List (List ℕ)) (ns : List Node) (i : ℕ) → IsPool ns → i ≤ length ns
+    → IsPass old new ex ns → ((k : ℕ) → k < i → IsAtRest old ex ns k)
+    → (k : ℕ) → k < i → known_at new k ≡ known_at old k
+
+-- Facts that are carried along: those at first, which learn each condition over the pool that there is by then, and
+-- take in the newer nodes whenever the pool has grown.
+pub data AreCarried : FactsView → List Node → List Cond → Type 0 where
+  started : {f : FactsView} {ns : List Node} {conds : List Cond} → IsPool ns → StartsBy f ns → conds ≡ []
+      → AreCarried f ns conds
+  learnt : {f : FactsView} {ns : List Node} {conds : List Cond} (old : FactsView) (before : List Cond) (cond : Cond)
+      → AreCarried old ns before → IsCondBelow (length ns) cond → LearnsBy old f ns cond
+      → conds ≡ before ++ cond ∷ [] → AreCarried f ns conds
+  grown : {f : FactsView} {ns : List Node} {conds : List Cond} (old : FactsView) (shorter : List Node)
+      → AreCarried old shorter conds → IsPool ns → Extends shorter ns → GrowsBy old f ns → AreCarried f ns conds
+
+-- Facts that are carried along are those that are built anew, over the whole pool and from all conditions.
+abbrev pub CarriedAreBuilt : Type 0
+CarriedAreBuilt = (f g : FactsView) (ns : List Node) (conds : List Cond) → AreCarried f ns conds → AreBuiltBy g ns conds
+    → AreEqualFacts f g
+
+-- What is known of its two nodes forces this result of a condition's test: the second has only one number, nothing more
+-- follows from what is known of any node, and no known bits go back from either of the two.
+pub record IsForcedCondition (f : FactsView) (ns : List Node) (cond : Cond) (number : ℕ) (sense : Bool) : Type 0 where
+  pub pool : IsPool ns
+  pub words : (i w : ℕ) → i < length ns → node_at ns i ≡ Word w → i ≡ w
+  pub count : length f.known ≡ length ns
+  pub lists : length f.excluded ≡ 16
+  pub rest : (i : ℕ) → i < length ns → IsAtRest f.known f.excluded ns i
+  pub below : IsCondBelow (length ns) cond
+  pub decided : known_at f.known cond.other.0 ≡ number_known number
+  pub forced : IsForcedBy (IsClosedAt f.excluded cond.node.0) (known_at f.known cond.node.0) cond.test number sense
+  pub node_back : (n : ℕ) → IsPropagatedBack n f.known ns cond.node.0
+  pub other_back : (n : ℕ) → IsPropagatedBack n f.known ns cond.other.0
+
+-- What is known of a node forces this result of its test against a number. The number may have no node.
+pub record IsForcedTest (f : FactsView) (ns : List Node) (node : NodeId) (test : Test) (number : ℕ)
+    (sense : Bool) : Type 0 where
+  pub pool : IsPool ns
+  pub words : (i w : ℕ) → i < length ns → node_at ns i ≡ Word w → i ≡ w
+  pub count : length f.known ≡ length ns
+  pub lists : length f.excluded ≡ 16
+  pub rest : (i : ℕ) → i < length ns → IsAtRest f.known f.excluded ns i
+  pub below : node.0 < length ns
+  pub fits : number < 2 ^ 32
+  pub forced : IsForcedBy (IsClosedAt f.excluded node.0) (known_at f.known node.0) test number sense
+  pub back : (n : ℕ) → IsPropagatedBack n f.known ns node.0
+
+-- the condition that a test of two nodes has this result
+abbrev pub condition : NodeId → Test → NodeId → Bool → Cond
+condition node test other sense = record { node = node; test = test; other = other; sense = sense }
+
+-- The result that is forced can be learnt, and the other one can't. A test against a number is a condition where the
+-- number has a node, and once the pool has gained one.
+pub record ForcedIsLearnt : Type 0 where
+  pub this : (f : FactsView) (ns : List Node) (cond : Cond) (number : ℕ)
+      → IsForcedCondition f ns cond number cond.sense → (new : FactsView) × LearnsBy f new ns cond
+  pub other : (f : FactsView) (ns : List Node) (cond : Cond) (number : ℕ)
+      → IsForcedCondition f ns cond number (not cond.sense) → CantLearn f ns cond
+  pub found : (f : FactsView) (ns : List Node) (node other : NodeId) (test : Test) (number : ℕ) (sense result : Bool)
+      → IsForcedTest f ns node test number result → other.0 < length ns → node_at ns other.0 ≡ Const number
+      → IsForcedCondition f ns (condition node test other sense) number result
+  pub added : (f : FactsView) (ns : List Node) (node other : NodeId) (test : Test) (number : ℕ) (sense result : Bool)
+      → IsForcedTest f ns node test number result → other.0 ≡ length ns
+      → (g : FactsView) × GrowsBy f g (ns ++ Const number ∷ [])
+      × IsForcedCondition g (ns ++ Const number ∷ []) (condition node test other sense) number result

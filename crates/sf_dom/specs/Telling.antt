@@ -1,13 +1,15 @@
 -- When what is known of a word, and of the nodes of a pool, leaves the result of a test open.
-use Rattle.std.specs.Prelude.{◌≡◌, ℕ, ◌≤◌, List, Contains, Bool, true, false, bit_and}
+use Rattle.std.specs.Prelude.{◌≡◌, ℕ, ◌≤◌, List, Contains, Bool, true, false, not, Option, IfSome, bit_and}
 use Rattle.sf_insn.specs.declared.ops.Test.{Test}
 use Rattle.sf_insn.specs.declared.ops.Test.TheVariants.{Equal, AnyBit}
 use Rattle.sf_sym.specs.Pool.{node_at}
 use Rattle.sf_sym.specs.declared.pool.Node.{Node}
+use Rattle.sf_sym.specs.declared.pool.Node.TheVariants.{Word}
 use Rattle.sf_dom.specs.declared.known.Known.{Known}
-use Rattle.sf_dom.specs.Known.{AreBitsOf}
+use Rattle.sf_dom.specs.Known.{IsNarrower, AreBitsOf}
 use Rattle.sf_dom.specs.Facts.{known_at, excluded_of}
 use Rattle.sf_dom.specs.Propagation.{TestGives}
+use Rattle.sf_dom.specs.Rules.{assumed, met, number_known, IsClosedAt, HasNone}
 
 -- a test against a number has this result for some number between the ends of an interval
 abbrev pub SomeBetweenGives : Known → Test → ℕ → Bool → Type 0
@@ -20,9 +22,23 @@ abbrev pub IsOpen : Test → Known → ℕ → Type 0
 IsOpen AnyBit k number = (bit_and k.ones number ≡ 0) × ¬ AreBitsOf number k.zeros
 IsOpen test k number = SomeBetweenGives k test number true × SomeBetweenGives k test number false
 
+-- Of a test against a number, the rules forbid the other result: it leaves nothing of a word. This result changes
+-- nothing of what is known of the word, nor of the number.
+pub record IsForcedBy (kind : Known → Type 0) (k : Known) (test : Test) (number : ℕ) (sense : Bool) : Type 0 where
+  pub other : HasNone kind (met k (assumed test (not sense) k (number_known number)).node)
+  pub this : IsNarrower (assumed test sense k (number_known number)).node k
+  pub that : IsNarrower (assumed test sense k (number_known number)).other (number_known number)
+
 -- What is known of a node leaves the result of a test against a number open: its interval and bits do, and where the
 -- test is for equality, the number isn't excluded for the node.
 pub record IsOpenAt (ks : List Known) (ex : List (List ℕ)) (ns : List Node) (at : ℕ) (test : Test)
     (number : ℕ) : Type 0 where
   pub known : IsOpen test (known_at ks at) number
   pub kept : test ≡ Equal → ¬ Contains (excluded_of ex (node_at ns at)) number
+
+-- The result that is told of a test of the node at a place is forced by the rules, where nothing more follows from what
+-- is known of the node by itself, and the node is a word only at that word's own place.
+abbrev pub IsForcing : List Known → List (List ℕ) → List Node → ℕ → Test → ℕ → Option Bool → Type 0
+IsForcing ks ex ns at test number told =
+    IsClosedAt ex at (known_at ks at) → ((w : ℕ) → node_at ns at ≡ Word w → at ≡ w)
+    → IfSome told (λ b. IsForcedBy (IsClosedAt ex at) (known_at ks at) test number b)

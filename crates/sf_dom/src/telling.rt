@@ -10,7 +10,8 @@ ghost use Rattle.sf_dom.specs.Known.{Admits};
 ghost use Rattle.sf_dom.specs.Propagation.{TestGives};
 ghost use Rattle.sf_dom.specs.Backward.{IsPropagatedBack};
 ghost use Rattle.sf_dom.specs.Facts.{excluded_of, AgreesWith};
-ghost use Rattle.sf_dom.specs.Telling.{IsOpen, IsOpenAt};
+ghost use Rattle.sf_dom.specs.Rules.{IsClosed};
+ghost use Rattle.sf_dom.specs.Telling.{IsOpen, IsOpenAt, IsForcedBy, IsForcing};
 
 use crate::assuming::backward;
 use crate::exclusions::Excluded;
@@ -21,8 +22,10 @@ use sf_sym::{Node, Pool, constant_operand};
 
 /// Whether a word equals a number, where its interval tells it.
 fn tell_equal(known: Known, number: u32) -> Option<bool>
-    ensures { MatchOption result (IsOpen Test.Equal known number)
+    ensures told { MatchOption result (IsOpen Test.Equal known number)
         (λ b. (x : ℕ) → Admits known x → TestGives Test.Equal x number b) }
+    ensures rule { IsClosed known → IfSome result
+        (λ b. IsForcedBy IsClosed known Test.Equal number b) }
 {
     if number < known.low || known.high < number {
         return Some(false);
@@ -35,8 +38,10 @@ fn tell_equal(known: Known, number: u32) -> Option<bool>
 
 /// Whether a word is greater than a number, where its interval tells it.
 fn tell_greater(known: Known, number: u32) -> Option<bool>
-    ensures { MatchOption result (IsOpen Test.Greater known number)
+    ensures told { MatchOption result (IsOpen Test.Greater known number)
         (λ b. (x : ℕ) → Admits known x → TestGives Test.Greater x number b) }
+    ensures rule { IsClosed known → IfSome result
+        (λ b. IsForcedBy IsClosed known Test.Greater number b) }
 {
     if number < known.low {
         return Some(true);
@@ -49,8 +54,10 @@ fn tell_greater(known: Known, number: u32) -> Option<bool>
 
 /// Whether a word is at least a number, where its interval tells it.
 fn tell_at_least(known: Known, number: u32) -> Option<bool>
-    ensures { MatchOption result (IsOpen Test.GreaterOrEqual known number)
+    ensures told { MatchOption result (IsOpen Test.GreaterOrEqual known number)
         (λ b. (x : ℕ) → Admits known x → TestGives Test.GreaterOrEqual x number b) }
+    ensures rule { IsClosed known → IfSome result
+        (λ b. IsForcedBy IsClosed known Test.GreaterOrEqual number b) }
 {
     if number <= known.low {
         return Some(true);
@@ -63,8 +70,10 @@ fn tell_at_least(known: Known, number: u32) -> Option<bool>
 
 /// Whether a word has a common bit with a number, where its known bits tell it.
 fn tell_common(known: Known, number: u32) -> Option<bool>
-    ensures { MatchOption result (IsOpen Test.AnyBit known number)
+    ensures told { MatchOption result (IsOpen Test.AnyBit known number)
         (λ b. (x : ℕ) → Admits known x → TestGives Test.AnyBit x number b) }
+    ensures rule { IsClosed known → IfSome result
+        (λ b. IsForcedBy IsClosed known Test.AnyBit number b) }
 {
     if known.ones & number != 0 {
         return Some(true);
@@ -82,8 +91,10 @@ impl Known {
     /// In facts, both ends of an interval of a word are numbers that are left for it. So to learn a result that they
     /// tell moves no end and adds no bit, and the other result leaves no number.
     pub fn tell(&self, test: Test, number: u32) -> Option<bool>
-        ensures { MatchOption result (IsOpen test self.now number)
+        ensures told { MatchOption result (IsOpen test self.now number)
             (λ b. (x : ℕ) → Admits self.now x → passes test x number ≡ b) }
+        ensures rule { IsClosed self.now → IfSome result (λ b.
+            IsForcedBy IsClosed self.now test number b) }
     {
         match test {
             Test::Equal => tell_equal(*self, number),
@@ -140,10 +151,11 @@ fn tell_at(
 ) -> Option<bool>
     requires count { length nodes.now.known ≡ length pool.now }
     requires place { at < length pool.now }
-    ensures { MatchOption result
+    ensures told { MatchOption result
         (IsOpenAt nodes.now.known excluded.now pool.now at test number)
         (λ b. (d : Input) → IsInput d → AgreesWith nodes.now.known excluded.now pool.now d
         → TestGives test (value_of pool.now d at) number b) }
+    ensures rule { IsForcing nodes.now.known excluded.now pool.now at test number result }
 {
     if let Some(sense) = nodes.get(at).tell(test, number) {
         return Some(sense);
@@ -176,6 +188,7 @@ pub(crate) fn tell_node(
     ensures told { IfSome result (λ b. (d : Input) → IsInput d
         → AgreesWith nodes.now.known excluded.now pool.now d
         → TestGives test (value_of pool.now d at) number b) }
+    ensures rule { IsForcing nodes.now.known excluded.now pool.now at test number result }
     ensures walked { IfSome result (λ b. (n : ℕ)
         → IsPropagatedBack n nodes.now.known pool.now at) }
     ensures none { IfNone result (IsOpenAt nodes.now.known excluded.now pool.now at test number

@@ -1,0 +1,251 @@
+-- A result that is forced is the only one that can be learnt.
+use Rattle.std.proofs.Common.{◌≡◌, ◌≢◌, ℕ, ◌<◌, ◌^◌, List, [], ◌∷◌, ◌++◌, length, set, Bool, true, false, not, arith, refl, sym, ap, ◌∙◌, ◌⊎◌, inl, inr}
+use Rattle.std.proofs.lemmas.Bool.{cases_eq}
+use Rattle.std.proofs.lemmas.Bool.Decides.{nat_tests}
+use Rattle.std.proofs.lemmas.List.{set-get_or, length-set}
+use Rattle.std.proofs.lemmas.List.Elements.{Contains-push, Contains-push_cases, Contains-append_left}
+use Rattle.std.specs.Prelude.{Some, None}
+use Rattle.sf_insn.specs.declared.ops.Test.{Test}
+use Rattle.sf_insn.specs.declared.ops.Test.TheVariants.{Equal, Greater, GreaterOrEqual, AnyBit}
+use Rattle.sf_sym.specs.Pool.{IsPool, IsCondBelow, node_at}
+use Rattle.sf_sym.specs.declared.pool.Cond.{Cond}
+use Rattle.sf_sym.specs.declared.pool.Node.{Node}
+use Rattle.sf_sym.specs.declared.pool.Node.TheVariants.{Const, Word, Bin, Neg}
+use Rattle.sf_dom.specs.declared.known.Known.{Known}
+use Rattle.sf_dom.specs.Known.{IsNarrower, IsDecided, known_of}
+use Rattle.sf_dom.specs.Facts.{FactsView, known_at, numbers_at}
+use Rattle.sf_dom.specs.declared.guards.Pair.{Pair}
+use Rattle.sf_dom.specs.Learning.{Excludes, AreExcludedBy, assumed_of, PairGives, LearnsBy, CantLearn}
+use Rattle.sf_dom.specs.Passes.{IsAtRest}
+use Rattle.sf_dom.specs.Propagation.{AreExcluded}
+use Rattle.sf_dom.specs.Rules.{assumed, number_known, past, IsClosed, IsClosedAt}
+use Rattle.sf_dom.specs.SoundRules.{IsForcedCondition}
+use Rattle.sf_dom.proofs.ClosedLemmas.{closed-number}
+use Rattle.sf_dom.proofs.ConditionSteps.{condition-nothing}
+use Rattle.sf_dom.proofs.Excluding.{added-at, excluded-word, both-excluded}
+use Rattle.sf_dom.proofs.Passes.{operands-below, still-reduction}
+use Rattle.sf_dom.proofs.Propagations.{word-below}
+use Rattle.sf_dom.proofs.TestLaws.{at-decided}
+
+-- ---- the lists with the numbers that a condition excludes
+
+none-excluded : (ks : List Known) (ex : List (List ℕ)) (ns : List Node) (c : Cond)
+    → ((w m : ℕ) → ¬ Excludes ks ns c w m) → AreExcludedBy ks ex ex ns c
+none-excluded ks ex ns c none = record {
+  kept = λ w m l x. x;
+  more = λ w m l x. absurd (none w m x);
+  only = λ w m l x. inl x;
+}
+
+-- lists in which the number of a decided node is excluded for a word
+record HasLists (ex : List (List ℕ)) (n : Node) (k : Known) : Type 0 where
+  lists : List (List ℕ)
+  count : length lists ≡ 16
+  are : AreExcluded ex lists n k
+
+unchanged : (ex : List (List ℕ)) (n : Node) (k : Known) → length ex ≡ 16
+    → ((w : ℕ) → n ≡ Word w → IsDecided k → ⊥) → HasLists ex n k
+unchanged ex n k l none = record {
+  lists = ex;
+  count = l;
+  are = record {
+    words = refl;
+    more = λ i m li x. x;
+    only = λ i m li x. inl x;
+    added = λ i e d. absurd (none i e d);
+  };
+}
+
+lists-of : (ex : List (List ℕ)) (n : Node) (k : Known) → length ex ≡ 16 → ((w : ℕ) → n ≡ Word w → w < 16)
+    → HasLists ex n k
+lists-of ex (Const c) k l small = unchanged ex (Const c) k l (λ w e d. let clash : Const c ≡ Word w = e in absurd cc)
+lists-of ex (Bin op a b) k l small =
+    unchanged ex (Bin op a b) k l (λ w e d. let clash : Bin op a b ≡ Word w = e in absurd cc)
+lists-of ex (Neg a) k l small = unchanged ex (Neg a) k l (λ w e d. let clash : Neg a ≡ Word w = e in absurd cc)
+lists-of ex (Word w) k l small = elim (cases_eq k.low k.high) [
+  | inr ne ↦ unchanged ex (Word w) k l (λ v e d. ne d)
+  | inl e ↦
+      let xs : List ℕ = numbers_at ex w ++ k.low ∷ [] in
+      let here : w < length ex = omega (arith, small w refl) in
+      record {
+        lists = set ex w xs;
+        count = length-set ex w xs ∙ l;
+        are = excluded-word ex (set ex w xs) w (Word w) k refl e (added-at ex w xs k.low here (λ m. (
+          (λ c. elim (Contains-push_cases (numbers_at ex w) k.low m c) [ inl old ↦ inl old | inr new ↦ inr (sym new) ]),
+          (λ c. elim c [
+            | inl old ↦ Contains-append_left (numbers_at ex w) (k.low ∷ []) m old
+            | inr new ↦ rw new (Contains-push (numbers_at ex w) k.low)
+          ]),
+        )));
+      }
+]
+
+-- lists in which the numbers that a condition excludes are excluded
+record HasExclusions (ks : List Known) (ex : List (List ℕ)) (ns : List Node) (c : Cond) : Type 0 where
+  lists : List (List ℕ)
+  are : AreExcludedBy ks ex lists ns c
+
+exclusions : (ks : List Known) (ex : List (List ℕ)) (ns : List Node) (c : Cond) → IsPool ns → length ex ≡ 16
+    → IsCondBelow (length ns) c → HasExclusions ks ex ns c
+exclusions ks ex ns c p l below = on c.test c.sense refl refl
+  where
+    small : (i : ℕ) → i < length ns → (w : ℕ) → node_at ns i ≡ Word w → w < 16
+    small i li w e = word-below i (node_at ns i) (operands-below ns i p li) w e
+
+    none : ¬ ((c.test ≡ Equal) × (c.sense ≡ false)) → HasExclusions ks ex ns c
+    none n = record { lists = ex; are = none-excluded ks ex ns c (λ w m x. n (x.0, x.1)) }
+
+    on : (t : Test) (s : Bool) → c.test ≡ t → c.sense ≡ s → HasExclusions ks ex ns c
+    on Equal false et es =
+        let a = lists-of ex (node_at ns c.node.0) (known_at ks c.other.0) l (small c.node.0 below.0) in
+        let b = lists-of a.lists (node_at ns c.other.0) (known_at ks c.node.0) a.count (small c.other.0 below.1) in
+        record { lists = b.lists; are = both-excluded ks ex a.lists b.lists ns c a.are b.are et es }
+    on Equal true et es = none (λ x. let clash : true ≡ false = sym es ∙ x.1 in absurd cc)
+    on Greater s et es = none (λ x. let clash : Greater ≡ Equal = sym et ∙ x.0 in absurd cc)
+    on GreaterOrEqual s et es = none (λ x. let clash : GreaterOrEqual ≡ Equal = sym et ∙ x.0 in absurd cc)
+    on AnyBit s et es = none (λ x. let clash : AnyBit ≡ Equal = sym et ∙ x.0 in absurd cc)
+
+-- ---- nothing changes
+
+-- a number that moves no end is none
+past-ends : (k : Known) (c : ℕ) → IsClosed k → IsNarrower (past c k) k → (c ≢ k.low) × (c ≢ k.high)
+past-ends k c h n = let a = n.low in let b = n.high in let o = h.ordered in let f = h.fits in grind (arith, nat_tests)
+
+this-apart : (k : Known) (n : ℕ) → IsClosed k → IsNarrower (assumed Equal false k (number_known n)).node k
+    → (n ≢ k.low) × (n ≢ k.high)
+unfolding assumed
+this-apart k n h w = past-ends k n h (rw (at-decided past (number_known n) k refl) at w)
+
+that-apart : (k : Known) (n : ℕ) → n < 2 ^ 32 → IsDecided k
+    → IsNarrower (assumed Equal false k (number_known n)).other (number_known n) → k.low ≢ n
+unfolding assumed
+that-apart k n f d w =
+    (past-ends (number_known n) k.low (closed-number n f) (rw (at-decided past k (number_known n) d) at w)).0
+
+-- a condition whose result is forced
+module _ (f : FactsView) (ns : List Node) (c : Cond) (number : ℕ)
+    (h : IsForcedCondition f ns c number c.sense) (lists : List (List ℕ))
+    (are : AreExcludedBy f.known f.excluded lists ns c) where
+  abbrev own : Known
+  own = known_at f.known c.node.0
+
+  fits : number < 2 ^ 32
+  fits = let e = ap (λ (k : Known). k.high) h.decided in
+      omega (arith, e, (h.rest c.other.0 h.below.1).closed.known.fits)
+
+  -- an end of a word isn't among the numbers that are excluded now
+  end-stays : (i m : ℕ) → i < 16 → i < length ns → (m ≡ (known_at f.known i).low) ⊎ (m ≡ (known_at f.known i).high)
+      → ¬ Excludes f.known ns c i m
+  end-stays i m b l end (et, es, inl x) =
+      let at : c.node.0 ≡ i = h.words c.node.0 i h.below.0 x.0 in
+      let apart = this-apart own number (h.rest c.node.0 h.below.0).closed.known (rw (et, es) at h.forced.this) in
+      let same : m ≡ number = x.2 ∙ ap (λ (k : Known). k.low) h.decided in
+      let here : own ≡ known_at f.known i = ap (known_at f.known) at in
+      elim end [
+        | inl e ↦ apart.0 (sym same ∙ e ∙ ap (λ (k : Known). k.low) (sym here))
+        | inr e ↦ apart.1 (sym same ∙ e ∙ ap (λ (k : Known). k.high) (sym here))
+      ]
+  end-stays i m b l end (et, es, inr x) =
+      let at : c.other.0 ≡ i = h.words c.other.0 i h.below.1 x.0 in
+      let apart = that-apart own number fits x.1 (rw (et, es) at h.forced.that) in
+      let here : known_at f.known i ≡ number_known number = ap (known_at f.known) (sym at) ∙ h.decided in
+      elim end [
+        | inl e ↦ apart (sym x.2 ∙ e ∙ ap (λ (k : Known). k.low) here)
+        | inr e ↦ apart (sym x.2 ∙ e ∙ ap (λ (k : Known). k.high) here)
+      ]
+
+  rests : (i : ℕ) → i < length ns → IsAtRest f.known lists ns i
+  rests i l =
+      let r = h.rest i l in
+      let k : Known = known_at f.known i in
+      record {
+        closed = record {
+          known = r.closed.known;
+          tight = λ b. record {
+            low = record {
+              admitted = (r.closed.tight b).low.admitted;
+              kept = λ z. elim (are.only i k.low b z) [
+                | inl old ↦ (r.closed.tight b).low.kept old
+                | inr new ↦ end-stays i k.low b l (inl refl) new
+              ];
+            };
+            high = record {
+              admitted = (r.closed.tight b).high.admitted;
+              kept = λ z. elim (are.only i k.high b z) [
+                | inl old ↦ (r.closed.tight b).high.kept old
+                | inr new ↦ end-stays i k.high b l (inr refl) new
+              ];
+            };
+          };
+        };
+        still = r.still;
+      }
+
+  abbrev pair : Pair
+  pair = record { node = own; other = known_at f.known c.other.0 }
+
+  pair-stays : PairGives f.known lists c (Some pair)
+  pair-stays =
+      let this : IsNarrower (assumed_of f.known c).node own = rw h.decided h.forced.this in
+      let that : IsNarrower (assumed_of f.known c).other (known_at f.known c.other.0) = rw h.decided h.forced.that in (
+        Some own,
+        still-reduction (IsClosedAt lists c.node.0) own (assumed_of f.known c).node
+            (rests c.node.0 h.below.0).closed this,
+        (
+          Some (known_at f.known c.other.0),
+          rw (set-get_or f.known c.node.0 (known_of 0 0 0 0))
+              (still-reduction (IsClosedAt lists c.other.0) (known_at f.known c.other.0) (assumed_of f.known c).other
+              (rests c.other.0 h.below.1).closed that),
+          refl,
+        ),
+      )
+
+  learns : LearnsBy f (record { known = f.known; variables = f.variables; excluded = lists }) ns c
+  learns = record {
+    excluded = are;
+    known = condition-nothing f.known lists ns c pair h.pool h.count h.below pair-stays refl refl rests h.node_back
+        h.other_back;
+  }
+
+pub forced-learns : (f : FactsView) (ns : List Node) (c : Cond) (number : ℕ)
+    → IsForcedCondition f ns c number c.sense → (new : FactsView) × LearnsBy f new ns c
+forced-learns f ns c number h =
+    let all = exclusions f.known f.excluded ns c h.pool h.lists h.below in (
+      record { known = f.known; variables = f.variables; excluded = all.lists },
+      learns f ns c number h all.lists all.are,
+    )
+
+not-not : (b : Bool) → not (not b) ≡ b
+not-not true = refl
+not-not false = refl
+
+pub forced-cant : (f : FactsView) (ns : List Node) (c : Cond) (number : ℕ)
+    → IsForcedCondition f ns c number (not c.sense) → CantLearn f ns c
+forced-cant f ns c number h =
+    let all = exclusions f.known f.excluded ns c h.pool h.lists h.below in
+    let none = rw (not-not c.sense, ← h.decided) at h.forced.other in
+    record {
+      lists = all.lists;
+      excluded = all.are;
+      none = (
+        None,
+        (
+          None,
+          (λ s is n. none s (record {
+            known = is.known;
+            tight = λ b. record {
+              low = record {
+                admitted = (is.tight b).low.admitted;
+                kept = λ x. (is.tight b).low.kept (all.are.kept c.node.0 s.low b x);
+              };
+              high = record {
+                admitted = (is.tight b).high.admitted;
+                kept = λ x. (is.tight b).high.kept (all.are.kept c.node.0 s.high b x);
+              };
+            };
+          }) n),
+          refl,
+        ),
+        refl,
+      );
+    }
