@@ -5,7 +5,7 @@ use Rattle.std.specs.List.{flat_map, list_all}
 use Rattle.std.specs.Str.Lines.{lines}
 use Rattle.std.proofs.lemmas.List.{take-map}
 use Rattle.sf_ask.specs.QuestionData.{QuestionData}
-use Rattle.sf_policy.specs.Accepted.{AreAccepted, IsMisfitAt, line_fits, words_of_line}
+use Rattle.sf_policy.specs.Accepted.{AreAccepted, IsMisfitAt, is_name_once, line_fits, words_of_line}
 
 -- the lines that were read fit, and these are their names
 pub record ReadSoFar (questions : List QuestionData) (read : List (Bor (List ℕ))) (names : List (List ℕ)) : Type 0 where
@@ -42,3 +42,18 @@ first_misfit questions text items i d names are lt so_far misfit = record {
   first = ap (λ ls. list_all (line_fits questions) (take i ls)) (sym are)
       ∙ ap (list_all (line_fits questions)) (take-map (λ (l : Bor (List ℕ)). l.now) i items) ∙ so_far.fit;
 }
+
+-- a line doesn't fit whose words are several
+pub several_words : (questions : List QuestionData) (line : List ℕ) (words : List (Bor (List ℕ)))
+    → map (λ w. w.now) words ≡ words_of_line line → 2 ≤ length words → line_fits questions line ≡ false
+several_words questions line [] are many = absurd (omega (arith, many))
+several_words questions line (w ∷ []) are many = absurd (omega (arith, many))
+several_words questions line (v ∷ w ∷ ws) are many = rw (sym are) refl
+
+-- a line doesn't fit whose first word isn't a name
+pub other_word : (questions : List QuestionData) (line : List ℕ) (words : List (Bor (List ℕ))) (d : Bor (List ℕ))
+    → map (λ w. w.now) words ≡ words_of_line line → 1 ≤ length words
+    → is_name_once questions (get_or words 0 d).now ≡ false → line_fits questions line ≡ false
+other_word questions line [] d are some other = absurd (omega (arith, some))
+other_word questions line (w ∷ []) d are some other = rw (sym are) other
+other_word questions line (v ∷ w ∷ ws) d are some other = rw (sym are) refl

@@ -1,6 +1,7 @@
 -- What `Question::of_masked` gives for the parts of an entry is what is due for the entry.
-use Rattle.std.proofs.Common.{arith, ◌≡◌, ℕ, ◌+◌, ◌++◌, Bool, true, false, not, ◌&&◌, ◌||◌, List, [], ◌∷◌, map, refl, ap, Option, Some, None, Result, Ok, Err, ◌⊎◌, codes, option_map, if◌then◌else◌}
-use Rattle.std.proofs.Common.{inl, inr}
+use Rattle.std.proofs.Common.{arith, ◌≡◌, ℕ, ◌++◌, Bool, true, false, not, ◌&&◌, ◌||◌, List, [], ◌∷◌, map, refl, ap, Option, Some, None, Result, Ok, Err, ◌⊎◌, codes, option_map, if◌then◌else◌, inl, inr}
+use Rattle.std.proofs.lemmas.Bool.{and_parts}
+use Rattle.std.proofs.lemmas.List.Folds.{list_all-map}
 use Rattle.std.specs.List.{list_all}
 use Rattle.sf_ask.specs.declared.fault.Fault.{Fault as AskFault}
 use Rattle.sf_ask.specs.Actions.{is_no_action}
@@ -21,11 +22,6 @@ use Rattle.sf_policy.specs.Actions.{is_action, are_actions, is_named, set_of, na
 use Rattle.sf_policy.specs.Encoding.{no_actions, ranges_and_masks, encoded_set, numbered_fault, with_number, question_of_parts}
 use Rattle.sf_policy.specs.Policies.{Entry, question_entry_of_parts, question_of_entry, question_where_read, question_of_table}
 
-both_true : (a b : Bool) → (a && b) ≡ true → (a ≡ true) × (b ≡ true)
-both_true true true h = (refl, refl)
-both_true true false h = cc
-both_true false b h = cc
-
 and_true : (a b : Bool) → a ≡ true → (a && b) ≡ b
 and_true true b h = refl
 and_true false b h = cc
@@ -35,7 +31,7 @@ all_orders : (ws : List WordEntry) → list_all has_words ws ≡ true
     → list_all is_in_order (map range_of ws) ≡ list_all has_range ws
 all_orders [] h = refl
 all_orders (w ∷ ws) h =
-    let (one, others) = both_true (has_words w) _ h in
+    let (one, others) = and_parts (has_words w) _ h in
     rw (and_true (has_words w) (is_in_order (range_of w)) one, all_orders ws others) refl
 
 one_outside : (a b c d : Bool) → (a && b) ≡ false → (b ≡ false → d ≡ false) → ((a && c) && d) ≡ false
@@ -47,10 +43,6 @@ one_outside false b c d h k = refl
 no_range : (ws : List WordEntry) → list_all has_words ws ≡ false → list_all has_range ws ≡ false
 no_range [] h = cc
 no_range (w ∷ ws) h = one_outside (has_words w) _ _ _ h (no_range ws)
-
-all_masks : (ws : List WordEntry) → list_all is_inside_mask (map mask_of ws) ≡ list_all has_mask ws
-all_masks [] = refl
-all_masks (w ∷ ws) = ap (λ b. has_mask w && b) (all_masks ws)
 
 one_more : (before a a' rest : Bool) → (before ≡ true) ⊎ ((a || rest) ≡ true)
     → ((before || (a || a')) ≡ true) ⊎ (rest ≡ true)
@@ -78,7 +70,7 @@ some_action (text ∷ texts) h =
     (named (codes "KILL_PROCESS")) (named (codes "KILL_THREAD")) (named (codes "TRAP")) (named (codes "ERRNO"))
     (named (codes "USER_NOTIF"))
     (named (codes "TRACE")) (named (codes "LOG")) (named (codes "ALLOW")) (named (codes "OTHER"))
-    (both_true (is_action text) (list_all is_action texts) h).0
+    (and_parts (is_action text) (list_all is_action texts) h).0
 
 empty_or_not : (b : Bool) (set : ActionSet) → (b ≡ true → is_no_action set ≡ false)
     → is_no_action (if b then set else no_actions) ≡ not b
@@ -123,7 +115,7 @@ entry_due_where number true e h =
     same_test number ask.Range (list_all has_range e.words) (list_all is_in_order (map range_of e.words)) _ _
     (all_orders e.words h) (λ ranged.
     same_test number ask.Mask (list_all has_mask e.words) (list_all is_inside_mask (map mask_of e.words)) _ _
-    (all_masks e.words) (λ masked.
+    (list_all-map is_inside_mask mask_of e.words) (λ masked.
     same_actions number (are_actions e.actions) (is_no_action (encoded_set e.actions)) _ _
     (empty_or_not (are_actions e.actions) (set_of e.actions) (some_action e.actions))
     (λ some. asked e.name (map range_of e.words) (map mask_of e.words) _ _

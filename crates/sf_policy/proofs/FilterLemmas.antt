@@ -46,10 +46,7 @@ unlawful_due number bytes raws check.Last fields spelled some short (inr h) =
     inr (refl, record { raws = raws; fields = fields; spelled = spelled; first = h })
 unlawful_due number bytes raws (check.Scratch at) fields spelled some short (inr h) =
     inr (refl, record { raws = raws; fields = fields; spelled = spelled; first = h })
-unlawful_due number bytes raws check.NoFilter fields spelled some short (inr h) = absurd h
-unlawful_due number bytes raws check.TooMany fields spelled some short (inr h) = absurd h
-unlawful_due number bytes raws check.PathLength fields spelled some short (inr h) = absurd h
-unlawful_due number bytes raws check.Memory fields spelled some short (inr h) = absurd h
+unlawful_due number bytes raws _ fields spelled some short (inr h) = absurd h
 
 pub one_more_program : (files : List (List ℕ)) (programs : List (List Insn)) (file : List ℕ) (program : List Insn)
     → SpellPrograms files programs → SpellsProgram file program

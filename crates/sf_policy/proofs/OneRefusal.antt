@@ -1,60 +1,17 @@
 -- Files have at most one first refusal.
-use Rattle.std.proofs.Common.{◌≡◌, ◌≢◌, inl, inr, ℕ, ◌+◌, ◌*◌, ◌%◌, ◌<◌, ◌≤◌, List, [], ◌∷◌, length, take, zero, suc, slice_get, refl, ap, sym, ◌∙◌, arith}
+use Rattle.std.proofs.Common.{◌≡◌, inl, inr, ℕ, ◌+◌, ◌*◌, ◌<◌, List, [], ◌∷◌, length, take, zero, suc, slice_get, refl, ap, sym, ◌∙◌, arith}
 use Rattle.std.proofs.lemmas.Bool.{cases_lt}
 use Rattle.std.proofs.lemmas.Option.{same_Some}
 use Rattle.sf_insn.specs.declared.raw.RawInsn.{RawInsn}
 use Rattle.sf_check.specs.declared.fault.Fault.{Fault as CheckFault}
-use Rattle.sf_check.specs.declared.fault.Fault.TheVariants as check
 use Rattle.sf_check.specs.Refusals.{IsFirstFault}
 use Rattle.sf_policy.specs.declared.fault.Fault.{Fault}
-use Rattle.sf_policy.specs.declared.fault.Fault.TheVariants as faults
 use Rattle.sf_policy.specs.FaultPlaces.{check_fault}
-use Rattle.sf_policy.specs.Filters.{SpellsFault, SpellLongPath, IsRefusalOf, AreFew, IsFileRefusal, IsFirstRefusal}
-use Rattle.sf_policy.proofs.RefusalLemmas.{OneSpelling, FaultsAreNot, length_spelling, refused_no_program, program_at, file_no_stack}
+use Rattle.sf_policy.specs.Filters.{IsRefusalOf, IsFileRefusal, IsFirstRefusal}
+use Rattle.sf_policy.proofs.RefusalLemmas.{OneSpelling, FaultsAreNot, Kind, ragged, empty, long, spoken, kind_of, Spoken, StackKind, none, many, path, file, stack_kind, length_spelling, refused_no_program, program_at, file_no_stack}
 
 abbrev pub OneFault : Type 0
 OneFault = (raws : List RawInsn) (e f : CheckFault) → IsFirstFault raws e → IsFirstFault raws f → e ≡ f
-
--- the bytes are those of 1 to 4096 instructions with a fault
-record Spoken (number : ℕ) (bytes : List ℕ) (e : Fault) : Type 0 where
-  fault : CheckFault
-  spelled : SpellsFault bytes fault
-  some : 0 < length spelled.raws
-  short : length spelled.raws ≤ 4096
-  is : e ≡ check_fault number fault
-
--- a refusal by the length of the bytes or by what they spell
-data Kind (number : ℕ) (bytes : List ℕ) (e : Fault) : Type 0 where
-  ragged : e ≡ faults.Ragged number → length bytes % 8 ≢ 0 → Kind number bytes e
-  empty : e ≡ faults.Empty number → length bytes ≡ 0 → Kind number bytes e
-  long : e ≡ faults.TooLong number → length bytes % 8 ≡ 0 → 8 * 4096 < length bytes → Kind number bytes e
-  spoken : Spoken number bytes e → Kind number bytes e
-
-spoken_of : (number : ℕ) (bytes : List ℕ) (e : Fault) (fault : CheckFault) (spelled : SpellsFault bytes fault)
-    → 0 < length spelled.raws → length spelled.raws ≤ 4096 → e ≡ check_fault number fault → Kind number bytes e
-spoken_of number bytes e fault spelled some short is =
-    spoken (record { fault = fault; spelled = spelled; some = some; short = short; is = is })
-
-kind_of : (number : ℕ) (bytes : List ℕ) (e : Fault) → IsRefusalOf number bytes e → Kind number bytes e
-kind_of number bytes (faults.Ragged f) r = ragged (ap faults.Ragged r.0) r.1
-kind_of number bytes (faults.Empty f) r = empty (ap faults.Empty r.0) r.1
-kind_of number bytes (faults.TooLong f) r = long (ap faults.TooLong r.0) r.1 r.2
-kind_of number bytes (faults.Code f at) r =
-    spoken_of number bytes (faults.Code f at) (check.Code at) r.1 r.1.first.0.some r.1.first.0.short
-    (ap (λ n. faults.Code n at) r.0)
-kind_of number bytes (faults.Field f at) r =
-    spoken_of number bytes (faults.Field f at) (check.Field at) r.1 r.1.first.0.some r.1.first.0.short
-    (ap (λ n. faults.Field n at) r.0)
-kind_of number bytes (faults.Jump f at) r =
-    spoken_of number bytes (faults.Jump f at) (check.Jump at) r.1 r.1.first.0.some r.1.first.0.short
-    (ap (λ n. faults.Jump n at) r.0)
-kind_of number bytes (faults.Last f) r =
-    spoken_of number bytes (faults.Last f) check.Last r.1 r.1.first.0.some r.1.first.0.short
-    (ap faults.Last r.0)
-kind_of number bytes (faults.Scratch f at) r =
-    spoken_of number bytes (faults.Scratch f at) (check.Scratch at) r.1 r.1.first.0.some r.1.first.0.short
-    (ap (λ n. faults.Scratch n at) r.0)
-kind_of number bytes _ r = absurd r
 
 -- how long the bytes of instructions with a fault are
 spoken_length : (number : ℕ) (bytes : List ℕ) (e : Fault) (s : Spoken number bytes e)
@@ -104,18 +61,18 @@ slice_get_take (f ∷ files) (suc n) (suc i) lt = slice_get_take files n i (omeg
 -- a file before the one that is refused spells a lawful program, so it isn't refused itself
 not_before : OneSpelling → FaultsAreNot → (files : List (List ℕ)) (e f : Fault) (r : IsFileRefusal files e)
     (s : IsFileRefusal files f) → r.place < s.place → ⊥
-not_before spelling none files e f r s lt =
+not_before spelling lawless files e f r s lt =
     let there = slice_get_take files s.place r.place lt ∙ r.at in
     let (program, spelled) = program_at (take s.place files) s.programs r.place r.file there s.before in
-    refused_no_program spelling none (r.place + 1) r.file e program r.refused spelled
+    refused_no_program spelling lawless (r.place + 1) r.file e program r.refused spelled
 
 same_file : OneSpelling → OneFault → FaultsAreNot → (files : List (List ℕ)) (e f : Fault) → IsFileRefusal files e
     → IsFileRefusal files f → e ≡ f
-same_file spelling one none files e f r s =
+same_file spelling one lawless files e f r s =
     elim (cases_lt r.place s.place) [
-      | inl lt ↦ absurd (not_before spelling none files e f r s lt)
+      | inl lt ↦ absurd (not_before spelling lawless files e f r s lt)
       | inr ge ↦ elim (cases_lt s.place r.place) [
-        | inl gt ↦ absurd (not_before spelling none files f e s r gt)
+        | inl gt ↦ absurd (not_before spelling lawless files f e s r gt)
         | inr le ↦
             let here : r.place ≡ s.place = omega arith in
             let file : r.file ≡ s.file = same_Some r.file s.file (sym r.at ∙ ap (λ n. slice_get files n) here ∙ s.at) in
@@ -123,27 +80,6 @@ same_file spelling one none files e f r s =
             same_kind spelling one (s.place + 1) s.file e f (kind_of _ _ e refused) (kind_of _ _ f s.refused)
       ]
     ]
-
--- a refusal by the number of files, of one file, or by the path through all
-data StackKind (files : List (List ℕ)) (e : Fault) : Type 0 where
-  none : e ≡ faults.NoFilter → length files ≡ 0 → StackKind files e
-  many : e ≡ faults.TooMany → 64 < length files → StackKind files e
-  path : e ≡ faults.PathLength → AreFew files → SpellLongPath files → StackKind files e
-  file : AreFew files → IsFileRefusal files e → StackKind files e
-
-stack_kind : (files : List (List ℕ)) (e : Fault) → IsFirstRefusal files e → StackKind files e
-stack_kind files faults.NoFilter r = none refl r
-stack_kind files faults.TooMany r = many refl r
-stack_kind files faults.PathLength r = path refl r.0 r.1
-stack_kind files (faults.Ragged f) r = file r.0 r.1
-stack_kind files (faults.Empty f) r = file r.0 r.1
-stack_kind files (faults.TooLong f) r = file r.0 r.1
-stack_kind files (faults.Code f at) r = file r.0 r.1
-stack_kind files (faults.Field f at) r = file r.0 r.1
-stack_kind files (faults.Jump f at) r = file r.0 r.1
-stack_kind files (faults.Last f) r = file r.0 r.1
-stack_kind files (faults.Scratch f at) r = file r.0 r.1
-stack_kind files _ r = file r.0 r.1
 
 same_stack_kind : OneSpelling → OneFault → FaultsAreNot → (files : List (List ℕ)) (e f : Fault) → StackKind files e
     → StackKind files f → e ≡ f

@@ -1,19 +1,21 @@
 -- Files that are refused spell no lawful stack.
 use Rattle.std.proofs.lemmas.Grind.{common_steps}
-use Rattle.std.proofs.Common.{◌≡◌, ℕ, ◌+◌, ◌*◌, ◌%◌, ◌<◌, List, [], ◌∷◌, length, Ok, Some, slice_get, zero, suc, refl, ap, sym, subst, ◌∙◌, arith, length-append}
+use Rattle.std.proofs.Common.{◌≡◌, ℕ, ◌+◌, ◌*◌, ◌%◌, ◌<◌, ◌≤◌, ◌≢◌, List, [], ◌∷◌, length, Ok, Some, slice_get, zero, suc, refl, ap, sym, subst, ◌∙◌, arith, length-append}
 use Rattle.std.proofs.lemmas.List.{length-map}
 use Rattle.std.proofs.lemmas.Option.{same_Some}
 use Rattle.sf_insn.specs.declared.raw.RawInsn.{RawInsn}
 use Rattle.sf_insn.specs.Spelling.{insn_bytes, spelling, AreInsns}
 use Rattle.sf_check.specs.declared.insn.Insn.{Insn}
 use Rattle.sf_check.specs.declared.fault.Fault.{Fault as CheckFault}
+use Rattle.sf_check.specs.declared.fault.Fault.TheVariants as check
 use Rattle.sf_check.specs.Codes.{insn_of}
 use Rattle.sf_check.specs.Programs.{IsLawfulProgram, Spells, SpellsProgram}
 use Rattle.sf_check.specs.Refusals.{IsFirstFault}
 use Rattle.sf_check.specs.Stacks.{path_length}
 use Rattle.sf_policy.specs.declared.fault.Fault.{Fault}
 use Rattle.sf_policy.specs.declared.fault.Fault.TheVariants as faults
-use Rattle.sf_policy.specs.Filters.{SpellPrograms, SpellStack, SpellsFault, IsRefusalOf, IsFileRefusal, IsFirstRefusal}
+use Rattle.sf_policy.specs.FaultPlaces.{check_fault}
+use Rattle.sf_policy.specs.Filters.{SpellPrograms, SpellStack, SpellsFault, SpellLongPath, IsRefusalOf, AreFew, IsFileRefusal, IsFirstRefusal}
 use Rattle.sf_policy.specs.FiltersLaws.{as_many}
 
 abbrev pub OneSpelling : Type 0
@@ -54,35 +56,72 @@ eight_each bytes program p = grind (arith, common_steps, length_spelling, as_lon
 
 faulty : OneSpelling → FaultsAreNot → (bytes : List ℕ) (e : CheckFault) (program : List Insn) → SpellsFault bytes e
     → SpellsProgram bytes program → ⊥
-faulty spelling none bytes e program f p =
+faulty spelling lawless bytes e program f p =
     let raws = spelling f.raws p.raws f.fields p.fields (sym f.spelled ∙ p.spelled) in
-    none p.raws e program (rw raws at f.first) p.read p.lawful
+    lawless p.raws e program (rw raws at f.first) p.read p.lawful
+
+-- the bytes are those of 1 to 4096 instructions with a fault
+pub record Spoken (number : ℕ) (bytes : List ℕ) (e : Fault) : Type 0 where
+  pub fault : CheckFault
+  pub spelled : SpellsFault bytes fault
+  pub some : 0 < length spelled.raws
+  pub short : length spelled.raws ≤ 4096
+  pub is : e ≡ check_fault number fault
+
+-- a refusal by the length of the bytes or by what they spell
+pub data Kind (number : ℕ) (bytes : List ℕ) (e : Fault) : Type 0 where
+  ragged : e ≡ faults.Ragged number → length bytes % 8 ≢ 0 → Kind number bytes e
+  empty : e ≡ faults.Empty number → length bytes ≡ 0 → Kind number bytes e
+  long : e ≡ faults.TooLong number → length bytes % 8 ≡ 0 → 8 * 4096 < length bytes → Kind number bytes e
+  spoken : Spoken number bytes e → Kind number bytes e
+
+spoken_of : (number : ℕ) (bytes : List ℕ) (e : Fault) (fault : CheckFault) (spelled : SpellsFault bytes fault)
+    → 0 < length spelled.raws → length spelled.raws ≤ 4096 → e ≡ check_fault number fault → Kind number bytes e
+spoken_of number bytes e fault spelled some short is =
+    spoken (record { fault = fault; spelled = spelled; some = some; short = short; is = is })
+
+pub kind_of : (number : ℕ) (bytes : List ℕ) (e : Fault) → IsRefusalOf number bytes e → Kind number bytes e
+kind_of number bytes (faults.Ragged f) r = ragged (ap faults.Ragged r.0) r.1
+kind_of number bytes (faults.Empty f) r = empty (ap faults.Empty r.0) r.1
+kind_of number bytes (faults.TooLong f) r = long (ap faults.TooLong r.0) r.1 r.2
+kind_of number bytes (faults.Code f at) r =
+    spoken_of number bytes (faults.Code f at) (check.Code at) r.1 r.1.first.0.some r.1.first.0.short
+    (ap (λ n. faults.Code n at) r.0)
+kind_of number bytes (faults.Field f at) r =
+    spoken_of number bytes (faults.Field f at) (check.Field at) r.1 r.1.first.0.some r.1.first.0.short
+    (ap (λ n. faults.Field n at) r.0)
+kind_of number bytes (faults.Jump f at) r =
+    spoken_of number bytes (faults.Jump f at) (check.Jump at) r.1 r.1.first.0.some r.1.first.0.short
+    (ap (λ n. faults.Jump n at) r.0)
+kind_of number bytes (faults.Last f) r =
+    spoken_of number bytes (faults.Last f) check.Last r.1 r.1.first.0.some r.1.first.0.short
+    (ap faults.Last r.0)
+kind_of number bytes (faults.Scratch f at) r =
+    spoken_of number bytes (faults.Scratch f at) (check.Scratch at) r.1 r.1.first.0.some r.1.first.0.short
+    (ap (λ n. faults.Scratch n at) r.0)
+kind_of number bytes _ r = absurd r
+
+no_program : OneSpelling → FaultsAreNot → (number : ℕ) (bytes : List ℕ) (e : Fault) (program : List Insn)
+    → Kind number bytes e → SpellsProgram bytes program → ⊥
+no_program spelling lawless number bytes e program (ragged is rest) p =
+    let size = eight_each bytes program p in
+    rest (omega arith)
+no_program spelling lawless number bytes e program (empty is size) p =
+    let long = eight_each bytes program p in
+    let some = p.lawful.some in
+    omega arith
+no_program spelling lawless number bytes e program (long is rest size) p =
+    let long = eight_each bytes program p in
+    let short = p.lawful.short in
+    omega arith
+no_program spelling lawless number bytes e program (spoken s) p =
+    faulty spelling lawless bytes s.fault program s.spelled p
 
 -- A file that is refused spells no lawful program.
 pub refused_no_program : OneSpelling → FaultsAreNot → (number : ℕ) (bytes : List ℕ) (e : Fault) (program : List Insn)
     → IsRefusalOf number bytes e → SpellsProgram bytes program → ⊥
-refused_no_program spelling none number bytes (faults.Ragged f) program r p =
-    let size = eight_each bytes program p in
-    let rest : (8 * length program) % 8 ≡ 0 = omega arith in
-    r.1 (ap (λ n. n % 8) size ∙ rest)
-refused_no_program spelling none number bytes (faults.Empty f) program r p =
-    let size = eight_each bytes program p in
-    let some = p.lawful.some in
-    omega arith
-refused_no_program spelling none number bytes (faults.TooLong f) program r p =
-    let size = eight_each bytes program p in
-    let short = p.lawful.short in
-    omega arith
-refused_no_program spelling none number bytes (faults.Code f at) program r p =
-    faulty spelling none bytes _ program r.1 p
-refused_no_program spelling none number bytes (faults.Field f at) program r p =
-    faulty spelling none bytes _ program r.1 p
-refused_no_program spelling none number bytes (faults.Jump f at) program r p =
-    faulty spelling none bytes _ program r.1 p
-refused_no_program spelling none number bytes (faults.Last f) program r p = faulty spelling none bytes _ program r.1 p
-refused_no_program spelling none number bytes (faults.Scratch f at) program r p =
-    faulty spelling none bytes _ program r.1 p
-refused_no_program spelling none number bytes _ program r p = absurd r
+refused_no_program spelling lawless number bytes e program r p =
+    no_program spelling lawless number bytes e program (kind_of number bytes e r) p
 
 -- the file at a place spells a lawful program
 pub program_at : (files : List (List ℕ)) (programs : List (List Insn)) (place : ℕ) (file : List ℕ)
@@ -96,40 +135,44 @@ program_at (f ∷ files) (g ∷ programs) (suc place) file at p = program_at fil
 
 pub file_no_stack : OneSpelling → FaultsAreNot → (files : List (List ℕ)) (e : Fault) (programs : List (List Insn))
     → IsFileRefusal files e → SpellPrograms files programs → ⊥
-file_no_stack spelling none files e programs r p =
+file_no_stack spelling lawless files e programs r p =
     let (program, spelled) = program_at files programs r.place r.file r.at p in
-    refused_no_program spelling none (r.place + 1) r.file e program r.refused spelled
+    refused_no_program spelling lawless (r.place + 1) r.file e program r.refused spelled
 
+-- a refusal by the number of files, of one file, or by the path through all
+pub data StackKind (files : List (List ℕ)) (e : Fault) : Type 0 where
+  none : e ≡ faults.NoFilter → length files ≡ 0 → StackKind files e
+  many : e ≡ faults.TooMany → 64 < length files → StackKind files e
+  path : e ≡ faults.PathLength → AreFew files → SpellLongPath files → StackKind files e
+  file : AreFew files → IsFileRefusal files e → StackKind files e
+
+pub stack_kind : (files : List (List ℕ)) (e : Fault) → IsFirstRefusal files e → StackKind files e
+stack_kind files faults.NoFilter r = none refl r
+stack_kind files faults.TooMany r = many refl r
+stack_kind files faults.PathLength r = path refl r.0 r.1
+stack_kind files _ r = file r.0 r.1
+
+no_stack : OneSpelling → FaultsAreNot → OneStack → (files : List (List ℕ)) (e : Fault) (programs : List (List Insn))
+    → StackKind files e → SpellStack files programs → ⊥
+no_stack spelling lawless one files e programs (none is count) s =
+    let same = as_many files programs s.spelled in
+    let some = s.lawful.some in
+    omega arith
+no_stack spelling lawless one files e programs (many is count) s =
+    let same = as_many files programs s.spelled in
+    let few = s.lawful.few in
+    omega arith
+no_stack spelling lawless one files e programs (path is few q) s =
+    let same = one files q.programs programs q.spelled s.spelled in
+    let long : 32768 < path_length programs = rw same at q.long in
+    let short = s.lawful.short in
+    omega arith
+no_stack spelling lawless one files e programs (file few q) s =
+    file_no_stack spelling lawless files e programs q s.spelled
+
+-- Files that are refused spell no lawful stack.
 pub refused_no_stack : OneSpelling → FaultsAreNot → OneStack
     → (files : List (List ℕ)) (e : Fault) (programs : List (List Insn)) → IsFirstRefusal files e
     → SpellStack files programs → ⊥
-refused_no_stack spelling none one files faults.NoFilter programs r s =
-    let count = as_many files programs s.spelled in
-    let some = s.lawful.some in
-    omega arith
-refused_no_stack spelling none one files faults.TooMany programs r s =
-    let count = as_many files programs s.spelled in
-    let few = s.lawful.few in
-    omega arith
-refused_no_stack spelling none one files faults.PathLength programs r s =
-    let same = one files r.1.programs programs r.1.spelled s.spelled in
-    let long : 32768 < path_length programs = rw same at r.1.long in
-    let short = s.lawful.short in
-    omega arith
-refused_no_stack spelling none one files (faults.Ragged f) programs r s =
-    file_no_stack spelling none files _ programs r.1 s.spelled
-refused_no_stack spelling none one files (faults.Empty f) programs r s =
-    file_no_stack spelling none files _ programs r.1 s.spelled
-refused_no_stack spelling none one files (faults.TooLong f) programs r s =
-    file_no_stack spelling none files _ programs r.1 s.spelled
-refused_no_stack spelling none one files (faults.Code f at) programs r s =
-    file_no_stack spelling none files _ programs r.1 s.spelled
-refused_no_stack spelling none one files (faults.Field f at) programs r s =
-    file_no_stack spelling none files _ programs r.1 s.spelled
-refused_no_stack spelling none one files (faults.Jump f at) programs r s =
-    file_no_stack spelling none files _ programs r.1 s.spelled
-refused_no_stack spelling none one files (faults.Last f) programs r s =
-    file_no_stack spelling none files _ programs r.1 s.spelled
-refused_no_stack spelling none one files (faults.Scratch f at) programs r s =
-    file_no_stack spelling none files _ programs r.1 s.spelled
-refused_no_stack spelling none one files _ programs r s = file_no_stack spelling none files _ programs r.1 s.spelled
+refused_no_stack spelling lawless one files e programs r s =
+    no_stack spelling lawless one files e programs (stack_kind files e r) s

@@ -8,30 +8,22 @@ use Rattle.std.specs.Str.{bytes_eq}
 use Rattle.toml.specs.Data.{Data, no_members, as_str, as_table}
 use Rattle.toml.specs.View.{view, items_view, members_view}
 use Rattle.toml.specs.declared.value.Value.{Value}
-use Rattle.sf_policy.specs.Keys.{has_only, question_keys, top_keys, mask_keys}
+use Rattle.sf_policy.specs.Keys.{has_only, question_keys}
 use Rattle.sf_policy.specs.Trees.{option_cons, each_of, item_list, texts_of, tables_of}
 use Rattle.sf_policy.specs.Words.{entry_of_array}
 use Rattle.sf_policy.specs.Encoding.{text_or_empty, table_or_empty}
-use Rattle.sf_policy.specs.declared.policy.keys.TheConstants.{QUESTION_KEYS, TOP_KEYS, MASK_KEYS}
+use Rattle.sf_policy.specs.declared.policy.keys.TheConstants.{QUESTION_KEYS}
 
-has_only_view : (keys : List (List ℕ)) (es : List (String Global × Value))
+pub has_only_view : (keys : List (List ℕ)) (es : List (String Global × Value))
     → has_only keys (members_view es) ≡ list_all (λ key. list_any (bytes_eq (string_bytes key)) keys) (keys_of es)
 has_only_view keys [] = refl
 has_only_view keys (e ∷ es) = ap (λ b. list_any (bytes_eq (string_bytes e.0)) keys && b) (has_only_view keys es)
 
+-- For the prover: it doesn't find this one, of eighteen keys, by `has_only_view`.
 pub has_only_question_keys : (es : List (String Global × Value))
     → has_only question_keys (members_view es)
     ≡ list_all (λ key. list_any (λ k. bytes_eq (string_bytes key) k.now) QUESTION_KEYS) (keys_of es)
 has_only_question_keys es = has_only_view question_keys es
-
-pub has_only_top_keys : (es : List (String Global × Value)) → has_only top_keys (members_view es)
-    ≡ list_all (λ key. list_any (λ k. bytes_eq (string_bytes key) k.now) TOP_KEYS) (keys_of es)
-has_only_top_keys es = has_only_view top_keys es
-
-pub has_only_mask_keys : (es : List (String Global × Value))
-    → has_only mask_keys (members_view es) ≡ list_all
-    (λ key. list_any (λ k. bytes_eq (string_bytes key) k.now) MASK_KEYS) (keys_of es)
-has_only_mask_keys es = has_only_view mask_keys es
 
 pub short_array : (vs : List Value) → length vs < 2 → None ≡ entry_of_array (items_view vs)
 short_array [] h = refl
@@ -86,9 +78,6 @@ tables_view vs h = ap (λ ds. each_of as_table ds) (listed_view vs) ∙ each_rea
 pub no_tables_view : (vs : List Value) → list_all (λ v. is_some (as_table (view v))) vs ≡ false
     → tables_of (items_view vs) ≡ None
 no_tables_view vs h = ap (λ ds. each_of as_table ds) (listed_view vs) ∙ one_unread as_table vs h
-
-pub count_view : (vs : List Value) → length (map (λ v. table_or_empty (view v)) vs) ≡ length vs
-count_view vs = length-map vs (λ v. table_or_empty (view v))
 
 -- what was read of the first ones, in front of what is read of the others
 abbrev pub with_front : {X : Type 0} → List X → Option (List X) → Option (List X)

@@ -1,6 +1,6 @@
 -- How an entry is handed to `Question::of_masked`, which refuses it where that is due: an unknown action is handed in
 -- as the empty set. And what is wrong with an entry that has a number outside 32 bits, which can't be handed in.
-use Rattle.std.specs.Prelude.{ℕ, ℤ, pos, negsuc, ◌^◌, false, Option, Some, None, nat_lt, if◌then◌else◌, List, [], map, unwrap_or, Result, Ok, Err}
+use Rattle.std.specs.Prelude.{ℕ, false, Option, Some, None, if◌then◌else◌, List, [], map, unwrap_or, Result, Ok, Err}
 use Rattle.std.specs.List.{list_all}
 use Rattle.toml.specs.Data.{Data, as_str, as_table, Members, no_members}
 use Rattle.sf_ask.specs.declared.fault.Fault.{Fault as AskFault}
@@ -14,19 +14,9 @@ use Rattle.sf_policy.specs.declared.policy.words.WordEntry.{WordEntry}
 use Rattle.sf_policy.specs.Actions.{are_actions, set_of}
 use Rattle.sf_policy.specs.Words.{has_words, range_of, mask_of}
 
--- the number, where it is one of 32 bits
-abbrev pub word_in : ℤ → Option ℕ
-word_in (pos n) = if nat_lt n (2 ^ 32) then Some n else None
-word_in (negsuc n) = None
-
--- the ends of a range, and a mask and its value, where all four numbers are there
-abbrev pub four_of : Option ℕ → Option ℕ → Option ℕ → Option ℕ → Option ((ℕ × ℕ) × (ℕ × ℕ))
-four_of (Some low) (Some high) (Some mask) (Some value) = Some ((low, high), (mask, value))
-four_of _ _ _ _ = None
-
--- the ends, the mask and the value of an entry, where all its numbers are of 32 bits
+-- the range and the mask of an entry, where all its numbers are of 32 bits
 abbrev pub numbers_in : WordEntry → Option ((ℕ × ℕ) × (ℕ × ℕ))
-numbers_in w = four_of (word_in w.low) (word_in w.high) (word_in w.mask) (word_in w.value)
+numbers_in w = if has_words w then Some (range_of w, mask_of w) else None
 
 -- the ranges and the masks of entries, where all their numbers are of 32 bits
 abbrev pub ranges_and_masks : List WordEntry → Option (List (ℕ × ℕ) × List (ℕ × ℕ))

@@ -1,8 +1,8 @@
 //! The file that names the questions which may be allowed.
 
-ghost use Rattle.std.specs.Prelude.{◌≡◌, ◌⊎◌, ◌+◌, ◌++◌, ℕ, true, length, map, string_bytes, IfOk, IfErr, OnOk};
+ghost use Rattle.std.specs.Prelude.{◌≡◌, ◌⊎◌, ◌+◌, ℕ, map, string_bytes, IfOk, IfErr};
 ghost use Rattle.std.specs.Str.Lines.{lines};
-ghost use Rattle.sf_policy.specs.Accepted.{AreAccepted, IsMisfitAt, is_comment, is_name_once, is_one_name, line_fits, words_of_line};
+ghost use Rattle.sf_policy.specs.Accepted.{AreAccepted, IsMisfitAt, is_comment, is_name_once, words_of_line};
 ghost use Rattle.sf_policy.specs.declared.fault.Fault.TheVariants.{Accepted as AcceptedFault, Memory as MemoryFault};
 
 use crate::fault::Fault;
@@ -41,45 +41,6 @@ fn is_name_once(questions: &[Question], name: &str) -> bool
     named.count() == 1
 }
 
-/// Whether words are the name of one of the questions, or none.
-fn is_one_name(questions: &[Question], words: &[&str]) -> bool
-    ensures { result ≡ is_one_name questions.now (map (λ t. t.now) words.now) }
-{
-    match words {
-        [] => true,
-        [name] => is_name_once(questions, name),
-        _ => false,
-    }
-}
-
-/// Adds the words. An error where an allocation is refused.
-fn push_words(alloc: Global, names: &mut Vec<String>, words: &[&str]) -> Result<(), AllocError>
-    ensures { OnOk result (map string_bytes names.new.items
-        ≡ map string_bytes names.old.items ++ map (λ t. t.now) words.now) }
-{
-    for word in words {
-        names.push(String::from_str(alloc, word)?)?;
-    }
-    Ok(())
-}
-
-/// Adds the name on a line, if there is one, and answers whether the line names one of the questions, or none. An error where
-/// an allocation is refused.
-fn add_line(
-    alloc: Global,
-    names: &mut Vec<String>,
-    questions: &[Question],
-    line: &str,
-) -> Result<bool, AllocError>
-    ensures fits { IfOk result (λ fits. fits ≡ line_fits questions.now line.now) }
-    ensures added { OnOk result (map string_bytes names.new.items
-        ≡ map string_bytes names.old.items ++ words_of_line line.now) }
-{
-    let words = words_of_line(alloc, line)?;
-    push_words(alloc, names, words.as_slice())?;
-    Ok(is_one_name(questions, words.as_slice()))
-}
-
 /// The names of the questions that may be allowed, by the text of their file: each line has one name or none, and a `#` at
 /// its beginning or after a space begins a comment.
 ///
@@ -99,8 +60,13 @@ pub fn read_accepted(
     let lines = lines_of(alloc, text)?;
     let mut names = Vec::new(alloc);
     for (place, line) in lines.iter().enumerate() {
-        if !add_line(alloc, &mut names, questions, line)? {
-            return Err(Fault::Accepted { line: place + 1 });
+        let words = words_of_line(alloc, line)?;
+        match words.as_slice() {
+            [] => {}
+            [name] if is_name_once(questions, name) => {
+                names.push(String::from_str(alloc, name)?)?;
+            }
+            _ => return Err(Fault::Accepted { line: place + 1 }),
         }
     }
     Ok(names)

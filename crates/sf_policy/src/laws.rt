@@ -9,6 +9,7 @@ use sf_check::laws::{a_fault_spells_no_lawful_program, one_first_fault, one_prog
 use sf_insn::laws::one_spelling;
 
 /// Filter files spell at most one list of lawful programs.
+#[tactic(auto, using(crate::proofs::RefusalLemmas::same_programs))]
 pub fn one_stack()
     ensures { (files : List (List ℕ)) (a b : List (List Insn)) →
         SpellPrograms files a → SpellPrograms files b → a ≡ b }
@@ -17,6 +18,7 @@ pub fn one_stack()
 }
 
 /// Filter files with a first refusal spell no lawful stack, so `stack_of` accepts exactly those that spell one.
+#[tactic(auto, using(crate::proofs::RefusalLemmas::refused_no_stack))]
 pub fn a_refusal_spells_no_stack()
     ensures { (files : List (List ℕ)) (e : Fault) (programs : List (List Insn)) →
         IsFirstRefusal files e → SpellStack files programs → ⊥ }
@@ -27,6 +29,7 @@ pub fn a_refusal_spells_no_stack()
 }
 
 /// Filter files have at most one first refusal, so `stack_of` answers the only one.
+#[tactic(auto, using(crate::proofs::OneRefusal::same_refusal))]
 pub fn one_refusal()
     ensures { (files : List (List ℕ)) (e f : Fault) → IsFirstRefusal files e
         → IsFirstRefusal files f → e ≡ f }

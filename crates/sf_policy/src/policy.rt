@@ -6,15 +6,15 @@ mod questions;
 mod refusal;
 mod words;
 
-ghost use Rattle.std.specs.Prelude.{◌≡◌, ◌⊎◌, Some, None, Err, is_some, codes, map};
+ghost use Rattle.std.specs.Prelude.{◌≡◌, ◌⊎◌, Some, None, Err, is_some, codes, map, option_map};
 ghost use Rattle.std.specs.List.{list_all};
 ghost use Rattle.toml.specs.Data.{Members, as_table};
 ghost use Rattle.toml.specs.Parse.{parse_document};
-ghost use Rattle.toml.specs.View.{view, items_view, table_view};
+ghost use Rattle.toml.specs.View.{view, table_view};
 ghost use Rattle.sf_policy.specs.Faults.{Gives, without_place};
 ghost use Rattle.sf_policy.specs.Encoding.{table_or_empty};
-ghost use Rattle.sf_policy.specs.Trees.{number_at, tables_of};
-ghost use Rattle.sf_policy.specs.Policies.{version_of, tables_of_value, questions_counted, questions_where_tables, policy_of};
+ghost use Rattle.sf_policy.specs.Trees.{number_at};
+ghost use Rattle.sf_policy.specs.Policies.{version_of, tables_of_value, policy_of};
 
 use crate::MOST_QUESTIONS;
 use crate::fault::Fault;
@@ -51,85 +51,37 @@ fn are_tables(items: &[Value]) -> bool
     items.iter().all(|value| value.is_table())
 }
 
-/// The questions of a list of tables. `Count` where there is none or more than 256; then what `questions_in` refuses.
-#[tactic(auto, using(crate::proofs::TreeLemmas::count_view))]
-fn questions_counted(
-    alloc: Global,
-    version: Version,
-    items: &[Value],
-) -> Result<Vec<Question>, Fault>
-    ensures { Gives (λ v. v.items) result (questions_counted version
-        (map (λ v. table_or_empty (view v)) items.now)) }
+/// The values of an array of tables; none where the value is no array, or one of these is no table.
+#[tactic(auto, using(crate::proofs::TreeLemmas::tables_view, crate::proofs::TreeLemmas::no_tables_view))]
+fn tables_in(value: &Value) -> Option<&[Value]>
+    ensures { option_map (λ vs. map (λ v. table_or_empty (view v)) vs.now) result
+        ≡ tables_of_value (view value.now) }
 {
+    let items = value.as_array()?;
+    if are_tables(items) { Some(items) } else { None }
+}
+
+/// The questions of a policy's tree. `Version`; then `TopKey` where a key at the top is unknown; `Count` where the
+/// questions are missing; `TopKey` where they are no array of tables; `Count` where there is none or more than 256; then
+/// what `questions_in` refuses.
+fn policy_of_table(alloc: Global, table: &Table) -> Result<Vec<Question>, Fault>
+    ensures { Gives (λ v. v.items) result (policy_of (table_view table.now)) }
+{
+    let version = version_in(table).ok_or(Fault::Version)?;
+    if !has_top_keys(table) {
+        return Err(Fault::TopKey);
+    }
+    let value = value_at(table, "question").ok_or(Fault::Count)?;
+    let items = tables_in(value).ok_or(Fault::TopKey)?;
     if items.is_empty() || MOST_QUESTIONS < items.len() {
         return Err(Fault::Count);
     }
     questions_in(alloc, version, items)
 }
 
-/// The questions of an array. `TopKey` where some value is no table; then what `questions_counted` refuses.
-fn questions_of_items(
-    alloc: Global,
-    version: Version,
-    items: &[Value],
-) -> Result<Vec<Question>, Fault>
-    ensures { Gives (λ v. v.items) result (questions_where_tables version
-        (tables_of (items_view items.now))) }
-{
-    if are_tables(items) {
-        questions_counted(alloc, version, items)
-    } else {
-        Err(Fault::TopKey)
-    }
-}
-
-/// The questions of a value. `TopKey` where it is no array of tables; then what `questions_counted` refuses.
-fn questions_of_value(
-    alloc: Global,
-    version: Version,
-    value: &Value,
-) -> Result<Vec<Question>, Fault>
-    ensures { Gives (λ v. v.items) result (questions_where_tables version
-        (tables_of_value (view value.now))) }
-{
-    match value {
-        Value::Array(items) => questions_of_items(alloc, version, items),
-        _ => Err(Fault::TopKey),
-    }
-}
-
-/// The questions of a policy's tree. `Version`; then `TopKey` where a key at the top is unknown; then `Count` where the
-/// questions are missing, or what `questions_of_value` refuses.
-fn policy_of_table(alloc: Global, table: &Table) -> Result<Vec<Question>, Fault>
-    ensures { Gives (λ v. v.items) result (policy_of (table_view table.now)) }
-{
-    let Some(version) = version_in(table) else {
-        return Err(Fault::Version);
-    };
-    if !has_top_keys(table) {
-        return Err(Fault::TopKey);
-    }
-    match value_at(table, "question") {
-        Some(value) => questions_of_value(alloc, version, value),
-        None => Err(Fault::Count),
-    }
-}
-
-/// The questions of a policy's tree; or the fault for which they are refused, with the tree.
-fn questions_or_refusal(alloc: Global, table: Table) -> Result<Vec<Question>, Refusal>
-    ensures { Gives (λ v. v.items) (without_place result) (policy_of (table_view table)) }
-{
-    match policy_of_table(alloc, &table) {
-        Ok(questions) => Ok(questions),
-        Err(fault) => Err(Refusal {
-            fault,
-            read: Ok(table),
-        }),
-    }
-}
-
 /// The questions of a policy file, as `read_policy` reads them. A refusal has the fault that `read_policy` answers, and
 /// what was read of the file, from which a person can be told where the fault lies.
+#[tactic(auto, using(crate::proofs::NeverSyntax::not_syntax))]
 pub fn read_policy_at(alloc: Global, text: &str) -> Result<Vec<Question>, Refusal>
     // Where the text is TOML, the questions or the refusal are those of its tree.
     ensures read { (tree : Members) → parse_document text.now ≡ Some tree
@@ -143,7 +95,10 @@ pub fn read_policy_at(alloc: Global, text: &str) -> Result<Vec<Question>, Refusa
         ⊎ (without_place result ≡ Err Fault.Memory) }
 {
     match toml::table_from_str(alloc, text) {
-        Ok(table) => questions_or_refusal(alloc, table),
+        Ok(table) => policy_of_table(alloc, &table).map_err(|fault| Refusal {
+            fault,
+            read: Ok(table),
+        }),
         Err(error) => {
             let fault = if error.is_memory() {
                 Fault::Memory

@@ -4,8 +4,7 @@ ghost use Rattle.std.specs.Prelude.{◌≡◌, option_map, is_some, codes, map};
 ghost use Rattle.std.specs.List.{list_any, list_all};
 ghost use Rattle.std.specs.Str.{bytes_eq};
 ghost use Rattle.toml.specs.Data.{get_member, as_str};
-ghost use Rattle.toml.specs.View.{view, items_view, table_view};
-ghost use Rattle.sf_policy.specs.Trees.{texts_of};
+ghost use Rattle.toml.specs.View.{view, table_view};
 ghost use Rattle.sf_policy.specs.Actions.{is_action, are_actions, texts_of_value, names_at};
 ghost use Rattle.sf_policy.specs.Encoding.{encoded_set, text_or_empty};
 
@@ -90,25 +89,16 @@ fn set_from(items: &[Value]) -> ActionSet
     }
 }
 
-/// The set of the actions that an array of texts names, as `set_from` makes it; none where a value is no text.
+/// The set of the actions that a value names, as `set_from` makes it; none where it is no array of texts.
 #[tactic(auto, using(crate::proofs::TreeLemmas::texts_view, crate::proofs::TreeLemmas::no_texts_view))]
-fn set_in_items(items: &[Value]) -> Option<ActionSet>
-    ensures { result ≡ option_map encoded_set (texts_of (items_view items.now)) }
+fn set_in(value: &Value) -> Option<ActionSet>
+    ensures { result ≡ option_map encoded_set (texts_of_value (view value.now)) }
 {
+    let items = value.as_array()?;
     if are_texts(items) {
         Some(set_from(items))
     } else {
         None
-    }
-}
-
-/// The set of the actions that a value names, as `set_from` makes it; none where it is no array of texts.
-fn set_in(value: &Value) -> Option<ActionSet>
-    ensures { result ≡ option_map encoded_set (texts_of_value (view value.now)) }
-{
-    match value {
-        Value::Array(items) => set_in_items(items),
-        _ => None,
     }
 }
 

@@ -30,6 +30,7 @@ pub(crate) const TOP_KEYS: [&str; 2] = ["version", "question"];
 const MASK_KEYS: [&str; 4] = ["mask", "value", "low", "high"];
 
 /// The value at a key; none where the key is missing.
+#[tactic(auto, using(toml::proofs::Views::table_get))]
 pub(crate) fn value_at<'a>(table: &'a Table, key: &str) -> Option<&'a Value>
     ensures { option_map (λ v. view v.now) result ≡ get_member key.now (table_view table.now) }
 {
@@ -84,7 +85,7 @@ pub(crate) fn has_question_keys(table: &Table) -> bool
 }
 
 /// Whether a table has only keys that may stand at the top of a policy.
-#[tactic(auto, using(crate::proofs::TreeLemmas::has_only_top_keys))]
+#[tactic(auto, using(crate::proofs::TreeLemmas::has_only_view))]
 pub(crate) fn has_top_keys(table: &Table) -> bool
     ensures { result ≡ has_only top_keys (table_view table.now) }
 {
@@ -92,7 +93,7 @@ pub(crate) fn has_top_keys(table: &Table) -> bool
 }
 
 /// Whether a table has only keys that may stand in the table of a word.
-#[tactic(auto, using(crate::proofs::TreeLemmas::has_only_mask_keys))]
+#[tactic(auto, using(crate::proofs::TreeLemmas::has_only_view))]
 pub(crate) fn has_mask_keys(table: &Table) -> bool
     ensures { result ≡ has_only mask_keys (table_view table.now) }
 {

@@ -62,6 +62,7 @@ fn question_of_parts(
 
 /// The question of a table. `Key` where a key is unknown, the name is missing, or a value is of a wrong kind; then what
 /// `question_of_parts` refuses. `number` is the question's, from 1.
+#[tactic(auto, using(crate::proofs::EntryLemmas::table_due))]
 pub(super) fn question_of_table(
     alloc: Global,
     version: Version,
@@ -70,38 +71,18 @@ pub(super) fn question_of_table(
 ) -> Result<Question, Fault>
     ensures { Gives (λ q. q) result (question_of_table version number (table_view table.now)) }
 {
+    let key = Fault::Key { question: number };
     if !has_question_keys(table) {
-        return Err(Fault::Key { question: number });
+        return Err(key);
     }
-    let Some(name) = text_in(table, "name") else {
-        return Err(Fault::Key { question: number });
-    };
-    let Some(entries) = entries_in(version, table) else {
-        return Err(Fault::Key { question: number });
-    };
-    let Some(actions) = actions_in(table) else {
-        return Err(Fault::Key { question: number });
-    };
+    let name = text_in(table, "name").ok_or(key)?;
+    let entries = entries_in(version, table).ok_or(key)?;
+    let actions = actions_in(table).ok_or(key)?;
     question_of_parts(alloc, number, name, &entries, actions)
 }
 
-/// The question of a value. `Key` where it is no table; then what `question_of_table` refuses.
-fn question_of_value(
-    alloc: Global,
-    version: Version,
-    number: usize,
-    value: &Value,
-) -> Result<Question, Fault>
-    ensures { Gives (λ q. q) result (question_of_table version number
-        (table_or_empty (view value.now))) }
-{
-    match value {
-        Value::Table(table) => question_of_table(alloc, version, number, table),
-        _ => Err(Fault::Key { question: number }),
-    }
-}
-
-/// The questions of an array's tables, in order. The refusal is that of the first question that is refused.
+/// The questions of an array's tables, in order. The refusal is that of the first question that is refused: `Key` where
+/// it is no table, or what `question_of_table` refuses.
 pub(super) fn questions_in(
     alloc: Global,
     version: Version,
@@ -113,8 +94,9 @@ pub(super) fn questions_in(
 {
     let mut questions = Vec::new(alloc);
     for (i, value) in items.iter().enumerate() {
-        let question = question_of_value(alloc, version, i + 1, value)?;
-        questions.push(question)?;
+        let number = i + 1;
+        let table = value.as_table().ok_or(Fault::Key { question: number })?;
+        questions.push(question_of_table(alloc, version, number, table)?)?;
     }
     Ok(questions)
 }

@@ -5,8 +5,8 @@ ghost use Rattle.toml.specs.Data.{get_member};
 ghost use Rattle.toml.specs.View.{view, items_view, table_view};
 ghost use Rattle.sf_policy.specs.Keys.{word_keys};
 ghost use Rattle.sf_policy.specs.Trees.{each_of};
-ghost use Rattle.sf_policy.specs.Words.{between, entry_of_array, entry_of_table, entry_of_versioned, entry_of, entry_at};
-ghost use Rattle.sf_policy.specs.Encoding.{word_in, numbers_in, ranges_and_masks};
+ghost use Rattle.sf_policy.specs.Words.{between, entry_of_array, entry_of_table, entry_of, entry_at};
+ghost use Rattle.sf_policy.specs.Encoding.{numbers_in, ranges_and_masks};
 
 use super::Version;
 use super::keys::{WORD_KEYS, has_mask_keys, number_in, number_in_or, value_at};
@@ -49,6 +49,7 @@ fn range_entry(low: i64, high: i64) -> WordEntry
 }
 
 /// The entry of an array, which has the two ends of a range; none where it is another array.
+#[tactic(auto, using(crate::proofs::TreeLemmas::short_array, crate::proofs::TreeLemmas::long_array))]
 fn array_entry(items: &[Value]) -> Option<WordEntry>
     ensures { result ≡ entry_of_array (items_view items.now) }
 {
@@ -74,24 +75,17 @@ fn table_entry(table: &Table) -> Option<WordEntry>
     })
 }
 
-/// The entry of a table in a policy of this version; none in version 1, which has no such tables.
-fn versioned_entry(version: Version, table: &Table) -> Option<WordEntry>
-    ensures { result ≡ entry_of_versioned version (table_view table.now) }
-{
-    match version {
-        Version::One => None,
-        Version::Two => table_entry(table),
-    }
-}
-
-/// The entry of a word's value; none where it is of a wrong kind.
+/// The entry of a word's value; none where it is of a wrong kind. Only a policy of version 2 may have tables.
 fn value_entry(version: Version, value: &Value) -> Option<WordEntry>
     ensures { result ≡ entry_of version (view value.now) }
 {
     match value {
         Value::Integer(number) => Some(range_entry(*number, *number)),
         Value::Array(items) => array_entry(items),
-        Value::Table(table) => versioned_entry(version, table),
+        Value::Table(table) => match version {
+            Version::One => None,
+            Version::Two => table_entry(table),
+        },
         _ => None,
     }
 }
@@ -107,7 +101,7 @@ fn entry_in(version: Version, table: &Table, key: &str) -> Option<WordEntry>
 }
 
 /// The entries of the words with these sixteen keys in a question's table; none where one of the values is of a wrong
-/// kind.
+/// kind. For the prover: the keys are an argument, so that it doesn't compute with them.
 fn entries_at(version: Version, table: &Table, keys: &[&str; 16]) -> Option<[WordEntry; 16]>
     ensures { result ≡ each_of (λ key. entry_at version (get_member key (table_view table.now)))
         (map (λ key. key.now) keys.now) }
@@ -128,20 +122,13 @@ pub(super) fn entries_in(version: Version, table: &Table) -> Option<[WordEntry; 
     entries_at(version, table, &WORD_KEYS)
 }
 
-/// A number as a word; none where it isn't of 32 bits.
-fn word_from(number: i64) -> Option<u32>
-    ensures { result ≡ word_in number }
-{
-    u32::try_from(number).ok()
-}
-
 /// The ends of an entry's range, and then its mask and value; none where one of the four isn't of 32 bits.
 fn numbers_of(entry: WordEntry) -> Option<((u32, u32), (u32, u32))>
     ensures { result ≡ numbers_in entry }
 {
     Some((
-        (word_from(entry.low)?, word_from(entry.high)?),
-        (word_from(entry.mask)?, word_from(entry.value)?),
+        (entry.low.try_into().ok()?, entry.high.try_into().ok()?),
+        (entry.mask.try_into().ok()?, entry.value.try_into().ok()?),
     ))
 }
 

@@ -1,7 +1,0 @@
-use Rattle.std.proofs.Common.{arith}
-use Rattle.std.proofs.lemmas.Grind.{common_steps}
-use Rattle.sf_policy.proofs.NeverSyntax.{not_syntax}
-use Rattle.sf_policy.proofs.policy.read_policy_at.Goals as goal
-
-pub returns-in-Ok-clause-syntax : goal.returns-in-Ok-clause-syntax
-returns-in-Ok-clause-syntax c = grind (arith, common_steps, not_syntax)
