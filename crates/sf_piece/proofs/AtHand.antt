@@ -1,7 +1,7 @@
 -- The instruction at hand, the end, and the first piece.
 use Rattle.std.proofs.lemmas.Grind.{common_steps}
 use Rattle.std.proofs.Common.{◌≡◌, ℕ, zero, suc, ◌+◌, ◌-◌, ◌*◌, ◌<◌, ◌≤◌, ◌^◌, Bool, true, false, List, [], ◌∷◌, ◌++◌, length, drop, map, reverse, get_or, Option, Some, None, slice_get, refl, sym, ap, subst, ◌∙◌, inl, inr, arith, append-nil, length-drop}
-use Rattle.std.specs.Prelude.{option_map, replicate, if◌then◌else◌}
+use Rattle.std.specs.Prelude.{option_map, if◌then◌else◌}
 use Rattle.std.proofs.lemmas.List.{get_or-reverse, length-reverse}
 use Rattle.std.proofs.lemmas.Option.{same_Some, slice_get-get_or}
 use Rattle.std.proofs.Math.Nat.{pow-le-pow_right}
@@ -11,7 +11,6 @@ use Rattle.sf_insn.specs.Inputs.{IsInput}
 use Rattle.sf_check.specs.declared.insn.Insn.{Insn}
 use Rattle.sf_check.specs.Programs.{IsAt}
 use Rattle.sf_check.specs.Stacks.{IsLawfulStack}
-use Rattle.sf_run.specs.declared.action.Action.TheVariants.{Allow}
 use Rattle.sf_run.specs.Machine.{start}
 use Rattle.sf_run.specs.Answers.{IsAnswer}
 use Rattle.sf_run.specs.AnswerLaws.{answer_none}
@@ -22,7 +21,7 @@ use Rattle.sf_sym.specs.declared.pool.Node.{Node}
 use Rattle.sf_sym.specs.declared.pool.NodeId.{NodeId}
 use Rattle.sf_sym.specs.Pool.{IsPool, value_of}
 use Rattle.sf_dom.specs.Facts.{FactsView, Covers, Agrees}
-use Rattle.sf_piece.specs.declared.machine.SymbolicMachine.{SymbolicMachine}
+use Rattle.sf_piece.specs.Machines.{first_machine}
 use Rattle.sf_piece.specs.Pieces.{PieceData, is_member, IsRightAnswer, IsRoot}
 use Rattle.sf_piece.specs.SymbolicRun.{concrete_state, number_from, IsPending, StandsAt, IsPiece, IsLawfulPiece}
 use Rattle.sf_piece.specs.Works.{HasAtHand}
@@ -138,19 +137,6 @@ at_end p h over = by h.rest h.stands
         }
 
 -- ---- the first piece
-
-abbrev pub first_machine : NodeId → SymbolicMachine
-first_machine zero_id = record {
-  program = 0;
-  place = 0;
-  a = zero_id;
-  x = zero_id;
-  scratch = replicate 16 None;
-  zero = zero_id;
-  taken = 0;
-  value = 0;
-  so_far = record { action = Allow; info = 0 };
-}
 
 abbrev pub first_piece : List (List Insn) → List Node → NodeId → FactsView → PieceData
 first_piece stack pool zero_id fs = record {

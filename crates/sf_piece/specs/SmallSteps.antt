@@ -1,11 +1,20 @@
 -- What one instruction, or one truth value, makes of a piece.
+use Rattle.std.specs.Prelude.{◌≡◌, ℕ, ◌≤◌, length, true, false, Option, Some, None}
+use Rattle.sf_check.specs.declared.insn.Insn.{Insn}
+use Rattle.sf_sym.specs.Pool.{node_at}
+use Rattle.sf_sym.specs.declared.pool.Cond.{Cond}
+use Rattle.sf_sym.specs.declared.pool.Node.TheVariants.{Const}
+use Rattle.sf_piece.specs.declared.deciding.Decision.{Decision}
+use Rattle.sf_piece.specs.declared.deciding.Decision.TheVariants.{Implied, Neither}
+use Rattle.sf_piece.specs.declared.deciding.Decision.TheVariants as decided
 use Rattle.sf_piece.specs.declared.deciding.SmallStep.{SmallStep}
 use Rattle.sf_piece.specs.declared.deciding.SmallStep.TheVariants.{On, Split, Settled, Empty}
 use Rattle.sf_piece.specs.Pieces.{PieceData, IsRightSplit, IsRightAnswer, HasNoMember}
 use Rattle.sf_check.specs.Stacks.{IsPlain}
+use Rattle.sf_piece.specs.Execution.{HasNoTwins, LeavesOnly, LeavesNeither, IsSide, IsNamedOn, GoesOnFor, SplitsInto, IsEmptied}
 use Rattle.sf_piece.specs.PlainPieces.{IsPlainPiece}
 use Rattle.sf_piece.specs.SymbolicRun.{IsLawfulPiece}
-use Rattle.sf_piece.specs.Works.{HasAdvanced}
+use Rattle.sf_piece.specs.Works.{HasAdvanced, IsForeseen}
 
 -- after the instruction or truth value the piece goes on as the second one, is split, is settled, or has no member
 abbrev pub IsSmallStep : PieceData → PieceData → SmallStep → Type 0
@@ -14,3 +23,42 @@ IsSmallStep p q (Split f t) = IsRightSplit p f.value t.value
     × (IsPlain p.stack → IsPlainPiece f.value × IsPlainPiece t.value)
 IsSmallStep p q Settled = IsRightAnswer p q.name q.machine.so_far
 IsSmallStep p q Empty = HasNoMember p
+
+-- what an instruction that makes a word leaves: the next piece, or nothing where a word contradicts
+abbrev pub IsMade : (Option PieceData → Type 0) → PieceData → SmallStep → Type 0
+IsMade makes q On = makes (Some q)
+IsMade makes q Empty = makes None
+IsMade makes q (Split f t) = ⊥
+IsMade makes q Settled = ⊥
+
+-- what the rules need of a piece: no node stands twice in its pool, and the node that is 0 is a constant
+pub record IsTidy (p : PieceData) : Type 0 where
+  pub twins : HasNoTwins p.pool
+  pub zero : node_at p.pool p.machine.zero.0 ≡ Const 0
+
+-- what an instruction or a truth value makes of a piece, by the rules
+abbrev pub IsExecuted : PieceData → PieceData → SmallStep → Type 0
+IsExecuted p q On = (n : ℕ) × GoesOnFor n p q
+IsExecuted p q (Split f t) = SplitsInto p f.value t.value
+IsExecuted p q Settled = (q ≡ p) × (length p.stack ≤ p.machine.program)
+IsExecuted p q Empty = IsEmptied p
+
+-- what the rules leave of a query: both truth values, one that is implied, or neither
+abbrev pub IsDecision : PieceData × Cond → Insn → Decision → Type 0
+IsDecision asked i (decided.Split f t) = IsSide asked i false f.value × IsSide asked i true t.value
+IsDecision asked i (Implied b) = LeavesOnly asked b
+IsDecision asked i Neither = LeavesNeither asked
+
+-- what is right of a truth value: both pieces are, or every member has it, or there is none
+abbrev pub IsRightDecision : PieceData → Insn → Decision → Type 0
+IsRightDecision p i (decided.Split f t) = IsRightSplit p f.value t.value
+    × (IsPlain p.stack → IsPlainPiece f.value × IsPlainPiece t.value)
+IsRightDecision p i (Implied b) = IsForeseen p i b
+IsRightDecision p i Neither = HasNoMember p
+
+-- the piece goes on as was decided
+abbrev pub IsCarriedOut : PieceData → Insn → Decision → PieceData → SmallStep → Type 0
+IsCarriedOut p i (decided.Split f t) q (Split g u) = (f.value ≡ g.value) × (t.value ≡ u.value)
+IsCarriedOut p i (Implied b) q On = IsNamedOn p i b q
+IsCarriedOut p i Neither q Empty = Unit {0}
+IsCarriedOut p i _ q _ = ⊥

@@ -1,9 +1,8 @@
 -- The parts of a step of the symbolic run, for contracts between the functions that work a piece. Nothing above this
 -- crate speaks of these.
-use Rattle.std.specs.Prelude.{◌≡◌, ℕ, zero, suc, ◌+◌, ◌-◌, ◌*◌, ◌&&◌, ◌<◌, ◌≤◌, ◌^◌, ◌⊎◌, Bool, true, false, List, [], ◌∷◌, ◌++◌, length, get_or, replicate, Some, slice_get, if◌then◌else◌, ◌==◌}
+use Rattle.std.specs.Prelude.{◌≡◌, ℕ, zero, suc, ◌+◌, ◌-◌, ◌*◌, ◌&&◌, ◌<◌, ◌≤◌, ◌^◌, ◌⊎◌, Bool, true, false, List, [], ◌∷◌, ◌++◌, length, replicate, Some, slice_get}
 use Rattle.sf_insn.specs.declared.input.Input.{Input}
 use Rattle.sf_insn.specs.Inputs.{IsInput}
-use Rattle.sf_insn.specs.declared.ops.BinOp.{BinOp}
 use Rattle.sf_insn.specs.declared.ops.BinOp.TheVariants.{Div}
 use Rattle.sf_insn.specs.declared.ops.Test.{Test}
 use Rattle.sf_insn.specs.declared.ops.Test.TheVariants.{Equal}
@@ -29,7 +28,7 @@ use Rattle.sf_dom.specs.GoingBack.{GoingBackGives}
 use Rattle.sf_dom.specs.Learning.{LearnsBy}
 use Rattle.sf_dom.specs.Facts.{IsPlainCondition}
 use Rattle.sf_piece.specs.declared.machine.SymbolicMachine.{SymbolicMachine}
-use Rattle.sf_piece.specs.Machines.{after_return}
+pub use Rattle.sf_piece.specs.Execution.{code_at, with_sense, AfterTruthValue, divides_at}
 use Rattle.sf_piece.specs.Pieces.{PieceData, is_member, IsTrulyNamed}
 use Rattle.sf_piece.specs.PlainPieces.{IsPlainPiece}
 use Rattle.sf_piece.specs.SymbolicRun.{AreNodesBelow, IsLawfulPiece, StandsAt, met_of, concrete_state}
@@ -55,10 +54,6 @@ pub record HasAtHand (p : PieceData) (i : Insn) : Type 0 where
   pub set : (k : ℕ) → loaded_by i ≡ Some k → (w : NodeId) × (slice_get p.machine.scratch k ≡ Some (Some w))
   pub taken : p.machine.taken ≤ 32
   pub value : p.machine.taken < 32 → p.machine.value < 2 ^ 31
-
--- the instructions of the program that runs
-abbrev pub code_at : PieceData → List Insn
-code_at p = get_or p.stack (length p.stack - 1 - p.machine.program) []
 
 -- these are the instructions of the program that runs, and the place is among them
 pub record IsCodeAtHand (p : PieceData) (code : List Insn) : Type 0 where
@@ -221,22 +216,6 @@ pub record IsForeseen (p : PieceData) (i : Insn) (b : Bool) : Type 0 where
   pub next : (d : Input) → IsInput d → is_member p d ≡ true
       → NextIs (insn_progress d (concrete_state p.pool p.machine d) i) p.machine.taken b
 
--- where the machine stands after this truth value of the instruction
-abbrev pub AfterTruthValue : PieceData → Insn → Bool → SymbolicMachine → Type 0
-AfterTruthValue p (Branch test other t f) b m =
-    m ≡ record p.machine { place = p.machine.place + 1 + (if b then t else f) }
-AfterTruthValue p ReturnA b m = m ≡ record p.machine {
-  taken = p.machine.taken + 1;
-  value = 2 * p.machine.value + (if b then 1 else 0);
-}
-AfterTruthValue p (Alu Div X) true m = m ≡ after_return p.machine 0
-AfterTruthValue p (Alu Div X) false m = m ≡ record p.machine { taken = 1 }
-AfterTruthValue p _ b m = ⊥
-
--- the condition that the same test has this result
-abbrev pub with_sense : Cond → Bool → Cond
-with_sense cond b = record cond { sense = b }
-
 -- the condition has this truth value on no member
 abbrev pub IsNever : PieceData → Cond → Bool → Type 0
 IsNever p cond b = (d : Input) → IsInput d → is_member p d ≡ true → is_met p.pool d (with_sense cond b) ≡ false
@@ -267,8 +246,3 @@ pub record IsChild (p : PieceData) (cond : Cond) (b : Bool) (c : PieceData) : Ty
   pub members : (d : Input) → IsInput d → is_member c d ≡ (is_member p d && is_met p.pool d (with_sense cond b))
   pub facts : AreChildFacts p cond b c.facts
   pub plain : IsPlain p.stack → IsPlainPiece c
-
--- whether an operation asks first whether X is 0
-abbrev pub divides_at : BinOp → Operand → ℕ → Bool
-divides_at Div X taken = taken == 0
-divides_at _ _ taken = false

@@ -1,12 +1,15 @@
 //! The instructions that may ask for a truth value of the trace.
 
-ghost use Rattle.std.specs.Prelude.{◌≡◌, ℕ, IfOk, IfSome};
+ghost use Rattle.std.specs.Prelude.{◌≡◌, ℕ, ◌<◌, ◌^◌, IfOk, IfSome};
 ghost use Rattle.sf_piece.specs.SymbolicRun.{IsLawfulPiece};
 ghost use Rattle.sf_piece.specs.Works.{HasAtHand, IsOperandNumber, NothingGoesBack, PassesAlways, divides_at};
-ghost use Rattle.sf_piece.specs.SmallSteps.{IsSmallStep};
+ghost use Rattle.sf_dom.specs.SoundRules.{ForcedIsLearnt};
+ghost use Rattle.sf_piece.specs.Execution.{HasNoTwins, IsAtHand};
+ghost use Rattle.sf_piece.specs.Foresight.{IsNumberOf, IsForetold};
+ghost use Rattle.sf_piece.specs.SmallSteps.{IsSmallStep, IsTidy, IsExecuted};
 
 use crate::chains::take_failing;
-use crate::deciding::{SmallStep, decide, take};
+use crate::deciding::{SmallStep, carry_out, decide, take};
 use crate::executing::{leave_program, set_a};
 use crate::fault::Fault;
 use crate::nodes::{operand, push};
@@ -33,6 +36,8 @@ fn number_against(run: &Run, other: Operand) -> Option<u32>
     ensures value { IfSome result (IsOperandNumber run.now other) }
     ensures back { IfSome result (λ n. other ≡ Operand.X
         → NothingGoesBack run.now run.now.machine.x) }
+    ensures rule { IfSome result (λ n. IsNumberOf run.now other n) }
+    ensures fits { IfSome result (λ n. n < 2 ^ 32) }
 {
     match other {
         Operand::Constant(number) => Some(number),
@@ -51,6 +56,8 @@ fn foresee(run: &Run, test: Test, other: Operand) -> Option<bool>
     requires { IsLawfulPiece run.now }
     ensures value { IfSome result (λ b. PassesAlways run.now test other b) }
     ensures back { IfSome result (λ b. NothingGoesBack run.now run.now.machine.a) }
+    ensures rule { ForcedIsLearnt → HasNoTwins run.now.pool
+        → IfSome result (λ b. IsForetold run.now test other b) }
 {
     let number = number_against(run, other)?;
     run.facts.tell(&run.pool, run.machine.a, test, number)
@@ -68,7 +75,9 @@ pub(crate) fn alu(
     requires lawful { IsLawfulPiece run.old }
     requires standing { HasAtHand run.old insn }
     requires is { insn ≡ Insn.Alu op other }
-    ensures { IfOk result (IsSmallStep run.old run.new) }
+    ensures step { IfOk result (IsSmallStep run.old run.new) }
+    ensures rule { ForcedIsLearnt → IsTidy run.old → IsAtHand run.old insn
+        → IfOk result (IsExecuted run.old run.new) }
 {
     if asks_zero(op, other, run.machine.taken) {
         let cond = Cond {
@@ -81,7 +90,8 @@ pub(crate) fn alu(
             take(run, insn, sense)?;
             return Ok(SmallStep::On);
         }
-        return decide(alloc, run, insn, cond);
+        let decision = decide(alloc, run, insn, cond)?;
+        return carry_out(run, insn, decision);
     }
     match operand(alloc, run, other)? {
         Some(right) => {
@@ -111,7 +121,8 @@ pub(crate) fn branch(
         take_failing(run)?;
         return Ok(SmallStep::On);
     }
-    let Some(right) = operand(alloc, run, other)? else {
+    let mut asked = run.fork(alloc)?;
+    let Some(right) = operand(alloc, &mut asked, other)? else {
         return Ok(SmallStep::Empty);
     };
     let cond = Cond {
@@ -120,7 +131,8 @@ pub(crate) fn branch(
         other: right,
         sense: true,
     };
-    decide(alloc, run, insn, cond)
+    let decision = decide(alloc, &asked, insn, cond)?;
+    carry_out(run, insn, decision)
 }
 
 /// A return of A, which meets the 32 bits of A, the highest first. Each bit that isn't in the name yet is taken where
@@ -128,7 +140,9 @@ pub(crate) fn branch(
 pub(crate) fn return_a(alloc: Global, run: &mut Run) -> Result<SmallStep, Fault>
     requires lawful { IsLawfulPiece run.old }
     requires standing { HasAtHand run.old Insn.ReturnA }
-    ensures { IfOk result (IsSmallStep run.old run.new) }
+    ensures step { IfOk result (IsSmallStep run.old run.new) }
+    ensures rule { ForcedIsLearnt → IsTidy run.old → IsAtHand run.old Insn.ReturnA
+        → IfOk result (IsExecuted run.old run.new) }
 {
     let taken = run.machine.taken;
     if taken == 32 {
@@ -141,7 +155,8 @@ pub(crate) fn return_a(alloc: Global, run: &mut Run) -> Result<SmallStep, Fault>
         take(run, Insn::ReturnA, sense)?;
         return Ok(SmallStep::On);
     }
-    let Some(bit) = push(alloc, run, Node::Const(number))? else {
+    let mut asked = run.fork(alloc)?;
+    let Some(bit) = push(alloc, &mut asked, Node::Const(number))? else {
         return Ok(SmallStep::Empty);
     };
     let cond = Cond {
@@ -150,5 +165,6 @@ pub(crate) fn return_a(alloc: Global, run: &mut Run) -> Result<SmallStep, Fault>
         other: bit,
         sense: true,
     };
-    decide(alloc, run, Insn::ReturnA, cond)
+    let decision = decide(alloc, &asked, Insn::ReturnA, cond)?;
+    carry_out(run, Insn::ReturnA, decision)
 }

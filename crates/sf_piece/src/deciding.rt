@@ -8,7 +8,8 @@ ghost use Rattle.sf_dom.specs.Facts.{IsPlainCondition};
 ghost use Rattle.sf_dom.specs.Learning.{LearnsBy, CantLearn};
 ghost use Rattle.sf_piece.specs.SymbolicRun.{IsLawfulPiece};
 ghost use Rattle.sf_piece.specs.Works.{HasAtHand, IsQuery, AfterTruthValue, HasAdvanced, IsChild, IsForeseen, Asks, AreChildFacts, IsNever, with_sense};
-ghost use Rattle.sf_piece.specs.SmallSteps.{IsSmallStep};
+ghost use Rattle.sf_piece.specs.Execution.{IsSide, IsNamedOn};
+ghost use Rattle.sf_piece.specs.SmallSteps.{IsSmallStep, IsDecision, IsRightDecision, IsCarriedOut};
 
 use crate::fault::Fault;
 use crate::machine::SymbolicMachine;
@@ -32,6 +33,17 @@ pub(crate) enum SmallStep {
     Settled,
     /// There is no member.
     Empty,
+}
+
+/// What the facts leave of a truth value.
+#[derive(Drop)]
+pub(crate) enum Decision {
+    /// Both: these are the piece of the members on which it is false, and that of the members on which it is true.
+    Split(Arc<Piece>, Arc<Piece>),
+    /// Only this one.
+    Implied(bool),
+    /// Neither: there is no member.
+    Neither,
 }
 
 /// How many instructions a test skips.
@@ -78,6 +90,7 @@ pub(crate) fn take(run: &mut Run, insn: Insn, sense: bool) -> Result<(), Fault>
     requires foreseen { IsForeseen run.old insn sense }
     ensures gone { IfOk result (λ _. HasAdvanced run.old run.new) }
     ensures lawful { IfOk result (λ _. IsLawfulPiece run.new) }
+    ensures rule { IfOk result (λ _. IsNamedOn run.old insn sense run.new) }
 {
     if let Insn::Branch(_, _, on_true, on_false) = insn {
         let next = skip_count(on_true, on_false, sense);
@@ -104,7 +117,8 @@ fn child(
     requires standing { HasAtHand run.now insn }
     requires query { IsQuery run.now insn cond }
     requires facts { AreChildFacts run.now cond sense facts }
-    ensures { IfOk result (λ c. IsChild run.now cond sense (arc_value c)) }
+    ensures child { IfOk result (λ c. IsChild run.now cond sense (arc_value c)) }
+    ensures rule { IfOk result (λ c. IsSide (run.now, cond) insn sense (arc_value c)) }
 {
     let to = machine_after(run, insn, sense);
     let mut conditions = run.conditions.fork()?;
@@ -137,31 +151,43 @@ fn child_facts(alloc: Global, run: &Run, cond: Cond, sense: bool) -> Result<Opti
     Ok(learnt)
 }
 
-/// Takes the next truth value, or splits the piece by it. It is learnt as false and as true, each from the same facts:
-/// where one of the two contradicts, the other is taken; where both do, the piece has no member.
-pub(crate) fn decide(
-    alloc: Global,
-    run: &mut Run,
-    insn: Insn,
-    cond: Cond,
-) -> Result<SmallStep, Fault>
+/// Learns the next truth value as false and as true, each from the same facts, and tells which of them the facts leave.
+/// The run has nodes for both words of the condition.
+pub(crate) fn decide(alloc: Global, asked: &Run, insn: Insn, cond: Cond) -> Result<Decision, Fault>
+    requires lawful { IsLawfulPiece asked.now }
+    requires standing { HasAtHand asked.now insn }
+    requires query { IsQuery asked.now insn cond }
+    ensures right { IfOk result (IsRightDecision asked.now insn) }
+    ensures rule { IfOk result (IsDecision (asked.now, cond) insn) }
+{
+    let Some(on_false) = child_facts(alloc, asked, cond, false)? else {
+        let Some(_on_true) = child_facts(alloc, asked, cond, true)? else {
+            return Ok(Decision::Neither);
+        };
+        return Ok(Decision::Implied(true));
+    };
+    let Some(on_true) = child_facts(alloc, asked, cond, true)? else {
+        return Ok(Decision::Implied(false));
+    };
+    let false_piece = child(alloc, asked, insn, cond, false, on_false)?;
+    let true_piece = child(alloc, asked, insn, cond, true, on_true)?;
+    Ok(Decision::Split(false_piece, true_piece))
+}
+
+/// Goes on as was decided: an implied truth value is added to the name, and nothing else changes.
+pub(crate) fn carry_out(run: &mut Run, insn: Insn, decision: Decision) -> Result<SmallStep, Fault>
     requires lawful { IsLawfulPiece run.old }
     requires standing { HasAtHand run.old insn }
-    requires query { IsQuery run.old insn cond }
-    ensures { IfOk result (IsSmallStep run.old run.new) }
+    requires right { IsRightDecision run.old insn decision }
+    ensures step { IfOk result (IsSmallStep run.old run.new) }
+    ensures rule { IfOk result (IsCarriedOut run.old insn decision run.new) }
 {
-    let Some(on_false) = child_facts(alloc, run, cond, false)? else {
-        let Some(_on_true) = child_facts(alloc, run, cond, true)? else {
-            return Ok(SmallStep::Empty);
-        };
-        take(run, insn, true)?;
-        return Ok(SmallStep::On);
-    };
-    let Some(on_true) = child_facts(alloc, run, cond, true)? else {
-        take(run, insn, false)?;
-        return Ok(SmallStep::On);
-    };
-    let false_piece = child(alloc, run, insn, cond, false, on_false)?;
-    let true_piece = child(alloc, run, insn, cond, true, on_true)?;
-    Ok(SmallStep::Split(false_piece, true_piece))
+    match decision {
+        Decision::Split(on_false, on_true) => Ok(SmallStep::Split(on_false, on_true)),
+        Decision::Implied(sense) => {
+            take(run, insn, sense)?;
+            Ok(SmallStep::On)
+        }
+        Decision::Neither => Ok(SmallStep::Empty),
+    }
 }

@@ -6,8 +6,10 @@ ghost use Rattle.sf_check.specs.Stacks.{IsPlain};
 ghost use Rattle.sf_sym.specs.Pool.{OperandsBelow};
 ghost use Rattle.sf_dom.specs.Facts.{IsWordOrConst};
 ghost use Rattle.sf_piece.specs.SymbolicRun.{IsLawfulPiece};
+ghost use Rattle.sf_piece.specs.Machines.{after_return};
+ghost use Rattle.sf_piece.specs.Execution.{LoadsA, LoadsX, MovesTo, with_machine};
 ghost use Rattle.sf_piece.specs.Works.{HasAtHand, SetsA, SetsX, GoesTo, HasAdvanced, ReturnsNow, IsMove};
-ghost use Rattle.sf_piece.specs.SmallSteps.{IsSmallStep};
+ghost use Rattle.sf_piece.specs.SmallSteps.{IsSmallStep, IsMade};
 
 use crate::asking::{alu, branch, return_a};
 use crate::deciding::SmallStep;
@@ -69,7 +71,8 @@ pub(crate) fn set_a(
     requires below { OperandsBelow (length run.old.pool) node }
     requires sets { SetsA run.old insn node }
     requires plain { IsPlain run.old.stack → IsWordOrConst node }
-    ensures { IfOk result (IsSmallStep run.old run.new) }
+    ensures step { IfOk result (IsSmallStep run.old run.new) }
+    ensures rule { IfOk result (IsMade (LoadsA run.old node) run.new) }
 {
     match push(alloc, run, node)? {
         Some(id) => {
@@ -92,7 +95,8 @@ fn set_x(alloc: Global, run: &mut Run, insn: Insn, k: u32) -> Result<SmallStep, 
     requires lawful { IsLawfulPiece run.old }
     requires standing { HasAtHand run.old insn }
     requires sets { SetsX run.old insn k }
-    ensures { IfOk result (IsSmallStep run.old run.new) }
+    ensures step { IfOk result (IsSmallStep run.old run.new) }
+    ensures rule { IfOk result (IsMade (LoadsX run.old k) run.new) }
 {
     match push(alloc, run, Node::Const(k))? {
         Some(id) => {
@@ -117,6 +121,8 @@ fn move_on(run: &mut Run, insn: Insn)
     requires moves { IsMove insn }
     ensures gone { HasAdvanced run.old run.new }
     ensures lawful { IsLawfulPiece run.new }
+    ensures rule { MovesTo run.old.machine insn run.new.machine }
+    ensures rest { run.new ≡ with_machine run.old run.new.machine }
 {
     let m = run.machine;
     let to = SymbolicMachine {
@@ -177,6 +183,7 @@ fn go(run: &mut Run, insn: Insn, to: SymbolicMachine)
     requires goes { GoesTo run.old insn to }
     ensures gone { HasAdvanced run.old run.new }
     ensures lawful { IsLawfulPiece run.new }
+    ensures moved { run.new ≡ with_machine run.old to }
 {
     // For the prover: only clauses speak of it.
     let _insn = insn;
@@ -190,6 +197,7 @@ pub(crate) fn leave_program(run: &mut Run, insn: Insn, value: u32)
     requires returns { ReturnsNow run.old insn value }
     ensures gone { HasAdvanced run.old run.new }
     ensures lawful { IsLawfulPiece run.new }
+    ensures moved { run.new ≡ with_machine run.old (after_return run.old.machine value) }
 {
     // For the prover: only clauses speak of it.
     let _insn = insn;

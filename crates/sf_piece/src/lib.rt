@@ -8,6 +8,7 @@ mod chains;
 mod deciding;
 mod executing;
 mod fault;
+pub mod laws;
 mod machine;
 mod name;
 mod nodes;

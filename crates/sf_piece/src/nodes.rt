@@ -1,11 +1,12 @@
 //! The symbolic words that an instruction makes.
 
-ghost use Rattle.std.specs.Prelude.{IfOk, MatchOption, length};
+ghost use Rattle.std.specs.Prelude.{IfOk, MatchOption, length, option_map};
 ghost use Rattle.sf_check.specs.Stacks.{IsPlain};
 ghost use Rattle.sf_sym.specs.Pool.{OperandsBelow};
 ghost use Rattle.sf_dom.specs.Facts.{IsWordOrConst};
 ghost use Rattle.sf_piece.specs.Pieces.{HasNoMember};
 ghost use Rattle.sf_piece.specs.SymbolicRun.{IsLawfulPiece};
+ghost use Rattle.sf_piece.specs.Execution.{Gets, GetsOperand};
 ghost use Rattle.sf_piece.specs.Works.{IsPushed, IsOperand};
 
 use crate::fault::Fault;
@@ -19,8 +20,9 @@ pub(crate) fn push(alloc: Global, run: &mut Run, node: Node) -> Result<Option<No
     requires lawful { IsLawfulPiece run.old }
     requires below { OperandsBelow (length run.old.pool) node }
     requires plain { IsPlain run.old.stack → IsWordOrConst node }
-    ensures { IfOk result (λ o. MatchOption o (HasNoMember run.old)
+    ensures pushed { IfOk result (λ o. MatchOption o (HasNoMember run.old)
         (λ id. IsPushed run.old node run.new id)) }
+    ensures rule { IfOk result (λ o. Gets run.old node (option_map (λ id. (run.new, id)) o)) }
 {
     let id = run.pool.push(node)?;
     if !run.facts.grow(alloc, &run.pool)? {
@@ -32,8 +34,10 @@ pub(crate) fn push(alloc: Global, run: &mut Run, node: Node) -> Result<Option<No
 /// The node of the second word of an operation or a test. None where its facts contradict: there is no member then.
 pub(crate) fn operand(alloc: Global, run: &mut Run, other: Operand) -> Result<Option<NodeId>, Fault>
     requires { IsLawfulPiece run.old }
-    ensures { IfOk result (λ o. MatchOption o (HasNoMember run.old)
+    ensures made { IfOk result (λ o. MatchOption o (HasNoMember run.old)
         (λ id. IsOperand run.old other run.new id)) }
+    ensures rule { IfOk result (λ o.
+        GetsOperand run.old other (option_map (λ id. (run.new, id)) o)) }
 {
     match other {
         Operand::Constant(k) => push(alloc, run, Node::Const(k)),

@@ -2,6 +2,7 @@
 
 ghost use Rattle.std.specs.Prelude.{IfOk};
 ghost use Rattle.std.specs.Arc.{arc_value};
+ghost use Rattle.sf_piece.specs.Execution.{IsFirst};
 ghost use Rattle.sf_piece.specs.Pieces.{IsRoot};
 
 use crate::fault::Fault;
@@ -18,7 +19,8 @@ use std::sync::Arc;
 
 /// The piece of all inputs of a stack: its name is empty, and nothing has run. `Memory` where an allocation is refused.
 pub fn root(alloc: Global, stack: &Arc<Stack>) -> Result<Arc<Piece>, Fault>
-    ensures { IfOk result (λ p. IsRoot (arc_value stack.now) (arc_value p)) }
+    ensures root { IfOk result (λ p. IsRoot (arc_value stack.now) (arc_value p)) }
+    ensures rule { IfOk result (λ p. IsFirst (arc_value stack.now) (arc_value p)) }
 {
     // For the prover: the stack is lawful.
     let _programs = stack.programs();

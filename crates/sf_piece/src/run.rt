@@ -45,6 +45,7 @@ impl Model for Run {
 }
 
 impl Run {
+    ghost use Rattle.sf_piece.specs.Execution.{IsAtHand};
     ghost use Rattle.sf_piece.specs.Pieces.{IsRightAnswer};
     ghost use Rattle.sf_piece.specs.SymbolicRun.{IsLawfulPiece};
     ghost use Rattle.sf_piece.specs.Works.{HasAtHand, IsCodeAtHand};
@@ -81,8 +82,10 @@ impl Run {
     /// The instruction at hand, or none where the last program has returned.
     pub(crate) fn insn(&self) -> Option<Insn>
         requires { IsLawfulPiece self.now }
-        ensures { MatchOption result (IsRightAnswer self.now self.now.name
+        ensures right { MatchOption result (IsRightAnswer self.now self.now.name
             self.now.machine.so_far) (λ i. HasAtHand self.now i) }
+        ensures rule { MatchOption result (length self.now.stack ≤ self.now.machine.program)
+            (λ i. IsAtHand self.now i) }
     {
         let Some(program) = self.program() else {
             return None;

@@ -1,5 +1,6 @@
 use Rattle.sf_piece.proofs.Lawful.{lawful_taken}
 use Rattle.sf_piece.proofs.Children.{take_gone, branch_after}
+use Rattle.sf_piece.proofs.Given.{named_on}
 use Rattle.sf_piece.proofs.deciding.take.Goals as goal
 
 pub returns-in-Branch : goal.returns-in-Branch
@@ -13,6 +14,7 @@ returns-in-Branch c =
     rw (← c.run.view_is, c.in_ok-push.ensures.ok) (record {
       gone = take_gone _ c.args.insn c.args.sense _ lawful.run standing foreseen after;
       lawful = lawful_taken _ c.args.insn c.args.sense _ lawful standing foreseen after;
+      rule = named_on _ c.args.insn c.args.sense _ after;
     })
 
 pub returns : goal.returns
@@ -24,4 +26,5 @@ returns c =
     rw (← c.run.view_is, c.in_ok-push-2.ensures.ok) (record {
       gone = take_gone _ c.args.insn c.args.sense c.machine_after-to.result lawful.run standing foreseen after;
       lawful = lawful_taken _ c.args.insn c.args.sense c.machine_after-to.result lawful standing foreseen after;
+      rule = named_on _ c.args.insn c.args.sense c.machine_after-to.result after;
     })

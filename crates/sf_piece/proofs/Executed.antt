@@ -1,0 +1,141 @@
+-- Small steps of a piece, as the rules have them.
+use Rattle.std.proofs.Common.{◌≡◌, ℕ, zero, suc, ◌-◌, ◌^◌, ◌<◌, Bool, true, false, length, refl, sym, ap, subst, ◌∙◌, inl, inr, arith}
+use Rattle.std.specs.Prelude.{Some, None, Result, Ok, Err, IfOk}
+use Rattle.sf_insn.specs.declared.ops.BinOp.{BinOp}
+use Rattle.sf_insn.specs.declared.ops.Test.TheVariants.{Equal, AnyBit}
+use Rattle.sf_check.specs.declared.insn.Insn.{Insn}
+use Rattle.sf_check.specs.declared.insn.Insn.TheVariants.{Alu, ReturnA}
+use Rattle.sf_check.specs.declared.insn.Operand.{Operand}
+use Rattle.sf_check.specs.declared.insn.Operand.TheVariants.{Constant}
+use Rattle.sf_sym.specs.declared.pool.Cond.{Cond}
+use Rattle.sf_sym.specs.declared.pool.Node.TheVariants.{Const, Word, Bin}
+use Rattle.sf_sym.specs.declared.pool.NodeId.{NodeId}
+use Rattle.sf_sym.specs.Pool.{node_at}
+use Rattle.sf_dom.specs.Backward.{IsPropagatedBack}
+use Rattle.sf_dom.specs.Facts.{known_at}
+use Rattle.sf_dom.specs.Rules.{IsClosedAt, number_known}
+use Rattle.sf_dom.specs.SoundRules.{ForcedIsLearnt}
+use Rattle.sf_dom.specs.Telling.{IsForcedBy}
+use Rattle.sf_piece.specs.declared.deciding.Decision.{Decision}
+use Rattle.sf_piece.specs.declared.deciding.Decision.TheVariants.{Implied, Neither}
+use Rattle.sf_piece.specs.declared.deciding.Decision.TheVariants as decided
+use Rattle.sf_piece.specs.declared.deciding.SmallStep.{SmallStep}
+use Rattle.sf_piece.specs.declared.deciding.SmallStep.TheVariants.{On, Split, Settled, Empty}
+use Rattle.sf_piece.specs.declared.fault.Fault.{Fault}
+use Rattle.sf_piece.specs.Pieces.{PieceData}
+use Rattle.sf_piece.specs.SymbolicRun.{IsPiece}
+use Rattle.sf_piece.specs.Execution.{Gets, GetsOperand, with_machine, LoadsA, divides_at, query, HasQuery, LeavesOnly, IsSide, IsNamedOn, IsAtHand}
+use Rattle.sf_piece.specs.Foresight.{IsForetold}
+use Rattle.sf_piece.specs.Machines.{after_return}
+use Rattle.sf_piece.specs.SmallSteps.{IsMade, IsDecision, IsCarriedOut, IsTidy, IsExecuted}
+use Rattle.sf_piece.proofs.Foretold.{leaves_only, one_number, words_first}
+
+-- an implied truth value is added to the name
+pub implied_executed : (p q : PieceData) (i : Insn) (cond : Cond) (b : Bool) → IsAtHand p i
+    → HasQuery p i (Some (p, cond)) → LeavesOnly (p, cond) b → IsNamedOn p i b q → IsExecuted p q On
+implied_executed p q i cond b at asks only named =
+    (1, (q, (i, at, inr (inr ((p, cond), b, asks, only, named))), refl))
+
+-- What was decided is carried out. Its query may be of a piece in which both words have nodes.
+pub carried_executed : (p r : PieceData) (i : Insn) (asked : PieceData × Cond) (d : Decision) (step : SmallStep)
+    → IsAtHand p i → HasQuery p i (Some asked) → IsDecision asked i d → IsCarriedOut p i d r step
+    → IsExecuted p r step
+carried_executed p r i asked (Implied b) On at asks h named =
+    (1, (r, (i, at, inr (inr (asked, b, asks, h, named))), refl))
+carried_executed p r i asked (decided.Split f t) (Split g u) at asks h same = (
+  i,
+  asked,
+  at,
+  asks,
+  subst (λ (x : PieceData). IsSide asked i false x) same.0 h.0,
+  subst (λ (x : PieceData). IsSide asked i true x) same.1 h.1,
+)
+carried_executed p r i asked Neither Empty at asks h done = (i, at, inr (inr (asked, asks, h)))
+carried_executed p r i asked _ _ at asks h none = absurd none
+
+-- an operation on both words
+pub operation_executed : (p q r : PieceData) (op : BinOp) (other : Operand) (right : NodeId) (step : SmallStep)
+    → IsAtHand p (Alu op other) → divides_at op other p.machine.taken ≡ false → GetsOperand p other (Some (q, right))
+    → q.machine.a ≡ p.machine.a → IsMade (LoadsA q (Bin op q.machine.a right)) r step → IsExecuted p r step
+operation_executed p q r op other right On at goes gets same made =
+    let loads = subst (λ (w : NodeId). LoadsA q (Bin op w right) (Some r)) same made in
+    (1, (r, (Alu op other, at, inr (inl (goes, (Some (q, right), gets, loads)))), refl))
+operation_executed p q r op other right Empty at goes gets same made =
+    let loads = subst (λ (w : NodeId). LoadsA q (Bin op w right) None) same made in
+    (Alu op other, at, inl (goes, (Some (q, right), gets, loads)))
+operation_executed p q r op other right (Split f t) at goes gets same made = absurd made
+operation_executed p q r op other right Settled at goes gets same made = absurd made
+
+-- the same of what may want for memory
+pub carried_ok : (p r : PieceData) (i : Insn) (asked : PieceData × Cond) (d : Decision) (o : Result SmallStep Fault)
+    → IsAtHand p i → HasQuery p i (Some asked) → IsDecision asked i d → IfOk o (IsCarriedOut p i d r)
+    → IfOk o (IsExecuted p r)
+carried_ok p r i asked d (Ok step) at asks h done = carried_executed p r i asked d step at asks h done
+carried_ok p r i asked d (Err e) at asks h done = tt
+
+pub operation_ok : (p q r : PieceData) (op : BinOp) (other : Operand) (right : NodeId) (o : Result SmallStep Fault)
+    → IsAtHand p (Alu op other) → divides_at op other p.machine.taken ≡ false → GetsOperand p other (Some (q, right))
+    → q.machine.a ≡ p.machine.a → IfOk o (IsMade (LoadsA q (Bin op q.machine.a right)) r) → IfOk o (IsExecuted p r)
+operation_ok p q r op other right (Ok step) at goes gets same made =
+    operation_executed p q r op other right step at goes gets same made
+operation_ok p q r op other right (Err e) at goes gets same made = tt
+
+-- ---- a return of A
+
+-- all bits of A are in the name
+pub returned_executed : (p q : PieceData) → IsAtHand p ReturnA → p.machine.taken ≡ 32
+    → q ≡ with_machine p (after_return p.machine p.machine.value) → IsExecuted p q On
+returned_executed p q at all same =
+    (1, (q, (ReturnA, at, inl (after_return p.machine p.machine.value, (all, refl), same)), refl))
+
+-- the next bit is asked for
+pub bit_asks : (p : PieceData) (number : ℕ) (given : PieceData × NodeId) → p.machine.taken < 32
+    → number ≡ 2 ^ (31 - p.machine.taken) → Gets p (Const number) (Some given)
+    → HasQuery p ReturnA (Some (given.0, query p.machine.a AnyBit given.1))
+bit_asks p number given more e gets =
+    (more, (Some given, subst (λ (n : ℕ). Gets p (Const n) (Some given)) e gets, refl))
+
+-- it is implied
+pub bit_executed : (p q : PieceData) (number : ℕ) (b : Bool) → IsAtHand p ReturnA → p.machine.taken < 32
+    → number ≡ 2 ^ (31 - p.machine.taken) → IsForetold p AnyBit (Constant number) b → IsNamedOn p ReturnA b q
+    → IsExecuted p q On
+bit_executed p q number b at more e told named =
+    let asked : PieceData × Cond = (told.0.0, query p.machine.a AnyBit told.0.1) in
+    (1, (q, (ReturnA, at, inr (inr (asked, b, bit_asks p number told.0 more e told.1, told.2, named))), refl))
+
+-- its number contradicts
+pub bit_empties : (p q : PieceData) (number : ℕ) → IsAtHand p ReturnA → p.machine.taken < 32
+    → number ≡ 2 ^ (31 - p.machine.taken) → Gets p (Const number) None → IsExecuted p q Empty
+bit_empties p q number at more e none =
+    (ReturnA, at, inr (inl (more, (None, subst (λ (n : ℕ). Gets p (Const n) None) e none, refl))))
+
+back_constant : (n c : ℕ) (p : PieceData) (i : ℕ) → node_at p.pool i ≡ Const c
+    → IsPropagatedBack n p.facts.known p.pool i
+back_constant zero c p i e = tt
+back_constant (suc n) c p i e = rw e tt
+
+-- whether X is 0, where the facts tell it
+pub zero_told : (laws : ForcedIsLearnt) (p : PieceData) (b : Bool) → IsPiece p → IsTidy p
+    → (((w : ℕ) → node_at p.pool p.machine.x.0 ≡ Word w → p.machine.x.0 ≡ w)
+    → IsForcedBy (IsClosedAt p.facts.excluded p.machine.x.0) (known_at p.facts.known p.machine.x.0) Equal 0 b)
+    → ((n : ℕ) → IsPropagatedBack n p.facts.known p.pool p.machine.x.0)
+    → LeavesOnly (p, query p.machine.x Equal p.machine.zero) b
+zero_told laws p b h tidy forced back =
+    let words = words_first p.pool h.pool tidy.twins in
+    let within : p.machine.zero.0 < length p.facts.known = omega (arith, h.nodes.zero, h.covers.count) in
+    let ends = h.covers.constants p.machine.zero.0 0 within tidy.zero in
+    let known : known_at p.facts.known p.machine.zero.0 ≡ number_known 0
+    = one_number (known_at p.facts.known p.machine.zero.0) (h.covers.lawful.consistent p.machine.zero.0 within)
+    (ends.0 ∙ sym ends.1) ∙ ap number_known ends.0 in
+    leaves_only laws p (query p.machine.x Equal p.machine.zero) 0 b (record {
+      pool = h.pool;
+      words = words;
+      count = h.covers.count;
+      lists = h.covers.lawful.words;
+      rest = h.covers.rest;
+      below = (h.nodes.x, h.nodes.zero);
+      decided = known;
+      forced = forced (λ w e. words p.machine.x.0 w h.nodes.x e);
+      node_back = back;
+      other_back = λ n. back_constant n 0 p p.machine.zero.0 tidy.zero;
+    })

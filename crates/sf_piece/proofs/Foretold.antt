@@ -1,0 +1,218 @@
+-- What facts tell of a test of A is what the rules leave of it.
+use Rattle.std.proofs.Common.{◌≡◌, ◌≢◌, ℕ, zero, suc, ◌+◌, ◌-◌, ◌<◌, ◌^◌, ◌⊎◌, Bool, true, false, not, List, [], ◌∷◌, ◌++◌, length, refl, sym, ap, ◌∙◌, inl, inr, arith}
+use Rattle.std.proofs.lemmas.Bool.{cases_lt, cases_eq, eqb-true}
+use Rattle.std.proofs.lemmas.List.{take_all}
+use Rattle.std.specs.Prelude.{Option, Some, None, IfSome, if◌then◌else◌, ◌==◌}
+use Rattle.sf_insn.specs.declared.input.Input.{Input}
+use Rattle.sf_insn.specs.declared.ops.Test.{Test}
+use Rattle.sf_insn.specs.Inputs.{IsInput}
+use Rattle.sf_insn.specs.Words.{passes}
+use Rattle.sf_check.specs.declared.insn.Operand.{Operand}
+use Rattle.sf_check.specs.declared.insn.Operand.TheVariants.{Constant, X}
+use Rattle.sf_sym.specs.declared.pool.Cond.{Cond}
+use Rattle.sf_sym.specs.declared.pool.Node.{Node}
+use Rattle.sf_sym.specs.declared.pool.Node.TheVariants.{Const, Word, Bin, Neg}
+use Rattle.sf_sym.specs.declared.pool.NodeId.{NodeId}
+use Rattle.sf_sym.specs.Pool.{IsPool, node_at, value_of}
+use Rattle.sf_sym.specs.ValueLaws.{OperandsBelow-at}
+use Rattle.sf_dom.specs.declared.known.Known.{Known}
+use Rattle.sf_dom.specs.Backward.{IsPropagatedBack}
+use Rattle.sf_dom.specs.Facts.{FactsView, Covers, Agrees, known_at}
+use Rattle.sf_dom.specs.Known.{IsConsistent, IsDecided}
+use Rattle.sf_dom.specs.Learning.{CantLearn, GrowsBy}
+use Rattle.sf_dom.specs.Rules.{IsClosedAt, number_known}
+use Rattle.sf_dom.specs.Telling.{IsForcedBy}
+use Rattle.sf_dom.specs.SoundRules.{ForcedIsLearnt, IsForcedCondition, IsForcedTest}
+use Rattle.sf_piece.specs.Pieces.{PieceData}
+use Rattle.sf_piece.specs.Execution.{HasNoTwins, Gets, query, with_sense, LeavesOnly}
+use Rattle.sf_piece.specs.SymbolicRun.{IsPiece}
+use Rattle.sf_piece.specs.Works.{IsOperandNumber, PassesAlways}
+use Rattle.sf_piece.specs.Foresight.{IsNumberOf, IsForetold}
+
+-- where no node stands twice, each word stands at its own place
+pub words_first : (ns : List Node) → IsPool ns → HasNoTwins ns → (i w : ℕ) → i < length ns → node_at ns i ≡ Word w
+    → i ≡ w
+words_first ns p twins i w l e =
+    let small : w < 16 = rw e at (OperandsBelow-at 0 ns i p.ordered l) in
+    let words = p.words in
+    ap (λ (id : NodeId). id.0) (twins (record { 0 = i }) (record { 0 = w }) (Word w) (l, e)
+    (omega (arith, small, words), p.word w small))
+
+-- a word with one number is known in full
+pub one_number : (k : Known) → IsConsistent k → IsDecided k → k ≡ number_known k.low
+one_number k h e = made k.low k.high k.zeros k.ones k.low k.low (4294967295 - k.low) k.low refl (sym e) (h.zeros e)
+    (h.ones e)
+  where
+    known : ℕ → ℕ → ℕ → ℕ → Known
+    known low high zeros ones = record { low = low; high = high; zeros = zeros; ones = ones }
+
+    made : (l h z o m i y p : ℕ) → l ≡ m → h ≡ i → z ≡ y → o ≡ p
+        → known l h z o ≡ known m i y p
+    made l h z o m i y p a b c d = cc
+
+-- the number of a word that has only one
+pub decided_number : (k : Known) (n : ℕ) → Some n ≡ (if k.low == k.high then Some k.low else None) → IsConsistent k
+    → k ≡ number_known n
+decided_number k n e h = by (k.low == k.high) refl e
+  where
+    by : (b : Bool) → (k.low == k.high) ≡ b → Some n ≡ (if b then Some k.low else None) → k ≡ number_known n
+    by true d s =
+        let same : n ≡ k.low = cc in
+        one_number k h (eqb-true k.low k.high d) ∙ ap number_known (sym same)
+    by false d s = absurd cc
+
+-- ---- a constant's node
+
+is_constant : (m : Node) (k : ℕ) → (m ≡ Const k) ⊎ (m ≢ Const k)
+is_constant (Const c) k = elim (cases_eq c k) [ inl e ↦ inl (ap Const e) | inr ne ↦ inr (λ e. ne (same e)) ]
+  where
+    same : Const c ≡ Const k → c ≡ k
+    same e = cc
+is_constant (Word i) k = inr (λ e. absurd cc)
+is_constant (Bin op a b) k = inr (λ e. absurd cc)
+is_constant (Neg a) k = inr (λ e. absurd cc)
+
+-- a pool has a constant among its first nodes, or not
+find : (ns : List Node) (k n : ℕ) → ((i : ℕ) × (i < n) × (node_at ns i ≡ Const k))
+    ⊎ ((i : ℕ) → i < n → node_at ns i ≢ Const k)
+find ns k zero = inr (λ i l e. absurd (omega arith))
+find ns k (suc n) = elim (is_constant (node_at ns n) k) [
+  | inl e ↦ inl (n, omega arith, e)
+  | inr ne ↦ elim (find ns k n) [
+    | inl o ↦ (let l = o.1 in inl (o.0, omega arith, o.2))
+    | inr none ↦ inr (λ i l e. elim (cases_lt i n) [
+      | inl b ↦ none i b e
+      | inr g ↦ (let last : i ≡ n = omega arith in ne (rw last at e))
+    ])
+  ]
+]
+
+-- facts that take in no node stay as they are
+grows_not_at_all : (f : FactsView) (ns : List Node) → Covers f ns → GrowsBy f f ns
+grows_not_at_all f ns h = record {
+  known = record {
+    count = h.count;
+    kept = take_all (length f.known) f.known (omega arith);
+    each = λ i g l. absurd (omega (arith, h.count));
+  };
+  excluded = refl;
+}
+
+-- a forced condition leaves its query only one truth value
+pub leaves_only : (laws : ForcedIsLearnt) (p : PieceData) (cond : Cond) (number : ℕ) (b : Bool)
+    → IsForcedCondition p.facts p.pool cond number b → LeavesOnly (p, cond) b
+leaves_only laws p cond number b h = record {
+  can = laws.this p.facts p.pool (with_sense cond b) number (with_other b b h);
+  cant = cant b h;
+}
+  where
+    with_other : (s c : Bool) → IsForcedCondition p.facts p.pool cond number c
+        → IsForcedCondition p.facts p.pool (with_sense cond s) number c
+    with_other s c g = record {
+      pool = g.pool;
+      words = g.words;
+      count = g.count;
+      lists = g.lists;
+      rest = g.rest;
+      below = g.below;
+      decided = g.decided;
+      forced = g.forced;
+      node_back = g.node_back;
+      other_back = g.other_back;
+    }
+
+    cant : (c : Bool) → IsForcedCondition p.facts p.pool cond number c
+        → CantLearn p.facts p.pool (with_sense cond (not c))
+    cant true g = laws.other p.facts p.pool (with_sense cond false) number (with_other false true g)
+    cant false g = laws.other p.facts p.pool (with_sense cond true) number (with_other true false g)
+
+-- a test of A against a constant, which gets a node
+pub gets_told : (laws : ForcedIsLearnt) (p : PieceData) (test : Test) (k : ℕ) (b : Bool) → Covers p.facts p.pool
+    → IsForcedTest p.facts p.pool p.machine.a test k b
+    → (given : PieceData × NodeId) × Gets p (Const k) (Some given)
+    × LeavesOnly (given.0, query p.machine.a test given.1) b
+gets_told laws p test k b h told = elim (find p.pool k (length p.pool)) [
+  | inl o ↦
+      let id : NodeId = record { 0 = o.0 } in
+      let forced = laws.found p.facts p.pool p.machine.a id test k true b told o.1 o.2 in (
+        (p, id),
+        record {
+          pool = inl ((o.1, o.2), refl);
+          lawful = told.pool;
+          facts = grows_not_at_all p.facts p.pool h;
+          rest = refl;
+        },
+        leaves_only laws p (query p.machine.a test id) k b forced,
+      )
+  | inr none ↦
+      let id : NodeId = record { 0 = length p.pool } in
+      let new = laws.added p.facts p.pool p.machine.a id test k true b told refl in
+      let q : PieceData = record p { pool = p.pool ++ Const k ∷ []; facts = new.0 } in (
+        (q, id),
+        record {
+          pool = inr ((λ other s. none other.0 s.0 s.1), refl, refl);
+          lawful = new.2.pool;
+          facts = new.1;
+          rest = refl;
+        },
+        leaves_only laws q (query p.machine.a test id) k b new.2,
+      )
+]
+
+-- what is told of a test of A against an operand
+foretold : (laws : ForcedIsLearnt) (p : PieceData) (test : Test) (other : Operand) (number : ℕ) (b : Bool)
+    → Covers p.facts p.pool → IsForcedTest p.facts p.pool p.machine.a test number b → p.machine.x.0 < length p.pool
+    → IsNumberOf p other number → IsForetold p test other b
+foretold laws p test (Constant k) number b h told l is = gets_told laws p test k b h (rw is at told)
+foretold laws p test X number b h told l is =
+    let forced : IsForcedCondition p.facts p.pool (query p.machine.a test p.machine.x) number b = record {
+      pool = told.pool;
+      words = told.words;
+      count = told.count;
+      lists = told.lists;
+      rest = told.rest;
+      below = (told.below, l);
+      decided = is.0;
+      forced = told.forced;
+      node_back = told.back;
+      other_back = is.1;
+    } in
+    ((p, p.machine.x), refl, leaves_only laws p (query p.machine.a test p.machine.x) number b forced)
+
+-- what is known of A by itself tells a test
+pub forced_test : (p : PieceData) (test : Test) (number : ℕ) (b : Bool) → IsPiece p → HasNoTwins p.pool
+    → number < 2 ^ 32
+    → IsForcedBy (IsClosedAt p.facts.excluded p.machine.a.0) (known_at p.facts.known p.machine.a.0) test number b
+    → ((n : ℕ) → IsPropagatedBack n p.facts.known p.pool p.machine.a.0)
+    → IsForcedTest p.facts p.pool p.machine.a test number b
+forced_test p test number b h twins fits forced back = record {
+  pool = h.pool;
+  words = words_first p.pool h.pool twins;
+  count = h.covers.count;
+  lists = h.covers.lawful.words;
+  rest = h.covers.rest;
+  below = h.nodes.a;
+  fits = fits;
+  forced = forced;
+  back = back;
+}
+
+-- what is told of a test of A is foretold
+pub told_foretold : (laws : ForcedIsLearnt) (p : PieceData) (test : Test) (other : Operand) (number : ℕ)
+    (o : Option Bool) → IsPiece p → HasNoTwins p.pool → number < 2 ^ 32 → IsNumberOf p other number
+    → (((w : ℕ) → node_at p.pool p.machine.a.0 ≡ Word w → p.machine.a.0 ≡ w) → IfSome o (λ b.
+    IsForcedBy (IsClosedAt p.facts.excluded p.machine.a.0) (known_at p.facts.known p.machine.a.0) test number b))
+    → IfSome o (λ b. (n : ℕ) → IsPropagatedBack n p.facts.known p.pool p.machine.a.0)
+    → IfSome o (λ b. IsForetold p test other b)
+told_foretold laws p test other number None h twins fits is forced back = tt
+told_foretold laws p test other number (Some b) h twins fits is forced back =
+    let own = forced (λ w e. words_first p.pool h.pool twins p.machine.a.0 w h.nodes.a e) in
+    foretold laws p test other number b h.covers (forced_test p test number b h twins fits own back) h.nodes.x is
+
+-- and every member has it
+pub told_always : (p : PieceData) (test : Test) (other : Operand) (number : ℕ) (o : Option Bool) → IsPiece p
+    → IsOperandNumber p other number → IfSome o (λ b. (d : Input) → IsInput d → Agrees p.facts p.pool d
+    → passes test (value_of p.pool d p.machine.a.0) number ≡ b) → IfSome o (λ b. PassesAlways p test other b)
+told_always p test other number None h is told = tt
+told_always p test other number (Some b) h is told = λ d inp member.
+    let agrees = h.known d inp member in rw (is d inp agrees) (told d inp agrees)

@@ -1,0 +1,34 @@
+use Rattle.std.proofs.Common.{◌≡◌, ℕ, subst}
+use Rattle.std.specs.Prelude.{IfSome}
+use Rattle.sf_insn.specs.declared.input.Input.{Input}
+use Rattle.sf_insn.specs.Inputs.{IsInput}
+use Rattle.sf_insn.specs.Words.{passes}
+use Rattle.sf_sym.specs.Pool.{node_at, value_of}
+use Rattle.sf_sym.specs.declared.pool.Node.TheVariants.{Word}
+use Rattle.sf_dom.specs.Backward.{IsPropagatedBack}
+use Rattle.sf_dom.specs.Facts.{known_at, Agrees}
+use Rattle.sf_dom.specs.Rules.{IsClosedAt}
+use Rattle.sf_dom.specs.Telling.{IsForcedBy}
+use Rattle.sf_piece.specs.Pieces.{PieceData}
+use Rattle.sf_piece.proofs.Foretold.{told_foretold, told_always}
+use Rattle.sf_piece.proofs.asking.foresee.Goals as goal
+
+pub returns-clause-value : goal.returns-clause-value
+returns-clause-value c =
+    let told = subst (λ (q : PieceData). IfSome c.tell.result (λ b. (d : Input) → IsInput d → Agrees q.facts q.pool d
+    → passes c.args.test (value_of q.pool d q.machine.a.0) c.in_ok-number.number ≡ b)) c.run.view_is
+    c.tell.ensures.told in
+    told_always c.args.run.now c.args.test c.args.other c.in_ok-number.number c.tell.result c.requires.run
+    c.in_ok-number.ensures.value told
+
+pub returns-clause-rule : goal.returns-clause-rule
+returns-clause-rule c = λ laws twins.
+    let n = c.in_ok-number.number in
+    let o = c.tell.result in
+    let forced = subst (λ (q : PieceData). ((w : ℕ) → node_at q.pool q.machine.a.0 ≡ Word w → q.machine.a.0 ≡ w)
+    → IfSome o (λ b. IsForcedBy (IsClosedAt q.facts.excluded q.machine.a.0) (known_at q.facts.known q.machine.a.0)
+    c.args.test n b)) c.run.view_is c.tell.ensures.rule in
+    let back = subst (λ (q : PieceData). IfSome o (λ b. (m : ℕ)
+    → IsPropagatedBack m q.facts.known q.pool q.machine.a.0)) c.run.view_is c.tell.ensures.walked in
+    told_foretold laws c.args.run.now c.args.test c.args.other n o c.requires.run twins c.in_ok-number.ensures.fits
+    c.in_ok-number.ensures.rule forced back

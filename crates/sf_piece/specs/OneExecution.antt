@@ -1,0 +1,14 @@
+-- What the rules of symbolic execution promise, said of the rules alone: a stack has one execution tree.
+use Rattle.std.specs.Prelude.{◌≡◌, Bool, List}
+use Rattle.sf_sym.specs.Pool.{IsPool}
+use Rattle.sf_piece.specs.Pieces.{PieceData, StepData, Split}
+use Rattle.sf_piece.specs.Execution.{HasNoTwins, HasStep, IsReached, AreSamePieces, AreSameSteps}
+
+-- A piece has one step at most, and its work one name. A stack's tree has one piece of a name at most. Both sides of a
+-- split of the tree are in it. Its pools are lawful, and no node stands in one twice.
+pub record IsExecutionOne : Type 0 where
+  pub step : (p q : PieceData) (s t : StepData) (m n : List Bool) → AreSamePieces p q → IsPool p.pool
+      → HasNoTwins p.pool → HasStep p s m → HasStep q t n → AreSameSteps s t × (m ≡ n)
+  pub piece : (p q : PieceData) → IsReached p → IsReached q → p.stack ≡ q.stack → p.name ≡ q.name → AreSamePieces p q
+  pub sides : (p f t : PieceData) → IsReached p → HasStep p (Split f t) p.name → IsReached f × IsReached t
+  pub pools : (p : PieceData) → IsReached p → IsPool p.pool × HasNoTwins p.pool

@@ -1,0 +1,12 @@
+//! Laws of the rules of symbolic execution.
+
+ghost use Rattle.sf_piece.specs.OneExecution.{IsExecutionOne};
+
+use sf_dom::rules_have_one_result;
+
+/// A stack has one execution tree: by the rules a piece has one step, and the tree has one piece of a name.
+pub fn execution_has_one_result()
+    ensures { IsExecutionOne }
+{
+    rules_have_one_result();
+}
