@@ -15,7 +15,8 @@ use Rattle.sf_profile.specs.declared.instruction.Instruction.{Instruction}
 use Rattle.sf_profile.specs.declared.instruction.Instruction.TheVariants.{Load, Branch, Skip, Return}
 use Rattle.sf_profile.specs.Data.{RuleData, PartData, PlanData}
 use Rattle.sf_profile.specs.Meaning.{number_in, arch_in, arch_of, is_wide, is_x64_number, is_of_set, says, pick, is_newer, refuses_newer, response_of, response_in, response_at, answer_of, meaning}
-use Rattle.sf_profile.specs.Form.{newer_where, round_code, places, body_code, set_code, part_code, form, value_of}
+use Rattle.sf_insn.specs.Spelling.{AreInsns}
+use Rattle.sf_profile.specs.Form.{newer_where, round_code, places, body_code, set_code, part_code, form, value_of, raw_of}
 use Rattle.sf_profile.proofs.Returns.{returned, skip_all}
 use Rattle.sf_profile.proofs.ComparisonLemmas.{Goes, choose}
 use Rattle.sf_profile.proofs.RuleLemmas.{after_rule, passes_go}
@@ -175,10 +176,10 @@ parts_go plan d (part ∷ parts) input =
     by true = refl
     by false = refl
 
-pub form_answers : (plan : PlanData) (d : Input) → length (form plan) ≤ 4096 → IsInput d
-    → Answers (map insn_of (form plan) ∷ []) d (meaning plan d)
-form_answers plan d short input =
+pub form_answers : (plan : PlanData) (d : Input) → length (form plan) ≤ 4096 → AreInsns (map raw_of (form plan))
+    → IsInput d → Answers (map insn_of (form plan) ∷ []) d (meaning plan d)
+form_answers plan d short fields input =
     let response = response_at plan d (find (λ (part : PartData). is_of_set part.set d) plan.parts) in
-    let value = return_is (form plan) d (value_of response) (form_lawful plan short)
+    let value = return_is (form plan) d (value_of response) (form_lawful plan short fields)
     (parts_go plan d plan.parts input 0) in
     subst (λ v. IsAnswer (v ∷ []) (answer_of response)) (sym value) (answers response)

@@ -1,8 +1,9 @@
 -- A written filter is lawful.
-use Rattle.std.proofs.Common.{◌≡◌, ℕ, zero, suc, ◌+◌, ◌-◌, ◌≤◌, List, [], ◌∷◌, ◌++◌, length, length-append, map, Some, slice_get, refl, ap, ◌∙◌, subst, sym, arith}
+use Rattle.std.proofs.Common.{◌≡◌, ℕ, zero, suc, ◌+◌, ◌-◌, ◌<◌, ◌≤◌, ◌^◌, List, [], ◌∷◌, ◌++◌, length, length-append, map, Some, slice_get, refl, ap, ◌∙◌, subst, sym, arith}
 use Rattle.std.proofs.lemmas.Option.{slice_get-map, same_Some}
 use Rattle.std.proofs.lemmas.List.{length-map}
 use Rattle.std.specs.List.{flat_map}
+use Rattle.sf_insn.specs.Spelling.{IsInsn, AreInsns}
 use Rattle.sf_check.specs.declared.insn.Insn.{Insn}
 use Rattle.sf_check.specs.Insns.{targets, loaded_by, IsInRange, IsReturn}
 use Rattle.sf_check.specs.Programs.{IsAt, AllBelow, IsLawfulProgram}
@@ -10,7 +11,7 @@ use Rattle.sf_run.specs.RunLaws.{option_map_some}
 use Rattle.sf_profile.specs.declared.instruction.Instruction.{Instruction}
 use Rattle.sf_profile.specs.declared.instruction.Instruction.TheVariants.{Load, Mask, Branch, Skip, Return}
 use Rattle.sf_profile.specs.Data.{PlanData}
-use Rattle.sf_profile.specs.Form.{form, part_code}
+use Rattle.sf_profile.specs.Form.{form, part_code, raw_of}
 use Rattle.sf_profile.proofs.RunLemmas.{insn_of}
 use Rattle.sf_profile.proofs.JumpLemmas.{Leads, AllLead, form_leads}
 
@@ -29,12 +30,31 @@ found : (code : List Instruction) (at : ℕ) (i : Insn) → IsAt (map insn_of co
     → (j : Instruction) × (slice_get code at ≡ Some j) × (insn_of j ≡ i)
 found code at i e = option_map_some insn_of (slice_get code at) i (sym (slice_get-map insn_of code at) ∙ e)
 
-in_range : (i : Instruction) (n : ℕ) → Leads i n → IsInRange (insn_of i)
-in_range (Load word) n l = l
-in_range (Mask k) n l = tt
-in_range (Branch test k on_true on_false) n l = tt
-in_range (Skip k) n l = tt
-in_range (Return k) n l = tt
+-- the number that an instruction asks for is a word, if it is a test
+abbrev AsksWord : Instruction → Type 0
+AsksWord (Branch test k on_true on_false) = k < 2 ^ 32
+AsksWord _ = Unit {0}
+
+asks_word : (i : Instruction) → IsInsn (raw_of i) → AsksWord i
+asks_word (Load word) h = tt
+asks_word (Mask k) h = tt
+asks_word (Branch test k on_true on_false) h = h.3
+asks_word (Skip k) h = tt
+asks_word (Return k) h = tt
+
+-- so it is of each instruction that was written
+ask_words : (code : List Instruction) (at : ℕ) (i : Instruction) → AreInsns (map raw_of code)
+    → slice_get code at ≡ Some i → AsksWord i
+ask_words [] at i h e = absurd cc
+ask_words (j ∷ code) zero i h e = subst AsksWord (same_Some j i e) (asks_word j (h 0 (raw_of j) (omega arith)))
+ask_words (j ∷ code) (suc at) i h e = ask_words code at i (λ k d short. h (suc k) d (omega (arith, short))) e
+
+in_range : (i : Instruction) (n : ℕ) → Leads i n → AsksWord i → IsInRange (insn_of i)
+in_range (Load word) n l w = l
+in_range (Mask k) n l w = tt
+in_range (Branch test k on_true on_false) n l w = w
+in_range (Skip k) n l w = tt
+in_range (Return k) n l w = tt
 
 inside : (i : Instruction) (at n size : ℕ) → at + 1 + n ≡ size → Leads i n → AllBelow size (targets at (insn_of i))
 inside (Load word) at n size e l = tt
@@ -56,14 +76,15 @@ last_is (j ∷ code) i = last_is code i
 
 -- instructions that end with a return, and whose jumps lead inside, are a lawful program
 pub lawful : (code : List Instruction) (value : ℕ) → AllLead 0 (code ++ Return value ∷ [])
-    → length (code ++ Return value ∷ []) ≤ 4096 → IsLawfulProgram (map insn_of (code ++ Return value ∷ []))
-lawful code value h short = record {
+    → length (code ++ Return value ∷ []) ≤ 4096 → AreInsns (map raw_of (code ++ Return value ∷ []))
+    → IsLawfulProgram (map insn_of (code ++ Return value ∷ []))
+lawful code value h short fields = record {
   some = omega (arith, size, long);
   short = omega (arith, size);
   in_range = λ at i e.
       let f = found whole at i e in
       let l = leads_at 0 whole at f.0 h f.1 in
-      subst IsInRange f.2 (in_range f.0 l.0 l.2);
+      subst IsInRange f.2 (in_range f.0 l.0 l.2 (ask_words whole at f.0 fields f.1));
   inside = λ at i e.
       let f = found whole at i e in
       let l = leads_at 0 whole at f.0 h f.1 in
@@ -90,5 +111,6 @@ lawful code value h short = record {
     long : length whole ≡ length code + 1
     long = length-append code (Return value ∷ [])
 
-pub form_lawful : (plan : PlanData) → length (form plan) ≤ 4096 → IsLawfulProgram (map insn_of (form plan))
-form_lawful plan short = lawful (flat_map (part_code plan) plan.parts) 0 (form_leads plan) short
+pub form_lawful : (plan : PlanData) → length (form plan) ≤ 4096 → AreInsns (map raw_of (form plan))
+    → IsLawfulProgram (map insn_of (form plan))
+form_lawful plan short fields = lawful (flat_map (part_code plan) plan.parts) 0 (form_leads plan) short fields

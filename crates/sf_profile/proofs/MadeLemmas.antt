@@ -28,8 +28,11 @@ made plan raws bytes spelled fields same fit = record {
     spelled = spelled;
     read = subst (λ (r : List RawInsn). Spells r (map insn_of (form plan))) (sym same)
         (spells 0 (form plan) (form_leads plan));
-    lawful = form_lawful plan (short (form plan) fit);
+    lawful = form_lawful plan (short (form plan) fit) written;
   };
-  answers = λ d input. form_answers plan d (short (form plan) fit) input;
+  answers = λ d input. form_answers plan d (short (form plan) fit) written input;
   plain = form_plain plan;
 }
+  where
+    written : AreInsns (map raw_of (form plan))
+    written = subst AreInsns same fields
