@@ -1,5 +1,6 @@
 -- A piece goes on over tests that fail: over one, and over a chain of them at once.
 use Rattle.std.proofs.Common.{◌≡◌, ◌≢◌, ◌==◌, ℕ, zero, suc, ◌+◌, ◌<◌, ◌≤◌, Bool, false, List, [], ◌∷◌, ◌++◌, length, get_or, replicate, refl, sym, ap, subst, ◌∙◌, arith, append_assoc, append-nil}
+use Rattle.std.proofs.lemmas.Grind.{common_steps}
 use Rattle.std.proofs.lemmas.List.{replicate_more}
 use Rattle.std.proofs.lemmas.Bool.Decides.{nat_tests}
 use Rattle.std.proofs.lemmas.Option.{slice_get-get_or, get_or_from_slice_get}
@@ -11,6 +12,8 @@ use Rattle.sf_check.specs.Programs.{IsAt}
 use Rattle.sf_check.specs.EqualTests.{ArePassed}
 use Rattle.sf_dom.specs.declared.known.Known.{Known}
 use Rattle.sf_dom.specs.Known.{Admits}
+use Rattle.sf_dom.specs.Rules.{assumed, IsClosed}
+use Rattle.sf_dom.specs.Telling.{IsForcedBy}
 use Rattle.sf_dom.specs.Facts.{known_at}
 use Rattle.sf_piece.specs.Pieces.{PieceData}
 use Rattle.sf_piece.specs.declared.machine.SymbolicMachine.{SymbolicMachine}
@@ -32,14 +35,13 @@ weakened : (m n : ℕ) → m < n → m ≤ n
 weakened m n h = omega (arith, h)
 
 -- the machine where a test that fails leads
-next_place : PieceData → ℕ → SymbolicMachine
+abbrev pub next_place : PieceData → ℕ → SymbolicMachine
 next_place p f = record p.machine { place = p.machine.place + 1 + f }
 
 -- a piece goes on over one test that fails
 over_one : (p : PieceData) (i : Insn) (known : Known) (f : ℕ) → IsLawfulPiece p
     → p.machine.program < length p.stack → known ≡ known_at p.facts.known p.machine.a.0
     → IsAt (code_at p) p.machine.place i → IsFailing i known f → HasGoneOn p (taken_on p false (next_place p f))
-unfolding next_place
 over_one p i known f h running is at fails =
     let standing = at_hand p i h.run running at in
     let always = told_of_known p Equal (Constant fails.number) fails.number known false h.run refl is fails.fails in
@@ -69,7 +71,6 @@ pub over_one_more : (p : PieceData) (code : List Insn) (known : Known) (n place 
     → known ≡ known_at p.facts.known p.machine.a.0 → HasGoneOn p (behind_chain p n place)
     → IsFailing (get_or code place (LoadWord 0)) known f → next ≡ place + (1 + f)
     → HasGoneOn p (behind_chain p (n + 1) next)
-unfolding next_place
 over_one_more p code known n place f next at is gone fails leads =
     let q = behind_chain p n place in
     let i = get_or code place (LoadWord 0) in
@@ -87,12 +88,21 @@ over_one_more p code known n place f next at is gone fails leads =
       machine = record p.machine { place = place + 1 + f };
     })) names (gone_trans p q (taken_on q false (next_place q f)) gone once))
 
+-- a number that isn't the only one of A: the rules forbid that A is equal to it
+other_number : (k : Known) (m n : ℕ) → k.low ≡ m → k.high ≡ m → n ≢ m → IsForcedBy IsClosed k Equal n false
+unfolding assumed
+other_number k m n low high ne = record {
+  other = λ s is g. omega (arith, g.low, g.high, is.ordered, low, high, ne);
+  this = grind (arith, common_steps, nat_tests);
+  that = grind (arith, common_steps, nat_tests);
+}
+
 -- tests for other numbers than the one that A has fail
 pub others_fail : (code : List Insn) (known : Known) (number n place behind : ℕ)
-    → ((x : ℕ) → Admits known x → x ≡ number) → ArePassed code number n place behind
+    → known.low ≡ number → known.high ≡ number → ArePassed code number n place behind
     → AreFailing code known n place behind
-others_fail code known number zero place behind only passed = passed
-others_fail code known number (suc n) place behind only passed =
+others_fail code known number zero place behind low high passed = passed
+others_fail code known number (suc n) place behind low high passed =
     let test = passed.3 in (
       test.insn,
       test.skips,
@@ -102,11 +112,15 @@ others_fail code known number (suc n) place behind only passed =
         on_true = test.asks.on_true;
         is = test.asks.is;
         fails = λ x admits. not_equal x passed.0 (λ e. passed.2 (sym e ∙ only x admits));
+        forced = λ closed. other_number known number passed.0 low high passed.2;
       },
-      others_fail code known number n (place + 1 + test.skips) behind only
+      others_fail code known number n (place + 1 + test.skips) behind low high
           (subst (λ (p : ℕ). ArePassed code number n p behind) test.leads passed.4),
     )
   where
+    only : (x : ℕ) → Admits known x → x ≡ number
+    only x a = omega (arith, a.above, a.below, low, high)
+
     not_equal : (x k : ℕ) → x ≢ k → x == k ≡ false
     not_equal x k apart = grind (arith, nat_tests)
 

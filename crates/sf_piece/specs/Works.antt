@@ -26,6 +26,9 @@ use Rattle.sf_dom.specs.Facts.{FactsView, Covers, Agrees, AreNarrower, DecidesTe
 use Rattle.sf_dom.specs.Propagation.{Meets}
 use Rattle.sf_dom.specs.GoingBack.{GoingBackGives}
 use Rattle.sf_dom.specs.Learning.{LearnsBy}
+use Rattle.sf_dom.specs.Rules.{IsClosed}
+use Rattle.sf_dom.specs.Telling.{IsForcedBy}
+use Rattle.sf_dom.specs.Backward.{IsPropagatedBack}
 use Rattle.sf_dom.specs.Facts.{IsPlainCondition}
 use Rattle.sf_piece.specs.declared.machine.SymbolicMachine.{SymbolicMachine}
 pub use Rattle.sf_piece.specs.Execution.{code_at, with_sense, AfterTruthValue, divides_at}
@@ -69,6 +72,7 @@ pub record IsFailing (i : Insn) (known : Known) (skips : ℕ) : Type 0 where
   pub on_true : ℕ
   pub is : i ≡ Branch Equal (Constant number) on_true skips
   pub fails : (x : ℕ) → Admits known x → passes Equal x number ≡ false
+  pub forced : IsClosed known → IsForcedBy IsClosed known Equal number false
 
 -- From one place of a program, n such tests lead to another place, each where the one before leads if it fails.
 abbrev pub AreFailing : List Insn → Known → ℕ → ℕ → ℕ → Type 0
@@ -209,6 +213,10 @@ IsOperandNumber p other n = (d : Input) → IsInput d → Agrees p.facts p.pool 
 -- known bits that go back from a node change nothing
 abbrev pub NothingGoesBack : PieceData → NodeId → Type 0
 NothingGoesBack p node = GoingBackGives p.facts.known p.facts.excluded p.pool node.0 (Some p.facts.known)
+
+-- what is known of the bits of A is known of the nodes that it comes of
+abbrev pub IsAPropagatedBack : PieceData → Type 0
+IsAPropagatedBack p = (n : ℕ) → IsPropagatedBack n p.facts.known p.pool p.machine.a.0
 
 -- the next truth value is this on every member
 pub record IsForeseen (p : PieceData) (i : Insn) (b : Bool) : Type 0 where

@@ -3,7 +3,11 @@
 ghost use Rattle.std.specs.Prelude.{◌≡◌, ◌<◌, length, IfOk, IfSome};
 ghost use Rattle.sf_dom.specs.Facts.{known_at};
 ghost use Rattle.sf_piece.specs.SymbolicRun.{IsLawfulPiece};
-ghost use Rattle.sf_piece.specs.Works.{HasGoneOn, IsFailing, AreFailing, behind_chain};
+ghost use Rattle.sf_dom.specs.SoundRules.{ForcedIsLearnt};
+ghost use Rattle.sf_piece.specs.Execution.{GoesOnFor};
+ghost use Rattle.sf_piece.specs.SmallSteps.{IsTidy, IsExecuted};
+ghost use Rattle.sf_piece.specs.declared.deciding.SmallStep.{SmallStep};
+ghost use Rattle.sf_piece.specs.Works.{HasGoneOn, IsFailing, AreFailing, IsAPropagatedBack, behind_chain};
 
 use crate::fault::Fault;
 use crate::run::Run;
@@ -43,7 +47,9 @@ fn skip_others(program: &Program, place: usize, known: Known) -> Passed
 fn failing_chain(run: &Run, known: Known) -> Passed
     requires lawful { IsLawfulPiece run.now }
     requires known { known ≡ known_at run.now.facts.known run.now.machine.a.0 }
-    ensures { HasGoneOn run.now (behind_chain run.now result.count result.behind) }
+    ensures gone { HasGoneOn run.now (behind_chain run.now result.count result.behind) }
+    ensures rule { ForcedIsLearnt → IsTidy run.now → IsAPropagatedBack run.now
+        → GoesOnFor result.count run.now (behind_chain run.now result.count result.behind) }
 {
     let first = run.machine.place;
     let Some(program) = run.program() else {
@@ -74,7 +80,9 @@ fn failing_chain(run: &Run, known: Known) -> Passed
 /// to the name at once, and what is known stays as it is.
 pub(crate) fn take_failing(run: &mut Run) -> Result<(), Fault>
     requires { IsLawfulPiece run.old }
-    ensures { IfOk result (λ _. HasGoneOn run.old run.new) }
+    ensures gone { IfOk result (λ _. HasGoneOn run.old run.new) }
+    ensures rule { ForcedIsLearnt → IsTidy run.old → IsAPropagatedBack run.old
+        → IfOk result (λ _. IsExecuted run.old run.new SmallStep.On) }
 {
     let known = run.facts.known(run.machine.a);
     let chain = failing_chain(run, known);

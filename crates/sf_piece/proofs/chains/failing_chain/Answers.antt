@@ -1,17 +1,22 @@
 use Rattle.std.proofs.Common.{List, length, ap, sym, subst, arith}
 use Rattle.sf_check.specs.declared.insn.Insn.{Insn}
-use Rattle.sf_piece.specs.Works.{IsCodeAtHand}
+use Rattle.sf_piece.specs.Pieces.{PieceData}
+use Rattle.sf_piece.specs.Works.{IsCodeAtHand, AreFailing}
+use Rattle.sf_piece.proofs.FailingSteps.{steps_none, steps_one_more, steps_failing}
 use Rattle.sf_piece.proofs.FailingTests.{over_none, over_failing, over_one_more, few_failing, inside_behind}
 use Rattle.sf_piece.proofs.chains.failing_chain.Goals as goal
 
-pub returns-in_default : goal.returns-in_default
-returns-in_default c = rw (← c.run.view_is) (over_none _ (rw (← c.run.view_is) at c.requires.lawful))
+pub returns-in_default-clause-gone : goal.returns-in_default-clause-gone
+returns-in_default-clause-gone c = rw (← c.run.view_is) (over_none _ (rw (← c.run.view_is) at c.requires.lawful))
 
-pub returns-then-is_none : goal.returns-then-is_none
-returns-then-is_none c = rw (← c.run.view_is) (over_none _ (rw (← c.run.view_is) at c.requires.lawful))
+pub returns-then-is_none-clause-gone : goal.returns-then-is_none-clause-gone
+returns-then-is_none-clause-gone c = rw (← c.run.view_is) (over_none _ (rw (← c.run.view_is) at c.requires.lawful))
 
-pub loop-skips-init : goal.loop-skips-init
-loop-skips-init c = search (arith, over_failing, few_failing)
+pub returns-in_default-clause-rule : goal.returns-in_default-clause-rule
+returns-in_default-clause-rule c = λ laws tidy back. rw (← c.run.view_is) (steps_none _)
+
+pub returns-then-is_none-clause-rule : goal.returns-then-is_none-clause-rule
+returns-then-is_none-clause-rule c = λ laws tidy back. rw (← c.run.view_is) (steps_none _)
 
 pub bounds-code-behind : goal.bounds-code-behind
 bounds-code-behind c =
@@ -34,4 +39,23 @@ loop-skips-preserved c =
           c.in-Some-failing_skips.skips _ at c.requires.known c.loop-skips.invariant.gone
           c.in-Some-failing_skips.ensures (omega arith);
       few = omega (arith, c.loop-skips.invariant.few);
+      rule = λ laws tidy back.
+          steps_one_more laws c.args.run.now c.insns-code.result.now c.args.known c.loop-skips.count c.loop-skips.behind
+          c.in-Some-failing_skips.skips _ tidy back at c.requires.known c.loop-skips.invariant.gone
+          (c.loop-skips.invariant.rule laws tidy back) c.in-Some-failing_skips.ensures (omega arith);
+    }
+
+pub loop-skips-init : goal.loop-skips-init
+loop-skips-init c =
+    let p = c.args.run.now in
+    let failing = subst (λ (r : PieceData). AreFailing c.in-Some.program.now c.args.known c.skip_others-count.result.count
+    r.machine.place c.skip_others-count.result.behind) c.run.view_is c.skip_others-count.ensures in
+    record {
+      gone = over_failing p c.in-Some.program.now c.args.known c.skip_others-count.result.count c.skip_others-count.result.behind
+          c.requires.lawful c.in-Some.ensures c.requires.known failing;
+      few = omega (arith, few_failing c.in-Some.program.now c.args.known c.skip_others-count.result.count p.machine.place
+          c.skip_others-count.result.behind failing);
+      rule = λ laws tidy back.
+          steps_failing laws p c.in-Some.program.now c.args.known c.skip_others-count.result.count c.skip_others-count.result.behind
+          tidy back c.in-Some.ensures c.requires.known (over_none p c.requires.lawful) failing;
     }
