@@ -1,10 +1,11 @@
 -- Small steps of a piece, as the rules have them.
-use Rattle.std.proofs.Common.{◌≡◌, ℕ, zero, suc, ◌-◌, ◌^◌, ◌<◌, Bool, true, false, length, refl, sym, ap, subst, ◌∙◌, inl, inr, arith}
-use Rattle.std.specs.Prelude.{Some, None, Result, Ok, Err, IfOk}
+use Rattle.std.proofs.Common.{◌≡◌, ℕ, zero, suc, ◌-◌, ◌^◌, ◌<◌, Bool, true, false, length, refl, sym, ap, subst, ◌∙◌, inl, inr, arith, ◌+◌, [], ◌∷◌, ◌++◌}
+use Rattle.std.specs.Prelude.{Some, None, Result, Ok, Err, IfOk, if◌then◌else◌}
 use Rattle.sf_insn.specs.declared.ops.BinOp.{BinOp}
+use Rattle.sf_insn.specs.declared.ops.Test.{Test}
 use Rattle.sf_insn.specs.declared.ops.Test.TheVariants.{Equal, AnyBit}
 use Rattle.sf_check.specs.declared.insn.Insn.{Insn}
-use Rattle.sf_check.specs.declared.insn.Insn.TheVariants.{Alu, ReturnA}
+use Rattle.sf_check.specs.declared.insn.Insn.TheVariants.{Alu, Branch, ReturnA}
 use Rattle.sf_check.specs.declared.insn.Operand.{Operand}
 use Rattle.sf_check.specs.declared.insn.Operand.TheVariants.{Constant}
 use Rattle.sf_sym.specs.declared.pool.Cond.{Cond}
@@ -22,7 +23,9 @@ use Rattle.sf_piece.specs.declared.deciding.Decision.TheVariants as decided
 use Rattle.sf_piece.specs.declared.deciding.SmallStep.{SmallStep}
 use Rattle.sf_piece.specs.declared.deciding.SmallStep.TheVariants.{On, Split, Settled, Empty}
 use Rattle.sf_piece.specs.declared.fault.Fault.{Fault}
+use Rattle.sf_piece.specs.declared.machine.SymbolicMachine.{SymbolicMachine}
 use Rattle.sf_piece.specs.Pieces.{PieceData}
+use Rattle.sf_piece.specs.Works.{IsAPropagatedBack}
 use Rattle.sf_piece.specs.SymbolicRun.{IsPiece}
 use Rattle.sf_piece.specs.Execution.{Gets, GetsOperand, with_machine, LoadsA, divides_at, query, HasQuery, LeavesOnly, IsSide, IsNamedOn, IsAtHand}
 use Rattle.sf_piece.specs.Foresight.{IsForetold}
@@ -79,6 +82,61 @@ pub operation_ok : (p q r : PieceData) (op : BinOp) (other : Operand) (right : N
 operation_ok p q r op other right (Ok step) at goes gets same made =
     operation_executed p q r op other right step at goes gets same made
 operation_ok p q r op other right (Err e) at goes gets same made = tt
+
+-- ---- a test of A
+
+-- what a test asks for
+pub test_asks : (p : PieceData) (test : Test) (other : Operand) (t f : ℕ) (given : PieceData × NodeId)
+    → GetsOperand p other (Some given)
+    → HasQuery p (Branch test other t f) (Some (given.0, query p.machine.a test given.1))
+test_asks p test other t f given gets = (Some given, gets, refl)
+
+-- its second word contradicts
+pub test_empties : (p q : PieceData) (test : Test) (other : Operand) (t f : ℕ) → IsAtHand p (Branch test other t f)
+    → GetsOperand p other None → IsExecuted p q Empty
+test_empties p q test other t f at none = (Branch test other t f, at, inr (inl (None, none, refl)))
+
+-- its result is implied, and the piece goes on
+pub test_executed : (p q r : PieceData) (test : Test) (other : Operand) (t f : ℕ) (b : Bool)
+    → IsAtHand p (Branch test other t f) → IsForetold p test other b → IsNamedOn p (Branch test other t f) b q
+    → IsExecuted q r On → IsExecuted p r On
+test_executed p q r test other t f b at told named on =
+    let asked : PieceData × Cond = (told.0.0, query p.machine.a test told.0.1) in (
+      suc on.0,
+      (
+        q,
+        (
+          Branch test other t f,
+          at,
+          inr (inr (asked, b, test_asks p test other t f told.0 told.1, told.2, named)),
+        ),
+        on.1,
+      ),
+    )
+
+-- the piece behind a test
+behind_test : PieceData → Bool → ℕ → PieceData
+behind_test p b place = record p { name = p.name ++ b ∷ []; machine = record p.machine { place = place } }
+
+is_behind : (p q : PieceData) (test : Test) (other : Operand) (t f : ℕ) (b : Bool)
+    → IsNamedOn p (Branch test other t f) b q → q ≡ behind_test p b (p.machine.place + 1 + (if b then t else f))
+unfolding behind_test
+is_behind p q test other t f b named =
+    named.rest ∙ ap (λ (m : SymbolicMachine). let r : PieceData = record p { name = p.name ++ b ∷ []; machine = m } in r)
+    named.machine
+
+pub tidy_behind : (p q : PieceData) (test : Test) (other : Operand) (t f : ℕ) (b : Bool)
+    → IsNamedOn p (Branch test other t f) b q → IsTidy p → IsTidy q
+unfolding behind_test
+tidy_behind p q test other t f b named tidy =
+    subst IsTidy (sym (is_behind p q test other t f b named))
+    (record { twins = tidy.twins; zero = tidy.zero; numbers = tidy.numbers })
+
+pub back_behind : (p q : PieceData) (test : Test) (other : Operand) (t f : ℕ) (b : Bool)
+    → IsNamedOn p (Branch test other t f) b q → IsAPropagatedBack p → IsAPropagatedBack q
+unfolding behind_test
+back_behind p q test other t f b named back =
+    subst IsAPropagatedBack (sym (is_behind p q test other t f b named)) back
 
 -- ---- a return of A
 

@@ -2,7 +2,7 @@
 
 ghost use Rattle.std.specs.Prelude.{◌≡◌, ℕ, ◌<◌, ◌^◌, IfOk, IfSome};
 ghost use Rattle.sf_piece.specs.SymbolicRun.{IsLawfulPiece};
-ghost use Rattle.sf_piece.specs.Works.{HasAtHand, IsOperandNumber, NothingGoesBack, PassesAlways, divides_at};
+ghost use Rattle.sf_piece.specs.Works.{HasAtHand, IsOperandNumber, NothingGoesBack, IsAPropagatedBack, PassesAlways, divides_at};
 ghost use Rattle.sf_dom.specs.SoundRules.{ForcedIsLearnt};
 ghost use Rattle.sf_piece.specs.Execution.{HasNoTwins, IsAtHand};
 ghost use Rattle.sf_piece.specs.Foresight.{IsNumberOf, IsForetold};
@@ -56,6 +56,7 @@ fn foresee(run: &Run, test: Test, other: Operand) -> Option<bool>
     requires { IsLawfulPiece run.now }
     ensures value { IfSome result (λ b. PassesAlways run.now test other b) }
     ensures back { IfSome result (λ b. NothingGoesBack run.now run.now.machine.a) }
+    ensures walked { IfSome result (λ b. IsAPropagatedBack run.now) }
     ensures rule { ForcedIsLearnt → HasNoTwins run.now.pool
         → IfSome result (λ b. IsForetold run.now test other b) }
 {
@@ -114,7 +115,9 @@ pub(crate) fn branch(
     requires lawful { IsLawfulPiece run.old }
     requires standing { HasAtHand run.old insn }
     requires is { (t : ℕ) × (f : ℕ) × (insn ≡ Insn.Branch test other t f) }
-    ensures { IfOk result (IsSmallStep run.old run.new) }
+    ensures step { IfOk result (IsSmallStep run.old run.new) }
+    ensures rule { ForcedIsLearnt → IsTidy run.old → IsAtHand run.old insn
+        → IfOk result (IsExecuted run.old run.new) }
 {
     if let Some(sense) = foresee(run, test, other) {
         take(run, insn, sense)?;

@@ -10,6 +10,7 @@ use Rattle.sf_dom.specs.Facts.{known_at, Agrees}
 use Rattle.sf_dom.specs.Rules.{IsClosedAt}
 use Rattle.sf_dom.specs.Telling.{IsForcedBy}
 use Rattle.sf_piece.specs.Pieces.{PieceData}
+use Rattle.sf_piece.specs.Works.{IsAPropagatedBack}
 use Rattle.sf_piece.proofs.Foretold.{told_foretold, told_always}
 use Rattle.sf_piece.proofs.asking.foresee.Goals as goal
 
@@ -32,3 +33,7 @@ returns-clause-rule c = λ laws twins.
     → IsPropagatedBack m q.facts.known q.pool q.machine.a.0)) c.run.view_is c.tell.ensures.walked in
     told_foretold laws c.args.run.now c.args.test c.args.other n o c.requires.run twins c.in_ok-number.ensures.fits
     c.in_ok-number.ensures.rule forced back
+
+pub returns-clause-walked : goal.returns-clause-walked
+returns-clause-walked c =
+    subst (λ (q : PieceData). IfSome c.tell.result (λ b. IsAPropagatedBack q)) c.run.view_is c.tell.ensures.walked
