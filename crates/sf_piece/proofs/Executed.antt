@@ -1,6 +1,6 @@
 -- Small steps of a piece, as the rules have them.
 use Rattle.std.proofs.Common.{◌≡◌, ℕ, zero, suc, ◌-◌, ◌^◌, ◌<◌, Bool, true, false, length, refl, sym, ap, subst, ◌∙◌, inl, inr, arith, ◌+◌, [], ◌∷◌, ◌++◌}
-use Rattle.std.specs.Prelude.{Some, None, Result, Ok, Err, IfOk, if◌then◌else◌}
+use Rattle.std.specs.Prelude.{Option, Some, None, Result, Ok, Err, IfOk, if◌then◌else◌}
 use Rattle.sf_insn.specs.declared.ops.BinOp.{BinOp}
 use Rattle.sf_insn.specs.declared.ops.Test.{Test}
 use Rattle.sf_insn.specs.declared.ops.Test.TheVariants.{Equal, AnyBit}
@@ -27,7 +27,7 @@ use Rattle.sf_piece.specs.declared.machine.SymbolicMachine.{SymbolicMachine}
 use Rattle.sf_piece.specs.Pieces.{PieceData}
 use Rattle.sf_piece.specs.Works.{IsAPropagatedBack}
 use Rattle.sf_piece.specs.SymbolicRun.{IsPiece}
-use Rattle.sf_piece.specs.Execution.{Gets, GetsOperand, with_machine, LoadsA, divides_at, query, HasQuery, LeavesOnly, IsSide, IsNamedOn, IsAtHand}
+use Rattle.sf_piece.specs.Execution.{Gets, GetsOperand, with_machine, LoadsA, Computes, MovesTo, divides_at, query, HasQuery, LeavesOnly, IsSide, IsNamedOn, IsAtHand}
 use Rattle.sf_piece.specs.Foresight.{IsForetold}
 use Rattle.sf_piece.specs.Machines.{after_return}
 use Rattle.sf_piece.specs.SmallSteps.{IsMade, IsDecision, IsCarriedOut, IsTidy, IsExecuted}
@@ -122,7 +122,10 @@ is_behind : (p q : PieceData) (test : Test) (other : Operand) (t f : ℕ) (b : B
     → IsNamedOn p (Branch test other t f) b q → q ≡ behind_test p b (p.machine.place + 1 + (if b then t else f))
 unfolding behind_test
 is_behind p q test other t f b named =
-    named.rest ∙ ap (λ (m : SymbolicMachine). let r : PieceData = record p { name = p.name ++ b ∷ []; machine = m } in r)
+    named.rest ∙ ap (λ (m : SymbolicMachine). let r : PieceData = record p {
+      name = p.name ++ b ∷ [];
+      machine = m;
+    } in r)
     named.machine
 
 pub tidy_behind : (p q : PieceData) (test : Test) (other : Operand) (t f : ℕ) (b : Bool)
@@ -197,3 +200,24 @@ zero_told laws p b h tidy forced back =
       node_back = back;
       other_back = λ n. back_constant n 0 p p.machine.zero.0 tidy.zero;
     })
+
+-- ---- an instruction
+
+-- an instruction that makes a word
+made_executed : (p r : PieceData) (i : Insn) (makes : Option PieceData → Type 0) (step : SmallStep) → IsAtHand p i
+    → ((o : Option PieceData) → makes o → Computes p i o) → IsMade makes r step → IsExecuted p r step
+made_executed p r i makes On at to h = (1, (r, (i, at, inr (inl (to (Some r) h))), refl))
+made_executed p r i makes Empty at to h = (i, at, inl (to None h))
+made_executed p r i makes (Split f t) at to h = absurd h
+made_executed p r i makes Settled at to h = absurd h
+
+pub made_ok : (p r : PieceData) (i : Insn) (makes : Option PieceData → Type 0) (o : Result SmallStep Fault)
+    → IsAtHand p i → ((n : Option PieceData) → makes n → Computes p i n) → IfOk o (IsMade makes r)
+    → IfOk o (IsExecuted p r)
+made_ok p r i makes (Ok step) at to h = made_executed p r i makes step at to h
+made_ok p r i makes (Err e) at to h = tt
+
+-- an instruction that moves words about, jumps or returns a constant
+pub moved_executed : (p r : PieceData) (i : Insn) (m : SymbolicMachine) → IsAtHand p i → MovesTo p.machine i m
+    → r ≡ with_machine p m → IsExecuted p r On
+moved_executed p r i m at moves same = (1, (r, (i, at, inl (m, moves, same)), refl))

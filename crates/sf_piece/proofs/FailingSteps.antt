@@ -1,5 +1,5 @@
 -- Tests that fail, one behind the other, by the rules.
-use Rattle.std.proofs.Common.{◌≡◌, ℕ, zero, suc, ◌+◌, ◌-◌, ◌<◌, ◌^◌, Bool, false, List, [], ◌∷◌, ◌++◌, length, get_or, replicate, Some, refl, sym, ap, subst, inl, inr, arith, append_assoc, append-nil}
+use Rattle.std.proofs.Common.{◌≡◌, ℕ, zero, suc, ◌+◌, ◌-◌, ◌<◌, Bool, false, List, [], ◌∷◌, ◌++◌, length, get_or, replicate, Some, refl, sym, ap, subst, inr, arith, append_assoc, append-nil}
 use Rattle.std.proofs.lemmas.List.{replicate_more}
 use Rattle.std.proofs.lemmas.Option.{slice_get-get_or, get_or_from_slice_get}
 use Rattle.sf_insn.specs.declared.ops.Test.TheVariants.{Equal}
@@ -10,7 +10,7 @@ use Rattle.sf_check.specs.Programs.{IsAt}
 use Rattle.sf_sym.specs.declared.pool.Cond.{Cond}
 use Rattle.sf_dom.specs.declared.known.Known.{Known}
 use Rattle.sf_dom.specs.Facts.{known_at}
-use Rattle.sf_dom.specs.Rules.{IsClosed, IsClosedAt}
+use Rattle.sf_dom.specs.Rules.{IsClosed}
 use Rattle.sf_dom.specs.SoundRules.{ForcedIsLearnt}
 use Rattle.sf_dom.specs.Telling.{IsForcedBy}
 use Rattle.sf_piece.specs.Pieces.{PieceData}
@@ -30,7 +30,8 @@ fails_on laws p i known f h tidy back running is at fails =
     let n = fails.number in
     let here = subst (λ (j : Insn). IsAt (code_at p) p.machine.place j) fails.is at in
     let fits = tidy.numbers (length p.stack - 1 - p.machine.program) p.machine.place n fails.on_true f Equal here in
-    let closed : IsClosed known = subst IsClosed (sym is) (h.run.covers.rest p.machine.a.0 h.run.nodes.a).closed.known in
+    let closed : IsClosed known = subst IsClosed (sym is)
+    (h.run.covers.rest p.machine.a.0 h.run.nodes.a).closed.known in
     let forced = subst (λ (k : Known). IsForcedBy IsClosed k Equal n false) is (fails.forced closed) in
     let given = gets_told laws p Equal n false h.run.covers (forced_test p Equal n false h.run tidy.twins fits (record {
       other = λ s c g. forced.other s c.known g;
@@ -103,7 +104,8 @@ steps_more laws p code known m (suc n) place behind tidy back at is gone steps f
     subst (λ (j : Insn). IsFailing j known skips) (sym read) failing.3 in
     let next : place + 1 + skips ≡ place + (1 + skips) = omega arith in
     let once = over_one_more p code known m place skips (place + 1 + skips) at is gone fails next in
-    let more = steps_one_more laws p code known m place skips (place + 1 + skips) tidy back at is gone steps fails next in
+    let more = steps_one_more laws p code known m place skips (place + 1
+    + skips) tidy back at is gone steps fails next in
     let e : m + 1 + n ≡ m + suc n = omega arith in
     subst (λ (k : ℕ). GoesOnFor k p (behind_chain p k behind)) e
     (steps_more laws p code known (m + 1) n (place + 1 + skips) behind tidy back at is once more failing.4)

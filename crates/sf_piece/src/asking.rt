@@ -56,7 +56,7 @@ fn foresee(run: &Run, test: Test, other: Operand) -> Option<bool>
     requires { IsLawfulPiece run.now }
     ensures value { IfSome result (λ b. PassesAlways run.now test other b) }
     ensures back { IfSome result (λ b. NothingGoesBack run.now run.now.machine.a) }
-    ensures walked { IfSome result (λ b. IsAPropagatedBack run.now) }
+    ensures propagated { IfSome result (λ b. IsAPropagatedBack run.now) }
     ensures rule { ForcedIsLearnt → HasNoTwins run.now.pool
         → IfSome result (λ b. IsForetold run.now test other b) }
 {

@@ -9,7 +9,8 @@ ghost use Rattle.sf_piece.specs.SymbolicRun.{IsLawfulPiece};
 ghost use Rattle.sf_piece.specs.Machines.{after_return};
 ghost use Rattle.sf_piece.specs.Execution.{LoadsA, LoadsX, MovesTo, with_machine};
 ghost use Rattle.sf_piece.specs.Works.{HasAtHand, SetsA, SetsX, GoesTo, HasAdvanced, ReturnsNow, IsMove};
-ghost use Rattle.sf_piece.specs.SmallSteps.{IsSmallStep, IsMade};
+ghost use Rattle.sf_piece.specs.SmallSteps.{IsSmallStep, IsMade, IsTidy, IsExecuted};
+ghost use Rattle.sf_dom.specs.SoundRules.{ForcedIsLearnt};
 
 use crate::asking::{alu, branch, return_a};
 use crate::deciding::SmallStep;
@@ -24,7 +25,8 @@ use std::alloc::Global;
 /// Runs one instruction, or takes one truth value that it asks for first.
 pub(crate) fn execute(alloc: Global, run: &mut Run) -> Result<SmallStep, Fault>
     requires { IsLawfulPiece run.old }
-    ensures { IfOk result (IsSmallStep run.old run.new) }
+    ensures step { IfOk result (IsSmallStep run.old run.new) }
+    ensures rule { ForcedIsLearnt → IsTidy run.old → IfOk result (IsExecuted run.old run.new) }
 {
     let Some(insn) = run.insn() else {
         return Ok(SmallStep::Settled);

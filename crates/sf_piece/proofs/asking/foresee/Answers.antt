@@ -34,6 +34,6 @@ returns-clause-rule c = λ laws twins.
     told_foretold laws c.args.run.now c.args.test c.args.other n o c.requires.run twins c.in_ok-number.ensures.fits
     c.in_ok-number.ensures.rule forced back
 
-pub returns-clause-walked : goal.returns-clause-walked
-returns-clause-walked c =
+pub returns-clause-propagated : goal.returns-clause-propagated
+returns-clause-propagated c =
     subst (λ (q : PieceData). IfSome c.tell.result (λ b. IsAPropagatedBack q)) c.run.view_is c.tell.ensures.walked
