@@ -133,7 +133,7 @@ pub tidy_behind : (p q : PieceData) (test : Test) (other : Operand) (t f : ℕ) 
 unfolding behind_test
 tidy_behind p q test other t f b named tidy =
     subst IsTidy (sym (is_behind p q test other t f b named))
-    (record { twins = tidy.twins; zero = tidy.zero; numbers = tidy.numbers })
+    (record { twins = tidy.twins; zero = tidy.zero })
 
 pub back_behind : (p q : PieceData) (test : Test) (other : Operand) (t f : ℕ) (b : Bool)
     → IsNamedOn p (Branch test other t f) b q → IsAPropagatedBack p → IsAPropagatedBack q

@@ -1,5 +1,5 @@
 -- Tests that fail, one behind the other, by the rules.
-use Rattle.std.proofs.Common.{◌≡◌, ℕ, zero, suc, ◌+◌, ◌-◌, ◌<◌, Bool, false, List, [], ◌∷◌, ◌++◌, length, get_or, replicate, Some, refl, sym, ap, subst, inr, arith, append_assoc, append-nil}
+use Rattle.std.proofs.Common.{◌≡◌, ℕ, zero, suc, ◌+◌, ◌<◌, Bool, false, List, [], ◌∷◌, ◌++◌, length, get_or, replicate, Some, refl, sym, ap, subst, inr, arith, append_assoc, append-nil}
 use Rattle.std.proofs.lemmas.List.{replicate_more}
 use Rattle.std.proofs.lemmas.Option.{slice_get-get_or, get_or_from_slice_get}
 use Rattle.sf_insn.specs.declared.ops.Test.TheVariants.{Equal}
@@ -18,6 +18,7 @@ use Rattle.sf_piece.specs.SymbolicRun.{IsLawfulPiece}
 use Rattle.sf_piece.specs.Execution.{query, GoesOn, GoesOnFor, code_at}
 use Rattle.sf_piece.specs.SmallSteps.{IsTidy}
 use Rattle.sf_piece.specs.Works.{HasGoneOn, IsFailing, AreFailing, IsCodeAtHand, IsAPropagatedBack, behind_chain}
+use Rattle.sf_piece.proofs.AtHand.{at_hand}
 use Rattle.sf_piece.proofs.Children.{taken_on}
 use Rattle.sf_piece.proofs.FailingTests.{next_place, inside_behind, over_one_more}
 use Rattle.sf_piece.proofs.Foretold.{gets_told, forced_test}
@@ -29,7 +30,7 @@ fails_on : (laws : ForcedIsLearnt) (p : PieceData) (i : Insn) (known : Known) (f
 fails_on laws p i known f h tidy back running is at fails =
     let n = fails.number in
     let here = subst (λ (j : Insn). IsAt (code_at p) p.machine.place j) fails.is at in
-    let fits = tidy.numbers (length p.stack - 1 - p.machine.program) p.machine.place n fails.on_true f Equal here in
+    let fits = (at_hand p (Branch Equal (Constant n) fails.on_true f) h.run running here).in_range in
     let closed : IsClosed known = subst IsClosed (sym is)
     (h.run.covers.rest p.machine.a.0 h.run.nodes.a).closed.known in
     let forced = subst (λ (k : Known). IsForcedBy IsClosed k Equal n false) is (fails.forced closed) in
@@ -73,7 +74,7 @@ steps_one_more laws p code known n place f next tidy back at is gone steps fails
     let here = slice_get-get_or code place (LoadWord 0) (inside_behind p code n place at gone) in
     let there : IsAt (code_at p) place i = subst (λ (c : List Insn). IsAt c place i) at.is here in
     let once = fails_on laws q i known f gone.lawful
-    (record { twins = tidy.twins; zero = tidy.zero; numbers = tidy.numbers }) back at.running is there fails in
+    (record { twins = tidy.twins; zero = tidy.zero }) back at.running is there fails in
     let names : (p.name ++ replicate n false) ++ false ∷ [] ≡ p.name ++ replicate (n + 1) false =
     search (arith, append_assoc, replicate_more) in
     let places : place + 1 + f ≡ next = omega (arith, leads) in

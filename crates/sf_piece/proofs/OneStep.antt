@@ -12,7 +12,7 @@ use Rattle.sf_dom.specs.Learning.{CantLearn}
 use Rattle.sf_dom.specs.SoundRules.{HaveOneResult}
 use Rattle.sf_piece.specs.declared.machine.SymbolicMachine.{SymbolicMachine}
 use Rattle.sf_piece.specs.Pieces.{PieceData, StepData, Split, Settled, Empty}
-use Rattle.sf_piece.specs.Execution.{HasNoTwins, on, with_machine, Computes, MovesTo, query, HasQuery, with_sense, LeavesOnly, LeavesNeither, IsSide, IsNamedOn, code_at, IsAtHand, MakesOf, GoesOn, SplitsInto, IsEmptied, GoesOnFor, EndsAs, HasStep, AreSamePieces, AreSameSteps}
+use Rattle.sf_piece.specs.Execution.{HasNoTwins, on, with_machine, Computes, MovesTo, HasQuery, with_sense, LeavesOnly, LeavesNeither, IsSide, IsNamedOn, code_at, IsAtHand, MakesOf, GoesOn, SplitsInto, IsEmptied, GoesOnFor, EndsAs, HasStep, AreSamePieces, AreSameSteps}
 use Rattle.sf_piece.proofs.Kept.{at_same}
 use Rattle.sf_piece.proofs.Alike.{AreAlike, alike_back, computes_alike, forced_alike, learns_alike, named_alike, query_alike, side_alike, with_facts}
 

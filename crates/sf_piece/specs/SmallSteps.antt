@@ -1,10 +1,6 @@
 -- What one instruction, or one truth value, makes of a piece.
-use Rattle.std.specs.Prelude.{◌≡◌, ℕ, ◌<◌, ◌≤◌, ◌^◌, [], length, get_or, true, false, Option, Some, None}
-use Rattle.sf_insn.specs.declared.ops.Test.{Test}
+use Rattle.std.specs.Prelude.{◌≡◌, ℕ, ◌≤◌, length, true, false, Option, Some, None}
 use Rattle.sf_check.specs.declared.insn.Insn.{Insn}
-use Rattle.sf_check.specs.declared.insn.Insn.TheVariants.{Branch}
-use Rattle.sf_check.specs.declared.insn.Operand.TheVariants.{Constant}
-use Rattle.sf_check.specs.Programs.{IsAt}
 use Rattle.sf_sym.specs.Pool.{node_at}
 use Rattle.sf_sym.specs.declared.pool.Cond.{Cond}
 use Rattle.sf_sym.specs.declared.pool.Node.TheVariants.{Const}
@@ -35,13 +31,10 @@ IsMade makes q Empty = makes None
 IsMade makes q (Split f t) = ⊥
 IsMade makes q Settled = ⊥
 
--- What the rules need of a piece: no node stands twice in its pool, the node that is 0 is a constant, and each number
--- that a test of its stack asks for is a word.
+-- what the rules need of a piece: no node stands twice in its pool, and the node that is 0 is a constant
 pub record IsTidy (p : PieceData) : Type 0 where
   pub twins : HasNoTwins p.pool
   pub zero : node_at p.pool p.machine.zero.0 ≡ Const 0
-  pub numbers : (j at k t f : ℕ) (test : Test) → IsAt (get_or p.stack j []) at (Branch test (Constant k) t f)
-      → k < 2 ^ 32
 
 -- what an instruction or a truth value makes of a piece, by the rules
 abbrev pub IsExecuted : PieceData → PieceData → SmallStep → Type 0
