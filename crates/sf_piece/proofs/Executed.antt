@@ -184,7 +184,7 @@ pub zero_told : (laws : ForcedIsLearnt) (p : PieceData) (b : Bool) → IsPiece p
 zero_told laws p b h tidy forced back =
     let words = words_first p.pool h.pool tidy.twins in
     let within : p.machine.zero.0 < length p.facts.known = omega (arith, h.nodes.zero, h.covers.count) in
-    let ends = h.covers.constants p.machine.zero.0 0 within tidy.zero in
+    let ends = h.covers.constants p.machine.zero.0 0 within tidy.zero.1 in
     let known : known_at p.facts.known p.machine.zero.0 ≡ number_known 0
     = one_number (known_at p.facts.known p.machine.zero.0) (h.covers.lawful.consistent p.machine.zero.0 within)
     (ends.0 ∙ sym ends.1) ∙ ap number_known ends.0 in
@@ -198,7 +198,7 @@ zero_told laws p b h tidy forced back =
       decided = known;
       forced = forced (λ w e. words p.machine.x.0 w h.nodes.x e);
       node_back = back;
-      other_back = λ n. back_constant n 0 p p.machine.zero.0 tidy.zero;
+      other_back = λ n. back_constant n 0 p p.machine.zero.0 tidy.zero.1;
     })
 
 -- ---- an instruction

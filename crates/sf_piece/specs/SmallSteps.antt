@@ -1,7 +1,6 @@
 -- What one instruction, or one truth value, makes of a piece.
 use Rattle.std.specs.Prelude.{◌≡◌, ℕ, ◌≤◌, length, true, false, Option, Some, None}
 use Rattle.sf_check.specs.declared.insn.Insn.{Insn}
-use Rattle.sf_sym.specs.Pool.{node_at}
 use Rattle.sf_sym.specs.declared.pool.Cond.{Cond}
 use Rattle.sf_sym.specs.declared.pool.Node.TheVariants.{Const}
 use Rattle.sf_piece.specs.declared.deciding.Decision.{Decision}
@@ -11,7 +10,7 @@ use Rattle.sf_piece.specs.declared.deciding.SmallStep.{SmallStep}
 use Rattle.sf_piece.specs.declared.deciding.SmallStep.TheVariants.{On, Split, Settled, Empty}
 use Rattle.sf_piece.specs.Pieces.{PieceData, IsRightSplit, IsRightAnswer, HasNoMember}
 use Rattle.sf_check.specs.Stacks.{IsPlain}
-use Rattle.sf_piece.specs.Execution.{HasNoTwins, LeavesOnly, LeavesNeither, IsSide, IsNamedOn, GoesOnFor, SplitsInto, IsEmptied}
+use Rattle.sf_piece.specs.Execution.{IsNodeAt, HasNoTwins, LeavesOnly, LeavesNeither, IsSide, IsNamedOn, GoesOnFor, SplitsInto, IsEmptied}
 use Rattle.sf_piece.specs.PlainPieces.{IsPlainPiece}
 use Rattle.sf_piece.specs.SymbolicRun.{IsLawfulPiece}
 use Rattle.sf_piece.specs.Works.{HasAdvanced, IsForeseen}
@@ -34,7 +33,7 @@ IsMade makes q Settled = ⊥
 -- what the rules need of a piece: no node stands twice in its pool, and the node that is 0 is a constant
 pub record IsTidy (p : PieceData) : Type 0 where
   pub twins : HasNoTwins p.pool
-  pub zero : node_at p.pool p.machine.zero.0 ≡ Const 0
+  pub zero : IsNodeAt p.pool (Const 0) p.machine.zero
 
 -- what an instruction or a truth value makes of a piece, by the rules
 abbrev pub IsExecuted : PieceData → PieceData → SmallStep → Type 0

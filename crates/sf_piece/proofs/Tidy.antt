@@ -1,0 +1,111 @@
+-- A piece stays tidy as it goes on.
+use Rattle.std.proofs.Common.{◌≡◌, ℕ, zero, suc, Bool, true, false, List, [], ◌∷◌, Some, None, refl, sym, ap, subst, ◌∙◌, inl, inr, arith}
+use Rattle.std.proofs.lemmas.Option.{same_Some}
+use Rattle.std.proofs.lemmas.List.{get_or_append_left, length_push}
+use Rattle.sf_insn.specs.declared.ops.BinOp.TheVariants.{Div}
+use Rattle.sf_check.specs.declared.insn.Insn.{Insn}
+use Rattle.sf_check.specs.declared.insn.Insn.TheVariants.{LoadWord, LoadConstant, LoadLength, LoadScratch, LoadXConstant, LoadXLength, LoadXScratch, StoreA, StoreX, Alu, Negate, Jump, Branch, ReturnConstant, ReturnA, Tax, Txa}
+use Rattle.sf_check.specs.declared.insn.Operand.{Operand}
+use Rattle.sf_check.specs.declared.insn.Operand.TheVariants.{Constant, X}
+use Rattle.sf_sym.specs.declared.pool.Node.{Node}
+use Rattle.sf_sym.specs.declared.pool.Node.TheVariants.{Const, Word, Bin, Neg}
+use Rattle.sf_sym.specs.declared.pool.NodeId.{NodeId}
+use Rattle.sf_sym.specs.Pool.{node_at, folded_node}
+use Rattle.sf_piece.specs.declared.machine.SymbolicMachine.{SymbolicMachine}
+use Rattle.sf_piece.specs.Pieces.{PieceData}
+use Rattle.sf_piece.specs.Execution.{IsNodeAt, IsPutIn, IsGiven, GetsOperand, with_machine, with_a, with_x, LoadsA, LoadsX, Computes, MovesTo, AfterTruthValue, MakesOf, GoesOnFor, IsFirst}
+use Rattle.sf_piece.specs.SmallSteps.{IsTidy}
+use Rattle.sf_piece.proofs.Alike.{no_twins_put}
+use Rattle.sf_piece.proofs.OnePiece.{first_twins}
+
+-- an older node stands where it stood
+put_after : (old new : List Node) (node other : Node) (id at : NodeId) → IsNodeAt old other at → IsPutIn old node new id
+    → IsNodeAt new other at
+put_after old new node other id at h (inl k) = subst (λ (ns : List Node). IsNodeAt ns other at) (sym k.1) h
+put_after old new node other id at h (inr k) = subst (λ (ns : List Node). IsNodeAt ns other at) (sym k.2) (
+  omega (arith, h.0, length_push old (folded_node old node)),
+  get_or_append_left old (folded_node old node ∷ []) (Const 0) at.0 h.0 ∙ h.1,
+)
+
+tidy_given : (p : PieceData) (node : Node) (q : PieceData) (id : NodeId) → IsTidy p → IsGiven p node q id → IsTidy q
+tidy_given p node q id tidy h = record {
+  twins = no_twins_put p.pool q.pool node id tidy.twins h.pool;
+  zero = subst (λ (x : PieceData). IsNodeAt q.pool (Const 0) x.machine.zero) (sym h.rest)
+      (put_after p.pool q.pool node (Const 0) id p.machine.zero tidy.zero h.pool);
+}
+
+tidy_with : (p : PieceData) (m : SymbolicMachine) → IsTidy p → m.zero ≡ p.machine.zero → IsTidy (with_machine p m)
+tidy_with p m tidy e = record {
+  twins = tidy.twins;
+  zero = subst (λ (z : NodeId). IsNodeAt p.pool (Const 0) z) (sym e) tidy.zero;
+}
+
+tidy_loads_a : (p : PieceData) (node : Node) (q : PieceData) → IsTidy p → LoadsA p node (Some q) → IsTidy q
+tidy_loads_a p node q tidy (None, h, e) = absurd cc
+tidy_loads_a p node q tidy (Some a, h, e) = subst IsTidy (sym (same_Some q (with_a a) e))
+    (tidy_with a.0 (with_a a).machine (tidy_given p node a.0 a.1 tidy h) refl)
+
+tidy_loads_x : (p : PieceData) (k : ℕ) (q : PieceData) → IsTidy p → LoadsX p k (Some q) → IsTidy q
+tidy_loads_x p k q tidy (None, h, e) = absurd cc
+tidy_loads_x p k q tidy (Some a, h, e) = subst IsTidy (sym (same_Some q (with_x a) e))
+    (tidy_with a.0 (with_x a).machine (tidy_given p (Const k) a.0 a.1 tidy h) refl)
+
+tidy_operand : (p : PieceData) (other : Operand) (a : PieceData × NodeId) → IsTidy p → GetsOperand p other (Some a)
+    → IsTidy a.0
+tidy_operand p (Constant k) a tidy h = tidy_given p (Const k) a.0 a.1 tidy h
+tidy_operand p X a tidy h =
+    subst (λ (x : PieceData × NodeId). IsTidy x.0) (sym (same_Some a (p, p.machine.x) h)) tidy
+
+tidy_computes : (p : PieceData) (i : Insn) (q : PieceData) → IsTidy p → Computes p i (Some q) → IsTidy q
+tidy_computes p (LoadWord w) q tidy h = tidy_loads_a p (Word w) q tidy h
+tidy_computes p (LoadConstant k) q tidy h = tidy_loads_a p (Const k) q tidy h
+tidy_computes p LoadLength q tidy h = tidy_loads_a p (Const 64) q tidy h
+tidy_computes p (LoadXConstant k) q tidy h = tidy_loads_x p k q tidy h
+tidy_computes p LoadXLength q tidy h = tidy_loads_x p 64 q tidy h
+tidy_computes p Negate q tidy h = tidy_loads_a p (Neg p.machine.a) q tidy h
+tidy_computes p (Alu op other) q tidy (d, (None, g, e)) = absurd cc
+tidy_computes p (Alu op other) q tidy (d, (Some right, g, e)) =
+    tidy_loads_a right.0 (Bin op p.machine.a right.1) q (tidy_operand p other right tidy g) e
+tidy_computes p i q tidy h = absurd h
+
+zero_moves : (m : SymbolicMachine) (i : Insn) (n : SymbolicMachine) → MovesTo m i n → n.zero ≡ m.zero
+zero_moves m (LoadScratch k) n h = ap (λ (x : SymbolicMachine). x.zero) h.2
+zero_moves m (LoadXScratch k) n h = ap (λ (x : SymbolicMachine). x.zero) h.2
+zero_moves m (StoreA k) n h = ap (λ (x : SymbolicMachine). x.zero) h
+zero_moves m (StoreX k) n h = ap (λ (x : SymbolicMachine). x.zero) h
+zero_moves m Tax n h = ap (λ (x : SymbolicMachine). x.zero) h
+zero_moves m Txa n h = ap (λ (x : SymbolicMachine). x.zero) h
+zero_moves m (Jump k) n h = ap (λ (x : SymbolicMachine). x.zero) h
+zero_moves m (ReturnConstant v) n h = ap (λ (x : SymbolicMachine). x.zero) h
+zero_moves m ReturnA n h = ap (λ (x : SymbolicMachine). x.zero) h.1
+zero_moves m i n h = absurd h
+
+zero_after : (p : PieceData) (i : Insn) (b : Bool) (m : SymbolicMachine) → AfterTruthValue p i b m
+    → m.zero ≡ p.machine.zero
+zero_after p (Branch test other t f) b m h = ap (λ (x : SymbolicMachine). x.zero) h
+zero_after p ReturnA b m h = ap (λ (x : SymbolicMachine). x.zero) h
+zero_after p (Alu Div X) true m h = ap (λ (x : SymbolicMachine). x.zero) h
+zero_after p (Alu Div X) false m h = ap (λ (x : SymbolicMachine). x.zero) h
+zero_after p i b m h = absurd h
+
+tidy_makes : (p : PieceData) (i : Insn) (q : PieceData) → IsTidy p → MakesOf p i q → IsTidy q
+tidy_makes p i q tidy (inl (m, moves, is)) =
+    subst IsTidy (sym is) (tidy_with p m tidy (zero_moves p.machine i m moves))
+tidy_makes p i q tidy (inr (inl h)) = tidy_computes p i q tidy h
+tidy_makes p i q tidy (inr (inr (asked, b, has, only, named))) =
+    subst IsTidy (sym named.rest) (record {
+      twins = tidy.twins;
+      zero = subst (λ (z : NodeId). IsNodeAt p.pool (Const 0) z) (sym (zero_after p i b q.machine named.machine)) tidy.zero;
+    })
+
+-- a piece stays tidy, however far it goes on
+pub tidy_on : (n : ℕ) (p q : PieceData) → IsTidy p → GoesOnFor n p q → IsTidy q
+tidy_on zero p q tidy h = subst IsTidy (sym h) tidy
+tidy_on (suc n) p q tidy (next, (i, at, makes), h) = tidy_on n next q (tidy_makes p i next tidy makes) h
+
+-- the first piece is tidy
+pub tidy_first : (stack : List (List Insn)) (p : PieceData) → IsFirst stack p → IsTidy p
+tidy_first stack p h = record {
+  twins = first_twins stack p h;
+  zero = (omega (arith, h.place, h.count), ap (λ (k : ℕ). node_at p.pool k) h.place ∙ h.zero);
+}
