@@ -1,5 +1,5 @@
 -- The first piece of a stack, by the rules.
-use Rattle.std.proofs.Common.{◌≡◌, ◌≢◌, ℕ, ◌<◌, List, [], ◌∷◌, ◌++◌, length, refl, sym, ap, ◌∙◌, inl, inr, arith}
+use Rattle.std.proofs.Common.{◌≡◌, ◌≢◌, ℕ, ◌<◌, List, [], ◌∷◌, ◌++◌, length, refl, sym, ap, subst, ◌∙◌, inl, inr, arith}
 use Rattle.std.proofs.lemmas.Bool.{cases_lt}
 use Rattle.std.proofs.lemmas.List.{get_or_append_left, get_or_push, length_push}
 use Rattle.sf_check.specs.declared.insn.Insn.{Insn}
@@ -9,7 +9,8 @@ use Rattle.sf_sym.specs.declared.pool.NodeId.{NodeId}
 use Rattle.sf_sym.specs.Pool.{IsPool, node_at, Extends}
 use Rattle.sf_dom.specs.Facts.{FactsView}
 use Rattle.sf_dom.specs.Learning.{StartsBy}
-use Rattle.sf_piece.specs.Execution.{IsFirst}
+use Rattle.sf_piece.specs.Pieces.{PieceData}
+use Rattle.sf_piece.specs.Execution.{IsFirst, IsReached}
 use Rattle.sf_piece.proofs.AtHand.{first_piece}
 use Rattle.sf_piece.proofs.OnePiece.{word_clash}
 
@@ -48,3 +49,12 @@ first_rule stack old new id fs count lawful extends within here added starts =
       machine = refl;
       place = zero.2;
     }
+
+-- the first piece is in the tree
+pub first_reached : (stack : List (List Insn)) (p : PieceData) → IsFirst stack p → IsReached p
+first_reached stack p h = record {
+  first = p;
+  starts = subst (λ (s : List (List Insn)). IsFirst s p) (sym h.stack_is) h;
+  sides = [];
+  below = refl;
+}

@@ -1,19 +1,21 @@
 -- A piece stays tidy as it goes on.
-use Rattle.std.proofs.Common.{◌≡◌, ℕ, zero, suc, Bool, true, false, List, [], ◌∷◌, Some, None, refl, sym, ap, subst, ◌∙◌, inl, inr, arith}
+use Rattle.std.proofs.Common.{◌≡◌, ◌^◌, ◌-◌, ℕ, zero, suc, Bool, true, false, List, [], ◌∷◌, Some, None, refl, sym, ap, subst, ◌∙◌, inl, inr, arith}
 use Rattle.std.proofs.lemmas.Option.{same_Some}
 use Rattle.std.proofs.lemmas.List.{get_or_append_left, length_push}
 use Rattle.sf_insn.specs.declared.ops.BinOp.TheVariants.{Div}
+use Rattle.sf_insn.specs.declared.ops.Test.TheVariants.{Equal, AnyBit}
 use Rattle.sf_check.specs.declared.insn.Insn.{Insn}
 use Rattle.sf_check.specs.declared.insn.Insn.TheVariants.{LoadWord, LoadConstant, LoadLength, LoadScratch, LoadXConstant, LoadXLength, LoadXScratch, StoreA, StoreX, Alu, Negate, Jump, Branch, ReturnConstant, ReturnA, Tax, Txa}
 use Rattle.sf_check.specs.declared.insn.Operand.{Operand}
 use Rattle.sf_check.specs.declared.insn.Operand.TheVariants.{Constant, X}
+use Rattle.sf_sym.specs.declared.pool.Cond.{Cond}
 use Rattle.sf_sym.specs.declared.pool.Node.{Node}
 use Rattle.sf_sym.specs.declared.pool.Node.TheVariants.{Const, Word, Bin, Neg}
 use Rattle.sf_sym.specs.declared.pool.NodeId.{NodeId}
 use Rattle.sf_sym.specs.Pool.{node_at, folded_node}
 use Rattle.sf_piece.specs.declared.machine.SymbolicMachine.{SymbolicMachine}
-use Rattle.sf_piece.specs.Pieces.{PieceData}
-use Rattle.sf_piece.specs.Execution.{IsNodeAt, IsPutIn, IsGiven, GetsOperand, with_machine, with_a, with_x, LoadsA, LoadsX, Computes, MovesTo, AfterTruthValue, MakesOf, GoesOnFor, IsFirst}
+use Rattle.sf_piece.specs.Pieces.{PieceData, Split}
+use Rattle.sf_piece.specs.Execution.{IsNodeAt, IsPutIn, IsGiven, GetsOperand, with_machine, with_a, with_x, LoadsA, LoadsX, Computes, MovesTo, AfterTruthValue, MakesOf, GoesOnFor, IsFirst, query, HasQuery, IsSide, HasStep, IsBelow, IsReached}
 use Rattle.sf_piece.specs.SmallSteps.{IsTidy}
 use Rattle.sf_piece.proofs.Alike.{no_twins_put}
 use Rattle.sf_piece.proofs.OnePiece.{first_twins}
@@ -95,7 +97,8 @@ tidy_makes p i q tidy (inr (inl h)) = tidy_computes p i q tidy h
 tidy_makes p i q tidy (inr (inr (asked, b, has, only, named))) =
     subst IsTidy (sym named.rest) (record {
       twins = tidy.twins;
-      zero = subst (λ (z : NodeId). IsNodeAt p.pool (Const 0) z) (sym (zero_after p i b q.machine named.machine)) tidy.zero;
+      zero = subst (λ (z : NodeId). IsNodeAt p.pool (Const 0) z)
+          (sym (zero_after p i b q.machine named.machine)) tidy.zero;
     })
 
 -- a piece stays tidy, however far it goes on
@@ -109,3 +112,42 @@ tidy_first stack p h = record {
   twins = first_twins stack p h;
   zero = (omega (arith, h.place, h.count), ap (λ (k : ℕ). node_at p.pool k) h.place ∙ h.zero);
 }
+
+tidy_query : (p : PieceData) (i : Insn) (asked : PieceData × Cond) → IsTidy p → HasQuery p i (Some asked)
+    → IsTidy asked.0
+tidy_query p (Branch test other t f) asked tidy (None, h, e) = absurd cc
+tidy_query p (Branch test other t f) asked tidy (Some right, h, e) =
+    let is : asked ≡ (right.0, query p.machine.a test right.1) = same_Some asked _ e in
+    subst (λ (x : PieceData × Cond). IsTidy x.0) (sym is) (tidy_operand p other right tidy h)
+tidy_query p ReturnA asked tidy (l, (None, h, e)) = absurd cc
+tidy_query p ReturnA asked tidy (l, (Some bit, h, e)) =
+    let is : asked ≡ (bit.0, query p.machine.a AnyBit bit.1) = same_Some asked _ e in
+    subst (λ (x : PieceData × Cond). IsTidy x.0) (sym is)
+    (tidy_given p (Const (2 ^ (31 - p.machine.taken))) bit.0 bit.1 tidy h)
+tidy_query p (Alu op other) asked tidy h =
+    let is : asked ≡ (p, query p.machine.x Equal p.machine.zero) = same_Some asked _ h.1 in
+    subst (λ (x : PieceData × Cond). IsTidy x.0) (sym is) tidy
+tidy_query p i asked tidy h = absurd h
+
+tidy_side : (asked : PieceData × Cond) (i : Insn) (b : Bool) (c : PieceData) → IsTidy asked.0 → IsSide asked i b c
+    → IsTidy c
+tidy_side asked i b c tidy h = subst IsTidy (sym h.rest) (record {
+  twins = tidy.twins;
+  zero = subst (λ (z : NodeId). IsNodeAt asked.0.pool (Const 0) z)
+      (sym (zero_after asked.0 i b c.machine h.machine)) tidy.zero;
+})
+
+tidy_split : (r f t : PieceData) (name : List Bool) → IsTidy r → HasStep r (Split f t) name → IsTidy f × IsTidy t
+tidy_split r f t name tidy h =
+    let s = h.3.0 in
+    let asked = tidy_query h.1 s.0 s.1 (tidy_on h.0 r h.1 tidy h.2) s.3 in
+    (tidy_side s.1 s.0 false f asked s.4, tidy_side s.1 s.0 true t asked s.5)
+
+tidy_below : (bs : List Bool) (r p : PieceData) → IsTidy r → IsBelow bs r p → IsTidy p
+tidy_below [] r p tidy h = subst IsTidy (sym h) tidy
+tidy_below (true ∷ bs) r p tidy h = tidy_below bs h.1 p (tidy_split r h.0 h.1 r.name tidy h.2).1 h.3
+tidy_below (false ∷ bs) r p tidy h = tidy_below bs h.0 p (tidy_split r h.0 h.1 r.name tidy h.2).0 h.3
+
+-- each piece of an execution tree is tidy
+pub tidy_reached : (p : PieceData) → IsReached p → IsTidy p
+tidy_reached p h = tidy_below h.sides h.first p (tidy_first p.stack h.first h.starts) h.below

@@ -9,6 +9,7 @@ use Rattle.sf_run.specs.Machine.{trace_of}
 use Rattle.sf_sym.specs.Pool.{ArePlainNodes}
 use Rattle.sf_dom.specs.Facts.{Agrees}
 use Rattle.sf_dom.specs.Facts.{IsPlainCondition}
+use Rattle.sf_piece.specs.Execution.{HasStep, IsReached}
 use Rattle.sf_piece.specs.Pieces.{PieceData, StepData, Split, Settled, Empty, WorkData, is_member, IsRightWork}
 
 -- The pool has only words of the input and constants. Each path condition compares one of these with a constant, by a
@@ -30,7 +31,9 @@ pub record IsPlainWork (w : WorkData) : Type 0 where
   pub piece : IsPlainPiece w.piece
   pub step : IsPlainStep w.piece w.step w.name
 
--- what the type of works keeps
+-- what the type of works keeps: by the rules the piece is in the execution tree, and the step is its step
 pub record IsLawfulWork (w : WorkData) : Type 0 where
   pub right : IsRightWork w
   pub plain : IsPlain w.piece.stack → IsPlainWork w
+  pub rule : HasStep w.piece w.step w.name
+  pub reached : IsReached w.piece

@@ -18,8 +18,8 @@ use Rattle.sf_piece.specs.Works.{HasAdvanced, IsForeseen}
 -- after the instruction or truth value the piece goes on as the second one, is split, is settled, or has no member
 abbrev pub IsSmallStep : PieceData → PieceData → SmallStep → Type 0
 IsSmallStep p q On = HasAdvanced p q × IsLawfulPiece q
-IsSmallStep p q (Split f t) = IsRightSplit p f.value t.value
-    × (IsPlain p.stack → IsPlainPiece f.value × IsPlainPiece t.value)
+IsSmallStep p q (Split f t) = IsRightSplit p f t × (IsPlain p.stack → IsPlainPiece f × IsPlainPiece t)
+    × IsLawfulPiece f × IsLawfulPiece t
 IsSmallStep p q Settled = IsRightAnswer p q.name q.machine.so_far
 IsSmallStep p q Empty = HasNoMember p
 
@@ -35,29 +35,33 @@ pub record IsTidy (p : PieceData) : Type 0 where
   pub twins : HasNoTwins p.pool
   pub zero : IsNodeAt p.pool (Const 0) p.machine.zero
 
+-- the piece has gone on so far, by the rules
+abbrev pub HasGoneFor : PieceData → PieceData → Type 0
+HasGoneFor p q = (n : ℕ) × GoesOnFor n p q
+
 -- what an instruction or a truth value makes of a piece, by the rules
 abbrev pub IsExecuted : PieceData → PieceData → SmallStep → Type 0
-IsExecuted p q On = (n : ℕ) × GoesOnFor n p q
-IsExecuted p q (Split f t) = SplitsInto p f.value t.value
+IsExecuted p q On = HasGoneFor p q
+IsExecuted p q (Split f t) = SplitsInto p f t
 IsExecuted p q Settled = (q ≡ p) × (length p.stack ≤ p.machine.program)
 IsExecuted p q Empty = IsEmptied p
 
 -- what the rules leave of a query: both truth values, one that is implied, or neither
 abbrev pub IsDecision : PieceData × Cond → Insn → Decision → Type 0
-IsDecision asked i (decided.Split f t) = IsSide asked i false f.value × IsSide asked i true t.value
+IsDecision asked i (decided.Split f t) = IsSide asked i false f × IsSide asked i true t
 IsDecision asked i (Implied b) = LeavesOnly asked b
 IsDecision asked i Neither = LeavesNeither asked
 
 -- what is right of a truth value: both pieces are, or every member has it, or there is none
 abbrev pub IsRightDecision : PieceData → Insn → Decision → Type 0
-IsRightDecision p i (decided.Split f t) = IsRightSplit p f.value t.value
-    × (IsPlain p.stack → IsPlainPiece f.value × IsPlainPiece t.value)
+IsRightDecision p i (decided.Split f t) = IsRightSplit p f t
+    × (IsPlain p.stack → IsPlainPiece f × IsPlainPiece t) × IsLawfulPiece f × IsLawfulPiece t
 IsRightDecision p i (Implied b) = IsForeseen p i b
 IsRightDecision p i Neither = HasNoMember p
 
 -- the piece goes on as was decided
 abbrev pub IsCarriedOut : PieceData → Insn → Decision → PieceData → SmallStep → Type 0
-IsCarriedOut p i (decided.Split f t) q (Split g u) = (f.value ≡ g.value) × (t.value ≡ u.value)
+IsCarriedOut p i (decided.Split f t) q (Split g u) = (f ≡ g) × (t ≡ u)
 IsCarriedOut p i (Implied b) q On = IsNamedOn p i b q
 IsCarriedOut p i Neither q Empty = Unit {0}
 IsCarriedOut p i _ q _ = ⊥

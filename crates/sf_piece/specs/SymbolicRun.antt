@@ -24,6 +24,7 @@ use Rattle.sf_dom.specs.Facts.{Covers, Agrees}
 use Rattle.sf_piece.specs.declared.machine.SymbolicMachine.{SymbolicMachine}
 use Rattle.sf_piece.specs.PlainPieces.{IsPlainPiece}
 use Rattle.sf_piece.specs.Pieces.{PieceData, is_member, is_prefix, IsTrulyNamed}
+use Rattle.sf_piece.specs.Execution.{IsReached}
 
 -- the concrete state for which a symbolic one stands, on an input
 abbrev pub concrete_state : List Node → SymbolicMachine → Input → State
@@ -119,9 +120,13 @@ pub record IsPiece (p : PieceData) : Type 0 where
   pub pre : List Bool
   pub stands : StandsAt p rest base pre
 
--- what the type of pieces keeps: the name is true, and the symbolic run stands where it should; on a plain
--- stack nothing is lost
+-- a lawful piece: the name is true, and the symbolic run stands where it should; on a plain stack nothing is lost
 pub record IsLawfulPiece (p : PieceData) : Type 0 where
   pub named : IsTrulyNamed p
   pub run : IsPiece p
   pub plain : IsPlain p.stack → IsPlainPiece p
+
+-- what the type of pieces keeps: by the rules the piece is in the execution tree of its stack
+pub record IsPieceOfTree (p : PieceData) : Type 0 where
+  pub lawful : IsLawfulPiece p
+  pub reached : IsReached p

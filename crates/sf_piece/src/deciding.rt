@@ -1,7 +1,6 @@
 //! A truth value of the trace, taken as true, as false or as both.
 
 ghost use Rattle.std.specs.Prelude.{◌≡◌, ◌<◌, if◌then◌else◌, IfOk, length, MatchOption, true, false};
-ghost use Rattle.std.specs.Arc.{arc_value};
 ghost use Rattle.sf_check.specs.Stacks.{IsPlain};
 ghost use Rattle.sf_sym.specs.Pool.{IsCondBelow};
 ghost use Rattle.sf_dom.specs.Facts.{IsPlainCondition};
@@ -13,7 +12,6 @@ ghost use Rattle.sf_piece.specs.SmallSteps.{IsSmallStep, IsDecision, IsRightDeci
 
 use crate::fault::Fault;
 use crate::machine::SymbolicMachine;
-use crate::piece::Piece;
 use crate::run::Run;
 use sf_check::Insn;
 use sf_dom::Facts;
@@ -26,9 +24,9 @@ use std::sync::Arc;
 pub(crate) enum SmallStep {
     /// The run goes on.
     On,
-    /// The facts leave both truth values open. These are the piece of the members on which the truth value is false, and
+    /// The facts leave both truth values open. These are the run of the members on which the truth value is false, and
     /// that of the members on which it is true.
-    Split(Arc<Piece>, Arc<Piece>),
+    Split(Run, Run),
     /// The last program has returned: the name is whole, and the answer is that of all programs.
     Settled,
     /// There is no member.
@@ -38,8 +36,8 @@ pub(crate) enum SmallStep {
 /// What the facts leave of a truth value.
 #[derive(Drop)]
 pub(crate) enum Decision {
-    /// Both: these are the piece of the members on which it is false, and that of the members on which it is true.
-    Split(Arc<Piece>, Arc<Piece>),
+    /// Both: these are the run of the members on which it is false, and that of the members on which it is true.
+    Split(Run, Run),
     /// Only this one.
     Implied(bool),
     /// Neither: there is no member.
@@ -104,34 +102,27 @@ pub(crate) fn take(run: &mut Run, insn: Insn, sense: bool) -> Result<(), Fault>
     Ok(())
 }
 
-/// The piece of the members on which the condition has this truth value.
-fn child(
-    alloc: Global,
-    run: &Run,
-    insn: Insn,
-    cond: Cond,
-    sense: bool,
-    facts: Facts,
-) -> Result<Arc<Piece>, Fault>
+/// The run of the members on which the condition has this truth value.
+fn child(run: &Run, insn: Insn, cond: Cond, sense: bool, facts: Facts) -> Result<Run, Fault>
     requires lawful { IsLawfulPiece run.now }
     requires standing { HasAtHand run.now insn }
     requires query { IsQuery run.now insn cond }
     requires facts { AreChildFacts run.now cond sense facts }
-    ensures child { IfOk result (λ c. IsChild run.now cond sense (arc_value c)) }
-    ensures rule { IfOk result (λ c. IsSide (run.now, cond) insn sense (arc_value c)) }
+    ensures child { IfOk result (λ c. IsChild run.now cond sense c) }
+    ensures lawful { IfOk result (λ c. IsLawfulPiece c) }
+    ensures rule { IfOk result (λ c. IsSide (run.now, cond) insn sense c) }
 {
     let to = machine_after(run, insn, sense);
     let mut conditions = run.conditions.fork()?;
     conditions.push(Cond { sense, ..cond })?;
-    let next = Run {
+    Ok(Run {
         stack: Arc::try_clone(&run.stack)?,
         name: run.name.with_truth(sense)?,
         pool: run.pool.fork()?,
         conditions,
         machine: to,
         facts,
-    };
-    Ok(Arc::new(alloc, Piece { run: next })?)
+    })
 }
 
 /// The piece's facts, with what this truth value of the condition tells; none where that contradicts them.
@@ -169,9 +160,9 @@ pub(crate) fn decide(alloc: Global, asked: &Run, insn: Insn, cond: Cond) -> Resu
     let Some(on_true) = child_facts(alloc, asked, cond, true)? else {
         return Ok(Decision::Implied(false));
     };
-    let false_piece = child(alloc, asked, insn, cond, false, on_false)?;
-    let true_piece = child(alloc, asked, insn, cond, true, on_true)?;
-    Ok(Decision::Split(false_piece, true_piece))
+    let false_run = child(asked, insn, cond, false, on_false)?;
+    let true_run = child(asked, insn, cond, true, on_true)?;
+    Ok(Decision::Split(false_run, true_run))
 }
 
 /// Goes on as was decided: an implied truth value is added to the name, and nothing else changes.

@@ -2,8 +2,8 @@ use Rattle.sf_piece.proofs.Lawful.{lawful_child, right_child}
 use Rattle.sf_piece.proofs.Given.{side}
 use Rattle.sf_piece.proofs.deciding.child.Goals as goal
 
-pub invariant_of-new : goal.invariant_of-new
-invariant_of-new c =
+pub returns-clause-lawful : goal.returns-clause-lawful
+returns-clause-lawful c =
     rw (
       c.in_ok-try_clone.ensures,
       c.in_ok-with_truth.ensures,
@@ -19,7 +19,6 @@ invariant_of-new c =
 pub returns-clause-child : goal.returns-clause-child
 returns-clause-child c =
     rw (
-      c.in_ok-new.ensures.ok,
       ← c.run.view_is,
       c.in_ok-try_clone.ensures,
       c.in_ok-with_truth.ensures,
@@ -35,7 +34,6 @@ returns-clause-child c =
 pub returns-clause-rule : goal.returns-clause-rule
 returns-clause-rule c =
     rw (
-      c.in_ok-new.ensures.ok,
       ← c.run.view_is,
       c.in_ok-try_clone.ensures,
       c.in_ok-with_truth.ensures,

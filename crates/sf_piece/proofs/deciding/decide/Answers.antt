@@ -17,7 +17,9 @@ returns-in_default-3-clause-right c =
 
 pub returns-clause-right : goal.returns-clause-right
 returns-clause-right c =
-    split_right c.args.asked.now c.args.cond _ _ c.in_ok-false_piece.ensures.child c.in_ok-true_piece.ensures.child
+    let both = split_right c.args.asked.now c.args.cond _ _ c.in_ok-false_run.ensures.child
+    c.in_ok-true_run.ensures.child in
+    (both.0, both.1, c.in_ok-false_run.ensures.lawful, c.in_ok-true_run.ensures.lawful)
 
 pub returns-in_default-2-clause-right : goal.returns-in_default-2-clause-right
 returns-in_default-2-clause-right c =

@@ -13,6 +13,7 @@ pub returns-clause-below : goal.returns-clause-below
 returns-clause-below c =
     let inside = rw (← c.self.view_is, ← c.run.view_is) at c.requires in
     let lawful = rw (← c.run.view_is) at c.self.invariant in
-    rw (← c.self.view_is, ← c.run.view_is) (below_at _ c.run.inside.conditions c.args.i c.get.result lawful.run.bounded
+    rw (← c.self.view_is, ← c.run.view_is) (below_at _ c.run.inside.conditions c.args.i c.get.result
+    lawful.lawful.run.bounded
     (slice_get-get_or c.run.inside.conditions c.args.i c.get.result inside
     ∙ ap Some (sym (c.get.ensures c.get.result))))
