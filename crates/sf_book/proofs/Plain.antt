@@ -1,5 +1,5 @@
 -- What the type of books keeps, through its calls.
-use Rattle.std.proofs.Common.{arith, ◌≡◌, ℕ, ◌+◌, ◌<◌, List, ◌∷◌, ◌++◌, [], map}
+use Rattle.std.proofs.Common.{arith, refl, sym, ◌≡◌, ℕ, ◌+◌, ◌<◌, List, ◌∷◌, ◌++◌, [], map}
 use Rattle.sf_check.specs.declared.insn.Insn.{Insn}
 use Rattle.sf_check.specs.Stacks.{IsLawfulStack}
 use Rattle.sf_check.specs.Stacks.{IsPlain}
@@ -12,11 +12,27 @@ use Rattle.sf_book.specs.Changes.{without, MayCommit}
 use Rattle.sf_book.specs.PlainBooks.{IsBook}
 use Rattle.sf_book.specs.PlainLaws.{plain_fresh, plain_marks, split_plain, answer_plain, empty_plain}
 use Rattle.sf_book.proofs.Lawful.{leased_piece, after_split, after_answer, after_empty}
+use Rattle.sf_piece.specs.Execution.{HasStep, IsReached, IsFirst}
+use Rattle.sf_piece.specs.OneExecution.{IsExecutionOne}
+use Rattle.sf_book.specs.Unfoldings.{IsPieceOf}
+use Rattle.sf_book.proofs.Growing.{fringe-fresh, fringe-marks, fringe-split, fringe-answer, fringe-empty}
 use Rattle.sf_book.proofs.Kept.{kept_fresh, kept_marks, split_kept, answer_kept, empty_kept}
 
 pub fresh_book : (stack : List (List Insn)) (r : PieceData) (budget : ℕ) → IsLawfulStack stack → IsRoot stack r
-    → (IsPlain r.stack → IsPlainPiece r) → IsBook (fresh stack r budget) 1
-fresh_book stack r budget lawful root plain = search (arith, kept_fresh, plain_fresh)
+    → IsFirst stack r → (IsPlain r.stack → IsPlainPiece r) → IsBook (fresh stack r budget) 1
+fresh_book stack r budget lawful root first plain = record {
+  kept = kept_fresh stack r budget lawful root;
+  plain = record { book = λ p. plain_fresh stack r budget (plain (subst IsPlain (sym first.stack_is) p)) };
+  fringe = fringe-fresh stack r budget (record {
+    reached = record {
+      first = r;
+      starts = subst (λ (s : List (List Insn)). IsFirst s r) (sym first.stack_is) first;
+      sides = [];
+      below = refl;
+    };
+    of = first.stack_is;
+  }) first.name;
+}
 
 pub marks_book : (b : BookData) (next : ℕ) (g : OutstandingData → OutstandingData)
     → ((e : OutstandingData) → (g e).id ≡ e.id)
@@ -25,16 +41,27 @@ pub marks_book : (b : BookData) (next : ℕ) (g : OutstandingData → Outstandin
 marks_book b next g ids pieces h = record {
   kept = kept_marks b next g ids pieces h.kept;
   plain = record { book = λ p. plain_marks b g pieces (h.plain.book p) };
+  fringe = fringe-marks b g pieces h.fringe;
 }
 
 -- what a commit knows of its work
 pub record IsLawfulWork (w : WorkData) (step : StepData) : Type 0 where
+  pub one : IsExecutionOne
   pub right : IsRightWork w
+  pub rule : HasStep w.piece w.step w.name
+  pub reached : IsReached w.piece
   pub plain : IsPlain w.piece.stack → IsPlainWork w
   pub is : w.step ≡ step
 
 right_step : (w : WorkData) (step : StepData) → IsLawfulWork w step → IsRightStep w.piece step w.name
 right_step w step h = subst (λ (s : StepData). IsRightStep w.piece s w.name) h.is h.right.1
+
+rule_step : (w : WorkData) (step : StepData) → IsLawfulWork w step → HasStep w.piece step w.name
+rule_step w step h = subst (λ (s : StepData). HasStep w.piece s w.name) h.is h.rule
+
+piece_of : (b : BookData) (id : ℕ) (w : WorkData) (step : StepData) → MayCommit b id w → IsLawfulWork w step
+    → IsPieceOf b.stack w.piece
+piece_of b id w step m h = record { reached = h.reached; of = m.same_stack }
 
 pub split_book : (b : BookData) (next id : ℕ) (w : WorkData) (f t : PieceData) → IsBook b next → MayCommit b id w
     → b.commits < b.budget → IsLawfulWork w (Split f t)
@@ -43,12 +70,20 @@ pub split_book : (b : BookData) (next id : ℕ) (w : WorkData) (f t : PieceData)
 split_book b next id w f t h m room work = record {
   kept = split_kept b next id w f t h.kept m room work.right.0 (right_step w (Split f t) work).0;
   plain = split_plain b id next (next + 1) w f t h.plain m work.plain work.is;
+  fringe = fringe-split work.one b id w h.kept.lawful m h.fringe
+      (piece_of b id w (Split f t) m work) f t next (next + 1)
+      (rw (right_step w (Split f t) work).1 at (rule_step w (Split f t) work)) (right_step w (Split f t) work).0;
 }
 
 pub answer_book : (b : BookData) (next id : ℕ) (w : WorkData) (a : Answer) → IsBook b next → MayCommit b id w
     → b.commits < b.budget → IsLawfulWork w (Settled a)
     → IsBook (after_answer b (without id b.outstanding) (record { piece = w.piece; name = w.name; answer = a })) next
-answer_book b next id w a h m room work = search (arith, answer_kept, right_step, answer_plain)
+answer_book b next id w a h m room work = record {
+  kept = answer_kept b next id w a h.kept m room work.right.0 (right_step w (Settled a) work);
+  plain = answer_plain b id w a h.plain m work.plain work.is;
+  fringe = fringe-answer work.one b id w h.kept.lawful m h.fringe (piece_of b id w (Settled a) m work) a
+      (rule_step w (Settled a) work);
+}
 
 pub empty_book : (b : BookData) (next id : ℕ) (w : WorkData) → IsBook b next → MayCommit b id w → b.commits < b.budget
     → IsLawfulWork w Empty
@@ -56,4 +91,6 @@ pub empty_book : (b : BookData) (next id : ℕ) (w : WorkData) → IsBook b next
 empty_book b next id w h m room work = record {
   kept = empty_kept b next id w h.kept m room work.right.0 (right_step w Empty work).0;
   plain = empty_plain b id w m work.plain work.is;
+  fringe = fringe-empty work.one b id w h.kept.lawful m h.fringe (piece_of b id w Empty m work)
+      (rw (right_step w Empty work).1 at (rule_step w Empty work));
 }

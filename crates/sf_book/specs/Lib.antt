@@ -9,5 +9,6 @@ pub mod PartitionLaws
 pub mod NameOrderLaws
 pub mod Exact
 pub mod ExactLaws
+pub mod Unfoldings
 pub mod PlainBooks
 pub mod PlainLaws

@@ -1,8 +1,10 @@
--- What books of plain stacks keep besides: each piece is a plain one, and has a member, and none was emptied.
+-- What the types of books and ended explorations keep. Of a plain stack each piece is a plain one, and has a member,
+-- and none was emptied.
 use Rattle.std.specs.Prelude.{◌≡◌, ℕ, [], All}
 use Rattle.sf_check.specs.Stacks.{IsPlain}
 use Rattle.sf_piece.specs.PlainPieces.{IsPlainPiece}
 use Rattle.sf_book.specs.Books.{OutstandingData, RegionData, BookData, IsKept, IsSettled}
+use Rattle.sf_book.specs.Unfoldings.{IsFringe}
 
 -- the pieces of a book of a plain stack
 pub record IsPlainBook (b : BookData) : Type 0 where
@@ -18,8 +20,10 @@ pub record IsPlainWhereStackIs (b : BookData) : Type 0 where
 pub record IsBook (b : BookData) (next : ℕ) : Type 0 where
   pub kept : IsKept b next
   pub plain : IsPlainWhereStackIs b
+  pub fringe : IsFringe b
 
 -- what the type of ended explorations keeps
 pub record IsClosed (b : BookData) : Type 0 where
   pub settled : IsSettled b
   pub plain : IsPlainWhereStackIs b
+  pub fringe : IsFringe b

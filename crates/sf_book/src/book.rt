@@ -8,6 +8,7 @@ ghost use Rattle.sf_piece.specs.Pieces.{PieceData, IsRoot};
 ghost use Rattle.sf_book.specs.Books.{IsLawfulBook, counts_of, fresh};
 ghost use Rattle.sf_book.specs.Partition.{parts_of, names_of, LiesInOne, NoneBeginsAnother};
 ghost use Rattle.sf_book.specs.PlainBooks.{IsPlainWhereStackIs};
+ghost use Rattle.sf_book.specs.Unfoldings.{IsFringe};
 ghost use Rattle.sf_book.specs.Changes.{CommitsAs, Leases, Settles, Refuses, MayCommit, with_lease, with_lease_at};
 ghost use Rattle.sf_book.specs.declared.fault.Fault.TheVariants.{Memory, Foreign};
 
@@ -16,6 +17,7 @@ use crate::outstanding::OutstandingPieces;
 use crate::regions::{Emptied, Region, add, has_name, is_of, put_in_order};
 use crate::settled::Settled;
 use sf_check::Stack;
+use sf_piece::laws::execution_has_one_result;
 use sf_piece::{Piece, Step, Work, root};
 use std::alloc::Global;
 use std::marker::Model;
@@ -128,6 +130,7 @@ impl Book {
         ensures one { (d : Input) → IsInput d → LiesInOne (parts_of self.now) d }
         ensures apart { NoneBeginsAnother (names_of self.now) }
         ensures plain { IsPlainWhereStackIs self.now }
+        ensures fringe { IsFringe self.now }
     {
         Counts {
             left: self.outstanding.len(),
@@ -213,6 +216,8 @@ impl Book {
             work.step ids self.new) }
         ensures err { IfErr result (λ f. (f ≡ Memory) × (self.new ≡ self.old)) }
     {
+        // For the prover: a stack has one execution tree.
+        execution_has_one_result();
         let next = self.next_id;
         let (piece, step) = work.into_parts();
         match step {

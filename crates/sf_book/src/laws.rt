@@ -7,7 +7,10 @@ ghost use Rattle.sf_run.specs.Feasible.{feasible_traces};
 ghost use Rattle.sf_book.specs.Books.{BookData, IsLawfulBook, IsSettled};
 ghost use Rattle.sf_book.specs.Exact.{IsWorkedOff};
 ghost use Rattle.sf_book.specs.PlainBooks.{IsPlainBook};
+ghost use Rattle.sf_book.specs.Unfoldings.{ExplorationsHaveOneResult};
 ghost use Rattle.sf_book.specs.Partition.{parts_of, names_of, LiesInOne, NoneBeginsAnother};
+
+use sf_piece::laws::execution_has_one_result;
 
 /// Each input lies in exactly one outstanding piece or settled region of a lawful book.
 #[tactic(auto, using(crate::specs::PartitionLaws::lies_in_one))]
@@ -47,3 +50,11 @@ pub fn a_budget_is_enough_or_not()
         ⊎ (b.commits ≡ b.budget) →
         (b.outstanding ≡ []) ↔ (2 * length (feasible_traces b.stack) ≤ b.budget + 1) }
 {}
+
+/// Explorations of one stack that both ended with nothing outstanding have one result, whatever their budgets were, and
+/// in whatever order the works came.
+pub fn explorations_have_one_result()
+    ensures { ExplorationsHaveOneResult }
+{
+    execution_has_one_result();
+}

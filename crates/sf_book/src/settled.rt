@@ -7,6 +7,7 @@ ghost use Rattle.sf_insn.specs.Inputs.{IsInput};
 ghost use Rattle.sf_check.specs.Stacks.{IsPlain};
 ghost use Rattle.sf_piece.specs.PlainPieces.{IsPlainPiece};
 ghost use Rattle.sf_book.specs.PlainBooks.{IsPlainWhereStackIs};
+ghost use Rattle.sf_book.specs.Unfoldings.{IsFringe};
 ghost use Rattle.sf_book.specs.Partition.{parts_of, names_of, LiesInOne, NoneBeginsAnother};
 ghost use Rattle.sf_book.specs.Books.{OutstandingData, IsSettled, IsRightRegion, counts_of};
 
@@ -130,6 +131,7 @@ impl Settled {
         ensures one { (d : Input) → IsInput d → LiesInOne (parts_of self.now) d }
         ensures apart { NoneBeginsAnother (names_of self.now) }
         ensures plain { IsPlainWhereStackIs self.now }
+        ensures fringe { IsFringe self.now }
     {
         Counts {
             left: self.outstanding_count(),

@@ -28,7 +28,14 @@ invariant_of-self-in-Split-1 c =
     sym parts.step ∙ ap step_data c.in-Split.is in
     rw c.in_ok-split-in-Split.ensures.ok (split_book _ c.self.inside.next_id c.args.id c.args.work _ _ c.self.invariant
     (rw (← c.self.view_is) at c.requires.may) (rw (← c.self.view_is) at c.requires.room)
-    (record { right = parts.right; plain = parts.plain; is = is }))
+    (record {
+      one = c.execution_has_one_result.ensures;
+      right = parts.right;
+      rule = parts.rule;
+      reached = parts.reached;
+      plain = parts.plain;
+      is = is;
+    }))
 
 pub invariant_of-self-in-Settled : goal.invariant_of-self-in-Settled
 invariant_of-self-in-Settled c =
@@ -39,7 +46,14 @@ invariant_of-self-in-Settled c =
     rw (c.take.ensures, c.in_ok-add-in-Settled.ensures.ok, c.of.ensures, parts.piece, name)
     (answer_book _ c.self.inside.next_id c.args.id c.args.work c.in-Settled.answer c.self.invariant
     (rw (← c.self.view_is) at c.requires.may) (rw (← c.self.view_is) at c.requires.room)
-    (record { right = parts.right; plain = parts.plain; is = is }))
+    (record {
+      one = c.execution_has_one_result.ensures;
+      right = parts.right;
+      rule = parts.rule;
+      reached = parts.reached;
+      plain = parts.plain;
+      is = is;
+    }))
 
 pub invariant_of-self-in-Empty : goal.invariant_of-self-in-Empty
 invariant_of-self-in-Empty c =
@@ -48,4 +62,11 @@ invariant_of-self-in-Empty c =
     rw (c.take-in-Empty.ensures, c.in_ok-add-in-Empty.ensures.ok, parts.piece)
     (empty_book _ c.self.inside.next_id c.args.id c.args.work c.self.invariant
     (rw (← c.self.view_is) at c.requires.may) (rw (← c.self.view_is) at c.requires.room)
-    (record { right = parts.right; plain = parts.plain; is = is }))
+    (record {
+      one = c.execution_has_one_result.ensures;
+      right = parts.right;
+      rule = parts.rule;
+      reached = parts.reached;
+      plain = parts.plain;
+      is = is;
+    }))

@@ -1,4 +1,5 @@
 use Rattle.sf_book.specs.PlainLaws.{plain_permuted}
+use Rattle.sf_book.proofs.Growing.{fringe-permuted}
 use Rattle.sf_book.proofs.Lawful.{permuted_lawful}
 use Rattle.sf_book.proofs.book.Book.finish.Goals as goal
 
@@ -11,4 +12,5 @@ invariant_of-result c =
         order = c.put_in_order.ensures.sorted;
       };
       plain = record { book = λ h. plain_permuted _ _ moved (c.self.invariant.plain.book h) };
+      fringe = fringe-permuted _ _ moved c.self.invariant.fringe;
     }

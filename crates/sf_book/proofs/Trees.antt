@@ -1,0 +1,278 @@
+-- An execution tree that is explored to the end is one.
+use Rattle.std.proofs.Common.{◌≡◌, ℕ, ◌+◌, Bool, true, false, ◌&&◌, List, [], ◌∷◌, ◌++◌, refl, sym, ap, ◌∙◌, subst, arith, sum_by, map, zero, suc, ◌<◌, ◌≤◌, Some, None, inl, inr, ◌⊎◌, length}
+use Rattle.std.proofs.lemmas.List.Sums.{sum_by-cons}
+use Rattle.std.proofs.lemmas.Option.{same_Some, get_or_from_slice_get, slice_get_within}
+use Rattle.std.specs.List.{All, AllByRecursion, slice_get}
+use Rattle.std.specs.List.Sorted.{IsStrictlySortedBy}
+use Rattle.std.proofs.lemmas.List.{length-map}
+use Rattle.std.proofs.lemmas.List.Elements.{All-head, All-tail}
+use Rattle.std.specs.Ordering.{bool_cmp}
+use Rattle.std.specs.Cmp.Lexicographic.{slice_cmp}
+use Rattle.std.specs.declared.cmp.Ordering.TheVariants.{Less}
+use Rattle.sf_run.specs.Feasible.{AreInNameOrder}
+use Rattle.sf_run.specs.FeasibleLaws.{before_one_way, names_total}
+use Rattle.sf_check.specs.declared.insn.Insn.{Insn}
+use Rattle.sf_run.specs.declared.action.Answer.{Answer}
+use Rattle.sf_piece.specs.Pieces.{PieceData, StepData, Split, Settled, Empty}
+use Rattle.sf_piece.specs.Execution.{HasStep, AreSamePieces, AreSameSteps}
+use Rattle.sf_piece.specs.OneExecution.{IsExecutionOne}
+use Rattle.sf_piece.specs.Pieces.{is_prefix}
+use Rattle.sf_book.specs.Books.{RegionData, OutstandingData, BookData, IsSettled}
+use Rattle.sf_book.specs.NameOrderLaws.{strictly_in_order}
+use Rattle.sf_book.specs.PartitionLaws.{some_there, prefix-refl}
+use Rattle.sf_book.specs.PrefixCounts.{bit, hits}
+use Rattle.sf_book.specs.Unfoldings.{Unfolding, Outstanding, Region, Emptied, Fork, HaveSameElements, IsFringe, IsRegionOf, IsSameRegion, AreSameRegions, HaveOneResult, top_of, IsPieceOf, HasSides, IsUnfolding, outstanding_in, emptied_in, regions_in, forks_in}
+
+-- the same ends and forks
+pub record AreAlikeTrees (u v : Unfolding) : Type 0 where
+  pub regions : regions_in u ≡ regions_in v
+  pub emptied : emptied_in u ≡ emptied_in v
+  pub forks : forks_in u ≡ forks_in v
+
+pub same-names : (p q : PieceData) → AreSamePieces p q → p.name ≡ q.name
+same-names p q h = sym (ap (λ (x : PieceData). x.name) h.rest)
+
+none-left : {A : Type 0} (xs ys : List A) → xs ++ ys ≡ [] → xs ≡ []
+none-left [] ys e = refl
+none-left (x ∷ xs) ys e = let clash : x ∷ (xs ++ ys) ≡ [] = e in absurd cc
+
+none-right : {A : Type 0} (xs ys : List A) → xs ++ ys ≡ [] → ys ≡ []
+none-right [] ys e = e
+none-right (x ∷ xs) ys e = let clash : x ∷ (xs ++ ys) ≡ [] = e in absurd cc
+
+module _ (one : IsExecutionOne) (stack : List (List Insn)) where
+  -- pieces of one stack with one name are one, and so is their step
+  steps-one : (p q : PieceData) (s t : StepData) (m n : List Bool) → IsPieceOf stack p → IsPieceOf stack q
+      → p.name ≡ q.name → HasStep p s m → HasStep q t n → AreSameSteps s t × (m ≡ n)
+  steps-one p q s t m n a b e h k =
+      let pools = one.pools p a.reached in
+      one.step p q s t m n (one.piece p q a.reached b.reached (a.of ∙ sym b.of) e) pools.0 pools.1 h k
+
+  pub trees-one : (u v : Unfolding) → IsUnfolding stack u → IsUnfolding stack v → (top_of u).name ≡ (top_of v).name
+      → outstanding_in u ≡ [] → outstanding_in v ≡ [] → AreAlikeTrees u v
+  trees-one (Outstanding p) v h k e x y = let clash : p.name ∷ [] ≡ [] = x in absurd cc
+  trees-one (Region p n a) (Outstanding q) h k e x y = let clash : q.name ∷ [] ≡ [] = y in absurd cc
+  trees-one (Emptied p) (Outstanding q) h k e x y = let clash : q.name ∷ [] ≡ [] = y in absurd cc
+  trees-one (Fork p f t) (Outstanding q) h k e x y = let clash : q.name ∷ [] ≡ [] = y in absurd cc
+  trees-one (Region p n a) (Region q m b) h k e x y =
+      record { regions = rw e refl; emptied = refl; forks = refl }
+  trees-one (Region p n a) (Emptied q) h k e x y =
+      let s = steps-one p q (Settled a) Empty n q.name h.0 k.0 e h.1 k.1 in absurd s.0
+  trees-one (Region p n a) (Fork q g s) h k e x y =
+      let z = steps-one p q (Settled a) (Split k.1.false_side k.1.true_side) n q.name h.0 k.0 e h.1 k.1.step in
+      absurd z.0
+  trees-one (Emptied p) (Region q m b) h k e x y =
+      let s = steps-one p q Empty (Settled b) p.name m h.0 k.0 e h.1 k.1 in absurd s.0
+  trees-one (Emptied p) (Emptied q) h k e x y = record { regions = refl; emptied = rw e refl; forks = refl }
+  trees-one (Emptied p) (Fork q g s) h k e x y =
+      let z = steps-one p q Empty (Split k.1.false_side k.1.true_side) p.name q.name h.0 k.0 e h.1 k.1.step in
+      absurd z.0
+  trees-one (Fork p f t) (Region q m b) h k e x y =
+      let z = steps-one p q (Split h.1.false_side h.1.true_side) (Settled b) p.name m h.0 k.0 e h.1.step k.1 in
+      absurd z.0
+  trees-one (Fork p f t) (Emptied q) h k e x y =
+      let z = steps-one p q (Split h.1.false_side h.1.true_side) Empty p.name q.name h.0 k.0 e h.1.step k.1 in
+      absurd z.0
+  trees-one (Fork p f t) (Fork q g s) h k e x y =
+      let a = h.1 in
+      let b = k.1 in
+      let z = steps-one p q (Split a.false_side a.true_side) (Split b.false_side b.true_side) p.name q.name h.0 k.0 e
+      a.step b.step in
+      let fs = sym (same-names a.false_side (top_of f) a.same_false) ∙ same-names a.false_side b.false_side z.0.0
+      ∙ same-names b.false_side (top_of g) b.same_false in
+      let ts = sym (same-names a.true_side (top_of t) a.same_true) ∙ same-names a.true_side b.true_side z.0.1
+      ∙ same-names b.true_side (top_of s) b.same_true in
+      let l = trees-one f g h.2 k.2 fs (none-left (outstanding_in f) (outstanding_in t) x)
+      (none-left (outstanding_in g) (outstanding_in s) y) in
+      let r = trees-one t s h.3 k.3 ts (none-right (outstanding_in f) (outstanding_in t) x)
+      (none-right (outstanding_in g) (outstanding_in s) y) in
+      record {
+        regions = rw (l.regions, r.regions) refl;
+        emptied = rw (l.emptied, r.emptied) refl;
+        forks = rw (l.forks, r.forks) refl;
+      }
+
+-- ---- the books
+
+pub sum-map : {A B : Type 0} (f : B → ℕ) (g : A → B) (xs : List A) → sum_by f (map g xs) ≡ sum_by (λ x. f (g x)) xs
+sum-map f g [] = refl
+sum-map f g (x ∷ xs) = sum_by-cons f (g x) (map g xs)
+    ∙ (ap (λ k. f (g x) + k) (sum-map f g xs) ∙ sym (sum_by-cons (λ x. f (g x)) x xs))
+
+-- a list that weighs nothing is empty
+weighs-none : {A : Type 0} (xs : List A) → HaveSameElements [] xs → xs ≡ []
+weighs-none [] h = refl
+weighs-none (x ∷ xs) h = let w = h (λ y. 1) in let all = sum_by-cons (λ y. 1) x xs in absurd (omega arith)
+
+-- names that begin each other are one
+both-begin : (m n : List Bool) → is_prefix m n ≡ true → is_prefix n m ≡ true → m ≡ n
+both-begin [] [] h k = refl
+both-begin [] (y ∷ n) h k = let clash : false ≡ true = k in absurd cc
+both-begin (x ∷ m) [] h k = let clash : false ≡ true = h in absurd cc
+both-begin (true ∷ m) (true ∷ n) h k = ap (λ l. true ∷ l) (both-begin m n h k)
+both-begin (true ∷ m) (false ∷ n) h k = let clash : false ≡ true = h in absurd cc
+both-begin (false ∷ m) (true ∷ n) h k = let clash : false ≡ true = h in absurd cc
+both-begin (false ∷ m) (false ∷ n) h k = ap (λ l. false ∷ l) (both-begin m n h k)
+
+-- whether a name is this one
+pub is-name : List Bool → List Bool → Bool
+is-name n m = is_prefix m n && is_prefix n m
+
+pub own-name : (n : List Bool) → is-name n n ≡ true
+unfolding is-name
+own-name n = rw (prefix-refl n) refl
+
+pub the-name : (n m : List Bool) → is-name n m ≡ true → m ≡ n
+unfolding is-name
+the-name n m h = on (is_prefix m n) (is_prefix n m) refl refl h
+  where
+    on : (a b : Bool) → is_prefix m n ≡ a → is_prefix n m ≡ b → (a && b) ≡ true → m ≡ n
+    on true true e f g = both-begin m n e f
+    on true false e f g = let clash : false ≡ true = g in absurd cc
+    on false b e f g = let clash : false ≡ true = g in absurd cc
+
+-- a region of the other list with a piece of this name
+record HasName (rs : List RegionData) (n : List Bool) : Type 0 where
+  pub place : ℕ
+  pub region : RegionData
+  pub there : slice_get rs place ≡ Some region
+  pub named : region.piece.name ≡ n
+
+abbrev piece-names : List RegionData → List (List Bool)
+piece-names rs = map (λ (r : RegionData). r.piece.name) rs
+
+has-name : (r : RegionData) (rs qs : List RegionData) → HaveSameElements (piece-names (r ∷ rs)) (piece-names qs)
+    → HasName qs r.piece.name
+has-name r rs qs h =
+    let n : List Bool = r.piece.name in
+    let w = h (λ m. bit (is-name n m)) in
+    let first = sum_by-cons (λ m. bit (is-name n m)) n (piece-names rs) in
+    let one : bit (is-name n n) ≡ 1 = ap bit (own-name n) in
+    let there = sum-map (λ m. bit (is-name n m)) (λ (q : RegionData). q.piece.name) qs in
+    let found = some_there (λ (q : RegionData). is-name n q.piece.name) qs (omega arith) in
+    record { place = found.0; region = found.1; there = found.2; named = the-name n found.1.piece.name found.3 }
+
+-- what comes later in a list that is in order is later
+later : (t : List Bool) (rs : List RegionData) (i : ℕ) (r : RegionData)
+    → AllByRecursion (λ u. slice_cmp bool_cmp t u ≡ Less) (map (λ (r : RegionData). r.name) rs)
+    → slice_get rs i ≡ Some r → slice_cmp bool_cmp t r.name ≡ Less
+later t [] i r h at = let clash : None ≡ Some r = at in absurd cc
+later t (x ∷ rs) zero r h at = subst (λ (y : RegionData). slice_cmp bool_cmp t y.name ≡ Less) (same_Some x r at) h.0
+later t (x ∷ rs) (suc i) r h at = later t rs i r h.1 at
+
+all-at : (P : RegionData → Type 0) (rs : List RegionData) (i : ℕ) (r : RegionData) → All P rs
+    → slice_get rs i ≡ Some r → P r
+all-at P rs i r all at = subst P (get_or_from_slice_get rs i r r at) (all i r (slice_get_within rs i r at))
+
+-- both lists weigh the same without their first elements, where these are one
+without-first : (r q : RegionData) (rs qs : List RegionData) → r.piece.name ≡ q.piece.name
+    → HaveSameElements (piece-names (r ∷ rs)) (piece-names (q ∷ qs))
+    → HaveSameElements (piece-names rs) (piece-names qs)
+without-first r q rs qs e h f =
+    let w = h f in
+    let a = sum_by-cons f r.piece.name (piece-names rs) in
+    let b = sum_by-cons f q.piece.name (piece-names qs) in
+    let same : f r.piece.name ≡ f q.piece.name = ap f e in
+    omega arith
+
+module _ (one : IsExecutionOne) (stack : List (List Insn)) where
+  region-one : (r q : RegionData) → IsRegionOf stack r → IsRegionOf stack q → r.piece.name ≡ q.piece.name
+      → IsSameRegion r q
+  region-one r q h k e =
+      let s = steps-one one stack r.piece q.piece (Settled r.answer) (Settled q.answer) r.name q.name h.0 k.0 e h.1 k.1
+      in
+      record {
+        piece = one.piece r.piece q.piece h.0.reached k.0.reached (h.0.of ∙ sym k.0.of) e;
+        name = s.1;
+        answer = s.0;
+      }
+
+  -- the first regions of both lists are of one name
+  first-one : (r q : RegionData) (rs qs : List RegionData) → All (IsRegionOf stack) (r ∷ rs)
+      → All (IsRegionOf stack) (q ∷ qs) → AreInNameOrder (map (λ (r : RegionData). r.name) (r ∷ rs))
+      → AreInNameOrder (map (λ (r : RegionData). r.name) (q ∷ qs))
+      → HasName (q ∷ qs) r.piece.name → HasName (r ∷ rs) q.piece.name → r.piece.name ≡ q.piece.name
+  unfolding IsStrictlySortedBy
+  first-one r q rs qs h k o p x y = on x.place x.there y.place y.there
+    where
+      on : (i : ℕ) → slice_get (q ∷ qs) i ≡ Some x.region → (j : ℕ) → slice_get (r ∷ rs) j ≡ Some y.region
+          → r.piece.name ≡ q.piece.name
+      on zero a j b = sym x.named ∙ ap (λ (z : RegionData). z.piece.name) (sym (same_Some q x.region a))
+      on (suc i) a zero b = ap (λ (z : RegionData). z.piece.name) (same_Some r y.region b) ∙ y.named
+      on (suc i) a (suc j) b =
+          let rx : r.name ≡ x.region.name = (region-one r x.region (All-head (IsRegionOf stack) r rs h)
+          (all-at (IsRegionOf stack) (q ∷ qs) (suc i) x.region k a) (sym x.named)).name in
+          let qy : q.name ≡ y.region.name = (region-one q y.region (All-head (IsRegionOf stack) q qs k)
+          (all-at (IsRegionOf stack) (r ∷ rs) (suc j) y.region h b) (sym y.named)).name in
+          let one : slice_cmp bool_cmp q.name r.name ≡ Less = rw rx (later q.name qs i x.region p.0 a) in
+          let two : slice_cmp bool_cmp r.name q.name ≡ Less = rw qy (later r.name rs j y.region o.0 b) in
+          absurd (before_one_way q.name r.name one two)
+
+  regions-one : (rs qs : List RegionData) → All (IsRegionOf stack) rs → All (IsRegionOf stack) qs
+      → AreInNameOrder (map (λ (r : RegionData). r.name) rs) → AreInNameOrder (map (λ (r : RegionData). r.name) qs)
+      → HaveSameElements (piece-names rs) (piece-names qs) → AreSameRegions rs qs
+  unfolding IsStrictlySortedBy
+  regions-one [] [] h k o p same = tt
+  regions-one [] (q ∷ qs) h k o p same =
+      let none : q.piece.name ∷ piece-names qs ≡ [] = weighs-none (piece-names (q ∷ qs)) same in absurd cc
+  regions-one (r ∷ rs) [] h k o p same =
+      let none : r.piece.name ∷ piece-names rs ≡ [] =
+      weighs-none (piece-names (r ∷ rs)) (λ f. sym (same f)) in absurd cc
+  regions-one (r ∷ rs) (q ∷ qs) h k o p same =
+      let e = first-one r q rs qs h k o p (has-name r rs (q ∷ qs) same)
+      (has-name q qs (r ∷ rs) (λ f. sym (same f))) in (
+        region-one r q (All-head (IsRegionOf stack) r rs h) (All-head (IsRegionOf stack) q qs k) e,
+        regions-one rs qs (All-tail (IsRegionOf stack) r rs h) (All-tail (IsRegionOf stack) q qs k) o.1 p.1
+            (without-first r q rs qs e same),
+      )
+
+same-through : {X : Type 0} (xs us vs ys : List X) → HaveSameElements xs us → us ≡ vs → HaveSameElements ys vs
+    → HaveSameElements xs ys
+same-through xs us vs ys h e k f = h f ∙ ap (λ zs. sum_by f zs) e ∙ sym (k f)
+
+-- nothing is outstanding in the tree of a book in which nothing is
+none-in : (b : BookData) (h : IsFringe b) → b.outstanding ≡ [] → outstanding_in h.tree ≡ []
+none-in b h none = weighs-none (outstanding_in h.tree)
+    (λ f. ap (λ es. sum_by f (map (λ (e : OutstandingData). e.piece.name) es)) (sym none) ∙ h.outstanding f)
+
+pub results-one : IsExecutionOne → (b c : BookData) → IsSettled b → IsSettled c → IsFringe b → IsFringe c
+    → b.stack ≡ c.stack → b.outstanding ≡ [] → c.outstanding ≡ [] → HaveOneResult b c
+results-one one b c s t h k e x y =
+    let trees = trees-one one b.stack h.tree k.tree h.unfolds
+    (subst (λ (z : List (List Insn)). IsUnfolding z k.tree) (sym e) k.unfolds) (h.first ∙ sym k.first)
+    (none-in b h x) (none-in c k y) in
+    let few : (b : BookData) → IsSettled b → (n : List Bool) → sum_by (λ (r : RegionData). hits r.name n) b.regions ≤ 1
+    = λ b s n. let a = s.lawful.apart n in omega arith in
+    let emptied = same-through b.emptied (emptied_in h.tree) (emptied_in k.tree) c.emptied h.emptied trees.emptied
+    k.emptied in
+    let pieces = same-through (piece-names b.regions) (regions_in h.tree) (regions_in k.tree) (piece-names c.regions)
+    h.regions trees.regions k.regions in
+    let splits : b.splits ≡ c.splits = h.splits ∙ trees.forks ∙ sym k.splits in
+    let rs = pieces (λ n. 1) in
+    let es = emptied (λ n. 1) in
+    record {
+      regions = regions-one one b.stack b.regions c.regions h.settled
+          (subst (λ (z : List (List Insn)). All (IsRegionOf z) c.regions) (sym e) k.settled)
+          (strictly_in_order b.regions s.order (few b s)) (strictly_in_order c.regions t.order (few c t)) pieces;
+      emptied = emptied;
+      splits = splits;
+      commits = commits-one b c s t splits rs es;
+    }
+  where
+    ones : {A : Type 0} (xs : List A) → sum_by (λ x. 1) xs ≡ length xs
+    ones [] = refl
+    ones (x ∷ xs) = let a = sum_by-cons (λ y. 1) x xs in let r = ones xs in omega arith
+
+    commits-one : (b c : BookData) → IsSettled b → IsSettled c → b.splits ≡ c.splits
+        → sum_by (λ n. 1) (piece-names b.regions) ≡ sum_by (λ n. 1) (piece-names c.regions)
+        → sum_by (λ n. 1) b.emptied ≡ sum_by (λ n. 1) c.emptied → b.commits ≡ c.commits
+    commits-one b c s t e rs es =
+        let bc = s.lawful.committed in
+        let cs = t.lawful.committed in
+        let lb = length-map b.regions (λ (r : RegionData). r.piece.name) in
+        let lc = length-map c.regions (λ (r : RegionData). r.piece.name) in
+        let rb = ones (piece-names b.regions) in
+        let rc = ones (piece-names c.regions) in
+        let eb = ones b.emptied in
+        let ec = ones c.emptied in
+        omega arith
