@@ -1,19 +1,22 @@
 -- Probes of questions, and the questions that ask about an action.
-use Rattle.std.proofs.Common.{◌≡◌, ℕ, zero, suc, ◌+◌, ◌-◌, ◌<◌, ◌≤◌, ltb, leb, min, ◌⊎◌, inl, inr, true, false, List, [], ◌∷◌, ◌++◌, length, drop, get_or, Some, refl, sym, ap, ◌∙◌, arith}
-use Rattle.std.specs.Prelude.{slice_get, slice_range, Contains, IsPermutation}
+use Rattle.std.proofs.Common.{◌≡◌, ℕ, zero, suc, ◌+◌, ◌-◌, ◌<◌, ◌≤◌, ltb, leb, eq-eqb, min, ◌⊎◌, inl, inr, Bool, true, false, List, [], ◌∷◌, ◌++◌, length, take, drop, get_or, Some, refl, sym, ap, ◌∙◌, arith}
+use Rattle.std.specs.Prelude.{◌==◌, ◌&&◌, if◌then◌else◌, All, slice_get, slice_range, Contains, IsPermutation}
 use Rattle.std.specs.List.Sorted.{IsPartitionPoint}
 use Rattle.std.proofs.lemmas.Bool.{ltb-true, leb-false, eqb-true, cases_lt}
 use Rattle.std.proofs.lemmas.List.{length-take-le, length-drop, get_or-take, get_or-drop}
-use Rattle.std.proofs.lemmas.List.Elements.{All-push, Contains-push, Contains-append_left}
+use Rattle.std.proofs.lemmas.List.Elements.{All-more, All-push, Contains-push, Contains-append_left}
 use Rattle.std.proofs.lemmas.List.Sorted.{All-permutation, Contains-permutation}
 use mathlib.Core.Logic.{dite}
 use native.Mathlib.Decide.{ℕ_discrete}
 use Rattle.sf_run.specs.declared.action.Action.{Action}
 use Rattle.sf_dom.specs.Facts.{FactsView, known_at}
-use Rattle.sf_ask.specs.Probing.{IsRuledOutIfAsked, IsProbeIn, has_one_call, HasProbe, AreProbes}
-use Rattle.sf_ask.specs.QuestionData.{QuestionData}
+use Rattle.sf_ask.specs.Searches.{IsOutside}
+use Rattle.sf_ask.specs.Probing.{IsRuledOut, IsRuledOutIfAsked, IsProbeIn, has_one_call, HasProbe, AreProbes}
+use Rattle.sf_ask.specs.QuestionBits.{bit_of, has_bit}
+use Rattle.sf_ask.specs.QuestionData.{QuestionData, range_at, is_whole}
 use Rattle.sf_ask.specs.declared.probe.Probe.{Probe}
-use Rattle.sf_ask.proofs.Words.{below-range, above-range}
+use Rattle.sf_ask.proofs.Words.{outside-range}
+use Rattle.sf_ask.proofs.Confinements.{cant-outside}
 
 -- ---- one place after the other
 
@@ -101,10 +104,77 @@ found-between probes low high from to starts ends inside p there above below =
           ∙ ap (λ x. get_or probes x p) back ∙ there.2,
     )
 
+-- ---- bits that are set
+
+-- what is read past the last probe
+abbrev pub no_probe : Probe
+no_probe = record { question = 0; low = 0; high = 0 }
+
+-- What is so of each of the first probes whose bit isn't set is so of one probe more, where the bits that were set stay
+-- set, and it is so of that probe, or its bit is set.
+pub marked-more : (P : ℕ → Type 0) (probes : List Probe) (old new : List ℕ) (i : ℕ) (d : Probe) → i < length probes
+    → ((q : ℕ) → has_bit new q ≡ false → has_bit old q ≡ false)
+    → All (λ (p : Probe). has_bit old p.question ≡ false → P p.question) (take i probes)
+    → (has_bit new (get_or probes i d).question ≡ false → P (get_or probes i d).question)
+    → All (λ (p : Probe). has_bit new p.question ≡ false → P p.question) (take (i + 1) probes)
+marked-more P probes old new i d l kept before here =
+    let Old : Probe → Type 0 = λ p. has_bit old p.question ≡ false → P p.question in
+    let New : Probe → Type 0 = λ p. has_bit new p.question ≡ false → P p.question in
+    All-more New probes i d l (λ k e lk none. before k e lk (kept (get_or (take i probes) k e).question none)) here
+
+-- a bit that isn't set now wasn't set before another one was
+pub bit-kept : (old new : List ℕ) (q p : ℕ) → ((k : ℕ) → bit_of new k ≡ (if k == q then 1 else bit_of old k))
+    → has_bit new p ≡ false → has_bit old p ≡ false
+bit-kept old new q p set none = by (p == q) (set p)
+  where
+    by : (b : Bool) → bit_of new p ≡ (if b then 1 else bit_of old p) → has_bit old p ≡ false
+    by true e = let clash : has_bit new p ≡ true = ap (λ (n : ℕ). n == 1) e in absurd cc
+    by false e = sym (ap (λ (n : ℕ). n == 1) e) ∙ none
+
+-- the bit that was set is set
+pub bit-set : (old new : List ℕ) (q : ℕ) → ((k : ℕ) → bit_of new k ≡ (if k == q then 1 else bit_of old k))
+    → has_bit new q ≡ false → ⊥
+bit-set old new q set none = by (q == q) (eq-eqb q q refl) (set q)
+  where
+    by : (b : Bool) → b ≡ true → bit_of new q ≡ (if b then 1 else bit_of old q) → ⊥
+    by true same e = let clash : has_bit new q ≡ true = ap (λ (n : ℕ). n == 1) e in absurd cc
+    by false same e = absurd cc
+
 -- ---- what is ruled out
+
+-- where what is known of a word leaves no number of its range, the question is ruled out
+pub rules-out-at : (q : QuestionData) (word : ℕ) (f : FactsView) → word < 16 → is_whole (range_at q word) ≡ false
+    → IsOutside (known_at f.known word) (range_at q word).0 (range_at q word).1 → IsRuledOut f q
+rules-out-at q word f l part out pool covers = record {
+  none = outside-range q word f pool l out covers;
+  rule = cant-outside q word pool f l covers part out;
+}
+
+-- one number is not all of them
+not-whole : (low high : ℕ) → low ≡ high → is_whole (low, high) ≡ false
+not-whole low high e = by (low == 0) (high == 4294967295) refl refl
+  where
+    by : (a b : Bool) → (low == 0) ≡ a → (high == 4294967295) ≡ b → ((low == 0) && (high == 4294967295)) ≡ false
+    by true true p q =
+        let x : low ≡ 0 = eqb-true low 0 p in
+        let y : high ≡ 4294967295 = eqb-true high 4294967295 q in
+        absurd (omega arith)
+    by true false p q = rw (p, q) refl
+    by false b p q = rw p refl
 
 -- a question about one call is ruled out where what is known of the first word leaves out the call's number
 pub call-misses : (f : FactsView) (questions : List QuestionData) (action : Action) (p : Probe) → IsProbeIn questions p
     → has_one_call p ≡ true → (p.low < (known_at f.known 0).low) ⊎ ((known_at f.known 0).high < p.low)
     → IsRuledOutIfAsked f questions action p.question
-call-misses f questions action p is one outside = search (arith, eqb-true, above-range, below-range)
+unfolding IsRuledOutIfAsked
+call-misses f questions action p is one outside = λ x asking asked.
+    rules-out-at x 0 f (omega arith) (rw (is.of x asking) (not-whole p.low p.high same))
+    (rw (is.of x asking) (out outside))
+  where
+    same : p.low ≡ p.high
+    same = eqb-true p.low p.high one
+
+    out : (p.low < (known_at f.known 0).low) ⊎ ((known_at f.known 0).high < p.low)
+        → IsOutside (known_at f.known 0) p.low p.high
+    out (inl below) = let e = same in inr (omega arith)
+    out (inr above) = inl above

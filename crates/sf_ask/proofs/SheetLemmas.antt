@@ -13,9 +13,11 @@ use Rattle.sf_piece.specs.Pieces.{PieceData, is_member}
 use Rattle.sf_book.specs.Books.{BookData, RegionData, IsRightRegion}
 use Rattle.sf_ask.specs.Actions.{has_action}
 use Rattle.sf_ask.specs.Probing.{IsRuledOutIfAsked}
+use Rattle.sf_ask.specs.Judging.{FindsInQuestion, HasVerdictAt}
 use Rattle.sf_ask.specs.Searches.{IsRightSearch}
 use Rattle.sf_ask.proofs.ProbeLemmas.{there-is}
 use Rattle.sf_ask.proofs.Searching.{not-asked, ruled-out, region-right}
+use Rattle.sf_ask.proofs.OneVerdict.{unasked-verdict, asked-verdict}
 use Rattle.sf_ask.specs.declared.verdict.Verdict.TheVariants.{Clear}
 use Rattle.sf_ask.specs.QuestionData.{QuestionData}
 use Rattle.sf_ask.specs.QuestionBits.{has_bit}
@@ -59,8 +61,10 @@ skipped wanted q = grind (arith, common_steps)
 
 -- a verdict that is clear tells all that a sheet's verdicts tell
 pub clear-is-right : (s : BookData) (questions : List QuestionData) (job q : ℕ) (question : QuestionData)
-    → slice_get questions q ≡ Some question → IsRightVerdict s job question Clear → IsRightOn s questions job q Clear
-clear-is-right s questions job q question asked right = search arith
+    → slice_get questions q ≡ Some question → IsRightVerdict s job question Clear → HasVerdictAt s job question Clear
+    → IsRightOn s questions job q Clear
+clear-is-right s questions job q question asked right rule =
+    record { question = question; asked = asked; right = right; tried = tt; rule = rule; decisive = λ plain. tt }
 
 pub right-if-wanted : (s : BookData) (questions : List QuestionData) (job q : ℕ) (wanted : List ℕ)
     → (has_bit wanted q ≡ true → IsRightOn s questions job q Clear)
@@ -72,20 +76,24 @@ right-if-wanted s questions job q wanted right = grind (arith, common_steps)
 clear-unasked : (s : BookData) (questions : List QuestionData) (job q : ℕ) (r : RegionData) (x : QuestionData)
     → slice_get s.regions job ≡ Some r → IsRightRegion s.stack r → slice_get questions q ≡ Some x
     → has_action x.actions r.answer.action ≡ false → IsRightOn s questions job q Clear
-clear-unasked s questions job q r x there right asking none = search (arith, clear-is-right, not-asked)
+clear-unasked s questions job q r x there right asking none =
+    clear-is-right s questions job q x asking (not-asked s job x r there right none)
+    (record { region = r; there = there; verdict = unasked-verdict r x none })
 
 clear-ruled-out : (s : BookData) (questions : List QuestionData) (job q : ℕ) (r : RegionData) (x : QuestionData)
     → slice_get s.regions job ≡ Some r → IsRightRegion s.stack r → slice_get questions q ≡ Some x
-    → has_action x.actions r.answer.action ≡ true → IsRightSearch r.piece x Clear
+    → has_action x.actions r.answer.action ≡ true → IsRightSearch r.piece x Clear → FindsInQuestion r.piece x Clear
     → IsRightOn s questions job q Clear
-clear-ruled-out s questions job q r x there right asking asked none =
+clear-ruled-out s questions job q r x there right asking asked none rule =
     clear-is-right s questions job q x asking (region-right s job x r Clear there right asked none)
+    (record { region = r; there = there; verdict = asked-verdict r x Clear asked rule })
 
 -- a question that is ruled out if it asks about the region's action is clear
 pub clear-if-asked : (s : BookData) (questions : List QuestionData) (job q : ℕ) (r : RegionData) (p : PieceData)
     → slice_get s.regions job ≡ Some r → IsRightRegion s.stack r → q < length questions → p ≡ r.piece
     → ((d : Input) → IsInput d → is_member p d ≡ true → Agrees p.facts p.pool d) → Covers p.facts p.pool
     → IsRuledOutIfAsked p.facts questions r.answer.action q → IsRightOn s questions job q Clear
+unfolding IsRuledOutIfAsked
 clear-if-asked s questions job q r p there right l same known covers out =
     let x = there-is questions q l in by x.0 x.1 (has_action x.0.actions r.answer.action) refl
   where
@@ -95,4 +103,5 @@ clear-if-asked s questions job q r p there right l same known covers out =
     by x asking true asks =
         clear-ruled-out s questions job q r x there right asking asks
         (subst (λ (y : PieceData). IsRightSearch y x Clear) same
-        (ruled-out p x p.facts p.pool known (out x asking asks p.pool covers)))
+        (ruled-out p x p.facts p.pool known (out x asking asks p.pool covers).none))
+        (subst (λ (y : PieceData). FindsInQuestion y x Clear) same (out x asking asks p.pool covers).rule)

@@ -1,6 +1,6 @@
 -- Facts confined to a question, word by word.
 use Rattle.std.proofs.lemmas.Grind.{common_steps}
-use Rattle.std.proofs.Common.{◌≡◌, ℕ, ◌+◌, ◌<◌, ◌^◌, Bool, true, false, List, arith, sym, ap, subst, inl, inr, ◌∙◌, MatchBool}
+use Rattle.std.proofs.Common.{◌≡◌, ℕ, ◌+◌, ◌<◌, ◌^◌, Bool, true, false, List, arith, sym, ap, subst, inl, inr, ◌∙◌, MatchBool, Result, Ok, Err, IfOk}
 use Rattle.std.specs.Prelude.{slice_index, bit_and, ◌==◌}
 use Rattle.std.proofs.lemmas.Bool.{cases_eq, and_parts, eqb-true}
 use Rattle.std.specs.Int.Bits.{and_zero_r}
@@ -9,15 +9,18 @@ use Rattle.sf_insn.specs.Inputs.{IsInput}
 use Rattle.sf_sym.specs.declared.pool.Node.{Node}
 use Rattle.sf_dom.specs.Facts.{FactsView, Covers, known_at, AreNarrower, AreConfined, ConfinesWord, HasIn, LiesIn, KeepsOnly, NoInput}
 use Rattle.sf_dom.specs.FactsLaws.{narrower-admits, agreeing-word, some-input, some-such}
-use Rattle.sf_ask.specs.QuestionData.{QuestionData, range_at, mask_at}
+use Rattle.sf_ask.specs.QuestionData.{QuestionData, range_at, mask_at, is_whole}
 use Rattle.sf_ask.specs.Breaking.{IsNumberOf, IsInQuestion}
-use Rattle.sf_ask.specs.Probing.{is_whole}
-use Rattle.sf_ask.specs.Searches.{IsInRange, HasMaskBits, IsInBefore}
+use Rattle.sf_ask.specs.Searches.{IsInRange, HasMaskBits, IsInBefore, IsOutside}
 use Rattle.sf_ask.specs.Trying.{IsNumberBefore}
 
 pub of-true : {A : Type 0} (B : Type 0) (b : Bool) → b ≡ true → MatchBool b A B → A
 of-true B true e h = h
 of-true B false e h = cc
+
+pub map-ok : {X E : Type 0} (r : Result X E) (P Q : X → Type 0) → ((x : X) → P x → Q x) → IfOk r P → IfOk r Q
+map-ok (Ok x) P Q f h = f x h
+map-ok (Err e) P Q f h = h
 
 -- nothing is lost where nothing changes
 pub narrower-refl : (f : FactsView) → AreNarrower f f
@@ -106,23 +109,11 @@ word-confines false q at f g h ns of a none = none-again f g ns (HasIn at (IsInR
     (HasIn at (HasMaskBits q at)) (HasIn at (IsNumberOf q at)) (λ word n. word ≡ at → IsInRange q at n) a none
     (λ d n. (n.above, n.below)) (λ d n. n.masked)
 
--- where all numbers that a word may have are below a range, or all are above it, no input has one of the range there
-pub below-misses : (at low high : ℕ) (f : FactsView) (ns : List Node) → at < 16 → (known_at f.known at).high < low
-    → Covers f ns → NoInput f ns (HasIn at (LiesIn low high))
-below-misses at low high f ns l below covers = grind (arith, common_steps, agreeing-word)
-
-pub above-misses : (at low high : ℕ) (f : FactsView) (ns : List Node) → at < 16 → high < (known_at f.known at).low
-    → Covers f ns → NoInput f ns (HasIn at (LiesIn low high))
-above-misses at low high f ns l over covers = grind (arith, common_steps, agreeing-word)
-
--- where all numbers that a word may have are below its range, the question is ruled out
-pub below-range : (q : QuestionData) (at : ℕ) (f : FactsView) (ns : List Node) → at < 16
-    → (known_at f.known at).high < (range_at q at).0 → Covers f ns → NoInput f ns (IsInQuestion q)
-below-range q at f ns l below covers = search (arith, agreeing-word)
-
-pub above-range : (q : QuestionData) (at : ℕ) (f : FactsView) (ns : List Node) → at < 16
-    → (range_at q at).1 < (known_at f.known at).low → Covers f ns → NoInput f ns (IsInQuestion q)
-above-range q at f ns l over covers = search (arith, agreeing-word)
+-- where what is known of a word leaves no number of its range, no input is in the question
+pub outside-range : (q : QuestionData) (at : ℕ) (f : FactsView) (ns : List Node) → at < 16
+    → IsOutside (known_at f.known at) (range_at q at).0 (range_at q at).1 → Covers f ns → NoInput f ns (IsInQuestion q)
+outside-range q at f ns l (inl below) covers = search (arith, agreeing-word)
+outside-range q at f ns l (inr above) covers = search (arith, agreeing-word)
 
 -- ---- one word after the other
 
@@ -147,6 +138,14 @@ before-more q at f g h ns of a b = again f g h ns (IsInBefore q at) (HasIn at (I
       | inl same ↦ subst (λ (i : ℕ). IsNumberOf q i n) (sym same) (here same)
       | inr other ↦ early (omega arith)
     ])
+
+-- where no number of the question is left for a word at its turn, no input is in the question
+pub before-fails : (q : QuestionData) (at : ℕ) (f g : FactsView) (ns : List Node) → at < 16
+    → AreConfined f g ns (IsInBefore q at) (IsNumberBefore q at) → NoInput g ns (HasIn at (IsNumberOf q at))
+    → NoInput f ns (IsInQuestion q)
+before-fails q at f g ns l a none =
+    none-again f g ns (IsInBefore q at) (HasIn at (IsNumberOf q at)) (IsInQuestion q) (IsNumberBefore q at) a none
+    (λ d all word w. all word (omega arith)) (λ d all. all at l)
 
 -- when the last word is confined, the facts are confined to the question
 pub before-all : (q : QuestionData) (at : ℕ) (f g : FactsView) (ns : List Node) → at ≡ 16

@@ -6,6 +6,8 @@ pub mod QuestionData
 pub mod Questions
 pub mod Breaking
 pub mod Trying
+pub mod Judging
+pub mod OneResult
 pub mod Verdicts
 pub mod Members
 pub mod MemberLaws

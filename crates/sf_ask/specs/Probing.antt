@@ -1,19 +1,16 @@
 -- Probes: which calls questions are about, and which questions the facts of a region rule out at once.
-use Rattle.std.specs.Prelude.{◌≡◌, ◌==◌, ◌&&◌, ℕ, ◌<◌, ◌⊎◌, Bool, true, false, List, length, Some, slice_get, All, Contains}
+use Rattle.std.specs.Prelude.{◌≡◌, ◌==◌, ℕ, ◌<◌, ◌⊎◌, Bool, true, false, List, length, Some, slice_get, All, Contains}
 use Rattle.std.specs.List.Sorted.{IsNonDecreasingBy}
 use Rattle.sf_run.specs.declared.action.Action.{Action}
 use Rattle.sf_sym.specs.declared.pool.Node.{Node}
 use Rattle.sf_dom.specs.Facts.{FactsView, Covers, NoInput}
 use Rattle.sf_ask.specs.Actions.{has_action}
 use Rattle.sf_ask.specs.Breaking.{IsInQuestion}
+use Rattle.sf_ask.specs.Judging.{CantTakeInQuestion}
 use Rattle.sf_ask.specs.QuestionBits.{has_bit}
 use Rattle.sf_ask.specs.QuestionData.{QuestionData, range_at}
 use Rattle.sf_ask.specs.declared.probe.Probe.{Probe}
 use Rattle.sf_ask.specs.declared.probe.Probes.{Probes}
-
--- a range that leaves no number of 32 bits out
-abbrev pub is_whole : ℕ × ℕ → Bool
-is_whole range = (range.0 == 0) && (range.1 == 4294967295)
 
 -- a probe is of the question at its place, and has its range for the first word, the call's number
 pub record IsProbeIn (questions : List QuestionData) (p : Probe) : Type 0 where
@@ -41,12 +38,17 @@ pub record AreProbesOf (questions : List QuestionData) (probes : Probes) : Type 
   pub each : AreProbes questions (length questions) probes.by_call.items probes.others.items
   pub ascending : IsNonDecreasingBy (λ (p : Probe). p.low) probes.by_call.items
 
--- no input that agrees with facts is in the question
+-- no input that agrees with facts is in the question, and the facts can't be confined to it
+pub record LeaveNone (f : FactsView) (pool : List Node) (question : QuestionData) : Type 0 where
+  pub none : NoInput f pool (IsInQuestion question)
+  pub rule : CantTakeInQuestion question pool f
+
+-- facts rule a question out
 abbrev pub IsRuledOut : FactsView → QuestionData → Type 0
-IsRuledOut f question = (pool : List Node) → Covers f pool → NoInput f pool (IsInQuestion question)
+IsRuledOut f question = (pool : List Node) → Covers f pool → LeaveNone f pool question
 
 -- where the question asks about the action, it is ruled out
-abbrev pub IsRuledOutIfAsked : FactsView → List QuestionData → Action → ℕ → Type 0
+unfoldable pub IsRuledOutIfAsked : FactsView → List QuestionData → Action → ℕ → Type 0
 IsRuledOutIfAsked f questions action q = (question : QuestionData) → slice_get questions q ≡ Some question
     → has_action question.actions action ≡ true → IsRuledOut f question
 

@@ -1,5 +1,5 @@
 -- What a question asks.
-use Rattle.std.specs.Prelude.{ℕ, List, replicate, slice_index_or}
+use Rattle.std.specs.Prelude.{ℕ, ◌==◌, ◌&&◌, Bool, List, replicate, slice_index_or}
 use Rattle.sf_ask.specs.declared.actions.ActionSet.{ActionSet}
 
 -- A question: the bytes of its name; for each of the sixteen words a range (low, high) and a pair (mask, value); and
@@ -21,3 +21,7 @@ mask_at q word = slice_index_or q.masks word (0, 0)
 -- masks that every word meets
 abbrev pub no_masks : List (ℕ × ℕ)
 no_masks = replicate 16 (0, 0)
+
+-- a range that leaves no number of 32 bits out
+abbrev pub is_whole : ℕ × ℕ → Bool
+is_whole range = (range.0 == 0) && (range.1 == 4294967295)

@@ -1,13 +1,18 @@
 -- What the search for a member in a question does, step by step, for contracts between functions of this crate.
-use Rattle.std.specs.Prelude.{◌≡◌, ℕ, ◌<◌, ◌≤◌, true, false, slice_index}
+use Rattle.std.specs.Prelude.{◌≡◌, ◌==◌, ◌⊎◌, ℕ, ◌<◌, ◌≤◌, true, false, List, slice_index}
 use Rattle.sf_insn.specs.declared.input.Input.{Input}
 use Rattle.sf_insn.specs.Inputs.{IsInput}
-use Rattle.sf_dom.specs.Facts.{LiesIn, HasMasked}
+use Rattle.sf_sym.specs.declared.pool.Node.{Node}
+use Rattle.sf_dom.specs.declared.known.Known.{Known}
+use Rattle.sf_dom.specs.Facts.{FactsView, LiesIn, HasMasked}
+use Rattle.sf_dom.specs.Learning.{CantTakeInBy}
+use Rattle.sf_dom.specs.Rules.{between, masked}
 use Rattle.sf_piece.specs.Pieces.{PieceData, is_member}
 use Rattle.sf_ask.specs.declared.verdict.Verdict.{Verdict}
 use Rattle.sf_ask.specs.declared.verdict.Verdict.TheVariants.{Clear, Hit, Doubt}
-use Rattle.sf_ask.specs.QuestionData.{QuestionData, range_at, mask_at}
+use Rattle.sf_ask.specs.QuestionData.{QuestionData, range_at, mask_at, is_whole}
 use Rattle.sf_ask.specs.Breaking.{IsNumberOf, IsInQuestion}
+use Rattle.sf_ask.specs.Judging.{TakeInRange}
 use Rattle.sf_ask.specs.Trying.{IsTried}
 use Rattle.sf_ask.specs.Verdicts.{IsLowInput}
 
@@ -22,6 +27,25 @@ HasMaskBits q word n = HasMasked (mask_at q word).0 (mask_at q word).1 n
 -- an input has numbers of the question in the words before a place
 abbrev pub IsInBefore : QuestionData → ℕ → Input → Type 0
 IsInBefore q end d = (word : ℕ) → word < end → IsNumberOf q word (slice_index d.words word)
+
+-- facts can't take in that a word lies in its range
+abbrev pub CantTakeInRange : QuestionData → ℕ → List Node → FactsView → Type 0
+CantTakeInRange q word ns f = (is_whole (range_at q word) ≡ false)
+    × CantTakeInBy f ns word (between (range_at q word).0 (range_at q word).1)
+
+-- facts can't take in that a word has the bits of its mask
+abbrev pub CantTakeInMask : QuestionData → ℕ → List Node → FactsView → Type 0
+CantTakeInMask q word ns f = (((mask_at q word).0 == 0) ≡ false)
+    × CantTakeInBy f ns word (masked (mask_at q word).0 (mask_at q word).1)
+
+-- facts can't take in what the question says of a word
+abbrev pub CantTakeInWord : QuestionData → ℕ → List Node → FactsView → Type 0
+CantTakeInWord q word ns f = CantTakeInRange q word ns f
+    ⊎ ((ranged : FactsView) × TakeInRange q word ns f ranged × CantTakeInMask q word ns ranged)
+
+-- what is known of a word leaves no number from low to high
+abbrev pub IsOutside : Known → ℕ → ℕ → Type 0
+IsOutside k low high = (k.high < low) ⊎ (high < k.low)
 
 -- what a search for a member in the question tells is right
 abbrev pub IsRightSearch : PieceData → QuestionData → Verdict → Type 0

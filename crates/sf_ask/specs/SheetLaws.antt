@@ -1,11 +1,10 @@
 -- What the verdicts of a right sheet tell.
-use Rattle.std.proofs.Common.{◌≡◌, ℕ, true, false, List, Option, Some, None, subst}
+use Rattle.std.proofs.Common.{◌≡◌, ℕ, true, false, List, Option, Some, None}
 use Rattle.sf_book.specs.Books.{BookData}
 use Rattle.sf_ask.specs.declared.verdict.Verdict.{Verdict}
 use Rattle.sf_ask.specs.declared.verdict.Verdict.TheVariants.{Clear, Hit, Doubt}
 use Rattle.sf_ask.specs.QuestionData.{QuestionData}
-use Rattle.sf_ask.specs.Verdicts.{IsBreakAt}
-use Rattle.sf_ask.specs.Sheets.{is_hit, is_doubt, is_skipped, HasBreak, HasNoBreak, IsRightWhereGiven}
+use Rattle.sf_ask.specs.Sheets.{is_hit, HasBreak, IsRightWhereGiven}
 
 -- where there is a hit, a member of the region breaks the question
 pub hit-breaks : (s : BookData) (questions : List QuestionData) (place q : ℕ) (given : Option Verdict)
@@ -15,14 +14,3 @@ hit-breaks s questions place q (Some Clear) right hit = cc
 hit-breaks s questions place q (Some (Hit d)) right hit =
     (d, record { question = right.question; asked = right.asked; breaks = right.right })
 hit-breaks s questions place q (Some Doubt) right hit = cc
-
--- where there is neither a hit nor a doubt, and the question wasn't skipped, no member does
-pub clear-breaks-none : (s : BookData) (questions : List QuestionData) (place q : ℕ) (given : Option Verdict)
-    → IsRightWhereGiven s questions place q given
-    → is_hit given ≡ false → is_doubt given ≡ false → is_skipped given ≡ false → HasNoBreak s questions place q
-clear-breaks-none s questions place q None right hit doubt skipped = cc
-clear-breaks-none s questions place q (Some Clear) right hit doubt skipped = λ d h.
-    let same : h.question ≡ right.question = cc (h.asked, right.asked) in
-    right.right d (subst (λ (x : QuestionData). IsBreakAt s place x d) same h.breaks)
-clear-breaks-none s questions place q (Some (Hit d)) right hit doubt skipped = cc
-clear-breaks-none s questions place q (Some Doubt) right hit doubt skipped = cc

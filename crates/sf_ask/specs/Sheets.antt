@@ -7,6 +7,7 @@ use Rattle.sf_ask.specs.declared.verdict.Verdict.{Verdict}
 use Rattle.sf_ask.specs.declared.verdict.Verdict.TheVariants.{Clear, Hit, Doubt}
 use Rattle.sf_ask.specs.QuestionBits.{has_bit}
 use Rattle.sf_ask.specs.QuestionData.{QuestionData}
+use Rattle.sf_ask.specs.Judging.{HasVerdictAt}
 use Rattle.sf_ask.specs.Verdicts.{IsBreakAt, IsRightVerdict, TellsTriedAt, IsDecisive}
 
 -- a sheet: the regions and questions that it is of, the place of its region, and for each question a verdict or none
@@ -70,16 +71,14 @@ pub record IsBreakOf (s : BookData) (questions : List QuestionData) (place q : �
 abbrev pub HasBreak : BookData → List QuestionData → ℕ → ℕ → Type 0
 HasBreak s questions place q = (d : Input) × IsBreakOf s questions place q d
 
--- no member of the region breaks the question
-abbrev pub HasNoBreak : BookData → List QuestionData → ℕ → ℕ → Type 0
-HasNoBreak s questions place q = (d : Input) → ¬ IsBreakOf s questions place q d
-
--- a verdict on the question of a number is right, and tells what was tried; on a plain stack there is no doubt
+-- a verdict on the question of a number is right, tells what was tried, and is that of the rules; on a plain stack
+-- there is no doubt
 pub record IsRightOn (s : BookData) (questions : List QuestionData) (place q : ℕ) (v : Verdict) : Type 0 where
   pub question : QuestionData
   pub asked : slice_get questions q ≡ Some question
   pub right : IsRightVerdict s place question v
   pub tried : TellsTriedAt s place question v
+  pub rule : HasVerdictAt s place question v
   pub decisive : IsPlain s.stack → IsDecisive v
 
 -- the verdict on each question whose bit isn't set is clear

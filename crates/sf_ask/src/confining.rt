@@ -1,17 +1,18 @@
 //! Facts, confined to the numbers that a question leaves for the words.
 
 ghost use Rattle.std.specs.Prelude.{◌≡◌, ◌<◌, ◌≤◌, true, false, Ok, List, length, IfOk, IfErr, MatchBool, MatchOption};
-ghost use Rattle.sf_sym.specs.declared.pool.Node.{Node as ANode};
-ghost use Rattle.sf_dom.specs.Facts.{Covers, AreConfined, ConfinesWord, NoInput, HasIn, LiesIn};
+ghost use Rattle.sf_dom.specs.Facts.{Covers, AreConfined, ConfinesWord, NoInput, HasIn, known_at};
 ghost use Rattle.sf_ask.specs.Breaking.{IsNumberOf, IsInQuestion};
-ghost use Rattle.sf_ask.specs.Probing.{is_whole, IsRuledOut};
-ghost use Rattle.sf_ask.specs.Searches.{IsInRange, HasMaskBits};
+ghost use Rattle.sf_ask.specs.QuestionData.{is_whole};
+ghost use Rattle.sf_ask.specs.Judging.{TakeInRange, TakeInMask, TakeInWord, TakeInQuestion, CantTakeInQuestion};
+ghost use Rattle.sf_ask.specs.Probing.{IsRuledOut};
+ghost use Rattle.sf_ask.specs.Searches.{IsInRange, HasMaskBits, IsOutside, CantTakeInRange, CantTakeInMask, CantTakeInWord};
 ghost use Rattle.sf_ask.specs.Trying.{IsNumberBefore};
 ghost use Rattle.sf_ask.specs.declared.fault.Fault.TheVariants.{Memory};
 
 use crate::fault::Fault;
 use crate::question::Question;
-use sf_dom::Facts;
+use sf_dom::{Facts, rules_have_one_result};
 use sf_sym::{NodeId, Pool};
 use std::alloc::Global;
 
@@ -26,8 +27,7 @@ fn is_whole(range: (u32, u32)) -> bool
 fn misses(facts: &Facts, word: usize, low: u32, high: u32) -> bool
     requires word { word < 16 }
     requires known { 16 ≤ length facts.now.known }
-    ensures { result ≡ true → (pool : List ANode) → Covers facts.now pool
-        → NoInput facts.now pool (HasIn word (LiesIn low high)) }
+    ensures { result ≡ true → IsOutside (known_at facts.now.known word) low high }
 {
     let known = facts.known(NodeId(word as u32));
     known.high < low || high < known.low
@@ -47,7 +47,8 @@ pub(crate) fn rules_out(facts: &Facts, question: &Question) -> bool
     false
 }
 
-/// Confines a word to its range. False where no input that agrees with the facts has it there.
+/// Confines a word to the question's range for it. False where no input that agrees with the facts has a number of
+/// this range in the word.
 fn confine_range(
     alloc: Global,
     facts: &mut Facts,
@@ -60,6 +61,9 @@ fn confine_range(
     ensures confined { IfOk result (λ b. MatchBool b
         (ConfinesWord facts.old facts.new pool.now word (IsInRange question.now word))
         (NoInput facts.old pool.now (HasIn word (IsInRange question.now word)))) }
+    ensures rule { IfOk result (λ b. MatchBool b
+        (TakeInRange question.now word pool.now facts.old facts.new)
+        (CantTakeInRange question.now word pool.now facts.old)) }
     ensures err { IfErr result (λ f. f ≡ Memory) }
 {
     let (low, high) = question.range(word);
@@ -82,6 +86,9 @@ fn confine_mask(
     ensures confined { IfOk result (λ b. MatchBool b
         (ConfinesWord facts.old facts.new pool.now word (HasMaskBits question.now word))
         (NoInput facts.old pool.now (HasIn word (HasMaskBits question.now word)))) }
+    ensures rule { IfOk result (λ b. MatchBool b
+        (TakeInMask question.now word pool.now facts.old facts.new)
+        (CantTakeInMask question.now word pool.now facts.old)) }
     ensures err { IfErr result (λ f. f ≡ Memory) }
 {
     let (mask, value) = question.mask(word);
@@ -105,6 +112,9 @@ fn confine_word(
     ensures confined { IfOk result (λ b. MatchBool b
         (ConfinesWord facts.old facts.new pool.now word (IsNumberOf question.now word))
         (NoInput facts.old pool.now (HasIn word (IsNumberOf question.now word)))) }
+    ensures rule { IfOk result (λ b. MatchBool b
+        (TakeInWord question.now word pool.now facts.old facts.new)
+        (CantTakeInWord question.now word pool.now facts.old)) }
     ensures err { IfErr result (λ f. f ≡ Memory) }
 {
     if !confine_range(alloc, facts, pool, question, word)? {
@@ -125,8 +135,13 @@ pub(crate) fn facts_in_question(
         (NoInput facts.now pool.now (IsInQuestion question.now))
         (λ f. AreConfined facts.now f pool.now (IsInQuestion question.now)
         (IsNumberBefore question.now 16))) }
+    ensures rule { IfOk result (λ o. MatchOption o
+        (CantTakeInQuestion question.now pool.now facts.now)
+        (λ f. TakeInQuestion question.now pool.now facts.now f)) }
     ensures err { IfErr result (λ f. f ≡ Memory) }
 {
+    // For the prover: the rules of facts have one result.
+    rules_have_one_result();
     let mut confined = facts.fork()?;
     for word in 0..16 {
         if !confine_word(alloc, &mut confined, pool, question, word)? {

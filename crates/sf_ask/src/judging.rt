@@ -9,6 +9,7 @@ ghost use Rattle.sf_ask.specs.declared.fault.Fault.TheVariants.{Memory};
 ghost use Rattle.sf_sym.specs.Pool.{IsCondBelow};
 ghost use Rattle.sf_piece.specs.Pieces.{is_member};
 ghost use Rattle.sf_book.specs.Books.{IsRightRegion};
+ghost use Rattle.sf_ask.specs.Judging.{FindsInQuestion, HasVerdictAt};
 ghost use Rattle.sf_ask.specs.Verdicts.{IsRightVerdict, TellsTriedAt, IsDecisive};
 ghost use Rattle.sf_ask.specs.Searches.{IsRightSearch, TellsTried};
 ghost use Rattle.sf_ask.specs.Trying.{IsLeastInput};
@@ -88,6 +89,7 @@ pub(crate) fn is_member_of(alloc: Global, piece: &Piece, input: &Input) -> Resul
 fn search(alloc: Global, piece: &Piece, question: &Question) -> Result<Verdict, Fault>
     ensures right { IfOk result (IsRightSearch piece.now question.now) }
     ensures tried { IfOk result (TellsTried piece.now question.now) }
+    ensures rule { IfOk result (FindsInQuestion piece.now question.now) }
     ensures decisive { IsPlain piece.now.stack → IfOk result IsDecisive }
     ensures err { IfErr result (λ f. f ≡ Memory) }
 {
@@ -120,6 +122,7 @@ pub fn judge(
     requires { region < length settled.now.regions }
     ensures right { IfOk result (IsRightVerdict settled.now region question.now) }
     ensures tried { IfOk result (TellsTriedAt settled.now region question.now) }
+    ensures rule { IfOk result (HasVerdictAt settled.now region question.now) }
     ensures decisive { IsPlain settled.now.stack → IfOk result IsDecisive }
     ensures err { IfErr result (λ f. f ≡ Memory) }
 {

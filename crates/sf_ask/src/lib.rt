@@ -6,6 +6,7 @@ mod bits;
 mod confining;
 mod fault;
 mod judging;
+pub mod laws;
 mod members;
 mod probe;
 mod probing;

@@ -16,6 +16,7 @@ use sf_run::Action;
 use sf_sym::NodeId;
 
 /// Whether the probe's question asks about the action, and the facts don't rule it out at once.
+#[tactic(auto, unfolding(crate::specs::Probing::IsRuledOutIfAsked))]
 fn is_left_to_judge(facts: &Facts, questions: &[Question], action: Action, probe: &Probe) -> bool
     requires known { 16 ≤ length facts.now.known }
     requires probe { IsProbeIn questions.now probe.now }

@@ -117,7 +117,8 @@ fn clear_verdict(wanted: &[u64; 4], q: usize) -> Option<Verdict>
     }
 }
 
-/// For each question a verdict, or none where it isn't asked for.
+/// The verdict of the region at the place `job` on each question: none where the question's bit in `wanted` isn't set,
+/// and clear, without judging, where only its bit in `to_judge` isn't set.
 fn verdicts_on(
     alloc: Global,
     settled: &Settled,

@@ -2,6 +2,7 @@ use Rattle.std.proofs.lemmas.Grind.{common_steps}
 use Rattle.std.proofs.Common.{arith}
 use Rattle.std.proofs.lemmas.Bool.{eqb-true}
 use Rattle.sf_ask.proofs.Words.{mask-stays}
+use Rattle.sf_ask.proofs.Confinements.{mask-rule, is-other}
 use Rattle.sf_ask.proofs.confining.confine_mask.Goals as goal
 
 pub returns-then-mask-eq0-clause-confined : goal.returns-then-mask-eq0-clause-confined
@@ -9,3 +10,9 @@ returns-then-mask-eq0-clause-confined c = grind (arith, common_steps, mask-stays
 
 pub returns-clause-confined : goal.returns-clause-confined
 returns-clause-confined c = rw c.mask-mask.ensures.value at c.in_ok-confine_bits.ensures.confined
+
+pub returns-clause-rule : goal.returns-clause-rule
+returns-clause-rule c =
+    mask-rule c.in_ok-confine_bits.field-0 c.args.question.now c.args.word c.args.pool.now c.args.facts.now
+    c.confine_bits.new.self (is-other _ _ (rw c.mask-mask.ensures.value at c.if-mask-eq0.false))
+    (rw c.mask-mask.ensures.value at c.in_ok-confine_bits.ensures.rule)

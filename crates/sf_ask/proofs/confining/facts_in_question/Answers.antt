@@ -1,18 +1,47 @@
-use Rattle.std.proofs.Common.{arith}
-use Rattle.sf_ask.proofs.Words.{of-true, before-none, before-more, before-all}
+use Rattle.std.proofs.Common.{◌≡◌, ℕ, arith, subst}
+use Rattle.sf_ask.specs.Judging.{TakeInBefore}
+use Rattle.sf_ask.proofs.Words.{of-true, before-none, before-more, before-fails, before-all}
+use Rattle.sf_ask.proofs.Confinements.{none-before, one-more, of-false, cant-at-turn}
 use Rattle.sf_ask.proofs.confining.facts_in_question.Goals as goal
 
 pub loop-word-init : goal.loop-word-init
 loop-word-init c =
-    rw c.in_ok-confined.ensures (before-none c.args.question.now c.args.facts.now c.args.pool.now c.requires)
+    rw c.in_ok-confined.ensures (record {
+      confined = before-none c.args.question.now c.args.facts.now c.args.pool.now c.requires;
+      rule = none-before c.args.question.now c.args.pool.now c.args.facts.now;
+    })
 
 pub loop-word-preserved : goal.loop-word-preserved
 loop-word-preserved c =
-    before-more c.args.question.now c.loop-word.word c.args.facts.now c.loop-word.confined
-    c.confine_word.new.facts c.args.pool.now
-    c.requires c.loop-word.invariant (of-true _ c.in_ok-confine_word.field-0 c.if-not-branch.false
-    c.in_ok-confine_word.ensures.confined)
+    let q = c.args.question.now in
+    let ns = c.args.pool.now in
+    record {
+      confined = before-more q c.loop-word.word c.args.facts.now c.loop-word.confined c.confine_word.new.facts ns
+          c.requires c.loop-word.invariant.confined (of-true _ c.in_ok-confine_word.field-0 c.if-not-branch.false
+          c.in_ok-confine_word.ensures.confined);
+      rule = one-more q c.loop-word.word ns c.args.facts.now c.loop-word.confined c.confine_word.new.facts
+          c.loop-word.invariant.rule (of-true _ c.in_ok-confine_word.field-0 c.if-not-branch.false
+          c.in_ok-confine_word.ensures.rule);
+    }
 
 pub returns-clause-confined : goal.returns-clause-confined
 returns-clause-confined c = before-all c.args.question.now c.loop-word.word c.args.facts.now c.loop-word.confined
-    c.args.pool.now (omega arith) c.loop-word.invariant
+    c.args.pool.now (omega arith) c.loop-word.invariant.confined
+
+pub returns-clause-rule : goal.returns-clause-rule
+returns-clause-rule c =
+    let end : c.loop-word.word ≡ 16 = omega arith in
+    subst (λ (n : ℕ). TakeInBefore c.args.question.now n c.args.pool.now c.args.facts.now c.loop-word.confined) end
+    c.loop-word.invariant.rule
+
+pub returns-then-not-branch-clause-confined : goal.returns-then-not-branch-clause-confined
+returns-then-not-branch-clause-confined c =
+    before-fails c.args.question.now c.loop-word.word c.args.facts.now c.loop-word.confined c.args.pool.now
+    c.loop-word-test.true c.loop-word.invariant.confined (of-false _ c.in_ok-confine_word.field-0 c.if-not-branch.true
+    c.in_ok-confine_word.ensures.confined)
+
+pub returns-then-not-branch-clause-rule : goal.returns-then-not-branch-clause-rule
+returns-then-not-branch-clause-rule c =
+    cant-at-turn c.rules_have_one_result.ensures c.args.pool.now c.requires.pool c.args.question.now c.loop-word.word
+    c.args.facts.now c.loop-word.confined c.loop-word-test.true c.loop-word.invariant.rule
+    (of-false _ c.in_ok-confine_word.field-0 c.if-not-branch.true c.in_ok-confine_word.ensures.rule)

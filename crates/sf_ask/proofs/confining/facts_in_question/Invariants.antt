@@ -1,8 +1,11 @@
 use Rattle.sf_dom.specs.Facts.{AreConfined}
+use Rattle.sf_ask.specs.Judging.{TakeInBefore}
 use Rattle.sf_ask.specs.Searches.{IsInBefore}
 use Rattle.sf_ask.specs.Trying.{IsNumberBefore}
 use Rattle.sf_ask.proofs.confining.facts_in_question.Given as goal
 
 abbrev pub invariant-loop-word : goal.invariant-loop-word
-invariant-loop-word l = AreConfined l.facts l.confined l.pool (IsInBefore l.question l.word)
-    (IsNumberBefore l.question l.word)
+invariant-loop-word l = record {
+  confined : AreConfined l.facts l.confined l.pool (IsInBefore l.question l.word) (IsNumberBefore l.question l.word);
+  rule : TakeInBefore l.question l.word l.pool l.facts l.confined;
+}

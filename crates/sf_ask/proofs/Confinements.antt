@@ -1,0 +1,299 @@
+-- Facts that take in a question word by word, by the rules.
+use Rattle.std.proofs.Common.{◌≡◌, ℕ, zero, suc, ◌+◌, ◌-◌, ◌<◌, ◌≤◌, ◌⊎◌, inl, inr, Bool, true, false, List, length, set, refl, sym, ap, subst, ◌∙◌, arith, add-one, MatchBool}
+use Rattle.std.specs.Prelude.{◌==◌, ◌&&◌, Option, Some, None, MatchOption}
+use Rattle.std.proofs.lemmas.Bool.{cases_eq, cases_lt, and_parts, eqb-true}
+use Rattle.std.proofs.lemmas.List.{get_or-set_same, get_or-set_other, length-set}
+use Rattle.std.proofs.lemmas.Option.{same_Some}
+use Rattle.sf_sym.specs.declared.pool.Node.{Node}
+use Rattle.sf_sym.specs.Pool.{IsPool, node_at}
+use Rattle.sf_dom.specs.declared.known.Known.{Known}
+use Rattle.sf_dom.specs.Facts.{FactsView, AreEqualFacts, Covers, known_at}
+use Rattle.sf_dom.specs.Learning.{TakesInBy, CantTakeInBy}
+use Rattle.sf_dom.specs.Passes.{IsPass, PassGives}
+use Rattle.sf_dom.specs.Rules.{IsReduction, ReductionGives, between, masked, met, forward_node}
+use Rattle.sf_dom.specs.GoingBack.{WritingGives}
+use Rattle.sf_dom.specs.SoundRules.{HaveOneResult}
+use Rattle.sf_ask.specs.QuestionData.{QuestionData, range_at, mask_at, is_whole}
+use Rattle.sf_ask.specs.Judging.{TakeInRange, TakeInMask, TakeInWord, TakeInBefore, CantTakeInQuestion}
+use Rattle.sf_ask.specs.Searches.{CantTakeInRange, CantTakeInMask, CantTakeInWord, IsOutside}
+
+-- ---- equal facts
+
+pub equal-same : (f : FactsView) → AreEqualFacts f f
+equal-same f = record { known = refl; excluded = λ w l. (λ n c. c, λ n c. c) }
+
+pub equal-back : (f g : FactsView) → AreEqualFacts f g → AreEqualFacts g f
+equal-back f g h = record { known = sym h.known; excluded = λ w l. ((h.excluded w l).1, (h.excluded w l).0) }
+
+pub equal-on : (f g h : FactsView) → AreEqualFacts f g → AreEqualFacts g h → AreEqualFacts f h
+equal-on f g h a b = record {
+  known = a.known ∙ b.known;
+  excluded = λ w l. (
+    λ n c. (b.excluded w l).0 n ((a.excluded w l).0 n c),
+    λ n c. (a.excluded w l).1 n ((b.excluded w l).1 n c),
+  );
+}
+
+module _ (laws : HaveOneResult) (ns : List Node) (pool : IsPool ns) where
+  -- a step that changes nothing, or takes in more of a word, makes equal facts of equal ones
+  same-step : (b : Bool) (word : ℕ) (more : Known) (f g h k : FactsView) → AreEqualFacts f g
+      → MatchBool b (h ≡ f) (TakesInBy f h ns word more) → MatchBool b (k ≡ g) (TakesInBy g k ns word more)
+      → AreEqualFacts h k
+  same-step true word more f g h k e a c =
+      subst (λ (x : FactsView). AreEqualFacts x k) (sym a) (subst (λ (x : FactsView). AreEqualFacts f x) (sym c) e)
+  same-step false word more f g h k e a c = laws.confined f g h k ns word more pool e a c
+
+  same-word : (q : QuestionData) (word : ℕ) (f g h k : FactsView) → AreEqualFacts f g → TakeInWord q word ns f h
+      → TakeInWord q word ns g k → AreEqualFacts h k
+  same-word q word f g h k e a b =
+      same-step _ word _ a.ranged b.ranged h k
+      (same-step _ word _ f g a.ranged b.ranged e a.range b.range) a.mask b.mask
+
+  pub same-before : (q : QuestionData) (end : ℕ) (f g h k : FactsView) → AreEqualFacts f g → TakeInBefore q end ns f h
+      → TakeInBefore q end ns g k → AreEqualFacts h k
+  unfolding TakeInBefore
+  same-before q zero f g h k e a b = equal-on h g k (equal-on h f g (equal-back f h a) e) b
+  same-before q (suc word) f g h k e a b =
+      same-word q word a.0 b.0 h k (same-before q word f g a.0 b.0 e a.1 b.1) a.2 b.2
+
+  -- where facts can't take in more of a word, equal ones can't either
+  not-step : (b : Bool) (word : ℕ) (more : Known) (f g k : FactsView) → AreEqualFacts f g → b ≡ false
+      → CantTakeInBy f ns word more → MatchBool b (k ≡ g) (TakesInBy g k ns word more) → ⊥
+  not-step true word more f g k e clash cant takes = absurd cc
+  not-step false word more f g k e is cant takes =
+      laws.confines_not g f k ns word more pool (equal-back f g e) takes cant
+
+  not-word : (q : QuestionData) (word : ℕ) (f g k : FactsView) → AreEqualFacts f g → CantTakeInWord q word ns f
+      → TakeInWord q word ns g k → ⊥
+  not-word q word f g k e (inl cant) takes = not-step _ word _ f g takes.ranged e cant.0 cant.1 takes.range
+  not-word q word f g k e (inr (ranged, range, cant)) takes =
+      not-step _ word _ ranged takes.ranged k (same-step _ word _ f g ranged takes.ranged e range takes.range) cant.0
+      cant.1 takes.mask
+
+-- facts that equal those that can be confined can be too
+pub from-equal : (q : QuestionData) (end : ℕ) (ns : List Node) (f g h : FactsView) → AreEqualFacts f g
+    → TakeInBefore q end ns g h → TakeInBefore q end ns f h
+unfolding TakeInBefore
+from-equal q zero ns f g h e a = equal-on f g h e a
+from-equal q (suc word) ns f g h e a = (a.0, from-equal q word ns f g a.0 e a.1, a.2)
+
+-- ---- one word
+
+pub to-false : {B : Type 0} (A : Type 0) (b : Bool) → b ≡ false → B → MatchBool b A B
+to-false A true clash x = absurd cc
+to-false A false is x = x
+
+pub of-false : {B : Type 0} (A : Type 0) (b : Bool) → b ≡ false → MatchBool b A B → B
+of-false A true clash x = absurd cc
+of-false A false is x = x
+
+pub is-other : (a b : ℕ) → (a ≡ b → ⊥) → (a == b) ≡ false
+is-other a b ne = by (a == b) refl
+  where
+    by : (t : Bool) → (a == b) ≡ t → (a == b) ≡ false
+    by true e = absurd (ne (eqb-true a b e))
+    by false e = e
+
+-- a range that leaves a number out is taken in by the rules, or can't be
+pub range-rule : (b : Bool) (q : QuestionData) (word : ℕ) (ns : List Node) (f g : FactsView)
+    → is_whole (range_at q word) ≡ false
+    → MatchBool b (TakesInBy f g ns word (between (range_at q word).0 (range_at q word).1))
+    (CantTakeInBy f ns word (between (range_at q word).0 (range_at q word).1))
+    → MatchBool b (TakeInRange q word ns f g) (CantTakeInRange q word ns f)
+range-rule true q word ns f g part h = to-false (g ≡ f) (is_whole (range_at q word)) part h
+range-rule false q word ns f g part h = (part, h)
+
+-- so are the bits of a mask
+pub mask-rule : (b : Bool) (q : QuestionData) (word : ℕ) (ns : List Node) (f g : FactsView)
+    → ((mask_at q word).0 == 0) ≡ false
+    → MatchBool b (TakesInBy f g ns word (masked (mask_at q word).0 (mask_at q word).1))
+    (CantTakeInBy f ns word (masked (mask_at q word).0 (mask_at q word).1))
+    → MatchBool b (TakeInMask q word ns f g) (CantTakeInMask q word ns f)
+mask-rule true q word ns f g some h = to-false (g ≡ f) ((mask_at q word).0 == 0) some h
+mask-rule false q word ns f g some h = (some, h)
+
+-- a word is taken in where its range was, and then its mask
+pub word-rule : (b : Bool) (q : QuestionData) (word : ℕ) (ns : List Node) (f g h : FactsView)
+    → TakeInRange q word ns f g
+    → MatchBool b (TakeInMask q word ns g h) (CantTakeInMask q word ns g)
+    → MatchBool b (TakeInWord q word ns f h) (CantTakeInWord q word ns f)
+word-rule true q word ns f g h range mask = record { ranged = g; range = range; mask = mask }
+word-rule false q word ns f g h range mask = inr (g, range, mask)
+
+-- ---- one word after the other
+
+pub none-before : (q : QuestionData) (ns : List Node) (f : FactsView) → TakeInBefore q 0 ns f f
+unfolding TakeInBefore
+none-before q ns f = equal-same f
+
+pub one-more : (q : QuestionData) (word : ℕ) (ns : List Node) (f g h : FactsView) → TakeInBefore q word ns f g
+    → TakeInWord q word ns g h → TakeInBefore q (word + 1) ns f h
+unfolding TakeInBefore
+one-more q word ns f g h a b =
+    let more : TakeInBefore q (suc word) ns f h = (g, a, b) in
+    subst (λ (n : ℕ). TakeInBefore q n ns f h) (sym (add-one word)) more
+
+-- a word before a place was taken in at its turn
+pub record TookIn (q : QuestionData) (word : ℕ) (ns : List Node) (f : FactsView) : Type 0 where
+  pub old : FactsView
+  pub new : FactsView
+  pub before : TakeInBefore q word ns f old
+  pub takes : TakeInWord q word ns old new
+
+pub at-turn : (q : QuestionData) (end word : ℕ) (ns : List Node) (f g : FactsView) → word < end
+    → TakeInBefore q end ns f g → TookIn q word ns f
+unfolding TakeInBefore
+at-turn q zero word ns f g l h = absurd (omega arith)
+at-turn q (suc end) word ns f g l h = elim (cases_lt word end) [
+  | inl earlier ↦ at-turn q end word ns f h.0 earlier h.1
+  | inr from ↦
+      let same : end ≡ word = omega arith in
+      subst (λ (n : ℕ). TookIn q n ns f) same (record { old = h.0; new = g; before = h.1; takes = h.2 })
+]
+
+-- where a word can't be taken in at its turn, the question can't
+pub cant-at-turn : (laws : HaveOneResult) (ns : List Node) (pool : IsPool ns) (q : QuestionData) (word : ℕ)
+    (f g : FactsView) → word < 16 → TakeInBefore q word ns f g → CantTakeInWord q word ns g
+    → CantTakeInQuestion q ns f
+cant-at-turn laws ns pool q word f g l before cant k all =
+    let t = at-turn q 16 word ns f k l all in
+    not-word laws ns pool q word g t.old t.new
+    (same-before laws ns pool q word f f g t.old (equal-same f) before t.before) cant t.takes
+
+-- ---- what is left of a word
+
+-- no end moves outwards
+record IsWithin (old new : Known) : Type 0 where
+  low : old.low ≤ new.low
+  high : new.high ≤ old.high
+
+-- what taking in more of a word leaves of the words
+record TakesInMore (f g : FactsView) (ns : List Node) (word : ℕ) (more : Known) : Type 0 where
+  count : length g.known ≡ length ns
+  each : (i : ℕ) → i < 16 → IsWithin (known_at f.known i) (known_at g.known i)
+  here : IsWithin more (known_at g.known word)
+  ordered : (known_at g.known word).low ≤ (known_at g.known word).high
+
+within-met : (a b c : Known) → (met a b).low ≤ c.low → c.high ≤ (met a b).high → IsWithin a c × IsWithin b c
+within-met a b c low high = (
+  record { low = omega arith; high = omega arith },
+  record { low = omega arith; high = omega arith },
+)
+
+within-on : (a b c : Known) → IsWithin a b → IsWithin b c → IsWithin a c
+within-on a b c h k = record {
+  low = let x = h.low in let y = k.low in omega arith;
+  high = let x = h.high in
+      let y = k.high in omega arith;
+}
+
+takes-more : (f g : FactsView) (ns : List Node) (word : ℕ) (more : Known) → word < 16 → 16 ≤ length ns
+    → length f.known ≡ length ns → TakesInBy f g ns word more → TakesInMore f g ns word more
+takes-more f g ns word more lw long count h = written h.known.0 h.known.1 h.known.2
+  where
+    ks : List Known
+    ks = f.known
+
+    passed : (left : Known) (next : List Known) → IsReduction f.excluded word (met (known_at ks word) more) left
+        → next ≡ set ks word left → IsPass next g.known f.excluded ns → TakesInMore f g ns word more
+    passed left next is same pass = record {
+      count = pass.count;
+      each = each;
+      here = within-on more (known_at next word) (known_at g.known word) (rw here-is own.1) (after word lw);
+      ordered = (pass.each word (omega arith)).is.known.ordered;
+    }
+      where
+        own : IsWithin (known_at ks word) left × IsWithin more left
+        own = within-met (known_at ks word) more left is.narrower.low is.narrower.high
+
+        here-is : known_at next word ≡ left
+        here-is = rw (
+          same,
+          get_or-set_same ks word left (record { low = 0; high = 0; zeros = 0; ones = 0 })
+              (omega arith),
+        ) refl
+
+        after : (i : ℕ) → i < 16 → IsWithin (known_at next i) (known_at g.known i)
+        after i l = let r = (pass.each i (omega arith)).narrower in
+            (within-met (known_at next i) (forward_node g.known (node_at ns i)) (known_at g.known i) r.low r.high).0
+
+        each : (i : ℕ) → i < 16 → IsWithin (known_at ks i) (known_at g.known i)
+        each i l = elim (cases_eq i word) [
+          | inl e ↦ within-on (known_at ks i) (known_at next i) (known_at g.known i)
+              (rw (e, here-is) own.0) (after i l)
+          | inr ne ↦ within-on (known_at ks i) (known_at next i) (known_at g.known i)
+              (rw (same, get_or-set_other ks word i left (record { low = 0; high = 0; zeros = 0; ones = 0 }) ne)
+              (record { low = omega arith; high = omega arith })) (after i l)
+        ]
+
+    reduced : (o : Option Known) (next : List Known) → ReductionGives f.excluded word (met (known_at ks word) more) o
+        → MatchOption o (Some next ≡ None) (λ left. Some next ≡ Some (set ks word left))
+        → IsPass next g.known f.excluded ns → TakesInMore f g ns word more
+    reduced None next is same pass = let clash : Some next ≡ None = same in absurd cc
+    reduced (Some left) next is same pass = passed left next is (same_Some next (set ks word left) same) pass
+
+    written : (o : Option (List Known)) → WritingGives ks f.excluded word (met (known_at ks word) more) o
+        → MatchOption o (Some g.known ≡ None) (λ next. PassGives next f.excluded ns (Some g.known))
+        → TakesInMore f g ns word more
+    written None given pass = let clash : Some g.known ≡ None = pass in absurd cc
+    written (Some next) given pass = reduced given.0 next given.1 given.2 pass
+
+-- what is known of each word after a step is within what was known of it
+record IsWithinFacts (f g : FactsView) (ns : List Node) : Type 0 where
+  count : length g.known ≡ length ns
+  each : (i : ℕ) → i < 16 → IsWithin (known_at f.known i) (known_at g.known i)
+
+within-same : (f g : FactsView) (ns : List Node) → length f.known ≡ length ns → f.known ≡ g.known → IsWithinFacts f g ns
+within-same f g ns count same = record {
+  count = rw (← same) count;
+  each = λ i l. rw (← same) (record { low = omega arith; high = omega arith });
+}
+
+step-within : (b : Bool) (word : ℕ) (more : Known) (f g : FactsView) (ns : List Node) → word < 16 → 16 ≤ length ns
+    → length f.known ≡ length ns → MatchBool b (g ≡ f) (TakesInBy f g ns word more) → IsWithinFacts f g ns
+step-within true word more f g ns lw long count h = within-same f g ns count (sym (ap (λ (x : FactsView). x.known) h))
+step-within false word more f g ns lw long count h =
+    let t = takes-more f g ns word more lw long count h in record { count = t.count; each = t.each }
+
+within-again : (f g h : FactsView) (ns : List Node) → IsWithinFacts f g ns → IsWithinFacts g h ns → IsWithinFacts f h ns
+within-again f g h ns a b = record {
+  count = b.count;
+  each = λ i l. within-on (known_at f.known i) (known_at g.known i) (known_at h.known i) (a.each i l) (b.each i l);
+}
+
+before-within : (q : QuestionData) (end : ℕ) (ns : List Node) (f g : FactsView) → end ≤ 16 → 16 ≤ length ns
+    → length f.known ≡ length ns → TakeInBefore q end ns f g → IsWithinFacts f g ns
+unfolding TakeInBefore
+before-within q zero ns f g l long count h = within-same f g ns count h.known
+before-within q (suc word) ns f g l long count h =
+    let a = before-within q word ns f h.0 (omega arith) long count h.1 in
+    let b = step-within _ word _ h.0 h.2.ranged ns (omega arith) long a.count h.2.range in
+    let c = step-within _ word _ h.2.ranged g ns (omega arith) long b.count h.2.mask in
+    within-again f h.0 g ns a (within-again h.0 h.2.ranged g ns b c)
+
+ranged-within : (b : Bool) (word low high : ℕ) (f g : FactsView) (ns : List Node) → word < 16 → 16 ≤ length ns
+    → length f.known ≡ length ns → b ≡ false → MatchBool b (g ≡ f) (TakesInBy f g ns word (between low high))
+    → TakesInMore f g ns word (between low high)
+ranged-within true word low high f g ns lw long count clash h = absurd cc
+ranged-within false word low high f g ns lw long count is h = takes-more f g ns word (between low high) lw long count h
+
+-- where what is known of a word leaves no number of its range, the facts can't be confined to the question
+pub cant-outside : (q : QuestionData) (word : ℕ) (ns : List Node) (f : FactsView) → word < 16 → Covers f ns
+    → is_whole (range_at q word) ≡ false
+    → IsOutside (known_at f.known word) (range_at q word).0 (range_at q word).1 → CantTakeInQuestion q ns f
+cant-outside q word ns f l covers part out g all =
+    let long : 16 ≤ length ns = let a = covers.lawful.count in let b = covers.count in omega arith in
+    let t = at-turn q 16 word ns f g l all in
+    let a = before-within q word ns f t.old (omega arith) long covers.count t.before in
+    let b = ranged-within _ word (range_at q word).0 (range_at q word).1 t.old t.takes.ranged ns l long a.count part
+    t.takes.range in
+    crossed (known_at f.known word) (known_at t.old.known word) (known_at t.takes.ranged.known word) (a.each word l)
+    (b.each word l) b.here b.ordered out
+  where
+    crossed : (x y z : Known) → IsWithin x y → IsWithin y z
+        → IsWithin (between (range_at q word).0 (range_at q word).1) z → z.low ≤ z.high
+        → IsOutside x (range_at q word).0 (range_at q word).1 → ⊥
+    crossed x y z a b c o (inl below) =
+        let p = a.high in let r = b.high in let s = c.low in omega arith
+    crossed x y z a b c o (inr above) =
+        let p = a.low in let r = b.low in let s = c.high in omega arith

@@ -1,0 +1,26 @@
+-- What the rules of verdicts and replies promise, said of the rules alone: there is one.
+use Rattle.std.specs.Prelude.{◌≡◌, []}
+use Rattle.sf_sym.specs.Pool.{IsPool}
+use Rattle.sf_piece.specs.Execution.{AreSamePieces}
+use Rattle.sf_book.specs.Books.{RegionData, BookData, IsSettled}
+use Rattle.sf_book.specs.Unfoldings.{IsFringe}
+use Rattle.sf_ask.specs.declared.verdict.Verdict.{Verdict}
+use Rattle.sf_ask.specs.declared.verdict.Reply.{Reply}
+use Rattle.sf_ask.specs.QuestionData.{QuestionData}
+use Rattle.sf_ask.specs.Judging.{HasVerdict, HasReply}
+
+-- a region and one of the same piece and answer have one verdict
+abbrev pub HaveOneVerdict : Type 0
+HaveOneVerdict = (r s : RegionData) (q : QuestionData) (v w : Verdict) → AreSamePieces r.piece s.piece
+    → r.answer ≡ s.answer → IsPool r.piece.pool → HasVerdict r q v → HasVerdict s q w → v ≡ w
+
+-- An exploration that ended with nothing outstanding: it is the fringe of the whole execution tree of its stack.
+pub record IsWholeFringe (s : BookData) : Type 0 where
+  pub settled : IsSettled s
+  pub fringe : IsFringe s
+  pub none_left : s.outstanding ≡ []
+
+-- two explorations of one stack that both ended with nothing outstanding have one reply to a question
+abbrev pub HaveOneReply : Type 0
+HaveOneReply = (s t : BookData) (q : QuestionData) (x y : Reply) → IsWholeFringe s → IsWholeFringe t
+    → s.stack ≡ t.stack → HasReply s q x → HasReply t q y → x ≡ y
