@@ -7,8 +7,8 @@ use Rattle.std.proofs.lemmas.Option.{slice_get_within}
 use mathlib.Core.Option.{some, some-injective, some-ne-none}
 use lib.ListN.{get_elem?, replicate}
 use Rattle.atomic_table.specs.Table.{State}
-use Rattle.sf_ask.specs.declared.verdict.Verdict.TheVariants.{Doubt}
-use Rattle.sf_ask.specs.Sheets.{HasNoBreak, IsRightOn}
+use Rattle.sf_ask.specs.declared.verdict.Verdict.TheVariants.{Clear, Doubt}
+use Rattle.sf_ask.specs.Sheets.{IsRightOn}
 use Rattle.sf_crew.specs.declared.board.view.BoardKey.{BoardKey}
 use Rattle.sf_crew.specs.declared.board.view.View.{View}
 use Rattle.sf_crew.specs.declared.board.view.EnteredSheet.{EnteredSheet}
@@ -49,7 +49,7 @@ cleared_all k t words ns es noted least masked h = λ i d there q lt below.
     let under = noted q x.0 x.1 in let le = x.2 in let small = c.there in
     let here : place < count_of_regions k = omega arith in
     absurd (let above = below place (least.1 q lt here) in omega arith))
-    (λ x. ⊎_elim (λ (y : HasNoBreak (regions_of k) (questions_of k) e.job q). inl y)
+    (λ x. ⊎_elim (λ (y : IsRightOn (regions_of k) (questions_of k) e.job q Clear). inl y)
     (λ (y : has q e.doubts ≡ 1). let m = masked q lt in let part = has_doubt_at q es i d there in
     let one = bit_most (slice_index t.doubts (q / 64)) (q % 64) in
     inr (y, omega arith)) x)

@@ -7,7 +7,8 @@ use mathlib.Core.Logic.{dite}
 use native.Mathlib.Decide.{ℕ_discrete}
 use Rattle.sf_book.specs.Books.{BookData}
 use Rattle.sf_ask.specs.QuestionData.{QuestionData}
-use Rattle.sf_ask.specs.Sheets.{HasNoBreak}
+use Rattle.sf_ask.specs.declared.verdict.Verdict.TheVariants.{Clear}
+use Rattle.sf_ask.specs.Sheets.{IsRightOn}
 use Rattle.sf_crew.specs.declared.board.view.BoardKey.{BoardKey}
 use Rattle.sf_crew.specs.declared.board.view.View.{View}
 use Rattle.sf_crew.specs.declared.board.view.EnteredSheet.{EnteredSheet}
@@ -80,8 +81,8 @@ full_tally s qs k v t right is free whole past knows regions questions few =
           (let there = job_place r v.entered_sheets
           (right.complete count r ∙ once_one r (count_of_regions k) below) in
           let e : EnteredSheet = get_or v.entered_sheets there.0 there.1 in
-          ⊎_elim (λ (x : HasNoBreak (regions_of k) (questions_of k) e.job q).
-          inl (subst (λ j. HasNoBreak (regions_of k) (questions_of k) j q) there.3 x))
+          ⊎_elim (λ (x : IsRightOn (regions_of k) (questions_of k) e.job q Clear).
+          inl (subst (λ j. IsRightOn (regions_of k) (questions_of k) j q Clear) there.3 x))
           (λ (x : (has q e.doubts ≡ 1) × (bit_of t.doubts q ≡ 1)).
           inr (x.1, subst (λ j. IsInDoubt k j q) there.3 (right.doubts there.0 there.1 there.2 q x.0)))
           (right.cleared there.0 there.1 there.2 q lt (subst (IsBelow t q) (sym there.3) under)));

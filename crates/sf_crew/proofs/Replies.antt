@@ -13,7 +13,8 @@ use Rattle.sf_ask.specs.QuestionData.{QuestionData}
 use Rattle.sf_ask.specs.Verdicts.{IsBreakAt, IsRightVerdict, IsRightReply, TellsTriedAt, IsDoubtful}
 use Rattle.sf_check.specs.Stacks.{IsPlain}
 use Rattle.sf_ask.specs.MemberLaws.{in_some_region}
-use Rattle.sf_ask.specs.Sheets.{HasNoBreak, IsRightWhereGiven}
+use Rattle.sf_ask.specs.Sheets.{IsRightOn, IsRightWhereGiven}
+use Rattle.sf_ask.specs.Judging.{HasVerdictAt, HasNoHitAt}
 use Rattle.sf_crew.specs.declared.board.Tally.{Tally}
 use Rattle.sf_ask.specs.QuestionBits.{bit_of}
 use Rattle.sf_crew.specs.Tallies.{IsBelow}
@@ -35,6 +36,7 @@ pub reply_never : (s : BookData) (q : QuestionData) (doubt : Bool) → IsSettled
     → length s.outstanding ≡ 0 → doubt ≡ false
     → ((r : ℕ) → r < length s.regions → IsUnbroken s q doubt r) → IsReplyTo s q Never
 reply_never s q doubt h none certain all = record {
+  rule = (none_left s.outstanding none, λ r l. (all r l).clear certain);
   right = never_right s q h (none_left s.outstanding none)
       (subst (λ b. (r : ℕ) → r < length s.regions → IsUnbroken s q b r) certain all);
   found = tt;
@@ -45,44 +47,76 @@ pub reply_unsettled : (s : BookData) (q : QuestionData) (doubt : Bool) → IsSet
     → ((r : ℕ) → r < length s.regions → IsUnbroken s q doubt r)
     → (0 < length s.outstanding) ⊎ HasDoubt s q → (IsPlain s.stack → 0 < length s.outstanding) → IsReplyTo s q Unsettled
 reply_unsettled s q doubt h all why left = record {
+  rule = (λ r l. (all r l).rule, because why);
   found = (λ r l. (all r l).passed, why);
   right = λ none d input low breaks. let m = in_some_region s h none d input in
       (all m.0 m.1).low d low (record { member = m.2; breaks = breaks });
   plain = left;
 }
+  where
+    because : (0 < length s.outstanding) ⊎ HasDoubt s q
+        → (0 < length s.outstanding) ⊎ ((r : ℕ) × HasVerdictAt s r q Doubt)
+    because (inl left) = inl left
+    because (inr (r, _, _, verdict)) = inr (r, verdict)
 
 -- a hit is the reply where no earlier region has one
 pub reply_allowed : (s : BookData) (q : QuestionData) (r : ℕ) (d : Input) → IsRightVerdict s r q (Hit d)
-    → TellsTriedAt s r q (Hit d)
-    → ((e : ℕ) → e < r → IsWithoutHit s q e) → (IsPlain s.stack → (e : ℕ) → e < r → (x : Input) → ¬ IsBreakAt s e q x)
-    → IsReplyTo s q (Allowed d)
-reply_allowed s q r d hit example passed first = search arith
+    → TellsTriedAt s r q (Hit d) → HasVerdictAt s r q (Hit d) → ((e : ℕ) → e < r → IsUnbroken s q true e)
+    → (IsPlain s.stack → (e : ℕ) → e < r → (x : Input) → ¬ IsBreakAt s e q x) → IsReplyTo s q (Allowed d)
+reply_allowed s q r d hit example verdict passed first = record {
+  rule = (r, verdict, λ e l. (passed e l).rule);
+  right = (hit.member.input, hit.breaks);
+  found = (r, example, λ e l. (passed e l).passed);
+  plain = λ plain. (
+    r,
+    record { here = (d, hit); none_earlier = λ e l x. first plain e l x },
+    example,
+  );
+}
 
 -- what a verdict that is no hit tells of its region
 pub clear_unbroken : (s : BookData) (q : QuestionData) (doubt : Bool) (r : ℕ) → IsRightVerdict s r q Clear
-    → IsUnbroken s q doubt r
-clear_unbroken s q doubt r h = record { passed = inl h; none = λ _ d. h d; low = λ d _. h d }
+    → HasVerdictAt s r q Clear → IsUnbroken s q doubt r
+clear_unbroken s q doubt r h verdict = record {
+  rule = inl verdict;
+  clear = λ _. verdict;
+  passed = inl h;
+  none = λ _ d. h d;
+  low = λ d _. h d;
+}
 
 pub doubt_unbroken : (s : BookData) (q : QuestionData) (r : ℕ) → IsRightVerdict s r q Doubt → IsDoubtful s r q
-    → IsUnbroken s q true r
-doubt_unbroken s q r h tried = record { passed = inr tried; none = λ e. absurd (true≢false e); low = h }
+    → HasVerdictAt s r q Doubt → IsUnbroken s q true r
+doubt_unbroken s q r h tried verdict = record {
+  rule = inr verdict;
+  clear = λ e. absurd (true≢false e);
+  passed = inr tried;
+  none = λ e. absurd (true≢false e);
+  low = h;
+}
 
 pub still_unbroken : (s : BookData) (q : QuestionData) (doubt : Bool) (r : ℕ) → IsUnbroken s q doubt r
     → IsUnbroken s q true r
-still_unbroken s q doubt r h = record { passed = h.passed; none = λ e. absurd (true≢false e); low = h.low }
+still_unbroken s q doubt r h = record {
+  rule = h.rule;
+  clear = λ e. absurd (true≢false e);
+  passed = h.passed;
+  none = λ e. absurd (true≢false e);
+  low = h.low;
+}
 
--- a region without a break of the question of a number is unbroken for that question
+-- a region on which the verdict on the question of a number is clear is unbroken for that question
 pub none_unbroken : (s : BookData) (qs : List QuestionData) (q : ℕ) (question : QuestionData) (doubt : Bool) (r : ℕ)
-    → slice_get qs q ≡ Some question → HasNoBreak s qs r q → IsUnbroken s question doubt r
-none_unbroken s qs q question doubt r asked h = let none : (d : Input) → ¬ IsBreakAt s r question d =
-    λ d b. h d (record { question = question; asked = asked; breaks = b }) in
-    record { passed = inl none; none = λ _. none; low = λ d _. none d }
+    → slice_get qs q ≡ Some question → IsRightOn s qs r q Clear → IsUnbroken s question doubt r
+none_unbroken s qs q question doubt r asked h = let same : h.question ≡ question = cc (h.asked, asked) in
+    clear_unbroken s question doubt r (subst (λ (x : QuestionData). IsRightVerdict s r x Clear) same h.right)
+    (subst (λ (x : QuestionData). HasVerdictAt s r x Clear) same h.rule)
 
 pub entry_unbroken : (s : BookData) (qs : List QuestionData) (q : ℕ) (question : QuestionData) (r : ℕ)
     → slice_get qs q ≡ Some question → IsRightWhereGiven s qs r q (Some Doubt) → IsUnbroken s question true r
 entry_unbroken s qs q question r asked h = let same : h.question ≡ question = cc (h.asked, asked) in
     doubt_unbroken s question r (subst (λ (x : QuestionData). IsRightVerdict s r x Doubt) same h.right)
-    (subst (IsDoubtful s r) same h.tried)
+    (subst (IsDoubtful s r) same h.tried) (subst (λ (x : QuestionData). HasVerdictAt s r x Doubt) same h.rule)
 
 abbrev pub none_place : Option ℕ
 none_place = None
@@ -125,7 +159,7 @@ pub tally_unbroken : (s : BookData) (qs : List QuestionData) (t : Tally) (q : �
     → doubt ≡ (bit_of t.doubts q == 1) → (r : ℕ) → r < first_place t q (length s.regions)
     → IsUnbroken s question doubt r
 tally_unbroken s qs t q question doubt h lt asked is r below = ⊎_elim
-    (λ (x : HasNoBreak s qs r q). none_unbroken s qs q question doubt r asked x)
+    (λ (x : IsRightOn s qs r q Clear). none_unbroken s qs q question doubt r asked x)
     (λ (x : (bit_of t.doubts q ≡ 1) × IsRightWhereGiven s qs r q (Some Doubt)).
     subst (λ b. IsUnbroken s question b r) (sym (marked_or_not (bit_of t.doubts q) doubt is x.0))
     (entry_unbroken s qs q question r asked x.1))
@@ -141,8 +175,12 @@ pub tally_doubtful : (s : BookData) (qs : List QuestionData) (t : Tally) (q : �
 tally_doubtful s qs t q question doubt h lt asked is set =
     let one : bit_of t.doubts q ≡ 1 = marked (bit_of t.doubts q) (sym is ∙ set) in
     let d = h.doubts q lt one in
-    let same : d.2.question ≡ question = cc (d.2.asked, asked) in
-    (d.0, d.1, subst (IsDoubtful s d.0) same d.2.tried)
+    let same : d.2.question ≡ question = cc (d.2.asked, asked) in (
+      d.0,
+      d.1,
+      subst (IsDoubtful s d.0) same d.2.tried,
+      subst (λ (x : QuestionData). HasVerdictAt s d.0 x Doubt) same d.2.rule,
+    )
 
 -- on a plain stack no bit is set
 pub tally_plain : (s : BookData) (qs : List QuestionData) (t : Tally) (q : ℕ) (doubt : Bool) → IsFullTally s qs t

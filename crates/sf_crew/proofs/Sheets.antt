@@ -5,8 +5,7 @@ use Rattle.sf_ask.specs.declared.verdict.Verdict.{Verdict}
 use Rattle.sf_ask.specs.declared.verdict.Verdict.TheVariants.{Clear, Hit, Doubt}
 use Rattle.sf_book.specs.Books.{BookData}
 use Rattle.sf_ask.specs.QuestionData.{QuestionData}
-use Rattle.sf_ask.specs.Sheets.{SheetData, HasNoBreak, is_hit, is_doubt, is_skipped, verdict_at, IsRightWhereGiven, IsRightSheet}
-use Rattle.sf_ask.specs.SheetLaws.{clear-breaks-none}
+use Rattle.sf_ask.specs.Sheets.{SheetData, is_hit, is_doubt, is_skipped, verdict_at, IsRightOn, IsRightWhereGiven, IsRightSheet}
 use Rattle.sf_crew.specs.declared.board.view.BoardKey.{BoardKey}
 use Rattle.sf_crew.specs.declared.board.view.View.{View}
 use Rattle.sf_crew.specs.declared.board.view.Note.{Note}
@@ -23,11 +22,11 @@ pub marks_more : (vs : List (Option Verdict)) (n : ℕ) (old new : List ℕ) →
     → MarksDoubts vs (n + 1) old (n ∷ new)
 marks_more vs n old new is h = search (arith, has_most, has_same, has_other)
 
--- each verdict is a hit, a doubt, or there is none; or no member breaks the question
+-- each verdict is a hit, a doubt, or there is none; or it is clear
 verdict_cases : (s : BookData) (qs : List QuestionData) (r q : ℕ) (v : Option Verdict) → IsRightWhereGiven s qs r q v
-    → (is_hit v ≡ true) ⊎ (is_doubt v ≡ true) ⊎ (is_skipped v ≡ true) ⊎ HasNoBreak s qs r q
+    → (is_hit v ≡ true) ⊎ (is_doubt v ≡ true) ⊎ (is_skipped v ≡ true) ⊎ IsRightOn s qs r q Clear
 verdict_cases s qs r q None h = inr (inr (inl refl))
-verdict_cases s qs r q (Some Clear) h = inr (inr (inr (clear-breaks-none s qs r q (Some Clear) h refl refl refl)))
+verdict_cases s qs r q (Some Clear) h = inr (inr (inr h))
 verdict_cases s qs r q (Some (Hit d)) h = inl refl
 verdict_cases s qs r q (Some Doubt) h = inr (inl refl)
 
@@ -61,8 +60,8 @@ covers k v s ds ns f right notes marks =
           (λ x. ⊎_elim (λ (y : is_doubt (verdict_at s.verdicts q) ≡ true). inr (inr (marks.doubts q there y)))
           (λ y. ⊎_elim (λ (z : is_skipped (verdict_at s.verdicts q) ≡ true). let low = f.skips q lt z in
           inl (low.0, notes.more q low.0 low.1, (let lt = low.2 in omega arith)))
-          (λ (z : HasNoBreak s.settled s.questions s.job q).
-          inr (inl (subst (λ (y : Subject). HasNoBreak y.0 y.1 s.job q) (λ i. (f.regions i, f.questions i)) z)))
+          (λ (z : IsRightOn s.settled s.questions s.job q Clear).
+          inr (inl (subst (λ (y : Subject). IsRightOn y.0 y.1 s.job q Clear) (λ i. (f.regions i, f.questions i)) z)))
           y) x)
           (verdict_cases s.settled s.questions s.job q (verdict_at s.verdicts q) (right.right q there)));
       doubts = search (arith, doubt_below, doubt_right);

@@ -6,6 +6,7 @@ use Rattle.sf_check.specs.declared.insn.Insn.{Insn}
 use Rattle.sf_run.specs.Feasible.{feasible_traces}
 use Rattle.sf_book.specs.Changes.{outstanding_at, without}
 use Rattle.sf_book.specs.declared.book.Lease.{Lease}
+use Rattle.sf_book.specs.Unfoldings.{IsFringe}
 use Rattle.sf_book.specs.Exact.{IsWorkedOff}
 
 -- nothing is outstanding, or all commits are spent
@@ -33,12 +34,14 @@ pub record TakesTurn (b c : BookData) : Type 0 where
   pub commits : c.commits ≡ b.commits + 1
   pub free : IsFree c.outstanding
 
--- the end of an exploration of the stack with the budget
+-- the end of an exploration of the stack with the budget: it is the fringe of an execution tree, as far as that
+-- unfolded
 pub record IsExplorationOf (stack : List (List Insn)) (budget : ℕ) (s : BookData) : Type 0 where
   pub settled : IsSettled s
   pub of : s.stack ≡ stack
   pub with : s.budget ≡ budget
   pub end : IsExhausted s
+  pub fringe : IsFringe s
 
 -- The end of an exploration of a plain stack: nothing is outstanding exactly where the budget is enough for its
 -- feasible traces, and then these are what was found.

@@ -8,8 +8,9 @@ use Rattle.sf_ask.specs.declared.verdict.Reply.{Reply}
 use Rattle.sf_ask.specs.Verdicts.{IsLowInput, IsBreakAt, IsRightReply, IsFirstBreak, IsLeastExample, IsDoubtful}
 use Rattle.sf_ask.specs.declared.verdict.Reply.TheVariants.{Never, Allowed, Unsettled}
 use Rattle.sf_check.specs.Stacks.{IsPlain}
-use Rattle.sf_ask.specs.Sheets.{HasBreak, HasNoBreak, IsRightWhereGiven}
-use Rattle.sf_ask.specs.declared.verdict.Verdict.TheVariants.{Doubt}
+use Rattle.sf_ask.specs.Sheets.{HasBreak, IsRightOn, IsRightWhereGiven}
+use Rattle.sf_ask.specs.Judging.{HasVerdictAt, HasNoHitAt, HasReply}
+use Rattle.sf_ask.specs.declared.verdict.Verdict.TheVariants.{Clear, Doubt}
 use Rattle.sf_crew.specs.Tallies.{IsBelow}
 use Rattle.sf_crew.specs.declared.board.Board.{Board}
 use Rattle.sf_crew.specs.declared.board.Seat.{Seat}
@@ -41,8 +42,8 @@ IsWorked b s = IsSeatOf b s.0 × ((seat_view s.0).joined_seats ≡ 1)
 pub record IsFullTally (s : BookData) (qs : List QuestionData) (t : Tally) : Type 0 where
   -- a least place is a region with a member that breaks the question
   pub breaks : (q r : ℕ) → slice_get t.least q ≡ Some (Some r) → (r < length s.regions) × HasBreak s qs r q
-  -- below it no region has such a member, but one in doubt, and then the question's bit is set
-  pub cleared : (q r : ℕ) → q < length qs → r < length s.regions → IsBelow t q r → HasNoBreak s qs r q
+  -- below it the verdict on each region is clear, or a doubt, and then the question's bit is set
+  pub cleared : (q r : ℕ) → q < length qs → r < length s.regions → IsBelow t q r → IsRightOn s qs r q Clear
       ⊎ ((bit_of t.doubts q ≡ 1) × IsRightWhereGiven s qs r q (Some Doubt))
   -- a bit is set only where some region is in doubt
   pub doubts : (q : ℕ) → q < length qs → bit_of t.doubts q ≡ 1 → (r : ℕ) × (r < length s.regions)
@@ -55,12 +56,15 @@ pub record IsFullTally (s : BookData) (qs : List QuestionData) (t : Tally) : Typ
 abbrev pub IsWithoutHit : BookData → QuestionData → ℕ → Type 0
 IsWithoutHit s question r = ((d : Input) → ¬ IsBreakAt s r question d) ⊎ IsDoubtful s r question
 
--- some region is in doubt
+-- some region is in doubt, and the verdict on it is a doubt
 abbrev pub HasDoubt : BookData → QuestionData → Type 0
-HasDoubt s question = (r : ℕ) × (r < length s.regions) × IsDoubtful s r question
+HasDoubt s question = (r : ℕ) × (r < length s.regions) × IsDoubtful s r question × HasVerdictAt s r question Doubt
 
--- no member of region r breaks the question where there is no doubt, and in any case the low input isn't such a member
+-- The verdict on region r is no hit. Where there is no doubt, it is clear, and no member of the region breaks the
+-- question; in any case the low input isn't such a member.
 pub record IsUnbroken (s : BookData) (question : QuestionData) (doubt : Bool) (r : ℕ) : Type 0 where
+  pub rule : HasNoHitAt s r question
+  pub clear : doubt ≡ false → HasVerdictAt s r question Clear
   pub passed : IsWithoutHit s question r
   pub none : doubt ≡ false → (d : Input) → ¬ IsBreakAt s r question d
   pub low : (d : Input) → IsLowInput question d → ¬ IsBreakAt s r question d
@@ -80,8 +84,9 @@ RestsOn s question (Allowed d) = (r : ℕ) × IsLeastExample s r question d × (
 RestsOn s question Unsettled =
     ((r : ℕ) → r < length s.regions → IsWithoutHit s question r) × ((0 < length s.outstanding) ⊎ HasDoubt s question)
 
--- a reply is right and rests on what was found, and on a plain stack it is exact
+-- a reply is that of the rules, is right, and rests on what was found, and on a plain stack it is exact
 pub record IsReplyTo (s : BookData) (question : QuestionData) (reply : Reply) : Type 0 where
+  pub rule : HasReply s question reply
   pub right : IsRightReply s question reply
   pub found : RestsOn s question reply
   pub plain : IsPlain s.stack → IsPlainReply s question reply

@@ -1,6 +1,7 @@
 -- What the tally says with which a seat closes a board.
 use Rattle.std.specs.Prelude.{◌≡◌, ℕ, ◌<◌, ◌≤◌, ◌⊎◌, ◌==◌, List, All, count_by, length, Some, slice_get}
-use Rattle.sf_ask.specs.Sheets.{HasBreak, HasNoBreak}
+use Rattle.sf_ask.specs.declared.verdict.Verdict.TheVariants.{Clear}
+use Rattle.sf_ask.specs.Sheets.{HasBreak, IsRightOn}
 use Rattle.sf_crew.specs.declared.board.view.BoardKey.{BoardKey}
 use Rattle.sf_crew.specs.declared.board.view.View.{View}
 use Rattle.sf_crew.specs.declared.board.view.EnteredSheet.{EnteredSheet}
@@ -12,10 +13,9 @@ use Rattle.sf_crew.specs.Views.{regions_of, questions_of, count_of_regions, ente
 abbrev pub IsBelow : Tally → ℕ → ℕ → Type 0
 IsBelow t q j = (r : ℕ) → slice_get t.least q ≡ Some (Some r) → j < r
 
--- no member of the entered region breaks the question, or it was entered with a doubt, and then the question's bit is
--- set
+-- the verdict on the entered region is clear, or it was entered with a doubt, and then the question's bit is set
 abbrev pub IsCleared : BoardKey → Tally → EnteredSheet → ℕ → Type 0
-IsCleared k t e q = HasNoBreak (regions_of k) (questions_of k) e.job q
+IsCleared k t e q = IsRightOn (regions_of k) (questions_of k) e.job q Clear
     ⊎ ((has q e.doubts ≡ 1) × (bit_of t.doubts q ≡ 1))
 
 -- a tally is right about what was entered by the seat that closes the board, and by those joined into it

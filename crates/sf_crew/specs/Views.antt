@@ -2,8 +2,8 @@
 use Rattle.std.specs.Prelude.{◌≡◌, ℕ, ◌<◌, ◌≤◌, ◌⊎◌, ◌==◌, nat_lt, if◌then◌else◌, max, List, [], ◌∷◌, ◌++◌, map, length, Option, Some, None}
 use Rattle.sf_book.specs.Books.{BookData}
 use Rattle.sf_ask.specs.QuestionData.{QuestionData}
-use Rattle.sf_ask.specs.Sheets.{HasBreak, HasNoBreak, IsRightWhereGiven}
-use Rattle.sf_ask.specs.declared.verdict.Verdict.TheVariants.{Doubt}
+use Rattle.sf_ask.specs.Sheets.{HasBreak, IsRightOn, IsRightWhereGiven}
+use Rattle.sf_ask.specs.declared.verdict.Verdict.TheVariants.{Clear, Doubt}
 use Rattle.sf_crew.specs.declared.board.view.BoardKey.{BoardKey}
 use Rattle.sf_crew.specs.declared.board.view.EnteredSheet.{EnteredSheet}
 use Rattle.sf_crew.specs.declared.board.view.Note.{Note}
@@ -65,12 +65,12 @@ RightPlace k q r = (r ≡ count_of_regions k) ⊎ ((r < count_of_regions k) × H
 abbrev pub IsInDoubt : BoardKey → ℕ → ℕ → Type 0
 IsInDoubt k r q = IsRightWhereGiven (regions_of k) (questions_of k) r q (Some Doubt)
 
--- The sheet is of a region that there is. For each question a place at or below the region was noted, or no member of
--- the region breaks the question, or the sheet has a doubt for it. The doubts are right.
+-- The sheet is of a region that there is. For each question a place at or below the region was noted, or the verdict is
+-- clear, or the sheet has a doubt for it. The doubts are right.
 pub record Covered (k : BoardKey) (notes : List Note) (e : EnteredSheet) : Type 0 where
   pub there : e.job < count_of_regions k
   pub cleared : (q : ℕ) → q < length (questions_of k) → ((r : ℕ) × Noted notes q r × (r ≤ e.job))
-      ⊎ HasNoBreak (regions_of k) (questions_of k) e.job q ⊎ (has q e.doubts ≡ 1)
+      ⊎ IsRightOn (regions_of k) (questions_of k) e.job q Clear ⊎ (has q e.doubts ≡ 1)
   pub doubts : (q : ℕ) → has q e.doubts ≡ 1 → IsInDoubt k e.job q
 
 -- how often x stands in a list of all numbers below n

@@ -28,7 +28,8 @@ returns-in-Hit-clause-ok c =
       question = c.index-questions-q.result;
       asked = question_there _ c.args.q _ c.requires.question.0 c.index-questions-q.is;
       replies = reply_allowed _ _ c.loop-place.place c.in-Hit.input (rw c.in-Hit.is at c.in_ok-input.ensures.right)
-          (rw c.in-Hit.is at c.in_ok-input.ensures.tried) (λ e earlier. (i.unbroken e earlier).passed)
+          (rw c.in-Hit.is at c.in_ok-input.ensures.tried) (rw c.in-Hit.is at c.in_ok-input.ensures.rule)
+          (λ e earlier. still_unbroken _ _ c.loop-place.doubt e (i.unbroken e earlier))
           (λ plain e earlier x. (i.unbroken e earlier).none (i.plain plain) x);
     }
 
@@ -39,13 +40,20 @@ loop-place-preserved c =
       | in-Doubt w ↦ rw w.doubt-is (record {
         unbroken = unbroken_more _ _ c.loop-place.doubt true c.loop-place.place i.unbroken
             (λ r h. still_unbroken _ _ c.loop-place.doubt r h)
-            (doubt_unbroken _ _ c.loop-place.place (rw w.in-Doubt.is at told.right) (rw w.in-Doubt.is at told.tried));
-        doubtful = λ _. (c.loop-place.place, omega arith, rw w.in-Doubt.is at told.tried);
+            (doubt_unbroken _ _ c.loop-place.place (rw w.in-Doubt.is at told.right) (rw w.in-Doubt.is at told.tried)
+            (rw w.in-Doubt.is at told.rule));
+        doubtful = λ _. (
+          c.loop-place.place,
+          omega arith,
+          rw w.in-Doubt.is at told.tried,
+          rw w.in-Doubt.is at told.rule,
+        );
         plain = λ plain. absurd (rw w.in-Doubt.is at told.decisive plain);
       })
       | in-Clear w ↦ rw w.doubt-is (record {
         unbroken = unbroken_more _ _ c.loop-place.doubt c.loop-place.doubt c.loop-place.place i.unbroken (λ r h. h)
-            (clear_unbroken _ _ c.loop-place.doubt c.loop-place.place (rw w.in-Clear.is at told.right));
+            (clear_unbroken _ _ c.loop-place.doubt c.loop-place.place (rw w.in-Clear.is at told.right)
+            (rw w.in-Clear.is at told.rule));
         doubtful = i.doubtful;
         plain = i.plain;
       })
