@@ -1,13 +1,16 @@
 //! Laws of the definitions, each the contract of a function that does nothing.
 
 ghost use Rattle.std.specs.Prelude.{◌≡◌, ℕ, Bool, List, []};
-ghost use Rattle.sf_check.specs.Stacks.{IsPlain};
 ghost use Rattle.sf_ask.specs.QuestionData.{QuestionData};
 ghost use Rattle.sf_policy.specs.declared.fault.Fault.{Fault};
 ghost use Rattle.sf_audit.specs.Audits.{IsAudit, IsAuditRefusal};
+ghost use Rattle.sf_audit.specs.Documents.{TellingData, audit_document};
+ghost use Rattle.sf_audit.specs.Expectations.{ExpectedData};
 ghost use Rattle.sf_audit.specs.Outcomes.{Found};
 ghost use Rattle.sf_audit.specs.Reports.{report_text};
 
+use sf_ask::laws::replies_have_one_result;
+use sf_book::laws::explorations_have_one_result;
 use sf_policy::laws::a_refusal_spells_no_stack;
 
 /// Where there is an audit, nothing is refused: the files have no refusal, and there are 1 to 256 questions. So `audit`
@@ -20,15 +23,32 @@ pub fn an_audit_is_not_refused()
     a_refusal_spells_no_stack();
 }
 
-/// Two audits with the same questions have the same report, where their files spell one plain stack and both leave
-/// nothing outstanding: whatever their budgets, whoever worked, and whatever stands in fields that no instruction uses. The
-/// remarks on the questions are given, and the same in both.
+/// Two audits with the same questions have the same report, where their files spell one stack and both leave nothing
+/// outstanding: whatever their budgets, whoever worked and in whatever order, and whatever stands in fields that no
+/// instruction uses. The remarks on the questions are given, and the same in both.
 pub fn one_report()
     ensures { (files others : List (List ℕ)) (questions : List QuestionData)
         (b c : ℕ) (o p : Found) →
         IsAudit files questions b o → IsAudit others questions c p →
-        o.settled.stack ≡ p.settled.stack → IsPlain o.settled.stack →
+        o.settled.stack ≡ p.settled.stack →
         o.settled.outstanding ≡ [] → p.settled.outstanding ≡ [] →
         (shown : Bool) (remarks : List (List ℕ)) →
         report_text o shown remarks ≡ report_text p shown remarks }
-{}
+{
+    explorations_have_one_result();
+    replies_have_one_result();
+}
+
+/// They have the same JSON document too, told in the same way and beside the same expectations.
+pub fn one_document()
+    ensures { (files others : List (List ℕ)) (questions : List QuestionData)
+        (b c : ℕ) (o p : Found) →
+        IsAudit files questions b o → IsAudit others questions c p →
+        o.settled.stack ≡ p.settled.stack →
+        o.settled.outstanding ≡ [] → p.settled.outstanding ≡ [] →
+        (telling : TellingData) (expected : ExpectedData) →
+        audit_document telling expected o ≡ audit_document telling expected p }
+{
+    explorations_have_one_result();
+    replies_have_one_result();
+}
