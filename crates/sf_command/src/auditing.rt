@@ -158,7 +158,8 @@ fn find<R: Threads + Wait + Sync, G: Gate>(
     Ok((outcome, expected, origins))
 }
 
-/// What is told behind a report: what isn't as expected, where that is told. An error where an allocation is refused.
+/// The lines behind a report: what isn't as expected; empty where nothing was expected. An error where an allocation is
+/// refused.
 fn behind_of(
     alloc: Global,
     telling: &Telling<'_>,

@@ -333,7 +333,7 @@ pub(crate) fn newer<'a>(alloc: Global) -> Arg<'a>
     )
 }
 
-/// `--notes`: whether the profile is told of, and no filter written.
+/// `--notes`: whether notes on the profile are written, and no filter.
 pub(crate) fn notes<'a>(alloc: Global) -> Arg<'a>
     ensures rule { rule_of result ≡ switch_rule (codes "notes") }
     ensures own { result.global ≡ false }

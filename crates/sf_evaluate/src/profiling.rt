@@ -32,7 +32,7 @@ fn warning_of(alloc: Global, settings: &Settings, bytes: &[u8]) -> Result<String
     Ok(text)
 }
 
-/// Writes the filter of a profile, or what is told of it. Refusals: those of the profile; then `Write` where standard output
+/// Writes a profile's filter, or its notes if `told`. Refusals: those of the profile; then `Write` where standard output
 /// can't be written.
 fn write_of<O: Write>(
     alloc: Global,
@@ -65,8 +65,8 @@ fn other_set(alloc: Global, names: &[Names]) -> Result<Option<OtherSet>, AllocEr
     Ok(None)
 }
 
-/// What a profile is read for: what the words say, and the files of names. The refusals are those of `read_all_names`; then
-/// those of `calls_of`.
+/// The settings for a profile: what the command line says, with the calls of the files of names. Keeps in the notes the
+/// first set that is none of the five. The refusals are those of `read_all_names`; then those of `calls_of`.
 fn read_settings<F: Files>(
     alloc: Global,
     found: &ArgMatches<'_>,

@@ -14,7 +14,8 @@ pub(crate) struct OtherSet {
     pub(crate) name: String,
 }
 
-/// Adds the line of the file of names that has a set that is none of the five, and that of the set, if the file has others.
+/// Adds the line of the file of names with the unknown set, and the line of this set where the file has several. An
+/// error where there was no memory to keep which file it is.
 fn push_other_set(
     text: &mut String,
     found: &ArgMatches<'_>,

@@ -23,7 +23,7 @@ use std::alloc::{AllocError, Global};
 /// Rows as they are told.
 #[derive(Drop)]
 pub struct RowDocuments {
-    /// Those of calls, call by call; `null` where rows aren't told so.
+    /// Those of calls, call by call; `null` where this isn't asked for.
     pub calls: Document,
     /// Those that are told each by itself.
     pub rows: Document,
@@ -42,7 +42,7 @@ fn total_of(alloc: Global, rows: usize, undetermined: usize) -> Result<Document,
     Ok(Document::object(fields))
 }
 
-/// Rows, each by itself.
+/// Rows as JSON, each by itself: none of them is shown call by call.
 fn single_rows(
     alloc: Global,
     sets: &[Names],

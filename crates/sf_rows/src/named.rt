@@ -9,7 +9,7 @@ use crate::rows::Scope;
 use sf_names::{Names, push_names_between};
 use std::alloc::AllocError;
 
-/// The number of spans that are one number.
+/// The only number that spans have; none where they have several, or none.
 fn number_of(spans: &[Span]) -> Option<u32>
     ensures { result ≡ number_of spans.now }
 {

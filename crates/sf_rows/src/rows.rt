@@ -119,7 +119,7 @@ pub(crate) fn conditions_again(
     Ok(copy)
 }
 
-/// Whether an axis is a whole word.
+/// Whether an axis is this word, and all its bits.
 fn is_word(axis: Axis, word: usize) -> bool
     ensures { result ≡ is_whole axis word }
 {
