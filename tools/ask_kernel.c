@@ -50,7 +50,7 @@ struct input {
     uint64_t ip, args[6];
 };
 
-/* What the child tells. */
+/* What the child reports. */
 static struct {
     volatile int thread, installed, failed, listener;
 } *told;
@@ -291,7 +291,7 @@ static void leave(int is_32)
     end_if(ptrace(PTRACE_SETREGS, thread, 0, &registers) != 0, "registers");
 }
 
-/* Whether the child has told of a notification. */
+/* Whether the child has reported a notification. */
 static int was_notified(void)
 {
     char said;

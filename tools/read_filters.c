@@ -6,11 +6,11 @@
 
    With --all-threads it reads all threads of a process. For each set of filters that differs it makes a folder
    PREFIXthread-N, where N is the first thread that has this set, with the filters in 01.bpf and so on (none where these
-   threads have no filter). A line for each folder tells how many filters are in it, and which threads have them.
+   threads have no filter). A line for each folder says how many filters are in it, and which threads have them.
 
    It must run as root and under no seccomp filter itself, on a kernel with CONFIG_CHECKPOINT_RESTORE. The threads are
    stopped meanwhile, all at once, and get no signal. A file or a folder that is there already is left alone: the tool
-   fails. It fails also if it read another number of filters than /proc tells (since Linux 5.9). */
+   fails. It fails also if it read another number of filters than /proc has (since Linux 5.9). */
 #include <dirent.h>
 #include <errno.h>
 #include <linux/filter.h>
@@ -62,7 +62,7 @@ static void *grown(void *array, long count, size_t size)
     return array;
 }
 
-/* How many filters the thread has by /proc, or -1 where it has some and /proc doesn't tell. */
+/* How many filters the thread has by /proc, or -1 where it has some and /proc doesn't say. */
 static long told_by_proc(pid_t thread)
 {
     char line[256];
@@ -117,7 +117,7 @@ static struct stack read_stack(pid_t thread)
     return stack;
 }
 
-/* Whether /proc tells another number of filters. Says so then. */
+/* Whether /proc has another number of filters. Says so then. */
 static int is_other_number(const struct stack *stack)
 {
     int is_other = stack->told >= 0 && stack->told != stack->count;
@@ -170,7 +170,7 @@ static void write_stack(const char *prefix, const struct stack *stack)
     }
 }
 
-/* Writes a group to its folder, and tells of it. */
+/* Writes a group to its folder, and prints its line. */
 static void write_group(const char *prefix, const struct group *group)
 {
     char name[NAME];

@@ -21,7 +21,7 @@ FILES = [
 ]
 POLICIES = "share/seccomp_audit/policies"
 
-# Folders below PREFIX that nobody else writes in: they are told as wholes.
+# Folders below PREFIX that nobody else writes in: they are listed as wholes.
 OWN = ["libexec/seccomp_audit", "share/doc/{doc}", "share/seccomp_audit"]
 
 # The report's modules and the schemas of the documents that it reads: the folder in the repository, what is copied of it,

@@ -50,7 +50,7 @@ def built(kind):
 
 
 def shown(path):
-    """A path as it is told: from the repository's top where it is below it."""
+    """A path as it is shown: from the repository's top where it is below it."""
     return os.path.relpath(path, ROOT) if path.startswith(ROOT + os.sep) else path
 
 

@@ -27,7 +27,7 @@ exec '{compiler}' "$@"
 # What stands in the place of the prover, which `rt try` asks beside for hints: that would take as long again.
 PROVES_NOTHING = "#!/bin/sh\nexit 1\n"
 
-# Of each folder of the kit, what the copy has as its own.
+# What the copy has of its own in each folder of the kit.
 APART = {"": ("bin", "toolchain"), "bin/": ("rt", "rtlib.py", "rattle"), "toolchain/": ("bin",), "toolchain/bin/": ("clang",)}
 
 
@@ -54,7 +54,7 @@ def kit_that_keeps(kit, room):
 
 
 def said_by(words, **how):
-    """The status of a command, and what it says. Where this program is told to stop, `stop` ends the command too."""
+    """The status of a command, and what it says. Where a signal stops this program, `stop` ends the command too."""
     how = {"stdin": subprocess.DEVNULL, "stdout": subprocess.PIPE, "stderr": subprocess.STDOUT, **how}
     with subprocess.Popen(words, text=True, errors="replace", **how) as command:
         RUNNING.add(command)

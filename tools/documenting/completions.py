@@ -4,7 +4,7 @@ from collections import namedtuple
 
 from documenting.help_text import Help
 
-# What is said of `help`, of which the help doesn't tell in its list.
+# What is said of `help`, which the help doesn't list.
 HELP = "Print the help of a command"
 
 # An option of a subcommand: its name with the dashes, its value (None: it takes none), and what is said of it.

@@ -107,7 +107,7 @@ def make_room(room, program):
 
 
 def tried(program):
-    """Runs the examples in their order in one shell. Gives of each the status and the last line of standard output."""
+    """Runs the examples in their order in one shell. Gives the status and the last line of standard output of each."""
     end = uuid.uuid4().hex
     script = "".join("\n".join(example.lines) + f"\necho \"{end} $?\"\n" for example in EXAMPLES).replace(SHARED, ROOT)
     with tempfile.TemporaryDirectory() as room:

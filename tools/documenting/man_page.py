@@ -55,7 +55,7 @@ def terms(pairs):
 
 
 def leads_on(line):
-    """Whether a line at the end of the help tells of another page."""
+    """Whether a line at the end of the help names another page."""
     return line.startswith("docs/")
 
 

@@ -178,7 +178,7 @@ def differences(page, part):
 
 
 def show(house, words):
-    """Tells what contracts reach."""
+    """Shows what contracts reach."""
     places = [place for word in words for place in house.found(word)]
     if not all(house.found(word) for word in words):
         sys.exit(f"no crate hands out {', '.join(word for word in words if not house.found(word))}")

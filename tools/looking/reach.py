@@ -6,7 +6,7 @@ from looking.contracts import Clause, Crate, imported
 from looking.rattle import definitions_in, types_imported, words_of
 from looking.tree import CRATES, shown
 
-# Of one file: the definitions, and their lines.
+# The definitions of one file, and their lines.
 Row = namedtuple("Row", "told lines")
 
 

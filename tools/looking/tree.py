@@ -16,5 +16,5 @@ def sources(crate):
 
 
 def shown(text):
-    """A text with its paths as they are told: from the repository's top."""
+    """A text with its paths as they are shown: from the repository's top."""
     return str(text).replace(f"{ROOT}/", "")

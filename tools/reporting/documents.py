@@ -22,7 +22,7 @@ class Document:
     """A document that was read.
 
     kind   "audit", "list", "compare", "compare-rows" or "needed"
-    value  what it says, as its schema tells
+    value  what it says, in the form of its schema
     path   where it was read, "-" for standard input
     """
 
@@ -31,7 +31,7 @@ class Document:
 
     @property
     def open(self):
-        """How many pieces of the exploration are outstanding. Where it isn't 0, the document doesn't tell all."""
+        """How many pieces of the exploration are outstanding. Where it isn't 0, the document doesn't say all."""
         return self.value["counts"]["open"] if "counts" in self.value else 0
 
 

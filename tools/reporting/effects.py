@@ -41,7 +41,7 @@ def joined(effects):
 
 
 def change_of(told):
-    """What a change is that a row tells: a pair of answers, or None where they are the same."""
+    """What kind of change a row shows, by its pair of answers; None stands for two equal ones."""
     if told is None or told["old"] == told["new"]:
         return "same"
     old, new = REACH[effect_of(told["old"])], REACH[effect_of(told["new"])]
@@ -60,7 +60,7 @@ def answer_in_words(answer):
 
 
 def told_in_words(told):
-    """What a row tells: an answer, or those of both stacks."""
+    """What a row says: an answer, or those of both stacks."""
     if told is None:
         return "unchanged"
     if "old" not in told:

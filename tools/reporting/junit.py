@@ -1,7 +1,7 @@
 """What build systems read of tests: JUnit XML, in the form that Jenkins, GitLab and pytest agree about.
 
 A suite for each audit, and a test for each question of its policies and of its control. The strict readers take no
-`file` and no `line` of a test, so the text of a failure tells them.
+`file` and no `line` of a test, so the text of a failure has them.
 """
 from collections import Counter
 from xml.sax.saxutils import escape, quoteattr
@@ -108,7 +108,7 @@ def counts_of(tests):
 
 
 def properties_of(document):
-    """The lines that tell what made a suite, and what it is about."""
+    """The lines that say what made a suite, and what it is about."""
     stack = f"a stack of {counted(document.value['stack']['filters'], 'filter', 'filters')}"
     told = {"made by": MADE_BY, "about": stack}
     lines = [f"      <property{attributes(name=name, value=value)}/>" for name, value in told.items()]

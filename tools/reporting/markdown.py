@@ -215,7 +215,7 @@ def warned(warnings):
 
 
 def incomplete(documents):
-    """The lines that tell which documents aren't complete."""
+    """The lines that say which documents aren't complete."""
     left = [document for document in documents if document.open]
     lines = [f"**{not_complete(document.open)}** ({code(source_of(document))})" for document in left]
     return [it for line in lines for it in (line, "")]

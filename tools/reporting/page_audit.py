@@ -58,7 +58,7 @@ def control(expected):
 
 
 def banners_of(document):
-    """What of an audit has to be read before all else: a control that doesn't hold, and whether another process decides."""
+    """What has to be read of an audit first: a control that doesn't hold, and whether another process decides."""
     expected = document.value["expected"]
     bad = [it["name"] for it in (expected or {"control": []})["control"] if it["reply"] != "allowed"]
     told = [banner(f"The control doesn't hold, so never may mean nothing here: {', '.join(bad)}.")] if bad else []

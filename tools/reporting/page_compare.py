@@ -32,7 +32,7 @@ def looser_first(rows, effects):
 
 
 class Changes:
-    """Tells where a comparison has a change."""
+    """Where a comparison has a change."""
 
     def __init__(self, picture):
         self.picture, self.numbers = picture, {}

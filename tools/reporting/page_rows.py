@@ -51,7 +51,7 @@ def archs_in_words(spans):
 
 
 def one_map(it, changed):
-    """The map of an architecture. `changed` tells whether numbers of an architecture are marked."""
+    """The map of an architecture. `changed` says whether numbers of an architecture are marked."""
     first, last = it.archs[0]
 
     def is_changed(low, high):

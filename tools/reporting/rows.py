@@ -24,7 +24,7 @@ class Row(NamedTuple):
     arch, nr    spans of numbers, each with both ends
     on_call     the conditions on bits of the number or the architecture, as (word, mask, spans)
     conditions  all further conditions, in words
-    answers     the answers of a list, or what is told of two: a pair, or None where they are the same
+    answers     the answers of a list; of a comparison pairs of answers, or None where both are the same
     names       the names of its calls
     """
 
@@ -88,7 +88,7 @@ def in_words(text):
 
 
 def row_of(fields):
-    """A row that is told by itself."""
+    """A row that is shown by itself."""
     on_call = [condition_of(text) for text in fields["conditions"] if text.startswith(("nr ", "arch "))]
     nr = ALL if fields["nr"] is None else spans_of(fields["nr"])
     conditions = [in_words(text) for text in fields["conditions"]]

@@ -49,7 +49,7 @@ CASES = [
     ("seccomp_audit profile --conf", "seccomp_audit profile --conflicts"),
 ]
 
-# How each shell is started, and what it is told first.
+# How each shell is started, and which commands it gets first.
 SHELLS = {
     "bash": (["bash", "--norc", "--noprofile", "-i"], "bind 'set bell-style none'; PS1=; . '{folder}/seccomp_audit.bash'"),
     "zsh": (["zsh", "-f", "-i"], "bindkey -e; unsetopt beep; PS1=; autoload -Uz compinit; compinit -D -u; . '{folder}/_seccomp_audit'"),
@@ -89,7 +89,7 @@ def typed(shell, room):
 
 
 def completed_by_fish(room):
-    """The lines that fish makes of the cases: it tells the words that may come in place of the last one."""
+    """The lines that fish makes of the cases: it prints the words that may come in place of the last one."""
     came = []
     for text, _ in CASES:
         script = f"source '{FOLDER}/seccomp_audit.fish'; complete -C '{text}'"

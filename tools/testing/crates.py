@@ -27,7 +27,7 @@ def processors():
 
 
 def tried_tests(kit, program):
-    """How many tests of a program of tests pass, how many fail, and what is to be told of them."""
+    """How many tests of a program of tests pass, how many fail, and what is to be printed of them."""
     words = [f"{kit}/bin/rattle-test", "--seconds", SECONDS, program]
     said = subprocess.run(words, stdin=subprocess.DEVNULL, stdout=subprocess.PIPE, stderr=subprocess.STDOUT, text=True, errors="replace").stdout
     counts = re.search(r"(\d+) passed; (\d+) failed", said)

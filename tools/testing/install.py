@@ -85,7 +85,7 @@ def stand_in(room):
 
 
 def try_install(room):
-    """All is there, runs at its new place, and nothing is left where the told paths are removed."""
+    """All is there, runs at its new place, and nothing is left where the listed paths are removed."""
     prefix = os.path.join(room, "prefix")
     written, left_out = installing.install(stand_in(room), prefix)
     places = [place.format(doc=PROGRAM) for place in PLACES]
@@ -127,7 +127,7 @@ def try_report(prefix):
 
 
 def try_without_compiler(room):
-    """Without a compiler the rest is there, and it is told what isn't."""
+    """Without a compiler the rest is there, and what isn't is named."""
     for compiler in ("/nowhere/cc", "false"):
         prefix = os.path.join(room, os.path.basename(compiler))
         os.environ["CC"] = compiler

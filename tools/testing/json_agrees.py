@@ -202,7 +202,7 @@ def inputs_in(value):
 
 
 def compared(line, subcommand):
-    """A line of a text, as far as it is compared: the names behind a call's number aren't told of an input."""
+    """A line of a text, as far as it is compared: an input's document lacks the names behind a call's number."""
     return re.sub(r" #.*", "", line) if subcommand == "eval" else line
 
 
@@ -310,7 +310,7 @@ def differences(program, name, words, place):
         yield f"status {other}, and not {status}: {refused.strip() or said.strip()}"
         return
     if 2 < status:
-        # clap tells of a refused command line with the options that were given.
+        # What clap says of a refused command line has the options that were given.
         if text or line or status < 4 and said != refused:
             yield f"a refusal is told in another way: {refused.strip()!r:.80}"
         return

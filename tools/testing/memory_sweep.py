@@ -38,7 +38,7 @@ were wrong. The status is 1 where one was wrong, and where a part met no refusal
 With `--gate` only what the gate runs, in less than a minute: of CALLS the first growths, each refused once, and its
 first large ones, of which a bench's is the first of all, a few times each; workers that are refused all memory, a few
 times; the growths of an audit by 1, 2 and 8 workers, and of a comparison and a list, each refused once; and whether an
-audit, a comparison and a list start as many threads as they are told workers. The last line is then `N passed, M
+audit, a comparison and a list start as many threads as their workers need. The last line is then `N passed, M
 failed`, of runs, and of parts that met no refusal.
 """
 import itertools
@@ -158,7 +158,7 @@ def run_all(jobs):
 
 def tell(tally):
     """Prints the figures of each part, and gives how many runs were right, and how many runs were wrong and parts met no refusal.
-    A refused bench hands its lease back, so no call tells of it; and where threads are counted, nothing is refused."""
+    A refused bench hands its lease back, so no call reports it; and where threads are counted, nothing is refused."""
     total = sum(tally.values(), Counter())
     for part, counts in [*tally.items(), ("in all", total)]:
         figures = (counts[name] for name in ("runs", "refused", "memory", "wrong"))

@@ -18,7 +18,7 @@ SECONDS = 120
 
 
 def with_probe(text):
-    """A page with a script of the tests behind its own, which its policy is told of."""
+    """A page with a script of the tests behind its own, which its policy then allows."""
     script = PROBE.read_text()
     allowed = "sha256-" + base64.b64encode(hashlib.sha256(script.encode()).digest()).decode()
     text = text.replace("; base-uri", f" '{allowed}'; base-uri", 1)

@@ -61,7 +61,7 @@ def agreements(program, count):
 
 
 def facts(program):
-    """What the guide and the page about policies tell of real stacks, and what their profiles are known to do."""
+    """What the guide and the page about policies say of real stacks, and what their profiles are known to do."""
     effects = {}
     for stack in ("docker-default-x86_64", "flatpak-run", "sshd-preauth", "snap-default"):
         effects[stack] = Page(page_of(listed(program, filters_of(stack))))

@@ -43,7 +43,7 @@ function skipped() {
   return at < 0 && levels[0] === 1 ? "" : `heading ${at} of ${levels}`;
 }
 
-// A page with cells: they are told of, opened, and walked by keys.
+// A page with cells: the focus shows one, a click opens its rows, and keys walk from one to the next.
 function cells() {
   const map = document.querySelector(".cells");
   if (!map) return;

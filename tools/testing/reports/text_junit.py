@@ -7,8 +7,8 @@ from reporting.documents import Document, Refused
 from . import making
 from .making import WORD, audit_of, question
 
-# What the strict readers take (junit-10.xsd, which Jenkins' xunit plugin checks by, and pytest's xunit2): of each
-# element the attributes that it must have, those that it may have, and the elements in it.
+# What the strict readers take (junit-10.xsd, which Jenkins' xunit plugin checks by, and pytest's xunit2): the
+# attributes that each element must have, those that it may have, and the elements in it.
 COUNTS = {"tests", "failures", "errors"}
 RULES = {
     "testsuites": (set(), {"name", "time"} | COUNTS, {"testsuite"}),
@@ -79,7 +79,7 @@ def of_rules():
 
 
 def of_real(maker):
-    """Of docker's profile: what docs/POLICIES.md tells of it."""
+    """Whether docker's profile gives what docs/POLICIES.md says of it."""
     text = junit.text([maker.audit(making.DOCKER, *making.CONTROL, *making.NAMES, "--why")])
     yield "junit: docker: the rules hold", faults(text) == [], faults(text)
     tests = tests_in(text)

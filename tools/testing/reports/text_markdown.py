@@ -14,7 +14,7 @@ SETS = naming.sets_of(ROOT / "policies/names.toml")
 P1 = "examples/p1.bpf"
 FEW = ["--budget", "50", "--workers", "1"]
 
-# What docs/POLICIES.md tells of audits by x86_64.toml. After a group stands how many of its questions are open, and
+# What docs/POLICIES.md says of audits by x86_64.toml. After a group stands how many of its questions are open, and
 # some or all of their names. Groups that are all closed have no line.
 KNOWN = {
     making.DOCKER: [
@@ -54,7 +54,7 @@ CLOSED = {
     making.JOURNALD: ["**Other architectures", "**Mounts", "**The clock", "**The machine", "**Code of", "**Old calls"],
 }
 
-# What the guide and docs/POLICIES.md tell of other architectures and of x32.
+# What the guide and docs/POLICIES.md say of other architectures and of x32.
 OTHERS = {
     making.DOCKER: "Other architectures: closed. x32: open for some calls.",
     making.FLATPAK: "Other architectures: closed. x32: closed.",
@@ -90,7 +90,7 @@ def outside_code(text):
 
 
 def columns_due(document):
-    """In which columns of the table the rows of each call belong, by a list that tells all calls."""
+    """In which columns of the table the rows of each call belong, by a list that shows all calls."""
     columns = defaultdict(set)
     for row in document.value["calls"]:
         columns[row["set"], row["call"]] |= {COLUMN[answer["action"]] for answer in row["answers"]}
@@ -172,7 +172,7 @@ def of_other_numbers(maker):
 
 
 def of_needed(maker):
-    """What is said of which filters are needed: as docs/GUIDE.md tells."""
+    """What is said of which filters are needed: as docs/GUIDE.md says."""
     due = "No call gets further if one of these filters is left out: 1, 2. Together these are enough: 2."
     yield said("needed: one filter twice", text_of(maker.document("needed", P1, P1)), [due], ["Each filter"])
     text = text_of(maker.document("needed", *making.filters_of(making.SNAP)))
@@ -184,7 +184,7 @@ def of_needed(maker):
 
 
 def of_comparisons(maker):
-    """What is said of comparisons: as docs/GUIDE.md tells."""
+    """What is said of comparisons: as docs/GUIDE.md says."""
     data = (ROOT / P1).read_bytes()
     both = ["--old", P1, "--new", maker.file("mistyped.bpf", data[:36] + b"\x3a" + data[37:])]
     due = [

@@ -94,7 +94,7 @@ def lines_of(results):
 
 
 def of_real(maker):
-    """Of docker's profile: what docs/POLICIES.md tells of it."""
+    """Whether docker's profile gives what docs/POLICIES.md says of it."""
     document = maker.audit(making.DOCKER, *making.CONTROL, *making.NAMES)
     text = sarif.text([document], groups.load(ROOT / "policies/groups.toml"))
     value, results = json.loads(text), results_in(text)
