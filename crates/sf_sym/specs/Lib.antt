@@ -3,3 +3,4 @@ pub mod Index
 pub mod ValueLaws
 pub mod SizeLaws
 pub mod Operands
+pub mod MaskLaws

@@ -1,5 +1,5 @@
 -- Operations on a node and a constant.
-use Rattle.std.specs.Prelude.{◌≡◌, ℕ, zero, suc, List, Option, Some, None}
+use Rattle.std.specs.Prelude.{◌≡◌, ℕ, zero, suc, List, Option, Some, None, bit_and}
 use Rattle.sf_insn.specs.declared.ops.BinOp.{BinOp}
 use Rattle.sf_insn.specs.declared.ops.BinOp.TheVariants.{Or, And, Xor}
 use Rattle.sf_sym.specs.Pool.{node_at, constant_number}
@@ -25,8 +25,14 @@ constant_operand_of ns (Bin op a b) = one_constant op a.0 b.0 (constant_number (
     (constant_number (node_at ns b.0))
 constant_operand_of ns _ = None
 
--- the node at a place is a word of the input, or so many ANDs of one with constants, one after the other
-abbrev pub IsAndsOf : ℕ → List Node → ℕ → ℕ → Type 0
-IsAndsOf zero ns at w = node_at ns at ≡ Word w
-IsAndsOf (suc n) ns at w =
-    (x c : ℕ) × (constant_operand_of ns (node_at ns at) ≡ Some (And, x, c)) × IsAndsOf n ns x w
+-- the node at a place is so many ANDs of a word with constants, one after the other, and this is the AND of these; the
+-- whole word has the mask 0xffffffff
+abbrev pub IsAndsOf : ℕ → List Node → ℕ → ℕ → ℕ → Type 0
+IsAndsOf zero ns at w mask = (node_at ns at ≡ Word w) × (mask ≡ 4294967295)
+IsAndsOf (suc n) ns at w mask =
+    (x c m : ℕ) × (constant_operand_of ns (node_at ns at) ≡ Some (And, x, c)) × IsAndsOf n ns x w m
+    × (mask ≡ bit_and c m)
+
+-- the node at a place is a word under a mask
+abbrev pub IsMaskedWord : List Node → ℕ → ℕ → ℕ → Type 0
+IsMaskedWord ns at w mask = (n : ℕ) × IsAndsOf n ns at w mask

@@ -4,7 +4,7 @@ ghost use Rattle.std.specs.Prelude.{◌≡◌, ℕ, ◌<◌, length, slice_index
 ghost use Rattle.sf_insn.specs.declared.input.Input.{Input};
 ghost use Rattle.sf_insn.specs.Inputs.{IsInput};
 ghost use Rattle.sf_sym.specs.declared.pool.Node.TheVariants.{Const, Word};
-ghost use Rattle.sf_sym.specs.Operands.{IsAndsOf};
+ghost use Rattle.sf_sym.specs.Operands.{IsMaskedWord};
 ghost use Rattle.sf_sym.specs.Pool.{node_at, value_of};
 
 use crate::operands::constant_operand;
@@ -30,7 +30,8 @@ pub fn masked_word(pool: &Pool, id: NodeId) -> Option<MaskedWord>
     ensures whole { (w : ℕ) → node_at pool.now id.0 ≡ Word w
         → result ≡ Some (record { word = w; mask = 4294967295 }) }
     ensures constant { (c : ℕ) → node_at pool.now id.0 ≡ Const c → result ≡ None }
-    ensures none { IfNone result ((n w : ℕ) → ¬ IsAndsOf n pool.now id.0 w) }
+    ensures rule { IfSome result (λ m. IsMaskedWord pool.now id.0 m.word m.mask) }
+    ensures none { IfNone result ((w mask : ℕ) → ¬ IsMaskedWord pool.now id.0 w mask) }
 {
     // For the prover: the pool is lawful.
     let _count = pool.len();
