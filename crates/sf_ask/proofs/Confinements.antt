@@ -1,8 +1,8 @@
 -- Facts that take in a question word by word, by the rules.
-use Rattle.std.proofs.Common.{◌≡◌, ℕ, zero, suc, ◌+◌, ◌-◌, ◌<◌, ◌≤◌, ◌⊎◌, inl, inr, Bool, true, false, List, length, set, refl, sym, ap, subst, ◌∙◌, arith, add-one, MatchBool}
-use Rattle.std.specs.Prelude.{◌==◌, ◌&&◌, Option, Some, None, MatchOption}
-use Rattle.std.proofs.lemmas.Bool.{cases_eq, cases_lt, and_parts, eqb-true}
-use Rattle.std.proofs.lemmas.List.{get_or-set_same, get_or-set_other, length-set}
+use Rattle.std.proofs.Common.{◌≡◌, ℕ, zero, suc, ◌+◌, ◌<◌, ◌≤◌, inl, inr, Bool, true, false, List, length, set, refl, sym, ap, subst, ◌∙◌, arith, add-one, MatchBool}
+use Rattle.std.specs.Prelude.{◌==◌, Option, Some, None, MatchOption}
+use Rattle.std.proofs.lemmas.Bool.{cases_eq, cases_lt, eqb-true}
+use Rattle.std.proofs.lemmas.List.{get_or-set_same, get_or-set_other}
 use Rattle.std.proofs.lemmas.Option.{same_Some}
 use Rattle.sf_sym.specs.declared.pool.Node.{Node}
 use Rattle.sf_sym.specs.Pool.{IsPool, node_at}

@@ -8,3 +8,5 @@ pub mod OneReply
 pub mod SheetLemmas
 pub mod ProbeLemmas
 pub mod MemberLemmas
+pub mod Finds
+pub mod OneMembership

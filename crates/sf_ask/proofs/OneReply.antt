@@ -1,13 +1,11 @@
 -- The rules give one reply to a question.
-use Rattle.std.proofs.Common.{◌≡◌, ℕ, zero, suc, ◌<◌, List, [], ◌∷◌, length, get_or, Some, slice_get, refl, sym, ap, subst, ◌∙◌, ◌⊎◌, inl, inr, arith}
-use Rattle.std.specs.List.{All}
+use Rattle.std.proofs.Common.{◌≡◌, ℕ, ◌<◌, [], length, refl, ap, subst, ◌⊎◌, inl, inr, arith}
 use Rattle.std.proofs.lemmas.Bool.{cases_lt}
-use Rattle.std.proofs.lemmas.Option.{same_Some, slice_get_within, get_or_from_slice_get}
+use Rattle.std.proofs.lemmas.Option.{slice_get_within}
 use Rattle.sf_insn.specs.declared.input.Input.{Input}
-use Rattle.sf_sym.specs.Pool.{IsPool}
 use Rattle.sf_piece.specs.OneExecution.{IsExecutionOne}
-use Rattle.sf_book.specs.Books.{RegionData, BookData}
-use Rattle.sf_book.specs.Unfoldings.{IsFringe, IsRegionOf, IsSameRegion, AreSameRegions, ExplorationsHaveOneResult}
+use Rattle.sf_book.specs.Books.{BookData}
+use Rattle.sf_book.specs.Unfoldings.{IsFringe, AreSameRegions, ExplorationsHaveOneResult}
 use Rattle.sf_ask.specs.declared.verdict.Verdict.{Verdict}
 use Rattle.sf_ask.specs.declared.verdict.Verdict.TheVariants.{Clear, Hit, Doubt}
 use Rattle.sf_ask.specs.declared.verdict.Reply.{Reply}
@@ -15,40 +13,14 @@ use Rattle.sf_ask.specs.declared.verdict.Reply.TheVariants.{Never, Allowed, Unse
 use Rattle.sf_ask.specs.QuestionData.{QuestionData}
 use Rattle.sf_ask.specs.Judging.{HasVerdictAt, HasNoHitAt, HasReply}
 use Rattle.sf_ask.specs.OneResult.{HaveOneVerdict, IsWholeFringe}
-
--- ---- regions
-
-same-count : (rs ss : List RegionData) → AreSameRegions rs ss → length rs ≡ length ss
-same-count [] [] h = refl
-same-count [] (s ∷ ss) h = absurd h
-same-count (r ∷ rs) [] h = absurd h
-same-count (r ∷ rs) (s ∷ ss) h = let rest = same-count rs ss h.1 in omega arith
-
--- regions at one place of both are the same
-same-at : (rs ss : List RegionData) (place : ℕ) (r s : RegionData) → AreSameRegions rs ss → slice_get rs place ≡ Some r
-    → slice_get ss place ≡ Some s → IsSameRegion r s
-same-at [] [] place r s h a b = absurd cc
-same-at [] (y ∷ ss) place r s h a b = absurd h
-same-at (x ∷ rs) [] place r s h a b = absurd h
-same-at (x ∷ rs) (y ∷ ss) zero r s h a b =
-    subst (λ (z : RegionData). IsSameRegion z s) (same_Some x r a)
-    (subst (λ (z : RegionData). IsSameRegion x z) (same_Some y s b) h.0)
-same-at (x ∷ rs) (y ∷ ss) (suc place) r s h a b = same-at rs ss place r s h.1 a b
+use Rattle.sf_ask.specs.OneResultLaws.{one_verdict_at, same_length}
 
 -- ---- verdicts
 
 module _ (tree : IsExecutionOne) (verdict : HaveOneVerdict) (s t : BookData) (q : QuestionData) (fringe : IsFringe s)
     (same : AreSameRegions s.regions t.regions) where
-  lawful-pool : (place : ℕ) (r : RegionData) → slice_get s.regions place ≡ Some r → IsPool r.piece.pool
-  lawful-pool place r there =
-      let of : IsRegionOf s.stack r = subst (IsRegionOf s.stack) (get_or_from_slice_get s.regions place r r there)
-      (fringe.settled place r (slice_get_within s.regions place r there)) in
-      (tree.pools r.piece of.0.reached).0
-
   one-at : (place : ℕ) (v w : Verdict) → HasVerdictAt s place q v → HasVerdictAt t place q w → v ≡ w
-  one-at place v w a b =
-      let both = same-at s.regions t.regions place a.region b.region same a.there b.there in
-      verdict a.region b.region q v w both.piece both.answer (lawful-pool place a.region a.there) a.verdict b.verdict
+  one-at = one_verdict_at tree verdict s t q fringe same
 
   -- a hit on the one side is no clear verdict and no doubt on the other
   hit-or-none : (place : ℕ) (d : Input) → HasVerdictAt s place q (Hit d) → HasNoHitAt t place q → ⊥
@@ -65,7 +37,7 @@ module _ (tree : IsExecutionOne) (verdict : HaveOneVerdict) (s t : BookData) (q 
   within-second : (place : ℕ) (v : Verdict) → HasVerdictAt t place q v → place < length s.regions
   within-second place v a =
       let l = slice_get_within t.regions place a.region a.there in
-      let count = same-count s.regions t.regions same in omega arith
+      let count = same_length s.regions t.regions same in omega arith
 
   -- no doubt on the one side where all is clear on the other
   clear-or-doubt : s.outstanding ≡ [] → t.outstanding ≡ []
@@ -79,7 +51,7 @@ module _ (tree : IsExecutionOne) (verdict : HaveOneVerdict) (s t : BookData) (q 
       → ((place : ℕ) → place < length t.regions → HasVerdictAt t place q Clear) → ⊥
   doubt-or-clear none (inl left) all = let l : length s.outstanding ≡ 0 = ap length none in omega arith
   doubt-or-clear none (inr (place, a)) all =
-      let count = same-count s.regions t.regions same in
+      let count = same_length s.regions t.regions same in
       let e : Doubt ≡ Clear = one-at place Doubt Clear a
       (all place (let l = within-first place Doubt a in omega arith)) in absurd cc
 
@@ -90,7 +62,7 @@ module _ (tree : IsExecutionOne) (verdict : HaveOneVerdict) (s t : BookData) (q 
       absurd (none-or-hit b.0 d (inl (a.1 b.0 (within-second b.0 (Hit d) b.1))) b.1)
   one-by-verdicts none none' Never Unsettled a b = absurd (clear-or-doubt none none' a.1 b.1)
   one-by-verdicts none none' (Allowed d) Never a b =
-      let count = same-count s.regions t.regions same in
+      let count = same_length s.regions t.regions same in
       absurd (hit-or-none a.0 d a.1 (inl (b.1 a.0 (let l = within-first a.0 (Hit d) a.1 in omega arith))))
   one-by-verdicts none none' (Allowed d) (Allowed e) a b = elim (cases_lt a.0 b.0) [
     | inl less ↦ absurd (hit-or-none a.0 d a.1 (b.2 a.0 less))
@@ -104,7 +76,7 @@ module _ (tree : IsExecutionOne) (verdict : HaveOneVerdict) (s t : BookData) (q 
     ]
   ]
   one-by-verdicts none none' (Allowed d) Unsettled a b =
-      let count = same-count s.regions t.regions same in
+      let count = same_length s.regions t.regions same in
       absurd (hit-or-none a.0 d a.1 (b.0 a.0 (let l = within-first a.0 (Hit d) a.1 in omega arith)))
   one-by-verdicts none none' Unsettled Never a b = absurd (doubt-or-clear none a.1 b.1)
   one-by-verdicts none none' Unsettled (Allowed d) a b =

@@ -8,8 +8,10 @@ pub mod Breaking
 pub mod Trying
 pub mod Judging
 pub mod OneResult
+pub mod OneResultLaws
 pub mod Verdicts
 pub mod Members
+pub mod Finding
 pub mod MemberLaws
 pub mod Searches
 pub mod Probing

@@ -1,18 +1,26 @@
--- What the rules of verdicts and replies promise, said of the rules alone: there is one.
+-- What the rules of verdicts, of replies and of members that are found promise, said of the rules alone: there is one.
 use Rattle.std.specs.Prelude.{◌≡◌, []}
 use Rattle.sf_sym.specs.Pool.{IsPool}
 use Rattle.sf_piece.specs.Execution.{AreSamePieces}
+use Rattle.sf_piece.specs.Pieces.{PieceData}
 use Rattle.sf_book.specs.Books.{RegionData, BookData, IsSettled}
 use Rattle.sf_book.specs.Unfoldings.{IsFringe}
 use Rattle.sf_ask.specs.declared.verdict.Verdict.{Verdict}
 use Rattle.sf_ask.specs.declared.verdict.Reply.{Reply}
 use Rattle.sf_ask.specs.QuestionData.{QuestionData}
+use Rattle.sf_ask.specs.declared.members.Membership.{Membership}
+use Rattle.sf_ask.specs.Finding.{FindsMember}
 use Rattle.sf_ask.specs.Judging.{HasVerdict, HasReply}
 
 -- a region and one of the same piece and answer have one verdict
 abbrev pub HaveOneVerdict : Type 0
 HaveOneVerdict = (r s : RegionData) (q : QuestionData) (v w : Verdict) → AreSamePieces r.piece s.piece
     → r.answer ≡ s.answer → IsPool r.piece.pool → HasVerdict r q v → HasVerdict s q w → v ≡ w
+
+-- of a piece and one that is the same, one thing is found of the members
+abbrev pub FindOneThing : Type 0
+FindOneThing = (p q : PieceData) (m n : Membership) → AreSamePieces p q → IsPool p.pool → FindsMember p m
+    → FindsMember q n → m ≡ n
 
 -- An exploration that ended with nothing outstanding: it is the fringe of the whole execution tree of its stack.
 pub record IsWholeFringe (s : BookData) : Type 0 where

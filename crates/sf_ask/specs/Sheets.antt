@@ -8,7 +8,7 @@ use Rattle.sf_ask.specs.declared.verdict.Verdict.TheVariants.{Clear, Hit, Doubt}
 use Rattle.sf_ask.specs.QuestionBits.{has_bit}
 use Rattle.sf_ask.specs.QuestionData.{QuestionData}
 use Rattle.sf_ask.specs.Judging.{HasVerdictAt}
-use Rattle.sf_ask.specs.Verdicts.{IsBreakAt, IsRightVerdict, TellsTriedAt, IsDecisive}
+use Rattle.sf_ask.specs.Verdicts.{IsRightVerdict, TellsTriedAt, IsDecisive}
 
 -- a sheet: the regions and questions that it is of, the place of its region, and for each question a verdict or none
 pub record SheetData : Type 0 where
@@ -61,16 +61,6 @@ abbrev pub shown_verdicts : List ℕ → ℕ → Option (List (Option Verdict)) 
 shown_verdicts wanted n None = first_verdicts wanted n
 shown_verdicts wanted n (Some listed) = listed
 
--- a member of the region at a place breaks the question of a number
-pub record IsBreakOf (s : BookData) (questions : List QuestionData) (place q : ℕ) (d : Input) : Type 0 where
-  pub question : QuestionData
-  pub asked : slice_get questions q ≡ Some question
-  pub breaks : IsBreakAt s place question d
-
--- some member of the region breaks the question
-abbrev pub HasBreak : BookData → List QuestionData → ℕ → ℕ → Type 0
-HasBreak s questions place q = (d : Input) × IsBreakOf s questions place q d
-
 -- a verdict on the question of a number is right, tells what was tried, and is that of the rules; on a plain stack
 -- there is no doubt
 pub record IsRightOn (s : BookData) (questions : List QuestionData) (place q : ℕ) (v : Verdict) : Type 0 where
@@ -80,6 +70,10 @@ pub record IsRightOn (s : BookData) (questions : List QuestionData) (place q : �
   pub tried : TellsTriedAt s place question v
   pub rule : HasVerdictAt s place question v
   pub decisive : IsPlain s.stack → IsDecisive v
+
+-- the verdict on the question of a number is a hit
+abbrev pub HasHit : BookData → List QuestionData → ℕ → ℕ → Type 0
+HasHit s questions place q = (d : Input) × IsRightOn s questions place q (Hit d)
 
 -- the verdict on each question whose bit isn't set is clear
 abbrev pub AreClearBut : BookData → List QuestionData → ℕ → List ℕ → Type 0

@@ -9,6 +9,7 @@ ghost use Rattle.sf_ask.specs.declared.fault.Fault.TheVariants.{Memory};
 ghost use Rattle.sf_sym.specs.Pool.{IsCondBelow};
 ghost use Rattle.sf_piece.specs.Pieces.{is_member};
 ghost use Rattle.sf_book.specs.Books.{IsRightRegion};
+ghost use Rattle.sf_ask.specs.Finding.{first_missed};
 ghost use Rattle.sf_ask.specs.Judging.{FindsInQuestion, HasVerdictAt};
 ghost use Rattle.sf_ask.specs.Verdicts.{IsRightVerdict, TellsTriedAt, IsDecisive};
 ghost use Rattle.sf_ask.specs.Searches.{IsRightSearch, TellsTried};
@@ -59,6 +60,8 @@ pub(crate) fn first_unmet(
     ensures unmet { IfOk result (λ o. MatchOption o (is_member piece.now input.now ≡ true)
         (λ c. (is_member piece.now input.now ≡ false)
         × IsCondBelow (length piece.now.pool) c)) }
+    ensures first { IfOk result (λ o.
+        o ≡ first_missed piece.now.pool piece.now.conditions input.now) }
     ensures err { IfErr result (λ f. f ≡ Memory) }
 {
     let values = piece.pool().values(alloc, input)?;

@@ -1,6 +1,6 @@
-//! Laws of the rules of verdicts and replies.
+//! Laws of the rules of verdicts, of replies, and of members that are found.
 
-ghost use Rattle.sf_ask.specs.OneResult.{HaveOneVerdict, HaveOneReply};
+ghost use Rattle.sf_ask.specs.OneResult.{FindOneThing, HaveOneVerdict, HaveOneReply};
 
 use sf_book::laws::explorations_have_one_result;
 use sf_dom::rules_have_one_result;
@@ -21,4 +21,11 @@ pub fn replies_have_one_result()
     explorations_have_one_result();
     execution_has_one_result();
     verdicts_have_one_result();
+}
+
+/// By the rules one thing is found of the members of a piece: the same of each piece that is the same.
+pub fn members_have_one_result()
+    ensures { FindOneThing }
+{
+    rules_have_one_result();
 }

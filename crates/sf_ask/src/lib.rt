@@ -1,4 +1,4 @@
-//! Questions about the inputs of a filter stack, and what settled regions tell of them.
+//! Questions about the inputs of a filter stack, and what settled regions say of them.
 #![tactic(auto)]
 
 mod actions;

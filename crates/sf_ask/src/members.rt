@@ -2,15 +2,18 @@
 
 ghost use Rattle.std.specs.Prelude.{◌≡◌, ◌<◌, true, false, length, IfOk, IfErr, IfSome, MatchOption};
 ghost use Rattle.sf_insn.specs.Inputs.{IsInput};
+ghost use Rattle.sf_insn.specs.declared.input.Input.{Input as AnInput};
 ghost use Rattle.sf_check.specs.Stacks.{IsPlain};
-ghost use Rattle.sf_dom.specs.Facts.{Covers};
+ghost use Rattle.sf_dom.specs.Facts.{Covers, FactsView};
+ghost use Rattle.sf_dom.specs.Learning.{LearnAll};
 ghost use Rattle.sf_piece.specs.Pieces.{is_member, HasNoMember};
+ghost use Rattle.sf_ask.specs.Finding.{IsMendedTo, FindsMember, IsMendedFor, lowest_bit, mended_number};
 ghost use Rattle.sf_ask.specs.Members.{IsRightMembership, IsLeastFound, CoverMembers};
 ghost use Rattle.sf_ask.specs.declared.fault.Fault.TheVariants.{Memory};
 
 use crate::fault::Fault;
 use crate::judging::{first_unmet, is_member_of, least_input};
-use sf_dom::{Facts, Known};
+use sf_dom::{Facts, Known, rules_have_one_result};
 use sf_insn::{Input, Test};
 use sf_piece::Piece;
 use sf_sym::{Cond, MaskedWord, NodeId, Pool, constant_of, masked_word};
@@ -34,8 +37,13 @@ const MOST_MENDINGS: usize = 64;
 fn facts_learnt_again(alloc: Global, piece: &Piece) -> Result<Option<Facts>, Fault>
     ensures facts { IfOk result (λ o. MatchOption o (HasNoMember piece.now)
         (CoverMembers piece.now)) }
+    ensures rule { IfOk result (λ o. MatchOption o
+        ((f : FactsView) → ¬ LearnAll piece.now.facts f piece.now.pool piece.now.conditions)
+        (λ f. LearnAll piece.now.facts f piece.now.pool piece.now.conditions)) }
     ensures err { IfErr result (λ f. f ≡ Memory) }
 {
+    // For the prover: the rules of facts have one result.
+    rules_have_one_result();
     let mut facts = piece.facts().fork()?;
     for i in 0..piece.cond_count() {
         if !facts.learn(alloc, piece.pool(), &piece.cond(i))? {
@@ -46,7 +54,9 @@ fn facts_learnt_again(alloc: Global, piece: &Piece) -> Result<Option<Facts>, Fau
 }
 
 /// The number that has only the lowest of these bits; none where there is no bit.
-fn lowest_bit(bits: u32) -> Option<u32> {
+fn lowest_bit(bits: u32) -> Option<u32>
+    ensures { result ≡ lowest_bit bits }
+{
     if bits == 0 {
         return None;
     }
@@ -57,7 +67,9 @@ fn lowest_bit(bits: u32) -> Option<u32> {
 /// is tried. It is only a guess: the caller looks at the input again. A condition that the word equals `wanted` under the
 /// mask, or has none of its bits, needs no mending: it is known of the word's bits, so each number that is tried meets
 /// it.
-fn mended_number(number: u32, mask: u32, known: Known, cond: &Cond, wanted: u32) -> Option<u32> {
+fn mended_number(number: u32, mask: u32, known: Known, cond: &Cond, wanted: u32) -> Option<u32>
+    ensures { result ≡ mended_number cond.now.test cond.now.sense wanted mask known number }
+{
     match (cond.test, cond.sense) {
         (Test::Equal, false) => {
             let bit = lowest_bit(mask & !(known.zeros | known.ones))?;
@@ -78,7 +90,10 @@ fn mended_input(pool: &Pool, facts: &Facts, cond: &Cond, input: &Input) -> Optio
     requires node { cond.now.node.0 < length pool.now }
     requires other { cond.now.other.0 < length pool.now }
     requires input { IsInput input.now }
-    ensures { IfSome result IsInput }
+    ensures input { IfSome result IsInput }
+    ensures rule { MatchOption result
+        ((e : AnInput) → ¬ IsMendedFor pool.now facts.now.known cond.now input.now e)
+        (IsMendedFor pool.now facts.now.known cond.now input.now) }
 {
     let wanted = constant_of(pool.node(cond.other))?;
     let MaskedWord { word, mask } = masked_word(pool, cond.node)?;
@@ -88,27 +103,35 @@ fn mended_input(pool: &Pool, facts: &Facts, cond: &Cond, input: &Input) -> Optio
     Some(Input { words })
 }
 
-/// A member near the least input that the facts leave; none where the search doesn't come to one. As long as the input
-/// misses a condition, one word is mended for that condition, and the input is looked at again.
-fn member_near(alloc: Global, piece: &Piece, facts: &Facts) -> Result<Option<Input>, Fault>
-    requires { CoverMembers piece.now facts.now }
+/// A member that this input is, or comes to by at most so many mendings; none where it comes to none. As long as the
+/// input misses a condition, one word is mended for the first one that it misses, and the input is looked at again.
+fn member_near(
+    alloc: Global,
+    piece: &Piece,
+    facts: &Facts,
+    input: Input,
+    mendings: usize,
+) -> Result<Option<Input>, Fault>
+    requires facts { CoverMembers piece.now facts.now }
+    requires input { IsInput input }
     ensures member { IfOk result (λ o. IfSome o (λ d. IsInput d
         × (is_member piece.now d ≡ true))) }
+    ensures rule { IfOk result (λ o. MatchOption o
+        ((m : AnInput) → ¬ IsMendedTo mendings piece.now.pool piece.now.conditions
+        facts.now.known input m)
+        (IsMendedTo mendings piece.now.pool piece.now.conditions facts.now.known input)) }
     ensures err { IfErr result (λ f. f ≡ Memory) }
 {
-    let Some(mut input) = least_input(facts) else {
+    let Some(cond) = first_unmet(alloc, piece, &input)? else {
+        return Ok(Some(input));
+    };
+    if mendings == 0 {
+        return Ok(None);
+    }
+    let Some(next) = mended_input(piece.pool(), facts, &cond, &input) else {
         return Ok(None);
     };
-    for _ in 0..=MOST_MENDINGS {
-        let Some(cond) = first_unmet(alloc, piece, &input)? else {
-            return Ok(Some(input));
-        };
-        let Some(next) = mended_input(piece.pool(), facts, &cond, &input) else {
-            return Ok(None);
-        };
-        input = next;
-    }
-    Ok(None)
+    member_near(alloc, piece, facts, next, mendings - 1)
 }
 
 /// Looks for a member of the piece. First an input is tried that has in each word the least number that the piece's
@@ -118,6 +141,7 @@ fn member_near(alloc: Global, piece: &Piece, facts: &Facts) -> Result<Option<Inp
 /// `Memory` where an allocation is refused.
 pub fn find_member(alloc: Global, piece: &Piece) -> Result<Membership, Fault>
     ensures right { IfOk result (IsRightMembership piece.now) }
+    ensures rule { IfOk result (FindsMember piece.now) }
     ensures plain { IsPlain piece.now.stack → IfOk result (IsLeastFound piece.now) }
     ensures err { IfErr result (λ f. f ≡ Memory) }
 {
@@ -130,7 +154,10 @@ pub fn find_member(alloc: Global, piece: &Piece) -> Result<Membership, Fault>
     let Some(facts) = facts_learnt_again(alloc, piece)? else {
         return Ok(Membership::Empty);
     };
-    match member_near(alloc, piece, &facts)? {
+    let Some(start) = least_input(&facts) else {
+        return Ok(Membership::Doubt);
+    };
+    match member_near(alloc, piece, &facts, start, MOST_MENDINGS)? {
         Some(member) => Ok(Membership::Member(member)),
         None => Ok(Membership::Doubt),
     }

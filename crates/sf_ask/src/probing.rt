@@ -49,7 +49,7 @@ fn mark_left(
     }
 }
 
-/// Of the questions that ask about the action, those that the facts don't rule out at once.
+/// The questions that ask about the action, without those that the facts rule out at once.
 fn questions_left(
     facts: &Facts,
     questions: &[Question],

@@ -105,7 +105,7 @@ fn verdict_if_wanted(
     Ok(Some(verdict))
 }
 
-/// The verdict on a question of which it is known that it is clear: none where it isn't asked for.
+/// The verdict on a question where it is known to be clear: none where it isn't asked for.
 fn clear_verdict(wanted: &[u64; 4], q: usize) -> Option<Verdict>
     requires { q < 256 }
     ensures { result ≡ clear_if_wanted wanted.now q }
