@@ -13,7 +13,7 @@ use Rattle.sf_crew.specs.declared.board.view.BoardKey.{BoardKey}
 use Rattle.sf_crew.specs.declared.board.view.View.{View}
 use Rattle.sf_crew.specs.declared.board.view.EnteredSheet.{EnteredSheet}
 use Rattle.sf_crew.specs.declared.board.view.Note.{Note}
-use Rattle.sf_ask.specs.Sheets.{HasBreak}
+use Rattle.sf_ask.specs.Sheets.{HasHit}
 use Rattle.sf_crew.specs.Views.{note, entered_sheet, has, has_doubt, regions_of, questions_of, count_of_regions, jobs, owed_jobs, Noted, Covered, RightPlace, top, doubt_at}
 use Rattle.sf_crew.specs.BoardRule.{Kept, BoardKept, least_in, doubts_in}
 use Rattle.sf_crew.specs.BoardSteps.{with_notes, view_with_note, view_with_mark, view_with_sheet, Looks}
@@ -70,7 +70,7 @@ looks k slots id q me is there s h homes at fits =
     )
 
 pub hits : (k : BoardKey) (slots id q j : ℕ) (me : Me ℕ View) → q < length (questions_of k) → j < count_of_regions k
-    → HasBreak (regions_of k) (questions_of k) j q
+    → HasHit (regions_of k) (questions_of k) j q
     → Allows (BoardKept k) slots id me (q + 6) (λ n. min n j) (λ n w. (w.0 ≡ view_with_note me.0 q j) × (w.1 ≡ me.1))
 hits k slots id q j me there below breaks s h homes at fits =
     let v : View = me.0 in let n : ℕ = slice_index s.words (q + 6) in let m : ℕ = min n j in
@@ -90,7 +90,7 @@ hits k slots id q j me there below breaks s h homes at fits =
     dite (dec_le n j) (λ le. subst (RightPlace k q) (omega arith) ((h.1).right q there))
     (λ gt. inr (
       (let lt = lt_of_not-le gt in omega arith),
-      subst (λ x. HasBreak (regions_of k) (questions_of k) x q) (let lt = lt_of_not-le gt in omega arith) breaks,
+      subst (λ x. HasHit (regions_of k) (questions_of k) x q) (let lt = lt_of_not-le gt in omega arith) breaks,
     )))
     (λ p ne. (h.1).right p))
     (by (λ p x. (r : ℕ) → Noted (note q j ∷ v.notes) p r → x ≤ r)
@@ -232,7 +232,7 @@ looks_at k slots id q me is there = let e : q ≡ q + 6 - 6 = omega arith in
     (looks k slots id q me is there)
 
 pub hits_at : (k : BoardKey) (slots id q j : ℕ) (me : Me ℕ View) → q < length (questions_of k) → j < count_of_regions k
-    → HasBreak (regions_of k) (questions_of k) j q
+    → HasHit (regions_of k) (questions_of k) j q
     → Allows (BoardKept k) slots id me (q + 6) (λ n. min n j) (λ n w.
     (w.0 ≡ view_with_note me.0 (q + 6 - 6) j) × (w.1 ≡ me.1))
 hits_at k slots id q j me there below breaks = let e : q ≡ q + 6 - 6 = omega arith in

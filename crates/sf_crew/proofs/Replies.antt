@@ -2,11 +2,14 @@
 use Rattle.std.proofs.Common.{◌≡◌, ℕ, zero, suc, ◌+◌, ◌<◌, Bool, true, false, true≢false, List, [], ◌∷◌, ◌++◌, length, ◌≤◌, Option, Some, None, slice_get, get_or, unwrap_or, ◌==◌, ◌⊎◌, sym, refl, ap, ◌∙◌, subst, inl, inr, ⊎_elim, arith}
 use Rattle.std.proofs.lemmas.Bool.Decides.{nat_tests}
 use Rattle.std.proofs.lemmas.Option.{slice_get-get_or, same_Some, get_or_from_slice_get}
-use mathlib.Core.Logic.{dite}
-use native.Mathlib.Decide.{ℕ_discrete}
 use Rattle.sf_ask.specs.declared.verdict.Reply.{Reply}
 use Rattle.sf_insn.specs.declared.input.Input.{Input}
+use Rattle.sf_piece.specs.OneExecution.{IsExecutionOne}
 use Rattle.sf_book.specs.Books.{BookData, IsSettled}
+use Rattle.sf_book.specs.Unfoldings.{IsFringe}
+use Rattle.sf_ask.specs.OneResult.{HaveOneVerdict}
+use Rattle.sf_ask.specs.OneResultLaws.{one_verdict_at, same_themselves}
+use Rattle.sf_ask.specs.declared.verdict.Verdict.{Verdict}
 use Rattle.sf_ask.specs.declared.verdict.Verdict.TheVariants.{Clear, Hit, Doubt}
 use Rattle.sf_ask.specs.declared.verdict.Reply.TheVariants.{Never, Allowed, Unsettled}
 use Rattle.sf_ask.specs.QuestionData.{QuestionData}
@@ -138,34 +141,43 @@ marked n e = grind (arith, nat_tests, e)
 marked_or_not : (n : ℕ) (b : Bool) → b ≡ (n == 1) → n ≡ 1 → b ≡ true
 marked_or_not n b is one = is ∙ ap (λ x. x == 1) one
 
--- the question's least place, or the number of regions where it has none
-abbrev pub first_place : Tally → (q count : ℕ) → ℕ
-first_place t q count = unwrap_or (get_or t.least q none_place) count
-
-below_first : (t : Tally) (q count r : ℕ) → r < first_place t q count → IsBelow t q r
-below_first t q count r lt = λ p found.
-    let same : get_or t.least q none_place ≡ Some p = get_or_from_slice_get t.least q (Some p) none_place found in
-    subst (λ (o : Option ℕ). r < unwrap_or o count) same lt
-
-first_within : (s : BookData) (qs : List QuestionData) (t : Tally) (q : ℕ) (o : Option ℕ) → IsFullTally s qs t
-    → get_or t.least q none_place ≡ o → unwrap_or o (length s.regions) ≤ length s.regions
-first_within s qs t q None h e = omega arith
-first_within s qs t q (Some p) h e = let b = h.breaks q p (place_there t.least q p e) in omega (arith, b.0)
-
 -- each region below the least place is unbroken, and every region where there is none
 pub tally_unbroken : (s : BookData) (qs : List QuestionData) (t : Tally) (q : ℕ)
     (question : QuestionData) (doubt : Bool)
     → IsFullTally s qs t → q < length qs → slice_get qs q ≡ Some question
-    → doubt ≡ (bit_of t.doubts q == 1) → (r : ℕ) → r < first_place t q (length s.regions)
+    → doubt ≡ (bit_of t.doubts q == 1) → (r : ℕ) → r < length s.regions → IsBelow t q r
     → IsUnbroken s question doubt r
-tally_unbroken s qs t q question doubt h lt asked is r below = ⊎_elim
+tally_unbroken s qs t q question doubt h lt asked is r within below = ⊎_elim
     (λ (x : IsRightOn s qs r q Clear). none_unbroken s qs q question doubt r asked x)
     (λ (x : (bit_of t.doubts q ≡ 1) × IsRightWhereGiven s qs r q (Some Doubt)).
     subst (λ b. IsUnbroken s question b r) (sym (marked_or_not (bit_of t.doubts q) doubt is x.0))
     (entry_unbroken s qs q question r asked x.1))
-    (h.cleared q r lt
-    (omega (arith, below, first_within s qs t q (get_or t.least q none_place) h refl))
-    (below_first t q (length s.regions) r below))
+    (h.cleared q r lt within below)
+
+-- where there is no least place, every region lies below it
+pub below_none : (t : Tally) (q : ℕ) → get_or t.least q none_place ≡ None → (r : ℕ) → IsBelow t q r
+below_none t q none r = λ p found.
+    let clash = sym (get_or_from_slice_get t.least q (Some p) none_place found) ∙ none in absurd cc
+
+-- a region below the least place
+pub below_place : (t : Tally) (q place : ℕ) → get_or t.least q none_place ≡ Some place → (r : ℕ) → r < place
+    → IsBelow t q r
+below_place t q place least r less = λ p found.
+    let same : Some p ≡ Some place = sym (get_or_from_slice_get t.least q (Some p) none_place found) ∙ least in
+    subst (λ (n : ℕ). r < n) (sym (same_Some p place same)) less
+
+-- the verdict on the region at the least place is a hit, each time
+pub hit_again : IsExecutionOne → HaveOneVerdict → (s : BookData) (qs : List QuestionData) (t : Tally) (q : ℕ)
+    (question : QuestionData) (place : ℕ) (v : Verdict) → IsFringe s → IsFullTally s qs t
+    → get_or t.least q none_place ≡ Some place → slice_get qs q ≡ Some question → HasVerdictAt s place question v
+    → (d : Input) × (Hit d ≡ v)
+hit_again tree verdict s qs t q question place v fringe h least asked is =
+    let hit = (h.breaks q place (place_there t.least q place least)).1 in
+    let same : hit.1.question ≡ question = same_Some hit.1.question question (sym hit.1.asked ∙ asked) in (
+      hit.0,
+      one_verdict_at tree verdict s s question fringe (same_themselves s.regions) place (Hit hit.0) v
+          (subst (λ (x : QuestionData). HasVerdictAt s place x (Hit hit.0)) same hit.1.rule) is,
+    )
 
 -- a bit that is set tells of a region in doubt
 pub tally_doubtful : (s : BookData) (qs : List QuestionData) (t : Tally) (q : ℕ)
@@ -192,13 +204,6 @@ tally_plain s qs t q true h lt is plain = let d = h.doubts q lt (marked (bit_of 
 pub question_there : (qs : List QuestionData) (q : ℕ) (x : QuestionData) → q < length qs → x ≡ get_or qs q x
     → slice_get qs q ≡ Some x
 question_there qs q x lt is = slice_get-get_or qs q x lt ∙ ap (λ (y : QuestionData). Some y) (sym is)
-
--- with one region more
-pub unbroken_more : (s : BookData) (q : QuestionData) (was is : Bool) (place : ℕ)
-    → ((r : ℕ) → r < place → IsUnbroken s q was r) → ((r : ℕ) → IsUnbroken s q was r → IsUnbroken s q is r)
-    → IsUnbroken s q is place → (r : ℕ) → r < place + 1 → IsUnbroken s q is r
-unbroken_more s q was is place all keeps this r lt =
-    dite (ℕ_discrete r place) (λ e. subst (IsUnbroken s q is) (sym e) this) (λ ne. keeps r (all r (omega arith)))
 
 -- with one reply more
 pub replies_more : (P : ℕ → Reply → Type 0) (xs : List Reply) (x : Reply)

@@ -8,18 +8,33 @@ use Rattle.sf_ask.specs.declared.verdict.Reply.{Reply}
 use Rattle.sf_ask.specs.Verdicts.{IsLowInput, IsBreakAt, IsRightReply, IsFirstBreak, IsLeastExample, IsDoubtful}
 use Rattle.sf_ask.specs.declared.verdict.Reply.TheVariants.{Never, Allowed, Unsettled}
 use Rattle.sf_check.specs.Stacks.{IsPlain}
-use Rattle.sf_ask.specs.Sheets.{HasBreak, IsRightOn, IsRightWhereGiven}
+use Rattle.sf_ask.specs.Sheets.{HasHit, IsRightOn, IsRightWhereGiven}
 use Rattle.sf_ask.specs.Judging.{HasVerdictAt, HasNoHitAt, HasReply}
 use Rattle.sf_ask.specs.declared.verdict.Verdict.TheVariants.{Clear, Doubt}
 use Rattle.sf_crew.specs.Tallies.{IsBelow}
 use Rattle.sf_crew.specs.declared.board.Board.{Board}
 use Rattle.sf_crew.specs.declared.board.Seat.{Seat}
 use Rattle.sf_crew.specs.declared.board.Tally.{Tally}
+use Rattle.sf_ask.specs.declared.probe.Probes.{Probes}
+use Rattle.sf_ask.specs.Probing.{AreProbesOf}
 use Rattle.sf_ask.specs.QuestionBits.{bit_of}
-use Rattle.sf_crew.specs.Views.{Noted}
+use Rattle.sf_crew.specs.Views.{Noted, questions_of, regions_of}
 use Rattle.sf_crew.specs.declared.board.view.View.{View}
 use Rattle.sf_crew.specs.BoardSteps.{with_notes}
-use Rattle.sf_crew.specs.Boards.{IsSeatOf, seat_view}
+use Rattle.sf_crew.specs.Boards.{about, IsSeatOf, seat_view}
+
+-- what the workers of a sweep share: a board, and the regions and questions that they judge by it
+pub record SharedSweepData : Type 0 where
+  pub board : Board
+  pub settled : BookData
+  pub questions : List QuestionData
+  pub probes : Probes
+
+-- the board is that of these regions and questions, and the probes are those of the questions
+pub record IsSharedSweep (w : SharedSweepData) : Type 0 where
+  pub regions : regions_of (about w.board) ≡ w.settled
+  pub questions : questions_of (about w.board) ≡ w.questions
+  pub probes : AreProbesOf w.questions w.probes
 
 -- looking only adds notes, and each of the questions that isn't wanted has a noted place below the job
 pub record SkipsOnly (questions : List QuestionData) (job : ℕ) (v w : View) (wanted : List ℕ) : Type 0 where
@@ -40,8 +55,8 @@ IsWorked b s = IsSeatOf b s.0 × ((seat_view s.0).joined_seats ≡ 1)
 
 -- the tally of all regions
 pub record IsFullTally (s : BookData) (qs : List QuestionData) (t : Tally) : Type 0 where
-  -- a least place is a region with a member that breaks the question
-  pub breaks : (q r : ℕ) → slice_get t.least q ≡ Some (Some r) → (r < length s.regions) × HasBreak s qs r q
+  -- the verdict on the region at a least place is a hit
+  pub breaks : (q r : ℕ) → slice_get t.least q ≡ Some (Some r) → (r < length s.regions) × HasHit s qs r q
   -- below it the verdict on each region is clear, or a doubt, and then the question's bit is set
   pub cleared : (q r : ℕ) → q < length qs → r < length s.regions → IsBelow t q r → IsRightOn s qs r q Clear
       ⊎ ((bit_of t.doubts q ≡ 1) × IsRightWhereGiven s qs r q (Some Doubt))

@@ -1,7 +1,7 @@
 -- What the tally says with which a seat closes a board.
 use Rattle.std.specs.Prelude.{◌≡◌, ℕ, ◌<◌, ◌≤◌, ◌⊎◌, ◌==◌, List, All, count_by, length, Some, slice_get}
 use Rattle.sf_ask.specs.declared.verdict.Verdict.TheVariants.{Clear}
-use Rattle.sf_ask.specs.Sheets.{HasBreak, IsRightOn}
+use Rattle.sf_ask.specs.Sheets.{HasHit, IsRightOn}
 use Rattle.sf_crew.specs.declared.board.view.BoardKey.{BoardKey}
 use Rattle.sf_crew.specs.declared.board.view.View.{View}
 use Rattle.sf_crew.specs.declared.board.view.EnteredSheet.{EnteredSheet}
@@ -22,9 +22,9 @@ IsCleared k t e q = IsRightOn (regions_of k) (questions_of k) e.job q Clear
 pub record RightTally (k : BoardKey) (v : View) (t : Tally) : Type 0 where
   -- what was entered is the places of regions, each at most once
   pub each_once : (x : ℕ) → count_by (λ j. x == j) (entered_jobs v) ≤ once_below x (count_of_regions k)
-  -- a least place is a region with a member that breaks the question
+  -- the verdict on the region at a least place is a hit
   pub breaks : (q r : ℕ) → slice_get t.least q ≡ Some (Some r) → (r < count_of_regions k)
-      × HasBreak (regions_of k) (questions_of k) r q
+      × HasHit (regions_of k) (questions_of k) r q
   -- the entered regions below a least place are cleared, and all of them where there is none
   pub cleared : All (λ e. (q : ℕ) → q < length (questions_of k) → IsBelow t q e.job
       → IsCleared k t e q) v.entered_sheets

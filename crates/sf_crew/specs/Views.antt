@@ -2,7 +2,7 @@
 use Rattle.std.specs.Prelude.{◌≡◌, ℕ, ◌<◌, ◌≤◌, ◌⊎◌, ◌==◌, nat_lt, if◌then◌else◌, max, List, [], ◌∷◌, ◌++◌, map, length, Option, Some, None}
 use Rattle.sf_book.specs.Books.{BookData}
 use Rattle.sf_ask.specs.QuestionData.{QuestionData}
-use Rattle.sf_ask.specs.Sheets.{HasBreak, IsRightOn, IsRightWhereGiven}
+use Rattle.sf_ask.specs.Sheets.{HasHit, IsRightOn, IsRightWhereGiven}
 use Rattle.sf_ask.specs.declared.verdict.Verdict.TheVariants.{Clear, Doubt}
 use Rattle.sf_crew.specs.declared.board.view.BoardKey.{BoardKey}
 use Rattle.sf_crew.specs.declared.board.view.EnteredSheet.{EnteredSheet}
@@ -59,7 +59,7 @@ Noted (n ∷ ns) q r = ((n.question ≡ q) × (n.place ≡ r)) ⊎ Noted ns q r
 
 -- region r has a member that breaks question q, or r stands for "none"
 abbrev pub RightPlace : BoardKey → ℕ → ℕ → Type 0
-RightPlace k q r = (r ≡ count_of_regions k) ⊎ ((r < count_of_regions k) × HasBreak (regions_of k) (questions_of k) r q)
+RightPlace k q r = (r ≡ count_of_regions k) ⊎ ((r < count_of_regions k) × HasHit (regions_of k) (questions_of k) r q)
 
 -- a sheet may leave region r in doubt for question q
 abbrev pub IsInDoubt : BoardKey → ℕ → ℕ → Type 0

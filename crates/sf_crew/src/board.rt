@@ -51,7 +51,7 @@ pub struct Seat {
 /// What the words of a board say at its end.
 #[derive(Drop)]
 pub struct Tally {
-    /// For each question the least place of a region with a member that breaks it, as far as sheets tell.
+    /// For each question the least place of a region with a member that breaks it, as far as sheets say.
     pub least: [Option<usize>; 256],
     /// Question q has bit q % 64 of word q / 64: some sheet has a doubt for it.
     pub doubts: [u64; 4],

@@ -3,10 +3,9 @@
 mod replying;
 
 ghost use Rattle.std.specs.Prelude.{◌≡◌, ℕ, ◌+◌, ◌-◌, ◌<◌, ◌≤◌, length, vec_len, All, IfOk, IfErr, OnOk, IfSome, IsTrue, None, Some};
-ghost use Rattle.sf_ask.specs.Probing.{AreProbesOf};
 ghost use Rattle.sf_crew.specs.BoardSteps.{Knows, with_notes};
 ghost use Rattle.sf_crew.specs.Sweeps.{IsWorked, IsFullTally, SkipsOnly, SkipsOnlyIn};
-ghost use Rattle.sf_crew.specs.Views.{questions_of, regions_of, count_of_regions, jobs, Noted};
+ghost use Rattle.sf_crew.specs.Views.{questions_of, count_of_regions, jobs, Noted};
 ghost use Rattle.sf_crew.specs.Boards.{about, seat_view, IsSeatOf, IsNewSeat};
 ghost use Rattle.sf_crew.specs.declared.fault.Fault.TheVariants.{Memory};
 
@@ -17,18 +16,19 @@ pub use replying::sweep;
 use sf_ask::{Probes, Question, Sheet, questions_to_judge};
 use sf_book::Settled;
 use std::alloc::Global;
+use std::marker::Model;
 use std::thread;
 use std::thread::Threads;
 
-/// Whether there is such a question, and the seat sees a place below the job for it.
-fn is_beaten(board: &Board, seat: &mut Seat, job: usize, q: usize) -> bool
+/// Whether there is such a question, and the seat sees a place below the job for it: a hit that comes before the job's.
+fn has_lower_hit(board: &Board, seat: &mut Seat, job: usize, q: usize) -> bool
     requires seat { IsSeatOf board.now seat.old }
     ensures same { IsSeatOf board.now seat.new }
     ensures view { seat_view seat.new ≡ with_notes (seat_view seat.old)
         (seat_view seat.new).notes }
     ensures more { (p r : ℕ) → Noted (seat_view seat.old).notes p r
         → Noted (seat_view seat.new).notes p r }
-    ensures beaten { IsTrue result → (r : ℕ) × Noted (seat_view seat.new).notes q r
+    ensures lower { IsTrue result → (r : ℕ) × Noted (seat_view seat.new).notes q r
         × (r < job) }
 {
     if q >= board.questions {
@@ -52,7 +52,7 @@ fn look_at_word(board: &Board, seat: &mut Seat, job: usize, word: usize, to_judg
     let mut left = to_judge;
     while left != 0 {
         let bit = left.trailing_zeros();
-        if is_beaten(board, seat, job, word * 64 + bit as usize) {
+        if has_lower_hit(board, seat, job, word * 64 + bit as usize) {
             wanted &= !(1 << bit);
         }
         left &= left - 1;
@@ -77,26 +77,49 @@ fn look_at(board: &Board, seat: &mut Seat, job: usize, to_judge: &[u64; 4]) -> [
     wanted
 }
 
+/// What the workers of a sweep share: a board, and the regions and questions that they judge by it.
+#[derive(Drop)]
+pub(crate) struct SharedSweep<'a> {
+    board: &'a Board,
+    settled: &'a Settled,
+    questions: &'a [Question],
+    probes: &'a Probes,
+}
+
+impl<'a> Model for SharedSweep<'a> {
+    ghost use Rattle.sf_crew.specs.Sweeps.{SharedSweepData, IsSharedSweep};
+
+    ghost Value = { SharedSweepData };
+
+    ghost view = { λ s. record {
+      board = s.board.now;
+      settled = s.settled.now;
+      questions = s.questions.now;
+      probes = s.probes.now;
+    } };
+
+    ghost invariant = { λ s. IsSharedSweep (record {
+      board = s.board.now;
+      settled = s.settled.now;
+      questions = s.questions.now;
+      probes = s.probes.now;
+    }) };
+}
+
 /// Judges the region of the job that the seat owes, and enters the sheet. A question is skipped where a lower place is
-/// seen for it.
-pub(crate) fn enter_job<G: Gate>(
+/// seen for it. The gate sees the sheet before it is entered.
+fn enter_job<G: Gate>(
     alloc: Global,
-    board: &Board,
+    sweep: &SharedSweep<'_>,
     seat: &mut Seat,
-    settled: &Settled,
-    questions: &[Question],
-    probes: &Probes,
     job: usize,
     gate: &G,
     pass: (usize, usize),
 ) -> Result<(), Fault>
-    requires seat { IsSeatOf board.now seat.old }
+    requires seat { IsSeatOf sweep.now.board seat.old }
     requires owes { ((seat_view seat.old).owes ≡ Some job)
-        × (job < count_of_regions (about board.now)) }
-    requires matter { (regions_of (about board.now) ≡ settled.now)
-        × (questions_of (about board.now) ≡ questions.now) }
-    requires probes { AreProbesOf questions.now probes.now }
-    ensures same { IsSeatOf board.now seat.new }
+        × (job < count_of_regions (about sweep.now.board)) }
+    ensures same { IsSeatOf sweep.now.board seat.new }
     ensures joined_seats { (seat_view seat.new).joined_seats ≡ (seat_view seat.old).joined_seats }
     ensures exhausted_seats { (seat_view seat.new).exhausted_seats
         ≡ (seat_view seat.old).exhausted_seats }
@@ -104,6 +127,12 @@ pub(crate) fn enter_job<G: Gate>(
     ensures count { OnOk result (length (jobs (seat_view seat.new))
         ≡ length (jobs (seat_view seat.old))) }
 {
+    let SharedSweep {
+        board,
+        settled,
+        questions,
+        probes,
+    } = sweep;
     let to_judge = questions_to_judge(settled, job, questions, probes);
     let wanted = look_at(board, seat, job, &to_judge);
     let sheet = Sheet::judge(alloc, settled, job, questions, &to_judge, wanted)?;
@@ -115,32 +144,22 @@ pub(crate) fn enter_job<G: Gate>(
 /// Draws jobs and enters their sheets until all jobs are drawn. False where memory ran out.
 fn work<G: Gate>(
     alloc: Global,
-    board: &Board,
+    sweep: &SharedSweep<'_>,
     mut seat: Seat,
-    settled: &Settled,
-    questions: &[Question],
-    probes: &Probes,
     gate: &G,
     worker: usize,
 ) -> (Seat, bool)
-    requires seat { IsSeatOf board.now seat × ((seat_view seat).owes ≡ None) }
-    requires matter { (regions_of (about board.now) ≡ settled.now)
-        × (questions_of (about board.now) ≡ questions.now) }
-    requires probes { AreProbesOf questions.now probes.now }
-    ensures seat { IsSeatOf board.now result.0 }
+    requires seat { IsSeatOf sweep.now.board seat × ((seat_view seat).owes ≡ None) }
+    ensures seat { IsSeatOf sweep.now.board result.0 }
     ensures joined_seats { (seat_view result.0).joined_seats ≡ (seat_view seat).joined_seats }
     ensures done { IsTrue result.1 → ((seat_view result.0).owes ≡ None)
         × (0 < (seat_view result.0).exhausted_seats) }
 {
     let mut call: usize = 0;
-    while let Some(job) = board.draw(&mut seat) {
+    while let Some(job) = sweep.board.draw(&mut seat) {
         call = call.wrapping_add(1);
-        let pass = (worker, call);
-        if enter_job(
-            alloc, board, &mut seat, settled, questions, probes, job, gate, pass,
-        )
-        .is_err()
-        {
+        let entered = enter_job(alloc, sweep, &mut seat, job, gate, (worker, call));
+        if entered.is_err() {
             return (seat, false);
         }
     }
@@ -214,33 +233,22 @@ pub(crate) fn tally<R: Threads + Sync, G: Gate>(
     let Some(mine) = seats.pop() else {
         unreachable!()
     };
-    let shared = &board;
-    let numbered_seats = number_seats(alloc, shared, seats)?;
+    let numbered_seats = number_seats(alloc, &board, seats)?;
+    let sweep = &SharedSweep {
+        board: &board,
+        settled,
+        questions,
+        probes,
+    };
     let worked = thread::map_vec(
         rt,
         numbered_seats,
         &|part: NumberedSeat| -> (Seat, bool)
-            requires { IsNewSeat shared.now part.seat
-                × (regions_of (about shared.now) ≡ settled.now)
-                × (questions_of (about shared.now) ≡ questions.now)
-                × AreProbesOf questions.now probes.now }
-            ensures { IsWorked shared.entry.now result }
-        {
-            work(
-                alloc,
-                shared,
-                part.seat,
-                settled,
-                questions,
-                probes,
-                gate,
-                part.number,
-            )
-        },
+            requires { IsNewSeat sweep.now.board part.seat }
+            ensures { IsWorked sweep.entry.now.board result }
+        { work(alloc, sweep, part.seat, gate, part.number) },
     )?;
-    let (mine, done) = work(
-        alloc, shared, mine, settled, questions, probes, gate, workers,
-    );
+    let (mine, done) = work(alloc, sweep, mine, gate, workers);
     if !done {
         return Err(Fault::Memory);
     }

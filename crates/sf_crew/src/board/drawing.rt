@@ -1,6 +1,6 @@
 //! The calls of a seat on its board, but for entering a sheet.
 ghost use Rattle.std.specs.Prelude.{◌≡◌, ℕ, ◌+◌, ◌-◌, ◌<◌, ◌≤◌, ◌^◌, ◌==◌, nat_lt, count_by, length, IfSome, IfNone, Some, None, []};
-ghost use Rattle.sf_ask.specs.Sheets.{HasBreak};
+ghost use Rattle.sf_ask.specs.Sheets.{HasHit};
 ghost use Rattle.sf_crew.specs.Views.{questions_of, regions_of, count_of_regions, jobs, Noted};
 ghost use Rattle.sf_crew.specs.BoardSteps.{view_with_job, view_without_job, view_with_note, joined_view, Knows, GotNone};
 ghost use Rattle.sf_crew.specs.Boards.{about, seat_view, IsSeatOf};
@@ -54,7 +54,7 @@ impl Board {
         requires there { q < length (questions_of (about self.now)) }
         ensures same { IsSeatOf self.now seat.new }
         ensures some { IfSome result (λ r. (r < count_of_regions (about self.now))
-            × HasBreak (regions_of (about self.now)) (questions_of (about self.now)) r q
+            × HasHit (regions_of (about self.now)) (questions_of (about self.now)) r q
             × ((s : ℕ) → Noted (seat_view seat.old).notes q s → r ≤ s)
             × (seat_view seat.new ≡ view_with_note (seat_view seat.old) q r)) }
         ensures none { IfNone result (((s : ℕ) → Noted (seat_view seat.old).notes q s

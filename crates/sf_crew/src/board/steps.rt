@@ -1,4 +1,4 @@
-//! The atomic steps of a board. Each keeps the board's rule, and tells its seat something of the board.
+//! The atomic steps of a board. Each keeps the board's rule, and shows its seat something of the board.
 use crate::board::view::{BoardKey, View};
 use atomic_table::{Join, Play, Split, TableRule};
 
@@ -78,8 +78,8 @@ impl Play<u8, View> for Enter {
         → w.0 ≡ view_with_sheet m.0 j) × (w.1 ≡ m.1) };
 }
 
-/// For the prover: the step of a seat that changes nothing, and by which the board's rule tells what the seat knows of
-/// its jobs.
+/// For the prover: the step of a seat that changes nothing, and gives what the seat knows of its jobs, by the board's
+/// rule.
 pub(crate) struct Glance;
 
 impl Play<u8, View> for Glance {

@@ -9,8 +9,10 @@ use crate::board::Tally;
 use crate::fault::Fault;
 use crate::gate::Gate;
 use crate::sweeping::tally;
+use sf_ask::laws::verdicts_have_one_result;
 use sf_ask::{Question, Reply, Verdict, has_bit, judge};
 use sf_book::Settled;
+use sf_piece::laws::execution_has_one_result;
 use std::alloc::Global;
 use std::sync::Wait;
 use std::thread::Threads;
@@ -35,8 +37,8 @@ fn reply_without_hit(settled: &Settled, _question: &Question, doubt: bool) -> Re
     }
 }
 
-/// The reply to one question. For the example, the regions are judged again, from the question's least place on, until
-/// there is a hit: at that place already, where a verdict is the same each time. Without a least place none is judged.
+/// The reply to one question. For the example, the region at the question's least place is judged once more, which is a
+/// hit again. Without a least place none is.
 fn reply_of(
     alloc: Global,
     settled: &Settled,
@@ -49,18 +51,19 @@ fn reply_of(
     ensures ok { IfOk result (IsRightReplyAt settled.now questions.now q) }
     ensures err { IfErr result (λ f. f ≡ Memory) }
 {
+    // For the prover: a region has one verdict.
+    execution_has_one_result();
+    verdicts_have_one_result();
+    let _counts = settled.counts();
     let question = &questions[q];
-    let mut doubt = has_bit(&tally.doubts, q);
-    let count = settled.region_count();
-    let first = tally.least[q].unwrap_or(count);
-    for place in first..count {
-        match judge(alloc, settled, place, question)? {
-            Verdict::Hit(input) => return Ok(Reply::Allowed(input)),
-            Verdict::Doubt => doubt = true,
-            Verdict::Clear => {}
-        }
-    }
-    Ok(reply_without_hit(settled, question, doubt))
+    let Some(place) = tally.least[q] else {
+        let doubt = has_bit(&tally.doubts, q);
+        return Ok(reply_without_hit(settled, question, doubt));
+    };
+    let Verdict::Hit(input) = judge(alloc, settled, place, question)? else {
+        unreachable!()
+    };
+    Ok(Reply::Allowed(input))
 }
 
 /// A reply to each question, by this many workers, which judge the regions by a board. The gate sees each sheet between

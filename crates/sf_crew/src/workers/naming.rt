@@ -1,4 +1,4 @@
-//! Names of explorations. By such a name a type says of which stack and budget a book is, and of which stack a lease.
+//! Names of explorations. A type with such a name says of which stack and budget a book is, or of which stack a lease.
 use sf_book::Lease;
 use std::marker::{Brand, Model, PhantomData};
 
@@ -42,7 +42,7 @@ impl<N: Naming> NamedLease<N> {
     ghost use Rattle.std.specs.Prelude.{◌≡◌};
     ghost use Rattle.std.specs.Arc.{arc_value};
 
-    /// The lease, of which it is known that its piece is of the stack that is named.
+    /// The lease, whose piece is known to be of the stack that is named.
     pub(crate) fn of(lease: Lease) -> NamedLease<N>
         requires { (arc_value lease.piece).stack ≡ N.stack }
         ensures { result ≡ lease }

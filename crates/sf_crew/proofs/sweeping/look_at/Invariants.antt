@@ -2,7 +2,7 @@ use Rattle.std.proofs.Common.{◌≡◌, ℕ, ◌<◌, length}
 use Rattle.sf_ask.specs.QuestionBits.{bit_of}
 use Rattle.sf_crew.specs.BoardSteps.{with_notes}
 use Rattle.sf_crew.specs.Boards.{seat_view, IsSeatOf}
-use Rattle.sf_crew.proofs.Skips.{IsBeaten}
+use Rattle.sf_crew.proofs.Skips.{HasLowerHit}
 use Rattle.sf_crew.proofs.sweeping.look_at.Given as goal
 
 abbrev pub invariant-loop-word : goal.invariant-loop-word
@@ -10,5 +10,5 @@ invariant-loop-word l = record {
   seat : IsSeatOf l.board l.seat;
   long : length l.wanted ≡ 4;
   same : seat_view l.seat ≡ with_notes (seat_view l.initial.seat) (seat_view l.seat).notes;
-  skips : (q : ℕ) → q < 256 → bit_of l.wanted q ≡ 0 → IsBeaten l.job (seat_view l.seat).notes q;
+  skips : (q : ℕ) → q < 256 → bit_of l.wanted q ≡ 0 → HasLowerHit l.job (seat_view l.seat).notes q;
 }

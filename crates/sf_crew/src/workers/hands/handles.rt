@@ -15,7 +15,7 @@ pub(crate) struct NewBench<N: Naming> {
     ghost unused: { length (owner_view owner).events ≡ 0 },
 }
 
-/// A worker's own bench. It can't be dropped: it is closed when nothing was found on it, as `take` tells.
+/// A worker's own bench. It can't be dropped: it is closed when `take` found nothing on it.
 pub(crate) struct Bench<N: Naming> {
     owner: Owner<NamedLease<N>>,
 }

@@ -1,10 +1,10 @@
 use Rattle.std.proofs.Common.{◌≡◌, ◌<◌, ℕ, ◌-◌, List, length, subst, sym, ap, ◌∙◌, arith}
 use Rattle.sf_book.specs.Books.{BookData}
 use Rattle.sf_ask.specs.QuestionData.{QuestionData}
-use Rattle.sf_ask.specs.Sheets.{HasBreak}
+use Rattle.sf_ask.specs.Sheets.{HasHit}
 use Rattle.sf_crew.specs.Views.{questions_of, count_of_regions}
 use Rattle.sf_crew.specs.Boards.{about}
-use Rattle.sf_ask.specs.SheetLaws.{hit-breaks}
+use Rattle.sf_ask.specs.SheetLaws.{hit-given}
 use Rattle.sf_crew.proofs.Moves.{hits_at}
 use Rattle.sf_crew.proofs.board.Board.enter_hits.Goals as goal
 
@@ -15,13 +15,13 @@ fetch_min-requires c =
     omega (arith, c.loop-q-test.true, c.question_count-q-end.ensures.count) in
     let many : length c.args.sheet.now.questions ≡ length (questions_of (about c.args.self.now)) =
     ap (λ (y : List QuestionData). length y) c.requires.matter.1 in
-    let breaks : HasBreak c.args.sheet.now.settled c.args.sheet.now.questions c.args.sheet.now.job n =
-    search (arith, hit-breaks) in
+    let breaks : HasHit c.args.sheet.now.settled c.args.sheet.now.questions c.args.sheet.now.job n =
+    search (arith, hit-given) in
     let below : c.args.sheet.now.job < count_of_regions (about c.args.self.now) =
     subst (λ (y : BookData). c.args.sheet.now.job < length y.regions) c.requires.matter.0 right.there in (
       c.loop-q.invariant.table ∙ c.requires.table,
       omega (arith, lt, many),
       hits_at _ _ _ n _ _ (omega (arith, lt, many)) (omega (arith, below, c.job-job.ensures.job))
-          (subst (λ (y : BookData × List QuestionData × ℕ). HasBreak y.0 y.1 y.2 n)
+          (subst (λ (y : BookData × List QuestionData × ℕ). HasHit y.0 y.1 y.2 n)
           (λ i. (c.requires.matter.0 i, c.requires.matter.1 i, sym c.job-job.ensures.job i)) breaks),
     )

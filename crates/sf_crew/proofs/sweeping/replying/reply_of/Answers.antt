@@ -1,60 +1,61 @@
-use Rattle.std.proofs.Common.{◌≡◌, ℕ, ◌<◌, length, true, get_or, unwrap_or, ap, subst, ◌∙◌, arith}
-use Rattle.sf_crew.proofs.Replies.{first_place, none_place, reply_allowed, tally_unbroken, tally_doubtful, tally_plain, question_there, unbroken_more, clear_unbroken, doubt_unbroken, still_unbroken}
-use Rattle.sf_crew.proofs.sweeping.replying.reply_of.Goals.{in-Doubt, in-Clear}
+use Rattle.std.proofs.Common.{◌≡◌, ℕ, ◌<◌, ◌==◌, Bool, refl, sym, arith}
+use Rattle.sf_ask.specs.QuestionBits.{bit_of}
+use Rattle.sf_crew.specs.Sweeps.{IsUnbroken}
+use Rattle.sf_ask.specs.QuestionData.{QuestionData}
+use Rattle.sf_crew.proofs.Replies.{below_none, below_place, hit_again, place_there, question_there, reply_allowed, still_unbroken, tally_doubtful, tally_plain, tally_unbroken}
 use Rattle.sf_crew.proofs.sweeping.replying.reply_of.Goals as goal
 
-pub loop-place-init : goal.loop-place-init
-loop-place-init c =
-    let s = c.args.settled.now in let t = c.args.tally.now in let q = c.args.q in let h = c.requires.tally in
-    let lt = c.requires.question.0 in let asked = question_there _ q _ lt c.index-questions-q.is in
-    let bit = c.has_bit-doubt.ensures in
-    let first : c.unwrap_or-first.result ≡ first_place t q (length s.regions) = c.unwrap_or-first.ensures
-    ∙ ap (λ (n : ℕ). unwrap_or (get_or t.least q none_place) n) c.region_count-count.ensures.value in record {
-      unbroken = λ r below. tally_unbroken s _ t q _ _ h lt asked bit r (subst (λ (n : ℕ). r < n) first below);
-      doubtful = tally_doubtful s _ t q _ _ h lt asked bit;
-      plain = tally_plain s _ t q _ h lt bit;
-    }
+pub reply_without_hit-requires-clause-unbroken : goal.reply_without_hit-requires-clause-unbroken
+reply_without_hit-requires-clause-unbroken c = λ r within.
+    tally_unbroken c.args.settled.now _ c.args.tally.now c.args.q _ _ c.requires.tally c.requires.question.0
+    (question_there _ c.args.q _ c.requires.question.0 c.index-questions-q.is) c.has_bit-doubt.ensures r within
+    (below_none c.args.tally.now c.args.q c.in_default.is r)
 
-pub returns-clause-ok : goal.returns-clause-ok
-returns-clause-ok c = record {
+pub reply_without_hit-requires-clause-doubtful : goal.reply_without_hit-requires-clause-doubtful
+reply_without_hit-requires-clause-doubtful c =
+    tally_doubtful c.args.settled.now _ c.args.tally.now c.args.q _ _ c.requires.tally c.requires.question.0
+    (question_there _ c.args.q _ c.requires.question.0 c.index-questions-q.is) c.has_bit-doubt.ensures
+
+pub reply_without_hit-requires-clause-plain : goal.reply_without_hit-requires-clause-plain
+reply_without_hit-requires-clause-plain c =
+    tally_plain c.args.settled.now _ c.args.tally.now c.args.q _ c.requires.tally c.requires.question.0
+    c.has_bit-doubt.ensures
+
+pub returns-in_default-clause-ok : goal.returns-in_default-clause-ok
+returns-in_default-clause-ok c = record {
   question = c.index-questions-q.result;
   asked = question_there _ c.args.q _ c.requires.question.0 c.index-questions-q.is;
   replies = c.reply_without_hit.ensures;
 }
 
-pub returns-in-Hit-clause-ok : goal.returns-in-Hit-clause-ok
-returns-in-Hit-clause-ok c =
-    let i = c.loop-place.invariant in record {
-      question = c.index-questions-q.result;
-      asked = question_there _ c.args.q _ c.requires.question.0 c.index-questions-q.is;
-      replies = reply_allowed _ _ c.loop-place.place c.in-Hit.input (rw c.in-Hit.is at c.in_ok-input.ensures.right)
-          (rw c.in-Hit.is at c.in_ok-input.ensures.tried) (rw c.in-Hit.is at c.in_ok-input.ensures.rule)
-          (λ e earlier. still_unbroken _ _ c.loop-place.doubt e (i.unbroken e earlier))
-          (λ plain e earlier x. (i.unbroken e earlier).none (i.plain plain) x);
-    }
+pub judge-requires : goal.judge-requires
+judge-requires c =
+    (c.requires.tally.breaks c.args.q c.in-Some.place (place_there c.args.tally.now.least c.args.q c.in-Some.place
+    c.in-Some.is)).0
 
-pub loop-place-preserved : goal.loop-place-preserved
-loop-place-preserved c =
-    let i = c.loop-place.invariant in let told = c.in_ok-input.ensures in
-    elim c.match-branch-2.branch [
-      | in-Doubt w ↦ rw w.doubt-is (record {
-        unbroken = unbroken_more _ _ c.loop-place.doubt true c.loop-place.place i.unbroken
-            (λ r h. still_unbroken _ _ c.loop-place.doubt r h)
-            (doubt_unbroken _ _ c.loop-place.place (rw w.in-Doubt.is at told.right) (rw w.in-Doubt.is at told.tried)
-            (rw w.in-Doubt.is at told.rule));
-        doubtful = λ _. (
-          c.loop-place.place,
-          omega arith,
-          rw w.in-Doubt.is at told.tried,
-          rw w.in-Doubt.is at told.rule,
-        );
-        plain = λ plain. absurd (rw w.in-Doubt.is at told.decisive plain);
-      })
-      | in-Clear w ↦ rw w.doubt-is (record {
-        unbroken = unbroken_more _ _ c.loop-place.doubt c.loop-place.doubt c.loop-place.place i.unbroken (λ r h. h)
-            (clear_unbroken _ _ c.loop-place.doubt c.loop-place.place (rw w.in-Clear.is at told.right)
-            (rw w.in-Clear.is at told.rule));
-        doubtful = i.doubtful;
-        plain = i.plain;
-      })
-    ]
+pub unreachable-requires : goal.unreachable-requires
+unreachable-requires c =
+    let hit = hit_again c.execution_has_one_result.ensures c.verdicts_have_one_result.ensures c.args.settled.now _
+    c.args.tally.now c.args.q _ c.in-Some.place c.in_ok-input.field-0 c.counts-counts.ensures.fringe c.requires.tally
+    c.in-Some.is (question_there _ c.args.q _ c.requires.question.0 c.index-questions-q.is)
+    c.in_ok-input.ensures.rule in
+    c.in_default-2.not-Hit hit.0 (sym hit.1)
+
+pub returns-clause-ok : goal.returns-clause-ok
+returns-clause-ok c =
+    let s = c.args.settled.now in let t = c.args.tally.now in let q = c.args.q in let place = c.in-Some.place in
+    let question : QuestionData = c.index-questions-q.result in
+    let asked = question_there _ q _ c.requires.question.0 c.index-questions-q.is in
+    let within = (c.requires.tally.breaks q place (place_there t.least q place c.in-Some.is)).0 in
+    let doubt : Bool = bit_of t.doubts q == 1 in
+    let unbroken : (e : ℕ) → e < place → IsUnbroken s question doubt e = λ e less.
+    tally_unbroken s _ t q question doubt c.requires.tally c.requires.question.0 asked refl e
+    (omega (arith, less, within)) (below_place t q place c.in-Some.is e less) in record {
+      question = question;
+      asked = asked;
+      replies = reply_allowed s question place c.in-Hit.input (rw c.in-Hit.is at c.in_ok-input.ensures.right)
+          (rw c.in-Hit.is at c.in_ok-input.ensures.tried) (rw c.in-Hit.is at c.in_ok-input.ensures.rule)
+          (λ e less. still_unbroken s question doubt e (unbroken e less))
+          (λ plain e less x. (unbroken e less).none
+          (tally_plain s _ t q doubt c.requires.tally c.requires.question.0 refl plain) x);
+    }
