@@ -1,9 +1,8 @@
 -- Audits of one stack that end with nothing outstanding have one report, and one document.
 use Rattle.std.proofs.Common.{◌≡◌, ℕ, ◌+◌, ◌<◌, Bool, true, List, [], ◌∷◌, ◌++◌, length, map, get_or, Some, slice_get, refl, sym, ◌∙◌, ap, subst, arith}
-use Rattle.std.specs.Prelude.{codes, sum_by, if◌then◌else◌}
+use Rattle.std.specs.Prelude.{codes, if◌then◌else◌}
 use Rattle.std.specs.Fmt.{decimal}
 use Rattle.std.proofs.lemmas.List.{same_lists}
-use Rattle.std.proofs.lemmas.List.Sums.{sum_by-cons}
 use Rattle.std.proofs.lemmas.Option.{same_Some, slice_get-get_or}
 use Rattle.serde_json.specs.Data.{Data, null, string}
 use Rattle.sf_check.specs.declared.insn.Insn.{Insn}
@@ -11,11 +10,12 @@ use Rattle.sf_check.specs.Stacks.{path_length}
 use Rattle.sf_run.specs.declared.action.Answer.{Answer}
 use Rattle.sf_book.specs.declared.book.Counts.{Counts}
 use Rattle.sf_book.specs.Books.{RegionData, BookData, counts_of}
-use Rattle.sf_book.specs.Unfoldings.{AreSameRegions, HaveSameElements, HaveOneResult, ExplorationsHaveOneResult}
+use Rattle.sf_book.specs.Unfoldings.{AreSameRegions, ExplorationsHaveOneResult}
 use Rattle.sf_ask.specs.QuestionData.{QuestionData}
 use Rattle.sf_ask.specs.declared.verdict.Reply.{Reply}
 use Rattle.sf_ask.specs.Judging.{HasReply}
 use Rattle.sf_ask.specs.OneResult.{HaveOneReply, IsWholeFringe}
+use Rattle.sf_ask.specs.OneResultLaws.{same_counts}
 use Rattle.sf_crew.specs.Sweeps.{IsRightReplyAt, AreRightReplies}
 use Rattle.sf_audit.specs.Audits.{IsAudit}
 use Rattle.sf_audit.specs.Outcomes.{Found}
@@ -71,33 +71,6 @@ same_documents n (r ∷ rs) [] h = absurd h
 same_documents n (r ∷ rs) (s ∷ ss) h =
     let rest = same_documents (n + 1) rs ss h.1 in
     λ j. document_of n (h.0.name j) (h.0.answer j) ∷ rest j
-
--- ---- the same counts
-
-same_length : (rs ss : List RegionData) → AreSameRegions rs ss → length rs ≡ length ss
-same_length [] [] h = refl
-same_length [] (s ∷ ss) h = absurd h
-same_length (r ∷ rs) [] h = absurd h
-same_length (r ∷ rs) (s ∷ ss) h = let rest = same_length rs ss h.1 in omega arith
-
--- a list weighs as much as it has elements
-weighs : (xs : List (List Bool)) → sum_by (λ x. 1) xs ≡ length xs
-weighs [] = refl
-weighs (x ∷ xs) = let rest = weighs xs in let one = sum_by-cons (λ (y : List Bool). 1) x xs in omega arith
-
-as_many : (xs ys : List (List Bool)) → HaveSameElements xs ys → length xs ≡ length ys
-as_many xs ys same = sym (weighs xs) ∙ same (λ x. 1) ∙ weighs ys
-
-abbrev counted : (left settled emptied splits commits : ℕ) → Counts
-counted left settled emptied splits commits =
-    record { left = left; settled = settled; emptied = emptied; splits = splits; commits = commits }
-
-same_counts : (b c : BookData) → HaveOneResult b c → b.outstanding ≡ [] → c.outstanding ≡ [] → counts_of b ≡ counts_of c
-same_counts b c one none none' =
-    let left = ap length (none ∙ sym none') in
-    let settled = same_length b.regions c.regions one.regions in
-    let emptied = as_many b.emptied c.emptied one.emptied in
-    λ j. counted (left j) (settled j) (emptied j) (one.splits j) (one.commits j)
 
 -- ---- the same findings
 

@@ -19,16 +19,16 @@ use sf_json::{Document, Fields, counts_document, stack_document};
 use sf_names::Names;
 use std::alloc::{AllocError, Global};
 
-/// How an audit is told.
+/// How an audit is shown.
 #[derive(Drop)]
 pub struct Telling<'m> {
-    /// Whether the settled regions are told.
+    /// Whether the settled regions are shown.
     pub regions: bool,
-    /// Whether it is told what was expected.
+    /// Whether it is shown what was expected.
     pub is_expecting: bool,
-    /// The names of calls with which inputs are told.
+    /// The names of calls with which inputs are shown.
     pub names: &'m [Names],
-    /// Where each question stands, at its place; nothing is told where there is nothing at its place.
+    /// Where each question stands, at its place; nothing is shown where there is nothing at its place.
     pub origins: &'m [Document],
     /// The remark on each question, at its place: text of its own lines.
     pub remarks: &'m [String],

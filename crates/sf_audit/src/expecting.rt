@@ -1,4 +1,4 @@
-//! What a build expects of an audit, and what is told of that.
+//! What a build expects of an audit, and the lines that say what isn't as expected.
 
 ghost use Rattle.std.specs.Prelude.{◌≡◌, ◌++◌, IfOk, OnOk, length, map, string_bytes};
 ghost use Rattle.std.specs.List.{list_all};
@@ -194,8 +194,8 @@ fn push_questions(
     Ok(())
 }
 
-/// The lines behind a report that tell what isn't as expected: questions of the control that aren't allowed, questions that
-/// are allowed and not accepted, and accepted ones that are never. An error where an allocation is refused.
+/// The lines behind a report that say what isn't as expected: questions of the control that aren't allowed, questions
+/// that are allowed and not accepted, and accepted ones that are never. An error where an allocation is refused.
 pub fn text_of_expected(
     alloc: Global,
     expected: &Expected,

@@ -28,7 +28,7 @@ pub fn write_report<W: Write>(
     behind: &str,
     out: &mut W,
 ) -> Result<(), Fault>
-    // The text is written, where the writer tells its bytes.
+    // The text is written, where the writer's bytes are known.
     ensures written { OnOk result (Appends (W.contents out.old) (W.contents out.new)
         (report_text outcome.now regions (map string_bytes remarks.now) ++ behind.now)) }
 

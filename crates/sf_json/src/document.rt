@@ -92,8 +92,8 @@ impl Document {
         Ok(Document::text(String::from_str(alloc, text)?))
     }
 
-    /// The same again. An error where an allocation is refused.
-    pub fn again(&self) -> Result<Document, AllocError>
+    /// A copy. An error where an allocation is refused.
+    pub fn try_clone(&self) -> Result<Document, AllocError>
         ensures { IfOk result (λ d. view d ≡ view self.now) }
     {
         let value = self.value().clone()?;

@@ -1,4 +1,4 @@
-//! What is told of an exploration as JSON: the sizes of its stack, and its counts.
+//! What is shown of an exploration as JSON: the sizes of its stack, and its counts.
 
 ghost use Rattle.std.specs.Prelude.{◌≡◌, ◌≤◌, length, IfOk};
 ghost use Rattle.sf_book.specs.Books.{counts_of};

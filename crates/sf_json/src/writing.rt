@@ -30,7 +30,7 @@ pub fn write_document<W: Write>(
     document: &Document,
     out: &mut W,
 ) -> Result<(), Fault>
-    // The line is written, where the writer tells its bytes.
+    // The line is written, where the writer's bytes are known.
     ensures written { OnOk result (Appends (W.contents out.old) (W.contents out.new)
         (document_line (view document.now))) }
 

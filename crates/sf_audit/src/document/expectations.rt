@@ -49,7 +49,7 @@ fn expected_document(alloc: Global, expected: &Expected) -> Result<Document, All
     Ok(Document::object(fields))
 }
 
-/// The control, and whether it holds, where that is told, else `null`. An error where an allocation is refused.
+/// The control, and whether it holds, where that is shown, else `null`. An error where an allocation is refused.
 pub(super) fn shown_expected(
     alloc: Global,
     shown: bool,

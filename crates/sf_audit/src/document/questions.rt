@@ -15,7 +15,7 @@ use sf_json::{Document, Fields, input_document};
 use sf_names::Names;
 use std::alloc::{AllocError, Global};
 
-/// What is told of a question beside its reply.
+/// What is shown of a question beside its reply.
 #[derive(Drop)]
 struct Beside {
     /// Whether its name is an accepted one.
@@ -70,17 +70,17 @@ fn why_of(alloc: Global, remarks: &[String], place: usize) -> Result<Document, A
     }
 }
 
-/// Where the question at a place stands, counted from 0; `null` where that isn't told.
+/// Where the question at a place stands, counted from 0; `null` where that isn't given.
 fn origin_of(origins: &[Document], place: usize) -> Result<Document, AllocError>
     ensures { IfOk result (λ d. view d ≡ origin_of (map view origins.now) place) }
 {
     match origins.get(place) {
-        Some(origin) => origin.again(),
+        Some(origin) => origin.try_clone(),
         None => Ok(Document::null()),
     }
 }
 
-/// What is told of the question at a place beside its reply.
+/// What is shown of the question at a place beside its reply.
 fn beside_of(
     alloc: Global,
     telling: &Telling<'_>,
@@ -106,7 +106,7 @@ fn beside_of(
     })
 }
 
-/// A question with its reply, an example, and what is told beside.
+/// A question with its reply, an example, and what is shown beside.
 fn asked_document(
     alloc: Global,
     number: usize,

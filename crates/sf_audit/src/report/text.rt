@@ -138,7 +138,7 @@ fn push_questions(
     Ok(())
 }
 
-/// The line that tells how much was audited.
+/// The line that says how much was audited.
 fn push_size(
     text: &mut String,
     filters: usize,
@@ -154,7 +154,7 @@ fn push_size(
     )
 }
 
-/// The line that tells how much was audited, by the exploration of the stack.
+/// The line that says how much was audited, by the exploration of the stack.
 fn push_stack(text: &mut String, settled: &Settled, questions: usize) -> Result<(), AllocError>
     ensures { OnOk result (string_bytes text.new ≡ string_bytes text.old
         ++ size_line (length settled.now.stack) (path_length settled.now.stack) questions) }
@@ -173,7 +173,7 @@ fn push_head(text: &mut String, settled: &Settled, questions: usize) -> Result<(
     push_counts(text, settled.counts())
 }
 
-/// The line that tells how many questions got which reply.
+/// The line that says how many questions got which reply.
 fn push_total(
     text: &mut String,
     never: usize,
@@ -189,7 +189,7 @@ fn push_total(
     )
 }
 
-/// The line that tells how many of these replies are of which kind.
+/// The line that says how many of these replies are of which kind.
 fn push_totals(text: &mut String, replies: &[Reply]) -> Result<(), AllocError>
     ensures { OnOk result (string_bytes text.new ≡ string_bytes text.old
         ++ totals_line replies.now) }
