@@ -1,6 +1,6 @@
 -- Why what is found of two stacks is right.
 use Rattle.std.proofs.lemmas.Grind.{common_steps}
-use Rattle.std.proofs.Common.{◌≡◌, ℕ, zero, suc, ◌+◌, ◌-◌, ◌<◌, ◌++◌, ◌∙◌, true, false, true≢false, List, [], ◌∷◌, length, take, drop, Some, slice_get, refl, sym, subst, inl, inr, arith, length-drop}
+use Rattle.std.proofs.Common.{◌≡◌, ◌⊎◌, ℕ, zero, suc, ◌+◌, ◌-◌, ◌<◌, ◌++◌, ◌∙◌, true, false, true≢false, List, [], ◌∷◌, length, take, drop, Some, slice_get, refl, sym, subst, inl, inr, arith, length-drop}
 use Rattle.std.proofs.lemmas.Bool.{cases_eq}
 use Rattle.std.proofs.lemmas.Option.{same_Some}
 use Rattle.std.proofs.lemmas.List.{take-append-drop, take_all}
@@ -25,7 +25,8 @@ use Rattle.sf_ask.specs.declared.members.Membership.{Membership}
 use Rattle.sf_ask.specs.declared.members.Membership.TheVariants.{Empty, Member, Doubt}
 use Rattle.sf_compare.specs.declared.relation.Relation.TheVariants.{Looser, Tighter, Different}
 use Rattle.sf_compare.specs.Relations.{AreRelated}
-use Rattle.sf_compare.specs.Changes.{AllTellBefore, AreAnswersAt, AreAnswersOf, Follows, IsChange, IsChangeOf, IsDoubtfulAt, IsMembershipAt, IsSought, IsUnchangedAt, IsWithoutExample, TellsBefore, finding_of, new_of, old_of, with_membership}
+use Rattle.sf_compare.specs.Changes.{AllTellBefore, AreAnswersAt, AreAnswersOf, Follows, IsChange, IsChangeOf, IsClearAt, IsInDoubtAt, IsMembershipAt, IsSought, IsUnchangedAt, IsWithoutExample, TellsBefore, finding_of, with_membership}
+use Rattle.sf_compare.specs.Finding.{HasFindingAt, HasNoFindingAt, new_of, old_of}
 
 -- the two parts make the stack
 pub both_parts : (s : BookData) (older : ℕ) → old_of s older ++ new_of s older ≡ s.stack
@@ -53,7 +54,7 @@ pub unrelated : (s : BookData) (older : ℕ) (relation : Relation) (place : ℕ)
     → AreAnswersAt s older place both → (AreRelated relation both.older both.newer → ⊥)
     → IsUnchangedAt s older relation place
 unrelated s older relation place both told none = λ d before after m change.
-    let answers = told m.region m.there in
+    let answers = (told m.region m.there).0 in
     let b : before ≡ both.older = one (returns_of (old_of s older) d) before both.older change.answered_before
     (answers.before d m.input m.member) in
     let a : after ≡ both.newer = one (returns_of (new_of s older) d) after both.newer change.answered_after
@@ -73,83 +74,128 @@ none_left (x ∷ xs) e = absurd (omega arith)
 
 -- where no region has a member that is changed so, and nothing is outstanding, no input is
 pub never : (s : BookData) (older : ℕ) (relation : Relation) → IsSettled s → length s.outstanding ≡ 0
-    → ((r : ℕ) → r < length s.regions → IsUnchangedAt s older relation r) → IsChangeOf s older relation Never
+    → ((r : ℕ) → r < length s.regions → IsClearAt s older relation r) → IsChangeOf s older relation Never
 never s older relation settled none all = record {
+  rule = (none_left s.outstanding none, λ r lt. (all r lt).rule);
   right = (
     none_left s.outstanding none,
     λ d before after change. let m = in_some_region s settled (none_left s.outstanding none) d change.input in
-        all m.0 m.1 d before after m.2 change,
+        (all m.0 m.1).unchanged d before after m.2 change,
   );
   plain = λ _. tt;
 }
 
--- with one region more
-pub one_more : (s : BookData) (older : ℕ) (relation : Relation) (n : ℕ)
-    → ((r : ℕ) → r < n → IsUnchangedAt s older relation r) → IsUnchangedAt s older relation n
-    → (r : ℕ) → r < n + 1 → IsUnchangedAt s older relation r
-one_more s older relation n before here r lt = elim (cases_eq r n) [
-  | inl same ↦ subst (λ (i : ℕ). IsUnchangedAt s older relation i) (sym same) here
+-- what holds of each region before a place, and of the one there, holds with one region more
+one_more : (P : ℕ → Type 0) (n : ℕ) → ((r : ℕ) → r < n → P r) → P n → (r : ℕ) → r < n + 1 → P r
+one_more P n before here r lt = elim (cases_eq r n) [
+  | inl same ↦ subst P (sym same) here
   | inr other ↦ before r (omega arith)
 ]
 
--- the same, where the earlier regions may be in doubt
-without_more : (s : BookData) (older : ℕ) (relation : Relation) (n : ℕ)
-    → ((r : ℕ) → r < n → IsWithoutExample s older relation r) → IsWithoutExample s older relation n
-    → (r : ℕ) → r < n + 1 → IsWithoutExample s older relation r
-without_more s older relation n before here r lt = elim (cases_eq r n) [
-  | inl same ↦ subst (λ (i : ℕ). IsWithoutExample s older relation i) (sym same) here
-  | inr other ↦ before r (omega arith)
-]
+-- a region whose answers aren't so related gives no example
+clear_unrelated : (s : BookData) (older : ℕ) (relation : Relation) (place : ℕ) (region : RegionData)
+    (both : PartAnswers) → slice_get s.regions place ≡ Some region → AreAnswersAt s older place both
+    → (AreRelated relation both.older both.newer → ⊥) → IsClearAt s older relation place
+clear_unrelated s older relation place region both there told none = record {
+  unchanged = unrelated s older relation place both told none;
+  rule = record {
+    region = region;
+    there = there;
+    both = both;
+    answers = (told region there).1;
+    found = inr (none, refl);
+  };
+}
 
 -- a region in which no example is sought changes nothing
-unsought : (s : BookData) (older : ℕ) (relation : Relation) (place : ℕ) (both : PartAnswers) (found : Change)
-    → AreAnswersAt s older place both → (IsSought relation both found → ⊥) → TellsBefore s older place relation found
+unsought : (s : BookData) (older : ℕ) (relation : Relation) (place : ℕ) (region : RegionData) (both : PartAnswers)
+    (found : Change) → slice_get s.regions place ≡ Some region → AreAnswersAt s older place both
+    → (IsSought relation both found → ⊥) → TellsBefore s older place relation found
     → TellsBefore s older (place + 1) relation found
-unsought s older relation place both Never told none before =
-    one_more s older relation place before (unrelated s older relation place both told none)
-unsought s older relation place both (Found e) told none before = before
-unsought s older relation place both Unsettled told none before = (
-  without_more s older relation place before.0 (inl (unrelated s older relation place both told none)),
+unsought s older relation place region both Never there told none before =
+    one_more (IsClearAt s older relation) place before
+    (clear_unrelated s older relation place region both there told none)
+unsought s older relation place region both (Found e) there told none before = before
+unsought s older relation place region both Unsettled there told none before = (
+  one_more (λ r. IsClearAt s older relation r ⊎ IsInDoubtAt s older relation r) place before.0
+      (inl (clear_unrelated s older relation place region both there told none)),
   before.1,
   before.2,
 )
 
--- a region without members has none that is changed so
-empty_unchanged : (s : BookData) (older : ℕ) (relation : Relation) (place : ℕ) → IsMembershipAt s place Empty
-    → IsUnchangedAt s older relation place
-empty_unchanged s older relation place m = λ d before after member change.
-    let same : m.region ≡ member.region = cc (m.there, member.there) in
-    true≢false (sym member.member ∙ subst (λ (r : RegionData). is_member r.piece d ≡ false) same
-    (m.right.none d member.input))
+-- what is found by the rules of a region whose answers are so related
+found_by_rule : (s : BookData) (older : ℕ) (relation : Relation) (place : ℕ) (both : PartAnswers) (m : Membership)
+    → AreAnswersAt s older place both → IsMembershipAt s place m → AreRelated relation both.older both.newer
+    → HasFindingAt s older relation place m
+found_by_rule s older relation place both m told here related = record {
+  region = here.region;
+  there = here.there;
+  both = both;
+  answers = (told here.region here.there).1;
+  found = inl (related, here.rule);
+}
+
+-- a region without members gives no example
+clear_empty : (s : BookData) (older : ℕ) (relation : Relation) (place : ℕ) (both : PartAnswers)
+    → AreAnswersAt s older place both → IsMembershipAt s place Empty → AreRelated relation both.older both.newer
+    → IsClearAt s older relation place
+clear_empty s older relation place both told m related = record {
+  unchanged = λ d before after member change.
+      let same : m.region ≡ member.region = cc (m.there, member.there) in
+      true≢false (sym member.member ∙ subst (λ (r : RegionData). is_member r.piece d ≡ false) same
+      (m.right.none d member.input));
+  rule = found_by_rule s older relation place both Empty told m related;
+}
 
 -- a region whose answers are so related, and of which an input was tried that is no member, is in doubt
-doubtful : (s : BookData) (older : ℕ) (relation : Relation) (place : ℕ) (both : PartAnswers)
+in_doubt : (s : BookData) (older : ℕ) (relation : Relation) (place : ℕ) (both : PartAnswers)
     → AreAnswersAt s older place both → IsMembershipAt s place Doubt → AreRelated relation both.older both.newer
-    → IsDoubtfulAt s older relation place
-doubtful s older relation place both told m related = record {
-  region = m.region;
-  there = m.there;
-  both = both;
-  answers = told m.region m.there;
-  related = related;
-  tried = m.right.0;
-  is = m.right.1;
-  outside = m.right.2;
+    → IsInDoubtAt s older relation place
+in_doubt s older relation place both told m related = record {
+  doubtful = record {
+    region = m.region;
+    there = m.there;
+    both = both;
+    answers = (told m.region m.there).0;
+    related = related;
+    tried = m.right.0;
+    is = m.right.1;
+    outside = m.right.2;
+  };
+  rule = found_by_rule s older relation place both Doubt told m related;
 }
+
+-- a region that was passed by is without an example, and so it is by the rules
+pub without : (s : BookData) (older : ℕ) (relation : Relation) (place : ℕ)
+    → IsClearAt s older relation place ⊎ IsInDoubtAt s older relation place → IsWithoutExample s older relation place
+without s older relation place (inl clear) = inl clear.unchanged
+without s older relation place (inr doubt) = inr doubt.doubtful
+
+pub without_by_rule : (s : BookData) (older : ℕ) (relation : Relation) (place : ℕ)
+    → IsClearAt s older relation place ⊎ IsInDoubtAt s older relation place → HasNoFindingAt s older relation place
+without_by_rule s older relation place (inl clear) = inl clear.rule
+without_by_rule s older relation place (inr doubt) = inr doubt.rule
 
 -- a member of a region whose answers are so related is an example, where each earlier region is without one
 found : (s : BookData) (older : ℕ) (relation : Relation) (place : ℕ) (both : PartAnswers) (d : Input)
     → AreAnswersAt s older place both → IsMembershipAt s place (Member d) → AreRelated relation both.older both.newer
-    → ((r : ℕ) → r < place → IsWithoutExample s older relation r)
+    → ((r : ℕ) → r < place → IsClearAt s older relation r ⊎ IsInDoubtAt s older relation r)
     → (IsPlain s.stack → (r : ℕ) → r < place → IsUnchangedAt s older relation r)
     → IsChangeOf s older relation (Found (record { input = d; before = both.older; after = both.newer }))
-found s older relation place both d told m related without earlier = record {
+unfolding found_by_rule
+found s older relation place both d told m related passed earlier = record {
+  rule = record {
+    place = place;
+    here = found_by_rule s older relation place both (Member d) told m related;
+    answers = refl;
+    earlier = λ r lt. without_by_rule s older relation r (passed r lt);
+  };
   right = (
-    changed s older relation m.region both d (told m.region m.there) related m.right.0 m.right.1,
+    changed s older relation m.region both d (told m.region m.there).0 related m.right.0 m.right.1,
     record {
       place = place;
       member = record { region = m.region; there = m.there; input = m.right.0; member = m.right.1 };
-      earlier = without;
+      earlier = λ r lt. without s older relation r (passed r lt);
     },
   );
   plain = λ h. record {
@@ -165,12 +211,13 @@ sought_never : (s : BookData) (older : ℕ) (relation : Relation) (place : ℕ) 
     → TellsBefore s older place relation Never
     → TellsBefore s older (place + 1) relation (with_membership m both Never)
 sought_never s older relation place both Empty told m related before =
-    one_more s older relation place before (empty_unchanged s older relation place m)
+    one_more (IsClearAt s older relation) place before (clear_empty s older relation place both told m related)
 sought_never s older relation place both (Member d) told m related before =
-    found s older relation place both d told m related (λ r lt. inl (before r lt)) (λ h r lt. before r lt)
+    found s older relation place both d told m related (λ r lt. inl (before r lt)) (λ h r lt. (before r lt).unchanged)
 sought_never s older relation place both Doubt told m related before =
-    let here = doubtful s older relation place both told m related in (
-      without_more s older relation place (λ r lt. inl (before r lt)) (inr here),
+    let here = in_doubt s older relation place both told m related in (
+      one_more (λ r. IsClearAt s older relation r ⊎ IsInDoubtAt s older relation r) place (λ r lt. inl (before r lt))
+          (inr here),
       (place, here),
       λ h. m.plain h,
     )
@@ -180,18 +227,19 @@ sought_unsettled : (s : BookData) (older : ℕ) (relation : Relation) (place : �
     → TellsBefore s older place relation Unsettled
     → TellsBefore s older (place + 1) relation (with_membership m both Unsettled)
 sought_unsettled s older relation place both Empty told m related before = (
-  without_more s older relation place before.0 (inl (empty_unchanged s older relation place m)),
+  one_more (λ r. IsClearAt s older relation r ⊎ IsInDoubtAt s older relation r) place before.0
+      (inl (clear_empty s older relation place both told m related)),
   before.1,
   before.2,
 )
 sought_unsettled s older relation place both (Member d) told m related before =
     found s older relation place both d told m related before.0 (λ h. absurd (before.2 h))
-sought_unsettled s older relation place both Doubt told m related before =
-    let here = doubtful s older relation place both told m related in (
-      without_more s older relation place before.0 (inr here),
-      before.1,
-      before.2,
-    )
+sought_unsettled s older relation place both Doubt told m related before = (
+  one_more (λ r. IsClearAt s older relation r ⊎ IsInDoubtAt s older relation r) place before.0
+      (inr (in_doubt s older relation place both told m related)),
+  before.1,
+  before.2,
+)
 
 sought : (s : BookData) (older : ℕ) (relation : Relation) (place : ℕ) (both : PartAnswers) (m : Membership)
     (found : Change) → AreAnswersAt s older place both → IsMembershipAt s place m → IsSought relation both found
@@ -212,15 +260,16 @@ tells_after s older relation place both m found next told here follows before = 
   | inl is ↦ subst (λ (c : Change). TellsBefore s older (place + 1) relation c) (sym is.1)
       (sought s older relation place both m found told here is.0 before)
   | inr same ↦ subst (λ (c : Change). TellsBefore s older (place + 1) relation c) (sym same.1)
-      (unsought s older relation place both found told same.0 before)
+      (unsought s older relation place here.region both found here.there told same.0 before)
 ]
 
 -- a region in which no example of any relation is sought changes nothing
-pub all_unsought : (s : BookData) (older : ℕ) (place : ℕ) (both : PartAnswers) (f : Findings)
-    → AreAnswersAt s older place both → ((relation : Relation) → IsSought relation both (finding_of f relation) → ⊥)
-    → AllTellBefore s older place f → AllTellBefore s older (place + 1) f
-all_unsought s older place both f told none before = λ relation.
-    unsought s older relation place both (finding_of f relation) told (none relation) (before relation)
+pub all_unsought : (s : BookData) (older : ℕ) (place : ℕ) (region : RegionData) (both : PartAnswers) (f : Findings)
+    → slice_get s.regions place ≡ Some region → AreAnswersAt s older place both
+    → ((relation : Relation) → IsSought relation both (finding_of f relation) → ⊥) → AllTellBefore s older place f
+    → AllTellBefore s older (place + 1) f
+all_unsought s older place region both f there told none before = λ relation.
+    unsought s older relation place region both (finding_of f relation) there told (none relation) (before relation)
 
 -- where every region was looked at
 pub tells_at_end : (s : BookData) (older : ℕ) (place : ℕ) (f : Findings) → AllTellBefore s older place f
@@ -231,10 +280,23 @@ tells_at_end s older place f told end relation =
 
 -- where a piece is outstanding and no example was found, the relation is unsettled
 pub left_unsettled : (s : BookData) (older : ℕ) (relation : Relation) → 0 < length s.outstanding
-    → ((r : ℕ) → r < length s.regions → IsUnchangedAt s older relation r) → IsChangeOf s older relation Unsettled
+    → ((r : ℕ) → r < length s.regions → IsClearAt s older relation r) → IsChangeOf s older relation Unsettled
 left_unsettled s older relation left all = record {
-  right = (λ r lt. inl (all r lt), inl left);
+  rule = (λ r lt. inl (all r lt).rule, inl left);
+  right = (λ r lt. inl (all r lt).unchanged, inl left);
   plain = λ _. left;
+}
+
+-- where no example was found and some region is in doubt, the relation is unsettled
+pub doubt_unsettled : (s : BookData) (older : ℕ) (relation : Relation)
+    → TellsBefore s older (length s.regions) relation Unsettled → IsChangeOf s older relation Unsettled
+doubt_unsettled s older relation told = record {
+  rule = (
+    λ r lt. without_by_rule s older relation r (told.0 r lt),
+    inr (told.1.0, told.1.1.rule),
+  );
+  right = (λ r lt. without s older relation r (told.0 r lt), inr (told.1.0, told.1.1.doubtful));
+  plain = λ h. absurd (told.2 h);
 }
 
 -- what holds of what is found of each of the three relations holds of every relation

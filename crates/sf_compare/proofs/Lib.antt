@@ -1,2 +1,3 @@
 pub mod ChangeLemmas
 pub mod UserLemmas
+pub mod OneComparison

@@ -13,7 +13,8 @@ use Rattle.sf_policy.specs.Actions.{set_of}
 use Rattle.sf_compare.specs.declared.relation.Relation.TheVariants.{Looser}
 use Rattle.sf_compare.specs.declared.changes.Change.TheVariants.{Never}
 use Rattle.sf_compare.specs.Relations.{IsUpward, reach_of}
-use Rattle.sf_compare.specs.Changes.{IsRightChange, new_of, old_of}
+use Rattle.sf_compare.specs.Changes.{IsRightChange}
+use Rattle.sf_compare.specs.Finding.{new_of, old_of}
 use Rattle.sf_compare.proofs.ChangeLemmas.{both_parts}
 
 -- where nothing gets further, what breaks the question under the new stack breaks it under the old one

@@ -1,5 +1,5 @@
 -- What is found of two stacks that were explored as one, the old stack's programs first.
-use Rattle.std.specs.Prelude.{◌≡◌, ℕ, ◌<◌, ◌⊎◌, true, false, List, [], length, take, drop, Some, slice_get}
+use Rattle.std.specs.Prelude.{◌≡◌, ℕ, ◌<◌, ◌⊎◌, true, false, List, [], length, Some, slice_get}
 use Rattle.sf_insn.specs.declared.input.Input.{Input}
 use Rattle.sf_insn.specs.Inputs.{IsInput}
 use Rattle.sf_check.specs.declared.insn.Insn.{Insn}
@@ -7,8 +7,10 @@ use Rattle.sf_check.specs.Stacks.{IsPlain}
 use Rattle.sf_run.specs.declared.action.Answer.{Answer}
 use Rattle.sf_run.specs.declared.replaying.PartAnswers.{PartAnswers}
 use Rattle.sf_run.specs.Answers.{Answers}
+use Rattle.sf_run.specs.Replays.{answers_along}
 use Rattle.sf_piece.specs.Pieces.{is_member}
 use Rattle.sf_book.specs.Books.{RegionData, BookData}
+use Rattle.sf_ask.specs.Finding.{FindsMember}
 use Rattle.sf_ask.specs.Verdicts.{IsMemberAt}
 use Rattle.sf_ask.specs.declared.members.Membership.{Membership}
 use Rattle.sf_ask.specs.declared.members.Membership.TheVariants.{Empty, Member, Doubt}
@@ -19,6 +21,7 @@ use Rattle.sf_compare.specs.declared.changes.Change.{Change}
 use Rattle.sf_compare.specs.declared.changes.Change.TheVariants.{Never, Found, Unsettled}
 use Rattle.sf_compare.specs.declared.changes.Findings.{Findings}
 use Rattle.sf_compare.specs.Relations.{AreRelated}
+use Rattle.sf_compare.specs.Finding.{HasChange, HasFindingAt, new_of, old_of}
 
 -- An input is changed: the old stack answers it with the answer before, the new one with the answer after, and these
 -- are so related.
@@ -29,23 +32,15 @@ pub record IsChange (old new : List (List Insn)) (relation : Relation) (d : Inpu
   pub answered_after : Answers new d after
   pub related : AreRelated relation before after
 
--- the old stack of an exploration of both: this many of its programs, the first ones
-abbrev pub old_of : BookData → ℕ → List (List Insn)
-old_of s older = take older s.stack
-
--- the new stack of an exploration of both: the other programs
-abbrev pub new_of : BookData → ℕ → List (List Insn)
-new_of s older = drop older s.stack
-
 -- the answers of both stacks to each member of a region
 pub record AreAnswersOf (s : BookData) (older : ℕ) (region : RegionData) (both : PartAnswers) : Type 0 where
   pub before : (d : Input) → IsInput d → is_member region.piece d ≡ true → Answers (old_of s older) d both.older
   pub after : (d : Input) → IsInput d → is_member region.piece d ≡ true → Answers (new_of s older) d both.newer
 
--- the answers of both stacks to each member of the region at a place
+-- the answers of both stacks along the name of the region at a place, which are those to each of its members
 abbrev pub AreAnswersAt : BookData → ℕ → ℕ → PartAnswers → Type 0
-AreAnswersAt s older place both =
-    (region : RegionData) → slice_get s.regions place ≡ Some region → AreAnswersOf s older region both
+AreAnswersAt s older place both = (region : RegionData) → slice_get s.regions place ≡ Some region
+    → AreAnswersOf s older region both × (answers_along (old_of s older) (new_of s older) region.name ≡ Some both)
 
 -- the answers of both stacks to the members of each region, in the order of the regions
 pub record AreAnswersOfRegions (s : BookData) (older : ℕ) (all : List PartAnswers) : Type 0 where
@@ -110,8 +105,9 @@ IsPlainChange s older relation Never = Unit {0}
 IsPlainChange s older relation (Found e) = IsFirstExample s older relation e.input
 IsPlainChange s older relation Unsettled = 0 < length s.outstanding
 
--- what is found is right, and on a plain stack it is exact
+-- what is found is what the rules find; it is right, and on a plain stack it is exact
 pub record IsChangeOf (s : BookData) (older : ℕ) (relation : Relation) (change : Change) : Type 0 where
+  pub rule : HasChange s older relation change
   pub right : IsRightChange s older relation change
   pub plain : IsPlain s.stack → IsPlainChange s older relation change
 
@@ -121,18 +117,28 @@ finding_of f Looser = f.looser
 finding_of f Tighter = f.tighter
 finding_of f Different = f.different
 
--- what is found of each relation is right, and on a plain stack it is exact
+-- what is found of each relation is what the rules find; it is right, and on a plain stack it is exact
 abbrev pub AreFindings : BookData → ℕ → Findings → Type 0
 AreFindings s older f = (relation : Relation) → IsChangeOf s older relation (finding_of f relation)
+
+-- no member of the region at a place is changed so, and by the rules none is found
+pub record IsClearAt (s : BookData) (older : ℕ) (relation : Relation) (place : ℕ) : Type 0 where
+  pub unchanged : IsUnchangedAt s older relation place
+  pub rule : HasFindingAt s older relation place Empty
+
+-- the region at a place is in doubt, and so it is by the rules
+pub record IsInDoubtAt (s : BookData) (older : ℕ) (relation : Relation) (place : ℕ) : Type 0 where
+  pub doubtful : IsDoubtfulAt s older relation place
+  pub rule : HasFindingAt s older relation place Doubt
 
 -- What is found of a relation in the regions before a place: no member is changed so; or this input is; or each is
 -- without an example, and some region is in doubt, which none is on a plain stack.
 abbrev pub TellsBefore : BookData → ℕ → ℕ → Relation → Change → Type 0
-TellsBefore s older end relation Never = (place : ℕ) → place < end → IsUnchangedAt s older relation place
+TellsBefore s older end relation Never = (place : ℕ) → place < end → IsClearAt s older relation place
 TellsBefore s older end relation (Found e) = IsChangeOf s older relation (Found e)
 TellsBefore s older end relation Unsettled =
-    ((place : ℕ) → place < end → IsWithoutExample s older relation place)
-    × ((place : ℕ) × IsDoubtfulAt s older relation place) × ¬ IsPlain s.stack
+    ((place : ℕ) → place < end → IsClearAt s older relation place ⊎ IsInDoubtAt s older relation place)
+    × ((place : ℕ) × IsInDoubtAt s older relation place) × ¬ IsPlain s.stack
 
 -- what is found of each relation in the regions before a place
 abbrev pub AllTellBefore : BookData → ℕ → ℕ → Findings → Type 0
@@ -144,10 +150,11 @@ IsSought relation both Never = AreRelated relation both.older both.newer
 IsSought relation both (Found e) = ⊥
 IsSought relation both Unsettled = AreRelated relation both.older both.newer
 
--- what is found of the members of the region at a place; on a plain stack it is the least one
+-- what is found of the members of the region at a place, by the rules; on a plain stack it is the least one
 pub record IsMembershipAt (s : BookData) (place : ℕ) (m : Membership) : Type 0 where
   pub region : RegionData
   pub there : slice_get s.regions place ≡ Some region
+  pub rule : FindsMember region.piece m
   pub right : IsRightMembership region.piece m
   pub plain : IsPlain s.stack → IsLeastFound region.piece m
 

@@ -12,7 +12,8 @@ use Rattle.sf_compare.specs.declared.changes.Change.{Change}
 use Rattle.sf_compare.specs.declared.changes.Change.TheVariants.{Never, Found, Unsettled}
 use Rattle.sf_compare.specs.declared.changes.Findings.{Findings}
 use Rattle.sf_run.specs.declared.replaying.PartAnswers.{PartAnswers}
-use Rattle.sf_compare.specs.Changes.{AreAnswersOfRegions, IsChangeOf, finding_of, new_of, old_of}
+use Rattle.sf_compare.specs.Changes.{AreAnswersOfRegions, IsChangeOf, finding_of}
+use Rattle.sf_compare.specs.Finding.{new_of, old_of}
 
 -- how the exploration of both stacks as one ended, how many of its programs the old stack has, the answers of both to
 -- the members of each region, and what is found of each relation

@@ -6,7 +6,7 @@ use Rattle.sf_book.specs.Books.{counts_of}
 use Rattle.sf_json.specs.Documents.{answer_document, count, counts_document, fields, input_document, sizes_document}
 use Rattle.sf_compare.specs.declared.changes.Change.{Change}
 use Rattle.sf_compare.specs.declared.changes.Change.TheVariants.{Never, Found, Unsettled}
-use Rattle.sf_compare.specs.Changes.{new_of, old_of}
+use Rattle.sf_compare.specs.Finding.{new_of, old_of}
 use Rattle.sf_compare.specs.Comparisons.{Compared}
 
 -- the result for a relation, an example, and the answers of the old stack and of the new one to it

@@ -1,4 +1,5 @@
 pub mod Relations
+pub mod Finding
 pub mod Changes
 pub mod Comparisons
 pub mod Documents

@@ -156,10 +156,11 @@ fn findings_after(
 {
     // For the prover: only clauses speak of it.
     let _of = older;
+    let region = settled.region(place);
     if !found.seeks_example(both) {
         return Ok(found);
     }
-    let membership = find_member(alloc, settled.region(place).piece())?;
+    let membership = find_member(alloc, region.piece())?;
     let looser = change_after(Relation::Looser, both, membership, found.looser);
     let tighter = change_after(Relation::Tighter, both, membership, found.tighter);
     let different = change_after(Relation::Different, both, membership, found.different);

@@ -3,7 +3,7 @@
 ghost use Rattle.std.specs.Prelude.{◌≡◌, ◌≤◌, length, IfOk};
 ghost use Rattle.serde_json.specs.Data.{null};
 ghost use Rattle.serde_json.specs.View.{view};
-ghost use Rattle.sf_compare.specs.Changes.{new_of, old_of};
+ghost use Rattle.sf_compare.specs.Finding.{new_of, old_of};
 ghost use Rattle.sf_compare.specs.Documents.{change_document, comparison_document, result_document};
 ghost use Rattle.sf_json.specs.Documents.{sizes_document};
 ghost use Rattle.sf_compare.specs.declared.changes.Change.TheVariants.{Found};
@@ -86,7 +86,7 @@ fn new_sizes(alloc: Global, settled: &Settled, older: usize) -> Result<Document,
 }
 
 /// The fields of a comparison as JSON: the sizes of both stacks, the counts of the exploration, and what is found of
-/// each relation, with an example where there is one. Inputs are told with these names of calls. An error where an
+/// each relation, with an example where there is one. Inputs are shown with these names of calls. An error where an
 /// allocation is refused.
 pub fn comparison_fields(
     alloc: Global,

@@ -1,6 +1,6 @@
 //! Laws of the definitions, each the contract of a function that does nothing.
 
-ghost use Rattle.std.specs.Prelude.{◌≡◌, ℕ, codes, ◌∷◌, []};
+ghost use Rattle.std.specs.Prelude.{◌≡◌, ℕ, List, codes, ◌∷◌, []};
 ghost use Rattle.sf_insn.specs.declared.input.Input.{Input};
 ghost use Rattle.sf_insn.specs.Inputs.{IsInput};
 ghost use Rattle.sf_book.specs.Books.{BookData, IsSettled};
@@ -9,8 +9,16 @@ ghost use Rattle.sf_ask.specs.Breaking.{Breaks};
 ghost use Rattle.sf_policy.specs.Actions.{set_of};
 ghost use Rattle.sf_compare.specs.declared.relation.Relation.TheVariants.{Looser};
 ghost use Rattle.sf_compare.specs.declared.changes.Change.TheVariants.{Never};
+ghost use Rattle.sf_names.specs.Names.{NamesData};
+ghost use Rattle.sf_compare.specs.Comparisons.{Compared, IsComparison, comparison_text};
+ghost use Rattle.sf_compare.specs.Documents.{comparison_document};
 ghost use Rattle.sf_compare.specs.Relations.{IsUpward};
-ghost use Rattle.sf_compare.specs.Changes.{IsRightChange, new_of, old_of};
+ghost use Rattle.sf_compare.specs.Changes.{IsRightChange};
+ghost use Rattle.sf_compare.specs.Finding.{new_of, old_of};
+
+use sf_ask::laws::members_have_one_result;
+use sf_book::laws::explorations_have_one_result;
+use sf_piece::laws::execution_has_one_result;
 
 /// Where no input gets further under the new stack, each input that breaks a question under the new stack also breaks
 /// it under the old one, if the question asks about all actions that let a call get as far as one that it asks about.
@@ -20,6 +28,33 @@ pub fn never_looser_breaks_no_more()
         IsSettled s → IsRightChange s older Looser Never → IsUpward q.actions → IsInput d
         → Breaks (new_of s older) q d → Breaks (old_of s older) q d }
 {}
+
+/// Two comparisons of the same stacks have the same text, where both leave nothing outstanding: whatever their budgets,
+/// whoever worked and in whatever order.
+pub fn one_text()
+    ensures { (files others : List (List ℕ)) (older b c : ℕ) (o p : Compared) →
+        IsComparison files older b o → IsComparison others older c p →
+        o.settled.stack ≡ p.settled.stack →
+        o.settled.outstanding ≡ [] → p.settled.outstanding ≡ [] →
+        comparison_text o ≡ comparison_text p }
+{
+    explorations_have_one_result();
+    execution_has_one_result();
+    members_have_one_result();
+}
+
+/// They have the same JSON document too, shown with the same names of calls.
+pub fn one_document()
+    ensures { (files others : List (List ℕ)) (older b c : ℕ) (o p : Compared) →
+        IsComparison files older b o → IsComparison others older c p →
+        o.settled.stack ≡ p.settled.stack →
+        o.settled.outstanding ≡ [] → p.settled.outstanding ≡ [] →
+        (names : List NamesData) → comparison_document names o ≡ comparison_document names p }
+{
+    explorations_have_one_result();
+    execution_has_one_result();
+    members_have_one_result();
+}
 
 /// A question that names no actions in a policy is such a question: it asks about ALLOW and LOG.
 pub fn usual_actions_are_upward()

@@ -1,5 +1,5 @@
 //! What differs between the answers of two stacks of filters, for all inputs. Both are explored as one stack, the old
-//! one's programs below the new one's, so that each region tells both answers.
+//! one's programs below the new one's, so that each region gives both answers.
 #![tactic(auto)]
 
 mod changes;

@@ -64,7 +64,7 @@ fn push_changes(alloc: Global, text: &mut String, comparison: &Comparison) -> Re
     )
 }
 
-/// Adds the line that tells the size of one of the two stacks.
+/// Adds the line with the size of one of the two stacks.
 fn push_part(text: &mut String, which: &str, programs: &[Program]) -> Result<(), AllocError>
     requires { length programs.now ≤ 64 }
     ensures { OnOk result (string_bytes text.new ≡ string_bytes text.old
@@ -107,7 +107,7 @@ pub fn write_comparison<W: Write>(
     comparison: &Comparison,
     out: &mut W,
 ) -> Result<(), Fault>
-    // The text is written, where the writer tells its bytes.
+    // The text is written, where the writer's bytes are known.
     ensures written { OnOk result (Appends (W.contents out.old) (W.contents out.new)
         (comparison_text comparison.now)) }
 

@@ -24,7 +24,8 @@ use Rattle.sf_compare.specs.declared.relation.Relation.TheVariants.{Looser, Diff
 use Rattle.sf_compare.specs.declared.changes.Change.{Change}
 use Rattle.sf_compare.specs.declared.changes.Change.TheVariants.{Never, Found, Unsettled}
 use Rattle.sf_compare.specs.Relations.{reach_of}
-use Rattle.sf_compare.specs.Changes.{IsRightChange, new_of, old_of}
+use Rattle.sf_compare.specs.Changes.{IsRightChange}
+use Rattle.sf_compare.specs.Finding.{new_of, old_of}
 use Rattle.sf_compare.specs.Comparisons.{Compared, IsComparison}
 use Rattle.sf_needed.specs.Needs.{AnswerAlike, Describes, IsFoundWithout, IsLeft, at_places, dropped, or_allow_all, whole}
 use Rattle.sf_needed.proofs.PlaceLemmas.{all_places, without_one}

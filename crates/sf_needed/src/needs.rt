@@ -123,7 +123,7 @@ fn try_each<R: Threads + Wait + Sync, G: Gate>(
     Ok(trials)
 }
 
-/// Of each trial, how far inputs get without the filter.
+/// How far inputs get without the filter, for each trial.
 fn findings_of(alloc: Global, trials: &[Trial]) -> Result<Vec<Change>, AllocError>
     ensures { IfOk result (λ v. v.items ≡ map (λ t. t.looser) trials.now) }
 {
@@ -134,7 +134,7 @@ fn findings_of(alloc: Global, trials: &[Trial]) -> Result<Vec<Change>, AllocErro
     Ok(findings)
 }
 
-/// Tells which filters of a stack are needed, for all inputs, and keeps a set of filters that answers each input as the
+/// Finds which filters of a stack are needed, for all inputs, and keeps a set of filters that answers each input as the
 /// whole stack does, and of which none can be dropped. The filter files stand in order of installation, the newest last.
 ///
 /// A filter is needed where some input gets further without it, and spare where none does; unsettled where neither is

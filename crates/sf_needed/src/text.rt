@@ -1,4 +1,4 @@
-//! The text that tells which filters of a stack are needed.
+//! The text that says which filters of a stack are needed.
 
 ghost use Rattle.std.specs.Prelude.{◌≡◌, ◌⊎◌, ◌++◌, ◌<◌, ◌^◌, All, IfOk, IfErr, OnOk, OnErr, length, string_bytes};
 ghost use Rattle.std.specs.Io.KnownBytes.{Appends};
@@ -67,7 +67,7 @@ fn push_kept(text: &mut String, kept: &[usize]) -> Result<(), AllocError>
     text.push_str("\n")
 }
 
-/// Adds the line that tells the size of the stack.
+/// Adds the line with the size of the stack.
 fn push_size(text: &mut String, filters: usize, path: usize) -> Result<(), AllocError>
     ensures { OnOk result (string_bytes text.new ≡ string_bytes text.old
         ++ size_line filters path) }
@@ -98,7 +98,7 @@ fn push_total(text: &mut String, needs: &Needs) -> Result<(), AllocError>
     )
 }
 
-/// The whole text that tells which filters are needed. An error where an allocation is refused.
+/// The whole text that says which filters are needed. An error where an allocation is refused.
 pub fn text_of_needs(alloc: Global, needs: &Needs) -> Result<String, AllocError>
     ensures { IfOk result (λ text. string_bytes text ≡ needs_text needs.now) }
 {
@@ -110,12 +110,12 @@ pub fn text_of_needs(alloc: Global, needs: &Needs) -> Result<String, AllocError>
     Ok(text)
 }
 
-/// Writes the text that tells which filters are needed.
+/// Writes the text that says which filters are needed.
 ///
 /// `Write` where a write fails or takes no byte: a beginning of the text was written then. `Memory` where the text
 /// can't be built: nothing was written then.
 pub fn write_needed<W: Write>(alloc: Global, needs: &Needs, out: &mut W) -> Result<(), Fault>
-    // The text is written, where the writer tells its bytes.
+    // The text is written, where the writer's bytes are known.
     ensures written { OnOk result (Appends (W.contents out.old) (W.contents out.new)
         (needs_text needs.now)) }
 

@@ -1,6 +1,8 @@
-use Rattle.std.proofs.Common.{◌≡◌, sym, subst, ◌∙◌}
+use Rattle.std.proofs.Common.{◌≡◌, Some, sym, ap, subst, ◌∙◌}
 use Rattle.sf_book.specs.Books.{RegionData}
+use Rattle.sf_run.specs.Replays.{answers_along}
 use Rattle.sf_compare.specs.Changes.{AreAnswersOf}
+use Rattle.sf_compare.specs.Finding.{new_of, old_of}
 use Rattle.sf_compare.proofs.ChangeLemmas.{last_part, region_answers}
 use Rattle.sf_compare.proofs.changes.answers_at.Goals as goal
 
@@ -10,9 +12,16 @@ returns-clause-ok c = λ region there.
     let programs = c.programs-programs.result.now in
     let all : programs ≡ s.stack = cc (c.programs-programs.ensures.same, c.deref.ensures, c.stack.ensures.value) in
     let same : c.region.result.now ≡ region = cc (c.region.ensures.value, there) in
-    subst (λ (r : RegionData). AreAnswersOf s c.args.older r c.in-Some.both) same
-    (region_answers s c.args.older c.region.result.now c.in-Some.both c.region.ensures.lawful.lawful.stack
-    c.region.ensures.right (λ d lawful traced.
-    let h = rw (last_part c.args.older programs, all) at (c.in-Some.ensures.right d) in
-    let answers = h lawful (traced ∙ sym (c.deref-2.ensures.value ∙ c.in_ok-route.ensures ∙ c.name.ensures)) in
-    (answers.of_older, answers.of_newer)))
+    let both = c.in-Some.both in
+    let route : c.deref-2.result.now ≡ c.region.result.now.name =
+    c.deref-2.ensures.value ∙ c.in_ok-route.ensures ∙ c.name.ensures in
+    let along : answers_along (old_of s c.args.older) (new_of s c.args.older) c.deref-2.result.now ≡ Some both =
+    rw (last_part c.args.older programs, all) at (sym c.replay.ensures.same ∙ c.in-Some.is) in
+    subst (λ (r : RegionData). AreAnswersOf s c.args.older r both
+    × (answers_along (old_of s c.args.older) (new_of s c.args.older) r.name ≡ Some both)) same (
+      region_answers s c.args.older c.region.result.now both c.region.ensures.lawful.lawful.stack
+          c.region.ensures.right (λ d lawful traced.
+          let h = rw (last_part c.args.older programs, all) at (c.in-Some.ensures.right d) in
+          let answers = h lawful (traced ∙ sym route) in (answers.of_older, answers.of_newer)),
+      ap (answers_along (old_of s c.args.older) (new_of s c.args.older)) (sym route) ∙ along,
+    )

@@ -10,7 +10,8 @@ use Rattle.sf_compare.proofs.changes.findings_after.Goals as goal
 
 pub returns-then-not-seeks_example-clause-ok : goal.returns-then-not-seeks_example-clause-ok
 returns-then-not-seeks_example-clause-ok c =
-    all_unsought c.args.settled.now c.args.older c.args.place c.args.both c.args.found c.requires.answers
+    all_unsought c.args.settled.now c.args.older c.args.place c.region-region.result.now c.args.both c.args.found
+    c.region-region.ensures.value c.requires.answers
     (c.seeks_example.ensures c.if-not-seeks_example.true) c.requires.found
 
 pub returns-clause-ok : goal.returns-clause-ok
@@ -18,11 +19,12 @@ returns-clause-ok c =
     let s = c.args.settled.now in let older = c.args.older in let place = c.args.place in let both = c.args.both in
     let found = c.args.found in let m : Membership = c.in_ok-membership.membership in
     let here : IsMembershipAt s place m = record {
-      region = c.region.result.now;
-      there = c.region.ensures.value;
+      region = c.region-region.result.now;
+      there = c.region-region.ensures.value;
+      rule = rw (c.deref.ensures, c.piece.ensures) at c.in_ok-membership.ensures.rule;
       right = rw (c.deref.ensures, c.piece.ensures) at c.in_ok-membership.ensures.right;
       plain = λ plain. rw (c.deref.ensures, c.piece.ensures) at c.in_ok-membership.ensures.plain
-          (subst IsPlain (sym c.region.ensures.right.of) plain);
+          (subst IsPlain (sym c.region-region.ensures.right.of) plain);
     } in
     for_each (λ (relation : Relation) (change : Change). TellsBefore s older (place + 1) relation change)
     c.change_after-looser.result c.change_after-tighter.result c.change_after-different.result

@@ -1,0 +1,56 @@
+-- What is found of a relation between the answers of two stacks, by the rules. The answers to a region's members are
+-- those along its name. Where they are so related, a member of the region is looked for. What is found is the first
+-- member, in the order of names.
+use Rattle.std.specs.Prelude.{◌≡◌, ℕ, ◌<◌, ◌⊎◌, List, [], length, take, drop, Some, slice_get}
+use Rattle.sf_check.specs.declared.insn.Insn.{Insn}
+use Rattle.sf_run.specs.Replays.{answers_along}
+use Rattle.sf_run.specs.declared.replaying.PartAnswers.{PartAnswers}
+use Rattle.sf_book.specs.Books.{RegionData, BookData}
+use Rattle.sf_ask.specs.Finding.{FindsMember}
+use Rattle.sf_ask.specs.declared.members.Membership.{Membership}
+use Rattle.sf_ask.specs.declared.members.Membership.TheVariants.{Empty, Member, Doubt}
+use Rattle.sf_compare.specs.declared.relation.Relation.{Relation}
+use Rattle.sf_compare.specs.declared.changes.Change.{Change}
+use Rattle.sf_compare.specs.declared.changes.Change.TheVariants.{Never, Found, Unsettled}
+use Rattle.sf_compare.specs.declared.changes.Example.{Example}
+use Rattle.sf_compare.specs.Relations.{AreRelated}
+
+-- the old stack of an exploration of both: this many of its programs, the first ones
+abbrev pub old_of : BookData → ℕ → List (List Insn)
+old_of s older = take older s.stack
+
+-- the new stack of an exploration of both: the other programs
+abbrev pub new_of : BookData → ℕ → List (List Insn)
+new_of s older = drop older s.stack
+
+-- What is found of members of the region at a place that are changed so: where its answers aren't so related, it has
+-- none.
+pub record HasFindingAt (s : BookData) (older : ℕ) (relation : Relation) (place : ℕ) (m : Membership) : Type 0 where
+  pub region : RegionData
+  pub there : slice_get s.regions place ≡ Some region
+  pub both : PartAnswers
+  pub answers : answers_along (old_of s older) (new_of s older) region.name ≡ Some both
+  pub found : (AreRelated relation both.older both.newer × FindsMember region.piece m)
+      ⊎ ((AreRelated relation both.older both.newer → ⊥) × (m ≡ Empty))
+
+-- no member that is changed so is found in the region at a place
+abbrev pub HasNoFindingAt : BookData → ℕ → Relation → ℕ → Type 0
+HasNoFindingAt s older relation place = HasFindingAt s older relation place Empty
+    ⊎ HasFindingAt s older relation place Doubt
+
+-- an example is the first member that is found, with the two answers of its region
+pub record IsFirstFinding (s : BookData) (older : ℕ) (relation : Relation) (e : Example) : Type 0 where
+  pub place : ℕ
+  pub here : HasFindingAt s older relation place (Member e.input)
+  pub answers : here.both ≡ record { older = e.before; newer = e.after }
+  pub earlier : (region : ℕ) → region < place → HasNoFindingAt s older relation region
+
+-- What is found of a relation: the first member that is found; without one it is unsettled where a piece is outstanding
+-- or some region is in doubt, and else never.
+abbrev pub HasChange : BookData → ℕ → Relation → Change → Type 0
+HasChange s older relation Never = (s.outstanding ≡ [])
+    × ((place : ℕ) → place < length s.regions → HasFindingAt s older relation place Empty)
+HasChange s older relation (Found e) = IsFirstFinding s older relation e
+HasChange s older relation Unsettled =
+    ((place : ℕ) → place < length s.regions → HasNoFindingAt s older relation place)
+    × ((0 < length s.outstanding) ⊎ ((place : ℕ) × HasFindingAt s older relation place Doubt))
