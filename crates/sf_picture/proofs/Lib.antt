@@ -11,3 +11,10 @@ pub mod AttainLemmas
 pub mod LawLemmas
 pub mod ConstantLemmas
 pub mod LabelLemmas
+pub mod GatherLemmas
+pub mod NarrowLemmas
+pub mod AxisLemmas
+pub mod DrawnLemmas
+pub mod OneCutting
+pub mod OneNarrowing
+pub mod OneDrawing

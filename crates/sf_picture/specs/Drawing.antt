@@ -10,16 +10,12 @@ use Rattle.sf_picture.specs.declared.picture.Branch.TheVariants.{Leaf, Fork}
 use Rattle.sf_picture.specs.declared.picture.Run.{Run}
 use Rattle.sf_picture.specs.PictureData.{ForkData}
 use Rattle.sf_picture.specs.Pictures.{number_on, next_of, fork_at, labels_along, AreRightForks, IsBelow, RiseFrom, AreApart, LeadBelow, end_of}
+pub use Rattle.sf_picture.specs.HeldData.{SketchData}
+pub use Rattle.sf_picture.specs.Narrowing.{IsLastOfCut}
+pub use Rattle.sf_picture.specs.DrawnBy.{EndsElsewhere}
+use Rattle.sf_picture.specs.DrawnBy.{Drawing as ADrawing, AddsSpanTo, IsHeldOf}
+use Rattle.sf_book.specs.Books.{RegionData}
 use Rattle.sf_picture.specs.Holding.{HeldData, IsHeldBy}
-
--- The leaves and forks that were drawn, and whether one was drawn early, since the budget of leaves was spent; how many
--- leaves may be drawn before no fork is begun any more; and how many were drawn, equal ones counted again.
-pub record SketchData : Type 0 where
-  pub leaves : List (List ℕ)
-  pub forks : List ForkData
-  pub spent : Bool
-  pub most : ℕ
-  pub drawn : ℕ
 
 -- each fork of the sketch is right
 abbrev pub IsRightSketch : SketchData → Type 0
@@ -73,10 +69,6 @@ abbrev pub EndBelow : ℕ → List Run → Type 0
 EndBelow first [] = Unit {0}
 EndBelow first (r ∷ rs) = (r.last < first) × EndBelow first rs
 
--- the last of some runs doesn't lead there
-abbrev pub EndsElsewhere : List Run → Branch → Type 0
-EndsElsewhere rs b = (i : ℕ) (d : Run) → suc i ≡ length rs → (slice_index_or rs i d).next ≢ b
-
 -- Runs for the numbers below one: they rise, no two neighbours lead to the same, and they lead into a sketch with so
 -- many leaves and forks.
 pub record AreRuns (leaves forks first : ℕ) (rs : List Run) : Type 0 where
@@ -124,16 +116,6 @@ pub record DrawsTo (s t : SketchData) (old new : List Run) (held : List HeldData
   pub onward : first ≤ next
   pub passed : last ≤ axis.mask → last < next
 
--- the last number below a cut that something held has on the axis
-pub record IsLastOfCut (held : List HeldData) (axis : Axis) (last : ℕ) : Type 0 where
-  pub below : last < axis.mask
-  pub held_one : HeldData
-  pub there : Contains held held_one
-  pub cut : Cut
-  pub of : Contains held_one.cuts cut
-  pub axis_is : cut.axis ≡ axis
-  pub last_is : cut.last ≡ last
-
 -- The last numbers of the spans into which what is held cuts an axis: those of all cuts, in ascending order, and then
 -- the greatest number of the axis.
 pub record AreLasts (held : List HeldData) (axis : Axis) (lasts : List ℕ) : Type 0 where
@@ -175,3 +157,17 @@ pub record IsAttainedBelow (s : SketchData) (axis : Axis) (runs : List Run) (fir
 abbrev pub AreAttainedBelow : ℕ → SketchData → Axis → List Run → ℕ → List HeldData → Type 0
 AreAttainedBelow from s axis runs first held = (place : ℕ) → from ≤ place → place < length s.leaves
     → IsAttainedBelow s axis runs first held place
+
+-- what is held in a span is drawn, with a run that leads there; then comes the number after the span
+pub record DrawsSpan (draws : ADrawing) (inside : List HeldData) (last : ℕ) (s t : SketchData) (old new : List Run)
+    (next : ℕ) : Type 0 where
+  pub branch : Option Branch
+  pub drawn : draws inside s t branch
+  pub run : AddsSpanTo old last branch new
+  pub next_is : next ≡ last + 1
+
+-- a region is held besides others
+pub record IsOneHeldMore (region : RegionData) (label : ℕ) (old new : List HeldData) : Type 0 where
+  pub held_one : HeldData
+  pub of : IsHeldOf region label held_one
+  pub more : new ≡ old ++ held_one ∷ []

@@ -1,7 +1,11 @@
 -- What is held of a region while a picture is drawn: for the functions of this crate only.
-use Rattle.std.specs.Prelude.{◌≡◌, ℕ, ◌⊎◌, true, slice_get, List, [], ◌∷◌, Contains, Some, ◌<◌, ◌≤◌, length, slice_index_or, All}
+use Rattle.std.specs.Prelude.{◌≡◌, ℕ, ◌⊎◌, true, slice_get, List, [], ◌∷◌, Contains, Some, ◌<◌, ◌≤◌, length, slice_index_or, All, ◌++◌, Option}
 use Rattle.sf_insn.specs.declared.input.Input.{Input}
 use Rattle.sf_insn.specs.Inputs.{IsInput}
+use Rattle.std.specs.Option.{option_to_list}
+use Rattle.sf_sym.specs.declared.pool.Cond.{Cond}
+use Rattle.sf_sym.specs.declared.pool.Node.{Node}
+use Rattle.sf_dom.specs.Learning.{LearnAll}
 use Rattle.sf_dom.specs.Facts.{FactsView, Agrees, Covers}
 use Rattle.sf_piece.specs.Pieces.{PieceData, is_member}
 use Rattle.sf_book.specs.Books.{RegionData, BookData}
@@ -10,19 +14,14 @@ use Rattle.sf_picture.specs.declared.cuts.Cut.{Cut}
 use Rattle.sf_picture.specs.declared.drawing.Span.{Span}
 use Rattle.sf_picture.specs.declared.ends.Ends.{Ends}
 use Rattle.sf_picture.specs.Pictures.{number_on}
+pub use Rattle.sf_picture.specs.HeldData.{HeldData}
+pub use Rattle.sf_picture.specs.Narrowing.{AreOneLabel}
 use Rattle.sf_picture.specs.Spans.{IsInSpan, IsExactSpan}
 
 -- a region's piece, its label, and where it cuts axes
 pub record SourceData : Type 0 where
   pub piece : PieceData
   pub label : ℕ
-  pub cuts : List Cut
-
--- a region's piece, label and cuts, with facts that were confined to some spans of axes
-pub record HeldData : Type 0 where
-  pub piece : PieceData
-  pub label : ℕ
-  pub facts : FactsView
   pub cuts : List Cut
 
 -- a member of the piece that agrees with the facts
@@ -75,10 +74,6 @@ pub record IsFromSome (held : List HeldData) (axis : Axis) (first last : ℕ) (k
   pub there : Contains held held_one
   pub narrowed : IsNarrowed held_one axis first last k
 
--- all that is held has the same label
-abbrev pub AreOneLabel : List HeldData → Type 0
-AreOneLabel held = (h k : HeldData) → Contains held h → Contains held k → h.label ≡ k.label
-
 -- no label but this one, and that at most once
 abbrev pub AreAtMost : ℕ → List ℕ → Type 0
 AreAtMost label labels = (labels ≡ []) ⊎ (labels ≡ label ∷ [])
@@ -100,3 +95,13 @@ pub record AreHeldIn (held : List HeldData) (span : Span) (inside : List HeldDat
   pub kept : span.first ≤ span.last → span.last ≤ span.axis.mask
       → All (IsKeptIn inside span.axis span.first span.last) held
   pub only : All (IsFromSome held span.axis span.first span.last) inside
+
+-- facts can't learn conditions, one after the other
+abbrev pub CantLearnAll : FactsView → List Node → List Cond → Type 0
+CantLearnAll f ns conds = (g : FactsView) → ¬ LearnAll f g ns conds
+
+-- something was added, of which this holds, or nothing, if it holds of none
+pub record IsAddedBy (is : Option HeldData → Type 0) (old new : List HeldData) : Type 0 where
+  pub added : Option HeldData
+  pub right : is added
+  pub more : new ≡ old ++ option_to_list added

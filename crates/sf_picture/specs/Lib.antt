@@ -1,4 +1,5 @@
 pub mod PictureData
+pub mod HeldData
 pub mod Axes
 pub mod Pictures
 pub mod Spans
@@ -6,5 +7,10 @@ pub mod Cuts
 pub mod Holding
 pub mod PlainHolding
 pub mod Drawing
+pub mod Cutting
+pub mod Gathering
+pub mod Narrowing
+pub mod DrawnBy
+pub mod OnePicture
 pub mod Answering
 pub mod PictureLaws

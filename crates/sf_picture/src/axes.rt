@@ -1,11 +1,13 @@
 //! All axes that are cut.
 
-ghost use Rattle.std.specs.Prelude.{◌≡◌, ◌<◌, ◌↔◌, IsTrue, All, Contains, IfOk, IfErr};
+ghost use Rattle.std.specs.Prelude.{◌≡◌, ◌<◌, ◌↔◌, ◌⊎◌, List, IsTrue, All, Contains, IfOk, IfErr};
 ghost use Rattle.std.specs.List.Sorted.{IsNonDecreasingBy};
 ghost use Rattle.sf_picture.specs.Axes.{axis_order};
 ghost use Rattle.sf_picture.specs.declared.axis.Axis.{Axis as AnAxis};
 ghost use Rattle.sf_picture.specs.declared.cuts.Cut.{Cut as ACut};
 ghost use Rattle.sf_picture.specs.Holding.{HeldData};
+ghost use Rattle.sf_picture.specs.Narrowing.{IsCutAxis, AreAxes};
+ghost use Rattle.sf_picture.specs.Pictures.{AreEachOnce};
 ghost use Rattle.sf_picture.specs.declared.fault.Fault.TheVariants.{Memory};
 
 use crate::axis::Axis;
@@ -27,6 +29,10 @@ fn push_axis(axes: &mut Vec<Axis>, axis: Axis) -> Result<(), Fault>
         → Contains axes.new.items a) }
     ensures words { IfOk result (λ _. All (λ (a : AnAxis). a.word < 16) axes.old.items
         → All (λ (a : AnAxis). a.word < 16) axes.new.items) }
+    ensures once { IfOk result (λ _. AreEachOnce axes.old.items
+        → AreEachOnce axes.new.items) }
+    ensures only { IfOk result (λ _. (a : AnAxis) → Contains axes.new.items a
+        → Contains axes.old.items a ⊎ ((a ≡ axis) × (axis.word < 16))) }
     ensures err { IfErr result (λ f. f ≡ Memory) }
 {
     if axis.word >= 16 {
@@ -47,6 +53,10 @@ fn push_axes(axes: &mut Vec<Axis>, one: &Held) -> Result<(), Fault>
         → Contains axes.new.items a) }
     ensures words { IfOk result (λ _. All (λ (a : AnAxis). a.word < 16) axes.old.items
         → All (λ (a : AnAxis). a.word < 16) axes.new.items) }
+    ensures once { IfOk result (λ _. AreEachOnce axes.old.items
+        → AreEachOnce axes.new.items) }
+    ensures only { IfOk result (λ _. (held : List HeldData) → Contains held one.now
+        → All (IsCutAxis held) axes.old.items → All (IsCutAxis held) axes.new.items) }
     ensures err { IfErr result (λ f. f ≡ Memory) }
 {
     for cut in one.cuts() {
@@ -61,6 +71,7 @@ pub(crate) fn axes_of(alloc: Global, held: &[Held]) -> Result<Vec<Axis>, Fault>
     ensures each { IfOk result (λ v. All (λ (h : HeldData). (c : ACut) → Contains h.cuts c
         → c.axis.word < 16 → Contains v.items c.axis) held.now) }
     ensures order { IfOk result (λ v. IsNonDecreasingBy axis_order v.items) }
+    ensures rule { IfOk result (λ v. AreAxes held.now v.items) }
     ensures err { IfErr result (λ f. f ≡ Memory) }
 {
     let mut axes = Vec::new(alloc);

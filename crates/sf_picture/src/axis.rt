@@ -2,6 +2,7 @@
 
 ghost use Rattle.std.specs.Prelude.{◌≡◌, ℕ, ◌<◌, length, IfSome, Some, None};
 ghost use Rattle.sf_picture.specs.Axes.{axis_order};
+ghost use Rattle.sf_picture.specs.Cutting.{IsAxisOf};
 ghost use Rattle.sf_sym.specs.declared.pool.Node.TheVariants.{Const, Word};
 ghost use Rattle.sf_sym.specs.Pool.{node_at};
 
@@ -39,6 +40,7 @@ pub(crate) fn axis_of(pool: &Pool, id: NodeId) -> Option<Axis>
     ensures whole { (w : ℕ) → node_at pool.now id.0 ≡ Word w
         → result ≡ Some (record { word = w; mask = 4294967295 }) }
     ensures constant { (c : ℕ) → node_at pool.now id.0 ≡ Const c → result ≡ None }
+    ensures rule { IsAxisOf pool.now id.0 result }
 {
     let MaskedWord { word, mask } = masked_word(pool, id)?;
     Some(Axis { word, mask })

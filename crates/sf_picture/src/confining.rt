@@ -1,8 +1,10 @@
 //! Facts, confined to spans of axes.
 
-ghost use Rattle.std.specs.Prelude.{◌≡◌, ◌<◌, ◌≤◌, ◌↔◌, ℕ, true, Ok, IsTrue, IfOk, IfErr, IfSome, IsSomeAnd, MatchBool, MatchOption, bit_and};
+ghost use Rattle.std.specs.Prelude.{◌≡◌, ◌≢◌, ◌<◌, ◌≤◌, ◌↔◌, ℕ, true, Ok, IsTrue, IfOk, IfErr, IfSome, IsSomeAnd, MatchBool, MatchOption, bit_and};
+ghost use Rattle.std.specs.Int.{is_power_of_two};
 ghost use Rattle.sf_insn.specs.Words.{IsOneBit};
 ghost use Rattle.sf_dom.specs.Facts.{Covers};
+ghost use Rattle.sf_picture.specs.Narrowing.{only_number, TakeInSpan, CantTakeInSpan, IsLeftInSpan};
 ghost use Rattle.sf_picture.specs.Spans.{NoneInSpan, KeepsSpan, KeepsOnlySpan, IsSpanOfBit, IsExactSpan};
 ghost use Rattle.sf_picture.specs.declared.fault.Fault.TheVariants.{Memory};
 
@@ -14,7 +16,8 @@ use std::alloc::Global;
 
 /// Whether exactly one bit is set.
 fn is_one_bit(mask: u32) -> bool
-    ensures { IsTrue result ↔ IsOneBit mask }
+    ensures one { IsTrue result ↔ IsOneBit mask }
+    ensures value { result ≡ is_power_of_two mask }
 {
     mask.is_power_of_two()
 }
@@ -25,6 +28,7 @@ fn number_in(axis: Axis, first: u32, last: u32) -> Option<u32>
         → bit_and n axis.mask ≤ last → bit_and n axis.mask ≡ v) }
     ensures bit { IsSpanOfBit axis.mask first last → IsSomeAnd result (λ v. (first ≤ v)
         × (v ≤ last) × (bit_and v axis.mask ≡ v)) }
+    ensures rule { result ≡ only_number axis first last }
 {
     if first == last {
         return Some(first);
@@ -56,6 +60,9 @@ fn confine_whole(
         (NoneInSpan facts.old pool.now axis first last)) }
     ensures only { result ≡ Ok true
         → KeepsOnlySpan facts.old pool.now axis first last facts.new }
+    ensures rule { IfOk result (λ b. MatchBool b
+        (TakeInSpan pool.now axis first last facts.old facts.new)
+        (CantTakeInSpan pool.now axis first last facts.old)) }
     ensures err { IfErr result (λ f. f ≡ Memory) }
 {
     Ok(facts.confine(alloc, pool, axis.word, first, last)?)
@@ -79,6 +86,9 @@ fn confine_masked(
         (NoneInSpan facts.old pool.now axis first last)) }
     ensures only { result ≡ Ok true → IsSpanOfBit axis.mask first last
         → KeepsOnlySpan facts.old pool.now axis first last facts.new }
+    ensures rule { axis.mask ≢ 4294967295 → IfOk result (λ b. MatchBool b
+        (TakeInSpan pool.now axis first last facts.old facts.new)
+        (CantTakeInSpan pool.now axis first last facts.old)) }
     ensures err { IfErr result (λ f. f ≡ Memory) }
 {
     let Some(number) = number_in(axis, first, last) else {
@@ -107,6 +117,9 @@ fn confine(
         (NoneInSpan facts.old pool.now axis first last)) }
     ensures only { result ≡ Ok true → IsExactSpan axis first last
         → KeepsOnlySpan facts.old pool.now axis first last facts.new }
+    ensures rule { IfOk result (λ b. MatchBool b
+        (TakeInSpan pool.now axis first last facts.old facts.new)
+        (CantTakeInSpan pool.now axis first last facts.old)) }
     ensures err { IfErr result (λ f. f ≡ Memory) }
 {
     if axis.mask == u32::MAX {
@@ -133,6 +146,7 @@ pub(crate) fn facts_within(
         (KeepsSpan facts.now pool.now axis first last)) }
     ensures only { IsExactSpan axis first last → IfOk result (λ o.
         IfSome o (KeepsOnlySpan facts.now pool.now axis first last)) }
+    ensures rule { IfOk result (IsLeftInSpan pool.now axis first last facts.now) }
     ensures err { IfErr result (λ f. f ≡ Memory) }
 {
     let mut inside = facts.fork()?;

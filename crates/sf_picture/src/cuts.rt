@@ -7,6 +7,9 @@ ghost use Rattle.sf_sym.specs.Pool.{IsPool, node_at};
 ghost use Rattle.sf_dom.specs.Facts.{IsWordOrConst, IsPlainTest, IsPlainCondition};
 ghost use Rattle.sf_piece.specs.PlainPieces.{IsPlainPiece};
 ghost use Rattle.sf_picture.specs.declared.cuts.Cut.{Cut as ACut};
+ghost use Rattle.sf_insn.specs.declared.ops.Test.TheVariants.{Equal};
+ghost use Rattle.sf_picture.specs.Cutting.{over_node, number_test_of, IsCutBy, NeedsNoCut, IsSingleAfter, cut_within, AreCutsBy};
+ghost use Rattle.sf_picture.specs.Gathering.{AreMore, IsCutAfter, IsCutBelow, AreWithCondition, NeedNone, NeedsOne, IsMovedBy, IsMovedFrom};
 ghost use Rattle.sf_picture.specs.Cuts.{IsCutOfWord, IsPlainCut, SomeLiesBetweenNumbers, LieBetweenResults, IsMovedTo, SaysNumber, NeedNoCut, AreCutsOf, AreEqualAlike};
 ghost use Rattle.sf_picture.specs.declared.fault.Fault.TheVariants.{Memory};
 
@@ -43,6 +46,8 @@ fn push_cut(cuts: &mut Vec<Cut>, axis: Axis, last: u32) -> Result<(), Fault>
         → All IsCutOfWord cuts.new.items) }
     ensures plain { IfOk result (λ _. IsPlainCut (record { axis = axis; last = last })
         → All IsPlainCut cuts.old.items → All IsPlainCut cuts.new.items) }
+    ensures rule { IfOk result (λ _.
+        AreMore cuts.old.items cuts.new.items (IsCutAfter axis last)) }
     ensures err { IfErr result (λ f. f ≡ Memory) }
 {
     if last >= axis.mask {
@@ -63,6 +68,8 @@ fn push_cut_below(cuts: &mut Vec<Cut>, axis: Axis, number: u32) -> Result<(), Fa
     ensures plain { IfOk result (λ _.
         IsPlainCut (record { axis = axis; last = number - 1 })
         → All IsPlainCut cuts.old.items → All IsPlainCut cuts.new.items) }
+    ensures rule { IfOk result (λ _.
+        AreMore cuts.old.items cuts.new.items (IsCutBelow axis number)) }
     ensures err { IfErr result (λ f. f ≡ Memory) }
 {
     if number == 0 {
@@ -85,6 +92,8 @@ fn push_cuts_beside(cuts: &mut Vec<Cut>, axis: Axis, number: u32) -> Result<(), 
         IsPlainCut (record { axis = axis; last = number - 1 })
         → IsPlainCut (record { axis = axis; last = number })
         → All IsPlainCut cuts.old.items → All IsPlainCut cuts.new.items) }
+    ensures rule { IfOk result (λ _.
+        AreMore cuts.old.items cuts.new.items (IsCutBy axis Equal number)) }
     ensures err { IfErr result (λ f. f ≡ Memory) }
 {
     push_cut_below(cuts, axis, number)?;
@@ -104,6 +113,8 @@ fn push_cuts_of(cuts: &mut Vec<Cut>, axis: Axis, test: Test, number: u32) -> Res
     ensures plain { IfOk result (λ _. axis.mask ≡ 4294967295 → axis.word < 16
         → IsPlainTest test number → All IsPlainCut cuts.old.items
         → All IsPlainCut cuts.new.items) }
+    ensures rule { IfOk result (λ _.
+        AreMore cuts.old.items cuts.new.items (IsCutBy axis test number)) }
     ensures err { IfErr result (λ f. f ≡ Memory) }
 {
     match test {
@@ -125,6 +136,7 @@ fn drop_constant(pool: &Pool, tested: NumberTest) -> NumberTest
     ensures test { result.test ≡ tested.test }
     ensures equal { AreEqualAlike pool.now tested result }
     ensures same { IsWordOrConst (node_at pool.now tested.node.0) → result ≡ tested }
+    ensures rule { result ≡ over_node pool.now tested (node_at pool.now tested.node.0) }
 {
     let Node::Bin(op, a, b) = pool.node(tested.node) else {
         return tested;
@@ -155,6 +167,7 @@ fn number_test(pool: &Pool, cond: &Cond) -> Option<NumberTest>
         → IsWordOrConst (node_at pool.now cond.now.node.0)
         → result ≡ Some (record { node = cond.now.node; test = cond.now.test; number = k }) }
     ensures lawful { IsPool pool.now }
+    ensures rule { result ≡ number_test_of pool.now cond.now }
 {
     let number = constant_of(pool.node(cond.other))?;
     let tested = NumberTest {
@@ -186,6 +199,8 @@ fn push_cuts_of_cond(
         → All IsCutOfWord cuts.new.items) }
     ensures plain { IfOk result (λ _. IsPlainCondition pool.now cond.now
         → All IsPlainCut cuts.old.items → All IsPlainCut cuts.new.items) }
+    ensures rule { IfOk result (λ _. AreWithCondition pool.now cond.now cuts.old.items
+        cuts.new.items bits.old bits.new) }
     ensures err { IfErr result (λ f. f ≡ Memory) }
 {
     let Some(tested) = number_test(pool, cond) else {
@@ -203,17 +218,20 @@ fn push_cuts_of_cond(
 /// Whether a condition needs no cut besides those beside the only number of a word: it is about that word, and no test of bits,
 /// which has an axis of its own.
 fn needs_no_cut(single: Option<NodeId>, cond: &Cond) -> bool
-    ensures { result ≡ true → single ≡ Some cond.now.node }
+    ensures { IsTrue result ↔ NeedsNoCut single cond.now }
 {
     single == Some(cond.node) && cond.test != Test::AnyBit
 }
 
-/// The place of the newest condition before `end` that needs a cut, as `needs_no_cut` tells. Paths can be long, so this loop
-/// does nothing else.
+/// The place of the newest condition before `end` that needs a cut, as `needs_no_cut` says. Paths can be long, so this
+/// loop does nothing else.
 fn newest_to_cut(piece: &Piece, single: Option<NodeId>, end: usize) -> Option<usize>
     requires { end ≤ length piece.now.conditions }
-    ensures { MatchOption result (NeedNoCut piece.now single 0 end)
+    ensures found { MatchOption result (NeedNoCut piece.now single 0 end)
         (λ n. (n < end) × NeedNoCut piece.now single (n + 1) end) }
+    ensures rule { MatchOption result (NeedNone piece.now.conditions single 0 end)
+        (λ n. NeedNone piece.now.conditions single (n + 1) end
+        × NeedsOne piece.now.conditions single n) }
 {
     for i in 0..end {
         let place = end - 1 - i;
@@ -227,8 +245,9 @@ fn newest_to_cut(piece: &Piece, single: Option<NodeId>, end: usize) -> Option<us
 /// The word of which a condition leaves only one number. Where it leaves several, the word of a newer condition.
 fn single_after(newer: Option<NodeId>, pool: &Pool, cond: &Cond) -> Option<NodeId>
     requires { cond.now.other.0 < length pool.now }
-    ensures { IfSome result (λ n. (newer ≡ Some n)
+    ensures said { IfSome result (λ n. (newer ≡ Some n)
         ⊎ ((n ≡ cond.now.node) × SaysNumber pool.now cond.now)) }
+    ensures rule { IsSingleAfter pool.now newer cond.now result }
 {
     let is_of_word = cond.node.0 < 16;
     if !is_of_word || cond.test != Test::Equal || !cond.sense {
@@ -247,6 +266,7 @@ fn cut_within(window: Window, cut: Cut) -> Cut
     ensures whole { cut.axis.mask ≡ 4294967295
         → result.last ≡ min (max cut.last window.first) window.last }
     ensures masked { cut.axis.mask ≢ 4294967295 → result ≡ cut }
+    ensures rule { result ≡ cut_within window cut }
 {
     if cut.axis.mask == u32::MAX {
         Cut {
@@ -283,6 +303,8 @@ fn push_moved(cuts: &mut Vec<Cut>, piece: &Piece, bits: &[FixedBits], cut: Cut) 
         → Contains cuts.new.items c) }
     ensures plain { IfOk result (λ _. IsPlainCut cut → All IsPlainCut cuts.old.items
         → All IsPlainCut cuts.new.items) }
+    ensures rule { IfOk result (λ _. AreMore cuts.old.items cuts.new.items
+        (IsMovedBy piece.now.facts bits.now cut)) }
     ensures err { IfErr result (λ f. f ≡ Memory) }
 {
     let known = piece.facts().known(NodeId(cut.axis.word as u32));
@@ -307,6 +329,8 @@ fn moved_cuts(
     requires words { All IsCutOfWord tested.now }
     ensures moved { IfOk result (λ v. All (IsMovedTo piece.now.facts v.items) tested.now) }
     ensures plain { IfOk result (λ v. All IsPlainCut tested.now → All IsPlainCut v.items) }
+    ensures rule { IfOk result (λ v. (c : ACut) → Contains v.items c
+        ↔ IsMovedFrom piece.now.facts bits.now tested.now c) }
     ensures err { IfErr result (λ f. f ≡ Memory) }
 {
     let mut cuts = Vec::new(alloc);
@@ -321,6 +345,7 @@ fn moved_cuts(
 /// where an allocation is refused.
 pub(crate) fn cuts_of(alloc: Global, piece: &Piece) -> Result<Vec<Cut>, Fault>
     ensures plain { IfOk result (λ v. IsPlainPiece piece.now → AreCutsOf piece.now v.items) }
+    ensures rule { IfOk result (λ v. AreCutsBy piece.now v.items) }
     ensures err { IfErr result (λ f. f ≡ Memory) }
 {
     // For the prover: all members agree with the piece's facts.

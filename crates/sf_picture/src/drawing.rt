@@ -1,12 +1,14 @@
 //! Pictures of explorations, drawn axis by axis.
 
-ghost use Rattle.std.specs.Prelude.{◌≡◌, ◌<◌, ◌≤◌, ◌+◌, [], ℕ, true, false, List, length, slice_index, All, IfOk, IfErr, MatchOption, ◌⊎◌};
+ghost use Rattle.std.specs.Prelude.{◌≡◌, ◌<◌, ◌≤◌, ◌+◌, [], ℕ, true, false, List, length, slice_index, slice_get, Some, drop, map, All, IfOk, IfErr, MatchOption, ◌⊎◌};
 ghost use Rattle.std.specs.List.Sorted.{IsNonDecreasing};
 ghost use Rattle.sf_check.specs.Stacks.{IsPlain};
-ghost use Rattle.sf_book.specs.Books.{BookData, IsSettled};
+ghost use Rattle.sf_book.specs.Books.{RegionData, BookData, IsSettled};
 ghost use Rattle.sf_picture.specs.Holding.{HeldData, IsHeldAt, AreOneLabel, AreAllEnds, AreHeldIn};
 ghost use Rattle.sf_picture.specs.PlainHolding.{IsPlainHeld, IsPlainTask, IsPlainSpan};
-ghost use Rattle.sf_picture.specs.Drawing.{IsShownAt, NoneIsHeld, Grows, AddsLeaf, IsShort, KeepsShort, AreRuns, IsLeafOf, LeadsAs, IsRightSketch, DrawsTo, IsAttainedAt, AreAttainedAt, AreAttainedBelow};
+ghost use Rattle.sf_picture.specs.Narrowing.{ends_on, AreNarrowedTo};
+ghost use Rattle.sf_picture.specs.DrawnBy.{DrawsLabels, DrawsLeafOf, DrawsEarly, ClosesTo, Draws, AreHeldOf, DrawsRoot, HasPicture};
+ghost use Rattle.sf_picture.specs.Drawing.{DrawsSpan, IsOneHeldMore, IsShownAt, NoneIsHeld, Grows, AddsLeaf, IsShort, KeepsShort, AreRuns, IsLeafOf, LeadsAs, IsRightSketch, DrawsTo, IsAttainedAt, AreAttainedAt, AreAttainedBelow};
 ghost use Rattle.sf_picture.specs.Pictures.{ShowsLabels, IsDetermined, IsAttainedEverywhere, IsSpentOnlyFrom};
 ghost use Rattle.sf_picture.specs.declared.axis.Axis.{Axis as AnAxis};
 ghost use Rattle.sf_picture.specs.declared.drawing.Span.{Span as ASpan};
@@ -37,6 +39,7 @@ fn leaf_of(sketch: &mut Sketch, labels: Vec<usize>) -> Result<Option<Branch>, Fa
     ensures added { IfOk result (λ o. MatchOption o (sketch.new ≡ sketch.old)
         (λ b. (0 < length labels.items) × AddsLeaf sketch.old sketch.new labels.items b)) }
     ensures spent { IfOk result (λ _. sketch.new.spent ≡ sketch.old.spent) }
+    ensures rule { IfOk result (DrawsLabels sketch.old sketch.new labels.items) }
     ensures err { IfErr result (λ f. f ≡ Memory) }
 {
     if labels.is_empty() {
@@ -65,6 +68,7 @@ fn leaf_of_held(
         → All (IsPlainHeld s labels box) held.now
         → AreAttainedAt (length sketch.old.leaves) sketch.new held.now o) }
     ensures spent { IfOk result (λ _. sketch.new.spent ≡ sketch.old.spent) }
+    ensures rule { IfOk result (DrawsLeafOf which held.now sketch.old sketch.new) }
     ensures err { IfErr result (λ f. f ≡ Memory) }
 {
     let labels = labels_of(alloc, held, which)?;
@@ -85,14 +89,15 @@ fn early_leaf_of(alloc: Global, sketch: &mut Sketch, held: &[Held]) -> Result<Op
         → All (IsPlainHeld s labels box) held.now
         → AreAttainedAt (length sketch.old.leaves) sketch.new held.now o) }
     ensures spent { IfOk result (λ _. sketch.new.spent ≡ true) }
+    ensures rule { IfOk result (DrawsEarly held.now sketch.old sketch.new) }
     ensures err { IfErr result (λ f. f ≡ Memory) }
 {
     sketch.spend();
     leaf_of_held(alloc, sketch, held, Which::All)
 }
 
-/// A fork of these runs; the last one goes on to the greatest number of the axis. Of one run it is the branch to which the
-/// run leads, and none where there is no run. `Memory` where an allocation is refused.
+/// A fork of these runs; the last one goes on to the greatest number of the axis. Where there is only one run, it is
+/// the branch to which that leads, and none where there is no run. `Memory` where an allocation is refused.
 fn fork_of(sketch: &mut Sketch, axis: Axis, mut runs: Vec<Run>) -> Result<Option<Branch>, Fault>
     requires word { axis.word < 16 }
     requires right { IsRightSketch sketch.old }
@@ -104,6 +109,7 @@ fn fork_of(sketch: &mut Sketch, axis: Axis, mut runs: Vec<Run>) -> Result<Option
         (LeadsAs sketch.new axis runs.items)) }
     ensures leaves { IfOk result (λ _. sketch.new.leaves ≡ sketch.old.leaves) }
     ensures spent { IfOk result (λ _. sketch.new.spent ≡ sketch.old.spent) }
+    ensures rule { IfOk result (ClosesTo axis runs.items sketch.old sketch.new) }
     ensures err { IfErr result (λ f. f ≡ Memory) }
 {
     close_runs(&mut runs, axis.mask);
@@ -141,6 +147,9 @@ fn held_in(alloc: Global, held: &[Held], ends: &[Ends], span: Span) -> Result<Ve
     requires word { span.axis.word < 16 }
     requires ends { AreAllEnds held.now span.axis ends.now }
     ensures inside { IfOk result (λ v. AreHeldIn held.now span v.items) }
+    ensures rule { span.first ≤ span.last → span.last ≤ span.axis.mask
+        → ends.now ≡ map (ends_on span.axis) held.now
+        → IfOk result (λ v. AreNarrowedTo held.now span.axis span.first span.last v.items) }
     ensures err { IfErr result (λ f. f ≡ Memory) }
 {
     if is_past(span) {
@@ -181,6 +190,9 @@ fn draw_span(
         → IsPlainTask s labels box held axes.now at → IsPlainSpan held axes.now at span
         → AreAttainedBelow from sketch.old span.axis runs.old.items span.first held
         → AreAttainedBelow from sketch.new span.axis runs.new.items next held) }
+    ensures rule { span.first ≤ span.last → span.last ≤ span.axis.mask → IfOk result
+        (DrawsSpan (Draws (drop (at + 1) axes.now)) inside.now span.last sketch.old sketch.new
+        runs.old.items runs.new.items) }
     ensures err { IfErr result (λ f. f ≡ Memory) }
 {
     if is_past(span) {
@@ -215,6 +227,7 @@ fn draw(
     ensures attained { IfOk result (λ o. (s : BookData) (labels : List ℕ) (box : List ASpan)
         → IsPlainTask s labels box held.now axes.now at
         → AreAttainedAt (length sketch.old.leaves) sketch.new held.now o) }
+    ensures rule { IfOk result (Draws (drop at axes.now) held.now sketch.old sketch.new) }
     ensures err { IfErr result (λ f. f ≡ Memory) }
 {
     if is_one_label(held) {
@@ -261,6 +274,9 @@ fn push_held(
         → All (IsPlainHeld settled.now labels []) held.old.items
         → All (IsPlainHeld settled.now labels []) held.new.items) }
     ensures count { IfOk result (λ _. length held.new.items ≡ length held.old.items + 1) }
+    ensures rule { IfOk result (λ _. (region : RegionData)
+        → slice_get settled.now.regions place ≡ Some region
+        → IsOneHeldMore region label held.old.items held.new.items) }
     ensures err { IfErr result (λ f. f ≡ Memory) }
 {
     let region = settled.region(place);
@@ -281,6 +297,7 @@ fn held_of(alloc: Global, settled: &Settled, labels: &[usize]) -> Result<Vec<Hel
         → All (IsPlainHeld settled.now labels.now []) v.items) }
     ensures count { IfOk result (λ v. length v.items ≡ length settled.now.regions) }
     ensures lawful { IfOk result (λ _. IsSettled settled.now) }
+    ensures rule { IfOk result (λ v. AreHeldOf settled.now labels.now v.items) }
     ensures err { IfErr result (λ f. f ≡ Memory) }
 {
     let mut held = Vec::new(alloc);
@@ -303,6 +320,7 @@ fn root_of(alloc: Global, sketch: &mut Sketch, held: &[Held]) -> Result<Branch, 
     ensures attained { IfOk result (λ b. (s : BookData) (labels : List ℕ) → IsSettled s
         → All (IsPlainHeld s labels []) held.now → 0 < length held.now → (place : ℕ)
         → place < length sketch.new.leaves → IsAttainedAt sketch.new b held.now place) }
+    ensures rule { IfOk result (DrawsRoot held.now sketch.old sketch.new) }
     ensures err { IfErr result (λ f. f ≡ Memory) }
 {
     let axes = axes_of(alloc, held)?;
@@ -321,7 +339,7 @@ fn root_of(alloc: Global, sketch: &mut Sketch, held: &[Held]) -> Result<Branch, 
 /// picture is spent if such a leaf has forks left out. So it is spent only where `leaves` leaves were drawn.
 ///
 /// On a plain stack no leaf of a picture that isn't spent has two labels, and some member of a region lies at each leaf. On
-/// another stack a leaf has several labels also where what is known of regions can't tell them apart.
+/// another stack a leaf has several labels also where what is known of regions doesn't separate them.
 ///
 /// The caller's condition: there is a label for each region. `Memory` where an allocation is refused.
 pub fn picture_of(
@@ -337,6 +355,7 @@ pub fn picture_of(
     ensures attained { IfOk result (λ p. IsPlain settled.now.stack
         → 0 < length settled.now.regions → IsAttainedEverywhere settled.now p) }
     ensures allowed { IfOk result (IsSpentOnlyFrom leaves) }
+    ensures rule { IfOk result (HasPicture settled.now labels.now leaves) }
     ensures err { IfErr result (λ f. f ≡ Memory) }
 {
     let held = held_of(alloc, settled, labels)?;

@@ -1,7 +1,8 @@
 //! Between which numbers an axis lies, by what is known of its word.
 
-ghost use Rattle.std.specs.Prelude.{◌≡◌, ◌<◌, ◌≤◌, ◌^◌, ◌⊎◌, ℕ, true, bit_and};
+ghost use Rattle.std.specs.Prelude.{◌≡◌, ◌<◌, ◌≤◌, ◌^◌, ◌⊎◌, ◌-◌, ℕ, true, bit_and};
 ghost use Rattle.sf_dom.specs.Known.{Admits, HasBits};
+ghost use Rattle.sf_picture.specs.Narrowing.{ends_of, lie_in, miss};
 
 use crate::axis::Axis;
 use sf_dom::Known;
@@ -15,8 +16,12 @@ pub(crate) struct Ends {
 
 /// Between which numbers a word with these known bits lies under a mask.
 fn ends_of_bits(zeros: u32, ones: u32, mask: u32) -> Ends
-    ensures { (n : ℕ) → HasBits n zeros ones
+    ensures between { (n : ℕ) → HasBits n zeros ones
         → (result.low ≤ bit_and n mask) × (bit_and n mask ≤ result.high) }
+    ensures rule { result ≡ record {
+      low = bit_and ones mask;
+      high = bit_and mask (4294967295 - zeros);
+    } }
 {
     Ends {
         low: ones & mask,
@@ -27,8 +32,9 @@ fn ends_of_bits(zeros: u32, ones: u32, mask: u32) -> Ends
 impl Ends {
     /// Those of an axis of a word of which this is known.
     pub(crate) fn of(known: Known, axis: Axis) -> Ends
-        ensures { (n : ℕ) → n < 2 ^ 32 → Admits known n
+        ensures between { (n : ℕ) → n < 2 ^ 32 → Admits known n
             → (result.low ≤ bit_and n axis.mask) × (bit_and n axis.mask ≤ result.high) }
+        ensures rule { result ≡ ends_of known axis }
     {
         if axis.mask == u32::MAX {
             return Ends {
@@ -41,14 +47,16 @@ impl Ends {
 
     /// Whether all numbers between them are numbers of a span.
     pub(crate) fn lie_in(self, first: u32, last: u32) -> bool
-        ensures { result ≡ true → (first ≤ self.low) × (self.high ≤ last) }
+        ensures inside { result ≡ true → (first ≤ self.low) × (self.high ≤ last) }
+        ensures rule { result ≡ lie_in self first last }
     {
         first <= self.low && self.high <= last
     }
 
     /// Whether none of the numbers between them is a number of a span.
     pub(crate) fn miss(self, first: u32, last: u32) -> bool
-        ensures { result ≡ true → (last < self.low) ⊎ (self.high < first) }
+        ensures outside { result ≡ true → (last < self.low) ⊎ (self.high < first) }
+        ensures rule { result ≡ miss self first last }
     {
         last < self.low || self.high < first
     }

@@ -1,12 +1,14 @@
 //! What is held of the regions of an exploration while a picture of it is drawn: facts, confined to spans of axes.
 
-ghost use Rattle.std.specs.Prelude.{◌≡◌, ◌<◌, true, List, IfOk, IfErr, IfSome, All, Contains, MatchOption};
+ghost use Rattle.std.specs.Prelude.{◌≡◌, ◌<◌, true, List, IfOk, IfErr, IfSome, All, Contains, MatchOption, MatchBool, map};
 ghost use Rattle.std.specs.Arc.{arc_value};
 ghost use Rattle.sf_dom.specs.Facts.{Covers};
 ghost use Rattle.sf_piece.specs.PlainPieces.{IsPlainPiece};
 ghost use Rattle.sf_insn.specs.declared.input.Input.{Input as AnInput};
 ghost use Rattle.sf_picture.specs.Cuts.{AreCutsOf};
-ghost use Rattle.sf_picture.specs.Holding.{HeldData, IsHeldBy, NoneIsHeldIn, IsHeldIn, IsKeptIn, NoMemberAgrees, IsNarrowed, IsFromSome, AreEndsOf, AreAllEnds};
+ghost use Rattle.sf_picture.specs.Cutting.{AreCutsBy};
+ghost use Rattle.sf_picture.specs.Narrowing.{ends_on, CanLearnAll, CanLearnAgain, IsKeptOf, AreNarrowedTo};
+ghost use Rattle.sf_picture.specs.Holding.{HeldData, IsHeldBy, NoneIsHeldIn, IsHeldIn, IsKeptIn, NoMemberAgrees, IsNarrowed, IsFromSome, AreEndsOf, AreAllEnds, CantLearnAll, IsAddedBy};
 ghost use Rattle.sf_picture.specs.declared.fault.Fault.TheVariants.{Memory};
 
 use crate::axis::Axis;
@@ -14,7 +16,7 @@ use crate::confining::facts_within;
 use crate::cuts::{Cut, cuts_of};
 use crate::ends::Ends;
 use crate::fault::Fault;
-use sf_dom::Facts;
+use sf_dom::{Facts, rules_have_one_result};
 use sf_piece::Piece;
 use sf_sym::NodeId;
 use std::alloc::Global;
@@ -98,6 +100,7 @@ impl Held {
         }) }
         ensures cuts { IfOk result (λ h. IsPlainPiece (arc_value piece)
             → AreCutsOf (arc_value piece) h.cuts) }
+        ensures rule { IfOk result (λ h. AreCutsBy (arc_value piece) h.cuts) }
         ensures err { IfErr result (λ f. f ≡ Memory) }
     {
         let cuts = cuts_of(alloc, &piece)?;
@@ -147,6 +150,7 @@ impl Held {
     pub(crate) fn ends_on(&self, axis: Axis) -> Ends
         requires { axis.word < 16 }
         ensures ends { AreEndsOf self.now axis result }
+        ensures rule { result ≡ ends_on axis self.now }
         ensures covers { Covers self.now.facts self.now.piece.pool }
     {
         let known = self.facts().known(NodeId(axis.word as u32));
@@ -173,8 +177,13 @@ impl Held {
 fn rules_out(alloc: Global, piece: &Piece, facts: &Facts) -> Result<bool, Fault>
     requires { Covers facts.now piece.now.pool }
     ensures none { IfOk result (λ b. b ≡ true → NoMemberAgrees piece.now facts.now) }
+    ensures rule { IfOk result (λ b. MatchBool b
+        (CantLearnAll facts.now piece.now.pool piece.now.conditions)
+        (CanLearnAll facts.now piece.now.pool piece.now.conditions)) }
     ensures err { IfErr result (λ f. f ≡ Memory) }
 {
+    // For the prover: the rules of facts have one result.
+    rules_have_one_result();
     let mut learnt = facts.fork()?;
     for i in 0..piece.cond_count() {
         if !learnt.learn(alloc, piece.pool(), &piece.cond(i))? {
@@ -187,6 +196,8 @@ fn rules_out(alloc: Global, piece: &Piece, facts: &Facts) -> Result<bool, Fault>
 /// Whether the region's conditions, learnt once more, show that no member is held. `Memory` where an allocation is refused.
 pub(crate) fn is_ruled_out(alloc: Global, one: &Held) -> Result<bool, Fault>
     ensures none { IfOk result (λ b. b ≡ true → (d : AnInput) → IsHeldBy one.now d → ⊥) }
+    ensures rule { IfOk result (λ b. MatchBool b (¬ CanLearnAgain one.now)
+        (CanLearnAgain one.now)) }
     ensures err { IfErr result (λ f. f ≡ Memory) }
 {
     let ruled = rules_out(alloc, one.piece(), one.facts())?;
@@ -206,6 +217,7 @@ fn confine_held(
     ensures confined { IfOk result (λ o. MatchOption o (NoneIsHeldIn one.now axis first last)
         (IsHeldIn one.now axis first last)) }
     ensures narrowed { IfOk result (λ o. IfSome o (IsNarrowed one.now axis first last)) }
+    ensures rule { IfOk result (IsKeptOf one.now axis first last) }
     ensures err { IfErr result (λ f. f ≡ Memory) }
 {
     if one.ends_on(axis).lie_in(first, last) {
@@ -237,6 +249,8 @@ fn push_within(
     ensures only { IfOk result (λ _. (held : List HeldData) → Contains held one.now
         → All (IsFromSome held axis first last) inside.old.items
         → All (IsFromSome held axis first last) inside.new.items) }
+    ensures rule { IfOk result (λ _. IsAddedBy (IsKeptOf one.now axis first last)
+        inside.old.items inside.new.items) }
     ensures err { IfErr result (λ f. f ≡ Memory) }
 {
     let Some(next) = confine_held(alloc, one, axis, first, last)? else {
@@ -250,6 +264,7 @@ fn push_within(
 pub(crate) fn all_ends(alloc: Global, held: &[Held], axis: Axis) -> Result<Vec<Ends>, Fault>
     requires { axis.word < 16 }
     ensures ends { IfOk result (λ v. AreAllEnds held.now axis v.items) }
+    ensures rule { IfOk result (λ v. v.items ≡ map (ends_on axis) held.now) }
     ensures err { IfErr result (λ f. f ≡ Memory) }
 {
     let mut ends = Vec::new(alloc);
@@ -273,6 +288,8 @@ pub(crate) fn held_within(
     requires ends { AreAllEnds held.now axis ends.now }
     ensures kept { IfOk result (λ v. All (IsKeptIn v.items axis first last) held.now) }
     ensures only { IfOk result (λ v. All (IsFromSome held.now axis first last) v.items) }
+    ensures rule { IfOk result (λ v. ends.now ≡ map (ends_on axis) held.now
+        → AreNarrowedTo held.now axis first last v.items) }
     ensures err { IfErr result (λ f. f ≡ Memory) }
 {
     let mut inside = Vec::new(alloc);

@@ -1,9 +1,10 @@
 //! The labels of what is held.
 
-ghost use Rattle.std.specs.Prelude.{◌≡◌, ◌≤◌, ◌+◌, ℕ, true, length, All, Contains, IfOk, IfErr, IsTrue, ◌↔◌};
-ghost use Rattle.std.specs.List.Sorted.{IsNonDecreasing};
+ghost use Rattle.std.specs.Prelude.{◌≡◌, ◌≤◌, ◌+◌, ℕ, true, length, All, Contains, IfOk, IfErr, IsTrue, ◌↔◌, ◌⊎◌, MatchBool};
+ghost use Rattle.std.specs.List.Sorted.{IsNonDecreasing, IsStrictlyIncreasing};
 ghost use Rattle.sf_insn.specs.declared.input.Input.{Input as AnInput};
 ghost use Rattle.sf_picture.specs.Holding.{IsHeldBy, HeldData, AreOneLabel, AreAtMost};
+ghost use Rattle.sf_picture.specs.Narrowing.{IsGathered, AreLabelsOf};
 ghost use Rattle.sf_picture.specs.declared.fault.Fault.TheVariants.{Memory};
 
 use crate::fault::Fault;
@@ -11,7 +12,7 @@ use crate::held::{Held, is_ruled_out};
 use std::alloc::Global;
 use std::collections::BTreeSet;
 
-/// Of which of what is held the labels are gathered.
+/// Whose labels are gathered, of all that is held.
 #[derive(Clone, Copy, Debug, PartialEq, Eq)]
 pub(crate) enum Which {
     /// All.
@@ -35,10 +36,25 @@ fn insert_label(labels: &mut BTreeSet<usize>, label: usize) -> Result<(), Fault>
     ensures once { IfOk result (λ _. AreAtMost label labels.old.keys
         → AreAtMost label labels.new.keys) }
     ensures few { IfOk result (λ _. length labels.new.keys ≤ length labels.old.keys + 1) }
+    ensures rule { IfOk result (λ _. (n : ℕ) → Contains labels.new.keys n
+        ↔ (Contains labels.old.keys n ⊎ (n ≡ label))) }
     ensures err { IfErr result (λ f. f ≡ Memory) }
 {
     labels.insert(label)?;
     Ok(())
+}
+
+/// Whether `which` leaves out the label of something held. `Memory` where an allocation is refused.
+fn is_left_out(alloc: Global, one: &Held, which: Which) -> Result<bool, Fault>
+    ensures none { IfOk result (λ b. b ≡ true → (d : AnInput) → IsHeldBy one.now d → ⊥) }
+    ensures rule { IfOk result (λ b. MatchBool b (¬ IsGathered which one.now)
+        (IsGathered which one.now)) }
+    ensures err { IfErr result (λ f. f ≡ Memory) }
+{
+    match which {
+        Which::All => Ok(false),
+        Which::Left => is_ruled_out(alloc, one),
+    }
 }
 
 /// Adds the label of what is held, unless it is there, or `which` leaves it out. `Memory` where an allocation is refused.
@@ -55,12 +71,15 @@ fn insert_label_of(
     ensures once { IfOk result (λ _. AreAtMost one.now.label labels.old.keys
         → AreAtMost one.now.label labels.new.keys) }
     ensures few { IfOk result (λ _. length labels.new.keys ≤ length labels.old.keys + 1) }
+    ensures rule { IfOk result (λ _. (n : ℕ) → Contains labels.new.keys n
+        ↔ (Contains labels.old.keys n
+        ⊎ ((n ≡ one.now.label) × IsGathered which one.now))) }
     ensures err { IfErr result (λ f. f ≡ Memory) }
 {
     if has(labels, one.label()) {
         return Ok(());
     }
-    if which == Which::Left && is_ruled_out(alloc, one)? {
+    if is_left_out(alloc, one, which)? {
         return Ok(());
     }
     insert_label(labels, one.label())?;
@@ -69,14 +88,14 @@ fn insert_label_of(
 
 /// Whether all that is held has this label.
 fn have_label(held: &[Held], label: usize) -> bool
-    ensures { result ≡ true → All (λ (h : HeldData). h.label ≡ label) held.now }
+    ensures { IsTrue result ↔ All (λ (h : HeldData). h.label ≡ label) held.now }
 {
     held.iter().all(|one| one.label() == label)
 }
 
 /// Whether all that is held has one label.
 pub(crate) fn is_one_label(held: &[Held]) -> bool
-    ensures { result ≡ true → AreOneLabel held.now }
+    ensures { IsTrue result ↔ AreOneLabel held.now }
 {
     let Some(first) = held.first() else {
         return true;
@@ -88,6 +107,7 @@ pub(crate) fn is_one_label(held: &[Held]) -> bool
 fn list_of(alloc: Global, labels: BTreeSet<usize>) -> Result<Vec<usize>, Fault>
     ensures same { IfOk result (λ v. v.items ≡ labels.keys) }
     ensures rising { IfOk result (λ v. IsNonDecreasing v.items) }
+    ensures once { IfOk result (λ v. IsStrictlyIncreasing v.items) }
     ensures err { IfErr result (λ f. f ≡ Memory) }
 {
     Ok(labels.into_iter().collect(alloc)?)
@@ -100,11 +120,13 @@ pub(crate) fn labels_of(alloc: Global, held: &[Held], which: Which) -> Result<Ve
     ensures one { IfOk result (λ v. AreOneLabel held.now → length v.items ≤ 1) }
     ensures few { IfOk result (λ v. length v.items ≤ length held.now) }
     ensures rising { IfOk result (λ v. IsNonDecreasing v.items) }
+    ensures rule { IfOk result (λ v. AreLabelsOf which held.now v.items) }
     ensures err { IfErr result (λ f. f ≡ Memory) }
 {
     let mut labels = BTreeSet::new(alloc);
     for one in held {
         insert_label_of(alloc, &mut labels, one, which)?;
     }
-    list_of(alloc, labels)
+    let list = list_of(alloc, labels)?;
+    Ok(list)
 }

@@ -4,6 +4,7 @@ ghost use Rattle.std.specs.Prelude.{◌≡◌, ◌<◌, ◌↔◌, ℕ, List, Is
 ghost use Rattle.sf_picture.specs.declared.cuts.Cut.{Cut as ACut};
 ghost use Rattle.sf_picture.specs.Holding.{HeldData};
 ghost use Rattle.sf_picture.specs.Drawing.{IsLastOfCut, AreLasts};
+ghost use Rattle.sf_picture.specs.Narrowing.{AreLastsBy};
 ghost use Rattle.sf_picture.specs.declared.fault.Fault.TheVariants.{Memory};
 
 use crate::axis::Axis;
@@ -58,6 +59,7 @@ fn push_lasts(lasts: &mut Vec<u32>, one: &Held, axis: Axis) -> Result<(), Fault>
 /// the last one of all. `Memory` where an allocation is refused.
 pub(crate) fn lasts_of(alloc: Global, held: &[Held], axis: Axis) -> Result<Vec<u32>, Fault>
     ensures lasts { IfOk result (λ v. AreLasts held.now axis v.items) }
+    ensures rule { IfOk result (λ v. AreLastsBy held.now axis v.items) }
     ensures err { IfErr result (λ f. f ≡ Memory) }
 {
     let mut lasts = Vec::new(alloc);

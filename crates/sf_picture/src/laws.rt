@@ -10,6 +10,11 @@ ghost use Rattle.sf_book.specs.Books.{RegionData, BookData};
 ghost use Rattle.sf_picture.specs.PictureData.{PictureData};
 ghost use Rattle.sf_picture.specs.Pictures.{labels_at, IsPicture, IsDetermined, LiesAtLeaf, ShowsLabels};
 ghost use Rattle.sf_picture.specs.Answering.{IsPictureOf};
+ghost use Rattle.sf_picture.specs.OnePicture.{HaveOnePicture};
+
+use sf_book::laws::explorations_have_one_result;
+use sf_dom::rules_have_one_result;
+use sf_piece::laws::execution_has_one_result;
 
 /// Each input lies at exactly one leaf of a picture.
 pub fn each_input_lies_at_one_leaf()
@@ -40,3 +45,13 @@ pub fn one_picture_has_one_meaning()
         IsPictureOf s answers p → IsPictureOf t answers p → IsDetermined p → IsInput d
         → (a : Answer) × Answers s.stack d a × Answers t.stack d a }
 {}
+
+/// By the rules a stack whose exploration ended with nothing outstanding has one picture, whatever the exploration's budget
+/// was, and in whatever order the works came: the labels of its regions and the limit of leaves decide it.
+pub fn pictures_have_one_result()
+    ensures { HaveOnePicture }
+{
+    explorations_have_one_result();
+    execution_has_one_result();
+    rules_have_one_result();
+}

@@ -3,6 +3,7 @@
 ghost use Rattle.std.specs.Prelude.{◌≡◌, ◌<◌, ◌≤◌, ◌+◌, ◌-◌, ℕ, true, false, length, slice_index_or, IfOk, IfErr};
 ghost use Rattle.sf_picture.specs.declared.picture.Run.{Run as ARun};
 ghost use Rattle.sf_picture.specs.Pictures.{IsBelow};
+ghost use Rattle.sf_picture.specs.DrawnBy.{AddsRunTo, AreClosed};
 ghost use Rattle.sf_picture.specs.Drawing.{AreRuns, AddsRun, ClosesRuns, EndsElsewhere};
 ghost use Rattle.sf_picture.specs.declared.fault.Fault.TheVariants.{Memory};
 
@@ -38,6 +39,8 @@ pub(crate) fn push_run(runs: &mut Vec<Run>, last: u32, next: Branch) -> Result<(
         → AreRuns leaves forks first runs.old.items → IsBelow leaves forks next
         → AreRuns leaves forks (last + 1) runs.new.items
         × AddsRun runs.old.items runs.new.items first last next) }
+    ensures rule { IfOk result (λ _.
+        AddsRunTo runs.old.items last next runs.new.items) }
     ensures err { IfErr result (λ f. f ≡ Memory) }
 {
     if ends_at(runs, next) {
@@ -54,6 +57,7 @@ pub(crate) fn close_runs(runs: &mut Vec<Run>, last: u32)
     ensures count { length runs.new.items ≡ length runs.old.items }
     ensures closed { (leaves forks : ℕ) → AreRuns leaves forks (last + 1) runs.old.items
         → ClosesRuns leaves forks last runs.old.items runs.new.items }
+    ensures rule { AreClosed runs.old.items last runs.new.items }
 {
     let count = runs.len();
     if count > 0 {

@@ -77,6 +77,7 @@ fn are_same_runs(a: &[Run], b: &[Run]) -> bool
 impl Sketch {
     ghost use Rattle.std.specs.List.Sorted.{IsNonDecreasing};
     ghost use Rattle.sf_picture.specs.Pictures.{AreRightForks, IsRightFork, IsBelow, fork_at};
+    ghost use Rattle.sf_picture.specs.DrawnBy.{IsFirstAt, DrawsLeaf, DrawsFork, empty_sketch};
     ghost use Rattle.sf_picture.specs.Drawing.{Grows, AddsLeaf, IsLeafOf, IsForkOf, IsRightSketch};
 
     /// Nothing is drawn yet. After this many leaves no fork is to be begun.
@@ -85,6 +86,7 @@ impl Sketch {
         ensures empty { result.leaves ≡ [] }
         ensures most { result.most ≡ most }
         ensures none { result.drawn ≡ 0 }
+        ensures rule { result ≡ empty_sketch most }
     {
         Sketch {
             leaves: Vec::new(alloc),
@@ -115,6 +117,7 @@ impl Sketch {
         ensures some { IfSome result (λ i. (i < length self.now.leaves)
             × (slice_index_or self.now.leaves i [] ≡ labels.now)) }
         ensures none { IfNone result (All (λ l. l ≢ labels.now) self.now.leaves) }
+        ensures first { IfSome result (IsFirstAt self.now.leaves labels.now) }
     {
         for (i, leaf) in self.leaves.iter().enumerate() {
             if are_same_labels(leaf.numbers.as_slice(), labels) {
@@ -133,6 +136,7 @@ impl Sketch {
         ensures added { IfOk result (λ b. AddsLeaf self.old self.new labels.items b) }
         ensures spent { self.new.spent ≡ self.old.spent }
         ensures drawn { self.new.drawn ≡ min (self.old.drawn + 1) 18446744073709551615 }
+        ensures rule { IfOk result (DrawsLeaf self.old self.new labels.items) }
         ensures err { IfErr result (λ f. f ≡ Memory) }
     {
         self.drawn = self.drawn.saturating_add(1);
@@ -150,6 +154,8 @@ impl Sketch {
             × (fork_at self.now.forks i ≡ record { axis = axis; runs = runs.now })) }
         ensures none { IfNone result (All (λ f. f ≢ record { axis = axis; runs = runs.now })
             self.now.forks) }
+        ensures first { IfSome result (IsFirstAt self.now.forks
+            (record { axis = axis; runs = runs.now })) }
     {
         for (i, fork) in self.forks.iter().enumerate() {
             if fork.axis() == axis && are_same_runs(fork.runs(), runs) {
@@ -169,6 +175,8 @@ impl Sketch {
             (record { axis = axis; runs = runs.items }) b) }
         ensures leaves { self.new.leaves ≡ self.old.leaves }
         ensures spent { self.new.spent ≡ self.old.spent }
+        ensures rule { IfOk result (DrawsFork self.old self.new
+            (record { axis = axis; runs = runs.items })) }
         ensures err { IfErr result (λ f. f ≡ Memory) }
     {
         if let Some(place) = self.find_fork(axis, runs.as_slice()) {

@@ -1,7 +1,8 @@
-//! Windows of words: which cuts of a word tell something of a piece.
+//! Windows of words: which cuts of a word matter for a piece.
 
 ghost use Rattle.std.specs.Prelude.{◌≡◌, ◌<◌, ◌≤◌, ◌⊎◌, min, max};
 ghost use Rattle.sf_picture.specs.Cuts.{IsWindow};
+ghost use Rattle.sf_picture.specs.Cutting.{with_bits, fixed_by, has_fixed, window_first, window_last, window_of};
 
 use crate::axis::Axis;
 use sf_dom::Known;
@@ -16,12 +17,16 @@ pub(crate) struct FixedBits {
 
 impl FixedBits {
     /// No bit.
-    pub(crate) fn none() -> FixedBits {
+    pub(crate) fn none() -> FixedBits
+        ensures { result ≡ record { zeros = 0; ones = 0 } }
+    {
         FixedBits { zeros: 0, ones: 0 }
     }
 
     /// More bits.
-    fn and(self, zeros: u32, ones: u32) -> FixedBits {
+    fn and(self, zeros: u32, ones: u32) -> FixedBits
+        ensures { result ≡ with_bits self zeros ones }
+    {
         FixedBits {
             zeros: self.zeros | zeros,
             ones: self.ones | ones,
@@ -29,7 +34,9 @@ impl FixedBits {
     }
 
     /// These, and those that a test of an axis of the word against a number fixes, which has the result `sense`.
-    pub(crate) fn and_by_test(self, axis: Axis, test: Test, number: u32, sense: bool) -> FixedBits {
+    pub(crate) fn and_by_test(self, axis: Axis, test: Test, number: u32, sense: bool) -> FixedBits
+        ensures { result ≡ fixed_by self axis test number sense }
+    {
         let common = axis.mask & number;
         match (test, sense) {
             (Test::AnyBit, false) => self.and(common, 0),
@@ -40,7 +47,9 @@ impl FixedBits {
     }
 
     /// Whether a number has them.
-    fn allow(self, number: u32) -> bool {
+    fn allow(self, number: u32) -> bool
+        ensures { result ≡ has_fixed self number }
+    {
         number & self.zeros == 0 && number & self.ones == self.ones
     }
 }
@@ -57,7 +66,8 @@ pub(crate) struct Window {
 
 /// Where the window of a word begins whose numbers are at least `low`.
 fn first_of(low: u32, bits: FixedBits) -> u32
-    ensures { (result ≡ 0) ⊎ (result < low) }
+    ensures below { (result ≡ 0) ⊎ (result < low) }
+    ensures rule { result ≡ window_first low bits }
 {
     if low > 0 && bits.allow(low - 1) {
         low - 1
@@ -68,7 +78,8 @@ fn first_of(low: u32, bits: FixedBits) -> u32
 
 /// Where the window of a word ends whose numbers are at most `high`.
 fn last_of(high: u32, bits: FixedBits) -> u32
-    ensures { high ≤ result }
+    ensures above { high ≤ result }
+    ensures rule { result ≡ window_last high bits }
 {
     if high < u32::MAX && bits.allow(high + 1) {
         high
@@ -80,7 +91,8 @@ fn last_of(high: u32, bits: FixedBits) -> u32
 impl Window {
     /// The window of a word of which this is known.
     pub(crate) fn of(known: Known, bits: FixedBits) -> Window
-        ensures { IsWindow result known.low known.high }
+        ensures around { IsWindow result known.low known.high }
+        ensures rule { result ≡ window_of known bits }
     {
         Window {
             first: first_of(known.low, bits),

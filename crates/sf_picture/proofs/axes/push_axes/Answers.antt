@@ -1,4 +1,6 @@
-use Rattle.std.proofs.Common.{◌<◌, List, length, sym, subst, arith}
+use Rattle.std.proofs.lemmas.List.Elements.{Contains-get_or}
+use Rattle.sf_picture.proofs.AxisLemmas.{axes-only}
+use Rattle.std.proofs.Common.{◌<◌, List, length, get_or, sym, subst, arith}
 use Rattle.std.specs.Prelude.{Contains}
 use Rattle.sf_picture.specs.declared.cuts.Cut.{Cut}
 use Rattle.sf_picture.proofs.LastLemmas.{no_cut, axis-more, all-whole, HasAxis}
@@ -15,6 +17,11 @@ loop-cut-preserved c =
       has = axis-more cuts at no_cut c.loop-cut.axes.items c.push_axis.new.axes.items lt p.keeps p.has i.has;
       keeps = λ a there. p.keeps a (i.keeps a there);
       words = λ all. p.words (i.words all);
+      once = λ apart. p.once (i.once apart);
+      only = λ held there all. axes-only held c.args.one.now (get_or cuts at no_cut) c.loop-cut.axes.items
+          c.push_axis.new.axes.items there
+          (subst (λ (l : List Cut). Contains l (get_or cuts at no_cut)) c.cuts-cut-items.ensures
+          (Contains-get_or cuts at no_cut lt)) p.only (i.only held there all);
     }
 
 pub returns-clause-has : goal.returns-clause-has

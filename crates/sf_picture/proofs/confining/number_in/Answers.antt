@@ -16,4 +16,4 @@ pub returns-then-is_one_bit-clause-bit : goal.returns-then-is_one_bit-clause-bit
 returns-then-is_one_bit-clause-bit c = span-bit c.args.axis.mask c.args.first c.args.last c.if-first-eq0.false
 
 pub returns-clause-bit : goal.returns-clause-bit
-returns-clause-bit c = λ bit. absurd (true≢false (sym (c.if-is_one_bit.ensures.1 bit.one)))
+returns-clause-bit c = λ bit. absurd (true≢false (sym (c.if-is_one_bit.ensures.one.1 bit.one)))

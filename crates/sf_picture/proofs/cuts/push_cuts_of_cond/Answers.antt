@@ -1,6 +1,9 @@
 use Rattle.std.proofs.Common.{arith}
 use Rattle.std.proofs.lemmas.Option.{none-some, same_Some}
 use Rattle.sf_picture.proofs.CutLemmas.{cond-axis, cond-between, none-between}
+use Rattle.std.proofs.Common.{Some, refl}
+use Rattle.sf_picture.specs.Cutting.{AxisTest}
+use Rattle.sf_picture.proofs.GatherLemmas.{bits-set}
 use Rattle.sf_picture.proofs.cuts.push_cuts_of_cond.Goals as goal
 
 pub returns-in_default-clause-between : goal.returns-in_default-clause-between
@@ -22,3 +25,23 @@ returns-clause-between c = λ p.
 
 pub returns-clause-plain : goal.returns-clause-plain
 returns-clause-plain c = search (arith, same_Some, cond-axis)
+
+pub returns-clause-rule : goal.returns-clause-rule
+returns-clause-rule c =
+    let tested = c.in-Some.tested in
+    let axis = c.in-Some-axis_of.axis in
+    let t : AxisTest = record {
+      axis = axis;
+      test = tested.test;
+      number = tested.number;
+      sense = c.args.cond.now.sense;
+    } in
+    record {
+      tested = Some t;
+      is = (Some tested, c.in-Some.ensures.rule, (Some axis, c.in-Some-axis_of.ensures.rule, refl));
+      with = (
+        c.in_ok-push_cuts_of.ensures.rule,
+        λ word l. bits-set c.args.bits.now t c.and_by_test.result word
+            (omega (arith, c.requires.bits, c.in-Some-axis_of.ensures.inside)) c.and_by_test.ensures,
+      );
+    }

@@ -14,6 +14,11 @@ use Rattle.sf_picture.proofs.LastLemmas.{lasts-inside}
 use Rattle.sf_picture.proofs.DrawLemmas.{runs-grow, runs-whole, drawn-fork, whole-passed, passed-more, draws-none, draws-missed, draws-added}
 use Rattle.sf_picture.proofs.PlainLemmas.{child-task, skip-task, plain-span, one-label}
 use Rattle.sf_picture.proofs.AttainLemmas.{short-none, short-more, short-same, attained-missed, attained-added, attained-fork}
+use Rattle.std.proofs.Common.{true≢false, [], drop, inl, inr}
+use Rattle.std.proofs.lemmas.List.{take_all}
+use Rattle.sf_picture.specs.Narrowing.{AreLastsBy, AreNarrowedTo}
+use Rattle.sf_picture.specs.DrawnBy.{Draws, DrawsSpans}
+use Rattle.sf_picture.proofs.DrawnLemmas.{start-more, spans-none, spans-more, draws-one, draws-last, draws-early, draws-on}
 use Rattle.sf_picture.proofs.drawing.+draw.Goals as goal
 
 pub draw_span-returns-then-is_past-clause-drawn : goal.draw_span-returns-then-is_past-clause-drawn
@@ -85,7 +90,19 @@ draw_span-returns-clause-attained t c = λ held s labels box from part task is b
     ahead.0 ahead.1 part.only))) before
 
 pub draw-loop-last-init : goal.draw-loop-last-init
-draw-loop-last-init t c = grind (arith, common_steps, grows-none, short-none)
+draw-loop-last-init t c = rw c.new-runs.ensures.items (record {
+  grows = grows-none c.args.sketch.now;
+  right = c.requires.right;
+  runs = record { rising = tt; apart = tt; lead = tt; ends = tt };
+  found = λ i h l d held less. absurd (omega arith);
+  short = omega arith;
+  passed = λ k l. absurd (omega arith);
+  spans = spans-none _ c.args.held.now _ c.args.sketch.now;
+  start = refl;
+  ahead = λ l. omega arith;
+  keeps_short = λ s labels box task. short-none c.args.sketch.now;
+  attained = λ s labels box task place from l. absurd (omega arith);
+})
 
 pub draw-loop-last-preserved : goal.draw-loop-last-preserved
 draw-loop-last-preserved t c =
@@ -107,6 +124,15 @@ draw-loop-last-preserved t c =
     c.if-len-eq1.false (omega (arith, c.len.ensures, one, ap length c.as_slice-last-items.ensures.value)) in
     let on : get_or axes c.args.at axis ≡ axis = get_or_default axes c.args.at axis _ (omega arith) in
     let d = c.in_ok-first.ensures.drawn c.args.held.now part in
+    let last : ℕ = slice_index lasts index in
+    let le : c.loop-last.first ≤ last = i.ahead inside in
+    let bound : last ≤ axis.mask = lasts-inside c.args.held.now axis lasts index l inside in
+    let sp = c.in_ok-first.ensures.rule le bound in
+    let rising = (subst (AreLastsBy c.args.held.now axis) (sym c.as_slice-last-items.ensures.value)
+    c.in_ok-lasts.ensures.rule).rising in
+    let narrowed : AreNarrowedTo c.args.held.now axis c.loop-last.first last c.as_slice-in-loop-last.result.now =
+    rw c.as_slice-in-loop-last.ensures.value
+    (c.in_ok-inside.ensures.rule le bound (c.as_slice.ensures.value ∙ c.in_ok-ends.ensures.rule)) in
     let span = λ (s : BookData) (labels : List ℕ) (box : List Span)
     (task : IsPlainTask s labels box c.args.held.now axes c.args.at).
     plain-span s labels box c.args.held.now axes c.args.at axis lasts index c.loop-last.first (slice_index lasts index)
@@ -119,6 +145,12 @@ draw-loop-last-preserved t c =
       short = d.short;
       passed = passed-more lasts index c.loop-last.first c.in_ok-first.first i.passed d.onward
           (d.passed (lasts-inside c.args.held.now axis lasts index l inside));
+      spans = spans-more (Draws (drop (c.args.at + 1) axes)) c.args.held.now axis lasts index c.loop-last.first last
+          c.args.sketch.now c.loop-last.sketch c.loop-last.runs.items c.as_slice-in-loop-last.result.now sp.branch
+          c.draw_span.new.sketch c.draw_span.new.runs.items inside (sym (get_or_default lasts index last _ inside))
+          i.start i.spans narrowed sp.drawn sp.run;
+      start = sp.next_is ∙ sym (start-more lasts index 0 inside);
+      ahead = λ more. omega (arith, sp.next_is, rising index more);
       keeps_short = λ s labels box task. short-more c.args.sketch.now c.loop-last.sketch c.draw_span.new.sketch
           (i.keeps_short s labels box task)
           (c.in_ok-first.ensures.short c.args.held.now s labels box part task (span s labels box task));
@@ -128,7 +160,7 @@ draw-loop-last-preserved t c =
 
 pub draw-returns-then-is_one_label-clause-short : goal.draw-returns-then-is_one_label-clause-short
 draw-returns-then-is_one_label-clause-short t c = IfOk-weaker c.leaf_of_held.result _ _
-    (λ _ h s labels box task. h (c.if-is_one_label.ensures refl)) c.leaf_of_held.ensures.short
+    (λ _ h s labels box task. h (c.if-is_one_label.ensures.0 refl)) c.leaf_of_held.ensures.short
 
 pub draw-returns-then-at-axes-clause-short : goal.draw-returns-then-at-axes-clause-short
 draw-returns-then-at-axes-clause-short t c = IfOk-weaker c.leaf_of_held-then-at-axes.result _ _
@@ -187,3 +219,63 @@ draw-returns-clause-attained t c = λ s labels box task.
     attained-fork c.in_ok-drawn.drawn (length c.args.sketch.now.leaves) c.loop-last.sketch c.fork_of.new.sketch _
     c.loop-last.runs.items c.loop-last.first c.args.held.now c.in_ok-drawn.ensures.grows i.right
     c.in_ok-drawn.ensures.leaves c.in_ok-drawn.ensures.fork (i.attained s labels box task)
+
+pub draw-returns-then-is_one_label-clause-rule : goal.draw-returns-then-is_one_label-clause-rule
+draw-returns-then-is_one_label-clause-rule t c = IfOk-weaker c.leaf_of_held.result _ _
+    (λ b leaf. draws-one (drop c.args.at c.args.axes.now) c.args.held.now c.args.sketch.now c.leaf_of_held.new.sketch b
+    (c.if-is_one_label.ensures.0 refl) leaf) c.leaf_of_held.ensures.rule
+
+pub draw-returns-then-at-axes-clause-rule : goal.draw-returns-then-at-axes-clause-rule
+draw-returns-then-at-axes-clause-rule t c = IfOk-weaker c.leaf_of_held-then-at-axes.result _ _
+    (λ b leaf. draws-last c.args.axes.now c.args.at c.args.held.now c.args.sketch.now
+    c.leaf_of_held-then-at-axes.new.sketch b (omega arith)
+    (λ one. true≢false (sym (c.if-is_one_label.ensures.1 one))) leaf) c.leaf_of_held-then-at-axes.ensures.rule
+
+pub draw-returns-then-is_full-clause-rule : goal.draw-returns-then-is_full-clause-rule
+draw-returns-then-is_full-clause-rule t c =
+    let axes = c.args.axes.now in
+    let axis : Axis = get_or axes c.args.at (record { word = 0; mask = 0 }) in
+    let on : get_or axes c.args.at axis ≡ axis = get_or_default axes c.args.at axis _ (omega arith) in
+    IfOk-weaker c.early_leaf_of.result _ _
+    (λ b leaf. draws-early axes c.args.at axis c.args.held.now c.args.sketch.now c.early_leaf_of.new.sketch b
+    (omega arith) on (λ one. true≢false (sym (c.if-is_one_label.ensures.1 one))) (c.if-is_full.ensures.0 refl) leaf)
+    c.early_leaf_of.ensures.rule
+
+pub draw-returns-then-len-eq1-clause-rule : goal.draw-returns-then-len-eq1-clause-rule
+draw-returns-then-len-eq1-clause-rule t c =
+    let axes = c.args.axes.now in
+    let axis : Axis = get_or axes c.args.at (record { word = 0; mask = 0 }) in
+    let on : get_or axes c.args.at axis ≡ axis = get_or_default axes c.args.at axis _ (omega arith) in
+    let one : length c.in_ok-lasts.lasts.items ≡ 1 = omega (arith, c.len.ensures) in
+    IfOk-weaker c.draw.result _ _
+    (λ b drawn. draws-on axes c.args.at axis c.args.held.now c.args.sketch.now c.draw.new.sketch b (omega arith) on
+    (λ one. true≢false (sym (c.if-is_one_label.ensures.1 one)))
+    (λ full. true≢false (sym (c.if-is_full.ensures.1 full)))
+    (c.in_ok-lasts.lasts.items, c.in_ok-lasts.ensures.rule, inl (one, drawn))) c.draw.ensures.rule
+
+pub draw-returns-clause-rule : goal.draw-returns-clause-rule
+draw-returns-clause-rule t c =
+    let axes = c.args.axes.now in
+    let axis : Axis = get_or axes c.args.at (record { word = 0; mask = 0 }) in
+    let on : get_or axes c.args.at axis ≡ axis = get_or_default axes c.args.at axis _ (omega arith) in
+    let lasts = c.as_slice-last-items.result.now in
+    let several : length lasts ≡ 1 → ⊥ = λ one.
+    c.if-len-eq1.false (omega (arith, c.len.ensures, one, ap length c.as_slice-last-items.ensures.value)) in
+    draws-on axes c.args.at axis c.args.held.now c.args.sketch.now c.fork_of.new.sketch
+    c.in_ok-drawn.drawn (omega arith)
+    on (λ one. true≢false (sym (c.if-is_one_label.ensures.1 one)))
+    (λ full. true≢false (sym (c.if-is_full.ensures.1 full))) (
+      lasts,
+      subst (AreLastsBy c.args.held.now axis) (sym c.as_slice-last-items.ensures.value) c.in_ok-lasts.ensures.rule,
+      inr (
+        several,
+        (
+          c.loop-last.sketch,
+          c.loop-last.runs.items,
+          subst (λ (ns : List ℕ). DrawsSpans (Draws (drop (c.args.at + 1) axes)) c.args.held.now axis 0 ns
+              c.args.sketch.now [] c.loop-last.sketch c.loop-last.runs.items)
+              (take_all c.loop-last.last-index lasts (omega arith)) c.loop-last.invariant.spans,
+          c.in_ok-drawn.ensures.rule,
+        ),
+      ),
+    )

@@ -7,6 +7,8 @@ use Rattle.sf_picture.specs.PlainHolding.{IsPlainHeld}
 use Rattle.sf_picture.specs.Drawing.{IsShort}
 use Rattle.sf_picture.proofs.DrawLemmas.{region-shown}
 use Rattle.sf_picture.proofs.AttainLemmas.{picture-attained}
+use Rattle.sf_picture.specs.declared.picture.Branch.{Branch}
+use Rattle.sf_picture.specs.DrawnBy.{DrawsRoot, empty_sketch}
 use Rattle.sf_picture.proofs.drawing.picture_of.Goals as goal
 
 pub returns-clause-shows : goal.returns-clause-shows
@@ -41,3 +43,22 @@ returns-clause-attained c = λ plain some place lt.
     held place same all
     (c.in_ok-root.ensures.attained c.args.settled.now c.args.labels.now c.in_ok-held.ensures.lawful all
     (omega (arith, count, some)) place inside)
+
+pub returns-clause-rule : goal.returns-clause-rule
+returns-clause-rule c =
+    let same = c.picture_from.ensures.picture in
+    let root = ap (λ (p : PictureData). p.root) same in
+    record {
+      held = c.in_ok-held.held.items;
+      of = c.in_ok-held.ensures.rule;
+      sketch = c.root_of.new.sketch;
+      drawn = subst (DrawsRoot c.in_ok-held.held.items (empty_sketch c.args.leaves) c.root_of.new.sketch) (sym root)
+          (rw (c.as_slice.ensures.value, c.new-sketch.ensures.rule) at c.in_ok-root.ensures.rule);
+      is = same ∙ ap (λ (b : Branch). let p : PictureData = record {
+        leaves = c.root_of.new.sketch.leaves;
+        forks = c.root_of.new.sketch.forks;
+        root = b;
+        spent = c.root_of.new.sketch.spent;
+        drawn = c.root_of.new.sketch.drawn;
+      } in p) (sym root);
+    }

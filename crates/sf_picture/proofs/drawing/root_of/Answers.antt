@@ -1,4 +1,3 @@
-use Rattle.std.proofs.lemmas.Grind.{common_steps}
 use Rattle.std.proofs.Common.{◌≡◌, ◌≤◌, [], length, sym, ap, subst, arith}
 use Rattle.std.specs.Prelude.{All}
 use Rattle.std.proofs.lemmas.List.Elements.{All-nil}
@@ -9,7 +8,9 @@ use Rattle.sf_picture.proofs.AttainLemmas.{short-leaf, short-more, not-none}
 use Rattle.sf_picture.proofs.drawing.root_of.Goals as goal
 
 pub returns-in_default-clause-shown : goal.returns-in_default-clause-shown
-returns-in_default-clause-shown c = grind (arith, common_steps, none-shows)
+returns-in_default-clause-shown c =
+    none-shows c.leaf.new.self c.in_ok-leaf.leaf c.new.result.items c.args.held.now c.in_ok-leaf.ensures.leaf
+    (rw c.in_default.is at c.in_ok-root.ensures.drawn)
 
 pub returns-clause-shown : goal.returns-clause-shown
 returns-clause-shown c = rw c.in-Some.is at c.in_ok-root.ensures.drawn

@@ -1,9 +1,10 @@
 use Rattle.std.proofs.Common.{arith, eqb, sym, subst}
-use Rattle.std.specs.List.Sorted.{IsNonDecreasing}
+use Rattle.std.specs.List.Sorted.{IsNonDecreasing, IsStrictlyIncreasing}
 use Rattle.std.proofs.lemmas.List.Filters.{dedup_is}
 use Rattle.std.proofs.lemmas.Map.Keys.{IsStrictlyIncreasing-dedup}
 use Rattle.sf_picture.proofs.HoldingLemmas.{there-at}
 use Rattle.sf_picture.proofs.LastLemmas.{lasts-more, lasts-whole, rising-ascends}
+use Rattle.sf_picture.proofs.AxisLemmas.{lasts-exact}
 use Rattle.sf_picture.proofs.lasts.lasts_of.Goals as goal
 
 pub loop-one-preserved : goal.loop-one-preserved
@@ -26,3 +27,15 @@ returns-clause-lasts c =
     c.dedup.new.self.items c.loop-one.one-index (omega arith) i.has i.only c.sort_unstable.ensures.permutation once
     (subst IsNonDecreasing (sym once)
     (rising-ascends _ (IsStrictlyIncreasing-dedup c.sort_unstable.new.self.items c.sort_unstable.ensures.sorted))))
+
+pub returns-clause-rule : goal.returns-clause-rule
+returns-clause-rule c =
+    let i = c.loop-one.invariant in
+    let once = dedup_is eqb c.sort_unstable.new.self.items c.dedup.new.self.items c.dedup.ensures.filtered in
+    let rising = IsStrictlyIncreasing-dedup c.sort_unstable.new.self.items c.sort_unstable.ensures.sorted in
+    rw c.in_ok-push.ensures.items
+    (lasts-exact c.args.held.now c.args.axis c.dedup.new.self.items
+    (lasts-whole c.args.held.now c.args.axis c.loop-one.lasts.items c.sort_unstable.new.self.items
+    c.dedup.new.self.items c.loop-one.one-index (omega arith) i.has i.only c.sort_unstable.ensures.permutation once
+    (subst IsNonDecreasing (sym once) (rising-ascends _ rising)))
+    (subst IsStrictlyIncreasing (sym once) rising))

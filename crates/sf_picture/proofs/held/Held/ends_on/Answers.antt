@@ -7,4 +7,4 @@ pub returns-clause-ends : goal.returns-clause-ends
 returns-clause-ends c =
     known-ends c.args.self.now c.args.axis c.of.result c.known-known.result c.requires c.facts.ensures.covers
     (c.known-known.ensures ∙ ap (λ (f : FactsView). known_at f.known c.args.axis.word) c.facts.ensures.value)
-    c.of.ensures
+    c.of.ensures.between

@@ -1,0 +1,13 @@
+-- What the rules of pictures promise, said of the rules alone: there is one.
+use Rattle.std.specs.Prelude.{◌≡◌, ℕ, List, []}
+use Rattle.sf_book.specs.Books.{BookData, IsSettled}
+use Rattle.sf_book.specs.Unfoldings.{IsFringe}
+use Rattle.sf_picture.specs.PictureData.{PictureData}
+use Rattle.sf_picture.specs.DrawnBy.{HasPicture}
+
+-- two explorations of one stack that both ended with nothing outstanding have one picture for the same labels of their
+-- regions, of which as many leaves are allowed
+abbrev pub HaveOnePicture : Type 0
+HaveOnePicture = (s t : BookData) (labels : List ℕ) (leaves : ℕ) (p q : PictureData) → IsSettled s → IsSettled t
+    → IsFringe s → IsFringe t → s.stack ≡ t.stack → s.outstanding ≡ [] → t.outstanding ≡ []
+    → HasPicture s labels leaves p → HasPicture t labels leaves q → p ≡ q
