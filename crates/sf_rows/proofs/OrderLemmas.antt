@@ -1,8 +1,13 @@
 -- What is in order stays in order where repeats are left out.
-use Rattle.std.proofs.Common.{◌≡◌, ℕ, zero, suc, ◌<◌, ◌≤◌, Bool, true, false, List, [], ◌∷◌, length, get_or, refl, sym, ◌∙◌, inl, inr, arith}
+use Rattle.std.proofs.Common.{◌≡◌, ℕ, zero, suc, ◌<◌, ◌≤◌, Bool, true, false, List, [], ◌∷◌, ◌+◌, ◌++◌, length, map, take, drop, get_or, refl, sym, ap, subst, ◌∙◌, inl, inr, arith}
 use Rattle.std.specs.Prelude.{Contains}
 use Rattle.std.specs.List.{dedup, dedup_from}
-use Rattle.std.specs.List.Sorted.{IsNonDecreasingBy}
+use Rattle.std.specs.List.Retain.{DiffersFromLast, IsFiltered}
+use Rattle.std.specs.List.Sorted.{IsNonDecreasingBy, IsStableByKey}
+use Rattle.std.specs.Ordering.{nat_cmp}
+use Rattle.std.proofs.lemmas.List.{map-append, take_more}
+use Rattle.std.proofs.lemmas.List.Filters.{dedup_is}
+use Rattle.sf_rows.specs.InOrder.{IsInOrder}
 use Rattle.std.proofs.lemmas.Bool.{cases_Bool}
 
 -- n is at least a number at the first element, and never falls
@@ -71,3 +76,38 @@ pub keeps-dedup : {X : Type 0} (E : X → X → Bool) → ((x y : X) → E x y �
     → Contains xs a → Contains (dedup E xs) a
 keeps-dedup E once [] a there = there
 keeps-dedup E once (x ∷ xs) a there = keeps-dedup_from E once x xs a there
+
+-- what a stable sort and then a removal of repeats leave is in order
+pub in-order : {X : Type 0} (n : X → ℕ) (all sorted listed : List X) (E : X → X → Bool)
+    → IsFiltered (DiffersFromLast E) [] sorted listed → IsNonDecreasingBy n sorted
+    → IsStableByKey n nat_cmp all sorted → ((a b : X) → E a b ≡ true → a ≡ b)
+    → ((a b : X) → E a b ≡ false → a ≡ b → ⊥) → IsInOrder n all listed
+in-order n all sorted listed E filtered rises stable alike apart = record {
+  sorted = sorted;
+  rises = rises;
+  stable = stable;
+  equal = E;
+  is_equality = λ a b. (
+    alike a b,
+    λ e. elim (cases_Bool (E a b)) [
+      | inl same ↦ same
+      | inr other ↦ absurd (apart a b other e)
+    ],
+  );
+  once = dedup_is E sorted listed filtered;
+}
+
+-- what stands at a place, and what comes behind it
+pub next-from : {X : Type 0} (xs : List X) (i : ℕ) (d : X) → i < length xs
+    → drop i xs ≡ get_or xs i d ∷ drop (i + 1) xs
+next-from [] i d lt = absurd (omega arith)
+next-from (x ∷ xs) zero d lt = refl
+next-from (x ∷ xs) (suc i) d lt =
+    let e : suc i + 1 ≡ suc (i + 1) = omega arith in rw e (next-from xs i d (omega arith))
+
+-- one more is mapped
+pub map-more : {X Y : Type 0} (f : X → Y) (xs : List X) (i : ℕ) (x : X) (ys : List Y) → i < length xs
+    → get_or xs i x ≡ x → ys ≡ map f (take i xs) → ys ++ f x ∷ [] ≡ map f (take (i + 1) xs)
+map-more f xs i x ys lt is so_far =
+    ap (λ l. l ++ f x ∷ []) so_far ∙ sym (ap (map f) (take_more xs i x lt ∙ ap (λ y. take i xs ++ y ∷ []) is)
+    ∙ map-append f (take i xs) (x ∷ []))

@@ -1,5 +1,7 @@
 pub mod Parts
 pub mod Rows
+pub mod InOrder
+pub mod InOrderLaws
 pub mod Answers
 pub mod Pairs
 pub mod Lines

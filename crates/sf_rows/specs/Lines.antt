@@ -90,14 +90,14 @@ abbrev pub place_words : ScopeData → List ℕ
 place_words s = codes "arch " ++ (arch_words s.arch ++ (codes " nr " ++ (nr_words s.nr ++ 32 ∷ [])))
 
 -- the number of spans that are one number
-abbrev pub number_of : List Span → Option ℕ
-number_of (s ∷ []) = if s.first == s.last then Some s.first else None
-number_of _ = None
+abbrev pub single_number : List Span → Option ℕ
+single_number (s ∷ []) = if s.first == s.last then Some s.first else None
+single_number _ = None
 
 -- the architecture that is meant, where it is only one
 abbrev pub only_arch : Option PartData → Option ℕ
 only_arch None = None
-only_arch (Some p) = if p.is_rest then None else number_of p.spans
+only_arch (Some p) = if p.is_rest then None else single_number p.spans
 
 -- the names of the calls of an architecture whose numbers are in a span
 abbrev pub names_in_span : List NamesData → ℕ → Span → List (List ℕ)

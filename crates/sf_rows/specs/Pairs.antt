@@ -3,6 +3,7 @@ use Rattle.std.specs.Prelude.{◌≡◌, ◌≢◌, ◌⊎◌, ℕ, ◌+◌, ◌
 use Rattle.sf_run.specs.declared.replaying.PartAnswers.{PartAnswers}
 use Rattle.sf_policy.specs.Texts.{answer_words}
 use Rattle.sf_rows.specs.Answers.{answer_order}
+use Rattle.sf_rows.specs.InOrder.{IsInOrder}
 
 -- the two answers differ: in the action or in its data
 abbrev pub Differ : PartAnswers → Type 0
@@ -11,6 +12,22 @@ Differ both = both.older ≢ both.newer
 -- a number by which pairs of answers are put in order: by the old stack's answers, and then by those of the new one
 abbrev pub pair_order : PartAnswers → ℕ
 pair_order both = answer_order both.older * 2 ^ 48 + answer_order both.newer
+
+-- two answers come behind pairs, if they differ
+abbrev pub AddsChanged : PartAnswers → (old new : List PartAnswers) → Type 0
+AddsChanged both old new = (Differ both × (new ≡ old ++ both ∷ [])) ⊎ ((both.older ≡ both.newer) × (new ≡ old))
+
+-- the pairs that differ, one after the other, behind others
+abbrev pub AreChangedOf : (all before changed : List PartAnswers) → Type 0
+AreChangedOf [] before changed = changed ≡ before
+AreChangedOf (both ∷ all) before changed =
+    (next : List PartAnswers) × AddsChanged both before next × AreChangedOf all next changed
+
+-- the pairs of answers that differ, in order and each once
+pub record ArePairsOf (all pairs : List PartAnswers) : Type 0 where
+  pub changed : List PartAnswers
+  pub of : AreChangedOf all [] changed
+  pub order : IsInOrder pair_order changed pairs
 
 -- A label of two answers: the first place that they have among the pairs, where they differ; and the number behind all
 -- places, where they are the same.

@@ -6,6 +6,7 @@ ghost use Rattle.sf_run.specs.declared.action.Answer.{Answer as AnAnswer};
 ghost use Rattle.sf_book.specs.Books.{RegionData};
 ghost use Rattle.sf_picture.specs.Answering.{TellAnswers};
 ghost use Rattle.sf_rows.specs.Answers.{AreFirstPlaces, answer_order};
+ghost use Rattle.sf_rows.specs.InOrder.{IsInOrder};
 ghost use Rattle.sf_policy.specs.Texts.{answer_words};
 
 use sf_book::Settled;
@@ -22,14 +23,16 @@ pub(crate) fn order_of(answer: Answer) -> u64
     rank as u64 * 65536 + answer.info as u64
 }
 
-/// Puts answers in order, each once, in place.
-fn put_in_order(answers: &mut Vec<Answer>)
-    ensures keeps { (a : AnAnswer) → Contains answers.old.items a
-        → Contains answers.new.items a }
-    ensures order { IsNonDecreasingBy answer_order answers.new.items }
+/// Puts answers in order, each once, in place. An error where an allocation is refused.
+fn put_in_order(answers: &mut Vec<Answer>) -> Result<(), AllocError>
+    ensures keeps { OnOk result ((a : AnAnswer) → Contains answers.old.items a
+        → Contains answers.new.items a) }
+    ensures order { OnOk result (IsNonDecreasingBy answer_order answers.new.items) }
+    ensures rule { OnOk result (IsInOrder answer_order answers.old.items answers.new.items) }
 {
-    answers.sort_unstable_by_key(|answer| order_of(*answer));
+    answers.sort_by_key(|answer| order_of(*answer))?;
     answers.dedup();
+    Ok(())
 }
 
 /// The answers of all regions, each once, by precedence and then by data. A label is a place among them.
@@ -37,12 +40,14 @@ pub fn answers_of(alloc: Global, settled: &Settled) -> Result<Vec<Answer>, Alloc
     ensures each { IfOk result (λ v. All (λ (r : RegionData). Contains v.items r.answer)
         settled.now.regions) }
     ensures order { IfOk result (λ v. IsNonDecreasingBy answer_order v.items) }
+    ensures rule { IfOk result (λ v. IsInOrder answer_order
+        (map (λ (r : RegionData). r.answer) settled.now.regions) v.items) }
 {
     let mut answers = Vec::new(alloc);
     for place in 0..settled.region_count() {
         answers.push(settled.region(place).answer())?;
     }
-    put_in_order(&mut answers);
+    put_in_order(&mut answers)?;
     Ok(answers)
 }
 

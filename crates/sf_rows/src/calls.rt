@@ -1,4 +1,4 @@
-//! Rows, told call by call: for each call that has a name the rows that are about it.
+//! Rows, shown call by call: for each call that has a name the rows that are about it.
 
 ghost use Rattle.std.specs.Prelude.{◌≡◌, ◌++◌, IfOk, OnOk, count_by, map, string_bytes};
 ghost use Rattle.std.specs.List.{flat_map, list_all, list_any};
@@ -90,7 +90,7 @@ fn call_meets_all(arch: u32, number: u32, conditions: &[Condition]) -> bool
         .all(|condition| call_meets(arch, number, condition))
 }
 
-/// Whether a row is about a call: as far as number and architecture tell, the call's inputs may lie in it.
+/// Whether a row is about a call: by the call's number and architecture, its inputs may lie in the row.
 fn is_about_call(arch: u32, number: u32, scope: &Scope) -> bool
     ensures { result ≡ is_about_call arch number scope.now }
 {
@@ -115,7 +115,7 @@ fn push_if_about<'a>(
     Ok(())
 }
 
-/// Adds of some rows those that are about a call.
+/// Adds those of some rows that are about a call.
 fn push_rows_of_call<'a>(
     into: &mut Vec<CallRow<'a>>,
     rows: &'a [Row],

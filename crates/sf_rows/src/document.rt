@@ -20,18 +20,18 @@ use sf_names::Names;
 use sf_policy::Fault;
 use std::alloc::{AllocError, Global};
 
-/// Rows as they are told.
+/// Rows as JSON, and their counts.
 #[derive(Drop)]
 pub struct RowDocuments {
     /// Those of calls, call by call; `null` where this isn't asked for.
     pub calls: Document,
-    /// Those that are told each by itself.
+    /// Those that are shown each by itself.
     pub rows: Document,
     /// How many they are, and how many of them have several answers.
     pub total: Document,
 }
 
-/// How many rows are told, and how many of them have several answers.
+/// How many rows are shown, and how many of them have several answers.
 fn total_of(alloc: Global, rows: usize, undetermined: usize) -> Result<Document, AllocError>
     ensures { IfOk result (λ d. view d ≡ fields ((codes "rows", count rows)
         ∷ (codes "undetermined", count undetermined) ∷ [])) }

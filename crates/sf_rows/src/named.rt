@@ -2,7 +2,7 @@
 
 ghost use Rattle.std.specs.Prelude.{◌≡◌, ◌++◌, OnOk, string_bytes};
 ghost use Rattle.sf_names.specs.Names.{names_words};
-ghost use Rattle.sf_rows.specs.Lines.{names_in_part, names_in_spans, number_of, only_arch, row_names};
+ghost use Rattle.sf_rows.specs.Lines.{names_in_part, names_in_spans, single_number, only_arch, row_names};
 
 use crate::parts::{Part, Span};
 use crate::rows::Scope;
@@ -10,8 +10,8 @@ use sf_names::{Names, push_names_between};
 use std::alloc::AllocError;
 
 /// The only number that spans have; none where they have several, or none.
-fn number_of(spans: &[Span]) -> Option<u32>
-    ensures { result ≡ number_of spans.now }
+fn single_number(spans: &[Span]) -> Option<u32>
+    ensures { result ≡ single_number spans.now }
 {
     match spans {
         [span] => {
@@ -34,7 +34,7 @@ pub(crate) fn only_arch(arch: &Option<Part>) -> Option<u32>
             if part.is_rest() {
                 return None;
             }
-            number_of(part.spans())
+            single_number(part.spans())
         }
         None => None,
     }

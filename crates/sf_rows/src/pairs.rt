@@ -1,9 +1,10 @@
 //! The pairs of answers of two stacks, by their labels.
 
-ghost use Rattle.std.specs.Prelude.{◌≡◌, ◌≢◌, ◌<◌, ◌≤◌, ◌↔◌, ℕ, All, Contains, IfOk, IsTrue, Some, false, length, map, slice_get, slice_index, string_bytes, true};
+ghost use Rattle.std.specs.Prelude.{◌≡◌, ◌≢◌, ◌<◌, ◌≤◌, ◌↔◌, ℕ, All, Contains, IfOk, IsTrue, OnOk, Some, false, length, map, slice_get, slice_index, string_bytes, true};
 ghost use Rattle.std.specs.List.Sorted.{IsNonDecreasingBy};
 ghost use Rattle.sf_run.specs.declared.replaying.PartAnswers.{PartAnswers as APair};
-ghost use Rattle.sf_rows.specs.Pairs.{Differ, IsLabelOf, pair_order, pair_words, pairs_words};
+ghost use Rattle.sf_rows.specs.InOrder.{IsInOrder};
+ghost use Rattle.sf_rows.specs.Pairs.{AddsChanged, ArePairsOf, Differ, IsLabelOf, pair_order, pair_words, pairs_words};
 
 use crate::answers::{order_of, push_answer};
 use sf_run::PartAnswers;
@@ -31,14 +32,17 @@ fn are_equal(one: PartAnswers, other: PartAnswers) -> bool
     one.older == other.older && one.newer == other.newer
 }
 
-/// Puts pairs in order, each once, in place.
-fn put_in_order(pairs: &mut Vec<PartAnswers>)
-    ensures keeps { (p : APair) → Contains pairs.old.items p → Contains pairs.new.items p }
-    ensures differ { All Differ pairs.old.items → All Differ pairs.new.items }
-    ensures order { IsNonDecreasingBy pair_order pairs.new.items }
+/// Puts pairs in order, each once, in place. An error where an allocation is refused.
+fn put_in_order(pairs: &mut Vec<PartAnswers>) -> Result<(), AllocError>
+    ensures keeps { OnOk result ((p : APair) → Contains pairs.old.items p
+        → Contains pairs.new.items p) }
+    ensures differ { OnOk result (All Differ pairs.old.items → All Differ pairs.new.items) }
+    ensures order { OnOk result (IsNonDecreasingBy pair_order pairs.new.items) }
+    ensures rule { OnOk result (IsInOrder pair_order pairs.old.items pairs.new.items) }
 {
-    pairs.sort_unstable_by_key(|both| pair_order_of(*both));
+    pairs.sort_by_key(|both| pair_order_of(*both))?;
     pairs.dedup();
+    Ok(())
 }
 
 /// Adds a pair, unless its answers are the same.
@@ -48,6 +52,7 @@ fn push_changed(pairs: &mut Vec<PartAnswers>, both: PartAnswers) -> Result<(), A
     ensures keeps { IfOk result (λ _. (p : APair) → Contains pairs.old.items p
         → Contains pairs.new.items p) }
     ensures differ { IfOk result (λ _. All Differ pairs.new.items) }
+    ensures rule { OnOk result (AddsChanged both pairs.old.items pairs.new.items) }
 {
     if is_same(both) {
         return Ok(());
@@ -63,12 +68,13 @@ pub fn pairs_of(alloc: Global, answers: &[PartAnswers]) -> Result<Vec<PartAnswer
         → Contains v.items p) answers.now) }
     ensures differ { IfOk result (λ v. All Differ v.items) }
     ensures order { IfOk result (λ v. IsNonDecreasingBy pair_order v.items) }
+    ensures rule { IfOk result (λ v. ArePairsOf answers.now v.items) }
 {
     let mut pairs = Vec::new(alloc);
     for both in answers {
         push_changed(&mut pairs, *both)?;
     }
-    put_in_order(&mut pairs);
+    put_in_order(&mut pairs)?;
     Ok(pairs)
 }
 

@@ -60,8 +60,8 @@ impl Part {
         })
     }
 
-    /// The same again. `Memory` where it has too many owners.
-    pub(crate) fn again(&self) -> Result<Part, Fault>
+    /// A copy, which shares the spans. `Memory` where they have too many owners.
+    pub(crate) fn try_clone(&self) -> Result<Part, Fault>
         ensures same { IfOk result (λ p. p ≡ self.now) }
         ensures refused { IfErr result (λ e. e ≡ MemoryFault) }
     {
@@ -300,7 +300,7 @@ fn branches_of(alloc: Global, runs: &[Run]) -> Result<Vec<Branch>, AllocError>
     Ok(branches)
 }
 
-/// Of a branch and others the first one to which most numbers lead.
+/// The one to which most numbers lead, of a branch and others; where there are several, the first.
 fn largest(runs: &[Run], branch: Branch, others: &[Branch]) -> Branch
     requires { RiseFrom 0 runs.now }
     ensures { result ≡ largest_of runs.now branch others.now }

@@ -57,13 +57,13 @@ impl Condition {
         self.axis.word == 0 || self.axis.word == 1
     }
 
-    /// The same again. `Memory` where the part has too many owners.
-    fn again(&self) -> Result<Condition, Fault>
+    /// A copy, which shares the part. `Memory` where the part has too many owners.
+    fn try_clone(&self) -> Result<Condition, Fault>
         ensures same { IfOk result (λ c. c ≡ self.now) }
         ensures refused { IfErr result (λ e. e ≡ MemoryFault) }
     {
         let axis = self.axis;
-        let part = self.part.again()?;
+        let part = self.part.try_clone()?;
         Ok(Condition { axis, part })
     }
 }
@@ -90,13 +90,13 @@ impl Model for Scope {
 }
 
 /// The same part again, if there is one. `Memory` where it has too many owners.
-pub(crate) fn part_again(part: &Option<Part>) -> Result<Option<Part>, Fault>
+pub(crate) fn clone_part(part: &Option<Part>) -> Result<Option<Part>, Fault>
     ensures same { IfOk result (λ p. p ≡ part.now) }
     ensures refused { IfErr result (λ e. e ≡ MemoryFault) }
 {
     match part {
         Some(part) => {
-            let same = part.again()?;
+            let same = part.try_clone()?;
             Ok(Some(same))
         }
         None => Ok(None),
@@ -104,7 +104,7 @@ pub(crate) fn part_again(part: &Option<Part>) -> Result<Option<Part>, Fault>
 }
 
 /// The same conditions again. `Memory` where an allocation is refused.
-pub(crate) fn conditions_again(
+pub(crate) fn clone_conditions(
     alloc: Global,
     conditions: &[Condition],
 ) -> Result<Vec<Condition>, Fault>
@@ -113,14 +113,14 @@ pub(crate) fn conditions_again(
 {
     let mut copy = Vec::new(alloc);
     for condition in conditions {
-        let same = condition.again()?;
+        let same = condition.try_clone()?;
         copy.push(same)?;
     }
     Ok(copy)
 }
 
 /// Whether an axis is this word, and all its bits.
-fn is_word(axis: Axis, word: usize) -> bool
+fn is_whole_word(axis: Axis, word: usize) -> bool
     ensures { result ≡ is_whole axis word }
 {
     axis.word == word && axis.mask == u32::MAX
@@ -172,14 +172,14 @@ impl Scope {
         self.conditions.as_slice()
     }
 
-    /// The same again. `Memory` where an allocation is refused.
-    pub(crate) fn again(&self, alloc: Global) -> Result<Scope, Fault>
+    /// A copy. `Memory` where an allocation is refused.
+    pub(crate) fn try_clone(&self, alloc: Global) -> Result<Scope, Fault>
         ensures same { IfOk result (λ p. p ≡ self.now) }
         ensures refused { IfErr result (λ e. e ≡ MemoryFault) }
     {
-        let arch = part_again(&self.arch)?;
-        let nr = part_again(&self.nr)?;
-        let conditions = conditions_again(alloc, self.conditions.as_slice())?;
+        let arch = clone_part(&self.arch)?;
+        let nr = clone_part(&self.nr)?;
+        let conditions = clone_conditions(alloc, self.conditions.as_slice())?;
         Ok(Scope {
             arch,
             nr,
@@ -192,9 +192,9 @@ impl Scope {
         ensures within { IfOk result (λ _. self.new ≡ scope_within self.old axis part) }
         ensures refused { IfErr result (λ e. e ≡ MemoryFault) }
     {
-        if is_word(axis, 1) && self.arch.is_none() {
+        if is_whole_word(axis, 1) && self.arch.is_none() {
             self.arch = Some(part);
-        } else if is_word(axis, 0) && self.nr.is_none() {
+        } else if is_whole_word(axis, 0) && self.nr.is_none() {
             self.nr = Some(part);
         } else {
             self.conditions.push(Condition { axis, part })?;
@@ -234,13 +234,14 @@ impl Row {
     }
 }
 
-/// The parts of a fork: of call numbers each run by itself. `Memory` where an allocation is refused.
+/// The parts of a fork; in a fork on call numbers each run is a part by itself. `Memory` where an allocation is
+/// refused.
 fn parts_in(alloc: Global, fork: &Fork) -> Result<Vec<Part>, Fault>
     requires { RiseFrom 0 fork.now.runs }
     ensures made { IfOk result (λ v. v.items ≡ parts_at fork.now) }
     ensures refused { IfErr result (λ e. e ≡ MemoryFault) }
 {
-    if is_word(fork.axis(), 0) {
+    if is_whole_word(fork.axis(), 0) {
         return runs_apart(alloc, fork.runs());
     }
     parts_of(alloc, fork.runs())
@@ -273,17 +274,17 @@ fn push_row(
         ++ record { scope = scope.now; labels = labels.now } ∷ []) }
     ensures refused { IfErr result (λ e. e ≡ MemoryFault) }
 {
-    let scope = scope.again(alloc)?;
+    let scope = scope.try_clone(alloc)?;
     push_scope(alloc, rows, labels, scope)
 }
 
-/// Of the inputs of a scope those with their numbers in a part of an axis. `Memory` where an allocation is refused.
+/// Those inputs of a scope that have their numbers in a part of an axis. `Memory` where an allocation is refused.
 fn scope_with(alloc: Global, scope: &Scope, axis: Axis, part: &Part) -> Result<Scope, Fault>
     ensures within { IfOk result (λ p. p ≡ scope_within scope.now axis part.now) }
     ensures refused { IfErr result (λ e. e ≡ MemoryFault) }
 {
-    let part = part.again()?;
-    let mut narrower = scope.again(alloc)?;
+    let part = part.try_clone()?;
+    let mut narrower = scope.try_clone(alloc)?;
     narrower.narrow(axis, part)?;
     Ok(narrower)
 }

@@ -110,7 +110,7 @@ fn push_meet(spans: &mut Vec<Span>, one: Span, other: Span) -> Result<(), AllocE
     Ok(())
 }
 
-/// Of spans the numbers of one of them.
+/// The numbers that spans share with one span.
 pub(crate) fn spans_within(
     alloc: Global,
     one: Span,

@@ -1,4 +1,4 @@
-//! Of rows the inputs that belong to no call that has a name.
+//! Rows that are cut down to the inputs that belong to no call that has a name.
 
 ghost use Rattle.std.specs.Prelude.{◌≡◌, ◌==◌, ◌++◌, ◌∷◌, [], true, false, if◌then◌else◌, IfErr, IfOk, OnOk, map};
 ghost use Rattle.std.specs.List.{flat_map};
@@ -6,7 +6,7 @@ ghost use Rattle.sf_policy.specs.declared.fault.Fault.TheVariants.{Memory as Mem
 ghost use Rattle.sf_rows.specs.Unnamed.{all_gaps, arch_if_met, archs_after, archs_met, gaps_at, has_number, kept_nr, part_of, row_at, row_on, rows_at, rows_beyond, rows_elsewhere, run_of, spans_of_numbers, unnamed_of, unnamed_rows, with_arch, within_nr, within_run};
 
 use crate::parts::{Part, Span, meets_part};
-use crate::rows::{Condition, Row, Scope, conditions_again, part_again, push_scope};
+use crate::rows::{Condition, Row, Scope, clone_conditions, clone_part, push_scope};
 use crate::spans::{gaps_of, push_numbers, spans_within, without_numbers};
 use sf_names::Names;
 use sf_picture::{Axis, Branch};
@@ -117,7 +117,7 @@ fn run_of(part: &Part) -> Option<Span>
     }
 }
 
-/// Of spans the numbers that a run has, where there is one. `Memory` where an allocation is refused.
+/// The numbers that spans share with a run; all of theirs where there is none. `Memory` where an allocation is refused.
 fn within_run(alloc: Global, run: Option<Span>, spans: &[Span]) -> Result<Vec<Span>, AllocError>
     ensures { IfOk result (λ v. v.items ≡ within_run run spans.now) }
 {
@@ -127,7 +127,8 @@ fn within_run(alloc: Global, run: Option<Span>, spans: &[Span]) -> Result<Vec<Sp
     }
 }
 
-/// Of spans the numbers that a row is about. An error where an allocation is refused.
+/// The numbers that spans share with a row's run of call numbers; all of theirs where it has none. An error where an
+/// allocation is refused.
 fn within_nr(alloc: Global, nr: &Option<Part>, spans: &[Span]) -> Result<Vec<Span>, AllocError>
     ensures { IfOk result (λ v. v.items ≡ within_nr nr.now spans.now) }
 {
@@ -151,12 +152,12 @@ fn push_kept(conditions: &mut Vec<Condition>, nr: &Option<Part>) -> Result<(), F
             word: 0,
             mask: u32::MAX,
         };
-        conditions.push(Condition::of(axis, part.again()?))?;
+        conditions.push(Condition::of(axis, part.try_clone()?))?;
     }
     Ok(())
 }
 
-/// Adds of a row the inputs of an architecture with these call numbers. `Memory` where an allocation is refused.
+/// Adds a row's inputs of an architecture with these call numbers. `Memory` where an allocation is refused.
 fn push_row_at(
     alloc: Global,
     rows: &mut Vec<Row>,
@@ -173,14 +174,14 @@ fn push_row_at(
         last: arch,
     };
     let scope = row.scope();
-    let mut conditions = conditions_again(alloc, scope.conditions())?;
+    let mut conditions = clone_conditions(alloc, scope.conditions())?;
     push_kept(&mut conditions, scope.nr())?;
     let arch = Some(part_of_span(alloc, only)?);
     let nr = Some(part_of_span(alloc, span)?);
     push_scope(alloc, rows, row.labels(), Scope::of(arch, nr, conditions))
 }
 
-/// Adds of a row the inputs of an architecture with call numbers of these spans. `Memory` where an allocation is refused.
+/// Adds a row's inputs of an architecture with call numbers of these spans. `Memory` where an allocation is refused.
 fn push_rows_in(
     alloc: Global,
     rows: &mut Vec<Row>,
@@ -198,7 +199,7 @@ fn push_rows_in(
     Ok(())
 }
 
-/// Adds of a row the inputs of an architecture whose call has no name. `Memory` where an allocation is refused.
+/// Adds a row's inputs of an architecture whose call has no name. `Memory` where an allocation is refused.
 fn push_rows_at(alloc: Global, rows: &mut Vec<Row>, row: &Row, gaps: &Gaps) -> Result<(), Fault>
     ensures added { IfOk result (λ _. rows.new.items
         ≡ rows.old.items ++ rows_at row.now gaps.now) }
@@ -211,7 +212,7 @@ fn push_rows_at(alloc: Global, rows: &mut Vec<Row>, row: &Row, gaps: &Gaps) -> R
     Ok(())
 }
 
-/// Adds of a row the inputs of each architecture whose call has no name. `Memory` where an allocation is refused.
+/// Adds a row's inputs of each architecture whose call has no name. `Memory` where an allocation is refused.
 fn push_rows_at_all(
     alloc: Global,
     rows: &mut Vec<Row>,
@@ -256,8 +257,8 @@ fn push_with_arch(alloc: Global, rows: &mut Vec<Row>, row: &Row, part: Part) -> 
     ensures refused { IfErr result (λ e. e ≡ MemoryFault) }
 {
     let scope = row.scope();
-    let conditions = conditions_again(alloc, scope.conditions())?;
-    let nr = part_again(scope.nr())?;
+    let conditions = clone_conditions(alloc, scope.conditions())?;
+    let nr = clone_part(scope.nr())?;
     push_scope(
         alloc,
         rows,
@@ -279,7 +280,7 @@ fn push_row_on(alloc: Global, rows: &mut Vec<Row>, row: &Row, spans: Vec<Span>) 
     push_with_arch(alloc, rows, row, part)
 }
 
-/// Adds of a row the inputs of other architectures than these and those of some spans. `Memory` where an allocation is
+/// Adds a row's inputs of other architectures than these and those of some spans. `Memory` where an allocation is
 /// refused.
 fn push_row_but(
     alloc: Global,
@@ -298,7 +299,7 @@ fn push_row_but(
     push_with_arch(alloc, rows, row, part)
 }
 
-/// Adds of a row the inputs of other architectures than these, by the row's part. `Memory` where an allocation is refused.
+/// Adds a row's inputs of other architectures than these, by the row's part. `Memory` where an allocation is refused.
 fn push_beyond(alloc: Global, rows: &mut Vec<Row>, row: &Row, archs: &[u32]) -> Result<(), Fault>
     ensures added { IfOk result (λ _. rows.new.items
         ≡ rows.old.items ++ rows_beyond row.now archs.now row.now.scope.arch) }
@@ -315,7 +316,7 @@ fn push_beyond(alloc: Global, rows: &mut Vec<Row>, row: &Row, archs: &[u32]) -> 
     push_row_on(alloc, rows, row, left)
 }
 
-/// Adds of a row the inputs of other architectures than those of these numbers that it is about. `Memory` where an
+/// Adds a row's inputs of other architectures than those of these numbers that it is about. `Memory` where an
 /// allocation is refused.
 fn push_elsewhere(alloc: Global, rows: &mut Vec<Row>, row: &Row, archs: &[u32]) -> Result<(), Fault>
     ensures added { IfOk result (λ _. rows.new.items
@@ -323,13 +324,13 @@ fn push_elsewhere(alloc: Global, rows: &mut Vec<Row>, row: &Row, archs: &[u32]) 
     ensures refused { IfErr result (λ e. e ≡ MemoryFault) }
 {
     if archs.is_empty() {
-        let scope = row.scope().again(alloc)?;
+        let scope = row.scope().try_clone(alloc)?;
         return push_scope(alloc, rows, row.labels(), scope);
     }
     push_beyond(alloc, rows, row, archs)
 }
 
-/// Adds of a row the inputs that belong to no call with a name. `Memory` where an allocation is refused.
+/// Adds a row's inputs that belong to no call with a name. `Memory` where an allocation is refused.
 fn push_unnamed(alloc: Global, rows: &mut Vec<Row>, row: &Row, all: &[Gaps]) -> Result<(), Fault>
     ensures added { IfOk result (λ _. rows.new.items
         ≡ rows.old.items ++ unnamed_of all.now row.now) }
@@ -340,8 +341,8 @@ fn push_unnamed(alloc: Global, rows: &mut Vec<Row>, row: &Row, all: &[Gaps]) -> 
     push_elsewhere(alloc, rows, row, archs.as_slice())
 }
 
-/// Of rows the inputs that belong to no call with a name, as rows: each row parted by the architectures of the sets, and
-/// for each of these by the runs of numbers that no call has. `Memory` where an allocation is refused.
+/// Rows, cut down to the inputs that belong to no call with a name: each row is parted by the architectures of the
+/// sets, and for each of these by the runs of numbers that no call has. `Memory` where an allocation is refused.
 pub(crate) fn unnamed_rows(alloc: Global, sets: &[Names], rows: &[Row]) -> Result<Vec<Row>, Fault>
     ensures all { IfOk result (λ v. v.items ≡ unnamed_rows sets.now rows.now) }
     ensures refused { IfErr result (λ e. e ≡ MemoryFault) }

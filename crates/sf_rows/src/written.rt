@@ -12,7 +12,7 @@ use sf_names::Names;
 use sf_policy::Fault;
 use std::alloc::Global;
 
-/// How many lines tell rows, and how many of them have several labels.
+/// How many lines show rows, and how many of them have several labels.
 #[derive(Clone, Copy, Debug)]
 pub struct Lines {
     /// All lines.
@@ -21,8 +21,8 @@ pub struct Lines {
     pub undetermined: usize,
 }
 
-/// The rows that are told beside those of calls: where no call is asked for by its name, those of the inputs that belong to
-/// no call with a name. `Memory` where an allocation is refused.
+/// The rows that are shown beside those of calls: where no call is asked for by its name, those of the inputs that
+/// belong to no call with a name. `Memory` where an allocation is refused.
 pub(crate) fn other_rows(
     alloc: Global,
     sets: &[Names],

@@ -65,7 +65,7 @@ fn label_document(answers: &[Document], label: usize) -> Result<Document, AllocE
     ensures { IfOk result (λ d. view d ≡ label_document (map view answers.now) label) }
 {
     match answers.get(label) {
-        Some(answer) => answer.again(),
+        Some(answer) => answer.try_clone(),
         None => Ok(Document::null()),
     }
 }
