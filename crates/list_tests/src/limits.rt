@@ -23,8 +23,8 @@ fn odd_calls(alloc: Global) -> Result<Vec<RawInsn>, Fail> {
 }
 
 /// Refuses the calls 0 to 160 where the low half of their first argument is an odd number below 124: `ld [0]`, for each call
-/// `jeq NUMBER 0 1; ja TESTS`, `ret 0x7fff0000`, and the tests of the argument. Of each call 125 leaves are drawn, so 20,000
-/// are drawn before the last one is begun.
+/// `jeq NUMBER 0 1; ja TESTS`, `ret 0x7fff0000`, and the tests of the argument. 125 leaves are drawn for each call, so
+/// 20,000 are drawn before the last one is begun.
 fn odd_arguments(alloc: Global) -> Result<Vec<RawInsn>, Fail> {
     let mut insns = Vec::new(alloc);
     insns.push(op(0x20, 0))?;

@@ -21,7 +21,8 @@ use Rattle.sf_picture.specs.PictureData.{PictureData}
 use Rattle.sf_picture.specs.Pictures.{labels_at, IsPicture}
 use Rattle.sf_picture.specs.PictureLaws.{one-along}
 use Rattle.sf_compare.specs.declared.relation.Relation.TheVariants.{Different}
-use Rattle.sf_compare.specs.Changes.{AreAnswersOfRegions, IsChange, new_of, old_of}
+use Rattle.sf_compare.specs.Changes.{AreAnswersOfRegions, IsChange}
+use Rattle.sf_compare.specs.Finding.{new_of, old_of}
 use Rattle.sf_rows.specs.Rows.{RowData, rows_of, is_in_scope, listed_rows}
 use Rattle.sf_list.specs.Differences.{AreDifferences, ArePictured, DifferencesData, TellPairs, changed_of, changed_rows, is_unchanged}
 use Rattle.sf_rows.specs.Pairs.{Differ, IsLabelOf}
@@ -86,7 +87,7 @@ tell-pairs s older answers pairs labels all told = record {
       let within = slice_get_within s.regions place region there in
       let count = all.count in
       let at = some-at answers place (omega (arith, within, count)) in
-      (at.0, all.each place at.0 at.1 region there, told place at.0 at.1);
+      (at.0, (all.each place at.0 at.1 region there).0, told place at.0 at.1);
 }
 
 -- ---- inputs

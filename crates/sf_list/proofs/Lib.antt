@@ -1,2 +1,4 @@
 pub mod DifferenceLemmas
 pub mod ListingLemmas
+pub mod OneListing
+pub mod OneDifferences

@@ -1,5 +1,5 @@
 -- What differs between the answers of two stacks that were explored as one, and the rows that show it.
-use Rattle.std.specs.Prelude.{◌≡◌, ℕ, ◌<◌, ◌==◌, not, Bool, true, false, List, [], ◌∷◌, ◌++◌, codes, All, length, nat_lt, Option, None, Some, MatchOption, slice_get, slice_index}
+use Rattle.std.specs.Prelude.{◌≡◌, ℕ, ◌<◌, ◌==◌, not, Bool, true, false, List, [], ◌∷◌, ◌++◌, codes, All, length, nat_lt, Option, None, Some, IfSome, MatchOption, slice_get, slice_index}
 use Rattle.std.specs.List.{filter, list_any}
 use Rattle.std.specs.Option.{option_map_or}
 use Rattle.std.specs.List.Sorted.{IsNonDecreasingBy}
@@ -7,16 +7,17 @@ use Rattle.std.specs.Fmt.{decimal}
 use Rattle.sf_check.specs.Stacks.{IsPlain}
 use Rattle.sf_run.specs.declared.replaying.PartAnswers.{PartAnswers}
 use Rattle.sf_book.specs.Books.{RegionData, BookData}
+use Rattle.sf_picture.specs.DrawnBy.{HasPicture}
 use Rattle.sf_picture.specs.PictureData.{PictureData}
 use Rattle.sf_picture.specs.Pictures.{IsAttainedEverywhere, IsDetermined, IsPicture, ShowsLabels}
 use Rattle.sf_names.specs.Names.{NamesData}
 use Rattle.sf_policy.specs.Texts.{line}
-use Rattle.sf_compare.specs.Changes.{AreAnswersOf}
-use Rattle.sf_compare.specs.Comparisons.{Compared, comparison_text}
+use Rattle.sf_compare.specs.Changes.{AreAnswersOf, AreAnswersOfRegions}
+use Rattle.sf_compare.specs.Comparisons.{Compared, IsComparison, comparison_text}
 use Rattle.sf_compare.specs.Relations.{reach_of}
 use Rattle.sf_compare.specs.declared.relation.Relation.{Relation}
 use Rattle.sf_compare.specs.declared.relation.Relation.TheVariants.{Looser, Tighter, Different}
-use Rattle.sf_rows.specs.Pairs.{Differ, IsLabelOf, pair_order, pairs_words}
+use Rattle.sf_rows.specs.Pairs.{ArePairsOf, Differ, IsLabelOf, pair_order, pairs_words}
 use Rattle.sf_rows.specs.Rows.{RowData, listed_rows}
 use Rattle.sf_rows.specs.Written.{written_count, written_lines, written_undetermined}
 
@@ -48,6 +49,30 @@ pub record ArePictured (s : BookData) (older : ℕ) (pairs : List PartAnswers) (
 -- what differs was drawn, unless a piece is outstanding
 pub record AreDifferences (s : BookData) (older : ℕ) (x : DifferencesData) : Type 0 where
   pub picture : MatchOption x.picture (0 < length s.outstanding) (ArePictured s older x.pairs)
+
+-- a picture is drawn by the rules, with the label of its two answers as the label of each region
+pub record IsDrawnOfPairs (s : BookData) (answers pairs : List PartAnswers) (leaves : ℕ)
+    (p : PictureData) : Type 0 where
+  pub labels : List ℕ
+  pub count : length labels ≡ length answers
+  pub tell : (place : ℕ) (both : PartAnswers) → slice_get answers place ≡ Some both
+      → IsLabelOf pairs both (slice_index labels place)
+  pub drawn : HasPicture s labels leaves p
+
+-- What differs is that of the rules: the pairs of answers that differ, in order and each once, and the picture that is
+-- drawn with them, of which so many leaves are allowed.
+pub record AreDifferencesByRule (s : BookData) (older : ℕ) (answers : List PartAnswers) (leaves : ℕ)
+    (x : DifferencesData) : Type 0 where
+  pub answers_are : AreAnswersOfRegions s older answers
+  pub pairs : ArePairsOf answers x.pairs
+  pub picture : IfSome x.picture (IsDrawnOfPairs s answers x.pairs leaves)
+
+-- a comparison of the stacks of files, with what differs, of whose picture so many leaves are allowed
+pub record IsComparisonWithRows (files : List (List ℕ)) (older budget leaves : ℕ) (c : Compared)
+    (x : DifferencesData) : Type 0 where
+  pub comparison : IsComparison files older budget c
+  pub drawn : AreDifferences c.settled c.older x
+  pub rule : AreDifferencesByRule c.settled c.older c.answers leaves x
 
 -- a row without a difference: its only label is the number behind all places
 abbrev pub is_unchanged : ℕ → List ℕ → Bool

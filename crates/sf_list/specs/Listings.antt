@@ -1,12 +1,13 @@
 -- What a listing of a stack of filter files finds, and its text.
-use Rattle.std.specs.Prelude.{◌≡◌, ℕ, ◌<◌, ◌==◌, Bool, false, List, [], ◌∷◌, ◌++◌, codes, length, map, count_by, Option, Some, None, MatchOption}
+use Rattle.std.specs.Prelude.{◌≡◌, ℕ, ◌<◌, ◌==◌, Bool, false, List, [], ◌∷◌, ◌++◌, codes, length, map, count_by, Option, Some, None, IfSome, MatchOption}
 use Rattle.std.specs.List.Sorted.{IsNonDecreasingBy}
 use Rattle.std.specs.Fmt.{decimal}
 use Rattle.sf_check.specs.declared.insn.Insn.{Insn}
 use Rattle.sf_check.specs.Stacks.{IsPlain, path_length}
 use Rattle.sf_run.specs.declared.action.Answer.{Answer}
-use Rattle.sf_book.specs.Books.{BookData, counts_of}
+use Rattle.sf_book.specs.Books.{RegionData, BookData, counts_of}
 use Rattle.sf_crew.specs.Explorations.{IsExplorationOf, IsExactExploration}
+use Rattle.sf_picture.specs.DrawnBy.{HasPicture}
 use Rattle.sf_picture.specs.PictureData.{PictureData}
 use Rattle.sf_picture.specs.Pictures.{IsAttainedEverywhere, IsDetermined, IsPicture, ShowsLabels}
 use Rattle.sf_picture.specs.Answering.{TellAnswers}
@@ -14,6 +15,7 @@ use Rattle.sf_policy.specs.Filters.{SpellStack}
 use Rattle.sf_names.specs.Names.{NamesData}
 use Rattle.sf_policy.specs.Texts.{answer_words, counts_line, line}
 use Rattle.sf_rows.specs.Answers.{AreFirstPlaces, answer_order}
+use Rattle.sf_rows.specs.InOrder.{IsInOrder}
 use Rattle.sf_rows.specs.Rows.{listed_rows, rows_of}
 use Rattle.sf_rows.specs.Lines.{is_undetermined}
 use Rattle.sf_rows.specs.Written.{written_count, written_lines, written_undetermined}
@@ -46,6 +48,20 @@ pub record IsListing (files : List (List ℕ)) (budget : ℕ) (l : Listed) : Typ
   pub end : IsExplorationOf l.settled.stack budget l.settled
   pub plain : IsPlain l.settled.stack → IsExactExploration l.settled.stack budget l.settled
   pub picture : MatchOption l.picture (0 < length l.settled.outstanding) (IsPictured l.settled l.answers)
+
+-- a picture is drawn by the rules, with the first place of its answer as the label of each region
+pub record IsDrawnWith (s : BookData) (answers : List Answer) (leaves : ℕ) (p : PictureData) : Type 0 where
+  pub labels : List ℕ
+  pub count : length labels ≡ length s.regions
+  pub tell : TellAnswers s answers labels
+  pub first : AreFirstPlaces s answers labels
+  pub drawn : HasPicture s labels leaves p
+
+-- A listing is that of the rules: it has the answers of all regions in order, each once, and the picture that is drawn
+-- with them, of which so many leaves are allowed.
+pub record IsListingByRule (leaves : ℕ) (l : Listed) : Type 0 where
+  pub answers : IsInOrder answer_order (map (λ (r : RegionData). r.answer) l.settled.regions) l.answers
+  pub picture : IfSome l.picture (IsDrawnWith l.settled l.answers leaves)
 
 -- what a listing begins with, and the number of its form: of rows, or of calls
 abbrev pub listing_title : Option (List (List ℕ)) → List ℕ

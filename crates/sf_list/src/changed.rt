@@ -84,7 +84,7 @@ fn keep_related(rows: &mut Vec<Row>, relation: Relation, pairs: &[PartAnswers])
 pub struct Shown<'a> {
     /// Only the rows with answers that are so related; all, where there is none.
     pub only: Option<Relation>,
-    /// The calls by which the rows are told: all, where it names none; where there is none, each row has a line.
+    /// The calls by which the rows are shown: all, where it names none; where there is none, each row has a line.
     pub calls: Option<Vec<&'a str>>,
 }
 
@@ -129,7 +129,7 @@ pub(crate) fn words_of(only: Option<Relation>) -> &'static str
     }
 }
 
-/// Adds the line that tells how many lines there are, and how many of them have several labels.
+/// Adds the line that says how many lines there are, and how many of them have several labels.
 fn push_total(text: &mut String, only: Option<Relation>, lines: Lines) -> Result<(), AllocError>
     ensures { OnOk result (string_bytes text.new ≡ string_bytes text.old
         ++ changed_line only lines.count lines.undetermined) }
@@ -197,8 +197,8 @@ fn text_of(
 }
 
 /// Writes the text of a comparison, then the rows in which the answers of the two stacks differ, with these sets of calls, and
-/// a line that counts them: how many lines there are, and how many of them have several labels. What is shown of the rows, and
-/// how, `shown` says. Where a piece is outstanding, there are no rows and no such line.
+/// a line that counts them: how many lines there are, and how many of them have several labels. `shown` says what is
+/// shown of the rows, and how. Where a piece is outstanding, there are no rows and no such line.
 ///
 /// `Write` where a write fails or takes no byte: a beginning of the text was written then. `Memory` where the text can't be
 /// built: nothing was written then.

@@ -4,7 +4,7 @@ ghost use Rattle.std.specs.Prelude.{◌≡◌, All, Contains, IfErr, IfOk, lengt
 ghost use Rattle.std.specs.List.Sorted.{IsNonDecreasingBy};
 ghost use Rattle.sf_run.specs.declared.replaying.PartAnswers.{PartAnswers as APair};
 ghost use Rattle.sf_compare.specs.Changes.{AreAnswersOfRegions};
-ghost use Rattle.sf_list.specs.Differences.{AreDifferences, ArePictured};
+ghost use Rattle.sf_list.specs.Differences.{AreDifferences, AreDifferencesByRule, ArePictured, IsDrawnOfPairs};
 ghost use Rattle.sf_rows.specs.Pairs.{Differ, pair_order};
 
 use sf_book::Settled;
@@ -64,6 +64,7 @@ fn picture_by(
     requires order { IsNonDecreasingBy pair_order pairs.now }
     requires none_left { length settled.now.outstanding ≡ 0 }
     ensures picture { IfOk result (ArePictured settled.now older pairs.now) }
+    ensures rule { IfOk result (IsDrawnOfPairs settled.now answers.now pairs.now leaves) }
     ensures refused { IfErr result (λ e. e ≡ Fault.Memory) }
 {
     // For the prover: only clauses speak of it.
@@ -85,6 +86,7 @@ fn differences_by(
 ) -> Result<Differences, Fault>
     requires answers { AreAnswersOfRegions settled.now older answers.now }
     ensures drawn { IfOk result (AreDifferences settled.now older) }
+    ensures rule { IfOk result (AreDifferencesByRule settled.now older answers.now leaves) }
     ensures refused { IfErr result (λ e. e ≡ Fault.Memory) }
 {
     let pairs = pairs_of(alloc, answers)?;
@@ -110,6 +112,10 @@ pub fn draw_differences(
 ) -> Result<Differences, Fault>
     // The rows' answers are right, on the two stacks.
     ensures drawn { IfOk result (AreDifferences comparison.now.settled comparison.now.older) }
+
+    // What differs is that of the rules.
+    ensures rule { IfOk result (AreDifferencesByRule comparison.now.settled comparison.now.older
+        comparison.now.answers leaves) }
 
     ensures refused { IfErr result (λ e. e ≡ Fault.Memory) }
 {

@@ -20,7 +20,7 @@ use sf_rows::{Row, count_undetermined, documents_of_rows, rows_in};
 use sf_run::{Answer, PartAnswers};
 use std::alloc::{AllocError, Global};
 
-/// A listing as it is told.
+/// A listing as JSON, and whether it is whole.
 #[derive(Drop)]
 pub struct ListingDocument {
     /// The document.
@@ -146,9 +146,9 @@ fn rows_compared(
 }
 
 /// A comparison and the rows in which the answers of the two stacks differ as JSON, with these sets of calls: the fields of
-/// `comparison_fields`, what the rows have in common, the rows, and how many they are. What is shown of the rows, and how,
-/// `shown` says. Where a piece is outstanding, there are no rows and they aren't counted. `Memory` where an allocation is
-/// refused.
+/// `comparison_fields`, what the rows have in common, the rows, and how many they are. `shown` says what is shown of
+/// the rows, and how. Where a piece is outstanding, there are no rows and they aren't counted. `Memory` where an
+/// allocation is refused.
 pub fn differences_document(
     alloc: Global,
     comparison: &Comparison,

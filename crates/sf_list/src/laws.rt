@@ -1,6 +1,6 @@
 //! Laws of listings, each the contract of a function that does nothing.
 
-ghost use Rattle.std.specs.Prelude.{◌≡◌, ℕ, true, false, List, [], ◌∷◌, Some, Contains, slice_get};
+ghost use Rattle.std.specs.Prelude.{◌≡◌, ℕ, true, false, List, [], ◌∷◌, Option, Some, Contains, slice_get};
 ghost use Rattle.sf_insn.specs.declared.input.Input.{Input};
 ghost use Rattle.sf_insn.specs.Inputs.{IsInput};
 ghost use Rattle.sf_check.specs.Stacks.{IsPlain};
@@ -10,13 +10,18 @@ ghost use Rattle.sf_run.specs.Answers.{Answers};
 ghost use Rattle.sf_book.specs.Books.{BookData, IsSettled};
 ghost use Rattle.sf_picture.specs.PictureData.{PictureData};
 ghost use Rattle.sf_rows.specs.Rows.{RowData, rows_of, is_in_scope};
-ghost use Rattle.sf_list.specs.Listings.{Listed, IsListing};
-ghost use Rattle.sf_list.specs.Differences.{AreDifferences, DifferencesData, changed_rows};
+ghost use Rattle.sf_names.specs.Names.{NamesData};
+ghost use Rattle.sf_list.specs.Documents.{differences_document, listing_document};
+ghost use Rattle.sf_list.specs.Listings.{Listed, IsListing, IsListingByRule, listing_text};
+ghost use Rattle.sf_compare.specs.Comparisons.{Compared};
+ghost use Rattle.sf_list.specs.Differences.{AreDifferences, DifferencesData, IsComparisonWithRows, ShownData, changed_rows, compared_text};
 ghost use Rattle.sf_rows.specs.Pairs.{Differ, IsLabelOf};
 ghost use Rattle.sf_compare.specs.declared.relation.Relation.TheVariants.{Different};
-ghost use Rattle.sf_compare.specs.Changes.{IsChange, new_of, old_of};
+ghost use Rattle.sf_compare.specs.Changes.{IsChange};
+ghost use Rattle.sf_compare.specs.Finding.{new_of, old_of};
 
-use sf_picture::laws::each_input_is_shown_its_answer;
+use sf_book::laws::explorations_have_one_result;
+use sf_picture::laws::{each_input_is_shown_its_answer, pictures_have_one_result};
 use sf_rows::laws::each_input_lies_in_one_row;
 
 /// What the stack answers to an input is among the answers of the row of its listing in which the input lies.
@@ -69,4 +74,64 @@ pub fn each_plain_row_has_one_difference()
         × Answers (old_of s older) d both.older × Answers (new_of s older) d both.newer }
 {
     each_input_lies_in_one_row();
+}
+
+/// Two listings of one stack have the same text, where both leave nothing outstanding and as many leaves are allowed:
+/// whatever their budgets, whoever worked and in whatever order.
+pub fn one_text()
+    ensures { (files others : List (List ℕ)) (b c leaves : ℕ) (o p : Listed) →
+        IsListing files b o → IsListing others c p →
+        IsListingByRule leaves o → IsListingByRule leaves p →
+        o.settled.stack ≡ p.settled.stack →
+        o.settled.outstanding ≡ [] → p.settled.outstanding ≡ [] →
+        (sets : List NamesData) (calls : Option (List (List ℕ))) →
+        listing_text sets calls o ≡ listing_text sets calls p }
+{
+    explorations_have_one_result();
+    pictures_have_one_result();
+}
+
+/// They have the same JSON document too.
+pub fn one_document()
+    ensures { (files others : List (List ℕ)) (b c leaves : ℕ) (o p : Listed) →
+        IsListing files b o → IsListing others c p →
+        IsListingByRule leaves o → IsListingByRule leaves p →
+        o.settled.stack ≡ p.settled.stack →
+        o.settled.outstanding ≡ [] → p.settled.outstanding ≡ [] →
+        (sets : List NamesData) (calls : Option (List (List ℕ))) →
+        listing_document sets calls o ≡ listing_document sets calls p }
+{
+    explorations_have_one_result();
+    pictures_have_one_result();
+}
+
+/// Two comparisons of the same stacks have the same text with their rows, where both leave nothing outstanding and as many
+/// leaves are allowed.
+pub fn one_text_with_rows()
+    ensures { (files others : List (List ℕ)) (older b c leaves : ℕ) (o p : Compared)
+        (x y : DifferencesData) → IsComparisonWithRows files older b leaves o x
+        → IsComparisonWithRows others older c leaves p y →
+        o.settled.stack ≡ p.settled.stack →
+        o.settled.outstanding ≡ [] → p.settled.outstanding ≡ [] →
+        (sets : List NamesData) (shown : ShownData) →
+        compared_text sets shown o x ≡ compared_text sets shown p y }
+{
+    explorations_have_one_result();
+    pictures_have_one_result();
+    sf_compare::laws::one_text();
+}
+
+/// They have the same JSON document with their rows too.
+pub fn one_document_with_rows()
+    ensures { (files others : List (List ℕ)) (older b c leaves : ℕ) (o p : Compared)
+        (x y : DifferencesData) → IsComparisonWithRows files older b leaves o x
+        → IsComparisonWithRows others older c leaves p y →
+        o.settled.stack ≡ p.settled.stack →
+        o.settled.outstanding ≡ [] → p.settled.outstanding ≡ [] →
+        (sets : List NamesData) (shown : ShownData) →
+        differences_document sets shown o x ≡ differences_document sets shown p y }
+{
+    explorations_have_one_result();
+    pictures_have_one_result();
+    sf_compare::laws::one_document();
 }

@@ -6,7 +6,7 @@ ghost use Rattle.sf_policy.specs.Filters.{IsFirstRefusal};
 ghost use Rattle.sf_book.specs.Books.{RegionData};
 ghost use Rattle.sf_picture.specs.Pictures.{IsSpentOnlyFrom};
 ghost use Rattle.sf_rows.specs.Answers.{answer_order};
-ghost use Rattle.sf_list.specs.Listings.{IsListing, IsPictured};
+ghost use Rattle.sf_list.specs.Listings.{IsDrawnWith, IsListing, IsListingByRule, IsPictured};
 
 use sf_book::Settled;
 use sf_check::Stack;
@@ -79,6 +79,7 @@ fn picture_by(
     ensures picture { IfOk result (λ p. MatchOption p (0 < length settled.now.outstanding)
         (IsPictured settled.now answers.now)) }
     ensures allowed { IfOk result (λ p. IfSome p (IsSpentOnlyFrom leaves)) }
+    ensures rule { IfOk result (λ p. IfSome p (IsDrawnWith settled.now answers.now leaves)) }
     ensures refused { IfErr result (λ e. e ≡ Fault.Memory) }
 {
     if settled.outstanding_count() > 0 {
@@ -97,6 +98,7 @@ fn listing_of(alloc: Global, settled: Settled, leaves: usize) -> Result<Listing,
     ensures picture { IfOk result (λ l. MatchOption l.picture (0 < length settled.outstanding)
         (IsPictured settled l.answers)) }
     ensures allowed { IfOk result (λ l. IfSome l.picture (IsSpentOnlyFrom leaves)) }
+    ensures rule { IfOk result (IsListingByRule leaves) }
     ensures refused { IfErr result (λ e. e ≡ Fault.Memory) }
 {
     let answers = answers_of(alloc, &settled)?;
@@ -126,6 +128,9 @@ pub fn list<R: Threads + Wait + Sync, G: Gate>(
 
     // The rows' answers are right, on the stack that the files spell.
     ensures found { IfOk result (IsListing (map (λ f. f.items) filters.now) budget) }
+
+    // The listing is that of the rules.
+    ensures rule { IfOk result (IsListingByRule leaves) }
 
     // The picture isn't given up before `leaves` leaves are drawn.
     ensures allowed { IfOk result (λ l. IfSome l.picture (IsSpentOnlyFrom leaves)) }

@@ -18,7 +18,7 @@ use sf_rows::{Lines, Row, count_undetermined, push_lines, rows_in};
 use std::alloc::{AllocError, Global};
 use std::io::Write;
 
-/// Adds the line that tells the size of the stack.
+/// Adds the line with the size of the stack.
 fn push_stack(text: &mut String, programs: &[Program]) -> Result<(), AllocError>
     requires { length programs.now ≤ 64 }
     ensures { OnOk result (string_bytes text.new ≡ string_bytes text.old
@@ -63,7 +63,7 @@ fn push_head(
     push_counts(text, settled.counts())
 }
 
-/// Adds the line that tells how many lines there are, and how many of them have several answers.
+/// Adds the line that says how many lines there are, and how many of them have several answers.
 fn push_total(text: &mut String, calls: &Option<Vec<&str>>, lines: Lines) -> Result<(), AllocError>
     ensures { OnOk result (string_bytes text.new ≡ string_bytes text.old
         ++ total_line (option_map (λ v. map (λ t. t.now) v.items) calls.now)
