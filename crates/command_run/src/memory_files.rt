@@ -6,7 +6,7 @@ use sf_policy::Fault;
 use std::alloc::{AllocError, Global};
 use std::test::Fail;
 
-/// Files by name, the newest last. Of files with one name the newest is read.
+/// Files by name, the newest last. Where several have one name, the newest is read.
 #[derive(Drop)]
 pub struct MemoryFiles {
     alloc: Global,

@@ -140,8 +140,8 @@ fn end_alike(left: &Ended, right: &Ended) -> bool {
         && left.err.held.as_slice() == right.err.held.as_slice()
 }
 
-/// Runs a command line over a writer that takes one byte a call and `limit` bytes in all, and shows what it took. Over
-/// writers that take five and seven bytes a call it has to end in the same way. True where the limit was enough.
+/// Runs a command line over a writer that takes one byte a call and `limit` bytes in all, and shows what it took. It
+/// has to end in the same way over writers that take five and seven bytes a call. True where the limit was enough.
 fn run_limited<R: Print + Threads + Wait + Sync + AllocGlobal>(
     rt: &R,
     files: &mut MemoryFiles,

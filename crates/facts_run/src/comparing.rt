@@ -34,8 +34,8 @@ fn is_excluded(plain: &Plain, word: usize, number: u64) -> bool {
     plain.excluded.contains(&Exclusion { word, number })
 }
 
-/// Whether all is excluded, by the rules, that a word and a node with only one number exclude for each other where they
-/// differ.
+/// Whether by the rules the node's number is excluded for the word; and also the word's number for the node, where the
+/// node is one of the words and the word has only one number.
 fn are_apart(plain: &Plain, word: usize, node: usize, number: u64) -> bool {
     let back = match number_of(known_at(&plain.known, word)) {
         Some(other) if node < 16 => is_excluded(plain, node, other),
@@ -62,7 +62,7 @@ fn learns_nothing(
     })
 }
 
-/// Where numbers that are excluded for words differ: of those that some node has, on words below `words`.
+/// Where the numbers that are excluded for words differ. Only numbers of nodes and words below `words` are looked at.
 fn excluded_difference(
     alloc: Global,
     pool: &Pool,
@@ -82,8 +82,8 @@ fn excluded_difference(
     Ok(None)
 }
 
-/// The first word below `words` for which the only number of a node is excluded by the facts or the rules only. No node
-/// is asked of from which known bits go back.
+/// The first word below `words` for which the only number of a node is excluded by the facts or the rules only. None
+/// where known bits go back from the node.
 fn differing_word(
     alloc: Global,
     pool: &Pool,
@@ -133,7 +133,7 @@ fn text_of(alloc: Global, known: Knowledge) -> Result<String, Fail> {
     Ok(format!(in alloc; "from {low} to {high}, zeros {zeros:08x}, ones {ones:08x}")?)
 }
 
-/// Where it differs what is known of a node.
+/// Where what is known of a node differs.
 fn known_difference(
     alloc: Global,
     pool: &Pool,

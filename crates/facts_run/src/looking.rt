@@ -196,7 +196,7 @@ fn outcome(steps: &[Step], taken: bool, is_same: bool) -> &'static str {
     }
 }
 
-/// What is known of the node at the place, as text. Of a word the least number has to be the low end.
+/// What is known of the node at the place, as text. The least number of a word has to be the low end.
 fn node_text(
     alloc: Global,
     facts: &Facts,

@@ -217,7 +217,7 @@ impl Plain {
         })
     }
 
-    /// Takes in the newer nodes of a pool: of each what follows from its operands, reduced. `false`: some node is left
+    /// Takes in the newer nodes of a pool: for each what follows from its operands, reduced. `false`: some node is left
     /// nothing, and all stays as it was.
     pub fn grow(&mut self, alloc: Global, pool: &Pool) -> Result<bool, AllocError> {
         let mut next = self.copy(alloc)?;

@@ -2,7 +2,7 @@
 //! where no worker gets any, the calling thread works what all have left.
 //!
 //! On the thread of such a worker, a gate makes an allocation of a size that nothing else asks for.
-//! `tools/testing/refuse.c` can be told this size: then it refuses that allocation, and all later ones of the thread.
+//! `tools/testing/refuse.c` can be given this size: then it refuses that allocation, and all later ones of the thread.
 //! Otherwise the allocation does nothing, and the explorations find the same regions.
 
 ghost use Rattle.std.specs.Prelude.{◌<◌, ◌≤◌};

@@ -1,4 +1,4 @@
-//! The filter of a profile, and what is told of it.
+//! The filter of a profile, and the notes on it.
 
 use crate::refused::Refused;
 use sf_names::read_names;
@@ -42,7 +42,7 @@ fn push_filter(text: &mut String, filter: &[u8]) -> Result<(), Refused> {
     Ok(())
 }
 
-/// The filter of the profile, what is told of it, and the names that have no number.
+/// The filter of the profile, the notes on it, and the names that have no number.
 pub fn profile_text(alloc: Global) -> Result<String, Refused> {
     let settings = settings_of(alloc)?;
     let mut text = String::new(alloc);

@@ -28,7 +28,7 @@ impl Tally {
         self.expect(refused.number == MEMORY && is_same);
     }
 
-    /// Counts as wrong what has to hold, where it doesn't.
+    /// Counts what has to hold as wrong, where it doesn't hold.
     pub fn expect(&mut self, holds: bool) {
         if !holds {
             self.wrong = self.wrong.saturating_add(1);

@@ -1,4 +1,4 @@
-//! Tests of what is told of a stack's filters, over filters that are worked by hand.
+//! Tests of what is found of a stack's filters, over filters that are worked by hand.
 #![tactic(auto)]
 
 #[cfg(test)]

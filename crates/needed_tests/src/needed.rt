@@ -55,7 +55,7 @@ fn text_of(bytes: Vec<u8>) -> Result<String, Fail> {
     }
 }
 
-/// The text that tells which filters are needed, by one worker and at most so many works a comparison.
+/// The text that says which filters are needed, by one worker and at most so many works a comparison.
 fn needs_text<R: Threads + Wait + Sync>(
     rt: &R,
     alloc: Global,

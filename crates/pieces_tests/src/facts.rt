@@ -91,8 +91,8 @@ fn known_of_all(alloc: Global, stack: &Arc<Stack>) -> Result<String, Fail> {
 }
 
 /// At first word 4 may be any number. Where it isn't 0, it is at least 1, and the quotient, 8 divided by 1 to 2^32 - 1,
-/// is 0 to 8: its bits from 4 up are 0. Without bit 3 the quotient is 0 to 7, and with it 8. Of 0 to 7, without bit 2
-/// there are left 0 to 3, and with it 4 to 7, in which bit 2 is 1. Bit 1 halves these again, and bit 0 leaves one
+/// is 0 to 8: its bits from 4 up are 0. Without bit 3 the quotient is 0 to 7, and with it 8. Of 0 to 7, 0 to 3 are
+/// left without bit 2, and 4 to 7 with it: there bit 2 is 1. Bit 1 halves these again, and bit 0 leaves one
 /// number, of which each bit is known. In the last piece word 4 is 0.
 const KNOWN: &str = "0-4294967295;1-4294967295;\
     1-4294967295 0-7 fffffff8 00000000;1-4294967295 0-3 fffffffc 00000000;\

@@ -79,7 +79,7 @@ fn show_piece(alloc: Global, text: &mut String, piece: &Piece) -> Result<(), Fai
     Ok(())
 }
 
-/// What the readers of a work tell: its name, its piece, and its children.
+/// What the readers of a work give: its name, its piece, and its children.
 fn told(alloc: Global, work: &Work) -> Result<String, Fail> {
     let mut text = String::new(alloc);
     push_name(&mut text, &work.name().values(alloc)?)?;

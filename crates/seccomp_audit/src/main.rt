@@ -35,7 +35,7 @@ struct Disk<'a, R> {
 /// The path that stands for standard input.
 const STANDARD_INPUT: &str = "-";
 
-/// The bytes of standard input. Of one that is longer than `MOST_BYTES`, only one byte more than that is read.
+/// The bytes of standard input. Where it is longer than `MOST_BYTES`, only one byte more than that is read.
 fn bytes_of_input<R: Input + AllocGlobal>(rt: &R) -> io::Result<Vec<u8>> {
     let mut bytes = Vec::new(rt.alloc());
     rt.reader()
@@ -44,7 +44,7 @@ fn bytes_of_input<R: Input + AllocGlobal>(rt: &R) -> io::Result<Vec<u8>> {
     Ok(bytes)
 }
 
-/// The bytes of a file. Of one that is longer than `MOST_BYTES`, only one byte more than that is read, which shows that
+/// The bytes of a file. Where it is longer than `MOST_BYTES`, only one byte more than that is read, which shows that
 /// it is too long.
 fn bytes_of<R: FileSystem + AllocGlobal>(rt: &R, path: &str) -> io::Result<Vec<u8>> {
     let mut bytes = Vec::new(rt.alloc());

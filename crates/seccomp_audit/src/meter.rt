@@ -1,4 +1,4 @@
-//! How far a run is, told on standard error.
+//! How far a run is, shown on standard error.
 
 use sf_command::Meter;
 use sf_crew::Gate;
@@ -7,7 +7,7 @@ use std::io::Write;
 use std::sync::atomic::{AtomicU64, Ordering};
 use std::time::{Clock, Instant};
 
-/// The most bytes of a line that tells how far a run is.
+/// The most bytes of a line that says how far a run is.
 const LINE: usize = 96;
 
 /// After how many steps the clock is looked at again.
@@ -24,7 +24,7 @@ pub struct Progress<'a, R> {
 }
 
 impl<'a, R: Clock> Progress<'a, R> {
-    /// Nothing is done yet. Where the clock can't be read, nothing is ever told.
+    /// Nothing is done yet. Where the clock can't be read, nothing is ever written.
     pub fn new(rt: &'a R) -> Progress<'a, R> {
         Progress {
             rt,

@@ -222,7 +222,7 @@ fn put_id(by_id: &mut BTreeMap<u64, NameKey>, id: u64, piece: NameKey) -> Result
     Ok(())
 }
 
-/// Puts under a name whether its piece is on lease, or leaves all as it was.
+/// Puts the id of a piece, and whether it is on lease, under the piece's name, or leaves all as it was.
 fn put_name(
     by_name: &mut BTreeMap<NameKey, LeaseState>,
     piece: NameKey,

@@ -10,7 +10,8 @@ use Rattle.sf_policy.specs.Filters.{SpellPrograms}
 use Rattle.sf_profile.specs.Data.{PlanData}
 use Rattle.sf_profile.specs.Filters.{IsFilterOf}
 use Rattle.sf_profile.specs.Meaning.{meaning}
-use Rattle.sf_compare.specs.Changes.{IsRightChange, new_of}
+use Rattle.sf_compare.specs.Changes.{IsRightChange}
+use Rattle.sf_compare.specs.Finding.{new_of}
 use Rattle.sf_compare.specs.Comparisons.{Compared, IsComparison, change_of}
 use Rattle.sf_compare.specs.Relations.{AreRelated}
 use Rattle.sf_compare.specs.declared.relation.Relation.TheVariants.{Looser}

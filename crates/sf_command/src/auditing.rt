@@ -35,7 +35,7 @@ pub struct Options {
     pub workers: u8,
     /// Whether the report lists the settled regions.
     pub regions: bool,
-    /// Whether the report tells of each example why the stack answers so.
+    /// Whether the report says for each example why the stack answers so.
     pub why: bool,
     /// Whether one JSON document is written in place of the report.
     pub json: bool,
@@ -66,7 +66,7 @@ impl<'m, 'a> Model for Asked<'m, 'a> {
 }
 
 impl Asked<'_, '_> {
-    /// Whether it is told what isn't as expected.
+    /// Whether it is shown what isn't as expected.
     fn is_expecting(&self) -> bool
         ensures { result ≡ is_expecting self.now }
     {
@@ -85,7 +85,7 @@ struct Read {
 
 /// Reads the policy files, then that of the control, and then that of the questions that may be allowed. The refusal is
 /// that of the first file that is refused.
-fn read_asked<F: Files>(
+fn read_questions<F: Files>(
     alloc: Global,
     asked: &Asked<'_, '_>,
     files: &mut F,
@@ -256,9 +256,9 @@ fn write_audit<O: Write>(
 
 /// Reads the files that ask and then the filter files, which are named in order of installation; audits the stack of the
 /// filters, writes the report, and behind it what isn't as expected, and gives the exit status. Where the options ask for
-/// it, lines under each allowed question tell why the stack answers so to its example, with these names of calls; and one
-/// JSON document is written in place of all that text. The gate sees each work before it is committed, and each sheet of
-/// verdicts before it is entered.
+/// it, lines under each allowed question say why the stack answers so to its example, with these names of calls; and
+/// one JSON document is written in place of all that text. The gate sees each work before it is committed, and each
+/// sheet of verdicts before it is entered.
 ///
 /// Refusals, tried in this order: of the policy files, of that of the control and of that of the questions that may be
 /// allowed `Read`, `Syntax` where it isn't UTF-8, and what `read_policy` or `read_accepted` refuses; `Read` where a filter
@@ -284,7 +284,7 @@ pub fn audit<R: Threads + Wait + Sync, F: Files, G: Gate, O: Write>(
     ensures refused { IfErr result (RefusesAudit (F.holds files.old) asked.now paths.now) }
     ensures quiet { IfErr result (λ e. (e ≡ WriteFault) ⊎ (out.new ≡ out.old)) }
 {
-    let read = read_asked(alloc, asked, files, notes)?;
+    let read = read_questions(alloc, asked, files, notes)?;
     let filters = read_all(alloc, paths, files, notes)?;
     let (outcome, expected, origins) = find(rt, alloc, &filters, read, options, gate)?;
     notes.warnings = warnings_of_stack(alloc, &filters, outcome.settled());

@@ -38,7 +38,7 @@ use std::io::Write;
 use std::sync::Wait;
 use std::thread::Threads;
 
-/// The names of the files of names that the matches of a subcommand name. The refusals are those of `read_all_names`.
+/// The sets of calls in the files that `--names` gives, file after file. The refusals are those of `read_all_names`.
 fn names_of<F: Files>(
     alloc: Global,
     found: &ArgMatches<'_>,
@@ -55,7 +55,7 @@ fn names_of<F: Files>(
     read_all_names(alloc, paths, files, notes)
 }
 
-/// The meter of a run: it is told of what happens only where progress is asked for.
+/// The meter of a run: it sees what happens only where progress is asked for.
 fn watched<'a, M: Meter>(found: &ArgMatches<'_>, meter: &'a M) -> Watched<'a, M> {
     Watched::of(meter, wants_progress(found), budget_of(found))
 }
@@ -464,7 +464,7 @@ fn reply<R: Threads + Wait + Sync, F: Files, M: Meter, O: Write, E: Write>(
 ///   text of `clap`, or of `tell_wrong_words`.
 /// - 5: reading, writing or memory failed. Standard output is left as it was, unless writing failed.
 ///
-/// The meter is told of each step where `--progress` is given.
+/// The meter sees each step where `--progress` is given.
 ///
 /// At 3 and 5 one line on standard error names the fault: `error`, its number, its name and its place. With
 /// `--explain-errors`, or where `files` say so, lines for a person follow.

@@ -8,7 +8,7 @@ ghost use Rattle.sf_run.specs.declared.action.Answer.{Answer};
 ghost use Rattle.sf_profile.specs.Data.{PlanData};
 ghost use Rattle.sf_profile.specs.Filters.{IsFilterOf};
 ghost use Rattle.sf_profile.specs.Meaning.{meaning};
-ghost use Rattle.sf_compare.specs.Changes.{new_of};
+ghost use Rattle.sf_compare.specs.Finding.{new_of};
 ghost use Rattle.sf_compare.specs.Comparisons.{Compared, IsComparison, change_of};
 ghost use Rattle.sf_compare.specs.Relations.{AreRelated};
 ghost use Rattle.sf_compare.specs.declared.relation.Relation.TheVariants.{Looser};

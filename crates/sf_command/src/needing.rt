@@ -1,4 +1,4 @@
-//! The subcommand `needed`: reads the filter files of a stack, finds which of them are needed and tells it.
+//! The subcommand `needed`: reads the filter files of a stack, finds which of them are needed and writes that.
 
 ghost use Rattle.std.specs.Prelude.{◌≡◌, ◌<◌, ◌≤◌, ◌⊎◌, IfOk, IfErr, OnOk, map};
 ghost use Rattle.std.specs.Io.KnownBytes.{Appends};
@@ -16,7 +16,7 @@ use std::io::Write;
 use std::sync::Wait;
 use std::thread::Threads;
 
-/// How it is found which filters are needed, and how it is told.
+/// How the filters that are needed are found, and how they are shown.
 #[derive(Clone, Copy)]
 pub struct Manner {
     /// The most works that are committed in each comparison, 1 to 1,000,000.
@@ -43,7 +43,7 @@ fn write_needs<O: Write>(alloc: Global, needs: &Needs, json: bool, out: &mut O) 
 }
 
 /// Reads the filter files, which are named in order of installation; finds which of the filters are needed, each comparison
-/// by so many works at most, tells it, and gives the exit status.
+/// by so many works at most; writes that, and gives the exit status.
 ///
 /// Refusals, tried in this order: `Read` where a file can't be read; what `needed` of the library refuses; `Write` where
 /// standard output can't be written, after a beginning of the text. `Memory` can come anywhere. After any error but

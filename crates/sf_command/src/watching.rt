@@ -1,9 +1,9 @@
-//! What is told while a run goes on.
+//! What is shown while a run goes on.
 
 use sf_crew::{Gate, Open};
 
-/// Sees each work and each sheet of verdicts before it is handed in, and is told the budget before. The program tells by it
-/// how far a run is, where that is asked for.
+/// Sees each work and each sheet of verdicts before it is handed in. Before them it is given the budget. The program
+/// uses it to show how far a run is, where that is asked for.
 pub trait Meter: Gate {
     /// Is called before an exploration, with the most works that are committed in it.
     fn begin(&self, budget: u32);
@@ -13,7 +13,7 @@ impl Meter for Open {
     fn begin(&self, _budget: u32) {}
 }
 
-/// A meter that sees only what it is to tell of.
+/// A meter that sees calls only where they are to be shown.
 #[derive(Drop)]
 pub(crate) struct Watched<'a, M> {
     meter: &'a M,
@@ -21,7 +21,7 @@ pub(crate) struct Watched<'a, M> {
 }
 
 impl<'a, M: Meter> Watched<'a, M> {
-    /// A meter, which is told of each call where `is_wanted` says so, and of none otherwise.
+    /// A meter that sees each call where `is_wanted` says so, and none otherwise.
     pub(crate) fn of(meter: &'a M, is_wanted: bool, budget: u32) -> Watched<'a, M> {
         if is_wanted {
             meter.begin(budget);

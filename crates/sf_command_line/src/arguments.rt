@@ -53,7 +53,7 @@ pub(crate) fn accept<'a>(alloc: Global) -> Arg<'a>
     )
 }
 
-/// `--progress`: whether it is told how far an exploration is.
+/// `--progress`: whether it is shown how far an exploration is.
 pub(crate) fn progress<'a>(alloc: Global) -> Arg<'a>
     ensures rule { rule_of result ≡ switch_rule (codes "progress") }
     ensures own { result.global ≡ false }
@@ -246,7 +246,7 @@ pub(crate) fn names<'a>(alloc: Global) -> Arg<'a>
         .help("A file of names of calls, such as policies/names.toml; once for each file")
 }
 
-/// `--calls`: whether rows are told call by call, and of which calls.
+/// `--calls`: whether rows are shown call by call, and of which calls.
 pub(crate) fn calls<'a>(alloc: Global) -> Arg<'a>
     ensures rule { rule_of result ≡ choice_rule (codes "calls") }
     ensures own { result.global ≡ false }

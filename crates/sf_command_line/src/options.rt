@@ -108,7 +108,7 @@ pub fn wants_newer(found: &ArgMatches<'_>) -> bool
     is_on(found, "newer")
 }
 
-/// Whether a profile is told of, and no filter written.
+/// Whether notes on a profile are written, and no filter.
 pub fn wants_notes(found: &ArgMatches<'_>) -> bool
     ensures { IsSwitch (one_of (codes "notes") (rows_of (found_of found.now))) result }
 {
@@ -137,7 +137,7 @@ pub fn wants_why(found: &ArgMatches<'_>) -> bool
     is_on(found, "why")
 }
 
-/// Whether it is told how far an exploration is.
+/// Whether it is shown how far an exploration is.
 pub fn wants_progress(found: &ArgMatches<'_>) -> bool
     ensures { IsSwitch (one_of (codes "progress") (rows_of (found_of found.now))) result }
 {

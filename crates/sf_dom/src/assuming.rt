@@ -149,8 +149,8 @@ pub(crate) fn known_left(
     reduce_at(nodes.get(at).meet(more), at, excluded)
 }
 
-/// What is told of the second node of a condition: what its test tells, and where both are one node, also what is left
-/// of the first.
+/// What a condition says of its second node: what its test gives, and where both are one node, also what is left of the
+/// first.
 fn told_of_other(cond: &Cond, told: Known, node: Known) -> Known
     ensures apart { cond.now.node.0 ≢ cond.now.other.0 → result ≡ told }
     ensures one { cond.now.node.0 ≡ cond.now.other.0 → result ≡ met told node }
@@ -176,8 +176,8 @@ pub(crate) fn pair_left(nodes: &Nodes, excluded: &Excluded, cond: &Cond) -> Opti
     Some(Pair { node, other })
 }
 
-/// Forward propagation after a condition. Of the words, only the condition's two nodes may not be tight, so these are
-/// made so first. `false`: a node is left nothing.
+/// Forward propagation after a condition. The only words that may not be tight are the condition's two nodes, so these
+/// are made so first. `false`: a node is left nothing.
 fn propagate_on(nodes: &mut Nodes, excluded: &Excluded, pool: &Pool, cond: &Cond) -> bool
     requires closed { AreClosed nodes.old.known pool.now }
     requires below { IsCondBelow (length pool.now) cond.now }

@@ -1,4 +1,4 @@
-//! Which tests of a node against a number are told: what is known of the node tells the result, and nothing could be
+//! Which tests of a node against a number are told: what is known of the node gives the result, and nothing could be
 //! learnt from it.
 
 ghost use Rattle.std.specs.Prelude.{◌≡◌, ◌≢◌, ℕ, ◌<◌, ◌≤◌, ◌-◌, ◌↔◌, ◌⊎◌, length, Contains, MatchOption, IfSome, IfNone, IsTrue, true, false};
@@ -20,7 +20,7 @@ use crate::nodes::Nodes;
 use sf_insn::Test;
 use sf_sym::{Node, Pool, constant_operand};
 
-/// Whether a word equals a number, where its interval tells it.
+/// Whether a word equals a number, where its interval gives the result.
 fn tell_equal(known: Known, number: u32) -> Option<bool>
     ensures told { MatchOption result (IsOpen Test.Equal known number)
         (λ b. (x : ℕ) → Admits known x → TestGives Test.Equal x number b) }
@@ -36,7 +36,7 @@ fn tell_equal(known: Known, number: u32) -> Option<bool>
     None
 }
 
-/// Whether a word is greater than a number, where its interval tells it.
+/// Whether a word is greater than a number, where its interval gives the result.
 fn tell_greater(known: Known, number: u32) -> Option<bool>
     ensures told { MatchOption result (IsOpen Test.Greater known number)
         (λ b. (x : ℕ) → Admits known x → TestGives Test.Greater x number b) }
@@ -52,7 +52,7 @@ fn tell_greater(known: Known, number: u32) -> Option<bool>
     None
 }
 
-/// Whether a word is at least a number, where its interval tells it.
+/// Whether a word is at least a number, where its interval gives the result.
 fn tell_at_least(known: Known, number: u32) -> Option<bool>
     ensures told { MatchOption result (IsOpen Test.GreaterOrEqual known number)
         (λ b. (x : ℕ) → Admits known x → TestGives Test.GreaterOrEqual x number b) }
@@ -68,7 +68,7 @@ fn tell_at_least(known: Known, number: u32) -> Option<bool>
     None
 }
 
-/// Whether a word has a common bit with a number, where its known bits tell it.
+/// Whether a word has a common bit with a number, where its known bits give the result.
 fn tell_common(known: Known, number: u32) -> Option<bool>
     ensures told { MatchOption result (IsOpen Test.AnyBit known number)
         (λ b. (x : ℕ) → Admits known x → TestGives Test.AnyBit x number b) }
@@ -85,11 +85,11 @@ fn tell_common(known: Known, number: u32) -> Option<bool>
 }
 
 impl Known {
-    /// Whether a word of which this is known passes a test against a number, where its interval and known bits tell it;
-    /// `None` where they leave it open.
+    /// Whether a word of which this is known passes a test against a number, where its interval and known bits give the
+    /// result; `None` where they leave it open.
     ///
     /// In facts, both ends of an interval of a word are numbers that are left for it. So to learn a result that they
-    /// tell moves no end and adds no bit, and the other result leaves no number.
+    /// give moves no end and adds no bit, and the other result leaves no number.
     pub fn tell(&self, test: Test, number: u32) -> Option<bool>
         ensures told { MatchOption result (IsOpen test self.now number)
             (λ b. (x : ℕ) → Admits self.now x → passes test x number ≡ b) }
@@ -140,7 +140,7 @@ pub(crate) fn are_propagated_back(nodes: &Nodes, pool: &Pool, from: usize) -> bo
 }
 
 /// Whether a node passes a test against a number on every input that agrees, where its own interval, known bits and
-/// excluded numbers tell it.
+/// excluded numbers give the result.
 fn tell_at(
     nodes: &Nodes,
     excluded: &Excluded,

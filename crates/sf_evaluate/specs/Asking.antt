@@ -17,8 +17,8 @@ abbrev pub is_given : Text → List Row → Bool
 is_given name rows = is_some (first_of name rows)
 
 -- nothing of a call is given beside the input
-abbrev pub is_input_alone : List Row → Bool
-is_input_alone rows =
+abbrev pub has_only_input : List Row → Bool
+has_only_input rows =
     not (is_given (codes "call") rows || is_given (codes "nr") rows)
     && not (is_given (codes "arch") rows || is_given (codes "args") rows)
 
@@ -49,7 +49,7 @@ nr_fits rows =
 -- The words ask for one input: by its bytes, or by a call's name or number, with its architecture and its arguments.
 abbrev pub eval_words_fit : List Row → Bool
 eval_words_fit rows =
-    if is_given (codes "input") rows then is_input_alone rows
+    if is_given (codes "input") rows then has_only_input rows
     else has_arguments rows && (if is_given (codes "call") rows then call_fits rows else nr_fits rows)
 
 -- ---- the numbers are narrow enough

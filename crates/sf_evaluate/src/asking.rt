@@ -6,7 +6,7 @@ ghost use Rattle.clap.specs.Words.{found_of, rows_of};
 ghost use Rattle.sf_command_line.specs.Options.{text_of};
 ghost use Rattle.sf_calls.specs.Numbers.{read_arguments, read_number};
 ghost use Rattle.sf_policy.specs.declared.fault.Fault.TheVariants.{Input as InputFault, UnknownName as NameFault};
-ghost use Rattle.sf_evaluate.specs.Asking.{AsksInput, IsCallInput, LacksName, arch_named, asked_arch, asked_nr, call_fits, eval_words_fit, has_arguments, has_names, is_arch, is_arch_number, is_given, is_input_alone, is_narrow, is_nr_narrow, nr_fits, nr_named, spells_input};
+ghost use Rattle.sf_evaluate.specs.Asking.{AsksInput, IsCallInput, LacksName, arch_named, asked_arch, asked_nr, call_fits, eval_words_fit, has_arguments, has_names, is_arch, is_arch_number, is_given, has_only_input, is_narrow, is_nr_narrow, nr_fits, nr_named, spells_input};
 
 use crate::checking::input_of;
 use crate::explaining::Notes;
@@ -25,8 +25,8 @@ pub(crate) fn is_given(found: &ArgMatches<'_>, name: &str) -> bool
 }
 
 /// Whether nothing of a call is given beside the input.
-fn is_input_alone(found: &ArgMatches<'_>) -> bool
-    ensures { result ≡ is_input_alone (rows_of (found_of found.now)) }
+fn has_only_input(found: &ArgMatches<'_>) -> bool
+    ensures { result ≡ has_only_input (rows_of (found_of found.now)) }
 {
     !(is_given(found, "call") || is_given(found, "nr"))
         && !(is_given(found, "arch") || is_given(found, "args"))
@@ -74,7 +74,7 @@ pub fn eval_words_fit(found: &ArgMatches<'_>) -> bool
     ensures { result ≡ eval_words_fit (rows_of (found_of found.now)) }
 {
     if is_given(found, "input") {
-        return is_input_alone(found);
+        return has_only_input(found);
     }
     if !has_arguments(found) {
         return false;
@@ -222,8 +222,8 @@ fn asked_call(found: &ArgMatches<'_>, names: &[Names]) -> Result<Input, Fault>
 }
 
 /// The input that the words ask for, with these sets of calls. `Input` where the bytes of an input aren't spelled, or a
-/// number is too wide, as `spells_input` tells before; `UnknownName` where no set has the name that is given, or it has no
-/// call with the name that is given. The notes get to know whether there is such a set.
+/// number is too wide, as `spells_input` says before; `UnknownName` where no set has the name that is given, or it has
+/// no call with the name that is given. The notes get to know whether there is such a set.
 pub fn asked_input(
     found: &ArgMatches<'_>,
     names: &[Names],

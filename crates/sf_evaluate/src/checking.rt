@@ -27,7 +27,7 @@ use sf_warnings::warnings_of_files;
 use std::alloc::{AllocError, Global};
 use std::io::Write;
 
-/// How an answer is told.
+/// How an answer is shown.
 #[derive(Clone, Copy)]
 pub struct Manner {
     /// Whether lines under the answer show where it comes from.
@@ -57,7 +57,7 @@ pub fn input_of(text: &str) -> Result<Input, Fault>
     Ok(input_of_bytes(&bytes))
 }
 
-/// What `check` tells of a stack: a text, or one JSON document.
+/// What `check` says of a stack: a text, or one JSON document.
 fn check_output(
     alloc: Global,
     stack: &Stack,
@@ -125,7 +125,7 @@ fn eval_text(
     Ok(text)
 }
 
-/// What `eval` tells of the stack's answer to the input: a text, or one JSON document.
+/// What `eval` says of the stack's answer to the input: a text, or one JSON document.
 fn eval_output(
     alloc: Global,
     stack: &Stack,

@@ -360,7 +360,7 @@ fn hint_of_read(found: &ArgMatches<'_>, place: usize, reason: &str) -> Option<Hi
     hint_of_unread(path, reason, ready)
 }
 
-/// What a person may have meant who gave what is refused, where that is known. An error where an allocation is refused.
+/// What may have been meant by what is refused, where that is known. An error where an allocation is refused.
 fn hint_of(
     alloc: Global,
     found: &ArgMatches<'_>,

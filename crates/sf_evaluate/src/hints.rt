@@ -1,4 +1,4 @@
-//! What a person may have meant who gave something that is refused. No contract speaks of it.
+//! What may have been meant by something that is refused. No contract speaks of it.
 
 use crate::kinds::Kind;
 use sf_policy::{Fault, Refusal, WORD_KEYS};
@@ -19,7 +19,7 @@ const MEANT: [(&str, &str); 7] = [
 /// The numbers of 64 bits that a question has in two halves, each with a key of its own.
 const HALVED: [&str; 7] = ["ip", "arg0", "arg1", "arg2", "arg3", "arg4", "arg5"];
 
-/// What is told about a text that spells no input.
+/// What is said about a text that spells no input.
 const INPUT: &str =
     "128 digits without `0x` are wanted: the 64 bytes of struct seccomp_data, of each number the lowest byte first";
 
@@ -176,7 +176,7 @@ fn hint_of_top_key(key: &str) -> Hint {
     }
 }
 
-/// What is told about the value of a word that is of a wrong kind.
+/// What is said about the value of a word that is of a wrong kind.
 fn sentence_of_word(refusal: &Refusal, key: &str, value: &Value) -> &'static str {
     match value {
         Value::Table(_) if has_version_1(refusal) => {

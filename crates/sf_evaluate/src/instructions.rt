@@ -136,7 +136,7 @@ fn push_line(
     write!(text, "{comment}\n")
 }
 
-/// Adds the lines of instructions, in order. `found` tells of each place whether a path comes to it.
+/// Adds the lines of instructions, in order. `found` says for each place whether a path comes to it.
 fn push_lines(text: &mut String, code: &[Insn], found: &[bool]) -> Result<(), AllocError>
     requires short { length code.now ≤ 4096 }
     requires count { length found.now ≡ length code.now }

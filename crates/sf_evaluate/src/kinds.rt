@@ -23,7 +23,7 @@ pub(crate) enum Kind {
     Text,
 }
 
-/// The most bytes at the front of a file from which is told whether it is a text.
+/// The most bytes at the front of a file that are looked at to see whether it is a text.
 const FRONT: usize = 64;
 
 /// The bytes of a text without a byte order mark at their front, which belongs to no line.
@@ -72,7 +72,8 @@ fn is_of_set(line: &str) -> bool {
     line.starts_with("arch") || line.starts_with("calls")
 }
 
-/// What a text seems to be that begins with these two lines. A file of several sets of calls begins with the name of a set.
+/// What a text that begins with these two lines seems to be. A file of several sets of calls begins with the name of a
+/// set.
 fn kind_of_lines(line: &str, next: &str) -> Kind {
     if line.starts_with('{') || line.starts_with("[{") || line == "[" {
         return Kind::Json;

@@ -35,7 +35,7 @@ const OF_CALL: [(&str, &str); 2] = [("arch", "--arch <SET>"), ("args", "--args <
 /// What numbers look like.
 const NUMBER: &str = "decimal digits, or 0x and hexadecimal digits";
 
-/// What is told where the arguments of a call are missing.
+/// What is said where the arguments of a call are missing.
 const ONE_INPUT: &str =
     "one input of a call says nothing of its other inputs: `list --calls <NAME>` tells the answers to all of them";
 
@@ -131,7 +131,7 @@ fn first_misfit<'a>(found: &ArgMatches<'a>) -> Option<Misfit<'a>> {
     }
 }
 
-/// Adds the lines that tell of something that doesn't fit, in the form in which `clap` tells it.
+/// Adds the lines that say what doesn't fit, in the form in which `clap` says it.
 fn push_misfit(text: &mut String, misfit: &Misfit<'_>) -> Result<(), AllocError> {
     match misfit {
         Misfit::Both(one, other) => write!(
@@ -149,7 +149,7 @@ fn push_misfit(text: &mut String, misfit: &Misfit<'_>) -> Result<(), AllocError>
     }
 }
 
-/// The lines that tell which words of `eval` don't fit together.
+/// The lines that say which words of `eval` don't fit together.
 fn misfit_text(alloc: Global, found: &ArgMatches<'_>) -> Result<String, AllocError> {
     let mut text = String::new(alloc);
     if let Some(misfit) = first_misfit(found) {
@@ -162,7 +162,7 @@ fn misfit_text(alloc: Global, found: &ArgMatches<'_>) -> Result<String, AllocErr
     Ok(text)
 }
 
-/// The lines that tell what is wrong with the calls and the rows that `list` or `compare` is asked for.
+/// The lines that say what is wrong with the calls and the rows that `list` or `compare` is asked for.
 fn wrong_rows_text(alloc: Global, found: &ArgMatches<'_>) -> Result<String, AllocError> {
     let mut text = String::new(alloc);
     if calls_fit(found) {
@@ -174,7 +174,7 @@ fn wrong_rows_text(alloc: Global, found: &ArgMatches<'_>) -> Result<String, Allo
     Ok(text)
 }
 
-/// The lines that tell that the control is one of the policies that ask the questions.
+/// The lines that say that the control is one of the policies that ask the questions.
 fn wrong_control_text(alloc: Global, found: &ArgMatches<'_>) -> Result<String, AllocError> {
     let mut text = String::new(alloc);
     let control = text_of(found, "control");

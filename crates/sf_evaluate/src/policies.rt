@@ -33,7 +33,7 @@ fn push_character(text: &mut String, character: char) -> Result<(), AllocError> 
     Ok(())
 }
 
-/// A policy that is refused, and the text to which is added what is shown of it.
+/// A policy that is refused, and the text that gets what is shown of it.
 #[derive(Drop)]
 pub struct Page<'a> {
     /// The allocator of what is added.

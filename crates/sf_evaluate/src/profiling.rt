@@ -1,4 +1,4 @@
-//! The subcommand `profile`: writes the filter that a JSON profile means, or what is told of it.
+//! The subcommand `profile`: writes the filter that a JSON profile means, or notes on the profile.
 
 ghost use Rattle.std.specs.Prelude.{◌≡◌, ◌⊎◌, ℕ, List, true, false, IfOk, IfErr, OnOk};
 ghost use Rattle.clap.specs.Words.{found_of, rows_of};
@@ -107,9 +107,9 @@ fn keep_key(alloc: Global, settings: &Settings, bytes: &[u8], fault: &Fault, not
 }
 
 /// Reads the files of names and then the profile that the matches of the subcommand name, and writes the filter that the
-/// profile means: a program that answers each input as the profile does. Where `--notes` asks for it, what is told of the
-/// profile is written, and no filter. The status is 0; or 4 where a word isn't one that its option takes, before any file
-/// is read.
+/// profile means: a program that answers each input as the profile does. Where `--notes` asks for it, notes on the
+/// profile are written, and no filter. The status is 0; or 4 where a word isn't one that its option takes, before any
+/// file is read.
 ///
 /// Refusals, tried in this order: what `read_all_names` refuses; `Set` where one of the sets of names is none of the five
 /// sets of calls; of the profile `Read`, and what `profile` of `sf_profile` refuses; `Write` where standard output can't be

@@ -1,4 +1,4 @@
-//! What is told of a profile that is refused, or of the set of names for which it is.
+//! What is said of a profile that is refused, or of the set of names for which it is.
 
 use crate::explaining::Notes;
 use clap::ArgMatches;
@@ -16,7 +16,7 @@ pub(crate) struct OtherSet {
 
 /// Adds the line of the file of names with the unknown set, and the line of this set where the file has several. An
 /// error where there was no memory to keep which file it is.
-fn push_other_set(
+fn push_unknown_set(
     text: &mut String,
     found: &ArgMatches<'_>,
     notes: &Notes,
@@ -59,7 +59,7 @@ pub(crate) fn push_profile(
     notes: &Notes,
 ) -> Result<(), AllocError> {
     match &notes.other {
-        Ok(Some(other)) => push_other_set(text, found, notes, other),
+        Ok(Some(other)) => push_unknown_set(text, found, notes, other),
         Ok(None) => push_refused_profile(text, found, notes),
         Err(_) => Err(AllocError),
     }

@@ -1,4 +1,4 @@
-//! Which file a place is that of, among all files that are read. It is for a person, so no contract speaks of it.
+//! Which file stands at a place, among all files that are read. It is for a person, so no contract speaks of it.
 
 use clap::ArgMatches;
 use sf_policy::Fault;

@@ -1,4 +1,4 @@
-//! The calls that `list` and `compare` are asked to tell one by one, and which rows of a comparison.
+//! The calls that `list` and `compare` are asked to show one by one, and which rows of a comparison.
 
 ghost use Rattle.std.specs.Prelude.{◌≡◌, ◌==◌, ◌&&◌, ◌⊎◌, IfErr, IfOk, None, codes, false, true, count_by, length, map, option_map, slice_get};
 ghost use Rattle.std.specs.List.{list_all};
@@ -39,7 +39,8 @@ fn are_names(text: &str) -> bool
     text.is_empty() || text.split(',').all(|name| is_name_once(text, name))
 }
 
-/// Whether calls are told by files of names, and each name that is given can be that of a call, and stands once.
+/// Whether `--calls`, if it is given, comes with a file of names, and each name behind it can be that of a call, and
+/// stands once.
 pub fn calls_fit(found: &ArgMatches<'_>) -> bool
     ensures { result ≡ calls_fit (rows_of (found_of found.now)) }
 {
@@ -91,8 +92,8 @@ fn names_in_text<'a>(alloc: Global, text: &'a str) -> Result<Vec<&'a str>, Alloc
     text.split(',').collect(alloc)
 }
 
-/// The calls that are asked for by their names, if calls are to be told one by one at all. Where no name is given, these
-/// are all calls. `Memory` where an allocation is refused.
+/// The calls that are asked for by their names, if calls are to be shown one by one at all. Where no name is given,
+/// these are all calls. `Memory` where an allocation is refused.
 fn calls_asked<'a>(alloc: Global, found: &ArgMatches<'a>) -> Result<Option<Vec<&'a str>>, Fault>
     ensures asked { IfOk result (λ o. option_map (λ v. map (λ t. t.now) v.items) o
         ≡ calls_asked (rows_of (found_of found.now))) }
@@ -136,8 +137,9 @@ fn unknown_place(sets: &[Names], text: &str) -> usize {
         .unwrap_or(0)
 }
 
-/// The calls that are asked for by their names, if calls are to be told one by one at all; all calls where no name is given.
-/// `UnknownName` where one of them is a call of no set; the notes get its place. `Memory` where an allocation is refused.
+/// The calls that are asked for by their names, if calls are to be shown one by one at all; all calls where no name is
+/// given. `UnknownName` where one of them is a call of no set; the notes get its place. `Memory` where an allocation is
+/// refused.
 pub fn known_calls<'a>(
     alloc: Global,
     found: &ArgMatches<'a>,
@@ -167,7 +169,7 @@ fn wrong_name(text: &str) -> Option<&str> {
     text.split(',').find(|name| !is_name_once(text, name))
 }
 
-/// Adds the lines that tell what is wrong with the calls that are asked for.
+/// Adds the lines that say what is wrong with the calls that are asked for.
 pub(crate) fn push_wrong_calls(
     text: &mut String,
     found: &ArgMatches<'_>,
@@ -188,7 +190,7 @@ pub(crate) fn push_wrong_calls(
     )
 }
 
-/// Adds the lines that tell what is wrong with what is said of the rows of a comparison.
+/// Adds the lines that say what is wrong with the options about the rows of a comparison.
 pub(crate) fn push_wrong_rows(text: &mut String, found: &ArgMatches<'_>) -> Result<(), AllocError> {
     let only = found.get_str("only").unwrap_or("different");
     if is_relation(only) {

@@ -150,7 +150,7 @@ fn strings_of(alloc: Global, texts: &[&str]) -> Result<Vec<String>, AllocError>
     Ok(strings)
 }
 
-/// What the words say that a profile is read for, with these calls. `Memory` where an allocation is refused.
+/// What a profile is read for, as the words say, with these calls. `Memory` where an allocation is refused.
 pub(crate) fn settings_of(
     alloc: Global,
     found: &ArgMatches<'_>,
@@ -202,7 +202,7 @@ fn wrong_word<'a>(found: &ArgMatches<'a>) -> Option<(&'static str, &'a str, &'st
     None
 }
 
-/// The lines that tell which word isn't one that its option takes, in the form in which `clap` tells it.
+/// The lines that say which word isn't one that its option takes, in the form in which `clap` says it.
 fn wrong_word_text(alloc: Global, found: &ArgMatches<'_>) -> Result<String, AllocError> {
     let mut text = String::new(alloc);
     if let Some((option, word, taken)) = wrong_word(found) {

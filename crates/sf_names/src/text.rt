@@ -10,8 +10,8 @@ use std::alloc::AllocError;
 /// The most names that are written of one row.
 const MOST_NAMES: usize = 8;
 
-/// Adds a name, where `count` names were told before. Answers how many are told then: the ninth is told by `..`, and no
-/// further one is.
+/// Adds a name, where `count` names were written before. Answers how many are written then: `..` stands for the ninth,
+/// and no further one is written.
 fn push_name(text: &mut String, count: usize, name: &str) -> Result<usize, AllocError>
     ensures text { OnOk result (string_bytes text.new ≡ string_bytes text.old
         ++ name_words count name.now) }
@@ -30,8 +30,8 @@ fn push_name(text: &mut String, count: usize, name: &str) -> Result<usize, Alloc
     Ok(count + 1)
 }
 
-/// Adds the name of a call, if its number is one of these, where `count` names were told before. Answers how many are told
-/// then.
+/// Adds the name of a call, if its number is one of these, where `count` names were written before. Answers how many
+/// are written then.
 fn push_call(
     text: &mut String,
     count: usize,
@@ -49,8 +49,8 @@ fn push_call(
     Ok(count)
 }
 
-/// Adds the names of the calls whose numbers are among these, where `count` names were told before. Answers how many are
-/// told then.
+/// Adds the names of the calls whose numbers are among these, where `count` names were written before. Answers how many
+/// are written then.
 fn push_calls(
     text: &mut String,
     count: usize,
@@ -71,7 +71,7 @@ fn push_calls(
 }
 
 /// Adds the names of the calls of one set whose numbers are among these, if it is a set of the architecture, where `count`
-/// names were told before. Answers how many are told then.
+/// names were written before. Answers how many are written then.
 fn push_names_in(
     text: &mut String,
     count: usize,
@@ -92,8 +92,8 @@ fn push_names_in(
 }
 
 /// Adds the names of the calls of an architecture whose numbers are among these, set after set: ` # ` and then at most
-/// eight names with commas between them, and `..` where there are more. `count` names were told before, none in a new line.
-/// Answers how many are told then, at most nine: the ninth is told by `..`.
+/// eight names with commas between them, and `..` where there are more. `count` names were written before, none in a
+/// new line. Answers how many are written then, at most nine: `..` stands for the ninth.
 pub fn push_names_between(
     text: &mut String,
     count: usize,

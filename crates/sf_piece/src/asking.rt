@@ -50,7 +50,7 @@ fn number_against(run: &Run, other: Operand) -> Option<u32>
     }
 }
 
-/// What the facts tell of a test of A: the truth value that it has on every member, where nothing can be learnt from
+/// What the facts say of a test of A: the truth value that it has on every member, where nothing can be learnt from
 /// it. None where the facts leave it open.
 fn foresee(run: &Run, test: Test, other: Operand) -> Option<bool>
     requires { IsLawfulPiece run.now }
@@ -103,8 +103,8 @@ pub(crate) fn alu(
     }
 }
 
-/// A test of A. Where the facts tell it, its truth value is added to the name, with the falses of the tests behind it
-/// that are told to fail. Else it is learnt as false and as true.
+/// A test of A. Where it is told, its truth value is added to the name, with the falses of the tests behind it that are
+/// known to fail. Else it is learnt as false and as true.
 pub(crate) fn branch(
     alloc: Global,
     run: &mut Run,
@@ -139,7 +139,7 @@ pub(crate) fn branch(
 }
 
 /// A return of A, which meets the 32 bits of A, the highest first. Each bit that isn't in the name yet is taken where
-/// the facts tell it, and else learnt as false and as true. When all are in the name, the program is left.
+/// the facts give it, and else learnt as false and as true. When all are in the name, the program is left.
 pub(crate) fn return_a(alloc: Global, run: &mut Run) -> Result<SmallStep, Fault>
     requires lawful { IsLawfulPiece run.old }
     requires standing { HasAtHand run.old Insn.ReturnA }

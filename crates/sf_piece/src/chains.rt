@@ -15,7 +15,7 @@ use sf_check::{Insn, Operand, Passed, Program};
 use sf_dom::Known;
 use sf_insn::Test;
 
-/// How many instructions an instruction skips, if it tests whether A equals a number and what is known of A tells that
+/// How many instructions an instruction skips, if it tests whether A equals a number and what is known of A says that
 /// it doesn't. None for any other instruction.
 fn failing_skips(insn: Insn, known: Known) -> Option<u8>
     ensures { IfSome result (λ n. IsFailing insn known n) }
@@ -27,7 +27,7 @@ fn failing_skips(insn: Insn, known: Known) -> Option<u8>
     }
 }
 
-/// How many tests in a row are told to fail from this place on, each where the one before leads, and the place behind
+/// How many tests in a row are known to fail from this place on, each where the one before leads, and the place behind
 /// them; each tests whether A equals a number. They are looked up where A has only one number. Where it may have more,
 /// the answer is no test: the caller looks at each instruction.
 fn skip_others(program: &Program, place: usize, known: Known) -> Passed
@@ -43,7 +43,7 @@ fn skip_others(program: &Program, place: usize, known: Known) -> Passed
     }
 }
 
-/// How many tests of A in a row are told to fail from the machine's place on, and the place behind them.
+/// How many tests of A in a row are known to fail from the machine's place on, and the place behind them.
 fn failing_chain(run: &Run, known: Known) -> Passed
     requires lawful { IsLawfulPiece run.now }
     requires known { known ≡ known_at run.now.facts.known run.now.machine.a.0 }
@@ -76,8 +76,8 @@ fn failing_chain(run: &Run, known: Known) -> Passed
     Passed { count, behind }
 }
 
-/// Goes on over the tests of A that come now and are told to fail, as most tests of a chain are. Their falses are added
-/// to the name at once, and what is known stays as it is.
+/// Goes on over the tests of A that come now and are known to fail, as most tests of a chain are. Their falses are
+/// added to the name at once, and what is known stays as it is.
 pub(crate) fn take_failing(run: &mut Run) -> Result<(), Fault>
     requires { IsLawfulPiece run.old }
     ensures gone { IfOk result (λ _. HasGoneOn run.old run.new) }

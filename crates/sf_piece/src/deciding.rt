@@ -125,7 +125,7 @@ fn child(run: &Run, insn: Insn, cond: Cond, sense: bool, facts: Facts) -> Result
     })
 }
 
-/// The piece's facts, with what this truth value of the condition tells; none where that contradicts them.
+/// The piece's facts, with what this truth value of the condition says; none where that contradicts them.
 fn child_facts(alloc: Global, run: &Run, cond: Cond, sense: bool) -> Result<Option<Facts>, Fault>
     requires lawful { IsLawfulPiece run.now }
     requires below { IsCondBelow (length run.now.pool) cond }
@@ -142,7 +142,7 @@ fn child_facts(alloc: Global, run: &Run, cond: Cond, sense: bool) -> Result<Opti
     Ok(learnt)
 }
 
-/// Learns the next truth value as false and as true, each from the same facts, and tells which of them the facts leave.
+/// Learns the next truth value as false and as true, each from the same facts, and says which of them the facts leave.
 /// The run has nodes for both words of the condition.
 pub(crate) fn decide(alloc: Global, asked: &Run, insn: Insn, cond: Cond) -> Result<Decision, Fault>
     requires lawful { IsLawfulPiece asked.now }

@@ -80,7 +80,7 @@ fn policy_of_table(alloc: Global, table: &Table) -> Result<Vec<Question>, Fault>
 }
 
 /// The questions of a policy file, as `read_policy` reads them. A refusal has the fault that `read_policy` answers, and
-/// what was read of the file, from which a person can be told where the fault lies.
+/// what was read of the file, from which a person can be shown where the fault lies.
 #[tactic(auto, using(crate::proofs::NeverSyntax::not_syntax))]
 pub fn read_policy_at(alloc: Global, text: &str) -> Result<Vec<Question>, Refusal>
     // Where the text is TOML, the questions or the refusal are those of its tree.

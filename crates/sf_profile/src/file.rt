@@ -96,7 +96,7 @@ fn notes_of_file(alloc: Global, settings: &Settings, value: &Value) -> Result<St
     }
 }
 
-/// What is told of the profile in a file: its default and its sets of calls; how many rules it has, and how many of them
+/// The notes on the profile in a file: its default and its sets of calls; how many rules it has, and how many of them
 /// apply; how many different names these have, how many of the names no file of names has, and which; and how many
 /// instructions its filter has. The refusals are those of `profile`.
 pub fn notes(alloc: Global, settings: &Settings, bytes: &[u8]) -> Result<String, Fault>

@@ -115,7 +115,7 @@ pub(crate) fn comparing_named(text: &str) -> Option<Comparing>
     None
 }
 
-/// Whether a response has data of its own: an error number, or what a tracer is told.
+/// Whether a response has data of its own: an error number, or what a tracer is given.
 pub(crate) fn has_data(response: Response) -> bool
     ensures { result ≡ has_data response }
 {

@@ -71,7 +71,7 @@ pub enum Response {
     Errno(u16),
     /// A supervisor decides.
     Notify,
-    /// A tracer decides, and is told this number.
+    /// A tracer decides, and is given this number.
     Tracer(u16),
     /// The call is made and logged.
     Log,

@@ -94,7 +94,7 @@ pub fn set_of_names(names: &Names) -> Option<CallSet>
 }
 
 impl Calls {
-    /// The calls of the set that `set_of_names` tells; none where it tells none.
+    /// The calls of the set that `set_of_names` gives; none where it gives none.
     pub fn of(names: Names) -> Option<Calls>
         ensures { result ≡ calls_of_names names }
     {

@@ -1,4 +1,4 @@
-//! What is told of a profile.
+//! The notes on a profile.
 
 ghost use Rattle.std.specs.Prelude.{◌≡◌, ◌++◌, Some, codes, filter, fold, is_some, map, IfOk, OnOk, string_bytes};
 ghost use Rattle.std.specs.List.{flat_map, list_any};
@@ -288,7 +288,7 @@ pub(crate) fn unknown_words(
     words_of(alloc, &unknown)
 }
 
-/// What is told of a profile whose filter has so many instructions.
+/// The notes on a profile whose filter has so many instructions.
 pub(crate) fn notes_text(
     alloc: Global,
     settings: &Settings,

@@ -1,4 +1,4 @@
-//! Which instructions of a filter control may come to.
+//! Which instructions of a filter some path comes to.
 
 ghost use Rattle.std.specs.Prelude.{◌≡◌, ◌+◌, ◌<◌, length, IfOk};
 ghost use Rattle.sf_check.specs.Insns.{successors};

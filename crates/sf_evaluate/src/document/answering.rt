@@ -103,7 +103,7 @@ fn traced_document(
     Ok(Document::array(alloc, documents)?)
 }
 
-/// What a trace tells: the input, the answer, and the filters where they are asked for.
+/// What a trace shows: the input, the answer, and the filters where they are asked for.
 fn document_of(alloc: Global, traced: bool, trace: &Trace<'_>) -> Result<Document, sf_run::Fault>
     ensures { IfOk result (λ d. view d ≡ eval_document traced trace.now.brief trace.now.names.now
         trace.now.stack.now trace.now.input.now trace.now.answer) }
@@ -117,9 +117,10 @@ fn document_of(alloc: Global, traced: bool, trace: &Trace<'_>) -> Result<Documen
     Ok(Document::object(fields))
 }
 
-/// What `eval` finds, as JSON: the input, told with these names of calls, the answer of the stack to it, and where `traced`
-/// or `brief` asks for it each filter, newest first: what it returns and at which instruction, whether its answer is the
-/// stack's, and all that it meets; in brief without what is false. `Memory` where an allocation is refused.
+/// What `eval` finds, as JSON: the input, shown with these names of calls, the answer of the stack to it, and where
+/// `traced` or `brief` asks for it each filter, newest first: what it returns and at which instruction, whether its
+/// answer is the stack's, and all that it meets; in brief without what is false. `Memory` where an allocation is
+/// refused.
 pub fn eval_document(
     alloc: Global,
     stack: &Stack,
