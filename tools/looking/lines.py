@@ -4,8 +4,8 @@ bytes.
     tools/look lines            the files that have one
     tools/look lines --write    breaks them first, and lays the files of crates out anew (`rattle fmt`)
 
-Of crates/ the .antt files are looked at, but for their `use` lines, and in .rt files clauses (`requires`, `ensures`)
-and ghost items. Of those bytes are counted, as many tools do, so a clause of symbols is broken earlier. A line is
+In crates/ the .antt files are looked at, but for their `use` lines, and in .rt files clauses (`requires`, `ensures`)
+and ghost items. Their bytes are counted, as many tools do, so a clause of symbols is broken earlier. A line is
 broken at a space, where it belongs together least: outside brackets rather than inside, and there before an arrow
 rather than between a function and what it is applied to. What comes after goes on below, four columns further in. The
 tokens stay what they are, so nothing changes for the prover.

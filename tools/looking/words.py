@@ -1,60 +1,60 @@
-"""Whether names in code use the words of docs/ARCHITECTURE.md in the sense that they have there.
+"""Whether words of docs/ARCHITECTURE.md, and some others, stand only in names of crates where they have their meaning.
 
     tools/look words [CRATE ..]
 
-A word of the table below may be part of a name only in the crates that stand beside it: elsewhere it would mean another
-thing. Names are those of functions, types, fields, variants, parameters, constants and modules of `src/`, labels of
-clauses, and the definitions of `specs/` with their fields. A name is taken apart at underscores and at capital letters.
-Names of lemmas and of local values aren't looked at, nor are the toolchain's own.
+A word of WORDS may be part of a name only in the crates that stand beside it. Elsewhere it would mean another thing.
+Most words of that page's glossary are there. Whether a name in one of these crates uses the word in this meaning isn't
+looked at.
 
-KNOWN has the names that break the rule today, each with its reason; one that is no longer there has to be taken out,
-so the list only gets shorter. Names are counted.
+Names are those of functions, types, fields, variants, parameters, constants and modules of `src/`, labels of clauses,
+and the definitions of `specs/` with their fields. A name is taken apart at underscores and at capital letters. Names of
+lemmas and of local values aren't looked at, nor are the toolchain's own.
+
+KNOWN has the names that break the rule today, each with its reason. One that is no longer there has to be taken out of
+the list. Names are counted.
 """
 import re
 
 from looking.rattle import names_declared, names_defined
-from looking.tree import crates, shown, sources
+from looking.tree import ROOT, crates, shown, sources
 
-# The crates from the lowest upwards, and those that try them.
-ORDER = "insn check run blocks sym dom piece book ask warnings policy command_line evaluate crew audit compare needed picture rows list command".split()
-PRODUCT = [f"sf_{name}" for name in ORDER] + ["seccomp_audit"]
-TRYING = {
-    "samples": "command",
-    "facts_tests": "dom",
-    "facts_run": "dom",
-    "pieces_tests": "ask",
-    "crew_tests": "crew",
-    "picture_tests": "picture",
-    "list_tests": "list",
-    "needed_tests": "needed",
-    "memory_run": "list",
-    "command_run": "command",
-    "examples_run": "list",
-}
+def stands_on():
+    """Each crate with those on which it stands, by crates.txt, which lists a crate behind those that it uses."""
+    below = {}
+    for line in (ROOT / "crates.txt").read_text(encoding="utf-8").splitlines():
+        if line and not line.startswith("#"):
+            name, uses = line.split(":")
+            own = [one for one in uses.split() if one in below]
+            below[name] = set(own).union(*(below[one] for one in own))
+    return below
+
+
+BELOW = stands_on()
 
 
 def above(lowest):
-    """The crate and those above it, with those that try one of them."""
-    ranks = {name: rank for rank, name in enumerate(ORDER)}
-    product = PRODUCT[ranks[lowest]:]
-    return set(product) | {crate for crate, highest in TRYING.items() if ranks[highest] >= ranks[lowest]}
+    """The crate and those that stand on it, and the command line, whose options are named by the same words."""
+    lowest = f"sf_{lowest}"
+    return {lowest, "sf_command_line"} | {crate for crate, below in BELOW.items() if lowest in below}
+
+
+# What tests and programs of tests try: of the crates on which they stand only these.
+TRIED = {
+    "facts_tests": {"sf_insn", "sf_check", "sf_run", "sf_blocks", "sf_sym", "sf_dom"},
+    "facts_run": {"sf_dom"},
+    "pieces_tests": {"sf_piece", "sf_book", "sf_ask"},
+    "crew_tests": {"sf_crew"},
+    "picture_tests": {"sf_picture"},
+    "list_tests": {"sf_list", "sf_rows", "sf_picture"},
+    "memory_run": BELOW["memory_run"],
+    "command_run": {"sf_command_line", "sf_evaluate", "sf_command"},
+    "examples_run": {"sf_audit", "sf_compare", "sf_list", "sf_run", "sf_check"},
+}
 
 
 def only(*crates):
     """These crates, and those that try one of them."""
-    short = {crate.removeprefix("sf_") for crate in crates}
-    tried = {
-        "facts_tests": {"insn", "check", "run", "blocks", "sym", "dom"},
-        "facts_run": {"dom"},
-        "pieces_tests": {"piece", "book", "ask"},
-        "crew_tests": {"crew"},
-        "picture_tests": {"picture"},
-        "list_tests": {"list", "rows", "picture"},
-        "memory_run": set(ORDER),
-        "command_run": {"command_line", "evaluate", "command"},
-        "examples_run": {"audit", "compare", "list", "run", "check"},
-    }
-    return set(crates) | {crate for crate, names in tried.items() if names & short}
+    return set(crates) | {crate for crate, tried in TRIED.items() if tried & set(crates)}
 
 
 # The forms of a word, the crates in whose names it may stand, and what it means there.

@@ -3,7 +3,8 @@
     tools/test install
 
 A stand-in takes the program's place, so nothing has to be built. Cases that need a C compiler, or dpkg and objdump, are
-left out where these aren't there, and told. The last line is `N passed, M failed`; where M isn't 0, the status is 1.
+left out where these aren't there, and a line says so. The last line is `N passed, M failed`; where M isn't 0, the
+status is 1.
 """
 import importlib.machinery
 import importlib.util

@@ -4,8 +4,8 @@
 
 PEER is the plain program of bench/plain if none is given; cargo builds it first.
 
-The kinds, all if none is given, are those of `random_filters.py`: each is aimed at some of the program's shortcuts. Of
-each so many CASES are tried, 1000 if no number is given. Each stack is audited with its regions, so names, counts,
+The kinds, all if none is given, are those of `random_filters.py`: each is aimed at some of the program's shortcuts. So
+many CASES of each are tried, 1000 if no number is given. Each stack is audited with its regions, so names, counts,
 answers and replies are compared, and the exit statuses. A stack on which the two differ is named by its kind, seed and
 number, and its filters are shown as hexadecimal digits where they are short. A line for each kind counts its cases. The
 status is 1 where one differed.

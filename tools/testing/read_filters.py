@@ -3,8 +3,8 @@
     tools/test read_filters
 
 It takes a C compiler. A process is read only by root with CAP_SYS_ADMIN, where no filter is in force; elsewhere these
-cases are left out, and told. The last line is `N passed, M failed`; where M isn't 0, or nothing was tried, the status
-is 1.
+cases are left out, and a line says so. The last line is `N passed, M failed`; where M isn't 0, or nothing was tried,
+the status is 1.
 """
 import os
 import subprocess

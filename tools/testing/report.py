@@ -4,8 +4,8 @@
 
 PROGRAM is crates/seccomp_audit/out/seccomp_audit if none is named. Pages of the nine real stacks in
 crates/examples_run/data are compared with what `eval` answers, for N inputs a stack (40 if not given). Pages are opened
-in Debian's Chromium, if it is there, and left out and told otherwise: a few of them, and with --all those of all nine
-stacks, of a stack with 40 architectures, and of 20,000 rows.
+in Debian's Chromium: a few of them, and with --all those of all nine stacks, of a stack with 40 architectures, and of
+20,000 rows. Where it isn't there, none is opened, and a line says so.
 
 Each case that fails gets a line. The last line is `N passed, M failed`; the status is 1 where M isn't 0 or N is.
 """
