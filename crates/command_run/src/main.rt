@@ -1,10 +1,10 @@
 //! Runs command lines over files in memory, and shows what each writes and its exit status.
 //!
-//! A script comes on standard input, one command a line. `file NAME FRAGMENT ..` makes a file from hexadecimal digits, and
-//! `text NAME LINE | LINE ..` one from lines; the newest file of a name counts. `run WORD ..` runs a command
-//! line, `explain WORD ..` runs one where each fault is explained unasked, and `count WORD ..` runs one and shows how
-//! many bytes it writes. `keep NAME WORD ..` runs one, and makes a file of what it writes; `make NAME WORD ..` shows that
-//! as hexadecimal digits too. `limit WORD ..` runs one over writers that take no byte, one byte, two, and so on, until one
+//! A script comes on standard input, one command a line. `file NAME FRAGMENT ..` makes a file from hexadecimal digits,
+//! and `text NAME LINE | LINE ..` one from lines; the newest file of a name counts. `run WORD ..` runs a command line,
+//! `explain WORD ..` runs one where each fault is explained unasked, and `count WORD ..` runs one and shows how many
+//! bytes it writes. `keep NAME WORD ..` runs one, and makes a file of what it writes; `make NAME WORD ..` shows that as
+//! hexadecimal digits too. `limit WORD ..` runs one over writers that take no byte, one byte, two, and so on, until one
 //! takes all. `interrupt WORD ..` runs one over a writer that a signal interrupts. For these two the writer takes one
 //! byte a call; with five and seven bytes a call the result has to be the same. A line that begins with `#` is a
 //! comment.

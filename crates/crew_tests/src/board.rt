@@ -112,8 +112,8 @@ fn enter_without_second(
     Some(())
 }
 
-/// Each of two seats draws a job and enters a sheet, the second one first. Before the first seat enters, it looks at the
-/// second question and at the first. Answers the jobs, and what the first seat has seen.
+/// Each of two seats draws a job and enters a sheet, the second one first. Before the first seat enters, it looks at
+/// the second question and at the first. Answers the jobs, and what the first seat has seen.
 fn enter_one_each(
     alloc: Global,
     board: &Board,

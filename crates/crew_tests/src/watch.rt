@@ -17,14 +17,14 @@ pub enum Plan {
     First,
     /// After this many first calls of all, each call, until each of up to four workers has made one more.
     Gathering(usize),
-    /// The same after the first call of all, by which its worker has come, and the next one of that worker. So the others
-    /// find their leases only on the bench of that worker.
+    /// The same after the first call of all, by which its worker has come, and the next one of that worker. So the
+    /// others find their leases only on the bench of that worker.
     OneBench,
 }
 
 /// What a gate has seen: all calls, the held ones of the first four workers (in a gathering, whether one came), and two
-/// numbers that are to be 0: calls under another number than the next of one of the workers, and calls that were let go,
-/// or came, too early.
+/// numbers that are to be 0: calls under another number than the next of one of the workers, and calls that were let
+/// go, or came, too early.
 pub type Seen = (usize, [usize; 4], [usize; 2]);
 
 /// A gate with a plan.

@@ -1,5 +1,5 @@
-//! Compares real filters, with the rows whose answers differ, and shows that the number of workers changes no byte of what
-//! is written.
+//! Compares real filters, with the rows whose answers differ, and shows that the number of workers changes no byte of
+//! what is written.
 
 ghost use Rattle.std.specs.Prelude.{◌<◌, ◌≤◌, length};
 

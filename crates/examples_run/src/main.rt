@@ -1,6 +1,6 @@
-//! Checks, evaluates, audits, compares and lists real filters. Lines such as `check A.bpf B.bpf`, `eval HEX A.bpf B.bpf`,
-//! `audit POLICY A.bpf B.bpf`, `compare OLD.bpf -- NEW.bpf` and `list A.bpf B.bpf` come on standard input. The files
-//! stand in the folder in which the program runs.
+//! Checks, evaluates, audits, compares and lists real filters. Lines such as `check A.bpf B.bpf`, `eval HEX A.bpf
+//! B.bpf`, `audit POLICY A.bpf B.bpf`, `compare OLD.bpf -- NEW.bpf` and `list A.bpf B.bpf` come on standard input. The
+//! files stand in the folder in which the program runs.
 #![tactic(auto)]
 
 mod auditing;

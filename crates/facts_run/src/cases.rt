@@ -84,8 +84,8 @@ fn node_of(words: &[&str]) -> Option<Node> {
     }
 }
 
-/// The step that words name: `word W from LOW to HIGH`, `word W bits MASK are VALUE`, `push` and a node, or a test of two
-/// nodes and its result.
+/// The step that words name: `word W from LOW to HIGH`, `word W bits MASK are VALUE`, `push` and a node, or a test of
+/// two nodes and its result.
 fn step_of(words: &[&str]) -> Option<Step> {
     match words {
         ["push", node @ ..] => Some(Step::Push(node_of(node)?)),

@@ -44,8 +44,8 @@ fn are_apart(plain: &Plain, word: usize, node: usize, number: u64) -> bool {
     back && is_excluded(plain, word, number)
 }
 
-/// Whether facts stay the same where they learn that a word isn't the number of a node. Where no known bits go back from
-/// the node, the number is excluded already.
+/// Whether facts stay the same where they learn that a word isn't the number of a node. Where no known bits go back
+/// from the node, the number is excluded already.
 fn learns_nothing(
     alloc: Global,
     pool: &Pool,

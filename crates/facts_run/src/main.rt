@@ -6,8 +6,8 @@
 //! 255, and shows the AND. A line that begins with `#` says what the next ones are about.
 //!
 //! The rules are computed beside, by plain functions that say what the definitions say. After each step all nodes and
-//! all excluded numbers are compared. A line `made COUNT SEED` stands for so many cases that are made by chance: it shows
-//! those in which facts and rules differ, and what all of them reach.
+//! all excluded numbers are compared. A line `made COUNT SEED` stands for so many cases that are made by chance: it
+//! shows those in which facts and rules differ, and what all of them reach.
 #![tactic(auto)]
 
 mod cases;

@@ -86,8 +86,8 @@ fn with_bits(known: Knowledge, zeros: u64, ones: u64) -> Knowledge {
     )
 }
 
-/// What is known of the operand `x` of a node `x op c`, with what it gains from the bits of the node. `None`: known bits
-/// don't go back from such a node.
+/// What is known of the operand `x` of a node `x op c`, with what it gains from the bits of the node. `None`: known
+/// bits don't go back from such a node.
 fn gained(op: BinOp, c: u64, node: Knowledge, x: Knowledge) -> Option<Knowledge> {
     let other = LAST.saturating_sub(c);
     match op {
@@ -102,8 +102,8 @@ fn gained(op: BinOp, c: u64, node: Knowledge, x: Knowledge) -> Option<Knowledge>
     }
 }
 
-/// Known bits go back from a node, from operand to operand, until a node is no AND, OR or XOR with exactly one constant.
-/// `None`: some operand is left nothing.
+/// Known bits go back from a node, from operand to operand, until a node is no AND, OR or XOR with exactly one
+/// constant. `None`: some operand is left nothing.
 fn go_back(
     known: &mut Vec<Knowledge>,
     excluded: &[Exclusion],
@@ -125,8 +125,8 @@ fn go_back(
     Some(())
 }
 
-/// A forward pass over all nodes: what was known of each, met with what follows from its operands as the pass left them,
-/// and reduced. `None`: some node is left nothing.
+/// A forward pass over all nodes: what was known of each, met with what follows from its operands as the pass left
+/// them, and reduced. `None`: some node is left nothing.
 fn pass(known: &mut Vec<Knowledge>, excluded: &[Exclusion], nodes: &[Node]) -> Option<()> {
     for i in 0..nodes.len() {
         let more = forward_node(known, node_at(nodes, i));

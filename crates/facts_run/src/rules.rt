@@ -260,8 +260,8 @@ fn least_with_bits(low: u64, zeros: u64, ones: u64) -> Option<u64> {
     None
 }
 
-/// The greatest word up to `high` that has known bits: `high`, or the one that is first another at a bit, where it has a
-/// 0 in place of a 1, and that has no zeros below but those that are known.
+/// The greatest word up to `high` that has known bits: `high`, or the one that is first another at a bit, where it has
+/// a 0 in place of a 1, and that has no zeros below but those that are known.
 fn greatest_with_bits(high: u64, zeros: u64, ones: u64) -> Option<u64> {
     if has_bits(high, zeros, ones) {
         return Some(high);

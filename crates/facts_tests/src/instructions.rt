@@ -3,7 +3,8 @@ use samples::execve_refused;
 use sf_insn::{BinOp, Fault, RawInsn, Test, bytes_of_input, decode, encode, input_of_bytes};
 use std::alloc::Global;
 
-/// `ld [4]; jeq 0xC000003E 1 0; ret 0x80000000; ld [0]; jeq 59 0 1; ret 0x00050001; ret 0x7fff0000`, as a file holds it.
+/// `ld [4]; jeq 0xC000003E 1 0; ret 0x80000000; ld [0]; jeq 59 0 1; ret 0x00050001; ret 0x7fff0000`, as a file holds
+/// it.
 const NO_EXECVE: [u8; 56] = [
     0x20, 0, 0, 0, 4, 0, 0, 0, 0x15, 0, 1, 0, 0x3e, 0, 0, 0xc0, 6, 0, 0, 0, 0, 0, 0, 0x80, 0x20, 0,
     0, 0, 0, 0, 0, 0, 0x15, 0, 0, 1, 0x3b, 0, 0, 0, 6, 0, 0, 0, 1, 0, 5, 0, 6, 0, 0, 0, 0, 0, 0xff,

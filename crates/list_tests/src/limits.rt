@@ -1,4 +1,5 @@
-//! Lists near the limits, worked by hand: thousands of rows, and more leaves than are drawn where `--leaves` isn't given.
+//! Lists near the limits, worked by hand: thousands of rows, and more leaves than are drawn where `--leaves` isn't
+//! given.
 use crate::differences::{comparison_of, rows_behind};
 use crate::listings::{listing_text, text_of};
 use samples::{ALLOW, op, raw};
@@ -9,8 +10,8 @@ use std::sync::Wait;
 use std::test::Fail;
 use std::thread::Threads;
 
-/// Refuses the 2,000 calls with odd numbers below 4,000: `ld [0]`, for each of them `jeq NUMBER 0 1; ret 0x50001`, and then
-/// `ret 0x7fff0000`.
+/// Refuses the 2,000 calls with odd numbers below 4,000: `ld [0]`, for each of them `jeq NUMBER 0 1; ret 0x50001`, and
+/// then `ret 0x7fff0000`.
 fn odd_calls(alloc: Global) -> Result<Vec<RawInsn>, Fail> {
     let mut insns = Vec::new(alloc);
     insns.push(op(0x20, 0))?;
@@ -22,9 +23,9 @@ fn odd_calls(alloc: Global) -> Result<Vec<RawInsn>, Fail> {
     Ok(insns)
 }
 
-/// Refuses the calls 0 to 160 where the low half of their first argument is an odd number below 124: `ld [0]`, for each call
-/// `jeq NUMBER 0 1; ja TESTS`, `ret 0x7fff0000`, and the tests of the argument. 125 leaves are drawn for each call, so
-/// 20,000 are drawn before the last one is begun.
+/// Refuses the calls 0 to 160 where the low half of their first argument is an odd number below 124: `ld [0]`, for each
+/// call `jeq NUMBER 0 1; ja TESTS`, `ret 0x7fff0000`, and the tests of the argument. 125 leaves are drawn for each
+/// call, so 20,000 are drawn before the last one is begun.
 fn odd_arguments(alloc: Global) -> Result<Vec<RawInsn>, Fail> {
     let mut insns = Vec::new(alloc);
     insns.push(op(0x20, 0))?;

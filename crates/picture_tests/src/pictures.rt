@@ -34,9 +34,9 @@ fn drawn(alloc: Global, insns: &[RawInsn], budget: u32, leaves: usize) -> Result
     Ok(picture_of(alloc, &settled, labels.as_slice(), leaves)?)
 }
 
-/// Asks for bit 2 of the call number, and where it is set, whether the number is at least 10. No number from 8 to 11 has the
-/// bit, so the test has no number next to 10 on its sides: `ld [0]; jset 4 0 3; jge 10 0 1; ret 0x50001; ret 0x50002;
-/// ret 0x7fff0000`.
+/// Asks for bit 2 of the call number, and where it is set, whether the number is at least 10. No number from 8 to 11
+/// has the bit, so the test has no number next to 10 on its sides: `ld [0]; jset 4 0 3; jge 10 0 1; ret 0x50001; ret
+/// 0x50002; ret 0x7fff0000`.
 fn bit_and_bound() -> [RawInsn; 6] {
     [
         op(0x20, 0),

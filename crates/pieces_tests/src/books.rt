@@ -142,7 +142,8 @@ fn leases_in_name_order(book: &mut Book, n: usize) -> Result<bool, Fail> {
     Ok(book.lease()?.is_none())
 }
 
-/// The book of the stack of `echo` after 511 works, each of a piece with a shortest name. All its leases are taken back.
+/// The book of the stack of `echo` after 511 works, each of a piece with a shortest name. All its leases are taken
+/// back.
 fn book_of_many(alloc: Global) -> Result<Book, Fail> {
     let mut book = Book::open(alloc, echo_stack(alloc)?, 511)?;
     for _ in 0..9 {

@@ -30,7 +30,8 @@ fn explored(alloc: Global, filter: &[RawInsn]) -> Result<Settled, Fail> {
     Ok(book.finish(&stack)?)
 }
 
-/// How many of the regions have a name of this many truth values that is before the next one's, as its truth values are.
+/// How many of the regions have a name of this many truth values that is before the next one's, as its truth values
+/// are.
 fn in_order(alloc: Global, settled: &Settled, length: usize) -> Result<u32, Fail> {
     let mut count = 0u32;
     for place in 1..settled.region_count() {

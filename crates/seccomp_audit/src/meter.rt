@@ -13,7 +13,8 @@ const LINE: usize = 96;
 /// After how many steps the clock is looked at again.
 const STEPS: u64 = 64;
 
-/// Counts steps, works and judged regions alike, and writes a line to standard error each second.
+/// Counts steps, which are works and sheets of verdicts alike. Every `STEPS` steps it looks at the clock, and writes a
+/// line to standard error if the second is a new one.
 #[derive(Drop)]
 pub struct Progress<'a, R> {
     rt: &'a R,

@@ -23,7 +23,7 @@ fn is_whole(range: (u32, u32)) -> bool
     range.0 == 0 && range.1 == u32::MAX
 }
 
-/// Whether what is known of a word leaves no number from `low` to `high` for it.
+/// Whether no number from `low` to `high` lies in the interval that is known for a word.
 fn misses(facts: &Facts, word: usize, low: u32, high: u32) -> bool
     requires word { word < 16 }
     requires known { 16 ≤ length facts.now.known }
@@ -33,7 +33,8 @@ fn misses(facts: &Facts, word: usize, low: u32, high: u32) -> bool
     known.high < low || high < known.low
 }
 
-/// Whether what is known of some word leaves no number of the question's range for it. Nothing is copied for this.
+/// Whether the known interval of some word has no number of the question's range for it: then no input that agrees with
+/// the facts is in the question. This is a quick look, which copies nothing and leaves out masks and known bits.
 pub(crate) fn rules_out(facts: &Facts, question: &Question) -> bool
     requires { 16 ≤ length facts.now.known }
     ensures { result ≡ true → IsRuledOut facts.now question.now }

@@ -26,7 +26,8 @@ use sf_piece::Piece;
 use sf_sym::Cond;
 use std::alloc::Global;
 
-/// The input that has in each word the least number that the facts leave for it. Never `None`, since they leave one.
+/// The input that has in each word the least number that the facts leave for it. It is never `None`, since the facts
+/// leave at least one number for each word.
 pub(crate) fn least_input(facts: &Facts) -> Option<Input>
     ensures { MatchOption result ⊥ (λ d. IsLeastInput facts.now d) }
 {
@@ -38,8 +39,9 @@ pub(crate) fn least_input(facts: &Facts) -> Option<Input>
     Some(Input { words })
 }
 
-/// Whether the input meets every condition; none where a condition is on a computed word. Most conditions are on words
-/// of the input and numbers only: no other node is computed for them.
+/// Whether the input meets every condition. They are looked at in order, up to the first that the input doesn't meet;
+/// none where one of these is on a computed word. Most conditions are only on words of the input and constants: no
+/// other node is computed for them.
 fn meets_without_computing(piece: &Piece, input: &Input) -> Option<bool>
     ensures { IfSome result (λ b. b ≡ is_member piece.now input.now) }
 {

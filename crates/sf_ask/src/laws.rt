@@ -23,7 +23,7 @@ pub fn replies_have_one_result()
     verdicts_have_one_result();
 }
 
-/// By the rules one thing is found of the members of a piece: the same of each piece that is the same.
+/// By the rules the search for a member has one result: the same for any two pieces that are the same.
 pub fn members_have_one_result()
     ensures { FindOneThing }
 {

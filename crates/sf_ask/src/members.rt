@@ -63,10 +63,11 @@ fn lowest_bit(bits: u32) -> Option<u32>
     Some(bits & bits.wrapping_neg())
 }
 
-/// A number in place of `number`, with which the masked word may meet the condition against `wanted`; none where no way
-/// is tried. It is only a guess: the caller looks at the input again. A condition that the word equals `wanted` under the
-/// mask, or has none of its bits, needs no mending: it is known of the word's bits, so each number that is tried meets
-/// it.
+/// A number in place of `number`, with which the word under `mask` may meet the condition against `wanted`. Where that
+/// word has to differ from `wanted`, the lowest of its bits that isn't known is turned. Where it has to share a bit
+/// with `wanted`, the lowest one that may be 1 is set. It is only a guess: the caller looks at the input again. None
+/// where there is no such bit, and for other conditions. That the word equals `wanted`, or shares no bit with it, is
+/// known bit by bit, so each input that is tried meets it already; a condition on order isn't mended.
 fn mended_number(number: u32, mask: u32, known: Known, cond: &Cond, wanted: u32) -> Option<u32>
     ensures { result ≡ mended_number cond.now.test cond.now.sense wanted mask known number }
 {
@@ -84,7 +85,7 @@ fn mended_number(number: u32, mask: u32, known: Known, cond: &Cond, wanted: u32)
 }
 
 /// The input with one word mended, so that it may meet the condition. None where the condition doesn't compare a word
-/// under a mask with a constant, or where no way is tried.
+/// under a mask with a constant, or where `mended_number` has no number for it.
 fn mended_input(pool: &Pool, facts: &Facts, cond: &Cond, input: &Input) -> Option<Input>
     requires covers { Covers facts.now pool.now }
     requires node { cond.now.node.0 < length pool.now }
@@ -103,8 +104,9 @@ fn mended_input(pool: &Pool, facts: &Facts, cond: &Cond, input: &Input) -> Optio
     Some(Input { words })
 }
 
-/// A member that this input is, or comes to by at most so many mendings; none where it comes to none. As long as the
-/// input misses a condition, one word is mended for the first one that it misses, and the input is looked at again.
+/// Looks for a member near an input, by mending the input. As long as the input misses a condition, one word is mended
+/// for the first condition that it misses, and the input is looked at again. None where a condition is still missed
+/// after `mendings` mendings, or can't be mended.
 fn member_near(
     alloc: Global,
     piece: &Piece,

@@ -69,7 +69,7 @@ fn put_in_order(probes: &mut Vec<Probe>)
 }
 
 /// The probes of questions, made once for all regions. Most questions are about only one call. Their probes are in the
-/// order of the calls' numbers, so that a region is held only against those whose call it may be.
+/// order of the calls' numbers, so that for a region only the probes of calls that its members may make are looked at.
 #[derive(Drop)]
 pub struct Probes {
     pub(crate) by_call: Vec<Probe>,

@@ -68,7 +68,7 @@ pub fn snapshots(alloc: Global, questions: &[Question]) -> Result<Vec<Snapshot<Q
     Ok(all)
 }
 
-/// Whether it is neither a hit nor a doubt.
+/// Whether a verdict is clear, or there is none since its question was skipped: it is neither a hit nor a doubt.
 fn is_clear(verdict: Option<Verdict>) -> bool
     ensures { result ≡ is_clear_or_skipped verdict }
 {
@@ -78,7 +78,8 @@ fn is_clear(verdict: Option<Verdict>) -> bool
     }
 }
 
-/// The verdict on a question that is asked for; none on another one.
+/// The verdict on the question q: none where its bit in `wanted` isn't set, and clear, without judging, where only its
+/// bit in `to_judge` isn't set.
 fn verdict_if_wanted(
     alloc: Global,
     settled: &Settled,
@@ -105,7 +106,8 @@ fn verdict_if_wanted(
     Ok(Some(verdict))
 }
 
-/// The verdict on a question where it is known to be clear: none where it isn't asked for.
+/// The verdict on the question q of a sheet on which each verdict that is asked for is clear; none where this one isn't
+/// asked for.
 fn clear_verdict(wanted: &[u64; 4], q: usize) -> Option<Verdict>
     requires { q < 256 }
     ensures { result ≡ clear_if_wanted wanted.now q }

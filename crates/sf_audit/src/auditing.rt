@@ -38,7 +38,7 @@ fn outcome_of<R: Threads + Wait + Sync, G: Gate>(
     })
 }
 
-/// Whether there is no question, or more of them than get replies.
+/// Whether there are no questions, or more than the 256 that an audit takes.
 fn is_wrong_count(questions: &[Question]) -> bool
     ensures wrong { result ≡ true → IsWrongCount questions.now }
     ensures right { result ≡ false
@@ -50,8 +50,8 @@ fn is_wrong_count(questions: &[Question]) -> bool
 /// The replies to further questions about an exploration that has ended, such as those of a control. The gate sees each
 /// sheet of verdicts before it is entered.
 ///
-/// The caller's condition: 1 to 64 workers. Refusals: `Count` where there are no questions or more than 256. `Memory` can
-/// come anywhere. Waits for the workers.
+/// The caller's condition: 1 to 64 workers. Refusals: `Count` where there are no questions or more than 256. `Memory`
+/// can come anywhere. Waits for the workers.
 pub fn reply_to<R: Threads + Wait + Sync, G: Gate>(
     rt: &R,
     alloc: Global,

@@ -28,9 +28,10 @@ pub struct Telling<'m> {
     pub is_expecting: bool,
     /// The names of calls with which inputs are shown.
     pub names: &'m [Names],
-    /// Where each question stands, at its place; nothing is shown where there is nothing at its place.
+    /// For each question, at its place, the policy file and the line where it stands. `null` is shown where this is
+    /// missing.
     pub origins: &'m [Document],
-    /// The remark on each question, at its place: text of its own lines.
+    /// For each question, at its place, the remark on it: whole lines of text. Where there is none, `null` is shown.
     pub remarks: &'m [String],
 }
 
@@ -45,8 +46,9 @@ fn totals_document(alloc: Global, replies: &[Reply]) -> Result<Document, AllocEr
     Ok(Document::object(fields))
 }
 
-/// An audit as JSON: the size of the stack, the counts of its exploration, each question with its reply, what was expected,
-/// the regions where they are asked for, and how many replies are of each kind. An error where an allocation is refused.
+/// An audit as JSON: the size of the stack, the counts of its exploration, each question with its reply, what was
+/// expected, the regions where they are asked for, and how many replies are of each kind. An error where an allocation
+/// is refused.
 pub fn audit_document(
     alloc: Global,
     outcome: &Outcome,

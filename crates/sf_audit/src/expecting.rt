@@ -11,8 +11,8 @@ use sf_ask::{Question, Reply};
 use std::alloc::{AllocError, Global};
 use std::marker::Model;
 
-/// What a build expects of an audit: that each question of a control is allowed, and that no question is allowed but those
-/// with an accepted name.
+/// What a build expects of an audit: that each question of a control is allowed, and that no question is allowed but
+/// those with an accepted name.
 #[derive(Drop)]
 pub struct Expected {
     control: Vec<Question>,
@@ -40,8 +40,9 @@ impl Model for Expected {
 }
 
 impl Expected {
-    /// What is expected: that each of the questions of the control is allowed, to which these are the replies, and that no
-    /// question is allowed but those with these names.
+    /// What is expected: that each question of `control` is allowed, and that no question is allowed but those with a
+    /// name in `accepted`. `held` has the replies to the questions of the control. The caller's condition: it has one
+    /// for each.
     pub fn of(control: Vec<Question>, held: Vec<Reply>, accepted: Vec<String>) -> Expected
         requires { length control.items ≡ length held.items }
         ensures { result ≡ record {

@@ -39,7 +39,8 @@ pub fn one_report()
     replies_have_one_result();
 }
 
-/// They have the same JSON document too, shown in the same way and beside the same expectations.
+/// Two audits as in `one_report` have the same JSON document too, where they are shown in the same way and beside the
+/// same expectations.
 pub fn one_document()
     ensures { (files others : List (List ℕ)) (questions : List QuestionData)
         (b c : ℕ) (o p : Found) →

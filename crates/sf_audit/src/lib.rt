@@ -1,4 +1,5 @@
-//! An audit of a stack of seccomp filters: questions, the filters of filter files, and the report.
+//! An audit of a stack of seccomp filters: the replies to questions about it, what was expected of them, and how both
+//! are written, as a report or as JSON.
 #![tactic(auto)]
 
 mod auditing;

@@ -14,9 +14,9 @@ use std::alloc::Global;
 use std::io::Write;
 use text::report_of;
 
-/// Writes the report of an outcome, with a line for each settled region where `regions` asks for them. Under the line of
-/// each question stands the remark at its place, text of its own lines; nothing where there is none. Behind all of it stands
-/// the text `behind`.
+/// Writes the report of an outcome, with a line for each settled region where `regions` asks for them. Under the line
+/// of each question stands the remark at its place, which is whole lines; nothing where there is none. Behind the
+/// report stands the text `behind`.
 ///
 /// `Write` where a write fails or takes no byte: a beginning of the text was written then. `Memory` where the text
 /// can't be built: nothing was written then.

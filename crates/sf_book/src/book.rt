@@ -114,7 +114,7 @@ impl Book {
         })
     }
 
-    /// How many works the book takes at most.
+    /// How many works the book takes at most: `commit` refuses further ones as `Spent`.
     pub fn budget(&self) -> u32
         ensures budget { result ≡ self.now.budget }
         ensures lawful { IsLawfulBook self.now }
@@ -141,7 +141,7 @@ impl Book {
         }
     }
 
-    /// Leases out, of the pieces that aren't on lease, the one with the first name; `None` where all are on lease.
+    /// Leases out the piece with the first name among those that aren't on lease; `None` where all are on lease.
     /// `Memory` where an allocation is refused: the book is unchanged then.
     pub fn lease(&mut self) -> Result<Option<Lease>, Fault>
         ensures ok { IfOk result (λ l. MatchOption l ((self.new ≡ self.old)
@@ -155,7 +155,8 @@ impl Book {
         Ok(Some(Lease { id, piece }))
     }
 
-    /// Takes the piece under the id off lease. An id that is not outstanding changes nothing.
+    /// Takes the piece under the id off lease, after which it can be leased out again. Where no piece is outstanding
+    /// under the id, nothing changes.
     pub fn give_back(&mut self, id: u64)
         ensures { self.new ≡ record self.old {
           outstanding = map
@@ -175,8 +176,8 @@ impl Book {
         self.outstanding.recall();
     }
 
-    /// Puts what became of a piece in its place: its two children, a region or an emptied name. Answers the ids of
-    /// the children, the false one's first, which are outstanding and on lease.
+    /// Puts what became of a piece in its place: its two children, a region or an emptied name. Returns the ids of the
+    /// two children, the false one's first; both are outstanding and on lease. Without children it returns `None`.
     ///
     /// Refused, with the book unchanged, in this order: `Foreign` where the work is of another stack; `Stale` where
     /// no piece is outstanding under the id, or one with another name; `Spent` where the budget is spent; `Memory`
@@ -243,8 +244,8 @@ impl Book {
         }
     }
 
-    /// Refuses a work of the book's stack: `Stale` where it isn't of the piece under the id, `Spent` where the budget
-    /// is spent.
+    /// Whether a work of the book's stack may be committed: `Stale` where it isn't of the piece under the id, `Spent`
+    /// where the budget is spent.
     fn admit(&self, id: u64, work: &Work) -> Result<(), Fault>
         requires { work.now.piece.stack ≡ self.now.stack }
         ensures ok { OnOk result (MayCommit self.now id work.now
@@ -264,7 +265,7 @@ impl Book {
     }
 
     /// Closes the book of this stack, and puts its regions in name order. `Foreign` where the book is of another
-    /// stack.
+    /// stack: it is dropped then.
     pub fn finish(self, stack: &Stack) -> Result<Settled, Fault>
         ensures ok { IfOk result (λ s. (self.stack ≡ stack.now) × Settles self s) }
         ensures err { IfErr result (λ f. (f ≡ Foreign) × (self.stack ≢ stack.now)) }

@@ -1,4 +1,4 @@
-//! Why a call on a book was refused.
+//! Why a book refused what it was asked to do.
 
 ghost use Rattle.std.specs.Prelude.{◌≡◌};
 ghost use Rattle.sf_book.specs.Numbers.{fault_number};

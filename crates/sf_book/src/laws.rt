@@ -38,13 +38,15 @@ pub fn what_is_worked_off_names_each_trace()
         IsWorkedOff b (feasible_traces b.stack) }
 {}
 
-/// While something of a plain stack is outstanding, fewer works were committed than make all regions.
+/// While something is outstanding of a plain stack with n feasible traces, fewer than 2 n - 1 works are committed: it
+/// takes that many to settle all regions.
 pub fn what_is_left_took_fewer_works()
     ensures { (b : BookData) → IsLawfulBook b → IsPlainBook b → 0 < length b.outstanding →
         b.commits + 1 < 2 * length (feasible_traces b.stack) }
 {}
 
-/// An ended exploration of a plain stack has nothing outstanding exactly where its budget was enough.
+/// An exploration of a plain stack, which ended since nothing was outstanding or the budget was spent, has nothing
+/// outstanding exactly where its budget is at least 2 n - 1, for n feasible traces.
 pub fn a_budget_is_enough_or_not()
     ensures { (b : BookData) → IsSettled b → IsPlainBook b → (b.outstanding ≡ [])
         ⊎ (b.commits ≡ b.budget) →

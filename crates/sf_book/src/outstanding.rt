@@ -1,5 +1,5 @@
-//! The outstanding pieces of a book, in two maps: the pieces by their ids; and by their names the ids, and whether they
-//! are on lease.
+//! The outstanding pieces of a book, in two maps. One has the piece under each id. The other has, under each name, the
+//! id of the piece and whether it is on lease.
 
 ghost use Rattle.std.specs.Prelude.{slice_get, ◌≡◌, ◌≢◌, ◌<◌, ◌∷◌, [], ◌++◌, All, IfOk, IfErr, OnOk, MatchOption, length, map, true, false, None, Some, find, not, option_map, Bool};
 ghost use Rattle.std.specs.Arc.{arc_value};
@@ -27,7 +27,8 @@ pub(crate) struct LeaseState {
     pub(crate) leased: bool,
 }
 
-/// Outstanding pieces: by ids the pieces themselves, and by names their ids and whether they are on lease.
+/// Outstanding pieces. The first map finds a piece by its id; the second, in name order, finds the next piece to lease
+/// out.
 #[derive(Drop)]
 pub(crate) struct OutstandingPieces {
     by_id: BTreeMap<u64, NameKey>,
@@ -100,7 +101,8 @@ impl OutstandingPieces {
         key_at(&self.by_id, i).piece()
     }
 
-    /// Leases out, of the pieces that aren't on lease, the one with the first name; `None` where all are on lease.
+    /// Leases out the piece with the first name among those that aren't on lease; `None` where all are on lease.
+    /// `Memory` where the piece can't be shared once more: all is as it was then.
     pub(crate) fn lease(&mut self) -> Result<Option<(u64, Arc<Piece>)>, Fault>
         ensures ok { IfOk result (λ l. MatchOption l ((self.new ≡ self.old)
             × All (λ e. e.leased ≡ true) self.old) (λ l.
@@ -118,7 +120,7 @@ impl OutstandingPieces {
         Ok(Some((id, piece)))
     }
 
-    /// Takes the piece under the id off lease.
+    /// Takes the piece under the id off lease. Where no piece is outstanding under the id, nothing changes.
     pub(crate) fn give_back(&mut self, id: u64)
         ensures { self.new ≡ map (with_lease_at id false) self.old }
     {
@@ -157,7 +159,7 @@ impl OutstandingPieces {
         }
     }
 
-    /// Takes the piece under the id out.
+    /// Takes the piece under the id out of both maps. Where no piece is outstanding under the id, nothing changes.
     pub(crate) fn take(&mut self, id: u64)
         ensures { self.new ≡ without id self.old }
     {
@@ -166,7 +168,8 @@ impl OutstandingPieces {
         }
     }
 
-    /// Puts two pieces, on lease, in the place of one, or leaves all as it was.
+    /// Takes the piece under `id` out, and adds two: `f` under `first` and `t` under `second`, both on lease. `Memory`
+    /// where an allocation is refused: all is as it was then.
     pub(crate) fn split(
         &mut self,
         id: u64,
@@ -237,14 +240,14 @@ fn put_name(
     Ok(())
 }
 
-/// Takes an id out.
+/// Takes the piece under an id out of the map of ids.
 fn drop_id(by_id: &mut BTreeMap<u64, NameKey>, id: u64)
     ensures { by_id.new.entries ≡ remove_entry (is_at (nat_cmp id)) by_id.old.entries }
 {
     by_id.remove(&id);
 }
 
-/// The id of the first name that is not on lease.
+/// The id of the piece with the first name among those that aren't on lease; `None` where all are on lease.
 fn first_free(by_name: &BTreeMap<NameKey, LeaseState>) -> Option<u64>
     ensures { result ≡ option_map (λ (m : LeaseState). m.id)
         (find (λ (m : LeaseState). not m.leased) (values by_name.now)) }

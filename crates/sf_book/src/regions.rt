@@ -112,7 +112,7 @@ pub(crate) fn has_name(piece: &Arc<Piece>, work: &Work) -> bool
     piece.name().order(work.piece().name()).is_eq()
 }
 
-/// Whether the work is of the stack.
+/// Whether the work is of this stack, or of another one with the same programs.
 pub(crate) fn is_of(work: &Work, stack: &Arc<Stack>) -> bool
     ensures { IsTrue result ↔ (work.now.piece.stack ≡ arc_value stack.now) }
 {

@@ -19,7 +19,8 @@ use sf_piece::{Name, Piece};
 use std::marker::Model;
 use std::sync::Arc;
 
-/// How an exploration ended: all inputs of the stack among settled regions, in name order, and pieces that are left.
+/// How an exploration ended: the settled regions, in name order, and the pieces that are left. Each input of the stack
+/// lies in exactly one of them.
 #[derive(Drop)]
 pub struct Settled {
     pub(crate) stack: Arc<Stack>,
@@ -95,7 +96,7 @@ impl Settled {
         self.outstanding.len()
     }
 
-    /// The piece that is left at this place in the order of ids.
+    /// The piece at this place among those that are left, in the order of ids.
     pub fn outstanding(&self, i: usize) -> &Arc<Piece>
         requires { i < length self.now.outstanding }
         ensures value { slice_get (map (λ (e : OutstandingData). e.piece) self.now.outstanding) i
@@ -113,8 +114,8 @@ impl Settled {
         self.emptied.len()
     }
 
-    /// The name of the piece at this place, among those that turned out to have no member, in the order in which they
-    /// did.
+    /// The name of the piece at this place among those that turned out to have no member, in the order in which their
+    /// works were committed.
     pub fn emptied(&self, i: usize) -> &Name
         requires { i < length self.now.emptied }
         ensures value { slice_get self.now.emptied i ≡ Some result.now }

@@ -130,8 +130,8 @@ fn argument_at(text: &str, place: usize) -> Result<u64, Misread>
     }
 }
 
-/// The six arguments of a call; those that aren't given are 0. `Form` where the text isn't one to six numbers with commas
-/// between them; then `Width` where one of them has more than 64 bits.
+/// The six arguments of a call; those that aren't given are 0. `Form` where the text isn't one to six numbers with
+/// commas between them; then `Width` where one of them has more than 64 bits.
 pub fn read_arguments(text: &str) -> Result<[u64; 6], Misread>
     ensures { result ≡ read_arguments text.now }
 {

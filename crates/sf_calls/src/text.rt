@@ -40,7 +40,7 @@ fn find_call(sets: &[Names], arch: u32, nr: u32) -> Option<&Names>
     None
 }
 
-/// Whether a set has the call of the input.
+/// Whether one of the sets has a name for the input's call: a set of the input's architecture has a call of its number.
 pub fn is_named(sets: &[Names], input: &Input) -> bool
     ensures { result ≡ is_named sets.now input.now }
 {
@@ -111,9 +111,9 @@ fn push_shown(text: &mut String, arguments: &[u64]) -> Result<(), AllocError>
 }
 
 /// Adds an input as a call, as `x86_64 ioctl(arg0 = 0x0, arg1 = 0x5412)`: the name of the first set that has its
-/// architecture and a call of its number, and the call's name; where no set has it, `0x` with eight hexadecimal digits of
-/// the architecture, and the call's number. In parentheses stand the arguments up to the last one that isn't 0. An error
-/// where an allocation is refused.
+/// architecture and a call of its number, and the call's name; where no set has it, `0x` with eight hexadecimal digits
+/// of the architecture, and the call's number. In parentheses stand the arguments up to the last one that isn't 0. An
+/// error where an allocation is refused.
 pub fn push_call_words(text: &mut String, names: &[Names], input: &Input) -> Result<(), AllocError>
     ensures { OnOk result (string_bytes text.new ≡ string_bytes text.old
         ++ call_words names.now input.now) }

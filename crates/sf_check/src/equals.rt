@@ -1,5 +1,5 @@
-//! Chains of tests that compare A with one number after the other. Which of them asks for a given number is looked up
-//! in tables, where a chain is long, rather than found by going through it.
+//! Chains of tests that compare A with one number after the other. In a long chain, the test that asks for a given
+//! number is looked up in tables: going through the tests before it would take longer.
 
 ghost use Rattle.std.specs.Prelude.{◌≡◌, ◌≢◌, ◌+◌, ◌-◌, ◌<◌, ◌≤◌, ℕ, length, slice_index, IfOk, IfErr, IfSome, IfNone};
 ghost use Rattle.std.specs.List.Sorted.{IsNonDecreasing, IsPartitionPoint};
@@ -10,21 +10,22 @@ use crate::fault::Fault;
 use crate::insn::Insn;
 use std::alloc::{AllocError, Global};
 
-/// A chain that has at most this many places to go is gone through test by test: that costs less than a look-up.
+/// Where the last place of a chain is at most this many instructions further on, the tests up to it are gone through
+/// one by one: that costs less than a look-up.
 const SHORT: usize = 8;
 
-/// The tests of a program that ask whether A equals a number, in chains: each test of a chain leads to the next one where
-/// A is another number. Where several tests lead to one place, it is in the chain of the first of them.
+/// The tests of a program that ask whether A equals a number, in chains: each test of a chain leads to the next one
+/// where A is another number. Where several tests lead to one place, it is in the chain of the first of them.
 #[derive(Debug, Drop)]
 pub(crate) struct EqualTests {
-    // The tests, each as one number (`key_of`), ascending: so those of one chain for one number stand together, in
-    // order of their places.
+    // The tests, each as one number (`key_of`), ascending. So the tests of one chain that ask for one number stand
+    // together, in order of their places.
     pub(crate) keys: Vec<u64>,
-    // The chain of each place: a chain has the number of its first place.
+    // The chain of each place. A chain is named by its first place.
     pub(crate) chains: Vec<u16>,
-    // How many tests of its chain lead to each place.
+    // How many tests of its chain stand before each place.
     pub(crate) steps: Vec<u16>,
-    // The last place of each chain.
+    // The last place of each chain, under the chain's number.
     pub(crate) lasts: Vec<u16>,
 }
 
@@ -33,11 +34,12 @@ pub(crate) struct EqualTests {
 pub struct Passed {
     /// How many there are.
     pub count: usize,
-    /// The place where the last one leads; with no test, the place that was asked about.
+    /// The place to which the last of them leads; where there is none, the place that was asked about.
     pub behind: usize,
 }
 
-/// A test as one number: in order of its chain, then of the number it asks for, then of its place.
+/// A test as one number. These numbers are ordered by the chain, then by the number that the test asks for, then by its
+/// place.
 fn key_of(chain: u16, number: u32, place: usize) -> u64
     requires { place < 4096 }
     ensures { result ≡ test_key chain number place }
@@ -45,7 +47,8 @@ fn key_of(chain: u16, number: u32, place: usize) -> u64
     4096 * (0x1_0000_0000 * chain as u64 + number as u64) + place as u64
 }
 
-/// The place to which the equal test at a place leads where A is this number, if it asks for another one.
+/// If the instruction at a place tests whether A equals a number other than `number`: the place to which it leads where
+/// A is `number`. `None` where it is another instruction, or asks for `number`.
 fn next_of_other(insns: &[Insn], place: usize, number: u32) -> Option<usize>
     requires inside { place < length insns.now }
     requires short { length insns.now ≤ 4096 }
@@ -64,7 +67,7 @@ fn next_of_other(insns: &[Insn], place: usize, number: u32) -> Option<usize>
     }
 }
 
-/// The places below a number, in order. `AllocError` where an allocation is refused.
+/// All places of a program of this size, in order. `AllocError` where an allocation is refused.
 fn own_places(alloc: Global, size: usize) -> Result<Vec<u16>, AllocError>
     requires { size ≤ 4096 }
     ensures { IfOk result (λ places. AreOwn places.items size) }
@@ -76,7 +79,8 @@ fn own_places(alloc: Global, size: usize) -> Result<Vec<u16>, AllocError>
     Ok(places)
 }
 
-/// Puts the place where a test leads into the chain of the test, unless it is in another one already.
+/// Puts `next`, the place to which the test at `place` leads where it fails, into the chain of that test, unless an
+/// earlier test has put it into another chain.
 fn join(
     insns: &[Insn],
     chains: &mut [u16],
@@ -101,7 +105,7 @@ fn join(
     }
 }
 
-/// Makes the chains. At first each place is a chain of its own.
+/// Makes the chains, from tables in which each place is a chain of its own.
 fn join_all(insns: &[Insn], chains: &mut [u16], steps: &mut [u16], lasts: &mut [u16])
     requires short { length insns.now ≤ 4096 }
     requires inside { LeadInside insns.now }
@@ -214,8 +218,8 @@ impl EqualTests {
         (self.steps[to] - self.steps[from]) as usize
     }
 
-    /// Skips tests for other numbers in the chain of a place, by a look-up; none where the chain has only few places to
-    /// go.
+    /// Skips the tests for other numbers in the chain of a place, from there on, by a look-up. Where the chain ends
+    /// soon (`SHORT`), it skips none: the caller then looks at each test.
     fn skip_in_chain(&self, insns: &[Insn], place: usize, number: u32) -> Passed
         requires tables { AreEqualTests insns.now self.now.keys.items self.now.chains.items
             self.now.steps.items self.now.lasts.items }
@@ -238,8 +242,8 @@ impl EqualTests {
         }
     }
 
-    /// Skips all tests for other numbers from a place on, each where the one before leads, whether or not they are in
-    /// one chain.
+    /// Skips all tests for other numbers from a place on, each of which stands where the one before leads. They may be
+    /// in several chains.
     pub(crate) fn skip_others(&self, insns: &[Insn], place: usize, number: u32) -> Passed
         requires tables { AreEqualTests insns.now self.now.keys.items self.now.chains.items
             self.now.steps.items self.now.lasts.items }

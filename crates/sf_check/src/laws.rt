@@ -23,13 +23,14 @@ pub fn one_program_of_a_file()
     one_spelling();
 }
 
-/// Instructions with a first fault spell no lawful program, so `check` accepts exactly those that spell one.
+/// Instructions with a first fault spell no lawful program. So, where no memory is refused, `check` accepts exactly
+/// those that spell one.
 pub fn a_fault_spells_no_lawful_program()
     ensures { (raws : List RawInsn) (e : Fault) (code : List Insn) →
         IsFirstFault raws e → Spells raws code → IsLawfulProgram code → ⊥ }
 {}
 
-/// Instructions have at most one first fault, so `check` answers the only one.
+/// Instructions have at most one first fault. So `check` refuses them for that one, or since memory is refused.
 pub fn one_first_fault()
     ensures { (raws : List RawInsn) (e f : Fault) → IsFirstFault raws e
         → IsFirstFault raws f → e ≡ f }

@@ -41,7 +41,7 @@ pub struct Options {
     pub json: bool,
 }
 
-/// The files that an audit is asked by.
+/// The paths of the files that say what an audit is to ask, and which replies are expected.
 #[derive(Drop)]
 pub struct Asked<'m, 'a> {
     /// The paths of the policy files.
@@ -74,7 +74,8 @@ impl Asked<'_, '_> {
     }
 }
 
-/// What these files hold.
+/// What the files of an `Asked` hold: the questions, where each of them stands, the questions of the control, and the
+/// names of the questions that may be allowed.
 #[derive(Drop)]
 struct Read {
     questions: Vec<Question>,
@@ -106,8 +107,8 @@ fn read_questions<F: Files>(
     })
 }
 
-/// The replies to the questions of a control; none where it has none. `Count` where they are more than 256, `Memory` where
-/// an allocation is refused.
+/// The replies to the questions of a control; none where it has none. `Count` where they are more than 256, `Memory`
+/// where an allocation is refused.
 fn replies_to<R: Threads + Wait + Sync, G: Gate>(
     rt: &R,
     alloc: Global,
@@ -127,9 +128,9 @@ fn replies_to<R: Threads + Wait + Sync, G: Gate>(
     reply_to(rt, alloc, settled, control, workers, gate)
 }
 
-/// What is found of the stack of these filters by what was read, what is expected of it, and where its questions stand.
-/// Refusals: those of `audit` of the library, and then `Count` where the control has more than 256 questions. `Memory` can
-/// come anywhere.
+/// Audits the stack of these filters with the questions that were read, and asks the questions of the control of the
+/// same exploration. Gives the outcome, what is expected of it, and where each question stands. Refusals: those of
+/// `audit` of the library, and then `Count` where the control has more than 256 questions. `Memory` can come anywhere.
 fn find<R: Threads + Wait + Sync, G: Gate>(
     rt: &R,
     alloc: Global,
@@ -224,8 +225,8 @@ fn asked_remarks(
     remarks_of(alloc, names, outcome.settled().stack(), outcome.replies())
 }
 
-/// Writes what an audit found: the report, and behind it what isn't as expected; or one JSON document. `Write` where that
-/// fails, after a beginning of it; `Memory` where an allocation is refused: nothing was written then.
+/// Writes what an audit found: the report, and behind it what isn't as expected; or one JSON document. `Write` where
+/// that fails, after a beginning of it; `Memory` where an allocation is refused: nothing was written then.
 fn write_audit<O: Write>(
     alloc: Global,
     json: bool,
@@ -254,16 +255,16 @@ fn write_audit<O: Write>(
     )
 }
 
-/// Reads the files that ask and then the filter files, which are named in order of installation; audits the stack of the
-/// filters, writes the report, and behind it what isn't as expected, and gives the exit status. Where the options ask for
-/// it, lines under each allowed question say why the stack answers so to its example, with these names of calls; and
-/// one JSON document is written in place of all that text. The gate sees each work before it is committed, and each
+/// Reads the files of `asked` and then the filter files, which are named in order of installation. Audits the stack of
+/// the filters, writes the report, and behind it what isn't as expected, and gives the exit status. The options can ask
+/// for lines under each allowed question that say why the stack answers its example as it does, with these names of
+/// calls; and for one JSON document in place of all that text. The gate sees each work before it is committed, and each
 /// sheet of verdicts before it is entered.
 ///
 /// Refusals, tried in this order: of the policy files, of that of the control and of that of the questions that may be
-/// allowed `Read`, `Syntax` where it isn't UTF-8, and what `read_policy` or `read_accepted` refuses; `Read` where a filter
-/// file can't be read; what `audit` of the library refuses; `Write` where standard output can't be written, after a
-/// beginning of the report. `Memory` can come anywhere. After any error but `Write` nothing is written.
+/// allowed `Read`, `Syntax` where it isn't UTF-8, and what `read_policy` or `read_accepted` refuses; `Read` where a
+/// filter file can't be read; what `audit` of the library refuses; `Write` where standard output can't be written,
+/// after a beginning of the report. `Memory` can come anywhere. After any error but `Write` nothing is written.
 pub fn audit<R: Threads + Wait + Sync, F: Files, G: Gate, O: Write>(
     rt: &R,
     alloc: Global,

@@ -60,8 +60,8 @@ fn read_both<F: Files>(
     Ok((filters, older))
 }
 
-/// Writes what is found of two stacks: its text, or one JSON document. `Write` where that fails, after a beginning of it;
-/// `Memory` where an allocation is refused: nothing was written then.
+/// Writes what is found of two stacks: its text, or one JSON document. `Write` where that fails, after a beginning of
+/// it; `Memory` where an allocation is refused: nothing was written then.
 fn write_found<O: Write>(
     alloc: Global,
     comparison: &Comparison,
@@ -81,8 +81,9 @@ fn write_found<O: Write>(
     write_document(alloc, &document, out)
 }
 
-/// Writes what is found of two stacks, and the rows in which their answers differ: the text, or one JSON document. `Write`
-/// where that fails, after a beginning of it; `Memory` where an allocation is refused: nothing was written then.
+/// Writes what is found of two stacks, and the rows in which their answers differ: the text, or one JSON document.
+/// `Write` where that fails, after a beginning of it; `Memory` where an allocation is refused: nothing was written
+/// then.
 fn write_rows<O: Write>(
     alloc: Global,
     comparison: &Comparison,
@@ -104,9 +105,9 @@ fn write_rows<O: Write>(
     write_document(alloc, &document, out)
 }
 
-/// Writes what is found of two stacks, and where it is asked for the rows in which their answers differ, with these sets of
-/// calls. `Write` where that fails, after a beginning of the text; `Memory` where an allocation is refused: nothing was
-/// written then.
+/// Writes what is found of two stacks, and where it is asked for the rows in which their answers differ, with these
+/// sets of calls. `Write` where that fails, after a beginning of the text; `Memory` where an allocation is refused:
+/// nothing was written then.
 fn write_compared<O: Write>(
     alloc: Global,
     comparison: &Comparison,

@@ -123,8 +123,8 @@ fn run_check<F: Files, O: Write>(
 
 /// Runs `eval` on the input that the words of the subcommand ask for, and on the filter files that they name.
 ///
-/// Refusals, tried in this order: `Input` where no input is spelled, or a number is too wide; those of the files of names;
-/// `UnknownName` where a name that is given is none of theirs; and those of `evaluate`.
+/// Refusals, tried in this order: `Input` where no input is spelled, or a number is too wide; those of the files of
+/// names; `UnknownName` where a name that is given is none of theirs; and those of `evaluate`.
 fn run_eval<F: Files, O: Write>(
     alloc: Global,
     found: &ArgMatches<'_>,
@@ -165,7 +165,8 @@ fn relation_of(found: &ArgMatches<'_>) -> Relation
     }
 }
 
-/// A relation of answers, by its word.
+/// The relation that a word of `--only` names. Each word but `looser` and `tighter` gives `Different`: `rows_fit` has
+/// let only `different` through beside them.
 fn relation_named(word: &str) -> Relation
     ensures { result ≡ relation_named word.now }
 {
@@ -176,7 +177,8 @@ fn relation_named(word: &str) -> Relation
     }
 }
 
-/// The relation by which rows of a comparison are asked for; none where all are shown.
+/// The relation that `--only` names, which the rows of a comparison must have to be shown; none where the option isn't
+/// given, and all rows with a difference are shown.
 fn relation_asked(found: &ArgMatches<'_>) -> Option<Relation>
     ensures { result ≡ relation_asked (first_of (codes "only") (rows_of (found_of found.now))) }
 {
@@ -288,7 +290,8 @@ fn run_needed<R: Threads + Wait + Sync, F: Files, M: Meter, O: Write>(
     needed(rt, alloc, paths, manner, files, notes, &gate, out)
 }
 
-/// Whether the words behind the options of a subcommand, which has this name, are among those that the options take.
+/// Whether the words of the subcommand with this name fit: each option has a word that it takes, and the options go
+/// together. `clap` has checked everything else. This is asked before any file is read.
 fn words_fit_for(name: &str, found: &ArgMatches<'_>) -> bool
     ensures { result ≡ words_fit_for name.now (rows_of (found_of found.now)) }
 {
@@ -302,8 +305,8 @@ fn words_fit_for(name: &str, found: &ArgMatches<'_>) -> bool
     }
 }
 
-/// Runs the subcommand that the command line names, and gives its exit status; 4 where it names none of the seven, or where
-/// a word isn't one that its option takes.
+/// Runs the subcommand that the command line names, and gives its exit status. It is 4 where none of the seven is
+/// named, or where the subcommand's words don't fit.
 fn run<R: Threads + Wait + Sync, F: Files, M: Meter, O: Write>(
     rt: &R,
     alloc: Global,
@@ -398,7 +401,8 @@ fn begins_with_help(words: &[String]) -> bool
     }
 }
 
-/// The words that are meant: `help`, and the name of a subcommand, asks for what `--help` behind this name asks for. An error
+/// The words as `clap` is to read them. Where the first word is `help`, these are the words behind it and then
+/// `--help`, so that `help list` asks for what `list --help` asks for. Otherwise they are copies of all words. An error
 /// where an allocation is refused.
 fn meant_words(alloc: Global, words: &[String]) -> Result<Vec<String>, AllocError>
     ensures { IfOk result (λ v. map string_bytes v.items
@@ -415,7 +419,8 @@ fn meant_words(alloc: Global, words: &[String]) -> Result<Vec<String>, AllocErro
 }
 
 /// Does what the words of the command line ask for, and gives the exit status, or the fault for which it could not be
-/// done.
+/// done. The lines that explain a fault are kept in the notes. Warnings of a run without a fault, and lines about words
+/// that are refused, are written to standard error.
 fn reply<R: Threads + Wait + Sync, F: Files, M: Meter, O: Write, E: Write>(
     rt: &R,
     alloc: Global,
@@ -453,13 +458,15 @@ fn reply<R: Threads + Wait + Sync, F: Files, M: Meter, O: Write, E: Write>(
 
 /// Does what the words after the program's name ask for, and gives the exit status:
 ///
-/// - 0: done; after an audit each question is never, after a comparison the relation that is asked for is never, after a
-///   listing each row has one answer, and after `needed` each filter is.
-/// - 1: some question of an audit is allowed, and not accepted; the relation that is asked for is found; or some filter is
-///   spare.
-/// - 2: none is, and some is unsettled; the control of an audit doesn't hold; after a listing some row has several answers,
-///   or a piece is outstanding.
-/// - 3: the filters, the policy, a profile, a file of names or the input are refused. Standard output is left as it was.
+/// - 0: done. After an audit the control holds, and each question is never, or allowed with an accepted name. After a
+///   comparison the relation that is asked for is never. After a listing each input lies in a row with one answer.
+///   After `needed` each filter is needed.
+/// - 1: the control of an audit holds, but some question is allowed whose name isn't accepted; the relation that is
+///   asked for is found; or some filter is spare.
+/// - 2: the control of an audit doesn't hold; or nothing gives status 1, and some question, the relation or some filter
+///   is unsettled; after a listing some row has several answers, or a piece is outstanding.
+/// - 3: the filters, a policy, a profile, a file of names, the file of `--accept` or the input are refused. Standard
+///   output is left as it was.
 /// - 4: the command line is refused. No file was read, standard output is left as it was, and standard error has the
 ///   text of `clap`, or of `tell_wrong_words`.
 /// - 5: reading, writing or memory failed. Standard output is left as it was, unless writing failed.

@@ -32,8 +32,9 @@ pub struct Limits {
     pub json: bool,
 }
 
-/// Writes a listing, and says whether it is whole: its text, or one JSON document. `Write` where that fails, after a beginning
-/// of it; `Memory` where an allocation is refused: nothing was written then.
+/// Writes a listing, as text or as one JSON document. Gives whether it is whole: each input lies in a row with one
+/// answer. `Write` where writing fails, after a beginning of the listing; `Memory` where an allocation is refused:
+/// nothing was written then.
 fn write_listed<O: Write>(
     alloc: Global,
     listing: &Listing,
@@ -57,8 +58,10 @@ fn write_listed<O: Write>(
     Ok(is_whole)
 }
 
-/// Reads the filter files, which are named in order of installation; explores their stack, writes its rows, with these sets
-/// of calls, or the rows of the calls that are asked for, of all calls where none is named; and gives the exit status: 0 where each input lies in a row with one answer, and else 2.
+/// Reads the filter files, which are named in order of installation, explores their stack and writes its rows, with
+/// the names of calls from these sets. Where `calls` is given, the rows are written call by call: those of the calls
+/// that it names, or of all calls where it names none. The exit status is 0 where each input lies in a row with one
+/// answer, and else 2.
 ///
 /// Refusals, tried in this order: `Read` where a file can't be read; what `list` of the library refuses; `Write` where
 /// standard output can't be written, after a beginning of the text. `Memory` can come anywhere. After any error but

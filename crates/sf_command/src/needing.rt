@@ -27,8 +27,8 @@ pub struct Manner {
     pub json: bool,
 }
 
-/// Writes which filters are needed: a text, or one JSON document. `Write` where that fails, after a beginning of it; `Memory`
-/// where an allocation is refused: nothing was written then.
+/// Writes which filters are needed: a text, or one JSON document. `Write` where that fails, after a beginning of it;
+/// `Memory` where an allocation is refused: nothing was written then.
 fn write_needs<O: Write>(alloc: Global, needs: &Needs, json: bool, out: &mut O) -> Result<(), Fault>
     ensures written { OnOk result (Appends (O.contents out.old) (O.contents out.new)
         (needs_output json needs.now)) }
@@ -42,12 +42,12 @@ fn write_needs<O: Write>(alloc: Global, needs: &Needs, json: bool, out: &mut O) 
     write_document(alloc, &document, out)
 }
 
-/// Reads the filter files, which are named in order of installation; finds which of the filters are needed, each comparison
-/// by so many works at most; writes that, and gives the exit status.
+/// Reads the filter files, which are named in order of installation. Finds which of the filters are needed, where each
+/// comparison commits at most `manner.budget` works, writes that, and gives the exit status.
 ///
-/// Refusals, tried in this order: `Read` where a file can't be read; what `needed` of the library refuses; `Write` where
-/// standard output can't be written, after a beginning of the text. `Memory` can come anywhere. After any error but
-/// `Write` nothing is written.
+/// Refusals, tried in this order: `Read` where a file can't be read; what `needed` of the library refuses; `Write`
+/// where standard output can't be written, after a beginning of the text. `Memory` can come anywhere. After any error
+/// but `Write` nothing is written.
 pub fn needed<R: Threads + Wait + Sync, F: Files, G: Gate, O: Write>(
     rt: &R,
     alloc: Global,

@@ -7,8 +7,8 @@ use sf_audit::{Expected, Outcome, count_unsettled};
 use sf_compare::Change;
 use sf_needed::Needs;
 
-/// The exit status of an audit: 2 where the control doesn't hold; else 1 where some question is allowed whose name isn't an
-/// accepted one; else 2 where some question is unsettled; else 0.
+/// The exit status of an audit: 2 where the control doesn't hold; else 1 where some question is allowed whose name
+/// isn't an accepted one; else 2 where some question is unsettled; else 0.
 pub fn status_of_audit(expected: &Expected, outcome: &Outcome) -> u8
     ensures told { result ≡ audit_status expected.now outcome.now }
     ensures few { result ≤ 2 }
@@ -24,8 +24,8 @@ pub fn status_of_audit(expected: &Expected, outcome: &Outcome) -> u8
     }
 }
 
-/// The exit status of a comparison, by what was found of a relation between two stacks: 0 where no input is changed so,
-/// 1 where one is, 2 where it is unsettled.
+/// The exit status of a comparison, by what was found of the relation that it is about: 0 where no input has this
+/// relation between its two answers, 1 where an example is found, 2 where neither is known.
 pub fn status_of_change(change: Change) -> u8
     ensures { result ≡ change_status change }
 {
@@ -43,8 +43,8 @@ pub fn status_of_listing(whole: bool) -> u8
     if whole { 0 } else { 2 }
 }
 
-/// The status of what is found of filters: 1 where some is spare, 2 where none is and some is unsettled, 0 where all are
-/// needed.
+/// The status of what is found of filters: 1 where some is spare, 2 where none is and some is unsettled, 0 where all
+/// are needed.
 pub fn status_of_needs(needs: &Needs) -> u8
     ensures { result ≡ needs_status needs.now.findings }
 {

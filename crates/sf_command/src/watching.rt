@@ -2,10 +2,11 @@
 
 use sf_crew::{Gate, Open};
 
-/// Sees each work and each sheet of verdicts before it is handed in. Before them it is given the budget. The program
-/// uses it to show how far a run is, where that is asked for.
+/// A gate that can show how far a run is, for `--progress`. It is given the budget first, and then sees each work and
+/// each sheet of verdicts before it is handed in.
 pub trait Meter: Gate {
-    /// Is called before an exploration, with the most works that are committed in it.
+    /// Is called once, before the first exploration of a run that is to be shown. `budget` is the most works that are
+    /// committed in each exploration: `needed` has one for each comparison.
     fn begin(&self, budget: u32);
 }
 
@@ -13,7 +14,7 @@ impl Meter for Open {
     fn begin(&self, _budget: u32) {}
 }
 
-/// A meter that sees calls only where they are to be shown.
+/// The gate of a run: it passes each call on to a meter where progress is to be shown, and else does nothing.
 #[derive(Drop)]
 pub(crate) struct Watched<'a, M> {
     meter: &'a M,
@@ -21,7 +22,7 @@ pub(crate) struct Watched<'a, M> {
 }
 
 impl<'a, M: Meter> Watched<'a, M> {
-    /// A meter that sees each call where `is_wanted` says so, and none otherwise.
+    /// The gate that passes calls on to this meter if `is_wanted`. The meter is given the budget here.
     pub(crate) fn of(meter: &'a M, is_wanted: bool, budget: u32) -> Watched<'a, M> {
         if is_wanted {
             meter.begin(budget);

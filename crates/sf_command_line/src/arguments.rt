@@ -93,7 +93,7 @@ pub(crate) fn workers<'a>(alloc: Global) -> Arg<'a>
         .help("The number of workers, 1 to 64: 1 is as fast, and answers more under a budget")
 }
 
-/// `--leaves`: after how many leaves no fork of a picture is begun any more.
+/// `--leaves`: after how many leaves of a picture no further fork is begun. Each branch that is left then gets a leaf.
 pub(crate) fn leaves<'a>(alloc: Global) -> Arg<'a>
     ensures rule { rule_of result ≡ number_rule (codes "leaves") 1000000 (codes "20000") }
     ensures own { result.global ≡ false }
@@ -169,7 +169,8 @@ pub(crate) fn trace<'a>(alloc: Global) -> Arg<'a>
     switch(alloc, "trace").help("Show what each filter meets and returns too")
 }
 
-/// `--trace-true`: whether an evaluation shows where its answer comes from, without what is false.
+/// `--trace-true`: whether an evaluation shows where its answer comes from, without failed tests and divisions by an X
+/// that isn't 0.
 pub(crate) fn trace_true<'a>(alloc: Global) -> Arg<'a>
     ensures rule { rule_of result ≡ switch_rule (codes "trace-true") }
     ensures own { result.global ≡ false }

@@ -66,7 +66,7 @@ pub fn wants_trace(found: &ArgMatches<'_>) -> bool
     is_on(found, "trace")
 }
 
-/// Whether an evaluation shows where its answer comes from, without what is false.
+/// Whether an evaluation shows where its answer comes from, without failed tests and divisions by an X that isn't 0.
 pub fn wants_brief(found: &ArgMatches<'_>) -> bool
     ensures { IsSwitch (one_of (codes "trace-true") (rows_of (found_of found.now))) result }
 {
@@ -122,7 +122,7 @@ pub fn wants_quiet(found: &ArgMatches<'_>) -> bool
     is_on(found, "quiet")
 }
 
-/// After how many leaves no fork of a picture is begun any more.
+/// After how many leaves of a picture no further fork is begun; 20,000 where it isn't given.
 pub fn leaves_of(found: &ArgMatches<'_>) -> u32
     ensures { IsOptionNumber (one_of (codes "leaves") (rows_of (found_of found.now)))
         1000000 20000 result }

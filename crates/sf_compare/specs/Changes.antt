@@ -78,7 +78,7 @@ IsWithoutExample s older relation place = IsUnchangedAt s older relation place �
 pub record IsFirstFound (s : BookData) (older : ℕ) (relation : Relation) (d : Input) : Type 0 where
   pub place : ℕ
   pub member : IsMemberAt s place d
-  pub earlier : (region : ℕ) → region < place → IsWithoutExample s older relation region
+  pub earlier : (before : ℕ) → before < place → IsWithoutExample s older relation before
 
 -- What is found of a relation is right: never, where nothing is outstanding and no input is changed so; found, with
 -- an input that is, of the first region that isn't without one; and unsettled only where every region is without one,

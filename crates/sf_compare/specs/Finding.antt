@@ -43,7 +43,7 @@ pub record IsFirstFinding (s : BookData) (older : ℕ) (relation : Relation) (e 
   pub place : ℕ
   pub here : HasFindingAt s older relation place (Member e.input)
   pub answers : here.both ≡ record { older = e.before; newer = e.after }
-  pub earlier : (region : ℕ) → region < place → HasNoFindingAt s older relation region
+  pub earlier : (before : ℕ) → before < place → HasNoFindingAt s older relation before
 
 -- What is found of a relation: the first member that is found; without one it is unsettled where a piece is outstanding
 -- or some region is in doubt, and else never.

@@ -26,9 +26,9 @@ pub struct Example {
 /// What is found of a relation between the answers of two stacks.
 #[derive(Clone, Copy, Debug, PartialEq, Eq)]
 pub enum Change {
-    /// No input is changed so.
+    /// No input is changed in this way.
     Never,
-    /// This input is changed so.
+    /// This input is changed in this way.
     Found(Example),
     /// Nothing was found, but a piece is outstanding or a region is in doubt.
     Unsettled,
@@ -94,7 +94,7 @@ impl Findings {
         }
     }
 
-    /// Whether an example of some relation is sought in a region whose members both stacks answer so.
+    /// Whether an example of some relation is still sought in a region whose members get these two answers.
     fn seeks_example(&self, both: PartAnswers) -> bool
         ensures { result ≡ false → (relation : ARelation)
             → IsSought relation both (finding_of self.now relation) → ⊥ }
@@ -105,7 +105,8 @@ impl Findings {
     }
 }
 
-/// Whether no example was found yet, and the two answers are so related.
+/// Whether an example of the relation is still sought in a region whose members get these two answers: none was found
+/// yet, and the answers have the relation.
 fn is_sought(relation: Relation, both: PartAnswers, found: Change) -> bool
     ensures { IsTrue result ↔ IsSought relation both found }
 {
@@ -192,11 +193,11 @@ fn change_at_end(settled: &Settled, older: usize, relation: Relation, found: Cha
 /// explored as one stack: its first `older` programs are the old stack, and the others the new one. The caller's
 /// condition: `answers` are those of `answers_of_regions`.
 ///
-/// `Never` where nothing is outstanding and no input is changed so. `Found` with an input that is: a member of a region
-/// before which no member of a region is changed so, but in regions that are in doubt. Else `Unsettled`: then no member
-/// of any region is changed so, but in regions in doubt, and some region is in doubt or a piece is outstanding. On a
-/// plain stack no region is in doubt, and the example is the least one of the first region that has any. `Memory` where
-/// an allocation is refused.
+/// Regions are searched in their order, for members whose two answers have the relation. `Found` has the member of the
+/// first region where the search finds one. A region is in doubt where the search neither finds a member nor shows that
+/// there is none. Without an example it is `Unsettled` where a region is in doubt or a piece is outstanding, and else
+/// `Never`: then no input is changed in this way. On a plain stack no region is in doubt, and the example is the least
+/// one of the first region that has any. `Memory` where an allocation is refused.
 pub(crate) fn find_changes(
     alloc: Global,
     settled: &Settled,

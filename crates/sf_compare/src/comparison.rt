@@ -78,8 +78,8 @@ impl Comparison {
     }
 }
 
-/// The comparison of a stack's first `older` programs, as the old stack, with the others. An error where an allocation is
-/// refused.
+/// The comparison of a stack's first `older` programs, as the old stack, with the others. An error where an allocation
+/// is refused.
 fn compare_parts<R: Threads + Wait + Sync, G: Gate>(
     rt: &R,
     alloc: Global,
@@ -105,13 +105,13 @@ fn compare_parts<R: Threads + Wait + Sync, G: Gate>(
     })
 }
 
-/// Compares two stacks, for all inputs. The filter files of the old stack stand before those of the new one, each in
-/// order of installation, the newest last, and `older` of them are the old stack's. Both are explored as one stack, by
-/// at most `budget` works; the gate sees each work before it is committed.
+/// Compares two stacks, for all inputs. The first `older` filter files are those of the old stack, and the others those
+/// of the new one. The files of each stack stand in order of installation, the newest last. Both stacks are explored as
+/// one, by at most `budget` works. The gate sees each work before it is committed.
 ///
-/// The caller's conditions: at least `older` files, a budget from 1 to 1,000,000 and 1 to 64 workers, each a thread of
-/// its own where there are more than one. Refusals: those of `stack_of` for all files together. `Memory` can come
-/// anywhere. Waits for the workers.
+/// The caller's conditions: at least `older` files, a budget from 1 to 1,000,000, and 1 to 64 workers (where there are
+/// more than one, each gets a thread, if it can be started). Refusals: those of `stack_of` for all files together.
+/// `Memory` can come anywhere. Waits for the workers.
 pub fn compare<R: Threads + Wait + Sync, G: Gate>(
     rt: &R,
     alloc: Global,

@@ -22,7 +22,7 @@ use sf_piece::laws::execution_has_one_result;
 
 /// Where no input gets further under the new stack, each input that breaks a question under the new stack also breaks
 /// it under the old one, if the question asks about all actions that let a call get as far as one that it asks about.
-/// So a policy of such questions needs no second audit.
+/// So where the reply to such a question is `never` for the old stack, it holds for the new one too.
 pub fn never_looser_breaks_no_more()
     ensures { (s : BookData) (older : ℕ) (q : QuestionData) (d : Input) →
         IsSettled s → IsRightChange s older Looser Never → IsUpward q.actions → IsInput d
@@ -43,7 +43,7 @@ pub fn one_text()
     members_have_one_result();
 }
 
-/// They have the same JSON document too, shown with the same names of calls.
+/// Two comparisons as in `one_text` have the same JSON document too, where they are shown with the same names of calls.
 pub fn one_document()
     ensures { (files others : List (List ℕ)) (older b c : ℕ) (o p : Compared) →
         IsComparison files older b o → IsComparison others older c p →
@@ -56,7 +56,8 @@ pub fn one_document()
     members_have_one_result();
 }
 
-/// A question that names no actions in a policy is such a question: it asks about ALLOW and LOG.
+/// A question that names no actions in a policy asks about ALLOW and LOG. These are all actions that let a call get as
+/// far as one of them, as `never_looser_breaks_no_more` wants it.
 pub fn usual_actions_are_upward()
     ensures { IsUpward (set_of (codes "ALLOW" ∷ codes "LOG" ∷ [])) }
 {}

@@ -5,7 +5,7 @@ ghost use Rattle.sf_compare.specs.Relations.{reach_of, AreRelated};
 
 use sf_run::{Action, Answer};
 
-/// How an answer is related to one that was given before.
+/// How the answer of the new stack to an input is related to that of the old one.
 #[derive(Clone, Copy, Debug, PartialEq, Eq)]
 pub enum Relation {
     /// The call gets further than before.
@@ -16,8 +16,8 @@ pub enum Relation {
     Different,
 }
 
-/// How far an action lets a call get, as seccomp(2) has it: 2 where the kernel carries it out, 1 where another process
-/// decides, 0 where it is refused or ends the caller.
+/// How far an action lets a call get, as seccomp(2) has it: 2 where the kernel carries the call out, 1 where another
+/// process decides, and 0 for all other actions, under which the call isn't carried out.
 fn reach(action: Action) -> u8
     ensures { result ≡ reach_of action }
 {

@@ -20,7 +20,7 @@ use std::alloc::{AllocError, Global};
 /// How many items a new bench has room for. It makes more room where it needs it.
 const ROOM: usize = 64;
 
-/// An owner and this many thieves, 0 to 63, over an empty list. `Memory` where an allocation is refused.
+/// A new bench without items: its owner, and this many thieves, 0 to 63. `Memory` where an allocation is refused.
 pub fn bench<T: Drop>(alloc: Global, thieves: usize) -> Result<(Owner<T>, Vec<Thief<T>>), Fault>
     requires { thieves < 64 }
     ensures owner { IfOk result (λ b. owner_view b.0 ≡ handle_view 0 (thieves + 1) []) }
@@ -90,8 +90,9 @@ impl<T> Owner<T> {
     }
 
     /// Takes the first item that no handle has got, at one moment of the call. `None` where each item that was put had
-    /// been got, by this handle or by the thieves that were made with it. What thieves got isn't known to the owner: with
-    /// thieves the contract says only that some lawful history has it so. Without thieves it says exactly what is got.
+    /// been got, by this handle or by the thieves that were made with it. The owner doesn't know what thieves got: with
+    /// thieves the contract says only that the result is that of some lawful history. Without thieves it says exactly
+    /// what is got.
     pub fn take(&mut self) -> Option<T>
         ensures got { MatchOption result ((owner_view self.new ≡ owner_view self.old)
             × AllGot (owner_view self.old))

@@ -20,7 +20,8 @@ use std::marker::Model;
 use std::thread;
 use std::thread::Threads;
 
-/// Whether there is such a question, and the seat sees a place below the job for it: a hit that comes before the job's.
+/// Whether the board has a hit for the question at a place below the job. The region of the job then needn't be judged
+/// on the question, since the reply takes the least place. False where there is no such question.
 fn has_lower_hit(board: &Board, seat: &mut Seat, job: usize, q: usize) -> bool
     requires seat { IsSeatOf board.now seat.old }
     ensures same { IsSeatOf board.now seat.new }
@@ -40,8 +41,8 @@ fn has_lower_hit(board: &Board, seat: &mut Seat, job: usize, q: usize) -> bool
     }
 }
 
-/// Looks at each question whose bit is set in one of the four words, and answers that word with all bits set, but those
-/// of questions for which a place below the job was seen.
+/// Looks on the board for hits on the questions whose bits are set in `to_judge`. That is the word at the place `word`
+/// of four. Answers a word with all bits set, but those of the questions with a hit at a place below the job.
 fn look_at_word(board: &Board, seat: &mut Seat, job: usize, word: usize, to_judge: u64) -> u64
     requires seat { IsSeatOf board.now seat.old }
     requires word { word < 4 }
@@ -60,8 +61,8 @@ fn look_at_word(board: &Board, seat: &mut Seat, job: usize, word: usize, to_judg
     wanted
 }
 
-/// Looks at each question that is to be judged, and answers all bits set, but those of questions for which a place
-/// below the job was seen. On most regions few questions are to be judged.
+/// Looks on the board for hits on the questions that are to be judged. Answers all bits set, but those of the questions
+/// with a hit at a place below the job. On most regions few questions are to be judged, so few are looked at.
 fn look_at(board: &Board, seat: &mut Seat, job: usize, to_judge: &[u64; 4]) -> [u64; 4]
     requires seat { IsSeatOf board.now seat.old }
     ensures same { IsSeatOf board.now seat.new }
@@ -106,8 +107,8 @@ impl<'a> Model for SharedSweep<'a> {
     }) };
 }
 
-/// Judges the region of the job that the seat owes, and enters the sheet. A question is skipped where a lower place is
-/// seen for it. The gate sees the sheet before it is entered.
+/// Judges the region of the job that the seat owes, and enters the sheet. A question is skipped where the board has a
+/// hit for it at a place below the job. The gate sees the sheet before it is entered.
 fn enter_job<G: Gate>(
     alloc: Global,
     sweep: &SharedSweep<'_>,
@@ -141,7 +142,8 @@ fn enter_job<G: Gate>(
     Ok(())
 }
 
-/// Draws jobs and enters their sheets until all jobs are drawn. False where memory ran out.
+/// Draws jobs and enters their sheets until all jobs are drawn. Answers the seat, with false where memory ran out
+/// before that.
 fn work<G: Gate>(
     alloc: Global,
     sweep: &SharedSweep<'_>,
@@ -212,9 +214,9 @@ fn number_seats(
     Ok(numbered_seats)
 }
 
-/// The tally of all regions, by this many workers, each of which has a seat. The probes of the questions are made
-/// before they begin, and they share them. When the workers have ended, the calling thread draws too, with a seat of
-/// its own, under the next number. `Memory` where an allocation is refused.
+/// The tally of all regions, by this many workers, each of which has a seat. They share the probes of the questions,
+/// which are made before. When the workers have ended, the calling thread draws the jobs that are left, if there are
+/// any, with a seat of its own, under the next number. `Memory` where an allocation is refused.
 pub(crate) fn tally<R: Threads + Sync, G: Gate>(
     rt: &R,
     alloc: Global,

@@ -80,7 +80,8 @@ impl<N: Naming> NewWorker<N> {
 }
 
 impl<N: Naming> Worker<N> {
-    /// A lease from its own bench; or else a stolen one, from the next worker's bench first; or else one from the book.
+    /// A lease from the worker's own bench; or else a stolen one, from the next worker's bench first; or else one from
+    /// the book; or none where the book has none either.
     fn next_lease<R: Wait>(
         &mut self,
         rt: &R,
@@ -99,7 +100,7 @@ impl<N: Naming> Worker<N> {
         lock_book(rt, book).lease()
     }
 
-    /// The work of a piece with its children, made and seen by the gate.
+    /// Makes the work of a piece, with its children, and lets the gate see it.
     fn make<G: Gate>(
         &self,
         alloc: Global,
@@ -150,7 +151,7 @@ impl<N: Naming> Worker<N> {
         Ok(())
     }
 
-    /// Puts a lease on its bench. One that is handed back is given back to the book.
+    /// Puts a lease on the worker's bench, or gives it back to the book where the bench can't grow.
     fn put<R: Wait>(&mut self, rt: &R, book: &Mutex<SharedBook<N>>, held: Held<N>)
         ensures number { self.new.number ≡ self.old.number }
         ensures put { PutsOrNot (own_view self.old) held (own_view self.new) }
@@ -253,11 +254,11 @@ fn run_all<N: Naming, R: Threads + Wait + Sync, G: Gate>(
 }
 
 /// Explores a stack: works at most `budget` pieces, and gives what is settled and what is left. The gate sees each work
-/// between its making and its commit. With 1 worker no thread is started. With more, each gets a thread, unless it can't
-/// be started or nothing is left to do. They have the numbers from 0. When they have ended, the calling thread takes all
-/// pieces off lease and works off what is outstanding, under the next number. The caller's conditions: 1 to 64 workers,
-/// and a budget from 1 to 1,000,000; the contract holds for other budgets too. `Memory` where an allocation is refused
-/// to the calling thread.
+/// between its making and its commit. With 1 worker no thread is started. With more, each gets a thread, unless it
+/// can't be started or nothing is left to do. They have the numbers from 0. When they have ended, the calling thread
+/// takes all pieces off lease and works off what is outstanding, under the next number. The caller's conditions: 1 to
+/// 64 workers, and a budget from 1 to 1,000,000; the contract holds for other budgets too. `Memory` where an allocation
+/// is refused to the calling thread.
 pub fn explore<R: Threads + Wait + Sync, G: Gate>(
     rt: &R,
     alloc: Global,

@@ -1,4 +1,4 @@
-//! A condition taken into what is known of the nodes of a pool.
+//! Takes a condition into what is known of the nodes of a pool.
 
 ghost use Rattle.std.specs.Prelude.{◌≡◌, ◌≢◌, ℕ, ◌+◌, ◌-◌, ◌*◌, ◌/◌, ◌%◌, ◌<◌, ◌≤◌, ◌^◌, ◌⊎◌, List, length, MatchOption, MatchBool, IfOk, IsTrue, false, Some, None};
 ghost use Rattle.sf_sym.specs.Pool.{node_at, IsCondBelow};
@@ -80,7 +80,7 @@ fn propagate_back(nodes: &mut Nodes, excluded: &Excluded, pool: &Pool, from: usi
     true
 }
 
-/// What is known of two words whose test has this result.
+/// What is known of two words once their test has this result. Before it, `v` and `w` are known of them.
 #[tactic(auto, using(std::proofs::lemmas::Bool::Decides::nat_tests), unfolding(crate::specs::Rules::assumed))]
 fn assume_test(v: Known, w: Known, test: Test, sense: bool) -> Pair
     ensures { result ≡ assumed test sense v w }
@@ -136,7 +136,7 @@ fn assume_test(v: Known, w: Known, test: Test, sense: bool) -> Pair
     }
 }
 
-/// What is left of a node where `more` is known of it; `None` where nothing is.
+/// What is known of a node, reduced, where `more` is known of it too; `None` where this leaves it no number.
 pub(crate) fn known_left(
     nodes: &Nodes,
     excluded: &Excluded,
@@ -149,8 +149,8 @@ pub(crate) fn known_left(
     reduce_at(nodes.get(at).meet(more), at, excluded)
 }
 
-/// What a condition says of its second node: what its test gives, and where both are one node, also what is left of the
-/// first.
+/// What is known of a condition's second node: `told` by the test, and, where both nodes are one, also `node`, which is
+/// what is left of the first.
 fn told_of_other(cond: &Cond, told: Known, node: Known) -> Known
     ensures apart { cond.now.node.0 ≢ cond.now.other.0 → result ≡ told }
     ensures one { cond.now.node.0 ≡ cond.now.other.0 → result ≡ met told node }
@@ -162,7 +162,8 @@ fn told_of_other(cond: &Cond, told: Known, node: Known) -> Known
     }
 }
 
-/// What a condition leaves of its two nodes; `None` where it leaves one nothing. This is asked before facts are copied.
+/// What a condition leaves of its two nodes; `None` where it leaves one of them no number. It changes nothing, and is
+/// asked before facts are copied.
 pub(crate) fn pair_left(nodes: &Nodes, excluded: &Excluded, cond: &Cond) -> Option<Pair>
     requires { IsCondBelow (length nodes.now.known) cond.now }
     ensures { PairGives nodes.now.known excluded.now cond.now result }
@@ -176,8 +177,8 @@ pub(crate) fn pair_left(nodes: &Nodes, excluded: &Excluded, cond: &Cond) -> Opti
     Some(Pair { node, other })
 }
 
-/// Forward propagation after a condition. The only words that may not be tight are the condition's two nodes, so these
-/// are made so first. `false`: a node is left nothing.
+/// Forward propagation after a condition. All words are tight already, except perhaps the condition's two nodes, which
+/// are tightened first. `false`: some node is left no number.
 fn propagate_on(nodes: &mut Nodes, excluded: &Excluded, pool: &Pool, cond: &Cond) -> bool
     requires closed { AreClosed nodes.old.known pool.now }
     requires below { IsCondBelow (length pool.now) cond.now }
@@ -238,8 +239,9 @@ pub(crate) fn changes_nothing(
         && stays(nodes, excluded, pool, cond.other, alone.other)
 }
 
-/// Takes a condition into what is known. `alone` is what it leaves of its two nodes. `false`: a node is left nothing.
-/// Both may be one node, so the second is written last.
+/// Takes a condition into what is known. `alone` is what it leaves of its two nodes. Where both are one node, the
+/// second part has all that is known of it, and is written last. `false`: some node is left no number, and what is
+/// known may be changed in part.
 pub(crate) fn assume_cond(
     nodes: &mut Nodes,
     excluded: &Excluded,
@@ -271,8 +273,9 @@ pub(crate) fn assume_cond(
     propagate_on(nodes, excluded, pool, cond)
 }
 
-/// Excludes the number of another node, if that is decided, for a node that is a word. `other` is what is known of the
-/// other node. `Memory` where an allocation is refused.
+/// Excludes a number for a node that differs from another one: where the node is a word and the other one is decided,
+/// the word can't have the other's number. `other` is what is known of the other node. `Memory` where an allocation is
+/// refused.
 fn exclude(alloc: Global, excluded: &mut Excluded, node: Node, other: Known) -> Result<(), Fault>
     requires word { (i : ℕ) → node ≡ Node.Word i → i < 16 }
     ensures { IfOk result (λ _. AreExcluded excluded.old excluded.new node other) }

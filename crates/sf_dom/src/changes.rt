@@ -46,7 +46,7 @@ fn with_excluded_by(
     }
 }
 
-/// What a condition leaves of the facts; `None` where it leaves a node nothing. `Memory` where an allocation is
+/// What a condition leaves of the facts; `None` where some node is left no number. `Memory` where an allocation is
 /// refused.
 ///
 /// Nodes are copied only where something that is known changes. To see that, the condition is first tried on its two
@@ -89,7 +89,7 @@ pub(crate) fn learn_cond(
     Ok(Some((Some(left), lists)))
 }
 
-/// What is left of the nodes where `more` is known of a word; `None` where a node is left nothing. `Memory` where an
+/// What is left of the nodes where `more` is known of a word; `None` where a node is left no number. `Memory` where an
 /// allocation is refused. Nodes are copied only where something that is known of the word changes.
 pub(crate) fn restrict(
     alloc: Global,

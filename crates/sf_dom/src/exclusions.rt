@@ -52,7 +52,7 @@ fn are_among(numbers: &Numbers, others: &Exclusions) -> bool
     true
 }
 
-/// The numbers that are shared, if there are any, and one more. `Memory` where an allocation is refused.
+/// A list of numbers, or none, with one number more. `Memory` where an allocation is refused.
 fn with_number(alloc: Global, numbers: &Option<Arc<Numbers>>, number: u32) -> Result<Numbers, Fault>
     ensures { IfOk result (λ v. (n : ℕ) → Contains v n
         ↔ (Contains (shared_numbers numbers.now) n ⊎ (n ≡ number))) }

@@ -6,7 +6,8 @@ ghost use Rattle.sf_dom.specs.Rules.{forward_known, forward_negated, moved_left,
 use crate::known::Known;
 use sf_insn::BinOp;
 
-/// A sum. Where no possible sum wraps, or all of them do, they lie between those of the ends.
+/// What is known of a sum. Where no possible sum wraps, or all of them do, they lie from the sum of the low ends to
+/// that of the high ends. Otherwise nothing is known.
 fn add(a: Known, b: Known) -> Known
     ensures { a.low ≤ a.high → b.low ≤ b.high → result
         ≡ forward_known BinOp.Add a b }
@@ -20,7 +21,8 @@ fn add(a: Known, b: Known) -> Known
     }
 }
 
-/// A difference. Where no possible difference wraps, or all of them do, they lie between those of the ends.
+/// What is known of a difference. Where no possible difference wraps, or all of them do, they lie from `a.low - b.high`
+/// to `a.high - b.low`. Otherwise nothing is known.
 fn sub(a: Known, b: Known) -> Known
     ensures { a.low ≤ a.high → b.low ≤ b.high → result
         ≡ forward_known BinOp.Sub a b }
@@ -32,7 +34,8 @@ fn sub(a: Known, b: Known) -> Known
     }
 }
 
-/// A product. Where the greatest possible product fits, the products lie between those of the ends.
+/// What is known of a product. Where the greatest possible product fits 32 bits, all lie from the product of the low
+/// ends to that of the high ends. Otherwise nothing is known.
 fn mul(a: Known, b: Known) -> Known
     ensures { a.low ≤ a.high → b.low ≤ b.high → result
         ≡ forward_known BinOp.Mul a b }
@@ -43,8 +46,8 @@ fn mul(a: Known, b: Known) -> Known
     }
 }
 
-/// A quotient, which is 0 where the divisor is 0. Where the divisor can't be 0, the quotients lie between those of the
-/// ends; otherwise they are at most the dividend.
+/// What is known of a quotient, which is 0 where the divisor is 0. Where the divisor can't be 0, all quotients lie from
+/// `a.low / b.high` to `a.high / b.low`. Otherwise they are at most the greatest dividend.
 fn div(a: Known, b: Known) -> Known
     ensures { a.low ≤ a.high → b.low ≤ b.high → result
         ≡ forward_known BinOp.Div a b }
@@ -56,7 +59,7 @@ fn div(a: Known, b: Known) -> Known
     }
 }
 
-/// An OR is at least each operand; its bit is 0 where both are, and 1 where one is.
+/// An OR is at least each operand. A bit of it is 0 where it is 0 in both, and 1 where it is 1 in one of them.
 fn or(a: Known, b: Known) -> Known
     ensures { result ≡ forward_known BinOp.Or a b }
 {
@@ -68,7 +71,7 @@ fn or(a: Known, b: Known) -> Known
     }
 }
 
-/// An AND is at most each operand; its bit is 0 where one is, and 1 where both are.
+/// An AND is at most each operand. A bit of it is 0 where it is 0 in one of them, and 1 where it is 1 in both.
 fn and(a: Known, b: Known) -> Known
     ensures { result ≡ forward_known BinOp.And a b }
 {
@@ -80,7 +83,7 @@ fn and(a: Known, b: Known) -> Known
     }
 }
 
-/// The bit of an XOR is known where both are.
+/// A bit of an XOR is known where it is known in both operands. Its interval isn't narrowed.
 fn xor(a: Known, b: Known) -> Known
     ensures { result ≡ forward_known BinOp.Xor a b }
 {
@@ -92,7 +95,8 @@ fn xor(a: Known, b: Known) -> Known
     }
 }
 
-/// Moved to the left by `s` bits: the low bits are 0, and where the high end fits, the ends move along.
+/// What is known of a word that is moved to the left by `s` bits: the low bits are 0, known bits move along, and so do
+/// the ends, where the high one loses no bit.
 fn shift_left_by(a: Known, s: u32) -> Known
     requires { s < 32 }
     ensures { a.low ≤ a.high → result ≡ moved_left a s }
@@ -116,7 +120,8 @@ fn shift_left_by(a: Known, s: u32) -> Known
     }
 }
 
-/// Moved to the right by `s` bits: the high bits are 0, and the ends move along.
+/// What is known of a word that is moved to the right by `s` bits: the high bits are 0, and known bits and ends move
+/// along.
 fn shift_right_by(a: Known, s: u32) -> Known
     requires { s < 32 }
     ensures { result ≡ moved_right a s }

@@ -2,7 +2,7 @@
 
 ghost use Rattle.sf_dom.specs.SoundRules.{IsForwardSound, IsReductionSound, HaveOneResult, PassKeepsOlder, CarriedAreBuilt, ForcedIsLearnt};
 
-/// Forward propagation loses no number, and reduction neither.
+/// Forward propagation and reduction lose no number that a node may have.
 pub fn rules_are_sound()
     ensures forward { IsForwardSound }
     ensures reduction { IsReductionSound }
@@ -13,7 +13,7 @@ pub fn rules_have_one_result()
     ensures { HaveOneResult }
 {}
 
-/// A forward pass changes nothing below the first node for which more follows.
+/// A forward pass changes no node that is older than the first one for which more follows.
 pub fn passes_keep_older_nodes()
     ensures { PassKeepsOlder }
 {}

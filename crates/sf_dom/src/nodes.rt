@@ -18,9 +18,10 @@ use std::sync::Arc;
 /// How many words an input has. They are the first nodes of each pool.
 pub(crate) const WORDS: usize = 16;
 
-/// What is known of the nodes of a pool, oldest first. A constant has its number in its slot, and so has an operation on
-/// operands that have only one number each. Forks share the slots until one of them gets another node. The other nodes
-/// are the variables: only of them more can become known, and a fork has its own list of them.
+/// What is known of the nodes of a pool, oldest first. Each node has a slot. The slot of a constant has its number; so
+/// has the slot of an operation on operands with only one number each, where its own number is known in full. All other
+/// nodes are variables: only of them more can become known, and that stands in a list of its own. Forks share the slots
+/// until one of them gets another node; each has its own list of variables.
 #[derive(Drop)]
 pub(crate) struct Nodes {
     slots: Arc<Slots>,
@@ -41,7 +42,7 @@ impl Model for Nodes {
     ghost invariant = { λ n. AreKept (arc_value n.slots) n.variables.items };
 }
 
-/// Whether a number is known, with all its bits.
+/// Whether what is known is one number, with all its bits.
 fn is_number(known: Known) -> bool
     ensures { IsTrue result → known ≡ known_of known.low known.low
         (4294967295 - known.low) known.low }

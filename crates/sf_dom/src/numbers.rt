@@ -17,7 +17,8 @@ const MERGED: usize = 64;
 /// The newer numbers, ascending. Up to two lie in the list itself; more take an allocation of their own.
 type Newer = SmallVec<u32, 2>;
 
-/// Some numbers. A copy with one more number shares the older ones, and copies only the newer ones, which are few.
+/// Numbers that a word does not have, in two ascending lists, the older and the newer ones. A copy with one more number
+/// shares the older ones, and copies only the newer ones, which are few.
 #[derive(Drop)]
 pub(crate) struct Numbers {
     older: Option<ArcSlice<u32>>,
@@ -35,13 +36,14 @@ impl Model for Numbers {
     ghost invariant = { λ n. AreAscending (shared_items n.older) × AreAscending n.newer.items };
 }
 
-/// Numbers that are looked up one after the other, in two ascending lists. Those of the older list often stand equally
-/// far apart, so a number is first looked for where the last two lead.
+/// Looks up numbers one after the other, in two ascending lists. The numbers that are asked for often stand equally far
+/// apart in the older list. So each is first looked for as far behind the last one as that was behind the one before.
 #[derive(Drop)]
 pub(crate) struct Lookup<'a> {
     older: &'a [u32],
     newer: &'a [u32],
-    // Where the last number that was found stands in the older list, and how far that is from the one before.
+    // The place in the older list of the last number that was found there, and how far that is behind the one found
+    // before it.
     place: usize,
     step: usize,
 }
@@ -138,7 +140,7 @@ fn with_number(alloc: Global, list: &[u32], number: u32) -> Result<Newer, Fault>
     }
 }
 
-/// Two ascending lists as one. `Memory` where an allocation is refused.
+/// The numbers of two lists as one ascending list. `Memory` where an allocation is refused.
 fn merge(alloc: Global, older: &[u32], newer: &[u32]) -> Result<ArcSlice<u32>, Fault>
     ensures rising { IfOk result (λ m. AreAscending (arc_slice_items m)) }
     ensures numbers { IfOk result (λ m. (n : ℕ) → Contains (arc_slice_items m) n
@@ -239,14 +241,14 @@ impl Numbers {
         })
     }
 
-    /// How many numbers there are.
+    /// How many numbers the two lists have. One that stands in both counts twice.
     pub(crate) fn len(&self) -> usize
         ensures { result ≡ length self.now }
     {
         items_of(&self.older).len() + self.newer.as_slice().len()
     }
 
-    /// The number at a place.
+    /// The number at a place. The older list comes first, then the newer one.
     pub(crate) fn at(&self, place: usize) -> u32
         requires { place < length self.now }
         ensures { result ≡ slice_index self.now place }

@@ -19,8 +19,8 @@ use sf_sym::{Node, NodeId, Pool};
 use std::alloc::Global;
 use std::sync::Arc;
 
-/// What is known of the node at a place, reduced; `None` where no number is left. The first sixteen nodes are the words
-/// of the input, for which numbers are excluded.
+/// What is known of the node at a place, reduced; `None` where that shows that no number is left. The first sixteen
+/// nodes are the words of the input, for which numbers are excluded.
 pub(crate) fn reduce_at(known: Known, place: usize, excluded: &Excluded) -> Option<Known>
     ensures { ReductionGives excluded.now place known result }
 {
@@ -54,8 +54,8 @@ fn is_decided(nodes: &Nodes, at: NodeId) -> bool
     known.low == known.high
 }
 
-/// Whether a node is a constant, or an operation on operands that have only one number each: no more can become known of
-/// it then.
+/// Whether a node is a constant, or an operation on operands that have only one number each: no more can become known
+/// of it then.
 fn is_fixed(nodes: &Nodes, node: Node) -> bool
     requires { OperandsBelow (length nodes.now.known) node }
     ensures { IsTrue result → AreAllDecided nodes.now.known node }
@@ -104,7 +104,8 @@ pub(crate) fn tighten(nodes: &mut Nodes, excluded: &Excluded, pool: &Pool, at: N
 }
 
 /// Adds to what is known of each variable what follows from its operands, the oldest variable first. The first sixteen
-/// are the words, which have no operands, so nothing follows for them. `false`: no input agrees.
+/// are the words, which have no operands, so nothing follows for them. `false`: no input agrees, and some nodes may be
+/// changed.
 pub(crate) fn propagate(nodes: &mut Nodes, excluded: &Excluded, pool: &Pool) -> bool
     requires closed { AreClosed nodes.old.known pool.now }
     requires words { AreClosedWords nodes.old.known excluded.now }
@@ -129,8 +130,8 @@ pub(crate) fn propagate(nodes: &mut Nodes, excluded: &Excluded, pool: &Pool) -> 
     true
 }
 
-/// Takes in the new nodes of a pool. `false`: no input agrees. `Memory` where an allocation is refused. In both cases a
-/// single new node leaves what is known as it was; of several, some may have been taken in.
+/// Takes in the new nodes of a pool. `false`: no input agrees. `Memory` where an allocation is refused. In both cases
+/// what is known is as it was if only one node was new; of several, the oldest may have been taken in.
 pub(crate) fn append(nodes: &mut Nodes, excluded: &Excluded, pool: &Pool) -> Result<bool, Fault>
     requires covers { length nodes.old.known ≤ length pool.now }
     ensures fixed { IfOk result (λ b. MatchBool b

@@ -88,8 +88,8 @@ impl Known {
     /// Whether a word of which this is known passes a test against a number, where its interval and known bits give the
     /// result; `None` where they leave it open.
     ///
-    /// In facts, both ends of an interval of a word are numbers that are left for it. So to learn a result that they
-    /// give moves no end and adds no bit, and the other result leaves no number.
+    /// In facts both ends of a word's interval are numbers that are left for the word. Learning a result that is given
+    /// here then moves no end and adds no bit, and the other result would leave no number.
     pub fn tell(&self, test: Test, number: u32) -> Option<bool>
         ensures told { MatchOption result (IsOpen test self.now number)
             (λ b. (x : ℕ) → Admits self.now x → passes test x number ≡ b) }
@@ -173,8 +173,8 @@ fn tell_at(
 }
 
 /// The result of a test of a node against a number, where it is told: every input that agrees has it, the other result
-/// leaves the node no number, and this one changes nothing that is known, except that the number may become an excluded
-/// one.
+/// leaves the node no number, and this one changes nothing that is known, except that the number, if the node can't
+/// have it, may become an excluded one.
 pub(crate) fn tell_node(
     nodes: &Nodes,
     excluded: &Excluded,

@@ -8,7 +8,7 @@ use crate::slots::{Slot, Slots, add_slot};
 use std::alloc::AllocError;
 use std::sync::Arc;
 
-/// A node that may have several numbers.
+/// A node whose slot has no number. What is known of it may still change, also to a single number.
 #[derive(Clone, Copy)]
 pub(crate) struct Variable {
     /// Its place in the pool.

@@ -5,7 +5,8 @@ use sf_ask::Question;
 use sf_names::Names;
 use std::alloc::AllocError;
 
-/// Whether a question asks about one architecture, and no set has it. A range of architectures is meant as it is written.
+/// Whether a question asks about one architecture, and no set has it. A range of architectures is meant as it is
+/// written.
 fn is_strange(question: &Question, sets: &[Names]) -> bool {
     let (low, high) = question.range(1);
     low == high && !sets.iter().any(|names| names.arch() == low)
@@ -35,7 +36,8 @@ fn push_warning(
 }
 
 impl Notes {
-    /// Keeps a warning where a question asks about one architecture that none of the sets has; nothing where there are no sets.
+    /// Keeps a warning where a question asks about one architecture that none of the sets has; nothing where there are
+    /// no sets.
     pub fn warn_of_questions(&mut self, questions: &[Question], sets: &[Names]) {
         if sets.is_empty() {
             return;

@@ -24,7 +24,8 @@ pub(crate) fn is_given(found: &ArgMatches<'_>, name: &str) -> bool
     found.get_str(name).is_some()
 }
 
-/// Whether nothing of a call is given beside the input.
+/// Whether no option that describes a call is given: neither `--call` nor `--nr`, neither `--arch` nor `--args`. These
+/// don't go with `--input`.
 fn has_only_input(found: &ArgMatches<'_>) -> bool
     ensures { result ≡ has_only_input (rows_of (found_of found.now)) }
 {
@@ -32,7 +33,7 @@ fn has_only_input(found: &ArgMatches<'_>) -> bool
         && !(is_given(found, "arch") || is_given(found, "args"))
 }
 
-/// Whether the architecture of a call is given, and its arguments.
+/// Whether `--arch` is given, and behind `--args` stands what has the form of arguments.
 fn has_arguments(found: &ArgMatches<'_>) -> bool
     ensures { result ≡ has_arguments (rows_of (found_of found.now)) }
 {
@@ -46,7 +47,8 @@ pub(crate) fn has_names(found: &ArgMatches<'_>) -> bool
     !found.get_strs("names").unwrap_or(&[]).is_empty()
 }
 
-/// Whether a call is asked for by its name, in a set with a name, and there is a file of names.
+/// Whether the words ask for a call by its name: `--nr` isn't given, a file of names is, and the words of `--call` and
+/// `--arch` can be the names of a call and of a set.
 fn call_fits(found: &ArgMatches<'_>) -> bool
     ensures { result ≡ call_fits (rows_of (found_of found.now)) }
 {
@@ -61,15 +63,16 @@ fn is_arch(text: &str) -> bool
     is_number(text) || is_call_name(text)
 }
 
-/// Whether a call is asked for by its number, on an architecture.
+/// Whether the words ask for a call by its number: behind `--nr` stands a number, and behind `--arch` a number or what
+/// can be the name of a set.
 fn nr_fits(found: &ArgMatches<'_>) -> bool
     ensures { result ≡ nr_fits (rows_of (found_of found.now)) }
 {
     is_given(found, "nr") && (is_number(text_of(found, "nr")) && is_arch(text_of(found, "arch")))
 }
 
-/// Whether the words of `eval` ask for one input: by its bytes, or by a call's name or number, with its architecture and
-/// its arguments.
+/// Whether the words of `eval` ask for one input: by its bytes, or by a call's name or number, with its architecture
+/// and its arguments.
 pub fn eval_words_fit(found: &ArgMatches<'_>) -> bool
     ensures { result ≡ eval_words_fit (rows_of (found_of found.now)) }
 {
@@ -96,7 +99,8 @@ fn is_narrow(text: &str) -> bool
     read_word(text).is_ok()
 }
 
-/// Whether the number that is given for a call has 32 bits at most, and that of its architecture, if they are given.
+/// Whether the numbers of a call and of its architecture have at most 32 bits: that of `--nr`, if it is given, and then
+/// that of `--arch`, if it is a number and not the name of a set.
 fn is_nr_narrow(found: &ArgMatches<'_>) -> bool
     ensures { result ≡ is_nr_narrow (rows_of (found_of found.now)) }
 {
@@ -113,8 +117,8 @@ fn is_input(text: &str) -> bool
     input_of(text).is_ok()
 }
 
-/// Whether the bytes of an input are spelled, or each number that is given for a call has no more bits than its place: 64
-/// for an argument, 32 for the others.
+/// Whether the word of `--input` spells an input; without `--input`, whether each number that is given for a call fits
+/// into its place: 64 bits for an argument, 32 bits for the others. `eval` asks this before it reads any file.
 pub fn spells_input(found: &ArgMatches<'_>) -> bool
     ensures { result ≡ spells_input (rows_of (found_of found.now)) }
 {
@@ -144,8 +148,8 @@ fn arguments_of(text: &str) -> Result<[u64; 6], Fault>
     Ok(arguments)
 }
 
-/// The number of the call with this name in the set with this name. `UnknownName` where there is no such set, or it has no
-/// such call.
+/// The number of the call with this name in the set with this name. `UnknownName` where there is no such set, or it has
+/// no such call.
 fn nr_named(names: &[Names], set: &str, call: &str) -> Result<u32, Fault>
     ensures found { IfOk result (λ n. nr_named names.now set.now call.now ≡ Some n) }
     ensures refused { IfErr result (λ e. (e ≡ NameFault)
@@ -169,8 +173,8 @@ fn arch_named(names: &[Names], set: &str) -> Result<u32, Fault>
     }
 }
 
-/// The number of the call that is asked for: the one that is given, or that of the call that is named. `Input` where the
-/// number hasn't 32 bits at most; otherwise the refusals are those of `nr_named`.
+/// The number of the call that is asked for: the one that is given, or that of the call that is named. `Input` where
+/// the number hasn't 32 bits at most; otherwise the refusals are those of `nr_named`.
 fn asked_nr(found: &ArgMatches<'_>, names: &[Names]) -> Result<u32, Fault>
     ensures asked { IfOk result (λ n. asked_nr (rows_of (found_of found.now))
         names.now ≡ Some n) }

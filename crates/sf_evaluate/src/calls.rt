@@ -23,7 +23,8 @@ fn calls_of_one(names: Names) -> Result<Calls, Fault>
     }
 }
 
-/// The calls of sets, in order. `Set` where one of the sets is none of the five; `Memory` where an allocation is refused.
+/// The calls of sets, in order. `Set` where one of the sets is none of the five; `Memory` where an allocation is
+/// refused.
 pub(crate) fn calls_of(alloc: Global, names: Vec<Names>) -> Result<Vec<Calls>, Fault>
     ensures meant { IfOk result (λ v. AreCallsOf names.items v.items) }
     ensures refused { IfErr result (λ e. (e ≡ MemoryFault)

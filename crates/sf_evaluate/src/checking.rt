@@ -30,9 +30,9 @@ use std::io::Write;
 /// How an answer is shown.
 #[derive(Clone, Copy)]
 pub struct Manner {
-    /// Whether lines under the answer show where it comes from.
+    /// Whether lines under the answer show the input, and how each filter comes to its return value.
     pub traced: bool,
-    /// The same, in brief: without what is false.
+    /// Whether these lines are shown in brief, without the comparisons that are false. `traced` needn't be set then.
     pub brief: bool,
     /// Whether all of it is one JSON document.
     pub json: bool,
@@ -95,8 +95,8 @@ fn check_filters<O: Write>(
     print(&text, out)
 }
 
-/// The text of the stack's answer to the input. Where `traced` or `brief` asks for it, lines under the answer show
-/// where it comes from; in brief without what is false.
+/// The text of the stack's answer to the input. Where `traced` or `brief` is set, lines under the answer show the
+/// input, and how each filter comes to its return value; with `brief` without the comparisons that are false.
 fn eval_text(
     alloc: Global,
     stack: &Stack,
@@ -166,8 +166,9 @@ fn evaluate_filters<O: Write>(
 }
 
 /// Reads the filter files, which are named in order of installation, and writes the number of instructions of each and
-/// the path length of their stack. Where `listed` asks for it, the instructions of each filter stand under its line, and
-/// those to which no path through the filter comes have a comment. Where `json` asks for it, all that is one JSON document.
+/// the path length of their stack. Where `listed` asks for it, the instructions of each filter stand under its line,
+/// and those to which no path through the filter comes have a comment. Where `json` asks for it, all that is one JSON
+/// document.
 ///
 /// Refusals, tried in this order: `Read` where a file can't be read; what `stack_of` refuses; `Write` where standard
 /// output can't be written, after a beginning of the text. `Memory` can come anywhere. After any error but `Write`
@@ -190,8 +191,8 @@ pub fn check<F: Files, O: Write>(
     check_filters(alloc, &filters, listed, json, notes, out)
 }
 
-/// Reads the filter files, which are named in order of installation, and writes what their stack answers to the input, as it
-/// is asked for. The refusals are those of `check`.
+/// Reads the filter files, which are named in order of installation, and writes what their stack answers to the input,
+/// as it is asked for. The refusals are those of `check`.
 pub fn evaluate<F: Files, O: Write>(
     alloc: Global,
     input: &Input,

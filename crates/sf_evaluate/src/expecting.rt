@@ -18,8 +18,8 @@ use sf_command_line::given_text;
 use sf_policy::{Fault, read_accepted};
 use std::alloc::Global;
 
-/// The questions of the control, whose policy file is at a path; none where no path is given. `Read` where the file can't be
-/// read, `Syntax` where it isn't UTF-8, then what `read_policy` refuses; `Memory` can come anywhere.
+/// The questions of the control, whose policy file is at a path; none where no path is given. `Read` where the file
+/// can't be read, `Syntax` where it isn't UTF-8, then what `read_policy` refuses; `Memory` can come anywhere.
 pub fn control_in<F: Files>(
     alloc: Global,
     path: Option<&str>,
@@ -38,8 +38,8 @@ pub fn control_in<F: Files>(
     }
 }
 
-/// The names of the questions that may be allowed, by the bytes of their file. `Syntax` where these are no UTF-8, then what
-/// `read_accepted` refuses; `Memory` can come anywhere.
+/// The names of the questions that may be allowed, by the bytes of their file. `Syntax` where these are no UTF-8, then
+/// what `read_accepted` refuses; `Memory` can come anywhere.
 fn accepted_of(alloc: Global, bytes: &[u8], questions: &[Question]) -> Result<Vec<String>, Fault>
     ensures named { IfOk result (λ v. AreAccepted questions.now bytes.now
         (map string_bytes v.items)) }
@@ -74,9 +74,9 @@ fn accepted_at<F: Files>(
     accepted_of(alloc, &bytes, questions)
 }
 
-/// The names of the questions that may be allowed, whose file is at a path; none where no path is given. Refusals, tried in
-/// this order: `Read` where the file can't be read; `Syntax` where it isn't UTF-8; `Accepted` at the first line that
-/// doesn't name just one of the questions, or none. `Memory` can come anywhere.
+/// The names of the questions that may be allowed, whose file is at a path; none where no path is given. Refusals,
+/// tried in this order: `Read` where the file can't be read; `Syntax` where it isn't UTF-8; `Accepted` at the first
+/// line that doesn't name just one of the questions, or none. `Memory` can come anywhere.
 pub fn accepted_in<F: Files>(
     alloc: Global,
     path: Option<&str>,

@@ -37,7 +37,8 @@ pub struct Notes {
     pub key: Result<Option<String>, AllocError>,
     /// The first set of names for which `profile` is refused, or that there is no memory for it.
     pub(crate) other: Result<Option<OtherSet>, AllocError>,
-    /// How many sets each of the files of names has that were read, in order; less of them where an allocation was refused.
+    /// How many sets each of the files of names has that were read, in order; less of them where an allocation was
+    /// refused.
     sets: Vec<usize>,
     /// How many files were read, of whatever kind.
     pub files: usize,
@@ -49,7 +50,7 @@ pub struct Notes {
     pub explanation: Option<String>,
     /// The lines of warnings, or that there is no memory for them.
     pub warnings: Result<String, AllocError>,
-    /// Whether a set of the files of names has the name that `eval` is given, once that was looked up.
+    /// Whether the files of names have the set that `eval --arch` names. It is true until that is looked up.
     pub(crate) is_set_known: bool,
     /// The place of the first call behind `--calls` that no file of names has, once they were looked up.
     pub(crate) unknown_call: usize,
@@ -87,15 +88,16 @@ impl Notes {
         self.files = self.files.saturating_add(1);
     }
 
-    /// Keeps how many sets the file of names has that was counted last. That isn't kept where there is no memory for it, nor
-    /// then for later files.
+    /// Keeps how many sets the file of names has that was counted last. That isn't kept where there is no memory for
+    /// it, nor then for later files.
     pub(crate) fn count_sets(&mut self, count: usize) {
         if self.sets.len().saturating_add(1) == self.files {
             let _ = self.sets.push(count);
         }
     }
 
-    /// The place of the file of names that has the set at a place, and how many sets it has; none where that isn't known.
+    /// The place of the file of names that has the set at a place, and how many sets it has; none where that isn't
+    /// known.
     pub(crate) fn file_of_set(&self, place: usize) -> Option<(usize, usize)> {
         let mut before = 0usize;
         for (file, count) in self.sets.iter().enumerate() {
@@ -107,7 +109,8 @@ impl Notes {
         None
     }
 
-    /// What the file at a place among all that were read seems to hold, counted from 0; `Empty` where that isn't known.
+    /// What a file seems to hold, by its place, from 0, in the order in which files were read; `Empty` where that isn't
+    /// known.
     fn kind_at(&self, place: usize) -> Kind {
         match self.kinds.get(place) {
             Some(kind) => *kind,
@@ -132,8 +135,9 @@ impl Notes {
         }
     }
 
-    /// Keeps which of the policies is refused, if the run ended with a fault, and the lines that explain it, if the matches
-    /// ask for them or `explains` says that each fault is explained. `reason` says why the last file was refused, in words for a person.
+    /// Does nothing unless the run ended with a fault. Then keeps which of several policies is refused, and the lines
+    /// that explain the fault. These are made only if the matches ask for them, or `explains` is true: then each fault
+    /// is explained. `reason` says in words for a person why the last file couldn't be read.
     pub fn explain(
         &mut self,
         alloc: Global,
@@ -165,7 +169,8 @@ fn path_at<'a>(found: &ArgMatches<'a>, place: usize) -> &'a str {
     }
 }
 
-/// What the file that was read last is read as; a filter where none was read.
+/// What the file that was read last was read as. Where none was read, it is what the first file would be read as; a
+/// filter where the command line names no file.
 fn role_of_last(found: &ArgMatches<'_>, notes: &Notes) -> Role {
     match file_at(found, notes.files.saturating_sub(1)) {
         Some((role, _)) => role,
@@ -185,8 +190,8 @@ fn push_accept(text: &mut String, found: &ArgMatches<'_>) -> Result<(), AllocErr
     write!(text, "accept {path:?}\n")
 }
 
-/// Adds the lines of the file that was read last and is refused, where it is a policy, a file of names or one of questions
-/// that may be allowed.
+/// Adds the lines of the file that was read last and is refused, where it is a policy, a file of names or one of
+/// questions that may be allowed.
 fn push_asked(
     alloc: Global,
     text: &mut String,
@@ -304,7 +309,7 @@ fn filter_of(fault: &Fault) -> Option<usize> {
     }
 }
 
-/// Whether a policy or a file of names is refused for a fault.
+/// Whether this can be a fault of a policy or of a file of names. `Syntax` can be one of the file of `--accept` too.
 fn is_of_text(fault: &Fault) -> bool {
     match fault {
         Fault::Version
@@ -322,8 +327,8 @@ fn is_of_text(fault: &Fault) -> bool {
     }
 }
 
-/// Adds the lines that say where a fault lies. The first one names the file that is refused or can't be read, if there is
-/// one.
+/// Adds the lines that say where a fault lies. The first one names the file that is refused or can't be read, if there
+/// is one.
 fn push_place(
     alloc: Global,
     text: &mut String,
@@ -347,7 +352,8 @@ fn push_place(
     }
 }
 
-/// The hint for a file that can't be read: none for a filter or a profile.
+/// The hint for the file that can't be read, which is the one at this place among all files: what kind of file is
+/// wanted. There is none for a filter or a profile, nor where `hint_of_unread` has none.
 fn hint_of_read(found: &ArgMatches<'_>, place: usize, reason: &str) -> Option<Hint> {
     let (role, path) = file_at(found, place)?;
     let ready = match role {

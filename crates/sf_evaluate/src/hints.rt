@@ -60,7 +60,8 @@ pub(crate) fn hint_of_unknown() -> Hint {
     )
 }
 
-/// Whether a filter is refused at its front, where a number of instructions would stand.
+/// Whether this fault fits a file in which the number of the instructions stands before them: its length is no multiple
+/// of 8, or one of its first two instructions is wrong.
 fn is_at_front(fault: &Fault) -> bool {
     match fault {
         Fault::Ragged { .. } => true,
@@ -101,8 +102,8 @@ pub(crate) fn hint_of_names(kind: Kind) -> Option<Hint> {
     Some(Hint::Sentence(sentence))
 }
 
-/// The hint for a file of this kind that is refused as a profile; none for a file of names, for which a profile may be
-/// refused too.
+/// The hint for a file of this kind that is refused as a profile. There is none for JSON, which is what a profile is,
+/// nor for a file of names or an empty file.
 pub(crate) fn hint_of_profile(kind: Kind) -> Option<Hint> {
     let sentence = match kind {
         Kind::Policy => "this is a policy: `audit --policy` takes it",
@@ -115,8 +116,8 @@ pub(crate) fn hint_of_profile(kind: Kind) -> Option<Hint> {
     Some(Hint::Sentence(sentence))
 }
 
-/// The hint for a policy or a file of names that can't be read, if its path is only a name, or that of a folder; `ready`
-/// is the path of a ready file.
+/// The hint for a file that can't be read, which is the sentence `ready`. It is given only if the path has no `/`, so
+/// that a name may have been given in place of a path, or if it is that of a folder.
 pub(crate) fn hint_of_unread(path: &str, reason: &str, ready: &'static str) -> Option<Hint> {
     if path.contains('/') && !reason.starts_with("Is a directory") {
         return None;
@@ -213,7 +214,8 @@ fn hint_of_question_key(refusal: &Refusal, key: &str, value: &Value) -> Hint {
     }
 }
 
-/// The hint for a number outside 32 bits; none where the value of the key is no single number, or can't have more bits.
+/// The hint for a number outside 32 bits. There is none where the value is no single number, nor where a number at `nr`
+/// or `arch` is too large: these words are no halves of a longer number.
 fn hint_of_range(key: &str, value: &Value) -> Option<Hint> {
     match value {
         Value::Integer(number) if *number < 0 => Some(Hint::Sentence(
@@ -257,8 +259,8 @@ fn hint_of_refusal(alloc: Global, refusal: &Refusal) -> Result<Option<Hint>, All
     }
 }
 
-/// The hint for a policy that is refused: about what the file is, or else about the key at which it is refused. An error
-/// where an allocation is refused.
+/// The hint for a policy that is refused: about what the file is, or else about the key at which it is refused. An
+/// error where an allocation is refused.
 pub(crate) fn hint_of_policy(
     alloc: Global,
     kind: Kind,

@@ -40,8 +40,8 @@ fn is_text(bytes: &[u8]) -> bool {
     front.all(|byte| 0x20 <= *byte || byte.is_ascii_whitespace())
 }
 
-/// Whether the number of the instructions seems to stand before them, in 2, 4, 8 or 16 bytes: as many instructions as the
-/// first two bytes say fill the rest of the file.
+/// Whether the number of the instructions seems to stand before them, in 2, 4, 8 or 16 bytes: as many instructions as
+/// the first two bytes say fill the rest of the file.
 fn is_counted(bytes: &[u8]) -> bool {
     let [low, high, ..] = bytes else {
         return false;
@@ -51,8 +51,8 @@ fn is_counted(bytes: &[u8]) -> bool {
     count != 0 && matches!(bytes.len().checked_sub(length), Some(2 | 4 | 8 | 16))
 }
 
-/// The line at a place, counted from 0, of those that are neither empty nor a comment of TOML, without the blanks around it;
-/// empty where there is none.
+/// The line at a place, counted from 0, of those that are neither empty nor a comment of TOML, without the blanks
+/// around it; empty where there is none.
 fn line_at(text: &str, place: usize) -> &str {
     let mut left = place;
     for line in text.lines() {

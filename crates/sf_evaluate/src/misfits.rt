@@ -189,8 +189,8 @@ fn wrong_control_text(alloc: Global, found: &ArgMatches<'_>) -> Result<String, A
     Ok(text)
 }
 
-/// Writes to standard error which words of the command line don't fit, if a run ended for that reason, with status 4, and
-/// there is memory to say so.
+/// Writes to standard error which words of the command line don't fit, if a run ended for that reason, with status 4,
+/// and there is memory to say so.
 pub fn tell_wrong_words<E: Write>(
     alloc: Global,
     matches: &ArgMatches<'_>,

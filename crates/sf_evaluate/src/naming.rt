@@ -49,8 +49,8 @@ fn has_set(sets: &[Names], set: &str) -> bool
     sets.iter().any(|names| names.set() == set)
 }
 
-/// Adds the sets of a file to those of the files before it, of which no two have one name. `NamesKey` where a set's name was
-/// there before; `Memory` where an allocation is refused. After an error some of them are added.
+/// Adds the sets of a file to those of the files before it, of which no two have one name. `NamesKey` where a set's
+/// name was there before; `Memory` where an allocation is refused. After an error some of them are added.
 fn add_sets(all: &mut Vec<Names>, sets: Vec<Names>) -> Result<(), Fault>
     ensures added { OnOk result (all.new.items ≡ all.old.items ++ sets.items) }
     ensures once { OnOk result (AreOnce all.old.items → AreOnce all.new.items) }
@@ -66,8 +66,8 @@ fn add_sets(all: &mut Vec<Names>, sets: Vec<Names>) -> Result<(), Fault>
     Ok(())
 }
 
-/// The sets of the files of names at these paths, one file after the other. The refusal is that of the first file that is
-/// refused: as `names_in` refuses it, or by `NamesKey` where it has a set whose name was there before.
+/// The sets of the files of names at these paths, one file after the other. The refusal is that of the first file that
+/// is refused: as `names_in` refuses it, or by `NamesKey` where it has a set whose name was there before.
 pub fn read_all_names<F: Files>(
     alloc: Global,
     paths: &[&str],

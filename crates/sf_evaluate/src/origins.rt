@@ -24,8 +24,8 @@ fn origin_document(alloc: Global, path: &str, line: Option<&usize>) -> Result<Do
     Ok(Document::object(fields))
 }
 
-/// The lines on which the questions of a policy begin, by the bytes of its file; none where these are no UTF-8. An error where
-/// an allocation is refused.
+/// The lines on which the questions of a policy begin, by the bytes of its file; none where these are no UTF-8. An
+/// error where an allocation is refused.
 fn lines_in(alloc: Global, policy: &[u8]) -> Result<Vec<usize>, AllocError> {
     match std::str::from_utf8(bytes_of_text(policy)) {
         Ok(text) => lines_of_questions(alloc, text),
@@ -33,7 +33,8 @@ fn lines_in(alloc: Global, policy: &[u8]) -> Result<Vec<usize>, AllocError> {
     }
 }
 
-/// Adds where so many questions of a policy file stand, by its path and its bytes. An error where an allocation is refused.
+/// Adds for each of the `count` questions of a policy file where it stands. The file has this path and these bytes. An
+/// error where an allocation is refused.
 pub(crate) fn push_origins(
     alloc: Global,
     origins: &mut Vec<Document>,

@@ -18,7 +18,8 @@ struct Reading<'a> {
     is_top: bool,
     /// How many arrays and tables are open: brackets that were opened and not closed.
     depth: usize,
-    /// How many are open where a key belongs to a question; none where no key does.
+    /// The depth at which a key is that of a question: 0 below `[[question]]`, and 2 in a table of
+    /// `question = [{ .. }]`. None where no key is that of a question.
     depth_of_questions: Option<usize>,
     /// How many questions have begun.
     questions: usize,
@@ -155,8 +156,8 @@ fn count_ends(text: &str, length: usize) -> usize {
     front.filter(|byte| **byte == b'\n').count()
 }
 
-/// The numbers, from 1, of the lines on which the questions of a policy begin, in their order, as far as they are found. An
-/// error where an allocation is refused.
+/// The numbers, from 1, of the lines on which the questions of a policy begin, in their order, as far as they are
+/// found. An error where an allocation is refused.
 pub fn lines_of_questions(alloc: Global, policy: &str) -> Result<Vec<usize>, AllocError> {
     let mut reading = Reading {
         question: None,

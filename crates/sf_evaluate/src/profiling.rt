@@ -32,8 +32,8 @@ fn warning_of(alloc: Global, settings: &Settings, bytes: &[u8]) -> Result<String
     Ok(text)
 }
 
-/// Writes a profile's filter, or its notes if `told`. Refusals: those of the profile; then `Write` where standard output
-/// can't be written.
+/// Writes a profile's filter, or its notes if `told`. Refusals: those of the profile; then `Write` where standard
+/// output can't be written.
 fn write_of<O: Write>(
     alloc: Global,
     settings: &Settings,
@@ -86,7 +86,8 @@ fn read_settings<F: Files>(
     settings_of(alloc, found, calls)
 }
 
-/// Keeps the warning of unknown names, where a filter was written and warnings are asked for.
+/// Keeps the warning of names that no file of names has, after a filter was written. It keeps none with `--quiet`, nor
+/// with `--notes`, where no filter was written.
 fn keep_warning(
     alloc: Global,
     found: &ArgMatches<'_>,
@@ -106,15 +107,15 @@ fn keep_key(alloc: Global, settings: &Settings, bytes: &[u8], fault: &Fault, not
     }
 }
 
-/// Reads the files of names and then the profile that the matches of the subcommand name, and writes the filter that the
-/// profile means: a program that answers each input as the profile does. Where `--notes` asks for it, notes on the
+/// Reads the files of names and then the profile that the matches of the subcommand name, and writes the filter that
+/// the profile means: a program that answers each input as the profile does. Where `--notes` asks for it, notes on the
 /// profile are written, and no filter. The status is 0; or 4 where a word isn't one that its option takes, before any
 /// file is read.
 ///
-/// Refusals, tried in this order: what `read_all_names` refuses; `Set` where one of the sets of names is none of the five
-/// sets of calls; of the profile `Read`, and what `profile` of `sf_profile` refuses; `Write` where standard output can't be
-/// written, after a beginning of what is written. `Memory` can come anywhere. After any error but `Write` nothing is
-/// written.
+/// Refusals, tried in this order: what `read_all_names` refuses; `Set` where one of the sets of names is none of the
+/// five sets of calls; of the profile `Read`, and what `profile` of `sf_profile` refuses; `Write` where standard output
+/// can't be written, after a beginning of what is written. `Memory` can come anywhere. After any error but `Write`
+/// nothing is written.
 pub fn profile<F: Files, O: Write>(
     alloc: Global,
     found: &ArgMatches<'_>,

@@ -41,8 +41,8 @@ pub(crate) fn questions_in<F: Files>(
     }
 }
 
-/// The questions of the policy files at these paths, one file after the other, and where each of them stands. The refusal is
-/// that of the first file that is refused, as `questions_in` refuses it.
+/// The questions of the policy files at these paths, one file after the other, and where each of them stands. The
+/// refusal is that of the first file that is refused, as `questions_in` refuses it.
 pub fn all_questions_in<F: Files>(
     alloc: Global,
     paths: &[&str],

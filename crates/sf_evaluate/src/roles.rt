@@ -50,7 +50,8 @@ pub(crate) fn count_before_filters(found: &ArgMatches<'_>) -> usize {
     policies.saturating_add(others)
 }
 
-/// What the file at a place among all that are read is read as, and its path; the place is counted from 0.
+/// What a file is read as, and its path, by its place, from 0, in the order in which all files are read; none where
+/// there is no such file.
 pub(crate) fn file_at<'a>(found: &ArgMatches<'a>, place: usize) -> Option<(Role, &'a str)> {
     let mut place = place;
     for (name, role) in READ {
@@ -74,7 +75,7 @@ pub(crate) fn filter_path<'a>(found: &ArgMatches<'a>, place: usize) -> &'a str {
 /// Which of the policies is refused.
 #[derive(Clone, Copy, Debug, PartialEq, Eq)]
 pub(crate) enum Which {
-    /// The only one.
+    /// The only one, or none: the fault lies in no policy.
     Only,
     /// One of several, by its number from 1.
     Number(usize),
@@ -98,7 +99,8 @@ fn is_of_policy(fault: &Fault) -> bool {
     )
 }
 
-/// Which of the policies is refused for a fault, where so many files were read when it came.
+/// Which of the policies is refused for a fault. `read` is how many files had been read when it came: the last of them
+/// is the refused one, if it is a policy.
 pub(crate) fn which_policy(found: &ArgMatches<'_>, fault: &Fault, read: usize) -> Which {
     let place = read.saturating_sub(1);
     if !is_of_policy(fault) {

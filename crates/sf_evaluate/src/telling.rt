@@ -18,8 +18,8 @@ use std::io::Write;
 /// The most bytes of a fault's line: two numbers of at most 20 digits each, and words.
 const LINE: usize = 96;
 
-/// The exit status of a fault: 3 where the filters, the policy, a file of names or the input are refused, 5 where reading,
-/// writing or memory fails.
+/// The exit status of a fault: 3 where the filters, a policy, a profile, a file of names, the file of `--accept` or the
+/// input are refused, 5 where reading, writing or memory fails.
 fn status_of(fault: &Fault) -> u8
     ensures { result ≡ fault_status (fault_number fault.now) }
 {
@@ -31,7 +31,8 @@ fn line_of(fault: &Fault) -> InlineText<LINE> {
     InlineText::of(format_args!("error {fault}\n"))
 }
 
-/// The line of a fault in one of several policies, or in that of the control: which one it is stands before the question.
+/// The line of a fault in one of several policies, or in that of the control: which one it is stands before the
+/// question.
 fn line_in(fault: &Fault, policy: &str) -> InlineText<LINE> {
     let line: InlineText<LINE> = InlineText::of(format_args!("{fault}"));
     match line.as_str().split_once(" question ") {
@@ -42,7 +43,7 @@ fn line_in(fault: &Fault, policy: &str) -> InlineText<LINE> {
     }
 }
 
-/// The line of a fault, with the policy in which it lies, where there are several.
+/// The line of a fault, with the policy in which it lies: its number where there are several, or "control".
 fn placed_line(fault: &Fault, which: Which) -> InlineText<LINE> {
     match which {
         Which::Only => line_of(fault),
@@ -54,8 +55,8 @@ fn placed_line(fault: &Fault, which: Which) -> InlineText<LINE> {
     }
 }
 
-/// Writes the line of a fault to standard error, with one write, so that it stays whole beside the lines of other programs.
-/// Gives the exit status.
+/// Writes the line of a fault to standard error, with one write, so that it stays whole beside the lines of other
+/// programs. Gives the exit status.
 fn tell_line<E: Write>(line: &InlineText<LINE>, fault: &Fault, err: &mut E) -> u8
     ensures { result ≡ fault_status (fault_number fault.now) }
 {
@@ -63,8 +64,8 @@ fn tell_line<E: Write>(line: &InlineText<LINE>, fault: &Fault, err: &mut E) -> u
     status_of(fault)
 }
 
-/// Writes the line of a fault to standard error, and gives the exit status. It allocates nothing, since memory may have run
-/// out.
+/// Writes the line of a fault to standard error, and gives the exit status. It allocates nothing, since memory may have
+/// run out.
 pub fn tell_fault<E: Write>(fault: &Fault, err: &mut E) -> u8
     ensures { result ≡ fault_status (fault_number fault.now) }
 {
@@ -80,8 +81,8 @@ fn with_more(alloc: Global, line: &str, more: &str) -> Result<String, AllocError
     Ok(text)
 }
 
-/// Writes the line of a fault to standard error, and under it the lines that explain the fault, if the notes have any and
-/// there is memory for both. All is one write too. Gives the exit status.
+/// Writes the line of a fault to standard error, and under it the lines that explain the fault, if the notes have any
+/// and there is memory to join them. Both are written with one write, as in `tell_line`. Gives the exit status.
 pub fn tell<E: Write>(alloc: Global, fault: &Fault, notes: &Notes, err: &mut E) -> u8
     ensures { result ≡ fault_status (fault_number fault.now) }
 {

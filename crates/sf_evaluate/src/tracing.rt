@@ -135,7 +135,7 @@ fn truth_of(truth: bool) -> &'static str
     if truth { "true" } else { "false" }
 }
 
-/// Adds how A is compared, with which other number, and the result.
+/// Adds the end of the line of a comparison: its sign, the other number and the result.
 fn push_compared(text: &mut String, sign: &str, other: u32, truth: bool) -> Result<(), AllocError>
     ensures { OnOk result (string_bytes text.new ≡ string_bytes text.old
         ++ compared_text sign.now other truth) }
@@ -176,7 +176,8 @@ fn push_test(
     push_compared(text, sign, other, truth)
 }
 
-/// Adds the line of what a filter met.
+/// Adds the line of what an instruction of a filter met: a comparison with its result, or that the number in A is
+/// returned.
 pub(crate) fn push_meeting(
     text: &mut String,
     number: usize,
@@ -199,7 +200,7 @@ pub(crate) fn push_meeting(
     }
 }
 
-/// Whether what was met is false: a test that is false, or a division by an X that isn't 0.
+/// Whether a comparison was met that is false. A division by X compares X with 0, so it is false where X isn't 0.
 fn is_false(met: Met) -> bool
     ensures { result ≡ is_false met }
 {
@@ -210,7 +211,7 @@ fn is_false(met: Met) -> bool
     }
 }
 
-/// Adds the line of what a filter met; in brief nothing where that is false.
+/// Adds the line of what a filter met; with `brief` nothing where that is a comparison that is false.
 fn push_shown(
     text: &mut String,
     brief: bool,
@@ -276,7 +277,7 @@ pub struct Trace<'a> {
     pub input: &'a Input,
     /// The answer of the stack.
     pub answer: Answer,
-    /// Whether only what is true is shown.
+    /// Whether comparisons that are false are left out.
     pub brief: bool,
     /// Names of calls, which are shown beside their numbers.
     pub names: &'a [Names],
@@ -330,9 +331,10 @@ fn push_filters(alloc: Global, text: &mut String, trace: &Trace<'_>) -> Result<(
     Ok(())
 }
 
-/// Adds the lines of `eval --trace`. First comes the input as a call, if a set has the call, and then its fields. Then comes each
-/// filter, newest first: what it returns and at which instruction, whether its answer is the stack's, and under it all
-/// that it met, in order; in brief without what is false. `Memory` where an allocation is refused.
+/// Adds the lines of `eval --trace`. First comes the input as a call, if a set has the call, and then its fields. Then
+/// comes each filter, newest first: what it returns and at which instruction, whether its answer is the stack's, and
+/// under it what it met, in order. In brief, comparisons that are false are left out. `Memory` where an allocation is
+/// refused.
 pub fn push_trace(alloc: Global, text: &mut String, trace: &Trace<'_>) -> Result<(), Fault>
     ensures { OnOk result (string_bytes text.new ≡ string_bytes text.old
         ++ trace_text trace.now.brief trace.now.names.now trace.now.stack.now

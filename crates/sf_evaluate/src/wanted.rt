@@ -18,7 +18,7 @@ use sf_policy::Fault;
 use std::alloc::{AllocError, Global};
 use std::io::Write;
 
-/// How often a name stands in a text, between its commas.
+/// How many of the names in a text, which commas separate, are this one.
 fn count_of(text: &str, name: &str) -> usize
     ensures { result ≡ count_by (bytes_eq name.now) (parts_of text.now) }
 {
@@ -57,7 +57,7 @@ fn is_relation(word: &str) -> bool
     word == "looser" || word == "tighter" || word == "different"
 }
 
-/// Whether the relation of rows that is asked for, if there is one, is one.
+/// Whether the word of `--only` names a relation, if the option is given.
 fn only_fits(found: &ArgMatches<'_>) -> bool
     ensures { result ≡ option_map_or is_relation
         (first_of (codes "only") (rows_of (found_of found.now))) true }
@@ -68,14 +68,16 @@ fn only_fits(found: &ArgMatches<'_>) -> bool
     }
 }
 
-/// Whether what is said of the rows of a comparison comes with rows.
+/// Whether `--rows` is given if it is wanted: `--calls` and `--only` of `compare` say how rows are shown, and nothing
+/// without them.
 fn has_rows_for_all(found: &ArgMatches<'_>) -> bool
     ensures { result ≡ has_rows_for_all (rows_of (found_of found.now)) }
 {
     text_of(found, "rows") == "true" || !(is_given(found, "calls") || is_given(found, "only"))
 }
 
-/// Whether what is said of the rows of a comparison comes with rows, and names a relation.
+/// Whether the options of `compare` about rows fit: `--calls` and `--only` come only with `--rows`, and `--only` names
+/// a relation.
 pub fn rows_fit(found: &ArgMatches<'_>) -> bool
     ensures { result ≡ rows_fit (rows_of (found_of found.now)) }
 {
@@ -92,8 +94,8 @@ fn names_in_text<'a>(alloc: Global, text: &'a str) -> Result<Vec<&'a str>, Alloc
     text.split(',').collect(alloc)
 }
 
-/// The calls that are asked for by their names, if calls are to be shown one by one at all. Where no name is given,
-/// these are all calls. `Memory` where an allocation is refused.
+/// The names of calls in the text of `--calls`; none where the option isn't given. An empty list asks for all calls.
+/// `Memory` where an allocation is refused.
 fn calls_asked<'a>(alloc: Global, found: &ArgMatches<'a>) -> Result<Option<Vec<&'a str>>, Fault>
     ensures asked { IfOk result (λ o. option_map (λ v. map (λ t. t.now) v.items) o
         ≡ calls_asked (rows_of (found_of found.now))) }
@@ -137,8 +139,8 @@ fn unknown_place(sets: &[Names], text: &str) -> usize {
         .unwrap_or(0)
 }
 
-/// The calls that are asked for by their names, if calls are to be shown one by one at all; all calls where no name is
-/// given. `UnknownName` where one of them is a call of no set; the notes get its place. `Memory` where an allocation is
+/// The names of calls in the text of `--calls`, as `calls_asked` gives them. Each is the name of a call in some set.
+/// `UnknownName` where one isn't: then the notes get the place of the first such name. `Memory` where an allocation is
 /// refused.
 pub fn known_calls<'a>(
     alloc: Global,

@@ -40,7 +40,7 @@ fn push_returned(
     push_return(text, number, place, action, value & 0xffff, stands)
 }
 
-/// Whether a comparison is met that is true: a test, or at a division by X that X is 0.
+/// Whether a comparison was met that is true. A division by X compares X with 0, so it is true where X is 0.
 fn is_true(meeting: Meeting) -> bool
     ensures { result ≡ is_true meeting }
 {
@@ -72,8 +72,8 @@ fn push_cause(text: &mut String, number: usize, met: &[Meeting]) -> Result<(), A
     }
 }
 
-/// Whether the answer of a filter that returns this value stands: it has the action of the stack's answer, and the answer of
-/// no newer filter stood.
+/// Whether the answer of a filter that returns this value stands: it has the action of the stack's answer, and the
+/// answer of no newer filter stood.
 fn is_standing(stood: bool, value: u32, answer: Answer) -> bool
     ensures { result ≡ (not stood && (action_bits value == action_number answer.action)) }
 {
@@ -132,9 +132,9 @@ fn push_why(alloc: Global, text: &mut String, trace: &Trace<'_>) -> Result<(), F
     push_filters(alloc, text, trace)
 }
 
-/// Why a stack answers an input as it does: the input as a call, and then for each filter, newest first, what it returns
-/// and at which instruction, whether its answer is the stack's, and under it the last true comparison that it met before,
-/// if it met one. Each line begins with `why`. `Memory` where an allocation is refused.
+/// Why a stack answers an input as it does: the input as a call, and then for each filter, newest first, what it
+/// returns and at which instruction, whether its answer is the stack's, and under it the last true comparison that it
+/// met before, if it met one. Each line begins with `why`. `Memory` where an allocation is refused.
 pub fn why_text(
     alloc: Global,
     names: &[Names],

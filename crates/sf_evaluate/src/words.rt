@@ -92,7 +92,7 @@ fn has_text(texts: &[&str], text: &str) -> bool
     texts.iter().any(|one| text == *one)
 }
 
-/// Whether a text is one of these. For the prover: over the texts themselves.
+/// Whether a text is one of these. For the prover: its clause speaks of the texts themselves.
 pub(crate) fn is_among(text: &str, texts: &[&str]) -> bool
     ensures { result ≡ list_any (bytes_eq text.now) (map (λ t. t.now) texts.now) }
 {
@@ -138,7 +138,7 @@ pub fn words_fit(found: &ArgMatches<'_>) -> bool
         && caps_fit(found)
 }
 
-/// Texts of their own.
+/// Copies of these texts, which own their bytes.
 fn strings_of(alloc: Global, texts: &[&str]) -> Result<Vec<String>, AllocError>
     ensures { IfOk result (λ v. map string_bytes v.items ≡ map (λ t. t.now) texts.now) }
 {
@@ -150,7 +150,8 @@ fn strings_of(alloc: Global, texts: &[&str]) -> Result<Vec<String>, AllocError>
     Ok(strings)
 }
 
-/// What a profile is read for, as the words say, with these calls. `Memory` where an allocation is refused.
+/// The settings with which a profile is read: what the options say (machine, capabilities, kernel and so on), and these
+/// calls. `Memory` where an allocation is refused.
 pub(crate) fn settings_of(
     alloc: Global,
     found: &ArgMatches<'_>,

@@ -168,7 +168,7 @@ impl Fields {
         }
     }
 
-    /// The same and a field with this key, in place of one that has the key already. An error where an allocation is
+    /// These fields and one more, which replaces a field that has the same key already. An error where an allocation is
     /// refused.
     #[tactic(auto, using(crate::proofs::DocumentLemmas::no_float_among))]
     pub fn with(self, key: &str, document: Document) -> Result<Fields, AllocError>

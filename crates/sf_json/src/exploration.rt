@@ -10,8 +10,8 @@ use sf_book::{Counts, Settled};
 use sf_check::{Program, path_length};
 use std::alloc::{AllocError, Global};
 
-/// How many programs there are, and the length of the path through them. The caller's condition: at most 64 programs. An
-/// error where an allocation is refused.
+/// How many programs there are, and the length of the path through them. The caller's condition: at most 64 programs.
+/// An error where an allocation is refused.
 pub fn sizes_document(alloc: Global, programs: &[Program]) -> Result<Document, AllocError>
     requires { length programs.now ≤ 64 }
     ensures { IfOk result (λ d. view d ≡ sizes_document programs.now) }

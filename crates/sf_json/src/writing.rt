@@ -23,8 +23,8 @@ pub fn line_of(alloc: Global, document: &Document) -> Result<String, AllocError>
 
 /// Writes a document on a line of its own, without blanks.
 ///
-/// `Write` where a write fails or takes no byte: a beginning of the line was written then. `Memory` where the text can't
-/// be built: nothing was written then.
+/// `Write` where a write fails or takes no byte: a beginning of the line was written then. `Memory` where the text
+/// can't be built: nothing was written then.
 pub fn write_document<W: Write>(
     alloc: Global,
     document: &Document,

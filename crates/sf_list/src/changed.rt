@@ -19,7 +19,8 @@ use std::alloc::{AllocError, Global};
 use std::io::Write;
 use std::marker::Model;
 
-/// Whether these labels are those of a row without a difference: the only one is the number behind all `count` places.
+/// Whether these labels are those of a row without a difference. The labels below `count` are places of the pairs of
+/// answers that differ, and `count` itself stands for equal answers: it is the only label of such a row.
 fn is_unchanged(count: usize, labels: &[usize]) -> bool
     ensures { result ≡ is_unchanged count labels.now }
 {
@@ -43,7 +44,8 @@ fn keep_changed(rows: &mut Vec<Row>, count: usize)
     rows.retain(|row| is_changed(count, row));
 }
 
-/// Whether the answers of a pair are so related, where they differ.
+/// Whether the new answer of a pair has this relation to the old one. The caller's pairs differ, so each has the
+/// relation `Different`.
 fn is_so_related(relation: Relation, pair: &PartAnswers) -> bool
     ensures { result ≡ is_so_related relation pair.now }
 {
@@ -53,7 +55,7 @@ fn is_so_related(relation: Relation, pair: &PartAnswers) -> bool
     }
 }
 
-/// Whether the answers that a label stands for are so related.
+/// Whether a label stands for a pair of answers with this relation. The label of equal answers stands for no pair.
 fn is_label_of(relation: Relation, pairs: &[PartAnswers], label: usize) -> bool
     ensures { result ≡ is_label_of relation pairs.now label }
 {
@@ -63,7 +65,7 @@ fn is_label_of(relation: Relation, pairs: &[PartAnswers], label: usize) -> bool
     }
 }
 
-/// Whether a row has answers that are so related.
+/// Whether some label of a row stands for a pair of answers with this relation.
 fn is_related(relation: Relation, pairs: &[PartAnswers], row: &Row) -> bool
     ensures { result ≡ list_any (is_label_of relation pairs.now) row.now.labels }
 {
@@ -72,19 +74,21 @@ fn is_related(relation: Relation, pairs: &[PartAnswers], row: &Row) -> bool
         .any(|label| is_label_of(relation, pairs, *label))
 }
 
-/// Leaves only rows with answers that are so related.
+/// Leaves only rows of which some label stands for a pair of answers with this relation.
 fn keep_related(rows: &mut Vec<Row>, relation: Relation, pairs: &[PartAnswers])
     ensures { rows.new.items ≡ related_of relation pairs.now rows.old.items }
 {
     rows.retain(|row| is_related(relation, pairs, row));
 }
 
-/// What is shown of the rows in which answers differ, and how.
+/// Which of the rows in which answers differ are shown, and how.
 #[derive(Drop)]
 pub struct Shown<'a> {
-    /// Only the rows with answers that are so related; all, where there is none.
+    /// The relation that some answers of a row must have for the row to be shown. Without it all rows with a difference
+    /// are shown.
     pub only: Option<Relation>,
-    /// The calls by which the rows are shown: all, where it names none; where there is none, each row has a line.
+    /// The names of the calls that are shown one by one, or an empty list for all calls. Without it each row has a line
+    /// of its own.
     pub calls: Option<Vec<&'a str>>,
 }
 
@@ -196,12 +200,12 @@ fn text_of(
     Ok(text)
 }
 
-/// Writes the text of a comparison, then the rows in which the answers of the two stacks differ, with these sets of calls, and
-/// a line that counts them: how many lines there are, and how many of them have several labels. `shown` says what is
-/// shown of the rows, and how. Where a piece is outstanding, there are no rows and no such line.
+/// Writes the text of a comparison, then the rows in which the answers of the two stacks differ, with these sets of
+/// calls, and a line that counts them: how many lines there are, and how many of them have several labels. `shown` says
+/// what is shown of the rows, and how. Where a piece is outstanding, there are no rows and no such line.
 ///
-/// `Write` where a write fails or takes no byte: a beginning of the text was written then. `Memory` where the text can't be
-/// built: nothing was written then.
+/// `Write` where a write fails or takes no byte: a beginning of the text was written then. `Memory` where the text
+/// can't be built: nothing was written then.
 pub fn write_differences<W: Write>(
     alloc: Global,
     comparison: &Comparison,

@@ -16,8 +16,9 @@ use sf_run::PartAnswers;
 use std::alloc::Global;
 use std::marker::Model;
 
-/// What differs between the answers of two stacks: the pairs of answers that do, and where no piece is outstanding a picture,
-/// whose labels are places of the pairs and, where nothing differs, the number behind all places.
+/// What differs between the answers of two stacks: the pairs of answers that differ, and where no piece is outstanding
+/// a picture of both stacks. A label of the picture is the place of a pair; the number of the pairs is the label of
+/// answers that are equal.
 #[derive(Drop)]
 pub struct Differences {
     pairs: Vec<PartAnswers>,
@@ -33,8 +34,8 @@ impl Model for Differences {
 }
 
 impl Differences {
-    /// The pairs of answers that differ, the old stack's answer first: by the precedence and the data of the old stack's
-    /// answers, and then of the new one's.
+    /// The pairs of answers that differ, the old stack's answer first: by the precedence and the data of the old
+    /// stack's answers, and then of the new one's.
     pub fn pairs(&self) -> &[PartAnswers]
         ensures { result.now ≡ self.now.pairs }
     {
@@ -49,7 +50,8 @@ impl Differences {
     }
 }
 
-/// The picture of an exploration by the places of pairs. `Memory` where an allocation is refused.
+/// The picture of an exploration of two stacks. The label of a region is the place of its two answers among `pairs`, or
+/// the number of the pairs where the answers are equal. `Memory` where an allocation is refused.
 fn picture_by(
     alloc: Global,
     settled: &Settled,
@@ -103,8 +105,8 @@ fn differences_by(
     })
 }
 
-/// Draws what differs between the answers of the two stacks of a comparison, unless a piece is outstanding. Once `leaves`
-/// leaves are drawn, no fork is begun any more. `Memory` where an allocation is refused.
+/// Draws what differs between the answers of the two stacks of a comparison, unless a piece is outstanding. Once
+/// `leaves` leaves are drawn, no fork is begun any more. `Memory` where an allocation is refused.
 pub fn draw_differences(
     alloc: Global,
     comparison: &Comparison,

@@ -67,9 +67,10 @@ fn rows_listed(
     Ok(Document::object(fields))
 }
 
-/// A listing as JSON, with these sets of calls: the size of the stack, the counts of its exploration, and its rows; or where
-/// `calls` is given the rows of each of these calls, or of all calls where it names none, and then rows of the inputs that
-/// belong to no call with a name. `Memory` where an allocation is refused.
+/// A listing as JSON, with the names of calls from these sets: the size of the stack, the counts of its exploration,
+/// and its rows. Where `calls` is given, these are the rows of each call that it names. Where it names none, they are
+/// the rows of all calls, and then those of the inputs that belong to no call with a name. `Memory` where an allocation
+/// is refused.
 pub fn listing_document(
     alloc: Global,
     listing: &Listing,
@@ -145,10 +146,10 @@ fn rows_compared(
     Ok(Document::object(fields))
 }
 
-/// A comparison and the rows in which the answers of the two stacks differ as JSON, with these sets of calls: the fields of
-/// `comparison_fields`, what the rows have in common, the rows, and how many they are. `shown` says what is shown of
-/// the rows, and how. Where a piece is outstanding, there are no rows and they aren't counted. `Memory` where an
-/// allocation is refused.
+/// A comparison and the rows in which the answers of the two stacks differ as JSON, with these sets of calls: the
+/// fields of `comparison_fields`, what the rows have in common, the rows, and how many they are. `shown` says what is
+/// shown of the rows, and how. Where a piece is outstanding, there are no rows and they aren't counted. `Memory` where
+/// an allocation is refused.
 pub fn differences_document(
     alloc: Global,
     comparison: &Comparison,

@@ -48,8 +48,8 @@ pub fn each_changed_input_is_shown()
     each_input_lies_in_one_row();
 }
 
-/// What two stacks answer to an input is among the pairs of answers of the row in which the input lies, or it is the same, and
-/// then the row has the label that says so.
+/// Let an input lie in a row. Where two stacks answer it differently, the pair of their answers is among those of the
+/// row. Where they answer it alike, the row has the label that says so.
 pub fn each_row_has_its_differences()
     ensures { (s : BookData) (older : ℕ) (x : DifferencesData) (p : PictureData) (d : Input)
         (r : RowData) → IsSettled s → AreDifferences s older x
@@ -62,8 +62,8 @@ pub fn each_row_has_its_differences()
     each_input_lies_in_one_row();
 }
 
-/// On plain stacks, where the picture isn't spent, a row that is shown has one pair of answers. They differ, and the two stacks
-/// give them to each input of the row.
+/// On plain stacks, where the picture isn't spent, a row that is shown has one pair of answers. They differ, and the
+/// two stacks give them to each input of the row.
 pub fn each_plain_row_has_one_difference()
     ensures { (s : BookData) (older : ℕ) (x : DifferencesData) (p : PictureData) (d : Input)
         (r : RowData) → IsSettled s → AreDifferences s older x → x.picture ≡ Some p
@@ -91,7 +91,7 @@ pub fn one_text()
     pictures_have_one_result();
 }
 
-/// They have the same JSON document too.
+/// Two listings as in `one_text` have the same JSON document too.
 pub fn one_document()
     ensures { (files others : List (List ℕ)) (b c leaves : ℕ) (o p : Listed) →
         IsListing files b o → IsListing others c p →
@@ -105,8 +105,8 @@ pub fn one_document()
     pictures_have_one_result();
 }
 
-/// Two comparisons of the same stacks have the same text with their rows, where both leave nothing outstanding and as many
-/// leaves are allowed.
+/// Two comparisons of the same stacks have the same text with their rows, where both leave nothing outstanding and as
+/// many leaves are allowed.
 pub fn one_text_with_rows()
     ensures { (files others : List (List ℕ)) (older b c leaves : ℕ) (o p : Compared)
         (x y : DifferencesData) → IsComparisonWithRows files older b leaves o x
@@ -121,7 +121,7 @@ pub fn one_text_with_rows()
     sf_compare::laws::one_text();
 }
 
-/// They have the same JSON document with their rows too.
+/// Two comparisons as in `one_text_with_rows` have the same JSON document with their rows too.
 pub fn one_document_with_rows()
     ensures { (files others : List (List ℕ)) (older b c leaves : ℕ) (o p : Compared)
         (x y : DifferencesData) → IsComparisonWithRows files older b leaves o x

@@ -20,8 +20,8 @@ use std::marker::Model;
 use std::sync::{Arc, Wait};
 use std::thread::Threads;
 
-/// How an exploration of a stack ended, the answers of its regions, and where no piece is outstanding its picture, whose
-/// labels are places of the answers.
+/// How an exploration of a stack ended, the answers of its regions, and where no piece is outstanding its picture,
+/// whose labels are places of the answers.
 #[derive(Drop)]
 pub struct Listing {
     settled: Settled,
@@ -66,8 +66,8 @@ impl Listing {
     }
 }
 
-/// The picture of an exploration by the places of its answers, unless a piece is outstanding. `Memory` where an allocation is
-/// refused.
+/// The picture of an exploration, in which the label of a region is the place of its answer among `answers`; none where
+/// a piece is outstanding. `Memory` where an allocation is refused.
 fn picture_by(
     alloc: Global,
     settled: &Settled,
@@ -113,8 +113,8 @@ fn listing_of(alloc: Global, settled: Settled, leaves: usize) -> Result<Listing,
 /// Explores the stack that filter files spell, by at most `budget` works, and draws its picture, unless a piece is
 /// outstanding. Once `leaves` leaves are drawn, no fork is begun any more.
 ///
-/// The caller's conditions: a budget from 1 to 1,000,000, and 1 to 64 workers (where there are more than one, each gets a
-/// thread, if it can be started). Refusals: those of `stack_of`. `Memory` can come anywhere. Waits for the workers.
+/// The caller's conditions: a budget from 1 to 1,000,000, and 1 to 64 workers (where there are more than one, each gets
+/// a thread, if it can be started). Refusals: those of `stack_of`. `Memory` can come anywhere. Waits for the workers.
 pub fn list<R: Threads + Wait + Sync, G: Gate>(
     rt: &R,
     alloc: Global,

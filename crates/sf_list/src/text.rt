@@ -99,7 +99,8 @@ fn text_of(
     Ok(text)
 }
 
-/// Whether each input lies in a row with one answer: there is a picture, and no row has several answers, as is counted.
+/// Whether each input lies in a row with one answer: there is a picture, and no row has several answers. `undetermined`
+/// is how many rows have several.
 pub(crate) fn is_whole(listing: &Listing, undetermined: usize) -> bool
     requires { undetermined ≡ count_by is_undetermined (listed_rows listing.now.picture) }
     ensures { result ≡ is_whole_listing listing.now.picture }
@@ -107,12 +108,14 @@ pub(crate) fn is_whole(listing: &Listing, undetermined: usize) -> bool
     listing.picture().is_some() && undetermined == 0
 }
 
-/// Writes the text of a listing, with these sets of calls, and answers whether each input lies in a row with one answer: no
-/// piece is outstanding, and no row has several. Each row has a line; or where `calls` is given each row of each of these
-/// calls has one, or of all calls where it names none, and then rows of the inputs that belong to no call with a name.
+/// Writes the text of a listing, with the names of calls from these sets. Gives whether each input lies in a row with
+/// one answer: no piece is outstanding, and no row has several answers.
 ///
-/// `Write` where a write fails or takes no byte: a beginning of the text was written then. `Memory` where the text can't be
-/// built: nothing was written then.
+/// Each row has a line. Where `calls` is given, each row of each call that it names has one. Where it names none, each
+/// row of all calls has one, and then each row of the inputs that belong to no call with a name.
+///
+/// `Write` where a write fails or takes no byte: a beginning of the text was written then. `Memory` where the text
+/// can't be built: nothing was written then.
 pub fn write_listing<W: Write>(
     alloc: Global,
     listing: &Listing,

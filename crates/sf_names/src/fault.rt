@@ -12,8 +12,8 @@ pub enum Fault {
     /// The file is no TOML.
     #[error("no TOML")]
     Syntax,
-    /// A key is unknown or missing, a value is of another kind, or the name of a set or of a call isn't 1 to 64 letters,
-    /// digits and `_`.
+    /// A key is unknown or missing, a value is of another kind, or the name of a set or of a call isn't 1 to 64
+    /// letters, digits and `_`.
     #[error("an unknown key, a missing one, a value of another kind, or a wrong name")]
     Key,
     /// A number is outside 32 bits.

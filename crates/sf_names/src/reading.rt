@@ -37,7 +37,7 @@ fn has_only_names_keys(table: &Table) -> bool
         .all(|key| key.as_str() == "arch" || key.as_str() == "calls")
 }
 
-/// Whether each key of a table is one that a set has. For the prover: over its members.
+/// The same as `has_only_names_keys`. For the prover: its clause speaks of the members of the table's tree.
 fn has_names_keys(table: &Table) -> bool
     ensures { result ≡ has_names_keys (table_view table.now) }
 {
@@ -133,8 +133,8 @@ fn arch_in(table: &Table) -> Result<u32, Fault>
     }
 }
 
-/// The set of this name that a table has, whose keys are all known. The refusals are those of its architecture, and then of
-/// its calls.
+/// The set with this name that a table describes. The caller has seen that the table has no unknown key. The refusals
+/// are those of its architecture, and then of its calls.
 fn set_from(alloc: Global, set: &str, table: &Table) -> Result<Names, Fault>
     ensures { Gives (λ n. n) result (set_from set.now (table_view table.now)) }
 {
@@ -144,8 +144,8 @@ fn set_from(alloc: Global, set: &str, table: &Table) -> Result<Names, Fault>
     Ok(Names { set, arch, calls })
 }
 
-/// The set of this name that a table has, with the calls in the order of its keys. `Key` where a key is unknown; then what
-/// `set_from` refuses.
+/// The set of this name that a table has, with the calls in the order of its keys. `Key` where a key is unknown; then
+/// what `set_from` refuses.
 fn set_of_table(alloc: Global, set: &str, table: &Table) -> Result<Names, Fault>
     ensures { Gives (λ n. n) result (set_of_table set.now (table_view table.now)) }
 {
@@ -202,8 +202,8 @@ fn known_set(arch: u32, calls: &[Call]) -> Option<&'static str>
     }
 }
 
-/// The usual name of the set of these calls: `known_set`, or the architecture's number with eight hexadecimal digits. An
-/// error where an allocation is refused.
+/// The usual name of the set of these calls: `known_set`, or the architecture's number with eight hexadecimal digits.
+/// An error where an allocation is refused.
 fn usual_set(alloc: Global, arch: u32, calls: &[Call]) -> Result<String, AllocError>
     ensures { IfOk result (λ s. string_bytes s ≡ usual_set arch calls.now) }
 {
@@ -226,8 +226,8 @@ fn only_set(alloc: Global, table: &Table) -> Result<Names, Fault>
     })
 }
 
-/// Puts calls in the order of their numbers, in place; those with one number keep their order. An error where an allocation
-/// is refused.
+/// Puts calls in the order of their numbers, in place; those with one number keep their order. An error where an
+/// allocation is refused.
 fn put_by_number(calls: &mut Vec<Call>) -> Result<(), AllocError>
     ensures { OnOk result (AreByNumber calls.old.items calls.new.items) }
 {
@@ -260,8 +260,8 @@ fn ordered_only_set(alloc: Global, table: &Table) -> Result<Names, Fault>
     put_in_order(names)
 }
 
-/// The sets of a table, in the order of its keys, with the calls by their numbers. The refusal is that of the first set that
-/// is refused.
+/// The sets of a table, in the order of its keys, with the calls by their numbers. The refusal is that of the first set
+/// that is refused.
 fn sets_of(alloc: Global, table: &Table) -> Result<Vec<Names>, Fault>
     ensures { GivesNames (λ v. v.items) result (sets_of (table_view table.now)) }
 {
@@ -283,8 +283,8 @@ fn one_set(alloc: Global, table: &Table) -> Result<Vec<Names>, Fault>
     Ok(sets)
 }
 
-/// The sets of a file's table, with the calls by their numbers. A table that has only keys of a set is one; another one has
-/// a set at each key.
+/// The sets of a file's table, the calls of each in the order of their numbers. A table without other keys than `arch`
+/// and `calls` is itself one set; any other table has a set at each key.
 fn names_of(alloc: Global, table: &Table) -> Result<Vec<Names>, Fault>
     ensures { GivesNames (λ v. v.items) result (names_of (table_view table.now)) }
 {
@@ -297,17 +297,17 @@ fn names_of(alloc: Global, table: &Table) -> Result<Vec<Names>, Fault>
 
 /// The sets of calls of a file of names, which is TOML, the calls of each by their numbers.
 ///
-/// A set is a table with the number of an architecture at the key `arch`, and at the key `calls` a table, with a number for
-/// each name. A file whose top has no other keys than these is one set, whose name is the usual one: `x86_64`, `x32`,
-/// `i386`, `aarch64` or `arm` by its architecture, where that is 0xC000003E by whether some number is below 2^30; for
-/// another architecture `0x` and its number with eight hexadecimal digits. In any other file each key at the top is the name
-/// of a set, which is the value there; the sets come in the order of their names.
+/// A set is a table with the number of an architecture at the key `arch`, and at the key `calls` a table, with a number
+/// for each name. A file whose top has no other keys than these is one set, and its name is the usual one of its
+/// architecture: `i386`, `aarch64` or `arm`; for 0xC000003E `x86_64` where some number is below 2^30, and else `x32`;
+/// for another architecture `0x` and its number with eight hexadecimal digits. In any other file each key at the top is
+/// the name of a set, and the value there is the set; the sets come in the order of their names.
 ///
-/// Refusals, tried in this order: `Syntax` where the text is no TOML; then, set after set, `Key` where the set's name isn't 1
-/// to 64 letters, digits and `_`, or the set is no table, or has an unknown key; `Key` where its architecture is missing or
-/// no whole number, and `Range` where it hasn't 32 bits; `Key` where its calls are missing or no table; then, call after call
-/// in the order of the names, `Key` where the name isn't 1 to 64 letters, digits and `_`, or the value is no whole number,
-/// and `Range` where the number hasn't 32 bits. `Memory` can come anywhere.
+/// Refusals, tried in this order: `Syntax` where the text is no TOML; then, set after set, `Key` where the set's name
+/// isn't 1 to 64 letters, digits and `_`, or the set is no table, or has an unknown key; `Key` where its architecture
+/// is missing or no whole number, and `Range` where it hasn't 32 bits; `Key` where its calls are missing or no table;
+/// then, call after call in the order of the names, `Key` where the name isn't 1 to 64 letters, digits and `_`, or the
+/// value is no whole number, and `Range` where the number hasn't 32 bits. `Memory` can come anywhere.
 pub fn read_names(alloc: Global, text: &str) -> Result<Vec<Names>, Fault>
     // Where the text is TOML, the sets or the refusal are those of its tree.
     ensures read { (tree : Members) → parse_document text.now ≡ Some tree

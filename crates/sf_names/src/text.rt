@@ -10,8 +10,8 @@ use std::alloc::AllocError;
 /// The most names that are written of one row.
 const MOST_NAMES: usize = 8;
 
-/// Adds a name, where `count` names were written before. Answers how many are written then: `..` stands for the ninth,
-/// and no further one is written.
+/// Adds a name to a row's text, in which `count` names stand before it. In place of the ninth name `..` is written, and
+/// nothing for a further one. Answers how many names stand there then, where `..` counts as one.
 fn push_name(text: &mut String, count: usize, name: &str) -> Result<usize, AllocError>
     ensures text { OnOk result (string_bytes text.new ≡ string_bytes text.old
         ++ name_words count name.now) }
@@ -70,8 +70,8 @@ fn push_calls(
     Ok(told)
 }
 
-/// Adds the names of the calls of one set whose numbers are among these, if it is a set of the architecture, where `count`
-/// names were written before. Answers how many are written then.
+/// Adds the names of the calls of one set whose numbers are among these, if it is a set of the architecture, where
+/// `count` names were written before. Answers how many are written then.
 fn push_names_in(
     text: &mut String,
     count: usize,
@@ -91,9 +91,10 @@ fn push_names_in(
     Ok(count)
 }
 
-/// Adds the names of the calls of an architecture whose numbers are among these, set after set: ` # ` and then at most
-/// eight names with commas between them, and `..` where there are more. `count` names were written before, none in a
-/// new line. Answers how many are written then, at most nine: `..` stands for the ninth.
+/// Adds to a row's text, set after set, the names of the calls of an architecture whose numbers are from `first` to
+/// `last`: ` # ` and then at most eight names with commas between them, and `..` where there are more. `count` is how
+/// many names stand in the row before, 0 in a new one. Answers how many stand there then, at most nine, where `..`
+/// counts as one.
 pub fn push_names_between(
     text: &mut String,
     count: usize,

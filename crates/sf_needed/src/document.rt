@@ -80,7 +80,7 @@ fn size_document(alloc: Global, needs: &Needs) -> Result<Document, AllocError>
     Ok(Document::object(fields))
 }
 
-/// How often each was found, and how many filters are kept.
+/// How many filters were found needed, spare and unsettled, and how many are kept.
 fn totals_document(alloc: Global, needs: &Needs) -> Result<Document, AllocError>
     ensures { IfOk result (λ d. view d ≡ totals_document needs.now) }
 {
@@ -92,9 +92,9 @@ fn totals_document(alloc: Global, needs: &Needs) -> Result<Document, AllocError>
     Ok(Document::object(fields))
 }
 
-/// Which filters of a stack are needed, as JSON: the size of the stack, what was found of each filter with an example where it
-/// is needed, the numbers of the filters that are kept, and how often each was found. An error where an allocation is
-/// refused.
+/// Which filters of a stack are needed, as JSON: the size of the stack, what was found of each filter with an example
+/// where it is needed, the numbers of the filters that are kept, and how often each was found. An error where an
+/// allocation is refused.
 pub fn needs_document(alloc: Global, needs: &Needs) -> Result<Document, AllocError>
     ensures { IfOk result (λ d. view d ≡ needs_document needs.now) }
 {

@@ -13,8 +13,9 @@ use std::alloc::Global;
 use std::sync::Wait;
 use std::thread::Threads;
 
-/// What is found of the filters that are left and these without the one at a place of the list. The whole stack was
-/// tried without each filter; that isn't done again.
+/// Compares the filters that `kept` still has with the same filters without one: the one at `place` of the list `kept`.
+/// While no filter has been dropped, the result is taken from `trials`, which has tried the whole stack without each
+/// filter.
 fn trial_of<R: Threads + Wait + Sync, G: Gate>(
     rt: &R,
     alloc: Global,
@@ -38,7 +39,7 @@ fn trial_of<R: Threads + Wait + Sync, G: Gate>(
     try_without(rt, alloc, task, kept, place, gate)
 }
 
-/// Whether nothing is changed so, whatever the input.
+/// Whether a comparison found that no input is changed.
 fn is_never(change: Change) -> bool
     ensures never { result ≡ true → change ≡ NeverChange }
     ensures other { result ≡ false → change ≢ NeverChange }
@@ -46,7 +47,8 @@ fn is_never(change: Change) -> bool
     matches!(change, Change::Never)
 }
 
-/// Whether the filter at a place of the list can be dropped: the others that are left answer each input as before.
+/// Whether the filter at a place of `kept` can be dropped: a comparison finds that the others that are left answer each
+/// input as before. Where the comparison is unsettled, the filter can't be dropped.
 fn is_droppable<R: Threads + Wait + Sync, G: Gate>(
     rt: &R,
     alloc: Global,
@@ -70,7 +72,7 @@ fn is_droppable<R: Threads + Wait + Sync, G: Gate>(
     Ok(is_never(trial.different))
 }
 
-/// The place of a list that is tried next: its first after its end.
+/// The place of a list of `count` filters that is tried next: `place` itself, or the first one if `place` is the end.
 fn place_to_try(place: usize, count: usize) -> usize
     requires { (0 < count) × (place ≤ count) }
     ensures { ((result ≡ place) × (place < count)) ⊎ ((result ≡ 0) × (place ≡ count)) }
@@ -78,8 +80,8 @@ fn place_to_try(place: usize, count: usize) -> usize
     if place == count { 0 } else { place }
 }
 
-/// Drops filters of which the others do the work: goes through the list in order and from its end on to its beginning,
-/// until each that is left was tried after the last one was dropped.
+/// Drops filters one after another, each where a comparison finds that the others answer as before. Tries them in
+/// order, and after the last one begins again, until each filter that is left has been tried since the last drop.
 pub(crate) fn drop_unneeded<R: Threads + Wait + Sync, G: Gate>(
     rt: &R,
     alloc: Global,

@@ -46,8 +46,9 @@ impl Model for Needs {
 }
 
 impl Needs {
-    /// What was found of each filter, in the order of the filters: how the answers change where it is left out. With `Found`
-    /// it is needed: that input gets further without it. With `Never` it is spare: no input gets further without it.
+    /// What was found of each filter, in the order of the filters: how the answers change where it is left out. With
+    /// `Found` it is needed: that input gets further without it. With `Never` it is spare: no input gets further
+    /// without it.
     pub fn findings(&self) -> &[Change]
         ensures same { result.now ≡ self.now.findings }
     {
@@ -135,17 +136,18 @@ fn findings_of(alloc: Global, trials: &[Trial]) -> Result<Vec<Change>, AllocErro
 }
 
 /// Finds which filters of a stack are needed, for all inputs, and keeps a set of filters that answers each input as the
-/// whole stack does, and of which none can be dropped. The filter files stand in order of installation, the newest last.
+/// whole stack does, and of which none can be dropped. The filter files stand in order of installation, the newest
+/// last.
 ///
 /// A filter is needed where some input gets further without it, and spare where none does; unsettled where neither is
 /// found. Then filters are dropped one after another, in order and again from the first, where what is left answers as
 /// before; one that is unsettled is kept. A stack without its only filter is that of the filter that allows all.
 ///
-/// The caller's conditions: a budget of works, for each comparison, from 1 to 1,000,000 and 1 to 64 workers, each a thread of
-/// its own where there are more than one. The gate sees each work before it is committed. Refusals, tried in this order:
-/// those of `stack_of` for the files; `TooMany` where the stack and the stack without one filter have more than 64
-/// filters together; `PathLength` where the path through both is longer than 32768. `Memory` can come anywhere. Waits
-/// for the workers.
+/// The caller's conditions: a budget of works, for each comparison, from 1 to 1,000,000 and 1 to 64 workers, each a
+/// thread of its own where there are more than one. The gate sees each work before it is committed. Refusals, tried in
+/// this order: those of `stack_of` for the files; `TooMany` where the stack and the stack without one filter have more
+/// than 64 filters together; `PathLength` where the path through both is longer than 32768. `Memory` can come anywhere.
+/// Waits for the workers.
 pub fn needed<R: Threads + Wait + Sync, G: Gate>(
     rt: &R,
     alloc: Global,

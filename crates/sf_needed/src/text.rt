@@ -83,7 +83,7 @@ fn push_head(text: &mut String, needs: &Needs) -> Result<(), AllocError>
     push_size(text, needs.findings().len(), needs.path_length())
 }
 
-/// Adds the last line: how often each was found, and how many filters are kept.
+/// Adds the last line: how many filters were found needed, spare and unsettled, and how many are kept.
 fn push_total(text: &mut String, needs: &Needs) -> Result<(), AllocError>
     ensures { OnOk result (string_bytes text.new ≡ string_bytes text.old
         ++ total_line needs.now) }

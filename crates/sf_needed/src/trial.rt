@@ -76,8 +76,8 @@ fn push_filters(
     Ok(())
 }
 
-/// Adds the filter files at these places but the one at a place of the list; where no other is there, the one that allows
-/// all.
+/// Adds the filter files at these places, without the one at `place` of the list `places`. Where it is the only one,
+/// adds the filter that allows all, since a stack has at least one filter.
 fn push_rest(
     alloc: Global,
     files: &mut Vec<Vec<u8>>,

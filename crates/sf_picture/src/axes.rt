@@ -22,7 +22,7 @@ fn has(axes: &Vec<Axis>, axis: Axis) -> bool
     axes.contains(&axis)
 }
 
-/// Adds an axis, unless it is there. `Memory` where an allocation is refused.
+/// Adds an axis, unless it is there already, or its word is none of the 16. `Memory` where an allocation is refused.
 fn push_axis(axes: &mut Vec<Axis>, axis: Axis) -> Result<(), Fault>
     ensures has { IfOk result (λ _. axis.word < 16 → Contains axes.new.items axis) }
     ensures keeps { IfOk result (λ _. (a : AnAxis) → Contains axes.old.items a
@@ -45,7 +45,7 @@ fn push_axis(axes: &mut Vec<Axis>, axis: Axis) -> Result<(), Fault>
     Ok(())
 }
 
-/// Adds the axes that something held cuts. `Memory` where an allocation is refused.
+/// Adds the axes that a held region cuts. `Memory` where an allocation is refused.
 fn push_axes(axes: &mut Vec<Axis>, one: &Held) -> Result<(), Fault>
     ensures has { IfOk result (λ _. (c : ACut) → Contains one.now.cuts c → c.axis.word < 16
         → Contains axes.new.items c.axis) }

@@ -21,7 +21,8 @@ pub struct Axis {
 const PLACES: [u8; 16] = [1, 0, 15, 14, 3, 2, 5, 4, 7, 6, 9, 8, 11, 10, 13, 12];
 
 impl Axis {
-    /// A number by which axes are put in order: by the places of their words, and of one word those with greater masks first.
+    /// A number by which axes are put in order: by the places of their words, and of one word those with greater masks
+    /// first.
     pub(crate) fn order(self) -> u64
         ensures { result ≡ axis_order self }
     {
@@ -33,7 +34,7 @@ impl Axis {
     }
 }
 
-/// The axis that a node stands for: it is a word, or ANDs of a word with constants.
+/// The axis that a node stands for; none where the node isn't a word of the input, or such a word ANDed with constants.
 pub(crate) fn axis_of(pool: &Pool, id: NodeId) -> Option<Axis>
     requires { id.0 < length pool.now }
     ensures inside { IfSome result (λ a. a.word < 16) }

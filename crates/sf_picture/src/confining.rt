@@ -22,7 +22,8 @@ fn is_one_bit(mask: u32) -> bool
     mask.is_power_of_two()
 }
 
-/// The one number of the axis that lies in the span, where only one can.
+/// The only number of the axis that can lie in the span, where it is seen at once: the span is one number, or the axis
+/// is one bit and the span is without 0. None in all other cases.
 fn number_in(axis: Axis, first: u32, last: u32) -> Option<u32>
     ensures one { IfSome result (λ v. (n : ℕ) → first ≤ bit_and n axis.mask
         → bit_and n axis.mask ≤ last → bit_and n axis.mask ≡ v) }
@@ -42,7 +43,7 @@ fn number_in(axis: Axis, first: u32, last: u32) -> Option<u32>
     None
 }
 
-/// Confines facts to a span of numbers of a whole word. False: no input that agrees has one of them.
+/// Confines facts to a span of numbers of a whole word. False: no input that agrees with the facts has one of them.
 fn confine_whole(
     alloc: Global,
     facts: &mut Facts,
@@ -68,8 +69,8 @@ fn confine_whole(
     Ok(facts.confine(alloc, pool, axis.word, first, last)?)
 }
 
-/// Confines facts to a span of numbers of a word under a mask, where only one can lie in it; else nothing is learnt. False: no
-/// input that agrees has a number of the span.
+/// Confines facts to a span of numbers of a word under a mask, where `number_in` gives the only number that can lie in
+/// it. Else nothing is learnt. False: no input that agrees with the facts has a number of the span.
 fn confine_masked(
     alloc: Global,
     facts: &mut Facts,
@@ -128,8 +129,8 @@ fn confine(
     confine_masked(alloc, facts, pool, axis, first, last)
 }
 
-/// What is left of facts for a span of an axis, or none where no input that agrees has a number of it. `Memory` where an allocation
-/// is refused.
+/// A copy of facts, confined to a span of an axis. None: no input that agrees with the facts has a number of the span.
+/// `Memory` where an allocation is refused.
 pub(crate) fn facts_within(
     alloc: Global,
     facts: &Facts,

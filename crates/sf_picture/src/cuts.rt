@@ -101,7 +101,8 @@ fn push_cuts_beside(cuts: &mut Vec<Cut>, axis: Axis, number: u32) -> Result<(), 
     Ok(())
 }
 
-/// Adds the cuts of a test of an axis against a number.
+/// Adds the cuts at which a test of an axis against a number changes its result. For a test of bits this is one cut, on
+/// the axis of the bits that are tested.
 fn push_cuts_of(cuts: &mut Vec<Cut>, axis: Axis, test: Test, number: u32) -> Result<(), Fault>
     ensures between { IfOk result (λ _. axis.mask ≡ 4294967295 → (m n : ℕ) → m < 2 ^ 32
         → n < 2 ^ 32 → passes test m number ≡ true → passes test n number ≡ false
@@ -129,7 +130,8 @@ fn push_cuts_of(cuts: &mut Vec<Cut>, axis: Axis, test: Test, number: u32) -> Res
     }
 }
 
-/// The same test of the other operand, for a test of equality of a node that is a sum or a difference with a constant.
+/// A test of equality without a constant in its node: where the node is an operand plus or minus a constant, the test
+/// of the operand against the number that it has to have then. Where it isn't, the test stays.
 fn drop_constant(pool: &Pool, tested: NumberTest) -> NumberTest
     requires { tested.node.0 < length pool.now }
     ensures node { result.node.0 < length pool.now }
@@ -157,8 +159,8 @@ fn drop_constant(pool: &Pool, tested: NumberTest) -> NumberTest
     }
 }
 
-/// The test of a condition against a number, if it is one. A sum or a difference with a constant that is compared for equality
-/// is a test of the other operand.
+/// The test of a condition against a number, if it is one. A sum or a difference with a constant that is compared for
+/// equality is a test of the other operand.
 fn number_test(pool: &Pool, cond: &Cond) -> Option<NumberTest>
     requires node { cond.now.node.0 < length pool.now }
     requires other { cond.now.other.0 < length pool.now }
@@ -215,8 +217,9 @@ fn push_cuts_of_cond(
     Ok(())
 }
 
-/// Whether a condition needs no cut besides those beside the only number of a word: it is about that word, and no test of bits,
-/// which has an axis of its own.
+/// Whether a condition needs no cut of its own. It needs none where it is about `single`, a word of which newer
+/// conditions leave only one number: the cuts on both sides of that number are enough. A test of bits always needs one,
+/// since it has an axis of its own.
 fn needs_no_cut(single: Option<NodeId>, cond: &Cond) -> bool
     ensures { IsTrue result ↔ NeedsNoCut single cond.now }
 {
@@ -242,7 +245,8 @@ fn newest_to_cut(piece: &Piece, single: Option<NodeId>, end: usize) -> Option<us
     None
 }
 
-/// The word of which a condition leaves only one number. Where it leaves several, the word of a newer condition.
+/// The word of which only one number is left after one more condition: the condition's own word, if it says that this
+/// equals a constant; else `newer`, the word that newer conditions gave.
 fn single_after(newer: Option<NodeId>, pool: &Pool, cond: &Cond) -> Option<NodeId>
     requires { cond.now.other.0 < length pool.now }
     ensures said { IfSome result (λ n. (newer ≡ Some n)
@@ -260,7 +264,7 @@ fn single_after(newer: Option<NodeId>, pool: &Pool, cond: &Cond) -> Option<NodeI
     }
 }
 
-/// The cut of the window that is nearest to a cut of the whole word. One under another mask stays.
+/// A cut of a whole word, moved to the nearest number of the word's window. A cut under another mask stays.
 fn cut_within(window: Window, cut: Cut) -> Cut
     ensures axis { result.axis ≡ cut.axis }
     ensures whole { cut.axis.mask ≡ 4294967295
@@ -294,7 +298,8 @@ fn is_among_newest(cuts: &Vec<Cut>, cut: Cut) -> bool
     has(&all[newest..], cut)
 }
 
-/// Adds a cut of a piece, moved into the window of its word, unless it is one of the last two.
+/// Adds a cut of a piece, moved into the window of its word, unless it equals one of the last two that were added. This
+/// keeps many out that were moved to the same end of a window.
 fn push_moved(cuts: &mut Vec<Cut>, piece: &Piece, bits: &[FixedBits], cut: Cut) -> Result<(), Fault>
     requires bits { length bits.now ≡ 16 }
     requires word { cut.axis.word < 16 }
@@ -317,8 +322,8 @@ fn push_moved(cuts: &mut Vec<Cut>, piece: &Piece, bits: &[FixedBits], cut: Cut) 
     Ok(())
 }
 
-/// Cuts of a piece, each moved into the window of its word: of many that lie before or behind it few are left. `Memory` where
-/// an allocation is refused.
+/// Cuts of a piece, each moved into the window of its word: of many that lie before or behind it few are left. `Memory`
+/// where an allocation is refused.
 fn moved_cuts(
     alloc: Global,
     piece: &Piece,
@@ -340,9 +345,9 @@ fn moved_cuts(
     Ok(cuts)
 }
 
-/// The cuts of a piece, by its conditions on axes, the newest first: once one leaves a word only one number, older ones
-/// about it cut it nowhere else. On a plain stack some cut lies between each member and each input that is none. `Memory`
-/// where an allocation is refused.
+/// The cuts of a piece, by its conditions on axes. The newest condition is taken first: once one leaves only one number
+/// of a word, older conditions on the word aren't needed. On a plain stack some cut lies between each member and each
+/// input that is no member. `Memory` where an allocation is refused.
 pub(crate) fn cuts_of(alloc: Global, piece: &Piece) -> Result<Vec<Cut>, Fault>
     ensures plain { IfOk result (λ v. IsPlainPiece piece.now → AreCutsOf piece.now v.items) }
     ensures rule { IfOk result (λ v. AreCutsBy piece.now v.items) }

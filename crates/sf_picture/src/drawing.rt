@@ -28,7 +28,7 @@ use sf_book::Settled;
 use std::alloc::Global;
 use std::sync::Arc;
 
-/// A leaf with these labels, or none where there are none. `Memory` where an allocation is refused.
+/// The leaf with these labels; none where there is no label. `Memory` where an allocation is refused.
 fn leaf_of(sketch: &mut Sketch, labels: Vec<usize>) -> Result<Option<Branch>, Fault>
     requires right { IsRightSketch sketch.old }
     requires rising { IsNonDecreasing labels.items }
@@ -49,8 +49,8 @@ fn leaf_of(sketch: &mut Sketch, labels: Vec<usize>) -> Result<Option<Branch>, Fa
     Ok(Some(leaf))
 }
 
-/// A leaf with the labels of what is held, all or what is left, or none where there are none. `Memory` where an allocation
-/// is refused.
+/// The leaf with the labels of held regions: of all, or of those that are left, as `which` says. None where there is no
+/// label. `Memory` where an allocation is refused.
 fn leaf_of_held(
     alloc: Global,
     sketch: &mut Sketch,
@@ -76,8 +76,8 @@ fn leaf_of_held(
     Ok(leaf)
 }
 
-/// A leaf with the labels of all that is held, which is drawn early, since as many leaves were drawn as are allowed. `Memory`
-/// where an allocation is refused.
+/// A leaf with the labels of all that is held, which is drawn early, since as many leaves were drawn as are allowed.
+/// `Memory` where an allocation is refused.
 fn early_leaf_of(alloc: Global, sketch: &mut Sketch, held: &[Held]) -> Result<Option<Branch>, Fault>
     requires right { IsRightSketch sketch.old }
     requires full { sketch.old.most ≤ sketch.old.drawn }
@@ -96,8 +96,9 @@ fn early_leaf_of(alloc: Global, sketch: &mut Sketch, held: &[Held]) -> Result<Op
     leaf_of_held(alloc, sketch, held, Which::All)
 }
 
-/// A fork of these runs; the last one goes on to the greatest number of the axis. Where there is only one run, it is
-/// the branch to which that leads, and none where there is no run. `Memory` where an allocation is refused.
+/// The branch for these runs of an axis, once the last run is made to go on to the axis's greatest number. It is a
+/// fork, or, where there is only one run, the branch to which this run leads. None where there is no run. `Memory`
+/// where an allocation is refused.
 fn fork_of(sketch: &mut Sketch, axis: Axis, mut runs: Vec<Run>) -> Result<Option<Branch>, Fault>
     requires word { axis.word < 16 }
     requires right { IsRightSketch sketch.old }
@@ -132,7 +133,7 @@ struct Span {
     last: u32,
 }
 
-/// Whether nothing of a span is left to be drawn.
+/// Whether there is nothing to draw in a span: its numbers are drawn already, or it ends beyond the axis's numbers.
 fn is_past(span: Span) -> bool
     ensures past { result ≡ true → (span.last < span.first) ⊎ (span.axis.mask < span.last) }
     ensures ahead { result ≡ false → (span.first ≤ span.last)
@@ -141,8 +142,8 @@ fn is_past(span: Span) -> bool
     (span.last as u64) < span.first || span.axis.mask < span.last
 }
 
-/// What is held of the regions that have a number of a span that is to be drawn, and nothing where nothing of it is left.
-/// `Memory` where an allocation is refused.
+/// The held regions that may have members in a span, each confined to it; none where there is nothing to draw in the
+/// span. `Memory` where an allocation is refused.
 fn held_in(alloc: Global, held: &[Held], ends: &[Ends], span: Span) -> Result<Vec<Held>, Fault>
     requires word { span.axis.word < 16 }
     requires ends { AreAllEnds held.now span.axis ends.now }
@@ -159,8 +160,9 @@ fn held_in(alloc: Global, held: &[Held], ends: &[Ends], span: Span) -> Result<Ve
     Ok(inside)
 }
 
-/// Draws what is held in a span, and adds a run that leads there, unless it has no member. Answers the first number that isn't
-/// drawn then. `Memory` where an allocation is refused.
+/// Draws a span by the axes behind the place `at`, and adds a run that leads to what was drawn. `inside` are the
+/// regions that are held in the span: where none of them has a member, no run is added. Answers the first number that
+/// isn't drawn yet after that. `Memory` where an allocation is refused.
 #[cycle(draw)]
 fn draw_span(
     alloc: Global,
@@ -205,8 +207,10 @@ fn draw_span(
     Ok(span.last as u64 + 1)
 }
 
-/// Draws what is held, from the axis at a place on. None: nothing that is held has a member. `Memory` where an allocation is
-/// refused.
+/// Draws held regions by the axes from the place `at` on. They get one leaf where they have only one label, where no
+/// axis is left, or where as many leaves were drawn as are allowed. Else the next axis that they cut is parted by the
+/// cuts, and each span of it is drawn by the axes behind it. None: no held region has a member. `Memory` where an
+/// allocation is refused.
 #[cycle(draw)]
 fn draw(
     alloc: Global,
@@ -307,7 +311,8 @@ fn held_of(alloc: Global, settled: &Settled, labels: &[usize]) -> Result<Vec<Hel
     Ok(held)
 }
 
-/// Where the picture of what is held begins. `Memory` where an allocation is refused.
+/// Draws held regions by all axes that they cut, and answers where the picture begins. That is a leaf without labels
+/// where nothing was drawn, since no region has a member. `Memory` where an allocation is refused.
 fn root_of(alloc: Global, sketch: &mut Sketch, held: &[Held]) -> Result<Branch, Fault>
     requires right { IsRightSketch sketch.old }
     requires empty { sketch.old.leaves ≡ [] }
@@ -331,15 +336,16 @@ fn root_of(alloc: Global, sketch: &mut Sketch, held: &[Held]) -> Result<Branch, 
     Ok(root)
 }
 
-/// The picture of an exploration, with a label for each region: each member of a region is shown the region's label. Where
-/// nothing is outstanding, each input is a member of one region, and so lies at a leaf with its label.
+/// The picture of an exploration, with a label for each region: each member of a region is shown the region's label.
+/// Where nothing is outstanding, each input is a member of one region, and so lies at a leaf with its label.
 ///
-/// Axes come in a fixed order, each cut where the regions' conditions change their results. Once `leaves` leaves are drawn,
-/// equal ones counted again, no fork is begun any more. Each branch that is left gets a leaf with all its labels, and the
-/// picture is spent if such a leaf has forks left out. So it is spent only where `leaves` leaves were drawn.
+/// Axes come in a fixed order, each cut where the regions' conditions change their results. Once `leaves` leaves are
+/// drawn, equal ones counted again, no fork is begun any more: a branch with several labels that has axes left gets a
+/// leaf with all these labels, and the picture is spent. It is spent only in this case.
 ///
-/// On a plain stack no leaf of a picture that isn't spent has two labels, and some member of a region lies at each leaf. On
-/// another stack a leaf has several labels also where what is known of regions doesn't separate them.
+/// On a plain stack no leaf of a picture that isn't spent has two labels; and if there are regions, some member of one
+/// lies at each leaf, also of a spent picture. On another stack a leaf has several labels also where what is known of
+/// regions doesn't separate them.
 ///
 /// The caller's condition: there is a label for each region. `Memory` where an allocation is refused.
 pub fn picture_of(

@@ -1,4 +1,4 @@
-//! Between which numbers an axis lies, by what is known of its word.
+//! Ends: the numbers between which inputs lie on an axis, by what is known of its word.
 
 ghost use Rattle.std.specs.Prelude.{◌≡◌, ◌<◌, ◌≤◌, ◌^◌, ◌⊎◌, ◌-◌, ℕ, true, bit_and};
 ghost use Rattle.sf_dom.specs.Known.{Admits, HasBits};
@@ -30,7 +30,7 @@ fn ends_of_bits(zeros: u32, ones: u32, mask: u32) -> Ends
 }
 
 impl Ends {
-    /// Those of an axis of a word of which this is known.
+    /// The ends on an axis, where this is known of its word.
     pub(crate) fn of(known: Known, axis: Axis) -> Ends
         ensures between { (n : ℕ) → n < 2 ^ 32 → Admits known n
             → (result.low ≤ bit_and n axis.mask) × (bit_and n axis.mask ≤ result.high) }

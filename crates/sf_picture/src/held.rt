@@ -1,4 +1,5 @@
-//! What is held of the regions of an exploration while a picture of it is drawn: facts, confined to spans of axes.
+//! Held regions: the regions of an exploration while a picture of it is drawn. At each fork their facts are confined to
+//! a span of its axis, so that they tell which regions may have members on the branch that is drawn.
 
 ghost use Rattle.std.specs.Prelude.{◌≡◌, ◌<◌, true, List, IfOk, IfErr, IfSome, All, Contains, MatchOption, MatchBool, map};
 ghost use Rattle.std.specs.Arc.{arc_value};
@@ -66,7 +67,8 @@ impl Source {
     }
 }
 
-/// A region, with facts that were confined to some spans of axes.
+/// A held region: a region with facts about those of its members that lie in the spans on the way from the root of the
+/// picture to the branch that is drawn.
 #[derive(Drop)]
 pub(crate) struct Held {
     source: Arc<Source>,
@@ -90,7 +92,8 @@ impl Model for Held {
 }
 
 impl Held {
-    /// A region with its own facts. `Memory` where an allocation is refused.
+    /// The region of a piece, with the piece's own facts, which aren't confined to any span yet. `Memory` where an
+    /// allocation is refused.
     pub(crate) fn of(alloc: Global, piece: Arc<Piece>, label: usize) -> Result<Held, Fault>
         ensures held { IfOk result (λ h. h ≡ record {
           piece = arc_value piece;
@@ -121,7 +124,7 @@ impl Held {
         Ok(Held { source, facts })
     }
 
-    /// The same again. `Memory` where it has too many owners.
+    /// A copy, which shares the region and the facts. `Memory` where one of these has too many owners.
     fn again(&self) -> Result<Held, Fault>
         ensures held { IfOk result (λ h. h ≡ self.now) }
         ensures err { IfErr result (λ f. f ≡ Memory) }
@@ -146,7 +149,7 @@ impl Held {
         &self.facts
     }
 
-    /// Between which numbers an axis lies, by what is known so far.
+    /// The numbers between which the members lie on an axis, by what is known of them so far.
     pub(crate) fn ends_on(&self, axis: Axis) -> Ends
         requires { axis.word < 16 }
         ensures ends { AreEndsOf self.now axis result }
@@ -172,8 +175,8 @@ impl Held {
     }
 }
 
-/// Whether conditions of a piece, learnt once more from facts of it, show that no member agrees with the facts. `Memory` where
-/// an allocation is refused.
+/// Whether conditions of a piece, learnt once more from facts of it, show that no member agrees with the facts.
+/// `Memory` where an allocation is refused.
 fn rules_out(alloc: Global, piece: &Piece, facts: &Facts) -> Result<bool, Fault>
     requires { Covers facts.now piece.now.pool }
     ensures none { IfOk result (λ b. b ≡ true → NoMemberAgrees piece.now facts.now) }
@@ -193,7 +196,8 @@ fn rules_out(alloc: Global, piece: &Piece, facts: &Facts) -> Result<bool, Fault>
     Ok(false)
 }
 
-/// Whether the region's conditions, learnt once more, show that no member is held. `Memory` where an allocation is refused.
+/// Whether the region's conditions, learnt once more, show that no member agrees with its confined facts. `Memory`
+/// where an allocation is refused.
 pub(crate) fn is_ruled_out(alloc: Global, one: &Held) -> Result<bool, Fault>
     ensures none { IfOk result (λ b. b ≡ true → (d : AnInput) → IsHeldBy one.now d → ⊥) }
     ensures rule { IfOk result (λ b. MatchBool b (¬ CanLearnAgain one.now)
@@ -204,8 +208,8 @@ pub(crate) fn is_ruled_out(alloc: Global, one: &Held) -> Result<bool, Fault>
     Ok(ruled)
 }
 
-/// The same region, confined to a span of an axis, or none where no member that is held has a number of it. `Memory` where a
-/// allocation is refused.
+/// The same region, confined to a span of an axis. None where its facts show that no member has a number of the span.
+/// `Memory` where an allocation is refused.
 fn confine_held(
     alloc: Global,
     one: &Held,
@@ -232,7 +236,8 @@ fn confine_held(
     Ok(Some(inside))
 }
 
-/// Adds what is held of a region that has a number of a span of an axis. `Memory` where an allocation is refused.
+/// Adds a held region, confined to a span of an axis, unless its facts show that no member has a number of the span.
+/// `Memory` where an allocation is refused.
 fn push_within(
     alloc: Global,
     inside: &mut Vec<Held>,
@@ -260,7 +265,7 @@ fn push_within(
     Ok(())
 }
 
-/// Between which numbers an axis lies in each of what is held. `Memory` where an allocation is refused.
+/// For each held region the numbers between which its members lie on an axis. `Memory` where an allocation is refused.
 pub(crate) fn all_ends(alloc: Global, held: &[Held], axis: Axis) -> Result<Vec<Ends>, Fault>
     requires { axis.word < 16 }
     ensures ends { IfOk result (λ v. AreAllEnds held.now axis v.items) }
@@ -274,7 +279,8 @@ pub(crate) fn all_ends(alloc: Global, held: &[Held], axis: Axis) -> Result<Vec<E
     Ok(ends)
 }
 
-/// What is held of the regions that have a number of a span of an axis, where the axis lies between these ends in each.
+/// The held regions that may have members with a number in a span of an axis, each confined to the span. `ends` are the
+/// regions' ends on the axis: a region whose ends miss the span is left out at once, without a copy of its facts.
 /// `Memory` where an allocation is refused.
 pub(crate) fn held_within(
     alloc: Global,

@@ -12,12 +12,12 @@ use crate::held::{Held, is_ruled_out};
 use std::alloc::Global;
 use std::collections::BTreeSet;
 
-/// Whose labels are gathered, of all that is held.
+/// The held regions whose labels are gathered.
 #[derive(Clone, Copy, Debug, PartialEq, Eq)]
 pub(crate) enum Which {
     /// All.
     All,
-    /// What is left, where conditions that are learnt once more rule some out.
+    /// Those that are left: their conditions, learnt once more, don't contradict their confined facts.
     Left,
 }
 
@@ -44,7 +44,7 @@ fn insert_label(labels: &mut BTreeSet<usize>, label: usize) -> Result<(), Fault>
     Ok(())
 }
 
-/// Whether `which` leaves out the label of something held. `Memory` where an allocation is refused.
+/// Whether `which` leaves out the label of a held region. `Memory` where an allocation is refused.
 fn is_left_out(alloc: Global, one: &Held, which: Which) -> Result<bool, Fault>
     ensures none { IfOk result (λ b. b ≡ true → (d : AnInput) → IsHeldBy one.now d → ⊥) }
     ensures rule { IfOk result (λ b. MatchBool b (¬ IsGathered which one.now)
@@ -57,7 +57,8 @@ fn is_left_out(alloc: Global, one: &Held, which: Which) -> Result<bool, Fault>
     }
 }
 
-/// Adds the label of what is held, unless it is there, or `which` leaves it out. `Memory` where an allocation is refused.
+/// Adds the label of a held region, unless the label is there already or `which` leaves it out. `Memory` where an
+/// allocation is refused.
 fn insert_label_of(
     alloc: Global,
     labels: &mut BTreeSet<usize>,
@@ -93,7 +94,7 @@ fn have_label(held: &[Held], label: usize) -> bool
     held.iter().all(|one| one.label() == label)
 }
 
-/// Whether all that is held has one label.
+/// Whether no two held regions have different labels. True also where none is held.
 pub(crate) fn is_one_label(held: &[Held]) -> bool
     ensures { IsTrue result ↔ AreOneLabel held.now }
 {
@@ -113,7 +114,8 @@ fn list_of(alloc: Global, labels: BTreeSet<usize>) -> Result<Vec<usize>, Fault>
     Ok(labels.into_iter().collect(alloc)?)
 }
 
-/// The labels of what is held, all or what is left, each once, in rising order. `Memory` where an allocation is refused.
+/// The labels of held regions, of all or of those that are left, each once, in rising order. `Memory` where an
+/// allocation is refused.
 pub(crate) fn labels_of(alloc: Global, held: &[Held], which: Which) -> Result<Vec<usize>, Fault>
     ensures labels { IfOk result (λ v. All (λ (h : HeldData). (d : AnInput) → IsHeldBy h d
         → Contains v.items h.label) held.now) }

@@ -20,7 +20,7 @@ fn is_cut_of(cut: Cut, axis: Axis) -> bool
     cut.axis == axis && cut.last < axis.mask
 }
 
-/// Adds the last number below a cut, if it is of the axis.
+/// Adds the last number below a cut, if the cut is of the axis and has numbers on both sides.
 fn push_last(lasts: &mut Vec<u32>, cut: Cut, axis: Axis) -> Result<(), Fault>
     ensures has { IfOk result (λ _. cut.axis ≡ axis → cut.last < axis.mask
         → Contains lasts.new.items cut.last) }
@@ -38,7 +38,7 @@ fn push_last(lasts: &mut Vec<u32>, cut: Cut, axis: Axis) -> Result<(), Fault>
     Ok(())
 }
 
-/// Adds the last numbers below the cuts that something held has on the axis.
+/// Adds the last numbers below the cuts that a held region has on the axis.
 fn push_lasts(lasts: &mut Vec<u32>, one: &Held, axis: Axis) -> Result<(), Fault>
     ensures has { IfOk result (λ _. (c : ACut) → Contains one.now.cuts c → c.axis ≡ axis
         → c.last < axis.mask → Contains lasts.new.items c.last) }
@@ -55,8 +55,8 @@ fn push_lasts(lasts: &mut Vec<u32>, one: &Held, axis: Axis) -> Result<(), Fault>
     Ok(())
 }
 
-/// The last numbers of the spans into which what is held cuts an axis, in rising order. The greatest number of the axis is
-/// the last one of all. `Memory` where an allocation is refused.
+/// The last numbers of the spans into which held regions cut an axis, each once, in rising order. The greatest number
+/// of the axis is the last one of all. `Memory` where an allocation is refused.
 pub(crate) fn lasts_of(alloc: Global, held: &[Held], axis: Axis) -> Result<Vec<u32>, Fault>
     ensures lasts { IfOk result (λ v. AreLasts held.now axis v.items) }
     ensures rule { IfOk result (λ v. AreLastsBy held.now axis v.items) }

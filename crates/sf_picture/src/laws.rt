@@ -23,7 +23,8 @@ pub fn each_input_lies_at_one_leaf()
         × ((other : ℕ) → LiesAtLeaf p d other → other ≡ place) }
 {}
 
-/// Where a picture shows an input at most one label, it shows that of the region of which the input is a member, and no other.
+/// Where a picture shows an input at most one label, it shows that of the region of which the input is a member, and no
+/// other.
 pub fn one_label_is_that_of_the_region()
     ensures { (s : BookData) (labels : List ℕ) (p : PictureData) (place : ℕ) (r : RegionData)
         (d : Input) → ShowsLabels s labels p → length (labels_at p d) ≤ 1
@@ -46,8 +47,8 @@ pub fn one_picture_has_one_meaning()
         → (a : Answer) × Answers s.stack d a × Answers t.stack d a }
 {}
 
-/// By the rules a stack whose exploration ended with nothing outstanding has one picture, whatever the exploration's budget
-/// was, and in whatever order the works came: the labels of its regions and the limit of leaves decide it.
+/// By the rules a stack whose exploration ended with nothing outstanding has one picture, whatever the exploration's
+/// budget was, and in whatever order the works came: the labels of its regions and the limit of leaves decide it.
 pub fn pictures_have_one_result()
     ensures { HaveOnePicture }
 {

@@ -119,8 +119,8 @@ impl Picture {
         self.root
     }
 
-    /// Whether leaves were drawn early, each with all labels that were left there, since as many leaves were drawn as are
-    /// allowed.
+    /// Whether leaves were drawn early, since as many leaves were drawn as are allowed. Such a leaf has all labels that
+    /// may come there, although axes were left that might have parted them.
     pub fn is_spent(&self) -> bool
         ensures value { result ≡ self.now.spent }
         ensures lawful { IsPicture self.now }

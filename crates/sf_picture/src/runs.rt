@@ -33,7 +33,8 @@ fn ends_at(runs: &Vec<Run>, next: Branch) -> bool
     is_same(last.next, next)
 }
 
-/// Adds a run, or lets the one before it go on where both lead to the same. `Memory` where an allocation is refused.
+/// Adds a run that goes to `last` and leads to `next`. Where the newest run leads to `next` already, it is made to go
+/// on to `last` instead. `Memory` where an allocation is refused.
 pub(crate) fn push_run(runs: &mut Vec<Run>, last: u32, next: Branch) -> Result<(), Fault>
     ensures added { IfOk result (λ _. (leaves forks first : ℕ) → first ≤ last
         → AreRuns leaves forks first runs.old.items → IsBelow leaves forks next
@@ -52,7 +53,7 @@ pub(crate) fn push_run(runs: &mut Vec<Run>, last: u32, next: Branch) -> Result<(
     Ok(())
 }
 
-/// Lets the last run go on to a number, or does nothing where there is none. The number of runs stays.
+/// Makes the last run go on to the number `last`. Where there is no run, nothing is changed.
 pub(crate) fn close_runs(runs: &mut Vec<Run>, last: u32)
     ensures count { length runs.new.items ≡ length runs.old.items }
     ensures closed { (leaves forks : ℕ) → AreRuns leaves forks (last + 1) runs.old.items

@@ -80,7 +80,7 @@ impl Sketch {
     ghost use Rattle.sf_picture.specs.DrawnBy.{IsFirstAt, DrawsLeaf, DrawsFork, empty_sketch};
     ghost use Rattle.sf_picture.specs.Drawing.{Grows, AddsLeaf, IsLeafOf, IsForkOf, IsRightSketch};
 
-    /// Nothing is drawn yet. After this many leaves no fork is to be begun.
+    /// A sketch with nothing drawn. Once `most` leaves are drawn, no fork is to be begun any more.
     pub(crate) fn new(alloc: Global, most: usize) -> Sketch
         ensures right { IsRightSketch result }
         ensures empty { result.leaves ≡ [] }
@@ -97,14 +97,14 @@ impl Sketch {
         }
     }
 
-    /// Whether as many leaves were drawn as forks are begun for.
+    /// Whether as many leaves were drawn as are allowed. The caller then begins no fork any more.
     pub(crate) fn is_full(&self) -> bool
         ensures { IsTrue result ↔ (self.now.most ≤ self.now.drawn) }
     {
         self.most <= self.drawn
     }
 
-    /// Keeps in mind that a leaf is drawn early.
+    /// Marks the sketch as spent: a leaf is drawn early, since as many leaves were drawn as are allowed.
     pub(crate) fn spend(&mut self)
         requires { self.old.most ≤ self.old.drawn }
         ensures { self.new ≡ record self.old { spent = true } }
@@ -112,7 +112,7 @@ impl Sketch {
         self.spent = true;
     }
 
-    /// The place of an equal leaf.
+    /// The first place of a leaf with these labels; none where there is no such leaf.
     fn find_leaf(&self, labels: &[usize]) -> Option<usize>
         ensures some { IfSome result (λ i. (i < length self.now.leaves)
             × (slice_index_or self.now.leaves i [] ≡ labels.now)) }
@@ -127,7 +127,8 @@ impl Sketch {
         None
     }
 
-    /// A leaf with these labels, which are in rising order. `Memory` where an allocation is refused.
+    /// The leaf with these labels: one that is there already, or else a new one. It counts as drawn in both cases. The
+    /// caller's condition: the labels are in rising order. `Memory` where an allocation is refused.
     pub(crate) fn leaf(&mut self, labels: Vec<usize>) -> Result<Branch, Fault>
         requires { IsNonDecreasing labels.items }
         ensures grows { IfOk result (λ _. Grows self.old self.new) }
@@ -148,7 +149,7 @@ impl Sketch {
         Ok(Branch::Leaf(place))
     }
 
-    /// The place of an equal fork.
+    /// The first place of a fork on this axis with these runs; none where there is no such fork.
     fn find_fork(&self, axis: Axis, runs: &[Run]) -> Option<usize>
         ensures some { IfSome result (λ i. (i < length self.now.forks)
             × (fork_at self.now.forks i ≡ record { axis = axis; runs = runs.now })) }
@@ -165,7 +166,8 @@ impl Sketch {
         None
     }
 
-    /// A fork of these runs. `Memory` where an allocation is refused.
+    /// The fork on this axis with these runs: one that is there already, or else a new one. `Memory` where an
+    /// allocation is refused.
     pub(crate) fn fork(&mut self, axis: Axis, runs: Vec<Run>) -> Result<Branch, Fault>
         requires { IsRightFork (length self.old.leaves) (length self.old.forks)
             (record { axis = axis; runs = runs.items }) }

@@ -8,7 +8,8 @@ use crate::axis::Axis;
 use sf_dom::Known;
 use sf_insn::Test;
 
-/// The bits of a word that tests under masks fix: on each member of a piece those of `zeros` are 0, and those of `ones` 1.
+/// The bits of a word that tests under masks fix: on each member of a piece those of `zeros` are 0, and those of `ones`
+/// 1.
 #[derive(Clone, Copy)]
 pub(crate) struct FixedBits {
     zeros: u32,
@@ -23,7 +24,7 @@ impl FixedBits {
         FixedBits { zeros: 0, ones: 0 }
     }
 
-    /// More bits.
+    /// These bits, and further ones.
     fn and(self, zeros: u32, ones: u32) -> FixedBits
         ensures { result ≡ with_bits self zeros ones }
     {
@@ -33,7 +34,7 @@ impl FixedBits {
         }
     }
 
-    /// These, and those that a test of an axis of the word against a number fixes, which has the result `sense`.
+    /// These bits, and those that are fixed by the result `sense` of a test of an axis of the word against a number.
     pub(crate) fn and_by_test(self, axis: Axis, test: Test, number: u32, sense: bool) -> FixedBits
         ensures { result ≡ fixed_by self axis test number sense }
     {
@@ -46,7 +47,7 @@ impl FixedBits {
         }
     }
 
-    /// Whether a number has them.
+    /// Whether a number has the values of the fixed bits.
     fn allow(self, number: u32) -> bool
         ensures { result ≡ has_fixed self number }
     {
@@ -54,10 +55,12 @@ impl FixedBits {
     }
 }
 
-/// A window of a word, for a piece: the cuts of the word that lie in it stay where they are. It begins with the last number
-/// below those of the piece, and ends with the last number of the piece. A cut before it is moved to its first number, and
-/// one behind it to its last: there the piece has a cut anyway, unless tests of bits rule out the number next to it. Then
-/// the window goes on to the end of all numbers, since the piece may have its cut anywhere beyond.
+/// A window of a word, for a piece. The piece's cuts of the word that lie in it stay where they are. A cut before it is
+/// moved to its first number, and one behind it to its last, which leaves fewer cuts to draw.
+///
+/// The window goes from the number right below those of the piece to the greatest number of the piece: at these two the
+/// piece has cuts anyway. But where tests of bits rule out the number next to the piece on a side, the piece may have
+/// its cut anywhere beyond: on this side the window goes on to the end of all numbers.
 #[derive(Clone, Copy)]
 pub(crate) struct Window {
     first: u32,
@@ -89,7 +92,7 @@ fn last_of(high: u32, bits: FixedBits) -> u32
 }
 
 impl Window {
-    /// The window of a word of which this is known.
+    /// The window of a word, where this is known of it and tests fix these bits of it.
     pub(crate) fn of(known: Known, bits: FixedBits) -> Window
         ensures around { IsWindow result known.low known.high }
         ensures rule { result ≡ window_of known bits }

@@ -1,4 +1,4 @@
-//! The instructions that may ask for a truth value of the trace.
+//! Symbolic execution of the instructions that may meet truth values: operations, tests and returns of A.
 
 ghost use Rattle.std.specs.Prelude.{◌≡◌, ℕ, ◌<◌, ◌^◌, IfOk, IfSome};
 ghost use Rattle.sf_piece.specs.SymbolicRun.{IsLawfulPiece};
@@ -19,7 +19,7 @@ use sf_insn::{BinOp, Test};
 use sf_sym::{Cond, Node};
 use std::alloc::Global;
 
-/// Whether the operation asks first whether X is 0.
+/// Whether the operation has to ask first whether X is 0: it divides by X, and that truth value isn't in the name yet.
 fn asks_zero(op: BinOp, other: Operand, taken: usize) -> bool
     ensures { result ≡ divides_at op other taken }
 {
@@ -29,8 +29,8 @@ fn asks_zero(op: BinOp, other: Operand, taken: usize) -> bool
     }
 }
 
-/// The number that A is tested against: a constant, or the number of X, where it has only one and no known bits would
-/// go back from it.
+/// The number that A is tested against: a constant, or the number of X, where X has only one and no known bits would go
+/// back from it. `None` otherwise.
 fn number_against(run: &Run, other: Operand) -> Option<u32>
     requires { IsLawfulPiece run.now }
     ensures value { IfSome result (IsOperandNumber run.now other) }
@@ -50,8 +50,8 @@ fn number_against(run: &Run, other: Operand) -> Option<u32>
     }
 }
 
-/// What the facts say of a test of A: the truth value that it has on every member, where nothing can be learnt from
-/// it. None where the facts leave it open.
+/// The result of a test of A, where it is told: every member has it, and nothing can be learnt from it. `None` where it
+/// isn't told; the facts may then still imply a result.
 fn foresee(run: &Run, test: Test, other: Operand) -> Option<bool>
     requires { IsLawfulPiece run.now }
     ensures value { IfSome result (λ b. PassesAlways run.now test other b) }
@@ -65,7 +65,7 @@ fn foresee(run: &Run, test: Test, other: Operand) -> Option<bool>
 }
 
 /// An operation on A, whose result is put in A as a node. A division by X first asks whether X is 0, unless the name
-/// has already that it isn't.
+/// says already that it isn't.
 pub(crate) fn alu(
     alloc: Global,
     run: &mut Run,
@@ -138,8 +138,8 @@ pub(crate) fn branch(
     carry_out(run, insn, decision)
 }
 
-/// A return of A, which meets the 32 bits of A, the highest first. Each bit that isn't in the name yet is taken where
-/// the facts give it, and else learnt as false and as true. When all are in the name, the program is left.
+/// A return of A, which meets the 32 bits of A, the highest first. Each call goes on by the next bit. Where it is told,
+/// it is added to the name; else it is learnt as false and as true. When all are in the name, the program is left.
 pub(crate) fn return_a(alloc: Global, run: &mut Run) -> Result<SmallStep, Fault>
     requires lawful { IsLawfulPiece run.old }
     requires standing { HasAtHand run.old Insn.ReturnA }

@@ -27,9 +27,9 @@ fn failing_skips(insn: Insn, known: Known) -> Option<u8>
     }
 }
 
-/// How many tests in a row are known to fail from this place on, each where the one before leads, and the place behind
-/// them; each tests whether A equals a number. They are looked up where A has only one number. Where it may have more,
-/// the answer is no test: the caller looks at each instruction.
+/// How many tests whether A equals a number are known to fail in a row from this place on, each standing where the one
+/// before leads, and the place behind them. They are looked up, which needs A to have only one number. Where A may have
+/// several, the count is 0, and the caller looks at each instruction.
 fn skip_others(program: &Program, place: usize, known: Known) -> Passed
     requires { place < length program.now }
     ensures { AreFailing program.now known result.count place result.behind }

@@ -44,14 +44,15 @@ pub(crate) enum Decision {
     Neither,
 }
 
-/// How many instructions a test skips.
+/// How many instructions a test skips where its result is `sense`.
 fn skip_count(on_true: u8, on_false: u8, sense: bool) -> u8
     ensures { result ≡ (if sense then on_true else on_false) }
 {
     if sense { on_true } else { on_false }
 }
 
-/// Where the machine stands after the truth value.
+/// The machine after this truth value of an instruction. A test skips instructions, and a return of A has one more bit.
+/// At a division by X the program returns 0 where X is 0; else the machine stays there, and can now divide.
 fn machine_after(run: &Run, insn: Insn, sense: bool) -> SymbolicMachine
     requires standing { HasAtHand run.now insn }
     requires asks { Asks run.now insn }
@@ -125,7 +126,7 @@ fn child(run: &Run, insn: Insn, cond: Cond, sense: bool, facts: Facts) -> Result
     })
 }
 
-/// The piece's facts, with what this truth value of the condition says; none where that contradicts them.
+/// The piece's facts, with what follows from this truth value of the condition; `None` where it contradicts them.
 fn child_facts(alloc: Global, run: &Run, cond: Cond, sense: bool) -> Result<Option<Facts>, Fault>
     requires lawful { IsLawfulPiece run.now }
     requires below { IsCondBelow (length run.now.pool) cond }
@@ -143,7 +144,7 @@ fn child_facts(alloc: Global, run: &Run, cond: Cond, sense: bool) -> Result<Opti
 }
 
 /// Learns the next truth value as false and as true, each from the same facts, and says which of them the facts leave.
-/// The run has nodes for both words of the condition.
+/// `asked` is the run that has nodes for both words of the condition.
 pub(crate) fn decide(alloc: Global, asked: &Run, insn: Insn, cond: Cond) -> Result<Decision, Fault>
     requires lawful { IsLawfulPiece asked.now }
     requires standing { HasAtHand asked.now insn }
@@ -165,7 +166,8 @@ pub(crate) fn decide(alloc: Global, asked: &Run, insn: Insn, cond: Cond) -> Resu
     Ok(Decision::Split(false_run, true_run))
 }
 
-/// Goes on as was decided: an implied truth value is added to the name, and nothing else changes.
+/// Goes on as was decided. An implied truth value is added to the name and moves the machine; the pool, the conditions
+/// and the facts stay as they are.
 pub(crate) fn carry_out(run: &mut Run, insn: Insn, decision: Decision) -> Result<SmallStep, Fault>
     requires lawful { IsLawfulPiece run.old }
     requires standing { HasAtHand run.old insn }

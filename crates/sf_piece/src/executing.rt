@@ -22,7 +22,8 @@ use sf_check::Insn;
 use sf_sym::{Node, NodeId};
 use std::alloc::Global;
 
-/// Runs one instruction, or takes one truth value that it asks for first.
+/// Runs one instruction, or takes one truth value of it. A test that is told also takes the tests behind it that are
+/// known to fail.
 pub(crate) fn execute(alloc: Global, run: &mut Run) -> Result<SmallStep, Fault>
     requires { IsLawfulPiece run.old }
     ensures step { IfOk result (IsSmallStep run.old run.new) }

@@ -4,7 +4,7 @@ ghost use Rattle.sf_piece.specs.OneExecution.{IsExecutionOne};
 
 use sf_dom::rules_have_one_result;
 
-/// A stack has one execution tree: by the rules a piece has one step, and the tree has one piece of a name.
+/// A stack has one execution tree: by the rules a piece has at most one step, and no two pieces have the same name.
 pub fn execution_has_one_result()
     ensures { IsExecutionOne }
 {

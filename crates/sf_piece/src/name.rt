@@ -10,8 +10,9 @@ use std::alloc::{AllocError, Global};
 use std::cmp::{Ordering, Reverse};
 use std::marker::Model;
 
-/// For each true of a name, the first one first, how many falses are right before it: false is before true, so the
-/// longer run is first. Full blocks of 16 are shared by all names that go on from one name.
+/// For each true of a name, in order, how many falses are right before it. These numbers are compared in reverse, since
+/// false comes before true: of two names, the one with the longer run comes first. Names that go on from one name share
+/// its full blocks of 16.
 type Runs = SharedList<Reverse<u32>, 2>;
 
 /// A list of truth values. A path meets false far more often than true, so a run of falses is kept as its length.
@@ -60,7 +61,7 @@ impl Name {
             .then(self.rest.cmp(&other.rest))
     }
 
-    /// The same name again, which shares the full blocks of runs. `AllocError` where an allocation is refused.
+    /// A copy of the name, which shares the full blocks of runs. `AllocError` where an allocation is refused.
     pub(crate) fn fork(&self) -> Result<Name, AllocError>
         ensures { IfOk result (λ n. n ≡ self.now) }
     {
@@ -70,8 +71,8 @@ impl Name {
         })
     }
 
-    /// The name with one truth value more. `AllocError` where an allocation is refused, or where 2^32 falses would stand
-    /// in a run.
+    /// The name with one truth value more. `AllocError` where an allocation is refused, or where 2^32 falses would
+    /// stand in a run.
     pub(crate) fn with_truth(&self, value: bool) -> Result<Name, AllocError>
         ensures { IfOk result (λ n. n ≡ self.now ++ value ∷ []) }
     {
@@ -80,8 +81,8 @@ impl Name {
         Ok(longer)
     }
 
-    /// Adds a truth value at the end. `AllocError` where an allocation is refused, or where 2^32 falses would stand in a
-    /// run: the name is as it was then.
+    /// Adds a truth value at the end. `AllocError` where an allocation is refused, or where 2^32 falses would stand in
+    /// a run: the name is as it was then.
     pub(crate) fn push(&mut self, value: bool) -> Result<(), AllocError>
         ensures ok { OnOk result (self.new ≡ self.old ++ value ∷ []) }
         ensures err { OnErr result (self.new ≡ self.old) }
@@ -93,7 +94,8 @@ impl Name {
         }
     }
 
-    /// Adds a true at the end, which ends the last run.
+    /// Adds a true at the end, which ends the last run. `AllocError` where an allocation is refused: the name is as it
+    /// was then.
     fn push_true(&mut self) -> Result<(), AllocError>
         ensures ok { OnOk result (self.new ≡ self.old ++ true ∷ []) }
         ensures err { OnErr result (self.new ≡ self.old) }
@@ -103,7 +105,8 @@ impl Name {
         Ok(())
     }
 
-    /// Adds this many falses at the end. `AllocError` where 2^32 falses would stand in a run: the name is as it was then.
+    /// Adds this many falses at the end. `AllocError` where 2^32 falses would stand in a run: the name is as it was
+    /// then.
     pub(crate) fn push_falses(&mut self, count: usize) -> Result<(), AllocError>
         ensures ok { OnOk result (self.new ≡ self.old ++ replicate count false) }
         ensures err { OnErr result (self.new ≡ self.old) }

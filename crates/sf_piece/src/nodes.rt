@@ -15,7 +15,8 @@ use sf_check::Operand;
 use sf_sym::{Node, NodeId};
 use std::alloc::Global;
 
-/// Puts a node in the pool. None where its facts contradict: there is no member then.
+/// Puts a node in the pool, and takes it into the facts. `None` where what is known of it contradicts: the piece has no
+/// member then.
 pub(crate) fn push(alloc: Global, run: &mut Run, node: Node) -> Result<Option<NodeId>, Fault>
     requires lawful { IsLawfulPiece run.old }
     requires below { OperandsBelow (length run.old.pool) node }

@@ -18,7 +18,8 @@ use std::sync::Arc;
 pub(crate) type Conditions = SharedList<Cond, 1>;
 
 /// The run behind a piece: what is in its name and its conditions so far, where the machine stands, and what is known
-/// of its words. It is changed in place, and between two steps it needn't be lawful; a piece keeps a lawful one.
+/// of its words. It is changed in place. Its type doesn't say that it is lawful: functions that need this ask for it,
+/// and a piece keeps a lawful one.
 #[derive(Drop)]
 pub struct Run {
     pub(crate) stack: Arc<Stack>,
@@ -64,7 +65,7 @@ impl Run {
         })
     }
 
-    /// The program at hand, or none where the last one has returned.
+    /// The program that runs now; `None` where the last one has returned.
     pub(crate) fn program(&self) -> Option<&Program>
         requires { IsLawfulPiece self.now }
         ensures { MatchOption result (length self.now.stack ≤ self.now.machine.program)
@@ -79,7 +80,7 @@ impl Run {
         }
     }
 
-    /// The instruction at hand, or none where the last program has returned.
+    /// The instruction that comes next; `None` where the last program has returned.
     pub(crate) fn insn(&self) -> Option<Insn>
         requires { IsLawfulPiece self.now }
         ensures right { MatchOption result (IsRightAnswer self.now self.now.name

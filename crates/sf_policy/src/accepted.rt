@@ -41,11 +41,11 @@ fn is_name_once(questions: &[Question], name: &str) -> bool
     named.count() == 1
 }
 
-/// The names of the questions that may be allowed, by the text of their file: each line has one name or none, and a `#` at
-/// its beginning or after a space begins a comment.
+/// The names of the questions that may be allowed, by the text of their file: each line has one name or none, and a `#`
+/// at its beginning or after a space begins a comment.
 ///
-/// `Accepted` at the first line that has more than one word, or a word that isn't the name of just one of the questions;
-/// `Memory` where an allocation is refused.
+/// `Accepted` at the first line that has more than one word, or a word that isn't the name of just one of the
+/// questions; `Memory` where an allocation is refused.
 pub fn read_accepted(
     alloc: Global,
     text: &str,

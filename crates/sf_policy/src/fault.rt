@@ -7,9 +7,9 @@ ghost use Rattle.sf_policy.specs.Faults.{fault_number};
 use std::alloc::{AllocError, AllocFailed};
 use thiserror::Error;
 
-/// Why a policy, a filter, a profile, a file of names, an input or a report was refused. Filters, questions and rules are
-/// numbered from 1 in the order in which they were given, instructions from 0. The text of a fault is its number, its
-/// name and its place.
+/// Why a policy, a filter, a profile, a file of names, an input or a report was refused. Filters, questions and rules
+/// are numbered from 1 in the order in which they were given, instructions from 0. The text of a fault is its number,
+/// its name and its place.
 #[derive(Clone, Copy, Debug, PartialEq, Eq, Error)]
 pub enum Fault {
     /// The length of a filter's bytes is no multiple of 8.
@@ -75,8 +75,8 @@ pub enum Fault {
     /// A word of a question has a value with a bit outside its mask.
     #[error("48 Mask question {question}")]
     Mask { question: usize },
-    /// A file of names has an unknown key, lacks one, has a value of a wrong kind, or a name that isn't 1 to 64 letters,
-    /// digits and `_`; or it has a set of a name that an earlier file has.
+    /// A file of names has an unknown key, lacks one, has a value of a wrong kind, or a name that isn't 1 to 64
+    /// letters, digits and `_`; or it has a set of a name that an earlier file has.
     #[error("41 Key")]
     NamesKey,
     /// A file of names has a number outside 32 bits.

@@ -22,7 +22,8 @@ fn fault_of_decoding(filter: usize, fault: sf_insn::Fault) -> Fault
     }
 }
 
-/// A fault of the program of a filter, with the filter's number, from 1; or of the stack whose last filter it is.
+/// The fault of a filter's program, with the filter's number, from 1. A fault of the whole stack (`NoFilter`,
+/// `TooMany`, `PathLength`) has no number.
 fn fault_of_checking(filter: usize, fault: sf_check::Fault) -> Fault
     ensures { result ≡ check_fault filter fault }
 {

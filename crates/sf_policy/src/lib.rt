@@ -1,5 +1,5 @@
-//! What an audit is asked and given, before any stack is explored: the questions of a policy file, the stack that filter
-//! files spell, faults, and the texts that several reports share.
+//! What an audit is asked and given, before any stack is explored: the questions of a policy file, the stack that
+//! filter files spell, faults, and the texts that several reports share.
 #![tactic(auto)]
 
 mod accepted;

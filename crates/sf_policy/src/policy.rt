@@ -62,8 +62,8 @@ fn tables_in(value: &Value) -> Option<&[Value]>
 }
 
 /// The questions of a policy's tree. `Version`; then `TopKey` where a key at the top is unknown; `Count` where the
-/// questions are missing; `TopKey` where they are no array of tables; `Count` where there is none or more than 256; then
-/// what `questions_in` refuses.
+/// questions are missing; `TopKey` where they are no array of tables; `Count` where there is none or more than 256;
+/// then what `questions_in` refuses.
 fn policy_of_table(alloc: Global, table: &Table) -> Result<Vec<Question>, Fault>
     ensures { Gives (λ v. v.items) result (policy_of (table_view table.now)) }
 {

@@ -20,7 +20,7 @@ fn is_text_among(items: &[Value], text: &str) -> bool
     items.iter().any(|value| text == text_of(value))
 }
 
-/// Whether one of the values is this text. For the prover: over the texts.
+/// The same as `is_text_among`. For the prover: its clause speaks of the texts of the values, as the definitions do.
 fn has_text(items: &[Value], text: &str) -> bool
     ensures { result ≡ list_any (bytes_eq text.now) (map text_of (map view items.now)) }
 {
@@ -48,7 +48,7 @@ fn has_each_cap(settings: &Settings, items: &[Value]) -> bool
     items.iter().all(|value| settings.has_cap(text_of(value)))
 }
 
-/// Whether the container has all capabilities that values name. For the prover: over the texts.
+/// The same as `has_each_cap`. For the prover: its clause speaks of the texts of the values, as the definitions do.
 fn has_caps(settings: &Settings, items: &[Value]) -> bool
     ensures { result ≡ list_all (has_cap settings.now) (map text_of (map view items.now)) }
 {
@@ -62,14 +62,15 @@ fn has_some_cap(settings: &Settings, items: &[Value]) -> bool
     items.iter().any(|value| settings.has_cap(text_of(value)))
 }
 
-/// Whether the container has one of the capabilities that values name. For the prover: over the texts.
+/// Whether the container has one of the capabilities that values name. For the prover: its clause speaks of their
+/// texts.
 fn has_a_cap(settings: &Settings, items: &[Value]) -> bool
     ensures { result ≡ list_any (has_cap settings.now) (map text_of (map view items.now)) }
 {
     has_some_cap(settings, items)
 }
 
-/// Whether the kernel is the one that is asked for, or newer.
+/// Whether the kernel's version is `least` or newer. False where one of the two isn't known.
 fn is_new_enough(kernel: Option<Version>, least: Option<Version>) -> bool
     ensures { result ≡ is_new_enough kernel least }
 {
@@ -90,7 +91,8 @@ fn fits_kernel(absent: bool, settings: &Settings, value: &Value) -> bool
     }
 }
 
-/// Whether the machine, the container and the kernel are what a rule includes.
+/// Whether a rule's `includes` holds: the machine is among those that it names, if it names some; the container has all
+/// its capabilities; and the kernel is new enough. It holds where it is absent.
 fn is_included(settings: &Settings, value: &Value) -> bool
     ensures { result ≡ is_included settings.now (at (codes "includes") (view value.now)) }
 {
@@ -102,7 +104,8 @@ fn is_included(settings: &Settings, value: &Value) -> bool
         && fits_kernel(true, settings, condition)
 }
 
-/// Whether the machine, the container or the kernel is what a rule excludes.
+/// Whether a rule's `excludes` holds: it names the machine, or the container has one of its capabilities, or the kernel
+/// is as new as its `minKernel`. It doesn't hold where it is absent.
 fn is_excluded(settings: &Settings, value: &Value) -> bool
     ensures { result ≡ is_excluded settings.now (at (codes "excludes") (view value.now)) }
 {

@@ -9,16 +9,16 @@ use crate::rules::{Argument, Comparing, Comparison};
 use sf_insn::Test;
 use std::alloc::{AllocError, Global};
 
-/// What a test compares, and where to go on after it: so many instructions after its end.
+/// What a test compares, and how many instructions are skipped after it, by its result.
 #[derive(Clone, Copy, Debug)]
 struct Asked {
     /// The word with the low half of the argument.
     word: u8,
-    /// The value.
+    /// The value that the argument is compared with; in a test under a mask, the mask.
     value: u64,
-    /// Where to go on where the test holds.
+    /// How many instructions are skipped where the test holds.
     on_true: usize,
-    /// Where to go on where it doesn't.
+    /// How many are skipped where it doesn't.
     on_false: usize,
     ghost near: { (word < 15) × (on_true < 2 ^ 63) × (on_false < 2 ^ 63) },
 }
@@ -118,7 +118,8 @@ fn push_test(
     }
 }
 
-/// Adds a test under a mask of 64 bits, which is the value of what is asked. Where it holds, what follows comes next.
+/// Adds a test whether an argument of 64 bits has the bits of `value_two` under the mask `asked.value`. Where it holds,
+/// nothing is skipped: `asked.on_true` isn't used.
 fn push_wide_mask(
     code: &mut Vec<Instruction>,
     asked: Asked,
@@ -143,7 +144,8 @@ fn push_wide_mask(
     ])
 }
 
-/// Adds a test under a mask of 32 bits, which is the value of what is asked. Where it holds, what follows comes next.
+/// Adds a test whether an argument of 32 bits has the bits of `value_two` under the mask `asked.value`. Where it holds,
+/// nothing is skipped: `asked.on_true` isn't used.
 fn push_narrow_mask(
     code: &mut Vec<Instruction>,
     asked: Asked,

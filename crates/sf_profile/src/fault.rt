@@ -7,17 +7,19 @@ ghost use Rattle.sf_profile.specs.Faults.{fault_number};
 use std::alloc::{AllocError, AllocFailed};
 use thiserror::Error;
 
-/// Why a profile is refused. Rules are numbered from 1 in the order in which they stand. The text of a fault is its number,
-/// its name and its place.
+/// Why a profile is refused. Rules are numbered from 1 in the order in which they stand. The text of a fault is its
+/// number, its name and its place.
 #[derive(Clone, Copy, Debug, PartialEq, Eq, Error)]
 pub enum Fault {
     /// The filter would have more than 4096 instructions.
     #[error("12 TooLong")]
     TooLong,
-    /// A key of the profile's head is unknown or missing, or has a value of another kind.
+    /// The file has no profile; or a key of the profile's head is unknown or missing, has a value of a wrong kind, or
+    /// doesn't go with another key.
     #[error("41 Key")]
     Key,
-    /// A key of a rule is unknown or missing, or has a value of another kind.
+    /// A key of a rule is unknown or missing, has a value of a wrong kind, or doesn't go with another key; or the
+    /// rule asks for a kernel, and the kernel's version isn't given.
     #[error("41 Key rule {rule}")]
     RuleKey { rule: usize },
     /// The number of the default is outside its range.
@@ -38,7 +40,7 @@ pub enum Fault {
     /// The profile is no UTF-8, is no JSON, or nests deeper than 127.
     #[error("46 Syntax")]
     Syntax,
-    /// A set of calls isn't known, or its calls are given not once.
+    /// A set of calls isn't known, or its calls are given not at all, or more than once.
     #[error("49 Set")]
     Set,
     /// Memory ran out.

@@ -41,7 +41,7 @@ fn action_key<'a>(value: &Value, action: &'a str, number: &'a str, name: &'a str
     }
 }
 
-/// The key of a profile's head that is unknown, missing or wrongly given.
+/// The key for which a profile is refused with `Key`: the first one found that is unknown, missing or wrongly given.
 fn key_of_head(value: &Value) -> &str {
     if let Some(key) = unknown_key(value, PROFILE_KEYS.as_slice()) {
         return key;
@@ -59,7 +59,7 @@ fn key_of_head(value: &Value) -> &str {
     }
 }
 
-/// The key of a rule that is unknown, missing or wrongly given.
+/// The key for which a rule is refused with `RuleKey`: the first one found that is unknown, missing or wrongly given.
 fn key_of_rule<'a>(settings: &Settings, value: &'a Value) -> &'a str {
     if let Some(key) = unknown_key(value, RULE_KEYS.as_slice()) {
         return key;
@@ -84,7 +84,8 @@ fn key_of_rule<'a>(settings: &Settings, value: &'a Value) -> &'a str {
     }
 }
 
-/// The key of the sets of calls; none where it is the machine's own set that has no calls.
+/// The key for which a profile is refused with `Set`: the one at which its sets stand. None where the calls of the
+/// machine's own set aren't given once: then no key of the profile is at fault.
 fn key_of_sets(settings: &Settings, value: &Value) -> Option<&'static str> {
     if !settings.has_calls(settings.machine) {
         return None;
@@ -157,8 +158,8 @@ fn key_in_file<'a>(settings: &Settings, value: &'a Value, fault: Fault) -> Optio
     key_of(settings, profile_in(value)?, fault)
 }
 
-/// The key for which the profile in a file is refused, where one is known. `fault` is the reason that `profile` gave for
-/// these bytes. An error where an allocation is refused.
+/// The key for which the profile in a file is refused, where one is known. `fault` is the reason that `profile` gave
+/// for these bytes. An error where an allocation is refused.
 pub fn wrong_key(
     alloc: Global,
     settings: &Settings,

@@ -18,8 +18,8 @@ use crate::telling::{notes_text, unknown_words};
 use serde_json::Value;
 use std::alloc::Global;
 
-/// The filter of a profile's tree. The first refusal; then `TooLong` where the filter would be too long; `Memory` where an
-/// allocation is refused.
+/// The filter of a profile's tree. The first refusal; then `TooLong` where the filter would be too long; `Memory` where
+/// an allocation is refused.
 #[tactic(auto, using(crate::proofs::ShortLemmas::profile_long))]
 fn filter_of_profile(alloc: Global, settings: &Settings, value: &Value) -> Result<Vec<u8>, Fault>
     ensures accepted { IfOk result (λ v. profile_refusal settings.now (view value.now) ≡ None) }
@@ -47,14 +47,15 @@ fn filter_of_file(alloc: Global, settings: &Settings, value: &Value) -> Result<V
     }
 }
 
-/// The filter that the profile in a file means: a program that answers each input as the profile does, for comparing with
-/// what is installed, and not for installing.
+/// The filter that the profile in a file means: a program that answers each input as the profile does, for comparing
+/// with what is installed, and not for installing.
 ///
-/// Refusals, tried in this order: `Syntax` where the bytes are no UTF-8, no JSON, or nest deeper than 127; in the profile's
-/// head `Key` where a key is unknown or missing, or has a value of another kind, `Actions` where the default is an unknown
-/// action, `Range` where its number hasn't 16 bits, `Set` where a set of calls isn't known, or its calls aren't given once;
-/// then, rule after rule, `RuleKey`, `RuleName`, `RuleActions` and `RuleRange`, with the number of the rule from 1; then
-/// `TooLong` where the filter would have more than 4096 instructions. `Memory` can come anywhere.
+/// Refusals, tried in this order: `Syntax` where the bytes are no UTF-8, no JSON, or nest deeper than 127; `Key` where
+/// there is no profile, or a key of its head is unknown or missing, has a value of a wrong kind, or doesn't go
+/// with another key; `Actions` where the default is an unknown action; `Range` where its number hasn't 16 bits; `Set`
+/// where a set of calls isn't known, or its calls aren't given exactly once; then, rule after rule, `RuleKey`,
+/// `RuleName`, `RuleActions` and `RuleRange`, with the number of the rule from 1; then `TooLong` where the filter would
+/// have more than 4096 instructions. `Memory` can come anywhere.
 pub fn profile(alloc: Global, settings: &Settings, bytes: &[u8]) -> Result<Vec<u8>, Fault>
     ensures made { IfOk result (λ v. MakesFilterOf settings.now bytes.now v.items) }
     ensures refused { IfErr result (λ e. IsRefusedText settings.now bytes.now e) }
@@ -137,8 +138,9 @@ fn unknown_in_file(alloc: Global, settings: &Settings, value: &Value) -> Result<
     }
 }
 
-/// The names that rules of the profile in a file have, if they apply, and no file of names has, with a blank before each.
-/// Refusals: `Syntax` and `Key` as by `profile` where there is no profile; `Memory` where an allocation is refused.
+/// The names in the profile of a file that no file of names has, each once, with a blank before each. Only rules that
+/// apply count. Refusals: `Syntax` as by `profile`; `Key` where there is no profile; `Memory` where an allocation is
+/// refused. Other faults of the profile aren't looked for.
 pub fn unknown_names(alloc: Global, settings: &Settings, bytes: &[u8]) -> Result<String, Fault>
     ensures words { IfOk result (λ t. AreUnknownOf settings.now bytes.now (string_bytes t)) }
     ensures refused { IfErr result (λ e. IsRefusedText settings.now bytes.now e) }

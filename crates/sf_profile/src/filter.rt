@@ -10,8 +10,8 @@ use crate::instruction::raws_of;
 use crate::rules::Plan;
 use std::alloc::Global;
 
-/// The filter of a profile. `TooLong` where it would have more than 4096 instructions; `Memory` where an allocation is
-/// refused.
+/// The filter of a profile's plan, as bytes. `TooLong` where it would have more than 4096 instructions, or a jump would
+/// skip more than the format can say; `Memory` where an allocation is refused.
 #[tactic(auto, using(crate::proofs::MadeLemmas::made))]
 pub(crate) fn filter_of(alloc: Global, plan: &Plan) -> Result<Vec<u8>, Fault>
     ensures made { IfOk result (λ v. IsFilterOf v.items plan.now) }

@@ -11,7 +11,8 @@ use crate::rules::{Call, CallSet, Part, Plan, Reading, Response, Rule};
 use sf_insn::Test;
 use std::alloc::{AllocError, Global};
 
-/// The number of a call that isn't there: x86-64 has it in none of its two sets' ranges, and counts it to the first.
+/// The number -1, which is no call's. It is above 2^30, where the numbers of x32 begin, but on x86-64 the filter counts
+/// it to the 64-bit calls.
 const NO_NUMBER: u32 = 0xffff_ffff;
 
 /// The least number of a call of x32.
@@ -23,7 +24,8 @@ const ENOSYS: u16 = 38;
 /// The places that a rule can have.
 const PLACES: [u8; 8] = [0, 1, 2, 3, 4, 5, 6, 7];
 
-/// Adds comparisons, a return where all of them hold, and a load of the call's number, which comes next where one doesn't.
+/// Adds comparisons, and a return of `value` where all of them hold. Where one fails, the filter goes on behind the
+/// return: there the call's number is loaded again, for the next call's test.
 fn push_return(
     code: &mut Vec<Instruction>,
     comparisons: &[Instruction],
@@ -56,7 +58,8 @@ fn push_direct(
     push_return(code, comparisons, value)
 }
 
-/// Adds what is done at a call through another one, of which it is this operation.
+/// Adds the code for a call that is made through another one, as `socket` through `socketcall`: it returns `value` if
+/// the call has this number, the low half of its first argument is `operation`, and all comparisons hold.
 fn push_through(
     code: &mut Vec<Instruction>,
     comparisons: &[Instruction],
@@ -174,7 +177,7 @@ fn push_rounds(
     Ok(())
 }
 
-/// The least number that is above those of calls, and not below another number.
+/// The least number that is at least `least`, and greater than the number of each call.
 fn above_calls(least: u64, calls: &[Call]) -> u64
     ensures { result ≡ above_calls least calls.now }
 {
@@ -196,7 +199,8 @@ fn above_rules(rules: &[Rule]) -> u64
     above
 }
 
-/// Whether calls that are newer than the profile fail where it has this default.
+/// Whether `Plan::newer` has an effect beside this default. It has none where the default lets calls through, or leaves
+/// them to a tracer: then newer calls get the default too.
 fn refuses_newer(default: Response) -> bool
     ensures { result ≡ refuses_newer default }
 {
@@ -206,7 +210,8 @@ fn refuses_newer(default: Response) -> bool
     )
 }
 
-/// Adds what is done at calls whose number is at least this one: they fail with ENOSYS.
+/// Adds the code by which calls whose number is at least `least` fail with ENOSYS. Adds nothing where `least` has more
+/// than 32 bits, since no call has such a number.
 fn push_newer(code: &mut Vec<Instruction>, least: u64) -> Result<(), AllocError>
     ensures { OnOk result (code.new.items ≡ code.old.items ++ newer_code least) }
 {
@@ -233,7 +238,7 @@ fn push_newer_where(
     Ok(())
 }
 
-/// What is done at an input of a set.
+/// The code for the inputs of a set: first newer calls, then the rules, pass after pass, and at the end the default.
 fn body_code(alloc: Global, plan: &Plan, part: &Part) -> Result<Vec<Instruction>, AllocError>
     ensures { IfOk result (λ v. v.items ≡ body_code plan.now part.now) }
 {

@@ -15,8 +15,8 @@ pub(crate) enum Instruction {
     Load(u8),
     /// A keeps only these bits.
     Mask(u32),
-    /// Tests A against the number. Where that is true, it skips the first number of instructions, and where it is false,
-    /// the second number.
+    /// Tests A against the number. Where that is true, it skips the first number of instructions, and where it is
+    /// false, the second number.
     Branch(Test, u32, usize, usize),
     /// Skips this many instructions.
     Skip(usize),

@@ -86,7 +86,7 @@ pub(crate) fn is_absent(value: &Value, key: &str) -> bool
     at(value, key).is_none()
 }
 
-/// Whether an error number is given where its name is.
+/// Whether the key of an error number is there if that of the number's name is: a name alone isn't enough.
 pub(crate) fn names_number(value: &Value, name: &str, number: &str) -> bool
     ensures { result ≡ names_number name.now number.now (view value.now) }
 {
@@ -117,7 +117,7 @@ fn is_kernel(settings: &Settings, value: &Value) -> bool
     settings.kernel.is_some() && version_of(text_of(value)).is_some()
 }
 
-/// Whether a rule may ask for the kernel that a condition has, if it has one.
+/// Whether `minKernel` of a condition is absent, or a version that can be compared with the kernel's.
 fn has_kernel(settings: &Settings, value: &Value) -> bool
     ensures { result ≡ absent_or (is_kernel settings.now)
         (at (codes "minKernel") (view value.now)) }
@@ -166,7 +166,7 @@ fn are_each_arguments(items: &[Value]) -> bool
     items.iter().all(|value| is_argument(value))
 }
 
-/// Whether each value is a comparison. For the prover: over their trees.
+/// The same as `are_each_arguments`. For the prover: its clause speaks of the list of the values' JSON trees.
 fn are_arguments(items: &[Value]) -> bool
     ensures { result ≡ list_all is_argument (item_list (items_view items.now)) }
 {
@@ -201,7 +201,8 @@ pub(crate) fn is_named(value: &Value) -> bool
         || (has_text(value, "name") && is_absent(value, "names"))
 }
 
-/// Whether there is an action at a key, and its number is well given.
+/// Whether there is a text at the key `action`, and its error number is well given: it is a whole number or absent, it
+/// is there if its name is, and the action takes one if it is there. An action that isn't known is refused elsewhere.
 pub(crate) fn is_action(value: &Value, action: &str, number: &str, name: &str) -> bool
     ensures { result ≡ is_action action.now number.now name.now (view value.now) }
 {
@@ -239,7 +240,7 @@ fn are_each_map_items(items: &[Value]) -> bool
     items.iter().all(|value| is_map_item(value))
 }
 
-/// Whether each value is an entry of `archMap`. For the prover: over their trees.
+/// The same as `are_each_map_items`. For the prover: its clause speaks of the list of the values' JSON trees.
 fn are_map_items(items: &[Value]) -> bool
     ensures { result ≡ list_all is_map_item (item_list (items_view items.now)) }
 {
@@ -267,7 +268,8 @@ pub(crate) fn has_map(value: &Value) -> bool
     }
 }
 
-/// Whether the sets of calls stand at one of two keys.
+/// Whether the sets of calls are well given: at most one of `archMap` and `architectures` is there, and its value is of
+/// the right kind.
 fn has_sets(value: &Value) -> bool
     ensures { result ≡ has_sets (view value.now) }
 {
@@ -286,7 +288,7 @@ pub(crate) fn has_rules(value: &Value) -> bool
     }
 }
 
-/// Whether a value is a profile whose keys are all known and of their kinds.
+/// Whether a value is an object with only a profile's keys, whose head is well formed; `is_rule` looks at each rule.
 pub(crate) fn is_profile(value: &Value) -> bool
     ensures { result ≡ is_profile (view value.now) }
 {

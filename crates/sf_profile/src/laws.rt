@@ -29,8 +29,8 @@ pub fn newer_changes_only_newer()
         → response_in plan d part ≡ response_in (record plan { newer = false }) d part }
 {}
 
-/// Of rules that say something, the reading `strictest` picks one whose action has the highest precedence, and `mildest`
-/// one whose action has the lowest: what any reading picks lies between them.
+/// Of rules that say something, the reading `strictest` picks one whose action has the highest precedence, and
+/// `mildest` one whose action has the lowest: what any reading picks lies between them.
 pub fn readings_are_bounds()
     ensures { (reading : Reading) (rules : List RuleData) (a b c : RuleData) →
         pick Strictest rules ≡ Some a → pick reading rules ≡ Some b

@@ -130,7 +130,7 @@ pub(crate) fn up_to(most: u64, number: i128) -> Option<u64>
     if number <= most { Some(number) } else { None }
 }
 
-/// A number where one is given, or `absent`; none where that isn't from 0 to a greatest one.
+/// The number, or `absent` where no number is given; none where a number is given that isn't from 0 to `most`.
 pub(crate) fn up_to_or(absent: u64, most: u64, number: Option<i128>) -> Option<u64>
     ensures { result ≡ up_to_or absent most number }
 {
@@ -140,7 +140,7 @@ pub(crate) fn up_to_or(absent: u64, most: u64, number: Option<i128>) -> Option<u
     }
 }
 
-/// The argument with an index.
+/// The argument with this index, from 0. An index above 5 counts as 5; a profile with one is refused.
 pub(crate) fn argument_numbered(index: u64) -> Argument
     ensures { result ≡ argument_numbered index }
 {
@@ -166,15 +166,15 @@ pub struct Version {
 /// What was read of a version.
 #[derive(Clone, Copy, Debug)]
 pub(crate) struct VersionRead {
-    /// The number before the point, where that was read.
+    /// The number before the point; none where no point was read yet.
     pub(crate) major: Option<u32>,
-    /// The number of the digits since.
+    /// The number that the digits since then make; none where no digit was read since.
     pub(crate) digits: Option<u32>,
     /// Whether the text can't be a version.
     pub(crate) wrong: bool,
 }
 
-/// One digit more.
+/// What was read, with one digit more. It can't be a version if the number would be greater than 9999.
 fn more_digits(read: VersionRead, digit: u8) -> VersionRead
     requires { digit ≤ 9 }
     ensures { result ≡ more_digits read digit }
@@ -206,7 +206,8 @@ fn wrong(read: VersionRead) -> VersionRead
     }
 }
 
-/// The point behind what was read.
+/// What was read, with a point behind it. It can't be a version if no digit stands before the point, or if this is the
+/// second point.
 fn after_point(read: VersionRead) -> VersionRead
     ensures { result ≡ after_point read read.major read.digits }
 {
@@ -233,7 +234,8 @@ fn version_step(read: VersionRead, byte: u8) -> VersionRead
     wrong(read)
 }
 
-/// The version that a text is: two numbers of at most four digits, with a point between them. None where it is none.
+/// The version that a text is: two decimal numbers of at most 9999, with a point between them. None where it isn't one.
+/// Zeros may stand before a number.
 pub fn version_of(text: &str) -> Option<Version>
     ensures { result ≡ version_of text.now }
 {

@@ -94,7 +94,7 @@ fn push_direct(calls: &mut Vec<Call>, number: Option<u32>) -> Result<(), AllocEr
     Ok(())
 }
 
-/// Adds the call through `socketcall` with this place, where there is one.
+/// Adds the call through `socketcall`, which is number 102 of i386, if the name is that of a call behind it.
 fn push_socket_call(calls: &mut Vec<Call>, name: &str) -> Result<(), AllocError>
     ensures { OnOk result (calls.new.items ≡ calls.old.items
         ++ socket_call (place_from 0 name.now socket_calls)) }
@@ -108,7 +108,7 @@ fn push_socket_call(calls: &mut Vec<Call>, name: &str) -> Result<(), AllocError>
     Ok(())
 }
 
-/// Adds the call through `ipc` with this place, where there is one.
+/// Adds the call through `ipc`, which is number 117 of i386, if the name is that of a call behind it.
 fn push_ipc_call(calls: &mut Vec<Call>, name: &str) -> Result<(), AllocError>
     ensures { OnOk result (calls.new.items ≡ calls.old.items
         ++ ipc_call (place_from 0 name.now ipc_calls)) }
@@ -123,7 +123,8 @@ fn push_ipc_call(calls: &mut Vec<Call>, name: &str) -> Result<(), AllocError>
     Ok(())
 }
 
-/// Adds the calls of a name through others, where a set has them.
+/// Adds the calls with this name through `socketcall` and `ipc`, if `has_them`: that is if the set is that of i386, and
+/// the rule compares nothing.
 fn push_through(calls: &mut Vec<Call>, has_them: bool, name: &str) -> Result<(), AllocError>
     ensures { OnOk result (calls.new.items ≡ calls.old.items ++ through_calls has_them name.now) }
 {

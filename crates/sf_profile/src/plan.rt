@@ -30,7 +30,8 @@ fn error_number(value: &Value, key: &str) -> u16
     }
 }
 
-/// The response of an action and its number, which is 1 where none is given.
+/// The response that the action and the number at these keys make. The number is 1 where none is given. An unknown
+/// action counts as `KillThread`; a profile with one is refused.
 pub(crate) fn response_at(value: &Value, action: &str, number: &str) -> Response
     ensures { result ≡ response_at action.now number.now (view value.now) }
 {
@@ -39,7 +40,8 @@ pub(crate) fn response_at(value: &Value, action: &str, number: &str) -> Response
     )
 }
 
-/// The comparison of a value.
+/// The comparison that a value describes. Each number is 0 where it is absent or out of its range, and an unknown `op`
+/// counts as `Equal`; of these, only an absent `valueTwo` stands in a profile that isn't refused.
 fn comparison_of(value: &Value) -> Comparison
     ensures { result ≡ comparison_of (view value.now) }
 {
@@ -81,7 +83,7 @@ fn compares_twice(comparisons: &[Comparison]) -> bool
     false
 }
 
-/// The rule of some comparisons in a set.
+/// The rule that a profile's rule makes in a set, with these of its comparisons.
 fn rule_of(
     alloc: Global,
     settings: &Settings,
@@ -131,7 +133,9 @@ fn push_each(
     Ok(())
 }
 
-/// Adds the rules of comparisons: one rule for all of them, or where one argument is compared twice, one for each.
+/// Adds the rules of a profile's rule with these comparisons: one rule with all of them; or where one argument is
+/// compared twice, a rule for each comparison, so it is enough that one holds. Where there are more than six, one of
+/// the six arguments is compared twice.
 fn push_alternatives(
     alloc: Global,
     rules: &mut Vec<Rule>,
@@ -151,7 +155,7 @@ fn push_alternatives(
     Ok(())
 }
 
-/// Adds the rules of a rule in a set.
+/// Adds the rules that a profile's rule makes in a set: none where it doesn't apply.
 fn push_rules_of(
     alloc: Global,
     rules: &mut Vec<Rule>,
@@ -169,7 +173,7 @@ fn push_rules_of(
     push_alternatives(alloc, rules, settings, set, value, comparisons)
 }
 
-/// The rules of rules in a set.
+/// The rules that a profile's rules make in a set.
 fn rules_in(
     alloc: Global,
     settings: &Settings,
@@ -186,7 +190,7 @@ fn rules_in(
     Ok(rules)
 }
 
-/// The rules of a set.
+/// The part of the plan that is about one set: the set, with the rules that the profile's rules make in it.
 fn part_of(
     alloc: Global,
     settings: &Settings,
@@ -268,7 +272,8 @@ fn push_map_items(
     Ok(())
 }
 
-/// The machine's own set, and those that are listed, each once.
+/// The sets that a profile is for, each once: the machine's own, then those at `architectures`, then those that the
+/// machine's entries of `archMap` list.
 #[tactic(auto, using(crate::proofs::PlanLemmas::fold_both))]
 pub(crate) fn sets_of(
     alloc: Global,
@@ -284,7 +289,7 @@ pub(crate) fn sets_of(
     Ok(sets)
 }
 
-/// The rules of sets.
+/// The parts of the plan, one for each set.
 fn parts_of(
     alloc: Global,
     settings: &Settings,

@@ -29,7 +29,7 @@ fn are_each_names(items: &[Value]) -> bool
     items.iter().all(|value| has_name(value))
 }
 
-/// Whether each value can be the name of a call. For the prover: over their trees.
+/// The same as `are_each_names`. For the prover: its clause speaks of the list of the values' JSON trees.
 fn are_names(items: &[Value]) -> bool
     ensures { result ≡ list_all has_name (map view items.now) }
 {
@@ -74,7 +74,7 @@ fn know_each_comparison(items: &[Value]) -> bool
     items.iter().all(|value| knows_comparison(value))
 }
 
-/// Whether the comparisons of all values are known. For the prover: over their trees.
+/// The same as `know_each_comparison`. For the prover: its clause speaks of the list of the values' JSON trees.
 fn know_comparisons(items: &[Value]) -> bool
     ensures { result ≡ list_all knows_comparison (map view items.now) }
 {
@@ -111,7 +111,7 @@ fn have_each_argument_range(items: &[Value]) -> bool
     items.iter().all(|value| has_argument_range(value))
 }
 
-/// Whether the numbers of all comparisons are in their ranges. For the prover: over their trees.
+/// The same as `have_each_argument_range`. For the prover: its clause speaks of the list of the values' JSON trees.
 fn have_argument_ranges(items: &[Value]) -> bool
     ensures { result ≡ list_all has_argument_range (map view items.now) }
 {
@@ -182,7 +182,7 @@ fn are_each_sets(settings: &Settings, items: &[Value]) -> bool
     items.iter().all(|value| is_set(settings, value))
 }
 
-/// Whether each value names a set whose calls are given. For the prover: over their trees.
+/// The same as `are_each_sets`. For the prover: its clause speaks of the list of the values' JSON trees.
 fn are_sets(settings: &Settings, items: &[Value]) -> bool
     ensures { result ≡ list_all (is_set settings.now) (map view items.now) }
 {
@@ -196,7 +196,8 @@ pub(crate) fn is_own_item(settings: &Settings, value: &Value) -> bool
     text_at(value, "architecture") == name_of_set(settings.machine)
 }
 
-/// Whether the sets of an entry of `archMap` are known, if it is the machine's.
+/// Whether an entry of `archMap` is another machine's, or all its `subArchitectures` are known and have their calls
+/// given.
 fn is_set_item(settings: &Settings, value: &Value) -> bool
     ensures { result ≡ is_set_item settings.now (view value.now) }
 {
@@ -210,14 +211,15 @@ fn are_each_set_items(settings: &Settings, items: &[Value]) -> bool
     items.iter().all(|value| is_set_item(settings, value))
 }
 
-/// Whether the sets of all entries of `archMap` are known, if they are the machine's. For the prover: over their trees.
+/// The same as `are_each_set_items`. For the prover: its clause speaks of the list of the values' JSON trees.
 fn are_set_items(settings: &Settings, items: &[Value]) -> bool
     ensures { result ≡ list_all (is_set_item settings.now) (map view items.now) }
 {
     are_each_set_items(settings, items)
 }
 
-/// Whether all sets of a profile are known, and their calls are given.
+/// Whether all sets that the profile is for are known and have their calls given: the machine's own, those at
+/// `architectures`, and those in the machine's entries of `archMap`. Entries of other machines aren't looked at.
 fn knows_sets(settings: &Settings, value: &Value) -> bool
     ensures { result ≡ knows_sets settings.now (view value.now) }
 {
@@ -245,7 +247,8 @@ pub(crate) fn profile_refusal(settings: &Settings, value: &Value) -> Option<Faul
     rules_refusal(settings, items_at(value, "syscalls"))
 }
 
-/// The profile in a file: in a whole config.json it is `seccomp` of `linux`.
+/// The profile in a file's tree. Where there is a key `linux`, the file is a whole config.json, whose profile is at
+/// `seccomp` there; none where it has no `seccomp`. Else the tree itself is the profile.
 pub(crate) fn profile_in(value: &Value) -> Option<&Value>
     ensures { option_map (λ v. view v.now) result ≡ profile_in (view value.now) }
 {

@@ -41,7 +41,8 @@ pub enum Comparing {
     Equal,
     GreaterOrEqual,
     Greater,
-    /// Only the bits under a mask are compared. The mask is the first value, and what the bits have to be is the second.
+    /// Only the bits under a mask are compared. The mask is the first value, and what the bits have to be is the
+    /// second.
     MaskedEqual,
 }
 

@@ -72,7 +72,8 @@ fn has_low_call(calls: &[Call]) -> bool
     calls.iter().any(|call| call.number() < LEAST_OF_X32)
 }
 
-/// The set of an architecture's number; of the two of x86-64, that of 64-bit calls where some call has a number of these.
+/// The set of the architecture with this number; none where it has none of the five sets. x86-64 has two: it is the set
+/// of 64-bit calls where `low` says that some call has a number below those of x32, and else that of x32.
 fn set_of_arch(low: bool, arch: u32) -> Option<CallSet>
     ensures { result ≡ set_of_arch low arch }
 {
@@ -85,8 +86,8 @@ fn set_of_arch(low: bool, arch: u32) -> Option<CallSet>
     }
 }
 
-/// The set whose calls these are; none where the architecture is none of those of the five sets. Of the two sets of x86-64
-/// it is that of x32 where no number is below 2^30.
+/// The set whose calls these are; none where the architecture is none of those of the five sets. Of the two sets of
+/// x86-64 it is that of x32 where no number is below 2^30.
 pub fn set_of_names(names: &Names) -> Option<CallSet>
     ensures { result ≡ set_of_names names.now }
 {

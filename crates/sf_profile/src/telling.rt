@@ -43,7 +43,7 @@ fn response_data(response: Response) -> u16
     }
 }
 
-/// The name of a set of calls.
+/// The name of a set of calls in notes, which is that of files of names. (`name_of_set` has that of profiles.)
 fn set_text(set: CallSet) -> &'static str
     ensures { result.now ≡ set_text set }
 {
@@ -288,7 +288,7 @@ pub(crate) fn unknown_words(
     words_of(alloc, &unknown)
 }
 
-/// The notes on a profile whose filter has so many instructions.
+/// The notes on a profile whose filter has `size` instructions.
 pub(crate) fn notes_text(
     alloc: Global,
     settings: &Settings,

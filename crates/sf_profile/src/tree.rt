@@ -115,7 +115,7 @@ fn are_each_texts(items: &[Value]) -> bool
     items.iter().all(|value| value.is_string())
 }
 
-/// Whether each value is a text. For the prover: over their trees.
+/// The same as `are_each_texts`. For the prover: its clause speaks of the list of the values' JSON trees.
 fn are_texts(items: &[Value]) -> bool
     ensures { result ≡ list_all is_text (item_list (items_view items.now)) }
 {

@@ -23,7 +23,7 @@ pub(crate) fn order_of(answer: Answer) -> u64
     rank as u64 * 65536 + answer.info as u64
 }
 
-/// Puts answers in order, each once, in place. An error where an allocation is refused.
+/// Sorts answers in place, and leaves each only once. An error where an allocation is refused.
 fn put_in_order(answers: &mut Vec<Answer>) -> Result<(), AllocError>
     ensures keeps { OnOk result ((a : AnAnswer) → Contains answers.old.items a
         → Contains answers.new.items a) }
@@ -51,7 +51,7 @@ pub fn answers_of(alloc: Global, settled: &Settled) -> Result<Vec<Answer>, Alloc
     Ok(answers)
 }
 
-/// How many answers stand before all of an order or a later one.
+/// How many answers have an order below this one. The caller's condition: the answers are in order.
 fn count_before(answers: &[Answer], order: u64) -> usize
     requires { IsNonDecreasingBy answer_order answers.now }
     ensures bound { result ≤ length answers.now }
@@ -78,8 +78,8 @@ fn place_of(answers: &[Answer], answer: Answer) -> usize
     0
 }
 
-/// The label of each region: the first place of its answer. The caller's conditions: the answers of all regions are there,
-/// and they are in order.
+/// The label of each region: the first place of its answer. The caller's conditions: the answers of all regions are
+/// there, and they are in order.
 pub fn labels_of(
     alloc: Global,
     settled: &Settled,

@@ -70,7 +70,8 @@ fn number_of_call(arch: u32, number: u32, axis: Axis) -> u32
     word & axis.mask
 }
 
-/// Whether the inputs of a call meet a condition, if it is one on their number or their architecture.
+/// Whether the inputs of a call meet a condition on their number or their architecture. A condition on another word
+/// counts as met: some of the call's inputs may meet it.
 fn call_meets(arch: u32, number: u32, condition: &Condition) -> bool
     ensures { result ≡ call_meets arch number condition.now }
 {
@@ -99,7 +100,7 @@ fn is_about_call(arch: u32, number: u32, scope: &Scope) -> bool
         && call_meets_all(arch, number, scope.conditions())
 }
 
-/// Adds a row as one of a call, if it is about it.
+/// Adds a row of a call, if the row is about this call.
 fn push_if_about<'a>(
     into: &mut Vec<CallRow<'a>>,
     names: &'a Names,
@@ -115,7 +116,7 @@ fn push_if_about<'a>(
     Ok(())
 }
 
-/// Adds those of some rows that are about a call.
+/// Adds the rows that are about a call, in their order.
 fn push_rows_of_call<'a>(
     into: &mut Vec<CallRow<'a>>,
     rows: &'a [Row],
@@ -138,7 +139,7 @@ fn has_text(texts: &[&str], text: &str) -> bool
     texts.iter().any(|one| text == *one)
 }
 
-/// Whether a text is one of these. For the prover: over the texts themselves.
+/// Whether a text is one of these. For the prover: its clause speaks of the texts themselves.
 fn is_among(texts: &[&str], text: &str) -> bool
     ensures { result ≡ list_any (bytes_eq text.now) (map (λ t. t.now) texts.now) }
 {
@@ -186,8 +187,8 @@ fn push_rows_of_set<'a>(
     Ok(())
 }
 
-/// The rows of the calls that are asked for, of all calls where `wanted` is empty: set after set, in a set by the calls'
-/// numbers, and of a call in the order of the rows. An error where an allocation is refused.
+/// The rows of the calls that are asked for, of all calls where `wanted` is empty: set after set, in a set by the
+/// calls' numbers, and of a call in the order of the rows. An error where an allocation is refused.
 pub(crate) fn call_rows<'a>(
     alloc: Global,
     wanted: &[&str],

@@ -58,7 +58,7 @@ fn push_number(text: &mut String, style: Style, number: u32) -> Result<(), Alloc
     }
 }
 
-/// Adds a span: its number where there is one, else both ends.
+/// Adds a span: its number where it has only one, else both ends.
 fn push_span(text: &mut String, style: Style, span: Span) -> Result<(), AllocError>
     ensures { OnOk result (string_bytes text.new ≡ string_bytes text.old
         ++ span_words style span) }
@@ -107,7 +107,7 @@ fn words_before(part: &Part) -> &'static str
     }
 }
 
-/// Adds the architectures.
+/// Adds the architectures, or `any` where all are meant.
 pub(crate) fn push_arch(text: &mut String, arch: &Option<Part>) -> Result<(), AllocError>
     ensures { OnOk result (string_bytes text.new ≡ string_bytes text.old ++ arch_words arch.now) }
 {
@@ -120,7 +120,8 @@ pub(crate) fn push_arch(text: &mut String, arch: &Option<Part>) -> Result<(), Al
     }
 }
 
-/// Adds the call numbers. Their part is never a rest, since each run of call numbers is a part by itself.
+/// Adds the call numbers, or `any` where all are meant. Their part is never a rest, since each run of call numbers is a
+/// part by itself.
 pub(crate) fn push_nr(text: &mut String, nr: &Option<Part>) -> Result<(), AllocError>
     ensures { OnOk result (string_bytes text.new ≡ string_bytes text.old ++ nr_words nr.now) }
 {

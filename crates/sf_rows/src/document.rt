@@ -27,7 +27,7 @@ pub struct RowDocuments {
     pub calls: Document,
     /// Those that are shown each by itself.
     pub rows: Document,
-    /// How many they are, and how many of them have several answers.
+    /// How many rows there are in `calls` and `rows`, and how many of them have several answers.
     pub total: Document,
 }
 
@@ -64,7 +64,8 @@ fn single_rows(
     })
 }
 
-/// The rows of the calls that are asked for, and then those of other inputs. `Memory` where an allocation is refused.
+/// The rows of the calls in `wanted`. Where it is empty, the rows of all calls, and beside them those of the inputs
+/// that belong to no call with a name. `Memory` where an allocation is refused.
 fn rows_by_call(
     alloc: Global,
     sets: &[Names],
@@ -94,9 +95,9 @@ fn rows_by_call(
     })
 }
 
-/// Rows as JSON, by the sets of calls and what labels stand for: each by itself, or where `calls` is given those of these
-/// calls; of all calls where it names none, and then those of the inputs that belong to no call with a name. `Memory`
-/// where an allocation is refused.
+/// Rows as JSON, by the sets of calls and what labels stand for. Without `calls` each row is shown by itself. Where
+/// `calls` names some, the rows of these calls are shown. Where it names none, the rows of all calls are shown, and
+/// beside them those of the inputs that belong to no call with a name. `Memory` where an allocation is refused.
 pub fn documents_of_rows(
     alloc: Global,
     sets: &[Names],

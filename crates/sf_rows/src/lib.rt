@@ -1,4 +1,4 @@
-//! The rows of a picture, as text: which inputs lie in each, and what the labels of its answers stand for.
+//! The rows of a picture, as text and as JSON: which inputs lie in each, and what the labels of its answers stand for.
 #![tactic(auto)]
 
 pub mod answers;

@@ -10,7 +10,7 @@ use crate::rows::{Row, Scope};
 use sf_names::Names;
 use std::alloc::AllocError;
 
-/// The words of a label, or none where it has none.
+/// The words of a label; an empty text where it has none.
 fn words_at(words: &[String], label: usize) -> &str
     ensures { result.now ≡ slice_index_or (map string_bytes words.now) label [] }
 {

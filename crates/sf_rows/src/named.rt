@@ -57,8 +57,8 @@ fn push_names_in_spans(
     Ok(())
 }
 
-/// Adds the names of the calls of an architecture whose numbers are in a part; none for a rest, or where all numbers are
-/// meant.
+/// Adds the names of the calls of an architecture whose numbers are in a part; none for a rest, or where all numbers
+/// are meant.
 fn push_names_in_part(
     text: &mut String,
     names: &[Names],
@@ -79,8 +79,8 @@ fn push_names_in_part(
     }
 }
 
-/// Adds the names of the calls that a row is about. There are none where it is about several architectures, since one number
-/// stands for different calls there; and none where it is about all numbers.
+/// Adds the names of the calls that a row is about. There are none where it is about several architectures, since one
+/// number stands for different calls there; and none where it is about all numbers.
 pub(crate) fn push_row_names(
     text: &mut String,
     names: &[Names],

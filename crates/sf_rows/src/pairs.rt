@@ -61,8 +61,8 @@ fn push_changed(pairs: &mut Vec<PartAnswers>, both: PartAnswers) -> Result<(), A
     Ok(())
 }
 
-/// The pairs of answers that differ, each once, by the old stack's answers and then by those of the new one. A label is a
-/// place among them, or the number behind all places.
+/// The pairs of answers that differ, each once, by the old stack's answers and then by those of the new one. A label is
+/// a place among them; the number of pairs is the label of two answers that are the same.
 pub fn pairs_of(alloc: Global, answers: &[PartAnswers]) -> Result<Vec<PartAnswers>, AllocError>
     ensures each { IfOk result (λ v. All (λ (p : APair). Differ p
         → Contains v.items p) answers.now) }
@@ -78,7 +78,7 @@ pub fn pairs_of(alloc: Global, answers: &[PartAnswers]) -> Result<Vec<PartAnswer
     Ok(pairs)
 }
 
-/// How many pairs stand before all of an order or a later one.
+/// How many pairs have an order below this one. The caller's condition: the pairs are in order.
 fn count_before(pairs: &[PartAnswers], order: u128) -> usize
     requires { IsNonDecreasingBy pair_order pairs.now }
     ensures bound { result ≤ length pairs.now }
@@ -105,7 +105,7 @@ fn place_of(pairs: &[PartAnswers], both: PartAnswers) -> usize
     0
 }
 
-/// The label of two answers.
+/// The label of two answers: their place among the pairs, or the number of pairs where they are the same.
 fn label_of(pairs: &[PartAnswers], both: PartAnswers) -> usize
     requires there { Differ both → Contains pairs.now both }
     requires order { IsNonDecreasingBy pair_order pairs.now }
@@ -117,8 +117,8 @@ fn label_of(pairs: &[PartAnswers], both: PartAnswers) -> usize
     place_of(pairs, both)
 }
 
-/// The labels of pairs of answers, in their order. The caller's conditions: those that differ are among the pairs, and these are
-/// in order.
+/// The labels of pairs of answers, in their order. The caller's conditions: those that differ are among the pairs, and
+/// these are in order.
 pub fn labels_of(
     alloc: Global,
     answers: &[PartAnswers],
@@ -149,7 +149,7 @@ fn words_of(alloc: Global, both: PartAnswers) -> Result<String, AllocError>
     Ok(text)
 }
 
-/// The words of all labels.
+/// The words of all labels: those of each pair, and last `unchanged`, for two answers that are the same.
 pub fn all_words(alloc: Global, pairs: &[PartAnswers]) -> Result<Vec<String>, AllocError>
     ensures { IfOk result (λ v. map string_bytes v.items ≡ pairs_words pairs.now) }
 {

@@ -20,7 +20,8 @@ pub(crate) struct Span {
     pub(crate) last: u32,
 }
 
-/// The numbers of a fork that lead to a branch: its spans, or for the part that is named by what it isn't all others.
+/// The numbers of a fork that lead to a branch. They are those of the spans, or, where the part is the rest, all
+/// numbers but those.
 #[derive(Drop)]
 pub(crate) struct Part {
     next: Branch,
@@ -95,7 +96,7 @@ impl Part {
     }
 }
 
-/// Whether a number is one of spans.
+/// Whether a number lies in one of the spans.
 fn are_in(spans: &[Span], number: u32) -> bool
     ensures { result ≡ is_in_spans spans.now number }
 {
@@ -118,7 +119,7 @@ pub(crate) fn has_part(part: &Part, number: u32) -> bool
     }
 }
 
-/// Whether a number is one of a part, or all are meant.
+/// Whether a number is one of a part. Without a part all numbers are meant.
 pub(crate) fn meets_part(part: &Option<Part>, number: u32) -> bool
     ensures { result ≡ meets_part part.now number }
 {
@@ -154,7 +155,7 @@ fn is_touched(spans: &Vec<Span>, first: u32) -> bool
     newest.last as u64 + 1 == first as u64
 }
 
-/// Adds a span, or lets the last one go on where it touches it.
+/// Adds a span. Where the last one ends right below it, that one is made to go on to its end instead.
 fn push_span(spans: &mut Vec<Span>, span: Span) -> Result<(), AllocError>
     ensures { OnOk result (spans.new.items ≡ with_span spans.old.items span) }
 {
@@ -169,7 +170,8 @@ fn push_span(spans: &mut Vec<Span>, span: Span) -> Result<(), AllocError>
     Ok(())
 }
 
-/// Whether a run is one of those that name the part of a branch.
+/// Whether a run that leads to `next` is one of those that name the part of a branch: those that lead to the branch,
+/// or, where the part is the rest, those that lead elsewhere.
 fn is_named(branch: Branch, is_rest: bool, next: Branch) -> bool
     ensures { result ≡ names_part branch is_rest next }
 {
@@ -300,7 +302,8 @@ fn branches_of(alloc: Global, runs: &[Run]) -> Result<Vec<Branch>, AllocError>
     Ok(branches)
 }
 
-/// The one to which most numbers lead, of a branch and others; where there are several, the first.
+/// The branch to which most numbers lead, among a branch and others. Where several have equally many, the first of
+/// them.
 fn largest(runs: &[Run], branch: Branch, others: &[Branch]) -> Branch
     requires { RiseFrom 0 runs.now }
     ensures { result ≡ largest_of runs.now branch others.now }
@@ -317,7 +320,7 @@ fn largest(runs: &[Run], branch: Branch, others: &[Branch]) -> Branch
     largest
 }
 
-/// Adds the part that leads to a branch, unless this is the rest. `Memory` where an allocation is refused.
+/// Adds the part that leads to a branch, unless the rest leads to it. `Memory` where an allocation is refused.
 fn push_part(
     alloc: Global,
     parts: &mut Vec<Part>,
@@ -338,7 +341,7 @@ fn push_part(
     Ok(())
 }
 
-/// A part for each branch, but for the one that leads to the rest. `Memory` where an allocation is refused.
+/// A part for each branch but `rest`, the one to which the rest leads. `Memory` where an allocation is refused.
 fn parts_without(
     alloc: Global,
     runs: &[Run],
@@ -372,7 +375,8 @@ fn parts_of_branches(alloc: Global, runs: &[Run], branches: &[Branch]) -> Result
     Ok(parts)
 }
 
-/// The parts of a fork by their least numbers, and the one with most numbers last. `Memory` where an allocation is refused.
+/// The parts of a fork, in the order of their least numbers. Only the rest, which is the part with most numbers, stands
+/// last. `Memory` where an allocation is refused.
 pub(crate) fn parts_of(alloc: Global, runs: &[Run]) -> Result<Vec<Part>, Fault>
     requires { RiseFrom 0 runs.now }
     ensures made { IfOk result (λ v. v.items ≡ fork_parts runs.now) }

@@ -13,7 +13,7 @@ use sf_policy::Fault;
 use std::alloc::Global;
 use std::marker::Model;
 
-/// A part of an axis, in which inputs have their numbers.
+/// A condition of a row: the numbers of its inputs on an axis lie in a part.
 #[derive(Drop)]
 pub(crate) struct Condition {
     axis: Axis,
@@ -68,8 +68,8 @@ impl Condition {
     }
 }
 
-/// Which inputs a row is about: the architectures and the call numbers that they have, where not all are meant, and further
-/// conditions.
+/// Which inputs a row is about: the architectures and the call numbers that they have, where not all are meant, and
+/// further conditions.
 #[derive(Drop)]
 pub(crate) struct Scope {
     arch: Option<Part>,
@@ -89,7 +89,7 @@ impl Model for Scope {
     } };
 }
 
-/// The same part again, if there is one. `Memory` where it has too many owners.
+/// A copy of a part, if there is one, which shares its spans. `Memory` where these have too many owners.
 pub(crate) fn clone_part(part: &Option<Part>) -> Result<Option<Part>, Fault>
     ensures same { IfOk result (λ p. p ≡ part.now) }
     ensures refused { IfErr result (λ e. e ≡ MemoryFault) }
@@ -103,7 +103,7 @@ pub(crate) fn clone_part(part: &Option<Part>) -> Result<Option<Part>, Fault>
     }
 }
 
-/// The same conditions again. `Memory` where an allocation is refused.
+/// Copies of conditions. `Memory` where an allocation is refused.
 pub(crate) fn clone_conditions(
     alloc: Global,
     conditions: &[Condition],
@@ -289,7 +289,9 @@ fn scope_with(alloc: Global, scope: &Scope, axis: Axis, part: &Part) -> Result<S
     Ok(narrower)
 }
 
-/// Adds the rows from a branch on, through at most so many forks. `Memory` where an allocation is refused.
+/// Adds the rows of the inputs in a scope, from a branch on: one for each way to a leaf. The caller's conditions: the
+/// branch is a leaf, or a fork at a place below `most`, which is at most the number of forks. `Memory` where an
+/// allocation is refused.
 fn push_rows(
     alloc: Global,
     rows: &mut Vec<Row>,

@@ -125,7 +125,7 @@ pub(crate) fn spans_within(
     Ok(shared)
 }
 
-/// Spans of one number each.
+/// Adds a span of one number for each of these numbers.
 pub(crate) fn push_numbers(spans: &mut Vec<Span>, numbers: &[u32]) -> Result<(), AllocError>
     ensures { OnOk result (spans.new.items ≡ spans.old.items ++ spans_of_numbers numbers.now) }
 {

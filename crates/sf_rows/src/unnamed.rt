@@ -14,7 +14,7 @@ use sf_policy::Fault;
 use std::alloc::{AllocError, Global};
 use std::marker::Model;
 
-/// An architecture, and its numbers that no call with a name has.
+/// An architecture, and the call numbers that no call with a name has there.
 #[derive(Drop)]
 struct Gaps {
     arch: u32,
@@ -86,7 +86,8 @@ fn all_gaps(alloc: Global, sets: &[Names]) -> Result<Vec<Gaps>, AllocError>
     Ok(all)
 }
 
-/// A part that is some spans. `Memory` where an allocation is refused.
+/// A part of these spans, or, as a rest, of all other numbers. It belongs to no fork, so its branch means nothing.
+/// `Memory` where an allocation is refused.
 fn part_of(alloc: Global, is_rest: bool, spans: Vec<Span>) -> Result<Part, Fault>
     ensures made { IfOk result (λ p. p ≡ part_of is_rest spans.items) }
     ensures refused { IfErr result (λ e. e ≡ MemoryFault) }
@@ -104,7 +105,8 @@ fn part_of_span(alloc: Global, span: Span) -> Result<Part, Fault>
     part_of(alloc, false, spans)
 }
 
-/// The only span of a part of call numbers: a run of a fork.
+/// The only span of a part of call numbers, which is a run of a fork. None for a rest, or where there are several
+/// spans.
 fn run_of(part: &Part) -> Option<Span>
     ensures { result ≡ run_of part.now }
 {
@@ -138,7 +140,8 @@ fn within_nr(alloc: Global, nr: &Option<Part>, spans: &[Span]) -> Result<Vec<Spa
     }
 }
 
-/// Adds the condition that is left of a part of call numbers. `Memory` where an allocation is refused.
+/// Adds a part of call numbers as a condition, if it isn't one run: `within_nr` then doesn't cut spans down to it.
+/// `Memory` where an allocation is refused.
 fn push_kept(conditions: &mut Vec<Condition>, nr: &Option<Part>) -> Result<(), Fault>
     ensures added { IfOk result (λ _. conditions.new.items
         ≡ conditions.old.items ++ kept_nr nr.now) }
@@ -199,7 +202,8 @@ fn push_rows_in(
     Ok(())
 }
 
-/// Adds a row's inputs of an architecture whose call has no name. `Memory` where an allocation is refused.
+/// Adds rows for those inputs of a row that have the architecture of gaps and call numbers in them. `Memory` where an
+/// allocation is refused.
 fn push_rows_at(alloc: Global, rows: &mut Vec<Row>, row: &Row, gaps: &Gaps) -> Result<(), Fault>
     ensures added { IfOk result (λ _. rows.new.items
         ≡ rows.old.items ++ rows_at row.now gaps.now) }
@@ -212,7 +216,8 @@ fn push_rows_at(alloc: Global, rows: &mut Vec<Row>, row: &Row, gaps: &Gaps) -> R
     Ok(())
 }
 
-/// Adds a row's inputs of each architecture whose call has no name. `Memory` where an allocation is refused.
+/// Adds rows for those inputs of a row that have an architecture of the gaps and belong to no call with a name there.
+/// `Memory` where an allocation is refused.
 fn push_rows_at_all(
     alloc: Global,
     rows: &mut Vec<Row>,
@@ -250,7 +255,7 @@ fn archs_met(alloc: Global, part: &Option<Part>, all: &[Gaps]) -> Result<Vec<u32
     Ok(archs)
 }
 
-/// Adds a row about other architectures. `Memory` where an allocation is refused.
+/// Adds a row as it is, but with this part as its architectures. `Memory` where an allocation is refused.
 fn push_with_arch(alloc: Global, rows: &mut Vec<Row>, row: &Row, part: Part) -> Result<(), Fault>
     ensures added { IfOk result (λ _. rows.new.items
         ≡ rows.old.items ++ with_arch row.now part ∷ []) }
@@ -267,7 +272,8 @@ fn push_with_arch(alloc: Global, rows: &mut Vec<Row>, row: &Row, part: Part) -> 
     )
 }
 
-/// Adds a row about the architectures of some spans; none where there are none. `Memory` where an allocation is refused.
+/// Adds a row about the architectures of some spans; none where there are none. `Memory` where an allocation is
+/// refused.
 fn push_row_on(alloc: Global, rows: &mut Vec<Row>, row: &Row, spans: Vec<Span>) -> Result<(), Fault>
     ensures added { IfOk result (λ _. rows.new.items
         ≡ rows.old.items ++ row_on row.now spans.items) }
@@ -299,7 +305,8 @@ fn push_row_but(
     push_with_arch(alloc, rows, row, part)
 }
 
-/// Adds a row's inputs of other architectures than these, by the row's part. `Memory` where an allocation is refused.
+/// Adds a row's inputs of other architectures than these. Where the row's own architectures are all or a rest, the new
+/// part is a rest too; else it is the row's spans without these numbers. `Memory` where an allocation is refused.
 fn push_beyond(alloc: Global, rows: &mut Vec<Row>, row: &Row, archs: &[u32]) -> Result<(), Fault>
     ensures added { IfOk result (λ _. rows.new.items
         ≡ rows.old.items ++ rows_beyond row.now archs.now row.now.scope.arch) }
@@ -316,8 +323,8 @@ fn push_beyond(alloc: Global, rows: &mut Vec<Row>, row: &Row, archs: &[u32]) -> 
     push_row_on(alloc, rows, row, left)
 }
 
-/// Adds a row's inputs of other architectures than those of these numbers that it is about. `Memory` where an
-/// allocation is refused.
+/// Adds a row's inputs of other architectures than these, which are those of the sets that it is about. Where it is
+/// about none of them, the whole row is added. `Memory` where an allocation is refused.
 fn push_elsewhere(alloc: Global, rows: &mut Vec<Row>, row: &Row, archs: &[u32]) -> Result<(), Fault>
     ensures added { IfOk result (λ _. rows.new.items
         ≡ rows.old.items ++ rows_elsewhere row.now archs.now) }

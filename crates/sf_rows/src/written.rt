@@ -21,8 +21,8 @@ pub struct Lines {
     pub undetermined: usize,
 }
 
-/// The rows that are shown beside those of calls: where no call is asked for by its name, those of the inputs that
-/// belong to no call with a name. `Memory` where an allocation is refused.
+/// The rows that are shown beside those of calls. Where no call is asked for by its name, these are the rows of the
+/// inputs that belong to no call with a name; else there are none. `Memory` where an allocation is refused.
 pub(crate) fn other_rows(
     alloc: Global,
     sets: &[Names],
@@ -39,7 +39,8 @@ pub(crate) fn other_rows(
     Ok(Vec::new(alloc))
 }
 
-/// Adds the lines of the calls that are asked for, and then those of other inputs. `Memory` where an allocation is refused.
+/// Adds the lines of the calls in `wanted`. Where it is empty, adds the lines of all calls, and then those of the
+/// inputs that belong to no call with a name. `Memory` where an allocation is refused.
 fn push_calls(
     alloc: Global,
     text: &mut String,
@@ -67,9 +68,10 @@ fn push_calls(
     })
 }
 
-/// Adds the lines of rows, by the sets of calls and the words of labels: one for each row, or where `calls` is given those of
-/// these calls; of all calls where it names none, and then those of the inputs that belong to no call with a name. Answers
-/// how many lines these are. `Memory` where an allocation is refused.
+/// Adds the lines of rows, by the sets of calls and the words of labels. Without `calls` these are a line for each row.
+/// Where `calls` names some, they are the lines of these calls. Where it names none, they are the lines of all calls,
+/// and then those of the inputs that belong to no call with a name. Answers how many lines were added. `Memory` where
+/// an allocation is refused.
 pub fn push_lines(
     alloc: Global,
     text: &mut String,

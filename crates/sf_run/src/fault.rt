@@ -7,7 +7,7 @@ ghost use Rattle.sf_run.specs.Numbers.{fault_number};
 use std::alloc::{AllocError, AllocFailed};
 use thiserror::Error;
 
-/// Why a call was refused. There is only one reason.
+/// Why a run was not recorded. There is only one reason.
 #[derive(Clone, Copy, Debug, PartialEq, Eq, Error)]
 pub enum Fault {
     /// An allocation was refused.

@@ -38,7 +38,7 @@ pub fn no_whole_route_begins_another()
 {}
 
 /// A replay along the trace of an input gives the values that the programs return on it, newest first, and no truth
-/// value is left. The law asks that these values are words of 32 bits; those of the code are.
+/// value is left. It asks for values of 32 bits; the code has no others.
 pub fn traces_replay_the_returns()
     ensures { (programs : List (List Insn)) (d : Input) → IsLawfulStack programs
         → All (λ v. v < 2 ^ 32) (returns_of programs d)

@@ -1,8 +1,9 @@
-//! The answers of the two parts of a stack, replayed along a route of the whole.
+//! The answers of the two parts of a stack, replayed along a route of the whole. This gives both answers where
+//! two stacks are explored as one.
 //!
 //! A replay only follows control: it has neither A nor X nor scratch words. The truth values say how each test and each
-//! division by X goes on. A returned constant is known, a returned A is the number whose 32 bits are the next truth
-//! values, and a division by an X of 0 returns 0.
+//! division by X goes on. A returned constant stands in the program, a returned A is the number whose 32 bits are the
+//! next truth values, and a division by an X of 0 returns 0.
 
 ghost use Rattle.std.specs.Prelude.{◌≡◌, ◌↔◌, ◌<◌, ◌++◌, option_map, IfSome, IsSome};
 ghost use Rattle.sf_insn.specs.declared.input.Input.{Input};
@@ -41,8 +42,8 @@ fn next_number(met: &[bool]) -> Option<(u32, &[bool])>
     Some((number, left))
 }
 
-/// Where control leads from the instruction at the place, and the truth values that are left. `None` where there are
-/// too few.
+/// Where control leads from the instruction at the place by the next of these truth values, and those that are left.
+/// `None` where there are too few.
 fn follow<'a>(place: usize, insn: &Insn, met: &'a [bool]) -> Option<(Next, &'a [bool])>
     requires small { place < 4096 }
     ensures { option_map (λ r. (r.0, r.1.now)) result ≡ lead_of place insn.now met.now }
@@ -83,7 +84,7 @@ fn follow<'a>(place: usize, insn: &Insn, met: &'a [bool]) -> Option<(Next, &'a [
     }
 }
 
-/// What the program returns, and the truth values that are left. `None` where there are too few.
+/// What the program returns along these truth values, and those of them that are left. `None` where there are too few.
 fn replay_program<'a>(program: &Program, met: &'a [bool]) -> Option<(u32, &'a [bool])>
     ensures { option_map (λ r. (r.0, r.1.now)) result ≡ replay_of program.now met.now }
 {
@@ -102,7 +103,8 @@ fn replay_program<'a>(program: &Program, met: &'a [bool]) -> Option<(u32, &'a [b
     }
 }
 
-/// The answer of programs in order of installation, and the truth values that are left. `None` where there are too few.
+/// The answer that programs, in order of installation, give along these truth values, and those of them that are left.
+/// `None` where there are too few.
 fn replay_part<'a>(programs: &[Program], met: &'a [bool]) -> Option<(Answer, &'a [bool])>
     ensures { option_map (λ r. (r.0, r.1.now)) result ≡ answer_along programs.now met.now }
 {
@@ -120,8 +122,8 @@ fn replay_part<'a>(programs: &[Program], met: &'a [bool]) -> Option<(Answer, &'a
 }
 
 /// The answers of the two parts of a stack, its older programs and its newer ones, along a whole route of the stack.
-/// Each part is taken as a stack of its own, with its programs in order of installation. An input that has this trace
-/// is answered so. `None` where the truth values are not a whole route. Takes no memory.
+/// Each part is taken as a stack of its own, with its programs in order of installation. These are the answers to each
+/// input whose trace is the route. `None` where the truth values are not a whole route. Takes no memory.
 pub fn replay(older: &[Program], newer: &[Program], route: &[bool]) -> Option<PartAnswers>
     // These are the answers of the definition.
     ensures same { result ≡ answers_along older.now newer.now route.now }

@@ -17,9 +17,9 @@ use std::alloc::Global;
 pub enum Met {
     /// A conditional test: what it asks, A, the second word, and its result.
     Tested(Test, u32, u32, bool),
-    /// A division by this X, at which it is met whether X is 0.
+    /// A division by X, with the value of X. The truth value that is met says whether X is 0.
     Divided(u32),
-    /// A return of this A, at which its 32 bits are met.
+    /// A return of A, with the value of A. Its 32 bits are the truth values that are met.
     Returned(u32),
 }
 
@@ -78,8 +78,8 @@ pub(crate) fn what_is_met(machine: &Machine, insn: &Insn) -> Option<Met>
     }
 }
 
-/// The word of the input that A holds after an instruction, from the one that it held before. None where A holds
-/// another value.
+/// The word of the input that A is known to hold after an instruction. `word` is the one before it. `None` once A was
+/// set in another way than by a load of such a word, even if it still has the same value.
 fn word_after(word: Option<u8>, insn: &Insn) -> Option<u8>
     ensures { result ≡ word_after word insn.now }
 {
@@ -132,7 +132,7 @@ pub fn walk(alloc: Global, program: &Program, input: &Input) -> Result<Course, F
     ensures told { IfOk result (λ w. walk_of program.now input.now
         ≡ Some (course w.met.items w.place w.value)) }
 
-    // So it has the value that the program returns, and the truth values that it meets.
+    // It has the value that the program returns, and the truth values that the program meets.
     ensures run { IfOk result (λ w. (w.value ≡ return_of program.now input.now)
         × (flat_map truths w.met.items ≡ met_by program.now input.now)) }
 {

@@ -56,7 +56,7 @@ fn is_same(a: Node, b: Node) -> bool
     a == b
 }
 
-/// The first place at which a node with these operands may stand: they are older.
+/// The first place at which the node may stand, since its operands stand before it.
 fn place_behind_operands(node: Node) -> usize
     ensures { (i : ℕ) → OperandsBelow i node → result ≤ i }
 {
@@ -67,8 +67,8 @@ fn place_behind_operands(node: Node) -> usize
     }
 }
 
-/// The place of a node that is equal to this one, if there is one: its bucket is gone through, the newest first, down to
-/// the place behind its operands.
+/// The place of a node that is equal to this one, if there is one. The nodes of its bucket are compared with it, the
+/// newest first. None is looked at that stands before the node's operands, or is one of them.
 fn place_of(interned_nodes: &InternedNodes, heads: &[u32], node: Node) -> Option<usize>
     requires indexed { IsIndexed interned_nodes.now heads.now }
     requires ordered { AreOrdered 0 (nodes_of interned_nodes.now) }

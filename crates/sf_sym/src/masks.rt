@@ -20,8 +20,8 @@ pub struct MaskedWord {
     pub mask: u32,
 }
 
-/// The word and the mask that a node is made of, where it is a word of the input, or ANDs of one with constants: on each
-/// input the node's value is the word's number under the mask. `None` of any other node.
+/// A node as a word of the input under a mask, where it is such a word, or comes of one by ANDs with constants. On each
+/// input the node's value is the word's number under the mask. `None` for any other node.
 pub fn masked_word(pool: &Pool, id: NodeId) -> Option<MaskedWord>
     requires { id.0 < length pool.now }
     ensures inside { IfSome result (λ m. m.word < 16) }

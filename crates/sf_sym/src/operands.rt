@@ -10,7 +10,9 @@ ghost use Rattle.sf_sym.specs.Operands.{IsSwappable, constant_operand_of};
 use crate::pool::{Node, Pool, constant_of};
 use sf_insn::BinOp;
 
-/// Where exactly one operand of a node is a constant: the operation, the place of the other operand, and the constant.
+/// The operation of a node, the place of one operand, and the other operand's number, where exactly that one is a
+/// constant. `None` for any other node. It isn't said which operand comes first: callers only rely on the result for
+/// AND, OR and XOR, where that doesn't matter.
 pub fn constant_operand(pool: &Pool, at: usize) -> Option<(BinOp, usize, u32)>
     requires { at < length pool.now }
     ensures operand { result ≡ constant_operand_of pool.now (node_at pool.now at) }

@@ -1,5 +1,5 @@
-//! What may make a stack of filters look safe that isn't meant so: filters that let nothing through, filters that are there
-//! twice, and instructions that are never reached. What is found changes no answer.
+//! Signs that the given filters aren't those that the user means, and may look safer than these: they let no call
+//! through, a filter is there twice, or instructions are never reached. What is found changes no answer.
 #![tactic(auto)]
 
 mod equal;

@@ -8,7 +8,7 @@ ghost use Rattle.sf_warnings.specs.Reaching.{AreReached, with_found};
 use sf_check::{Insn, Program};
 use std::alloc::{AllocError, Global};
 
-/// Finds the places to which the instruction may lead.
+/// Marks in `found` the places to which the instruction at a place may lead.
 fn find_next(found: &mut [bool], place: usize, insn: &Insn)
     requires small { place < 4096 }
     requires inside { AllBelow (length found.old) (successors place insn.now) }

@@ -24,7 +24,7 @@ struct Beside {
     unexpected: bool,
     /// Where it stands.
     origin: Document,
-    /// Why the stack answers so to the example.
+    /// The remark on it, which says why the stack answers its example as it does.
     why: Document,
 }
 

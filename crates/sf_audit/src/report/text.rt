@@ -11,7 +11,7 @@ use sf_book::{Region, Settled};
 use sf_policy::{hex_of, push_action, push_counts};
 use std::alloc::{AllocError, Global};
 
-/// A region's name: a letter for each truth value, or a dash where it has none.
+/// Adds a region's name: a letter for each truth value, or a dash where it has none.
 fn push_truth_values(text: &mut String, name: &[bool]) -> Result<(), AllocError>
     ensures { OnOk result (string_bytes text.new ≡ string_bytes text.old ++ name_text name.now) }
 {
@@ -24,7 +24,7 @@ fn push_truth_values(text: &mut String, name: &[bool]) -> Result<(), AllocError>
     Ok(())
 }
 
-/// The line of a region: its number, its name and its answer.
+/// Adds the line of a region: its number, its name and its answer.
 fn push_region(
     alloc: Global,
     text: &mut String,
@@ -44,7 +44,7 @@ fn push_region(
     write!(text, " {info}\n")
 }
 
-/// The lines of all regions, in the order of their names.
+/// Adds the lines of all regions, in the order of their names.
 fn push_regions(alloc: Global, text: &mut String, settled: &Settled) -> Result<(), AllocError>
     ensures { OnOk result (string_bytes text.new ≡ string_bytes text.old
         ++ region_lines 1 settled.now.regions) }
@@ -55,7 +55,7 @@ fn push_regions(alloc: Global, text: &mut String, settled: &Settled) -> Result<(
     Ok(())
 }
 
-/// The lines of all regions where they are asked for, else nothing.
+/// Adds the lines of all regions where they are asked for.
 fn push_shown_regions(
     alloc: Global,
     text: &mut String,
@@ -71,7 +71,7 @@ fn push_shown_regions(
     Ok(())
 }
 
-/// The line of a question: its number, its name and its reply, with the example of an allowed one.
+/// Adds the line of a question: its number, its name and its reply, and the example where it is allowed.
 fn push_question(
     alloc: Global,
     text: &mut String,
@@ -92,7 +92,7 @@ fn push_question(
     }
 }
 
-/// The remark on the question at a place, counted from 0; nothing where it has none.
+/// Adds the remark on the question at a place, counted from 0, if it has one.
 fn push_remark(text: &mut String, remarks: &[String], place: usize) -> Result<(), AllocError>
     ensures { OnOk result (string_bytes text.new ≡ string_bytes text.old
         ++ remark_at (map string_bytes remarks.now) place) }
@@ -103,7 +103,7 @@ fn push_remark(text: &mut String, remarks: &[String], place: usize) -> Result<()
     }
 }
 
-/// The line of the question at a place, counted from 0, and under it the remark on it.
+/// Adds the line of the question at a place, counted from 0, and under it the remark on it.
 fn push_remarked(
     alloc: Global,
     text: &mut String,
@@ -120,7 +120,7 @@ fn push_remarked(
     push_remark(text, remarks, place)
 }
 
-/// The lines of all questions, in their order, and under each the remark on it.
+/// Adds the lines of all questions, in their order, and under each the remark on it.
 fn push_questions(
     alloc: Global,
     text: &mut String,
@@ -138,7 +138,8 @@ fn push_questions(
     Ok(())
 }
 
-/// The line that says how much was audited.
+/// Adds the line that says how much was audited: the number of filters, their length as seccomp(2) counts it, and the
+/// number of questions.
 fn push_size(
     text: &mut String,
     filters: usize,
@@ -154,7 +155,7 @@ fn push_size(
     )
 }
 
-/// The line that says how much was audited, by the exploration of the stack.
+/// Adds the line that says how much was audited: the size of the stack, and the number of questions.
 fn push_stack(text: &mut String, settled: &Settled, questions: usize) -> Result<(), AllocError>
     ensures { OnOk result (string_bytes text.new ≡ string_bytes text.old
         ++ size_line (length settled.now.stack) (path_length settled.now.stack) questions) }
@@ -163,7 +164,7 @@ fn push_stack(text: &mut String, settled: &Settled, questions: usize) -> Result<
     push_size(text, stack.programs().len(), stack.path_length(), questions)
 }
 
-/// What stands above the questions: the report's version, how much was audited, and the counts.
+/// Adds what stands above the questions: the report's version, how much was audited, and the counts of the exploration.
 fn push_head(text: &mut String, settled: &Settled, questions: usize) -> Result<(), AllocError>
     ensures { OnOk result (string_bytes text.new ≡ string_bytes text.old
         ++ head_text settled.now questions) }
@@ -173,7 +174,7 @@ fn push_head(text: &mut String, settled: &Settled, questions: usize) -> Result<(
     push_counts(text, settled.counts())
 }
 
-/// The line that says how many questions got which reply.
+/// Adds the line of totals, from the number of replies of each kind.
 fn push_total(
     text: &mut String,
     never: usize,
@@ -189,7 +190,7 @@ fn push_total(
     )
 }
 
-/// The line that says how many of these replies are of which kind.
+/// Counts the replies of each kind, and adds the line of totals.
 fn push_totals(text: &mut String, replies: &[Reply]) -> Result<(), AllocError>
     ensures { OnOk result (string_bytes text.new ≡ string_bytes text.old
         ++ totals_line replies.now) }

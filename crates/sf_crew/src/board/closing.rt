@@ -31,8 +31,9 @@ fn least_places(
 }
 
 impl Board {
-    /// What the words say at the end. Where all seats were joined into this one, it is said of all regions. The
-    /// caller's condition: the seat is of this board.
+    /// Closes the board, and gives what its words say at the end. They are right about the sheets that this seat and
+    /// the seats joined into it have entered. These are the sheets of all regions only where all seats were joined into
+    /// it and all jobs were drawn. The caller's condition: the seat is of this board.
     pub fn close(self, seat: Seat) -> Tally
         requires { IsSeatOf self seat }
         ensures { RightTally (about self) (seat_view seat) result }

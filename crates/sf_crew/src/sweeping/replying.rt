@@ -37,8 +37,8 @@ fn reply_without_hit(settled: &Settled, _question: &Question, doubt: bool) -> Re
     }
 }
 
-/// The reply to one question. For the example, the region at the question's least place is judged once more, which is a
-/// hit again. Without a least place none is.
+/// The reply to one question. Where the question has a least place, the region there is judged once more for its
+/// example: this verdict is a hit again. Else no region is judged.
 fn reply_of(
     alloc: Global,
     settled: &Settled,

@@ -30,8 +30,9 @@ fn next_lease(book: &mut Book) -> Result<Option<Lease>, Fault>
     Ok(book.lease()?)
 }
 
-/// One turn: the piece of the lease is worked and committed, and the children of a split are given back. The book is in
-/// hand from lease to commit, so the work is known to be of it, and their stacks aren't compared.
+/// One turn: the piece of the lease is worked and committed, and the children of a split are given back to the book.
+/// The worker has the book to itself from lease to commit, so the work is known to be of the book's stack, and the two
+/// stacks aren't compared.
 fn turn<G: Gate>(
     alloc: Global,
     book: &mut Book,

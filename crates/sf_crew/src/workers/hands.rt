@@ -47,7 +47,7 @@ pub(crate) struct Made {
 }
 
 impl Made {
-    /// Adds the children of a work to it.
+    /// A work with its children, which are still at hand when the book has taken the work.
     pub(crate) fn of(work: Work) -> Result<Made, Fault>
         ensures ok { IfOk result (λ made. (made.work ≡ work) × HasItsChildren made) }
         ensures err { IfErr result (λ f. f ≡ Memory) }

@@ -1,4 +1,5 @@
-//! Names of explorations. A type with such a name says of which stack and budget a book is, or of which stack a lease.
+//! Names of explorations: types that stand for a stack and a budget in proofs. The type of a shared book names the
+//! stack and the budget that the book has, and the type of a lease the stack that its piece has.
 use sf_book::Lease;
 use std::marker::{Brand, Model, PhantomData};
 

@@ -117,10 +117,10 @@ fn document_of(alloc: Global, traced: bool, trace: &Trace<'_>) -> Result<Documen
     Ok(Document::object(fields))
 }
 
-/// What `eval` finds, as JSON: the input, shown with these names of calls, the answer of the stack to it, and where
-/// `traced` or `brief` asks for it each filter, newest first: what it returns and at which instruction, whether its
-/// answer is the stack's, and all that it meets; in brief without what is false. `Memory` where an allocation is
-/// refused.
+/// What `eval` finds, as JSON: the input, shown with these names of calls, and the answer of the stack to it. Where
+/// `traced` or `brief` is set, also each filter, newest first: what it returns and at which instruction, whether its
+/// answer is the stack's, and what it meets. With `brief`, comparisons that are false are left out. `Memory` where an
+/// allocation is refused.
 pub fn eval_document(
     alloc: Global,
     stack: &Stack,

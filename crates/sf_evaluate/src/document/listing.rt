@@ -67,8 +67,8 @@ fn filter_documents(
     Ok(documents)
 }
 
-/// What `check` finds of a stack, as JSON: how many instructions each filter has, with their listing where `listed` asks
-/// for it, and the path length of the stack. An error where an allocation is refused.
+/// What `check` finds of a stack, as JSON: how many instructions each filter has, with their listing where `listed`
+/// asks for it, and the path length of the stack. An error where an allocation is refused.
 pub fn check_document(alloc: Global, stack: &Stack, listed: bool) -> Result<Document, AllocError>
     ensures { IfOk result (λ d. IsCheckDocument listed stack.now (view d)) }
 {

@@ -61,7 +61,8 @@ fn step_document(
     Ok(Document::object(fields))
 }
 
-/// A comparison of a value, which is the word of the input if there is one, with another one.
+/// The document of a comparison: the instruction at a place compares `value` with `other`. `word` is the word of the
+/// input from which `value` was loaded, if it is one.
 fn compared_document(
     alloc: Global,
     place: usize,
@@ -119,7 +120,7 @@ fn meeting_document(alloc: Global, meeting: Meeting) -> Result<Document, AllocEr
     }
 }
 
-/// Whether what was met is false: a test that is false, or a division by an X that isn't 0.
+/// Whether a comparison was met that is false. A division by X compares X with 0, so it is false where X isn't 0.
 fn is_false(met: Met) -> bool
     ensures { result ≡ is_false met }
 {
@@ -130,7 +131,7 @@ fn is_false(met: Met) -> bool
     }
 }
 
-/// Adds what a filter meets at an instruction; in brief nothing where that is false.
+/// Adds what a filter meets at an instruction; with `brief` nothing where that is a comparison that is false.
 fn push_shown(
     alloc: Global,
     documents: &mut Vec<Document>,
@@ -147,7 +148,8 @@ fn push_shown(
     Ok(())
 }
 
-/// All that a filter meets, in order; in brief without what is false. An error where an allocation is refused.
+/// What a filter meets, in order; with `brief` without the comparisons that are false. An error where an allocation is
+/// refused.
 pub(super) fn met_documents(
     alloc: Global,
     brief: bool,

@@ -98,7 +98,8 @@ fn names_in_spans(
     Ok(documents)
 }
 
-/// The names of the calls of an architecture whose numbers are in a part; none for a rest, or where all numbers are meant.
+/// The names of the calls of an architecture whose numbers are in a part; none for a rest, or where all numbers are
+/// meant.
 fn names_in_part(
     alloc: Global,
     sets: &[Names],

@@ -34,7 +34,7 @@ impl<N: Naming> NewBench<N> {
         NewBench { owner }
     }
 
-    /// The bench for leases.
+    /// The bench on which leases may be put. From now on it can't be dropped.
     pub(crate) fn open(self) -> Bench<N>
         ensures { result.owner ≡ self.owner }
     {
@@ -59,8 +59,8 @@ impl<N: Naming> Bench<N> {
         }
     }
 
-    /// The first lease that no handle has got. `None` where each that was put had been got, by the owner or, as far as it
-    /// knows, by thieves.
+    /// The first lease that no handle has got. `None` where each that was put had been got, by the owner or, as far as
+    /// it knows, by thieves.
     pub(crate) fn take(&mut self) -> Option<Held<N>>
         ensures { MatchOption result ((owner_view self.new.owner ≡ owner_view self.old.owner)
             × AllGot (owner_view self.old.owner))

@@ -7,7 +7,7 @@ use crate::workers::hands::Held;
 use crate::workers::naming::{NamedLease, Naming};
 use crossbeam_deque::Steal;
 
-/// Tries one bench.
+/// Tries to steal a lease from one bench. None where nothing is on it, or another handle came first.
 fn steal_at<N: Naming>(others: &mut [Thief<NamedLease<N>>], place: usize) -> Option<Held<N>>
     requires { place < length others.old }
     ensures { Steals (thief_views others.old) result (thief_views others.new) }
