@@ -1,11 +1,12 @@
-"""Which lines are too long to be read: of proofs, definitions and documents past 120 columns, and of clauses past 100
-bytes.
+"""Which lines are too long to be read: of proofs, definitions, comments and documents past 120 columns, and of clauses
+past 100 bytes.
 
     tools/look lines            the files that have one
     tools/look lines --write    breaks them first, and lays the files of crates out anew (`rattle fmt`)
 
-In crates/ the .antt files are looked at, but for their `use` lines, and in .rt files clauses (`requires`, `ensures`)
-and ghost items. Their bytes are counted, as many tools do, so a clause of symbols is broken earlier. A line is
+In crates/ the .antt files are looked at, but for their `use` lines, and in .rt files comments, clauses (`requires`,
+`ensures`) and ghost items. The bytes of clauses are counted, as many tools do, so a clause of symbols is broken earlier.
+A paragraph of a comment is filled anew, as one of a document is. A line is
 broken at a space, where it belongs together least: outside brackets rather than inside, and there before an arrow
 rather than between a function and what it is applied to. What comes after goes on below, four columns further in. The
 tokens stay what they are, so nothing changes for the prover.
@@ -20,6 +21,7 @@ import subprocess
 from looking.tree import CRATES, ROOT, shown
 
 OF_PROOFS = 120
+OF_COMMENTS = 120
 OF_CLAUSES = 100
 OF_DOCUMENTS = 120
 
@@ -38,6 +40,7 @@ WORST = 7
 CLAUSE = re.compile(r"^\s*(ensures|requires)\b[^{]*\{ ")
 GHOST = re.compile(r"^(\s*ghost \w+(?: =|:) \{ )(.*) (\}[;,])$")
 USE = re.compile(r"(pub )?use ")
+COMMENT = re.compile(r" *//[/!]?(?= |$)")
 
 # In a document: lines that belong to no paragraph, an entry of a list, the indent and mark of a line, the digits of an
 # input, and words that make something else of a line which begins with them.
@@ -202,7 +205,7 @@ def of_code(text):
     return "\n".join(done), long
 
 
-def filled(lines):
+def filled(lines, width):
     """The lines of a paragraph, or of an entry of a list, filled anew."""
     mark = MARK.match(lines[0])[0]
     rest = mark if mark.startswith(">") else " " * len(mark)
@@ -214,20 +217,20 @@ def filled(lines):
         else:
             words.append(word)
     for word in words:
-        if len(line) > len(mark) and len(line) + len(word) > OF_DOCUMENTS:
+        if len(line) > len(mark) and len(line) + len(word) > width:
             done.append(line[:-1])
             line = rest
         line += word + " "
     return [*done, line[:-1]]
 
 
-def is_long(line, goes_on):
+def is_long(line, goes_on, width):
     """Whether a line of a block is too long: a command is, and neither what is printed nor the digits of an input."""
     is_command = goes_on or line.lstrip(" ").startswith("$ ")
-    return len(line) > OF_DOCUMENTS and is_command and not DIGITS.search(line)
+    return len(line) > width and is_command and not DIGITS.search(line)
 
 
-def of_document(text):
+def of_document(text, width=OF_DOCUMENTS):
     """A document with the paragraphs filled anew that have a long line, and how many lines stay long."""
     done, paragraph, is_block, long = [], [], False, 0
     for line in [*text.split("\n"), ""]:
@@ -236,15 +239,35 @@ def of_document(text):
         if not (is_fence or is_block or ALONE.match(start)) and not (paragraph and ENTRY.match(start)):
             paragraph.append(line)
             continue
-        if any(len(one) > OF_DOCUMENTS for one in paragraph):
-            paragraph = filled(paragraph)
-        long += sum(len(one) > OF_DOCUMENTS for one in paragraph)
+        if any(len(one) > width for one in paragraph):
+            paragraph = filled(paragraph, width)
+        long += sum(len(one) > width for one in paragraph)
         done += paragraph
         if is_block:
-            long += is_long(line, done[-1].endswith("\\"))
+            long += is_long(line, done[-1].endswith("\\"), width)
         is_block ^= is_fence
         paragraph = [line] if not is_block and ENTRY.match(start) else []
         done += [] if paragraph else [line]
+    return "\n".join(done[:-1]), long
+
+
+def of_source(text):
+    """A source file with its long lines broken, and the paragraphs of its comments filled anew that have one, and how many
+    lines stay long."""
+    text, long = of_code(text)
+    done, block, head = [], [], ""
+    for line in [*text.split("\n"), ""]:
+        mark = COMMENT.match(line)
+        if block and (not mark or mark[0] != head):
+            shown_text = "\n".join(one[len(head) + 1 :] for one in block)
+            new, stays = of_document(shown_text, OF_COMMENTS - len(head) - 1)
+            done += [f"{head} {one}".rstrip(" ") for one in new.split("\n")]
+            long, block = long + stays, []
+        if mark:
+            head = mark[0]
+            block.append(line)
+        else:
+            done.append(line)
     return "\n".join(done[:-1]), long
 
 
@@ -257,7 +280,7 @@ def documents():
 def fault(path, is_writing):
     """What is wrong with a file that has a line that is too long, or still has one after writing; else None."""
     text = path.read_text()
-    new, long = {".antt": of_proofs, ".rt": of_code, ".md": of_document}[path.suffix](text)
+    new, long = {".antt": of_proofs, ".rt": of_source, ".md": of_document}[path.suffix](text)
     if new == text and not long:
         return None
     if is_writing and new != text:
