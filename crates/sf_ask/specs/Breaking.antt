@@ -13,7 +13,7 @@ pub record IsNumberOf (q : QuestionData) (word n : ℕ) : Type 0 where
   pub below : n ≤ (range_at q word).1
   pub masked : bit_and n (mask_at q word).0 ≡ (mask_at q word).1
 
--- an input is in a question where each of its words has such a number
+-- an input is in a question where each of its words has a number that it may have there
 abbrev pub IsInQuestion : QuestionData → Input → Type 0
 IsInQuestion q d = (word : ℕ) → word < 16 → IsNumberOf q word (slice_index d.words word)
 

@@ -1,6 +1,7 @@
--- Verdicts on regions and replies to questions, by the rules. The facts of its piece are confined to the question, word
--- after word. Where they can't be, the verdict is clear. Else one input is tried: it has in each word the least number
--- that these facts leave. There is a hit where it is a member of the region, and else a doubt.
+-- Verdicts on regions and replies to questions, by the rules. Where a question doesn't ask about a region's action, the
+-- verdict is clear. Else the facts of the region's piece are confined to the question, word after word. If they can't
+-- be, the verdict is clear. If they can, one input is tried: it has in each word the least number that the confined
+-- facts leave. The verdict is a hit where this input is a member of the region, and a doubt where it isn't.
 use Rattle.std.specs.Prelude.{◌≡◌, ℕ, zero, suc, ◌<◌, ◌==◌, ◌⊎◌, Bool, true, false, List, [], length, Some, slice_get, MatchBool}
 use Rattle.sf_insn.specs.declared.input.Input.{Input}
 use Rattle.sf_sym.specs.declared.pool.Node.{Node}
@@ -17,12 +18,12 @@ use Rattle.sf_ask.specs.Actions.{has_action}
 use Rattle.sf_ask.specs.QuestionData.{QuestionData, range_at, mask_at, is_whole}
 use Rattle.sf_ask.specs.Trying.{IsLeastInput}
 
--- facts take in that a word lies in its range, unless the range leaves no number out
+-- facts take in that a word lies in its range; a range that leaves no number out changes nothing
 abbrev pub TakeInRange : QuestionData → ℕ → List Node → FactsView → FactsView → Type 0
 TakeInRange q word ns f g = MatchBool (is_whole (range_at q word)) (g ≡ f)
     (TakesInBy f g ns word (between (range_at q word).0 (range_at q word).1))
 
--- facts take in that a word has the bits of its mask, if there are any
+-- facts take in that a word has its value on the bits of its mask; a mask without bits changes nothing
 abbrev pub TakeInMask : QuestionData → ℕ → List Node → FactsView → FactsView → Type 0
 TakeInMask q word ns f g = MatchBool ((mask_at q word).0 == 0) (g ≡ f)
     (TakesInBy f g ns word (masked (mask_at q word).0 (mask_at q word).1))
@@ -46,14 +47,16 @@ TakeInQuestion q ns f g = TakeInBefore q 16 ns f g
 abbrev pub CantTakeInQuestion : QuestionData → List Node → FactsView → Type 0
 CantTakeInQuestion q ns f = (g : FactsView) → ¬ TakeInQuestion q ns f g
 
--- this input is tried, and this is whether it is a member of the piece
+-- The input d is tried: it is the least one that the piece's facts leave, confined to the question. `found` says
+-- whether d is a member of the piece.
 pub record IsTriedBy (p : PieceData) (q : QuestionData) (d : Input) (found : Bool) : Type 0 where
   pub left : FactsView
   pub confined : TakeInQuestion q p.pool p.facts left
   pub least : IsLeastInput left d
   pub member : is_member p d ≡ found
 
--- what is found of members of a piece that are in the question
+-- What is found of a piece: clear, where its facts can't be confined to the question; a hit, if the input that is tried
+-- is a member; a doubt, if it isn't.
 abbrev pub FindsInQuestion : PieceData → QuestionData → Verdict → Type 0
 FindsInQuestion p q Clear = CantTakeInQuestion q p.pool p.facts
 FindsInQuestion p q (Hit d) = IsTriedBy p q d true
@@ -70,7 +73,7 @@ pub record HasVerdictAt (s : BookData) (place : ℕ) (q : QuestionData) (v : Ver
   pub there : slice_get s.regions place ≡ Some region
   pub verdict : HasVerdict region q v
 
--- the verdict on the region at a place is no hit
+-- the verdict on the region at a place is clear or a doubt
 abbrev pub HasNoHitAt : BookData → ℕ → QuestionData → Type 0
 HasNoHitAt s place q = HasVerdictAt s place q Clear ⊎ HasVerdictAt s place q Doubt
 

@@ -1,4 +1,5 @@
--- What a search for a member of a piece finds, where no question is asked.
+-- When what a search for a member of a piece finds, where no question is asked, is right, and when it is the least
+-- member.
 use Rattle.std.specs.Prelude.{◌≡◌, ℕ, ◌<◌, ◌≤◌, true, false, slice_index}
 use Rattle.sf_insn.specs.declared.input.Input.{Input}
 use Rattle.sf_insn.specs.Inputs.{IsInput}
@@ -7,8 +8,8 @@ use Rattle.sf_piece.specs.Pieces.{PieceData, is_member, HasNoMember}
 use Rattle.sf_ask.specs.declared.members.Membership.{Membership}
 use Rattle.sf_ask.specs.declared.members.Membership.TheVariants.{Empty, Member, Doubt}
 
--- What is found is right: a piece that is found empty has no member, an input that is found is a member, and where
--- there is a doubt an input was tried that isn't one.
+-- What is found is right: a piece that is found empty has no member, and an input that is found is a member. A doubt
+-- says only that some input is no member.
 abbrev pub IsRightMembership : PieceData → Membership → Type 0
 IsRightMembership p Empty = HasNoMember p
 IsRightMembership p (Member d) = IsInput d × (is_member p d ≡ true)
@@ -27,7 +28,7 @@ IsLeastFound p Empty = ⊥
 IsLeastFound p (Member d) = IsLeastMember p d
 IsLeastFound p Doubt = ⊥
 
--- all members of a piece agree with facts of its pool
+-- the facts cover the piece's pool, and all members of the piece agree with them
 pub record CoverMembers (p : PieceData) (f : FactsView) : Type 0 where
   pub covers : Covers f p.pool
   pub agree : (d : Input) → IsInput d → is_member p d ≡ true → Agrees f p.pool d

@@ -1,4 +1,5 @@
--- What the rules of verdicts, of replies and of members that are found promise, said of the rules alone: there is one.
+-- What the rules promise, said of the rules alone: a region has one verdict, a search for a member one result, and a
+-- question one reply.
 use Rattle.std.specs.Prelude.{◌≡◌, []}
 use Rattle.sf_sym.specs.Pool.{IsPool}
 use Rattle.sf_piece.specs.Execution.{AreSamePieces}
@@ -12,12 +13,12 @@ use Rattle.sf_ask.specs.declared.members.Membership.{Membership}
 use Rattle.sf_ask.specs.Finding.{FindsMember}
 use Rattle.sf_ask.specs.Judging.{HasVerdict, HasReply}
 
--- a region and one of the same piece and answer have one verdict
+-- two regions with the same piece and the same answer have the same verdict on each question
 abbrev pub HaveOneVerdict : Type 0
 HaveOneVerdict = (r s : RegionData) (q : QuestionData) (v w : Verdict) → AreSamePieces r.piece s.piece
     → r.answer ≡ s.answer → IsPool r.piece.pool → HasVerdict r q v → HasVerdict s q w → v ≡ w
 
--- of a piece and one that is the same, one thing is found of the members
+-- a search for a member finds the same in two pieces that are the same
 abbrev pub FindOneThing : Type 0
 FindOneThing = (p q : PieceData) (m n : Membership) → AreSamePieces p q → IsPool p.pool → FindsMember p m
     → FindsMember q n → m ≡ n
@@ -28,7 +29,7 @@ pub record IsWholeFringe (s : BookData) : Type 0 where
   pub fringe : IsFringe s
   pub none_left : s.outstanding ≡ []
 
--- two explorations of one stack that both ended with nothing outstanding have one reply to a question
+-- two explorations of one stack that both ended with nothing outstanding have the same reply to each question
 abbrev pub HaveOneReply : Type 0
 HaveOneReply = (s t : BookData) (q : QuestionData) (x y : Reply) → IsWholeFringe s → IsWholeFringe t
     → s.stack ≡ t.stack → HasReply s q x → HasReply t q y → x ≡ y

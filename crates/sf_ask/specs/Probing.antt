@@ -12,7 +12,7 @@ use Rattle.sf_ask.specs.QuestionData.{QuestionData, range_at}
 use Rattle.sf_ask.specs.declared.probe.Probe.{Probe}
 use Rattle.sf_ask.specs.declared.probe.Probes.{Probes}
 
--- a probe is of the question at its place, and has its range for the first word, the call's number
+-- a probe has the place of a question, and this question's range for the first word, the call's number
 pub record IsProbeIn (questions : List QuestionData) (p : Probe) : Type 0 where
   pub inside : p.question < length questions
   pub of : (question : QuestionData) → slice_get questions p.question ≡ Some question
@@ -26,14 +26,15 @@ has_one_call p = p.low == p.high
 abbrev pub HasProbe : List Probe → ℕ → Type 0
 HasProbe probes q = (p : Probe) × Contains probes p × (p.question ≡ q)
 
--- each of the first n questions has a probe, those of questions about one call apart from the others
+-- Each of the first n questions has a probe in one of two lists, and all probes are of questions that there are. Those
+-- in `by_call` have one number of the call each; those in `others` may have any range.
 pub record AreProbes (questions : List QuestionData) (n : ℕ) (by_call others : List Probe) : Type 0 where
   pub right_calls : All (IsProbeIn questions) by_call
   pub one_call : All (λ p. has_one_call p ≡ true) by_call
   pub right_others : All (IsProbeIn questions) others
   pub each : (q : ℕ) → q < n → HasProbe by_call q ⊎ HasProbe others q
 
--- the probes of these questions
+-- each of these questions has a probe, and the probes with one number of the call stand in the order of this number
 pub record AreProbesOf (questions : List QuestionData) (probes : Probes) : Type 0 where
   pub each : AreProbes questions (length questions) probes.by_call.items probes.others.items
   pub ascending : IsNonDecreasingBy (λ (p : Probe). p.low) probes.by_call.items
@@ -43,11 +44,11 @@ pub record LeaveNone (f : FactsView) (pool : List Node) (question : QuestionData
   pub none : NoInput f pool (IsInQuestion question)
   pub rule : CantTakeInQuestion question pool f
 
--- facts rule a question out
+-- facts rule a question out, whatever pool they cover
 abbrev pub IsRuledOut : FactsView → QuestionData → Type 0
 IsRuledOut f question = (pool : List Node) → Covers f pool → LeaveNone f pool question
 
--- where the question asks about the action, it is ruled out
+-- where the question at a place asks about the action, it is ruled out
 unfoldable pub IsRuledOutIfAsked : FactsView → List QuestionData → Action → ℕ → Type 0
 IsRuledOutIfAsked f questions action q = (question : QuestionData) → slice_get questions q ≡ Some question
     → has_action question.actions action ≡ true → IsRuledOut f question

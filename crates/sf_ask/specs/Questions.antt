@@ -11,7 +11,7 @@ use Rattle.sf_ask.specs.QuestionData.{QuestionData}
 abbrev pub is_printable : ℕ → Bool
 is_printable byte = nat_le 0x21 byte && nat_le byte 0x7e
 
--- a name has 1 to 64 of these
+-- a name has 1 to 64 characters, each of them printable and not the blank
 abbrev pub is_name : List ℕ → Bool
 is_name text = nat_le 1 (length text) && nat_le (length text) 64 && list_all is_printable text
 
@@ -32,11 +32,11 @@ question_of name ranges masks actions =
     else if is_no_action actions then Err faults.Actions
     else Ok (record { name = name; ranges = ranges; masks = masks; actions = actions })
 
--- the parts of the question make it, so none of them is at fault
+-- the question has sixteen ranges and sixteen masks, and `question_of` finds no fault in its parts
 abbrev pub IsQuestion : QuestionData → Type 0
 IsQuestion q = (length q.ranges ≡ 16) × (length q.masks ≡ 16) × (question_of q.name q.ranges q.masks q.actions ≡ Ok q)
 
--- a fault is the one that is due; refused memory comes only where no other is
+-- a fault is the one that is due; refused memory is reported only where no fault is due
 abbrev pub IsDueFault : {X : Type 0} → Fault → Result X Fault → Type 0
 IsDueFault faults.Memory due = IsOk due
 IsDueFault faults.Name due = due ≡ Err faults.Name

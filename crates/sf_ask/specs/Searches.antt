@@ -43,11 +43,12 @@ abbrev pub CantTakeInWord : QuestionData → ℕ → List Node → FactsView →
 CantTakeInWord q word ns f = CantTakeInRange q word ns f
     ⊎ ((ranged : FactsView) × TakeInRange q word ns f ranged × CantTakeInMask q word ns ranged)
 
--- what is known of a word leaves no number from low to high
+-- the interval in which a word is known to lie has no number from low to high
 abbrev pub IsOutside : Known → ℕ → ℕ → Type 0
 IsOutside k low high = (k.high < low) ⊎ (high < k.low)
 
--- what a search for a member in the question tells is right
+-- What a search for a member in the question tells is right. Clear: no member is in the question. A hit: the input is a
+-- member, and in the question. A doubt: the low input is no member.
 abbrev pub IsRightSearch : PieceData → QuestionData → Verdict → Type 0
 IsRightSearch p q Clear = (d : Input) → IsInput d → is_member p d ≡ true → ¬ IsInQuestion q d
 IsRightSearch p q (Hit d) = IsInput d × (is_member p d ≡ true) × IsInQuestion q d

@@ -51,18 +51,18 @@ is_clear_or_skipped (Some Doubt) = false
 abbrev pub clear_if_wanted : List ℕ → ℕ → Option Verdict
 clear_if_wanted wanted q = if has_bit wanted q then Some Clear else None
 
--- these verdicts on the first n questions
+-- the verdicts on the first n questions: clear on each that is asked for, and none on another
 abbrev pub first_verdicts : List ℕ → ℕ → List (Option Verdict)
 first_verdicts wanted zero = []
 first_verdicts wanted (suc n) = first_verdicts wanted n ++ clear_if_wanted wanted n ∷ []
 
--- the verdicts of a sheet: where none is listed, each question that is asked for is clear
+-- the verdicts of a sheet: those that are listed; where there is no list, clear on each question that is asked for
 abbrev pub shown_verdicts : List ℕ → ℕ → Option (List (Option Verdict)) → List (Option Verdict)
 shown_verdicts wanted n None = first_verdicts wanted n
 shown_verdicts wanted n (Some listed) = listed
 
--- a verdict on the question of a number is right, tells what was tried, and is that of the rules; on a plain stack
--- there is no doubt
+-- On the region at a place, the verdict on question number q is right, tells what was tried, and is that of the rules;
+-- on a plain stack it is no doubt.
 pub record IsRightOn (s : BookData) (questions : List QuestionData) (place q : ℕ) (v : Verdict) : Type 0 where
   pub question : QuestionData
   pub asked : slice_get questions q ≡ Some question
@@ -71,7 +71,7 @@ pub record IsRightOn (s : BookData) (questions : List QuestionData) (place q : �
   pub rule : HasVerdictAt s place question v
   pub decisive : IsPlain s.stack → IsDecisive v
 
--- the verdict on the question of a number is a hit
+-- on the region at a place, the verdict on question number q is a hit
 abbrev pub HasHit : BookData → List QuestionData → ℕ → ℕ → Type 0
 HasHit s questions place q = (d : Input) × IsRightOn s questions place q (Hit d)
 

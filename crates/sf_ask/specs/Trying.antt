@@ -8,7 +8,7 @@ use Rattle.sf_piece.specs.Pieces.{PieceData}
 use Rattle.sf_ask.specs.QuestionData.{QuestionData}
 use Rattle.sf_ask.specs.Breaking.{IsNumberOf, IsInQuestion}
 
--- the numbers that the words before a place may have are those of the question
+-- where the word stands before the place `end`, the number is one that the question leaves for it
 abbrev pub IsNumberBefore : QuestionData → ℕ → ℕ → ℕ → Type 0
 IsNumberBefore q end word n = word < end → IsNumberOf q word n
 

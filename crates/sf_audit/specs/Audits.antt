@@ -34,7 +34,7 @@ pub record IsMiscounted (files : List (List ℕ)) (questions : List QuestionData
   pub spelled : SpellStack files stack
   pub count : IsWrongCount questions
 
--- the first refusal: of the files, then of the questions by their number
+-- the first refusal: that of the files; if they spell a stack, that there is no question or that there are too many
 abbrev pub IsAuditRefusal : List (List ℕ) → List QuestionData → Fault → Type 0
 IsAuditRefusal files questions faults.Count = IsMiscounted files questions
 IsAuditRefusal files questions fault = IsFirstRefusal files fault

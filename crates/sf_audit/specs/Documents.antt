@@ -13,8 +13,8 @@ use Rattle.sf_audit.specs.Outcomes.{Found}
 use Rattle.sf_audit.specs.Reports.{is_allowed, is_never, is_unsettled, letter, remark_at}
 use Rattle.sf_audit.specs.Expectations.{ExpectedData, does_hold, is_accepted, is_unexpected}
 
--- How an audit is told: whether its regions are, and what was expected; the names of calls with which inputs are told;
--- and of each question where it stands, and the remark on it.
+-- How an audit is told: whether its regions are told, and whether it is told what was expected; the names of calls with
+-- which inputs are told; and for each question where it stands, and the remark on it.
 pub record TellingData : Type 0 where
   pub regions : Bool
   pub is_expecting : Bool
@@ -22,7 +22,7 @@ pub record TellingData : Type 0 where
   pub origins : List Data
   pub remarks : List (List ℕ)
 
--- how an audit is told by these
+-- the same, by the values of the code
 abbrev pub telling_data : Telling → TellingData
 telling_data t = record {
   regions = t.regions;
@@ -33,7 +33,7 @@ telling_data t = record {
 }
 
 -- What is told of a question beside its reply: whether its name is an accepted one, whether it is allowed and not
--- accepted, where it stands, and why the stack answers so to the example.
+-- accepted, where it stands, and as `why` the remark on it.
 pub record BesideData : Type 0 where
   pub accepted : Bool
   pub unexpected : Bool
@@ -111,7 +111,7 @@ expected_document e = fields (
     (codes "control", list_of (control_documents e.control e.held))
     ∷ (codes "holds", boolean (does_hold e.held)) ∷ [])
 
--- the same, where it is told what was expected
+-- the control and whether it holds, where this is shown; null where it isn't
 abbrev pub shown_expected : Bool → ExpectedData → Data
 shown_expected shown e = if shown then expected_document e else null
 
@@ -129,7 +129,7 @@ abbrev pub region_documents : ℕ → List RegionData → List Data
 region_documents number [] = []
 region_documents number (r ∷ rs) = region_document number r ∷ region_documents (number + 1) rs
 
--- the regions, where they are asked for
+-- the regions, where they are asked for; null where they aren't
 abbrev pub shown_regions : Bool → List RegionData → Data
 shown_regions shown rs = if shown then list_of (region_documents 1 rs) else null
 

@@ -9,8 +9,8 @@ use Rattle.sf_policy.specs.Texts.{line}
 use Rattle.sf_audit.specs.Outcomes.{Found}
 use Rattle.sf_audit.specs.Reports.{is_allowed}
 
--- What is expected: that each question of a control is allowed, of which these are the replies; and that no question is
--- allowed but those with an accepted name.
+-- What is expected: that each question of a control is allowed; and that no question of the audit is allowed but those
+-- with an accepted name. `held` are the replies to the control.
 pub record ExpectedData : Type 0 where
   pub control : List QuestionData
   pub held : List Reply
@@ -20,13 +20,13 @@ pub record ExpectedData : Type 0 where
 pub record IsHeld (e : ExpectedData) : Type 0 where
   pub each : length e.control ≡ length e.held
 
--- a question of the control, where it isn't allowed
+-- the line of a question of the control: its reply, if it isn't allowed, and no line if it is
 abbrev pub control_line : List ℕ → Reply → List ℕ
 control_line name Never = line (codes "control" ∷ name ∷ codes "never" ∷ [])
 control_line name (Allowed input) = []
 control_line name Unsettled = line (codes "control" ∷ name ∷ codes "unsettled" ∷ [])
 
--- the questions of the control that aren't allowed
+-- the lines of the questions of the control that aren't allowed
 abbrev pub control_lines : List QuestionData → List Reply → List ℕ
 control_lines (q ∷ qs) (r ∷ rs) = control_line q.name r ++ control_lines qs rs
 control_lines _ _ = []
@@ -35,22 +35,22 @@ control_lines _ _ = []
 abbrev pub is_accepted : List (List ℕ) → List ℕ → Bool
 is_accepted accepted name = list_any (λ n. bytes_eq n name) accepted
 
--- what is told of a question that may be allowed, by its name: that it could go from the accepted ones
+-- the line of a question with an accepted name: that its reply is never, so the name could go; else no line
 abbrev pub accepted_line : List ℕ → Reply → List ℕ
 accepted_line name Never = line (codes "accepted" ∷ name ∷ codes "never" ∷ [])
 accepted_line name _ = []
 
--- what is told of a question that may not be allowed, by its name: that it is
+-- the line of a question without an accepted name: that it is allowed, which isn't expected; else no line
 abbrev pub unexpected_line : List ℕ → Reply → List ℕ
 unexpected_line name (Allowed input) = line (codes "unexpected" ∷ name ∷ [])
 unexpected_line name _ = []
 
--- what is told of a question
+-- the line of a question of the audit, if its reply isn't as expected
 abbrev pub expected_line : List (List ℕ) → List ℕ → Reply → List ℕ
 expected_line accepted name reply =
     if is_accepted accepted name then accepted_line name reply else unexpected_line name reply
 
--- what is told of questions
+-- the lines of questions of the audit whose replies aren't as expected
 abbrev pub expected_lines : List (List ℕ) → List QuestionData → List Reply → List ℕ
 expected_lines accepted (q ∷ qs) (r ∷ rs) = expected_line accepted q.name r ++ expected_lines accepted qs rs
 expected_lines accepted _ _ = []

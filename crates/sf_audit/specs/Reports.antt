@@ -44,7 +44,7 @@ abbrev pub letter : Bool → ℕ
 letter true = 84
 letter false = 70
 
--- truth values by T and F, none by -
+-- truth values by T and F; a dash where there are none
 abbrev pub name_text : List Bool → List ℕ
 name_text name = if length name == 0 then codes "-" else map letter name
 

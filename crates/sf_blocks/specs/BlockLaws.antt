@@ -5,7 +5,7 @@ use Rattle.std.specs.List.{AllZip}
 use Rattle.sf_blocks.specs.Blocks.{joined_by, AreWideBy}
 
 module _ {B T : Type 0} (items : B → List T) (width : ℕ) where
-  -- the first of such blocks, and the others
+  -- where all blocks have this width, the first has it, and so have all the others
   pub first-wide : (b : B) (bs : List B) → AreWideBy items width (b ∷ bs) → length (items b) ≡ width
   first-wide b bs w = w 0 b (omega arith)
 

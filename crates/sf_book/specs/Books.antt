@@ -44,7 +44,8 @@ pub record BookData : Type 0 where
 abbrev pub members_of : List OutstandingData → List RegionData → Input → ℕ
 members_of es rs d = count_by (λ e. is_member e.piece d) es + count_by (λ r. is_member r.piece d) rs
 
--- how many of the names the list of truth values begins with
+-- how many of the names, of outstanding pieces, of regions and of emptied pieces, are beginnings of this list of truth
+-- values
 abbrev pub names_before : List OutstandingData → List RegionData → List (List Bool) → List Bool → ℕ
 names_before es rs ns t = count_by (λ e. is_prefix e.piece.name t) es + count_by (λ r. is_prefix r.name t) rs
     + count_by (λ n. is_prefix n t) ns
@@ -59,7 +60,8 @@ pub record IsOutstanding (stack : List (List Insn)) (e : OutstandingData) : Type
   pub of : e.piece.stack ≡ stack
   pub named : IsTrulyNamed e.piece
 
--- truly named by a whole route, and right on each member
+-- A region of the stack: its name is a whole route, its members are the inputs whose trace begins with the name, and
+-- the stack gives each of them its answer.
 pub record IsRightRegion (stack : List (List Insn)) (r : RegionData) : Type 0 where
   pub of : r.piece.stack ≡ stack
   pub route : IsWholeRoute stack r.name
@@ -98,7 +100,7 @@ fresh stack r budget = record {
   budget = budget;
 }
 
--- what a book keeps: it is lawful, and the next id is above all ids
+-- what a book keeps: it is lawful, the next id is above all ids, and each commit has used up two ids at most
 pub record IsKept (b : BookData) (next : ℕ) : Type 0 where
   pub lawful : IsLawfulBook b
   pub below : All (λ e. e.id < next) b.outstanding

@@ -1,4 +1,4 @@
--- The outstanding piece under an id.
+-- The outstanding piece under an id: what holds of all pieces holds of it, and it is found on lease once it is leased.
 use Rattle.std.proofs.Common.{◌≡◌, ℕ, ◌==◌, Bool, true, false, cond, List, [], ◌∷◌, map, Some, ap, subst}
 use Rattle.std.specs.List.{All}
 use Rattle.std.proofs.lemmas.Option.{same_Some}

@@ -16,7 +16,7 @@ outstanding_at id es = find (λ e. e.id == id) es
 abbrev pub with_lease : Bool → OutstandingData → OutstandingData
 with_lease on e = record { id = e.id; piece = e.piece; leased = on }
 
--- the outstanding piece, put on lease or taken off where it has the id
+-- the outstanding piece; if it has this id, it is put on lease or taken off
 abbrev pub with_lease_at : ℕ → Bool → OutstandingData → OutstandingData
 with_lease_at id on e = record { id = e.id; piece = e.piece; leased = (if e.id == id then on else e.leased) }
 
@@ -43,7 +43,8 @@ pub record MayCommit (b : BookData) (id : ℕ) (w : WorkData) : Type 0 where
 abbrev pub IsStale : ℕ → List OutstandingData → WorkData → Type 0
 IsStale id es w = MatchOption (outstanding_at id es) (Unit {0}) (λ e. e.piece.name ≢ w.piece.name)
 
--- why a commit is refused
+-- why a commit is refused: the work is of another stack; or it is stale; or the budget is spent; or, where none of
+-- these holds, memory was lacking
 abbrev pub Refuses : BookData → ℕ → WorkData → Fault → Type 0
 Refuses b id w Foreign = w.piece.stack ≢ b.stack
 Refuses b id w Stale = (w.piece.stack ≡ b.stack) × IsStale id b.outstanding w
@@ -54,7 +55,8 @@ Refuses b id w Memory = MayCommit b id w × (b.commits < b.budget)
 abbrev pub AreNewIds : List OutstandingData → ℕ → ℕ → Type 0
 AreNewIds es i j = All (λ e. e.id < i) es × (i < j)
 
--- the book with the piece under the id replaced by its work's result
+-- The book after the commit: in the place of the piece under the id come the two pieces of a split, both on lease and
+-- under new ids, or one region, or one emptied name.
 abbrev pub CommitsAs : BookData → ℕ → PieceData → List Bool → StepData → Option (ℕ × ℕ) → BookData → Type 0
 CommitsAs b id p n (Split f t) (Some ids) c =
     AreNewIds b.outstanding ids.0 ids.1
@@ -76,13 +78,13 @@ CommitsAs b id p n (Split f t) None c = ⊥
 CommitsAs b id p n (Settled a) (Some ids) c = ⊥
 CommitsAs b id p n Empty (Some ids) c = ⊥
 
--- the first piece that isn't on lease is leased, and nothing else changes
+-- of the pieces that aren't on lease the first in name order is leased, and nothing else changes
 pub record Leases (b : BookData) (id : ℕ) (p : PieceData) (c : BookData) : Type 0 where
   pub there : outstanding_at id b.outstanding ≡ Some (record { id = id; piece = p; leased = false })
   pub first : IsFirstFree p.name b.outstanding
   pub after : c ≡ record b { outstanding = map (with_lease_at id true) b.outstanding }
 
--- the book's parts, with the regions in some order
+-- the same book, but for the order of its regions
 pub record Settles (b s : BookData) : Type 0 where
   pub stack : s.stack ≡ b.stack
   pub outstanding : s.outstanding ≡ b.outstanding

@@ -1,4 +1,5 @@
--- Books in which each piece and region has a member, as on a plain stack, beside the feasible traces of their stacks.
+-- Books in which each piece and region has a member, as on a plain stack, and books whose regions are named by a list
+-- of traces.
 use Rattle.std.specs.Prelude.{◌≡◌, ◌+◌, ◌*◌, Bool, true, List, [], All, length, map}
 use Rattle.sf_insn.specs.declared.input.Input.{Input}
 use Rattle.sf_insn.specs.Inputs.{IsInput}
@@ -16,7 +17,7 @@ pub record HasMembers (b : BookData) : Type 0 where
   pub emptied : b.emptied ≡ []
 
 -- The regions have exactly these names, in this order. There was one split fewer than there are regions, each commit
--- was a split or settled a region, and no piece was emptied.
+-- was a split or settled a region, and no piece was emptied. In a lawful book nothing is outstanding then.
 pub record IsWorkedOff (b : BookData) (traces : List (List Bool)) : Type 0 where
   pub names : map (λ (r : RegionData). r.name) b.regions ≡ traces
   pub splits : b.splits + 1 ≡ length traces

@@ -1,4 +1,5 @@
--- Outstanding pieces by their ids, and whether they are on lease by their names.
+-- The two maps of a book: one has each outstanding piece under its id, the other has under its name whether it is on
+-- lease.
 use Rattle.std.specs.Prelude.{◌≡◌, ℕ, true, false, List, map, Option, Some, refl}
 use Rattle.std.specs.Ordering.{bool_cmp, is_eq, nat_cmp, eq_by_cmp}
 use Rattle.std.specs.declared.cmp.Ordering.{Ordering}
@@ -14,7 +15,7 @@ use Rattle.sf_book.specs.Books.{OutstandingData}
 use Rattle.sf_book.specs.Changes.{outstanding_at, with_lease_at, IsFirstFree}
 use Rattle.sf_book.specs.declared.outstanding.LeaseState.{LeaseState}
 
--- pieces in the order of their names
+-- how two pieces compare by their names, in name order
 abbrev pub name_cmp : PieceData → PieceData → Ordering
 name_cmp p q = slice_cmp bool_cmp p.name q.name
 
@@ -30,11 +31,12 @@ name_ties p q = refl
 abbrev pub piece_at : List (ℕ × PieceData) → ℕ → Option PieceData
 piece_at ids i = lookup (is_at (nat_cmp i)) ids
 
--- whether the piece of a name is on lease
+-- what stands under the name of a piece: an id, and whether it is on lease
 abbrev pub lease_state_of : List (PieceData × LeaseState) → PieceData → Option LeaseState
 lease_state_of names p = lookup (is_at (name_cmp p)) names
 
--- an outstanding piece, with its lease's state
+-- an outstanding piece; what stands under its name says whether it is on lease, and where nothing stands there, it
+-- counts as leased
 abbrev pub outstanding_of : List (PieceData × LeaseState) → ℕ × PieceData → OutstandingData
 outstanding_of names e = record {
   id = e.0;
@@ -57,7 +59,7 @@ pub record AreMatchingMaps (ids : List (ℕ × PieceData)) (names : List (PieceD
       × (piece_at ids m.id ≡ Some p)
       × (p.name ≡ q.name)
 
--- the first free piece is put on lease
+-- of the pieces that aren't on lease the first in name order is put on lease
 pub record LeasesFirst (es : List OutstandingData) (id : ℕ) (p : PieceData) (fs : List OutstandingData) : Type 0 where
   pub there : outstanding_at id es ≡ Some (record { id = id; piece = p; leased = false })
   pub first : IsFirstFree p.name es

@@ -1,4 +1,5 @@
--- What a count of one, or of at most one, says of the places of a list.
+-- A lawful book is a partition, place by place: each input lies in exactly one piece, and no name begins another. This
+-- follows from what a count of one, or of at most one, says of the places of a list.
 use Rattle.std.proofs.Common.{◌≡◌, ℕ, zero, suc, ◌+◌, ◌≤◌, Bool, true, false, List, [], ◌∷◌, ◌++◌, map, Some, refl, sym, ◌∙◌, ap, arith}
 use Rattle.std.specs.List.{slice_get, sum_by}
 use Rattle.std.proofs.lemmas.List.Sums.{sum_by-cons, sum_by-append}

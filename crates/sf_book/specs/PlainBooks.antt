@@ -6,7 +6,7 @@ use Rattle.sf_piece.specs.PlainPieces.{IsPlainPiece}
 use Rattle.sf_book.specs.Books.{OutstandingData, RegionData, BookData, IsKept, IsSettled}
 use Rattle.sf_book.specs.Unfoldings.{IsFringe}
 
--- the pieces of a book of a plain stack
+-- the book of a plain stack: each outstanding piece and the piece of each region is plain, and none was emptied
 pub record IsPlainBook (b : BookData) : Type 0 where
   pub outstanding : All (λ (e : OutstandingData). IsPlainPiece e.piece) b.outstanding
   pub regions : All (λ (r : RegionData). IsPlainPiece r.piece) b.regions
@@ -16,13 +16,15 @@ pub record IsPlainBook (b : BookData) : Type 0 where
 pub record IsPlainWhereStackIs (b : BookData) : Type 0 where
   pub book : IsPlain b.stack → IsPlainBook b
 
--- what the type of books keeps
+-- what the type of books keeps: the book is lawful and its ids are below the next one, it is plain where its stack is,
+-- and it is the fringe of an unfolding
 pub record IsBook (b : BookData) (next : ℕ) : Type 0 where
   pub kept : IsKept b next
   pub plain : IsPlainWhereStackIs b
   pub fringe : IsFringe b
 
--- what the type of ended explorations keeps
+-- what the type of ended explorations keeps: the book is lawful with its regions in name order, it is plain where its
+-- stack is, and it is the fringe of an unfolding
 pub record IsClosed (b : BookData) : Type 0 where
   pub settled : IsSettled b
   pub plain : IsPlainWhereStackIs b

@@ -1,4 +1,4 @@
--- What the calls make of a book of a plain stack is such a book.
+-- What the calls on a book keep: where its stack is plain, the book is.
 use Rattle.std.proofs.Common.{◌≡◌, ℕ, ◌+◌, ◌<◌, ◌==◌, true, false, not, List, [], ◌∷◌, ◌++◌, length, get_or, map, refl, sym, subst}
 use Rattle.std.specs.List.{All}
 use Rattle.std.specs.List.Sorted.{IsPermutation}

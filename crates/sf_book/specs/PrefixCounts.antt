@@ -1,4 +1,4 @@
--- Whether a list begins with a name, as a number to be added up.
+-- Whether a list of truth values begins with a name, as a number that can be added up.
 use Rattle.std.proofs.Common.{ℕ, Bool, cond, List}
 use Rattle.sf_piece.specs.Pieces.{is_prefix}
 

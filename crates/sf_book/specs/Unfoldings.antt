@@ -1,4 +1,4 @@
--- How far the execution tree of a stack is explored, and when a book says just that.
+-- How far the execution tree of a stack is unfolded, and when a book is the fringe of an unfolding.
 use Rattle.std.specs.Prelude.{◌≡◌, ℕ, ◌+◌, Bool, List, [], ◌∷◌, ◌++◌, map, All, sum_by}
 use Rattle.sf_check.specs.declared.insn.Insn.{Insn}
 use Rattle.sf_run.specs.declared.action.Answer.{Answer}
@@ -14,7 +14,7 @@ pub data Unfolding : Type 0 where
   Emptied : PieceData → Unfolding
   Fork : PieceData → Unfolding → Unfolding → Unfolding
 
--- the piece with which it begins
+-- the piece with which an unfolding begins
 abbrev pub top_of : Unfolding → PieceData
 top_of (Outstanding p) = p
 top_of (Region p name answer) = p
@@ -26,7 +26,7 @@ pub record IsPieceOf (stack : List (List Insn)) (p : PieceData) : Type 0 where
   pub reached : IsReached p
   pub of : p.stack ≡ stack
 
--- the piece is split into these two
+-- the piece is split into these two, but for how excluded numbers are listed and which nodes are variables
 pub record HasSides (p f t : PieceData) : Type 0 where
   pub false_side : PieceData
   pub true_side : PieceData
@@ -78,8 +78,9 @@ HaveSameElements {X} xs ys = (weight : X → ℕ) → sum_by weight xs ≡ sum_b
 abbrev pub IsRegionOf : List (List Insn) → RegionData → Type 0
 IsRegionOf stack r = IsPieceOf stack r.piece × HasStep r.piece (Settled r.answer) r.name
 
--- A book is the fringe of an unfolding of its stack, which begins with the first piece: what is outstanding, settled
--- and emptied are the ends of its branches, and the splits are its forks.
+-- A book is the fringe of an unfolding of its stack, which begins with a piece of empty name. By their names, what is
+-- outstanding, settled and emptied are the ends of its branches; each region is by the rules one of the stack; and
+-- there are as many splits as forks.
 pub record IsFringe (b : BookData) : Type 0 where
   pub tree : Unfolding
   pub unfolds : IsUnfolding b.stack tree
@@ -102,7 +103,8 @@ AreSameRegions [] [] = Unit {0}
 AreSameRegions (r ∷ rs) (q ∷ qs) = IsSameRegion r q × AreSameRegions rs qs
 AreSameRegions _ _ = ⊥
 
--- Two explorations have one result: the same regions in the same order, the same emptied names and the same counts.
+-- Two explorations have one result: the same regions in the same order, the same emptied names, and the same numbers of
+-- splits and commits.
 pub record HaveOneResult (b c : BookData) : Type 0 where
   pub regions : AreSameRegions b.regions c.regions
   pub emptied : HaveSameElements b.emptied c.emptied

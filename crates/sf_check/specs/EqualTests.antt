@@ -8,7 +8,7 @@ use Rattle.sf_check.specs.declared.insn.Insn.TheVariants.{Branch}
 use Rattle.sf_check.specs.declared.insn.Operand.TheVariants.{Constant}
 use Rattle.sf_check.specs.Programs.{IsAt}
 
--- The instruction asks whether A equals this number; where it doesn't, it skips this many instructions.
+-- The instruction asks whether A equals this number. Where A is another number, it skips this many instructions.
 pub record AsksFor (i : Insn) (number skips : ℕ) : Type 0 where
   pub on_true : ℕ
   pub is : i ≡ Branch Equal (Constant number) on_true skips
@@ -21,14 +21,15 @@ pub record IsEqualTest (code : List Insn) (at number next : ℕ) : Type 0 where
   pub asks : AsksFor insn number skips
   pub leads : next ≡ at + 1 + skips
 
--- From `place` this many equal tests for other numbers, each where the one before leads, lead to `behind`. Where A is
--- this number, all of them fail.
+-- This many equal tests lead from `place` to `behind`: each stands where the one before it leads when it fails. Each
+-- asks for a number other than this one; where A is this number, all of them fail.
 abbrev pub ArePassed : List Insn → ℕ → ℕ → ℕ → ℕ → Type 0
 ArePassed code number zero place behind = behind ≡ place
 ArePassed code number (suc n) place behind =
     (k : ℕ) × (next : ℕ) × (k ≢ number) × IsEqualTest code place k next × ArePassed code number n next behind
 
--- From `place` `count` equal tests for other numbers lead to `behind`, where no such test stands.
+-- `count` equal tests, each for a number other than this one, lead from `place` to `behind`. That is a place of the
+-- program, and no equal test for another number stands there.
 pub record IsBehindOthers (code : List Insn) (place number count behind : ℕ) : Type 0 where
   pub passed : ArePassed code number count place behind
   pub inside : behind < length code
@@ -36,8 +37,8 @@ pub record IsBehindOthers (code : List Insn) (place number count behind : ℕ) :
 
 -- ---- the tables
 
--- Of two places of a chain the first, p, has a test that leads to a place of the chain: one step further, and not past
--- q.
+-- At p, the earlier of two places p and q of a chain, stands an equal test. It leads to a place of the chain that is
+-- one step further, and not past q.
 pub record LeadsOn (code : List Insn) (chains steps : List ℕ) (p q : ℕ) : Type 0 where
   pub number : ℕ
   pub next : ℕ
@@ -46,7 +47,8 @@ pub record LeadsOn (code : List Insn) (chains steps : List ℕ) (p q : ℕ) : Ty
   pub same : slice_index chains next ≡ slice_index chains p
   pub step : slice_index steps next ≡ slice_index steps p + 1
 
--- Place p is in a chain. A chain is numbered by its first place, and `lasts` has its last place under that number.
+-- Place p is in a chain. The number of the chain, and the step that p is in it, are at most p. Under that number
+-- `lasts` has the last place of the chain, which is in the program and not before p.
 pub record IsInChain (code : List Insn) (chains steps lasts : List ℕ) (p : ℕ) : Type 0 where
   pub begins : slice_index chains p ≤ p
   pub few : slice_index steps p ≤ p
@@ -54,8 +56,8 @@ pub record IsInChain (code : List Insn) (chains steps lasts : List ℕ) (p : ℕ
   pub inside : slice_index lasts (slice_index chains p) < length code
   pub same : slice_index chains (slice_index lasts (slice_index chains p)) ≡ slice_index chains p
 
--- The tables say of each place of a program which chain it is in and how many tests of the chain lead there, and of
--- each chain what its last place is.
+-- `chains` has for each place of a program the number of its chain, `steps` numbers the places along each chain, and
+-- `lasts` has the last place of each chain. From each place of a chain but the last one, a test leads to the next.
 pub record AreChains (code : List Insn) (chains steps lasts : List ℕ) : Type 0 where
   pub each_chain : length chains ≡ length code
   pub each_step : length steps ≡ length code
@@ -64,7 +66,8 @@ pub record AreChains (code : List Insn) (chains steps lasts : List ℕ) : Type 0
   pub on : (p q : ℕ) → p < q → q < length code → slice_index chains p ≡ slice_index chains q
       → LeadsOn code chains steps p q
 
--- an equal test as one number: in order of its chain, then of the number it asks for, then of its place
+-- an equal test as one number: keys ascend by chains, in a chain by the numbers that are asked for, and for one number
+-- by places
 abbrev pub test_key : ℕ → ℕ → ℕ → ℕ
 test_key chain number at = 4096 * (4294967296 * chain + number) + at
 
@@ -87,7 +90,7 @@ pub record AreTestKeys (code : List Insn) (chains keys : List ℕ) : Type 0 wher
 abbrev pub LeadInside : List Insn → Type 0
 LeadInside code = (at k next : ℕ) → IsEqualTest code at k next → next < length code
 
--- These are the tables of a program.
+-- These are the tables of a program. It has at most 4096 instructions, and its equal tests lead to places in it.
 pub record AreEqualTests (code : List Insn) (keys chains steps lasts : List ℕ) : Type 0 where
   pub keys_are : AreTestKeys code chains keys
   pub chains_are : AreChains code chains steps lasts

@@ -5,14 +5,14 @@ use Rattle.std.specs.Prelude.{sum_by}
 use Rattle.sf_check.specs.declared.insn.Insn.{Insn}
 use Rattle.sf_check.specs.Stacks.{path_length}
 
--- the lengths, each with 4 more, are the path length and 4 where there is a program
+-- where there is a program, the sum of all lengths with 4 more for each is 4 more than the path length
 path_and_four : (p : List Insn) (programs : List (List Insn))
     → sum_by (λ p. length p + 4) (p ∷ programs) ≡ path_length (p ∷ programs) + 4
 path_and_four p [] = omega arith
 path_and_four p (newer ∷ programs) =
     omega (arith, path_and_four newer programs, sum_by-cons (λ (p : List Insn). length p + 4) p (newer ∷ programs))
 
--- so it is their sum less 4
+-- the path length is the sum of all lengths with 4 more for each, less 4, or 0 where there is no program
 pub path_length-sum : (programs : List (List Insn)) → sum_by (λ p. length p + 4) programs - 4 ≡ path_length programs
 path_length-sum [] = refl
 path_length-sum (p ∷ programs) = omega (arith, path_and_four p programs)

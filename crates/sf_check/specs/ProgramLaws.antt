@@ -13,7 +13,7 @@ use Rattle.sf_check.specs.ContainsLaws.{contains_cons, contains_nil}
 pub only_one : (n q : ℕ) → Contains (n ∷ []) q → n ≡ q
 only_one n q c = elim (contains_cons n [] q c) [ inl e ↦ e | inr none ↦ absurd (contains_nil q none) ]
 
--- jumps go forward
+-- an instruction leads only to later places
 pub successor_after : (at : ℕ) (i : Insn) (q : ℕ) → Contains (successors at i) q → at < q
 successor_after at (ReturnConstant k) q c = absurd (contains_nil q c)
 successor_after at ReturnA q c = absurd (contains_nil q c)

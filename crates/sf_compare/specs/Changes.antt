@@ -1,4 +1,5 @@
--- What is found of two stacks that were explored as one, the old stack's programs first.
+-- When what is found of a relation between the answers of two stacks is right. The two were explored as one stack, in
+-- which the old stack's programs come first.
 use Rattle.std.specs.Prelude.{◌≡◌, ℕ, ◌<◌, ◌⊎◌, true, false, List, [], length, Some, slice_get}
 use Rattle.sf_insn.specs.declared.input.Input.{Input}
 use Rattle.sf_insn.specs.Inputs.{IsInput}
@@ -23,8 +24,8 @@ use Rattle.sf_compare.specs.declared.changes.Findings.{Findings}
 use Rattle.sf_compare.specs.Relations.{AreRelated}
 use Rattle.sf_compare.specs.Finding.{HasChange, HasFindingAt, new_of, old_of}
 
--- An input is changed: the old stack answers it with the answer before, the new one with the answer after, and these
--- are so related.
+-- An input is changed in the way of a relation: the old stack gives the answer `before` to it, the new one the answer
+-- `after`, and these two have the relation.
 pub record IsChange (old new : List (List Insn)) (relation : Relation) (d : Input)
     (before after : Answer) : Type 0 where
   pub input : IsInput d
@@ -37,7 +38,7 @@ pub record AreAnswersOf (s : BookData) (older : ℕ) (region : RegionData) (both
   pub before : (d : Input) → IsInput d → is_member region.piece d ≡ true → Answers (old_of s older) d both.older
   pub after : (d : Input) → IsInput d → is_member region.piece d ≡ true → Answers (new_of s older) d both.newer
 
--- the answers of both stacks along the name of the region at a place, which are those to each of its members
+-- if a region stands at the place, these are the answers of both stacks along its name, and to each of its members
 abbrev pub AreAnswersAt : BookData → ℕ → ℕ → PartAnswers → Type 0
 AreAnswersAt s older place both = (region : RegionData) → slice_get s.regions place ≡ Some region
     → AreAnswersOf s older region both × (answers_along (old_of s older) (new_of s older) region.name ≡ Some both)
@@ -47,7 +48,7 @@ pub record AreAnswersOfRegions (s : BookData) (older : ℕ) (all : List PartAnsw
   pub count : length all ≡ length s.regions
   pub each : (place : ℕ) (both : PartAnswers) → slice_get all place ≡ Some both → AreAnswersAt s older place both
 
--- the region at a place is in doubt: its two answers are so related, and an input was tried that isn't a member of it
+-- the region at a place is in doubt: its two answers have the relation, and some input is no member of it
 pub record IsDoubtfulAt (s : BookData) (older : ℕ) (relation : Relation) (place : ℕ) : Type 0 where
   pub region : RegionData
   pub there : slice_get s.regions place ≡ Some region
@@ -58,7 +59,7 @@ pub record IsDoubtfulAt (s : BookData) (older : ℕ) (relation : Relation) (plac
   pub is : IsInput tried
   pub outside : is_member region.piece tried ≡ false
 
--- no member of the region at a place is changed so
+-- no member of the region at a place is changed in the way of the relation
 abbrev pub IsUnchangedAt : BookData → ℕ → Relation → ℕ → Type 0
 IsUnchangedAt s older relation place =
     (d : Input) (before after : Answer) → IsMemberAt s place d
@@ -70,19 +71,20 @@ pub record IsLeastAt (s : BookData) (place : ℕ) (d : Input) : Type 0 where
   pub there : slice_get s.regions place ≡ Some region
   pub least : IsLeastMember region.piece d
 
--- no member of the region at a place is changed so, or the region is in doubt
+-- the region at a place is without an example: no member is changed in the way of the relation, or the region is in
+-- doubt
 abbrev pub IsWithoutExample : BookData → ℕ → Relation → ℕ → Type 0
 IsWithoutExample s older relation place = IsUnchangedAt s older relation place ⊎ IsDoubtfulAt s older relation place
 
--- an example is a member of the region at a place, and each earlier region is without one
+-- an input is a member of some region, and each earlier region is without an example
 pub record IsFirstFound (s : BookData) (older : ℕ) (relation : Relation) (d : Input) : Type 0 where
   pub place : ℕ
   pub member : IsMemberAt s place d
   pub earlier : (before : ℕ) → before < place → IsWithoutExample s older relation before
 
--- What is found of a relation is right: never, where nothing is outstanding and no input is changed so; found, with
--- an input that is, of the first region that isn't without one; and unsettled only where every region is without one,
--- and a piece is outstanding or some region is in doubt.
+-- What is found of a relation is right. Never: nothing is outstanding, and no input is changed in the way of the
+-- relation. Found: the example's input is, and each region before its own is without an example. Unsettled: every
+-- region is without an example, and a piece is outstanding or some region is in doubt.
 abbrev pub IsRightChange : BookData → ℕ → Relation → Change → Type 0
 IsRightChange s older relation Never = (s.outstanding ≡ [])
     × ((d : Input) (before after : Answer) → IsChange (old_of s older) (new_of s older) relation d before after → ⊥)
@@ -93,13 +95,14 @@ IsRightChange s older relation Unsettled =
     ((place : ℕ) → place < length s.regions → IsWithoutExample s older relation place)
     × ((0 < length s.outstanding) ⊎ ((place : ℕ) × IsDoubtfulAt s older relation place))
 
--- the least member of the first region with a member that is changed so
+-- the least member of a region, where no earlier region has a member that is changed in the way of the relation
 pub record IsFirstExample (s : BookData) (older : ℕ) (relation : Relation) (d : Input) : Type 0 where
   pub place : ℕ
   pub least : IsLeastAt s place d
   pub none_earlier : (earlier : ℕ) → earlier < place → IsUnchangedAt s older relation earlier
 
--- on a plain stack an example is the first one, and a relation is unsettled only where a piece is outstanding
+-- On a plain stack an example is the least member of its region, and no earlier region has a member that is changed in
+-- the way of the relation; and a relation is unsettled only where a piece is outstanding.
 abbrev pub IsPlainChange : BookData → ℕ → Relation → Change → Type 0
 IsPlainChange s older relation Never = Unit {0}
 IsPlainChange s older relation (Found e) = IsFirstExample s older relation e.input
@@ -121,18 +124,18 @@ finding_of f Different = f.different
 abbrev pub AreFindings : BookData → ℕ → Findings → Type 0
 AreFindings s older f = (relation : Relation) → IsChangeOf s older relation (finding_of f relation)
 
--- no member of the region at a place is changed so, and by the rules none is found
+-- no member of the region at a place is changed in the way of the relation, and by the rules none is found
 pub record IsClearAt (s : BookData) (older : ℕ) (relation : Relation) (place : ℕ) : Type 0 where
   pub unchanged : IsUnchangedAt s older relation place
   pub rule : HasFindingAt s older relation place Empty
 
--- the region at a place is in doubt, and so it is by the rules
+-- the region at a place is in doubt, and by the rules a doubt is found there
 pub record IsInDoubtAt (s : BookData) (older : ℕ) (relation : Relation) (place : ℕ) : Type 0 where
   pub doubtful : IsDoubtfulAt s older relation place
   pub rule : HasFindingAt s older relation place Doubt
 
--- What is found of a relation in the regions before a place: no member is changed so; or this input is; or each is
--- without an example, and some region is in doubt, which none is on a plain stack.
+-- What is found of a relation in the regions before a place. Never: each of them is clear. Found: the same is found in
+-- the end. Unsettled: each of them is clear or in doubt, some region is in doubt, and the stack isn't plain.
 abbrev pub TellsBefore : BookData → ℕ → ℕ → Relation → Change → Type 0
 TellsBefore s older end relation Never = (place : ℕ) → place < end → IsClearAt s older relation place
 TellsBefore s older end relation (Found e) = IsChangeOf s older relation (Found e)
@@ -144,13 +147,14 @@ TellsBefore s older end relation Unsettled =
 abbrev pub AllTellBefore : BookData → ℕ → ℕ → Findings → Type 0
 AllTellBefore s older end f = (relation : Relation) → TellsBefore s older end relation (finding_of f relation)
 
--- an example is sought in a region: none was found yet, and the two answers are so related
+-- an example is sought in a region: none was found yet, and the region's two answers have the relation
 abbrev pub IsSought : Relation → PartAnswers → Change → Type 0
 IsSought relation both Never = AreRelated relation both.older both.newer
 IsSought relation both (Found e) = ⊥
 IsSought relation both Unsettled = AreRelated relation both.older both.newer
 
--- what is found of the members of the region at a place, by the rules; on a plain stack it is the least one
+-- this is found by the rules where a member of the region at a place is looked for; it is right, and on a plain stack
+-- it is the least member
 pub record IsMembershipAt (s : BookData) (place : ℕ) (m : Membership) : Type 0 where
   pub region : RegionData
   pub there : slice_get s.regions place ≡ Some region
@@ -158,13 +162,14 @@ pub record IsMembershipAt (s : BookData) (place : ℕ) (m : Membership) : Type 0
   pub right : IsRightMembership region.piece m
   pub plain : IsPlain s.stack → IsLeastFound region.piece m
 
--- what is found of a relation after a region in which an example was sought
+-- what is found of a relation after a region where an example was sought, by what was found before and in the region
 abbrev pub with_membership : Membership → PartAnswers → Change → Change
 with_membership Empty both found = found
 with_membership (Member d) both found = Found (record { input = d; before = both.older; after = both.newer })
 with_membership Doubt both found = Unsettled
 
--- what is found of a relation after a region, of whose members this is found
+-- what is found of a relation after one more region: where an example is sought there, by what the search for a member
+-- finds, and else what was found before
 abbrev pub Follows : Relation → PartAnswers → Membership → (found next : Change) → Type 0
 Follows relation both m found next = (IsSought relation both found × (next ≡ with_membership m both found))
     ⊎ ((IsSought relation both found → ⊥) × (next ≡ found))

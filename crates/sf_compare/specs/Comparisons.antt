@@ -33,15 +33,15 @@ abbrev pub change_of : Compared → Relation → Change
 change_of c relation = finding_of c.findings relation
 
 -- An exploration of the stack came to its end, with nothing outstanding or all of the budget spent; on a plain stack
--- this is the exact end, whoever worked. What is found of its first programs, as the old stack, and the others is
--- right.
+-- this is the exact end, whoever worked. The stack's first programs are the old stack, and the others the new one: what
+-- is found of each relation between their answers is right, and what the rules find.
 pub record IsComparedOn (stack : List (List Insn)) (older budget : ℕ) (c : Compared) : Type 0 where
   pub end : IsExplorationOf stack budget c.settled
   pub plain : IsPlain stack → IsExactExploration stack budget c.settled
   pub parted : c.older ≡ older
   pub told : (relation : Relation) → IsChangeOf c.settled older relation (change_of c relation)
 
--- a comparison of the stacks of files, those of the old stack before those of the new one
+-- a comparison of the two stacks that files spell: the first `older` files are those of the old stack
 pub record IsComparison (files : List (List ℕ)) (older budget : ℕ) (c : Compared) : Type 0 where
   pub stack : SpellStack files c.settled.stack
   pub compared : IsComparedOn c.settled.stack older budget c

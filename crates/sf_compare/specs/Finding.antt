@@ -1,6 +1,6 @@
--- What is found of a relation between the answers of two stacks, by the rules. The answers to a region's members are
--- those along its name. Where they are so related, a member of the region is looked for. What is found is the first
--- member, in the order of names.
+-- What is found of a relation between the answers of two stacks, by the rules. A region's name gives the two answers to
+-- its members. Where these have the relation, a member of the region is looked for. The example is the member that is
+-- found in the first region, in the order of names, where one is found.
 use Rattle.std.specs.Prelude.{◌≡◌, ℕ, ◌<◌, ◌⊎◌, List, [], length, take, drop, Some, slice_get}
 use Rattle.sf_check.specs.declared.insn.Insn.{Insn}
 use Rattle.sf_run.specs.Replays.{answers_along}
@@ -23,8 +23,8 @@ old_of s older = take older s.stack
 abbrev pub new_of : BookData → ℕ → List (List Insn)
 new_of s older = drop older s.stack
 
--- What is found of members of the region at a place that are changed so: where its answers aren't so related, it has
--- none.
+-- What is found in the region at a place: where its two answers have the relation, what a search for a member of it
+-- finds; where they don't, `Empty`, since then no member is changed in the way of the relation.
 pub record HasFindingAt (s : BookData) (older : ℕ) (relation : Relation) (place : ℕ) (m : Membership) : Type 0 where
   pub region : RegionData
   pub there : slice_get s.regions place ≡ Some region
@@ -33,12 +33,14 @@ pub record HasFindingAt (s : BookData) (older : ℕ) (relation : Relation) (plac
   pub found : (AreRelated relation both.older both.newer × FindsMember region.piece m)
       ⊎ ((AreRelated relation both.older both.newer → ⊥) × (m ≡ Empty))
 
--- no member that is changed so is found in the region at a place
+-- in the region at a place no member is found that is changed in the way of the relation: there is none, or there is a
+-- doubt
 abbrev pub HasNoFindingAt : BookData → ℕ → Relation → ℕ → Type 0
 HasNoFindingAt s older relation place = HasFindingAt s older relation place Empty
     ⊎ HasFindingAt s older relation place Doubt
 
--- an example is the first member that is found, with the two answers of its region
+-- The example is the member that is found in a region, with the region's two answers, and no member is found in an
+-- earlier region.
 pub record IsFirstFinding (s : BookData) (older : ℕ) (relation : Relation) (e : Example) : Type 0 where
   pub place : ℕ
   pub here : HasFindingAt s older relation place (Member e.input)

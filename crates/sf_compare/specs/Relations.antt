@@ -16,13 +16,14 @@ reach_of Trace = 1
 reach_of UserNotif = 1
 reach_of _ = 0
 
--- an answer before and one after are so related: the call gets further, or less far, or the answers differ
+-- Two answers have a relation. Looser: by the second the call gets further. Tighter: by the second it gets less far.
+-- Different: the answers differ, in the action or in its data.
 abbrev pub AreRelated : Relation → Answer → Answer → Type 0
 AreRelated Looser before after = reach_of before.action < reach_of after.action
 AreRelated Tighter before after = reach_of after.action < reach_of before.action
 AreRelated Different before after = before ≢ after
 
--- with each of its actions, the set has all that let a call get as far
+-- with each of its actions, the set has all actions that let a call get as far or further
 abbrev pub IsUpward : ActionSet → Type 0
 IsUpward set =
     (action other : Action) → has_action set action ≡ true → reach_of action ≤ reach_of other

@@ -7,13 +7,13 @@ use Rattle.sf_crew.specs.declared.benches.history.HandleView.{HandleView}
 use Rattle.sf_crew.specs.History.{handle_view, handle_of, put_items, got_count, IsLawfulHistory, Puts, Gets}
 
 module _ {T : Type 0} where
-  -- a handle has seen the history up to its last step
+  -- what the handle with this number knows is a beginning of the history, and it has made no step after that
   abbrev pub Fits : List (Event T) → ℕ → HandleView T → Type 0
   Fits h port v = (v.me ≡ port)
       × ((rest : List (Event T)) × (h ≡ v.events ++ rest) × All (λ e. handle_of e ≢ port) rest)
 
-  -- there is one history, which each handle knows up to its own last step; the bench holds the items that were put and
-  -- not got
+  -- There is one lawful history, of which each handle knows a beginning with all its own steps. Each step was made by
+  -- one of the handles, and the owner has made all of these. The bench holds the items that were put and not got.
   pub record BenchKept (items : List T) (views : List (HandleView T)) : Type 0 where
     pub history : List (Event T)
     pub lawful : IsLawfulHistory history
@@ -22,11 +22,11 @@ module _ {T : Type 0} where
     pub each : (port : ℕ) (v : HandleView T) → get_elem? views port ≡ some v → Fits history port v
     pub all_made : (v : HandleView T) → get_elem? views 0 ≡ some v → v.made ≡ length views
 
-  -- the handle put the one item that came
+  -- if exactly one item came to the bench, the handle put it
   abbrev pub PutsAll : HandleView T → List T → HandleView T → Type 0
   PutsAll v xs w = (x : T) → xs ≡ x ∷ [] → Puts v x w
 
-  -- the handle got the one item that left
+  -- if exactly one item left the bench, the handle got it
   abbrev pub GetsAll : HandleView T → List T → HandleView T → Type 0
   GetsAll v xs w = (x : T) → xs ≡ x ∷ [] → Gets v x w
 

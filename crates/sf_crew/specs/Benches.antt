@@ -27,7 +27,7 @@ module _ {T : Type 0} where
   abbrev pub IsSameThief : Thief T → Thief T → Type 0
   IsSameThief t u = stealer_deque u.stealer ≡ stealer_deque t.stealer
 
-  -- new thieves, whose numbers are n, n + 1 and so on
+  -- new thieves, which know of no step yet, and whose numbers are n, n + 1 and so on
   abbrev pub AreThieves : ℕ → List (Thief T) → Type 0
   AreThieves n [] = Unit {0}
   AreThieves n (t ∷ ts) = (thief_view t ≡ handle_view n 0 []) × AreThieves (n + 1) ts

@@ -1,4 +1,4 @@
--- The rule of the board.
+-- The rule of the board: what holds of its words, and of what its seats know, before and after each step.
 use Rattle.std.specs.Prelude.{◌≡◌, ℕ, ◌+◌, ◌<◌, ◌≤◌, min, ◌/◌, ◌%◌, ◌==◌, List, [], All, count_by, sum_by, length, Some, None, slice_index}
 use Rattle.std.specs.Int.{bit_at}
 use mathlib.Core.Option.{some}
@@ -8,7 +8,7 @@ use Rattle.sf_crew.specs.declared.board.view.BoardKey.{BoardKey}
 use Rattle.sf_crew.specs.declared.board.view.View.{View}
 use Rattle.sf_crew.specs.Views.{questions_of, count_of_regions, jobs, Noted, Covered, RightPlace, once_below, top, doubt_at}
 
--- what holds of each view, whatever the others are
+-- what holds of what one seat knows (its view), by the words of the board, whatever the other seats know
 pub record Sound (k : BoardKey) (next : ℕ) (least : ℕ → ℕ) (v : View) : Type 0 where
   pub about : 0 < v.joined_seats → v.about ≡ Some k
   pub idle : v.joined_seats ≡ 0 → (v.owes ≡ None) × (v.entered_sheets ≡ [])
@@ -18,8 +18,8 @@ pub record Sound (k : BoardKey) (next : ℕ) (least : ℕ → ℕ) (v : View) : 
   pub noted : (q r : ℕ) → Noted v.notes q r → least q ≤ r
   pub covered : All (Covered k v.notes) v.entered_sheets
 
--- the words: the next job, the number of sheets entered, four of bits of the questions in doubt, and for each question
--- its least place
+-- What holds of the words and of all views. The words are: the next job; the number of sheets entered; four with the
+-- bits of the questions in doubt; and for each question its least place.
 pub record Kept (k : BoardKey) (next entered : ℕ) (doubts least : ℕ → ℕ) (views : List View) : Type 0 where
   pub joined_seats : sum_by (λ v. v.joined_seats) views ≡ k.seats
   pub drawn : (x : ℕ) → sum_by (λ v. count_by (λ j. x == j) (jobs v)) views

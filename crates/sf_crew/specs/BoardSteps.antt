@@ -1,4 +1,4 @@
--- What each step does to a view, and what it finds.
+-- What each step of a seat does to its view, which is what the seat knows, and what the step finds.
 use Rattle.std.specs.Prelude.{◌≡◌, ℕ, ◌+◌, ◌-◌, ◌<◌, ◌≤◌, ◌==◌, List, [], ◌∷◌, ◌++◌, count_by, length, Option, Some, None, IfSome}
 use Rattle.sf_crew.specs.declared.board.view.BoardKey.{BoardKey}
 use Rattle.sf_crew.specs.declared.board.view.Note.{Note}
@@ -61,19 +61,21 @@ joined_view v w = view_of v.about (v.joined_seats + w.joined_seats) (v.exhausted
     (v.entered_sheets ++ w.entered_sheets)
     (v.notes ++ w.notes)
 
--- a view in which all seats are joined has each job
+-- if all seats are joined in the view, it has each job exactly once
 abbrev pub HasAllJobs : BoardKey → View → Type 0
 HasAllJobs k v = v.joined_seats ≡ k.seats → (length (jobs v) ≡ count_of_regions k)
     × ((x : ℕ) → count_by (λ j. x == j) (jobs v) ≡ once_below x (count_of_regions k))
 
--- a draw found n
+-- A draw found n. If a region has this place, it is a new job of the seat, whose jobs were fewer than the regions, and
+-- the seat owes its sheet now. If none has it, no job is left, and the seat knows that; if all seats are joined in it,
+-- it has each job exactly once.
 abbrev pub Draws : View → ℕ → View → Type 0
 Draws v n w =
     IfSome v.about (λ k. (n < count_of_regions k → (count_by (λ j. n == j) (jobs v) ≡ 0)
     × (length (jobs v) < count_of_regions k) × (w ≡ view_with_job v n))
     × (count_of_regions k ≤ n → (w ≡ view_without_job v) × HasAllJobs k w))
 
--- a look at question q found the place r: a right one, no greater than any that the seat has noted
+-- a look at question q found the place r, which the seat notes: it is right, and no greater than any noted before
 abbrev pub Looks : View → ℕ → ℕ → View → Type 0
 Looks v q r w = (w ≡ view_with_note v q r) × ((s : ℕ) → Noted v.notes q s → r ≤ s)
     × IfSome v.about (λ k. RightPlace k q r)
@@ -91,6 +93,7 @@ kept_view v = view_of v.about (v.joined_seats - 1) v.exhausted_seats v.owes v.ma
 abbrev pub shared_view : View → View
 shared_view v = view_of v.about 1 0 None [] [] []
 
--- a draw got None, for the first time or again
+-- A draw found no job. If the seat had found that before, its view stays. If not, it knows it now, and has each job if
+-- all seats are joined in it.
 abbrev pub GotNone : BoardKey → View → View → Type 0
 GotNone k v w = (0 < v.exhausted_seats → w ≡ v) × (v.exhausted_seats ≡ 0 → (w ≡ view_without_job v) × HasAllJobs k w)

@@ -20,17 +20,17 @@ IsDoubt vs q = is_doubt (verdict_at vs q) ≡ true
 abbrev pub IsSkipped : List (Option Verdict) → ℕ → Type 0
 IsSkipped vs q = is_skipped (verdict_at vs q) ≡ true
 
--- the doubts of the first n verdicts are marked, and nothing else is new
+-- no mark is lost, the questions in doubt among the first n are marked, and only questions in doubt are newly marked
 pub record MarksDoubts (vs : List (Option Verdict)) (n : ℕ) (old new : List ℕ) : Type 0 where
   pub more : (q : ℕ) → has q old ≤ has q new
   pub doubts : (q : ℕ) → q < n → IsDoubt vs q → has q new ≡ 1
   pub only : (q : ℕ) → has q new ≡ 1 → (has q old ≡ 1) ⊎ IsDoubt vs q
 
--- the questions that a sheet has a doubt for
+-- exactly the questions that a sheet has a doubt for, in any order
 abbrev pub AreDoubts : SheetData → List ℕ → Type 0
 AreDoubts s qs = MarksDoubts s.verdicts (length s.questions) [] qs
 
--- the hits of the first n verdicts are noted at the job, and nothing else is new
+-- no note is lost, the hits among the first n verdicts are noted at the job, and only hits are newly noted, at the job
 pub record NotesHits (vs : List (Option Verdict)) (job n : ℕ) (old new : List Note) : Type 0 where
   pub more : (q r : ℕ) → Noted old q r → Noted new q r
   pub hits : (q : ℕ) → q < n → IsHit vs q → Noted new q job
@@ -44,7 +44,7 @@ pub record IsSheetFor (k : BoardKey) (v : View) (s : SheetData) : Type 0 where
   pub job : v.owes ≡ Some s.job
   pub skips : (q : ℕ) → q < length (questions_of k) → IsSkipped s.verdicts q → (r : ℕ) × Noted v.notes q r × (r < s.job)
 
--- the seat owes nothing more, has entered one more sheet, and has noted the hits
+-- the seat owes nothing more, has entered one more sheet with its doubts, has noted its hits, and has no marks left
 abbrev pub Enters : View → SheetData → View → Type 0
 Enters v s w = (ds : List ℕ) × AreDoubts s ds × NotesHits s.verdicts s.job (length s.questions) v.notes w.notes
     × (w ≡ view_of v.about v.joined_seats v.exhausted_seats None [] (entered_sheet s.job ds ∷ v.entered_sheets) w.notes)

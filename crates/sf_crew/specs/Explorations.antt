@@ -34,8 +34,8 @@ pub record TakesTurn (b c : BookData) : Type 0 where
   pub commits : c.commits ≡ b.commits + 1
   pub free : IsFree c.outstanding
 
--- the end of an exploration of the stack with the budget: it is the fringe of an execution tree, as far as that
--- unfolded
+-- An exploration of the stack came to its end: nothing is outstanding, or the budget is spent. Its book is lawful, and
+-- is the fringe of the stack's execution tree, as far as that was unfolded.
 pub record IsExplorationOf (stack : List (List Insn)) (budget : ℕ) (s : BookData) : Type 0 where
   pub settled : IsSettled s
   pub of : s.stack ≡ stack
@@ -43,8 +43,8 @@ pub record IsExplorationOf (stack : List (List Insn)) (budget : ℕ) (s : BookDa
   pub end : IsExhausted s
   pub fringe : IsFringe s
 
--- The end of an exploration of a plain stack: nothing is outstanding exactly where the budget is enough for its
--- feasible traces, and then these are what was found.
+-- The end of an exploration of a plain stack. Nothing is outstanding exactly where the budget is enough for its
+-- feasible traces (n of them take 2 * n - 1 commits), and then these are the names of its regions, in their order.
 pub record IsExactExploration (stack : List (List Insn)) (budget : ℕ) (s : BookData) : Type 0 where
   pub enough : (s.outstanding ≡ []) ↔ (2 * length (feasible_traces stack) ≤ budget + 1)
   pub worked : s.outstanding ≡ [] → IsWorkedOff s (feasible_traces stack)

@@ -36,19 +36,20 @@ pub record IsSharedSweep (w : SharedSweepData) : Type 0 where
   pub questions : questions_of (about w.board) ≡ w.questions
   pub probes : AreProbesOf w.questions w.probes
 
--- looking only adds notes, and each of the questions that isn't wanted has a noted place below the job
+-- looking changes nothing but the notes, and each question that isn't wanted has a noted place below the job
 pub record SkipsOnly (questions : List QuestionData) (job : ℕ) (v w : View) (wanted : List ℕ) : Type 0 where
   pub same : w ≡ with_notes v w.notes
   pub skips : (q : ℕ) → q < length questions → bit_of wanted q ≡ 0 → (r : ℕ) × Noted w.notes q r × (r < job)
 
--- looking at the questions of one word of bits only adds notes, and each question that isn't wanted has a noted place
+-- looking at the 64 questions of one word of bits only adds notes, and each of them that isn't wanted has a noted place
 -- below the job
 pub record SkipsOnlyIn (word job : ℕ) (v w : View) (wanted : ℕ) : Type 0 where
   pub same : w ≡ with_notes v w.notes
   pub more : (p r : ℕ) → Noted v.notes p r → Noted w.notes p r
   pub skips : (bit : ℕ) → bit < 64 → bit_at wanted bit ≡ 0 → (r : ℕ) × Noted w.notes (word * 64 + bit) r × (r < job)
 
--- a worker's seat, and whether it found that no job is left
+-- a worker's seat, which is one seat of the board; if the truth value beside it is true, it owes no sheet, and found
+-- that no job is left
 abbrev pub IsWorked : Board → Seat × Bool → Type 0
 IsWorked b s = IsSeatOf b s.0 × ((seat_view s.0).joined_seats ≡ 1)
     × (IsTrue s.1 → ((seat_view s.0).owes ≡ None) × (0 < (seat_view s.0).exhausted_seats))
@@ -91,28 +92,29 @@ IsPlainReply s question Never = Unit {0}
 IsPlainReply s question (Allowed d) = (r : ℕ) × IsFirstBreak s question r × IsLeastExample s r question d
 IsPlainReply s question Unsettled = 0 < length s.outstanding
 
--- What a reply rests on. An example is the least one of its region, and each earlier region was without a hit. A
--- question is unsettled only where every region was, and a piece is outstanding or some region is in doubt.
+-- What a reply rests on. An example is the least one of its region, and each earlier region is without a hit. A
+-- question is unsettled only where every region is without a hit, and a piece is outstanding or some region is in
+-- doubt.
 abbrev pub RestsOn : BookData → QuestionData → Reply → Type 0
 RestsOn s question Never = Unit {0}
 RestsOn s question (Allowed d) = (r : ℕ) × IsLeastExample s r question d × ((e : ℕ) → e < r → IsWithoutHit s question e)
 RestsOn s question Unsettled =
     ((r : ℕ) → r < length s.regions → IsWithoutHit s question r) × ((0 < length s.outstanding) ⊎ HasDoubt s question)
 
--- a reply is that of the rules, is right, and rests on what was found, and on a plain stack it is exact
+-- a reply to a question: it is that of the rules, is right, rests on what was found, and is exact on a plain stack
 pub record IsReplyTo (s : BookData) (question : QuestionData) (reply : Reply) : Type 0 where
   pub rule : HasReply s question reply
   pub right : IsRightReply s question reply
   pub found : RestsOn s question reply
   pub plain : IsPlain s.stack → IsPlainReply s question reply
 
--- the reply to the question of this number is such a one
+-- there is a question with this number, and this is a reply to it
 pub record IsRightReplyAt (s : BookData) (questions : List QuestionData) (q : ℕ) (reply : Reply) : Type 0 where
   pub question : QuestionData
   pub asked : slice_get questions q ≡ Some question
   pub replies : IsReplyTo s question reply
 
--- there is such a reply to each question
+-- these are replies to all questions, in the questions' order
 pub record AreRightReplies (s : BookData) (questions : List QuestionData) (replies : List Reply) : Type 0 where
   pub count : length replies ≡ length questions
   pub each : (q : ℕ) (reply : Reply) → slice_get replies q ≡ Some reply → IsRightReplyAt s questions q reply

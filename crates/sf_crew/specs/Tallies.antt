@@ -13,7 +13,8 @@ use Rattle.sf_crew.specs.Views.{regions_of, questions_of, count_of_regions, ente
 abbrev pub IsBelow : Tally → ℕ → ℕ → Type 0
 IsBelow t q j = (r : ℕ) → slice_get t.least q ≡ Some (Some r) → j < r
 
--- the verdict on the entered region is clear, or it was entered with a doubt, and then the question's bit is set
+-- the verdict on the entered region is clear, or its sheet has a doubt for the question, and then the question's bit is
+-- set
 abbrev pub IsCleared : BoardKey → Tally → EnteredSheet → ℕ → Type 0
 IsCleared k t e q = IsRightOn (regions_of k) (questions_of k) e.job q Clear
     ⊎ ((has q e.doubts ≡ 1) × (bit_of t.doubts q ≡ 1))

@@ -17,7 +17,7 @@ regions_of k = k.settled.value
 abbrev pub questions_of : BoardKey → List QuestionData
 questions_of k = map (λ q. q.value) k.questions.items
 
--- the number of regions. In a word of a least place it stands for none
+-- the number of regions; as a least place it says that there is none
 abbrev pub count_of_regions : BoardKey → ℕ
 count_of_regions k = length (regions_of k).regions
 
@@ -25,7 +25,7 @@ count_of_regions k = length (regions_of k).regions
 abbrev pub entered_sheet : ℕ → List ℕ → EnteredSheet
 entered_sheet j ds = record { job = j; doubts = ds }
 
--- a note that the least place of question q was r or less
+-- a note: the least place of question q was r when the seat looked, so it is r or less from then on
 abbrev pub note : ℕ → ℕ → Note
 note q r = record { question = q; place = r }
 
@@ -61,7 +61,7 @@ Noted (n ∷ ns) q r = ((n.question ≡ q) × (n.place ≡ r)) ⊎ Noted ns q r
 abbrev pub RightPlace : BoardKey → ℕ → ℕ → Type 0
 RightPlace k q r = (r ≡ count_of_regions k) ⊎ ((r < count_of_regions k) × HasHit (regions_of k) (questions_of k) r q)
 
--- a sheet may leave region r in doubt for question q
+-- the verdict on region r is a doubt for question q
 abbrev pub IsInDoubt : BoardKey → ℕ → ℕ → Type 0
 IsInDoubt k r q = IsRightWhereGiven (regions_of k) (questions_of k) r q (Some Doubt)
 
@@ -73,11 +73,11 @@ pub record Covered (k : BoardKey) (notes : List Note) (e : EnteredSheet) : Type 
       ⊎ IsRightOn (regions_of k) (questions_of k) e.job q Clear ⊎ (has q e.doubts ≡ 1)
   pub doubts : (q : ℕ) → has q e.doubts ≡ 1 → IsInDoubt k e.job q
 
--- how often x stands in a list of all numbers below n
+-- how often x stands in a list that has each number below n once
 abbrev pub once_below : ℕ → ℕ → ℕ
 once_below x n = if nat_lt x n then 1 else 0
 
--- the greatest f of a view
+-- the greatest value of f for one of the views; 0 where there is none
 abbrev pub top : (View → ℕ) → List View → ℕ
 top f [] = 0
 top f (v ∷ vs) = max (f v) (top f vs)

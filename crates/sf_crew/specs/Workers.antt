@@ -1,5 +1,5 @@
--- What a worker's calls do to the book, and to the handles of benches that it has: its own, and a thief on each other
--- one.
+-- What a worker's calls do to the book, and to the handles that the worker has: the owner of its own bench, and a thief
+-- on each other bench.
 use Rattle.std.specs.Prelude.{◌≡◌, ℕ, ◌⊎◌, ◌<◌, false, List, map, set, Option, Some, None, slice_get}
 use Rattle.std.specs.Option.{option_map}
 use Rattle.std.specs.Arc.{arc_value}
@@ -27,7 +27,7 @@ pub record HandsIn (b : BookData) (id : ℕ) (w : WorkData) (children : Option (
   pub done : CommitsAs b id w.piece w.name w.step (option_map (λ h. (h.0.id, h.1.id)) children) c
   pub pieces : option_map (λ h. (arc_value h.0.piece, arc_value h.1.piece)) children ≡ children_of w.step
 
--- the children are those of the work
+-- the children that were made are those of the work's step
 abbrev pub HasItsChildren : Made → Type 0
 HasItsChildren m = option_map (λ c. (arc_value c.0, arc_value c.1)) m.children ≡ children_of m.work.step
 
@@ -67,16 +67,16 @@ Steals vs (Some x) ws = GetsOne vs x ws
 abbrev pub IsIdle : {N : Type 0} → Worker N → Worker N → Type 0
 IsIdle v w = (own_view w ≡ own_view v) × (other_views w ≡ other_views v)
 
--- The lease is from the worker's own bench. Only where nothing was found there is it stolen. Only where none was stolen
--- do the handles nothing: then the lease comes from the book, which isn't said here, since other workers have the book
--- next.
+-- A worker finds a lease in one of three ways. It got the lease from its own bench. Or nothing was left there, and one
+-- of its thieves got it elsewhere. Or nothing was left there, and its handles did nothing: then the lease comes from
+-- the book, which isn't said here, since other workers have the book next.
 abbrev pub Finds : {N : Type 0} → Worker N → Lease → Worker N → Type 0
 Finds v x w =
     (Gets (own_view v) x (own_view w) × (other_views w ≡ other_views v))
     ⊎ (AllGot (own_view v) × (own_view w ≡ own_view v) × GetsOne (other_views v) x (other_views w))
     ⊎ (AllGot (own_view v) × IsIdle v w)
 
--- the worker holds its next lease; or nothing was found on its own bench, and none was stolen
+-- the worker holds its next lease; or nothing was left on its own bench, and no lease was stolen
 abbrev pub HoldsNext : {N : Type 0} → Worker N → Option Lease → Worker N → Type 0
 HoldsNext v None w = AllGot (own_view v) × IsIdle v w
 HoldsNext v (Some x) w = Finds v x w

@@ -10,7 +10,7 @@ use Rattle.sf_dom.specs.declared.numbers.Found.TheVariants.{Older, Newer, Nowher
 abbrev pub AreAscending : List ℕ → Type 0
 AreAscending xs = (i j : ℕ) → i ≤ j → j < length xs → slice_index xs i ≤ slice_index xs j
 
--- in which of two lists, an older and a newer one, a number was found
+-- where a number was found: at this place of the older of two lists, in the newer one, or in neither
 abbrev pub IsFound : List ℕ → List ℕ → ℕ → Found → Type 0
 IsFound xs ys n (Older i) = (i < length xs) × (slice_index xs i ≡ n)
 IsFound xs ys n Newer = Contains ys n

@@ -34,7 +34,7 @@ narrower-admits old new n h a = record {
   };
 }
 
--- a constant is known in full
+-- what is known of a word that is known to be this number admits the number
 pub constant-admits : (c : ℕ) → c < 2 ^ 32 → Admits (record { low = c; high = c; zeros = 4294967295 - c; ones = c }) c
 constant-admits c l = record {
   above = omega arith;
@@ -42,7 +42,7 @@ constant-admits c l = record {
   bits = record { zero = λ i. bit_at-complement c i l; one = λ i. omega arith };
 }
 
--- an input that agrees on the words, with any number that a word may have
+-- a number that is left for a word stands there in some input that agrees on the words
 pub sampled : (f : FactsView) (w n : ℕ) → w < 16 → AreFacts f → Leaves (known_at f.known w) (numbers_at f.excluded w) n
     → (d : Input) × IsInput d × AgreesOnWords f d × (slice_index d.words w ≡ n)
 sampled f w n lw h leaves =

@@ -1,4 +1,5 @@
--- How known bits go back from a node, operand after operand.
+-- How known bits go back from a node to its operand, and on to that one's operand, where the other operand is a
+-- constant.
 use Rattle.std.specs.Prelude.{◌≡◌, ℕ, zero, suc, ◌-◌, List, set, Option, Some, bit_and, bit_or}
 use Rattle.sf_insn.specs.declared.ops.BinOp.{BinOp}
 use Rattle.sf_insn.specs.declared.ops.BinOp.TheVariants.{Or, And, Xor}
@@ -10,7 +11,7 @@ use Rattle.sf_dom.specs.Known.{known_of}
 use Rattle.sf_dom.specs.Reading.{known_at}
 use Rattle.sf_dom.specs.Rules.{ReductionGives, Then}
 
--- with more known bits
+-- the same knowledge with more known bits
 abbrev pub with_bits : Known → ℕ → ℕ → Known
 with_bits k zeros ones = known_of k.low k.high (bit_or k.zeros zeros) (bit_or k.ones ones)
 
@@ -23,7 +24,8 @@ gained Xor c node x =
     (bit_or (bit_and node.ones (4294967295 - c)) (bit_and node.zeros c))
 gained _ c node x = x
 
--- this is reduced, and written as what is known of the node at a place
+-- what it gives to reduce this knowledge and to write it as what is known of the node at a place: the list with it, or
+-- nothing where it contradicts itself
 abbrev pub WritingGives : List Known → List (List ℕ) → ℕ → Known → Option (List Known) → Type 0
 WritingGives ks ex i known = Then (ReductionGives ex i known) (λ left r. r ≡ Some (set ks i left))
 
@@ -37,6 +39,7 @@ GoingBackGivesIn (suc n) ks ex ns at r =
     × Then (WritingGives ks ex o.1 (gained o.0 o.2 (known_at ks at) (known_at ks o.1)))
     (λ next s. GoingBackGivesIn n next ex ns o.1 s) r
 
--- what it gives that known bits go back from a node
+-- what is known of all nodes after known bits have gone back from one; nothing where what is then known of an operand
+-- contradicts itself
 abbrev pub GoingBackGives : List Known → List (List ℕ) → List Node → ℕ → Option (List Known) → Type 0
 GoingBackGives ks ex ns at r = (n : ℕ) × GoingBackGivesIn n ks ex ns at r

@@ -1,4 +1,5 @@
--- What a condition leaves of facts, by the rules.
+-- What facts become by the rules: at first, when they learn a condition, when they take in newer nodes, and when more
+-- is known of a word.
 use Rattle.std.specs.Prelude.{◌≡◌, ℕ, ◌<◌, ◌⊎◌, List, [], ◌∷◌, ◌++◌, length, set, Contains, false, Option, Some, None}
 use Rattle.sf_insn.specs.declared.ops.Test.TheVariants.{Equal}
 use Rattle.sf_sym.specs.Pool.{node_at}
@@ -29,12 +30,12 @@ pub record AreExcludedBy (ks : List Known) (old new : List (List ℕ)) (ns : Lis
   pub only : (w m : ℕ) → w < 16 → Contains (numbers_at new w) m
       → Contains (numbers_at old w) m ⊎ Excludes ks ns cond w m
 
--- what the test of a condition leaves of its two nodes
+-- what the test of a condition, with the result that the condition asks for, says of its two nodes
 abbrev pub assumed_of : List Known → Cond → Pair
 assumed_of ks cond = assumed cond.test cond.sense (known_at ks cond.node.0) (known_at ks cond.other.0)
 
--- what is left of the two nodes of a condition, one after the other: what was known of each, met with what its test
--- leaves, and reduced
+-- What is known of the two nodes of a condition: what was known of each, met with what the test says, and reduced. The
+-- first is written before the second is read. Nothing where one of them contradicts itself.
 abbrev pub PairGives : List Known → List (List ℕ) → Cond → Option Pair → Type 0
 PairGives ks ex cond =
     Then (ReductionGives ex cond.node.0 (met (known_at ks cond.node.0) (assumed_of ks cond).node)) (λ node.
@@ -42,24 +43,24 @@ PairGives ks ex cond =
     (met (known_at (set ks cond.node.0 node) cond.other.0) (assumed_of ks cond).other)) (λ other r.
     r ≡ Some (record { node = node; other = other })))
 
--- the two nodes of a condition are written
+-- the list, with these written for the two nodes of a condition, the second one last
 abbrev pub with_pair : List Known → Cond → Pair → List Known
 with_pair ks cond pair = set (set ks cond.node.0 pair.node) cond.other.0 pair.other
 
--- What is left where a condition is met: its test is assumed of both nodes, then known bits go back from the one and
--- from the other, and then comes a forward pass.
+-- What is known of all nodes where a condition is met: its test is assumed of both nodes, then known bits go back from
+-- the one and from the other, and then comes a forward pass. Nothing where one of these steps gives nothing.
 abbrev pub ConditionGives : List Known → List (List ℕ) → List Node → Cond → Option (List Known) → Type 0
 ConditionGives ks ex ns cond =
     Then (PairGives ks ex cond) (λ pair.
     Then (GoingBackGives (with_pair ks cond pair) ex ns cond.node.0) (λ one.
     Then (GoingBackGives one ex ns cond.other.0) (λ two s. PassGives two ex ns s)))
 
--- facts learn a condition
+-- facts learn a condition: the numbers that it excludes are added, and its steps give what is known then
 pub record LearnsBy (old new : FactsView) (ns : List Node) (cond : Cond) : Type 0 where
   pub excluded : AreExcludedBy old.known old.excluded new.excluded ns cond
   pub known : ConditionGives old.known new.excluded ns cond (Some new.known)
 
--- facts can't learn a condition
+-- facts can't learn a condition: with the numbers that it excludes, one of its steps gives nothing
 pub record CantLearn (old : FactsView) (ns : List Node) (cond : Cond) : Type 0 where
   pub lists : List (List ℕ)
   pub excluded : AreExcludedBy old.known old.excluded lists ns cond
@@ -80,17 +81,17 @@ pub record GrowsBy (old new : FactsView) (ns : List Node) : Type 0 where
 abbrev pub CantGrow : FactsView → List Node → Type 0
 CantGrow old ns = TakingInFails old.known old.excluded ns
 
--- What is left where more is known of the node at a place: it is met with that and reduced, and then comes a forward
--- pass.
+-- What is known of all nodes where more is known of the one at a place: what was known of it is met with that and
+-- reduced, and then comes a forward pass. Nothing where one of these gives nothing.
 abbrev pub MoreGives : List Known → List (List ℕ) → List Node → ℕ → Known → Option (List Known) → Type 0
 MoreGives ks ex ns i more = Then (WritingGives ks ex i (met (known_at ks i) more)) (λ next s. PassGives next ex ns s)
 
--- facts take in more of a word
+-- facts learn that more is known of a word; no number is excluded by that
 pub record TakesInBy (old new : FactsView) (ns : List Node) (w : ℕ) (more : Known) : Type 0 where
   pub known : MoreGives old.known old.excluded ns w more (Some new.known)
   pub excluded : new.excluded ≡ old.excluded
 
--- facts can't take in more of a word
+-- facts can't learn this of a word: it contradicts what they know
 abbrev pub CantTakeInBy : FactsView → List Node → ℕ → Known → Type 0
 CantTakeInBy old ns w more = MoreGives old.known old.excluded ns w more None
 

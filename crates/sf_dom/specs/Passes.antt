@@ -1,4 +1,4 @@
--- A forward pass, and when it changes nothing.
+-- Forward passes, when one changes nothing, and how newer nodes are taken in.
 use Rattle.std.specs.Prelude.{◌≡◌, ℕ, ◌<◌, ◌≤◌, ◌⊎◌, List, length, take, slice_index, Option, MatchOption}
 use Rattle.sf_sym.specs.Pool.{node_at}
 use Rattle.sf_sym.specs.declared.pool.Node.{Node}
@@ -19,7 +19,9 @@ pub record IsPass (old new : List Known) (ex : List (List ℕ)) (ns : List Node)
   pub count : length new ≡ length ns
   pub each : (i : ℕ) → i < length ns → IsPassedAt old new ex ns i
 
--- a forward pass leaves a node nothing: a word of the input, or another node once it has gone through those before it
+-- A forward pass fails at a node: what was known of it contradicts what follows from its operands as the pass left
+-- them. If the node is past the words of the input, all nodes before it have been passed; a word may fail whatever
+-- became of other words.
 pub record PassFails (old : List Known) (ex : List (List ℕ)) (ns : List Node) : Type 0 where
   pub new : List Known
   pub place : ℕ
@@ -27,11 +29,11 @@ pub record PassFails (old : List Known) (ex : List (List ℕ)) (ns : List Node) 
   pub before : 16 ≤ place → (k : ℕ) → k < place → IsPassedAt old new ex ns k
   pub none : HasNoReduction ex place (met (known_at old place) (forward_node new (node_at ns place)))
 
--- what a forward pass gives
+-- what a forward pass gives: what is known of all nodes after it, or nothing where it fails
 abbrev pub PassGives : List Known → List (List ℕ) → List Node → Option (List Known) → Type 0
 PassGives old ex ns r = MatchOption r (PassFails old ex ns) (λ new. IsPass old new ex ns)
 
--- nothing follows for the node at a place from its operands
+-- all that follows for the node at a place from its operands is known of it
 abbrev pub IsStill : List Known → List Node → ℕ → Type 0
 IsStill ks ns i = IsNarrower (forward_node ks (node_at ns i)) (known_at ks i)
 
@@ -42,7 +44,7 @@ pub record AreTakenIn (old new : List Known) (ex : List (List ℕ)) (ns : List N
   pub each : (i : ℕ) → length old ≤ i → i < length ns
       → IsReduction ex i (forward_node new (node_at ns i)) (known_at new i)
 
--- a newer node is left nothing, once those before it are taken in
+-- once the newer nodes before it are taken in, what follows for a newer node from its operands contradicts itself
 pub record TakingInFails (old : List Known) (ex : List (List ℕ)) (ns : List Node) : Type 0 where
   pub new : List Known
   pub place : ℕ
@@ -53,11 +55,11 @@ pub record TakingInFails (old : List Known) (ex : List (List ℕ)) (ns : List No
       → IsReduction ex i (forward_node new (node_at ns i)) (known_at new i)
   pub none : HasNoReduction ex place (forward_node new (node_at ns place))
 
--- what it gives to take in newer nodes
+-- what it gives to take in newer nodes: what is known of all nodes then, or nothing where one fails
 abbrev pub TakingInGives : List Known → List (List ℕ) → List Node → Option (List Known) → Type 0
 TakingInGives old ex ns r = MatchOption r (TakingInFails old ex ns) (λ new. AreTakenIn old new ex ns)
 
--- what a pass gives from the second, it gives from the first
+-- whatever a pass gives from the new list, it gives from the old one too
 abbrev pub HasPassOf : List Known → List Known → List (List ℕ) → List Node → Type 0
 HasPassOf old new ex ns = (r : Option (List Known)) → PassGives new ex ns r → PassGives old ex ns r
 
@@ -78,7 +80,8 @@ AreAllDecided ks (Word i) = ⊥
 AreAllDecided ks (Bin op a b) = IsDecided (known_at ks a.0) × IsDecided (known_at ks b.0)
 AreAllDecided ks (Neg a) = IsDecided (known_at ks a.0)
 
--- no more can become known of the node at a place: its operands have only one number each, and it has what follows
+-- no forward pass makes more known of the node at a place: its operands have only one number each, and all that follows
+-- from them is known of it
 pub record IsFixedAt (ks : List Known) (ns : List Node) (i : ℕ) : Type 0 where
   pub operands : AreAllDecided ks (node_at ns i)
   pub still : IsStill ks ns i
@@ -87,6 +90,6 @@ pub record IsFixedAt (ks : List Known) (ns : List Node) (i : ℕ) : Type 0 where
 abbrev pub IsVariableAt : List ℕ → ℕ → Type 0
 IsVariableAt places i = (j : ℕ) × (j < length places) × (slice_index places j ≡ i)
 
--- each node is a variable, or no more can become known of it
+-- each node is a variable, or no forward pass makes more known of it
 abbrev pub AreFixed : List ℕ → List Known → List Node → Type 0
 AreFixed places ks ns = (i : ℕ) → i < length ns → IsVariableAt places i ⊎ IsFixedAt ks ns i

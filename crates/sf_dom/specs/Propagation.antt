@@ -26,7 +26,7 @@ AreConsistentOperands ks _ = Unit {0}
 abbrev pub AreClosedWords : List Known → List (List ℕ) → Type 0
 AreClosedWords ks ex = (w : ℕ) → w < 16 → IsClosedAt ex w (known_at ks w)
 
--- where nothing more followed for a word, nothing more follows for it still
+-- where nothing more followed for a word by itself, nothing more follows for it afterwards
 abbrev pub KeepsClosed : List Known → List Known → List (List ℕ) → Type 0
 KeepsClosed old new ex = (w : ℕ) → w < 16 → IsClosedAt ex w (known_at old w)
     → IsClosedAt ex w (known_at new w)
@@ -40,13 +40,15 @@ AreOthersClosed ks ex ns cond = (w : ℕ) → w < 16 → node_at ns cond.node.0 
 abbrev pub AllNarrower : List Known → List Known → Type 0
 AllNarrower old new = (i : ℕ) → i < length old → IsNarrower (known_at old i) (known_at new i)
 
--- more has become known: nothing more follows from what is known of each node by itself, and nothing is lost
+-- More may have become known. Nothing is lost, and nothing more follows from what is known of each node by itself.
+-- Where for a word with its excluded numbers nothing more followed before, nothing more follows for it afterwards.
 pub record IsNarrowed (old new : List Known) (ex : List (List ℕ)) (ns : List Node) : Type 0 where
   pub closed : AreClosed new ns
   pub narrower : AllNarrower old new
   pub kept : KeepsClosed old new ex
 
--- a node that is a word has been made tight, and the same pass follows
+-- More may have become known. If the node at a place is a word, nothing more follows for this word with its excluded
+-- numbers. What a pass gives from the new list, it gives from the old one too.
 pub record IsTightened (old new : List Known) (ex : List (List ℕ)) (ns : List Node) (at : ℕ) : Type 0 where
   pub narrowed : IsNarrowed old new ex ns
   pub word : (i : ℕ) → node_at ns at ≡ Word i → IsClosedAt ex i (known_at new i)
@@ -56,8 +58,8 @@ pub record IsTightened (old new : List Known) (ex : List (List ℕ)) (ns : List 
 abbrev pub AreConsistent : List Known → Type 0
 AreConsistent ks = (i : ℕ) → i < length ks → IsConsistent (known_at ks i)
 
--- where each older node is a variable, or no more can become known of it, each node is so once the new ones are taken
--- in
+-- If what is known of the older nodes is consistent, and each of them is a variable or fixed, then each node is a
+-- variable or fixed once the newer ones are taken in. Of a fixed node no forward pass makes more known.
 abbrev pub KeepsFixed : NodesView → NodesView → List Node → Type 0
 KeepsFixed old new ns = AreConsistent old.known
     → ((i : ℕ) → i < length old.known → IsVariableAt old.variables i ⊎ IsFixedAt old.known ns i)
@@ -67,7 +69,7 @@ KeepsFixed old new ns = AreConsistent old.known
 abbrev pub TestGives : Test → ℕ → ℕ → Bool → Type 0
 TestGives test a b sense = passes test a b ≡ sense
 
--- the test of a condition's nodes has its sense
+-- the test of a condition's nodes has the result that the condition asks for
 abbrev pub Holds : List Node → Cond → Input → Type 0
 Holds ns c d = TestGives c.test (value_of ns d c.node.0) (value_of ns d c.other.0) c.sense
 
@@ -77,7 +79,8 @@ pub record AddsNumber (old new : List (List ℕ)) (w number : ℕ) : Type 0 wher
   pub word : (m : ℕ) → Contains (numbers_at new w) m ↔ (Contains (numbers_at old w) m ⊎ (m ≡ number))
   pub others : (v : ℕ) → v ≢ w → numbers_at new v ≡ numbers_at old v
 
--- where a node is a word and another one is decided, the number of that one is excluded for the word
+-- where a node is a word and another one is decided, the number of that one is excluded for the word; no other number
+-- is added
 pub record AreExcluded (old new : List (List ℕ)) (n : Node) (other : Known) : Type 0 where
   pub words : length new ≡ length old
   pub more : (i m : ℕ) → i < 16 → Contains (numbers_at old i) m → Contains (numbers_at new i) m
@@ -93,16 +96,17 @@ Meets ns cond d = is_met ns d cond ≡ true
 abbrev pub AllMet : List Node → List Cond → Input → Type 0
 AllMet ns conds d = All (λ c. Meets ns c d) conds
 
--- Facts of conditions: each input that meets them agrees. Where they are plain, no other input does, and where the pool
--- has only words and constants, there is one then.
+-- Facts of conditions: each input that meets them all agrees. Where all are plain, no other input does; and where
+-- besides the pool has only words and constants, some input meets them all.
 pub record AreFactsOf (f : FactsView) (ns : List Node) (conds : List Cond) : Type 0 where
   pub covers : Covers f ns
   pub keeps : (d : Input) → IsInput d → AllMet ns conds d → Agrees f ns d
   pub only : All (IsPlainCondition ns) conds → (d : Input) → IsInput d → Agrees f ns d → AllMet ns conds d
   pub some : All (IsPlainCondition ns) conds → ArePlainNodes ns → (d : Input) × IsInput d × AllMet ns conds d
 
--- Facts learn a condition. Of the inputs that agreed, those that meet it agree still. Where the condition is plain, no
--- others do, and where the pool has only words and constants, there is one then. Nothing that was known is lost.
+-- Facts learn a condition. Of the inputs that agreed, those that meet it agree still. Where it is plain, no others do;
+-- and where besides the pool has only words and constants, one that agreed meets it. Nothing that was known is lost. If
+-- both nodes were decided, their two numbers meet the condition.
 pub record Learns (old new : FactsView) (ns : List Node) (cond : Cond) : Type 0 where
   pub covers : Covers new ns
   pub narrower : AreNarrower old new

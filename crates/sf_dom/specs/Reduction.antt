@@ -1,4 +1,4 @@
--- What the steps of reducing one node do.
+-- Words for the steps that reduce what is known of one node.
 use Rattle.std.specs.Prelude.{◌≡◌, ℕ, ◌+◌, ◌-◌, ◌/◌, ◌<◌, ◌≤◌, ◌^◌}
 use Rattle.std.specs.Int.{bit_at}
 use Rattle.sf_dom.specs.declared.known.Known.{Known}
@@ -7,11 +7,11 @@ use Rattle.sf_dom.specs.declared.known.Known.{Known}
 abbrev pub AreApart : ℕ → ℕ → Type 0
 AreApart zeros ones = (i : ℕ) → bit_at zeros i + bit_at ones i ≤ 1
 
--- how much is not known: the numbers between the ends, and the bits
+-- how much is not known, as a number: it falls where an end moves inwards, and where one more bit is known
 abbrev pub freedom : Known → ℕ
 freedom k = (k.high - k.low) + (4294967295 - k.zeros) + (4294967295 - k.ones)
 
--- a mask has the bits from which on two numbers agree
+-- a mask has exactly the bits i below 32 for which two numbers agree on bit i and on all higher bits
 pub record IsLeadingMask (low high mask : ℕ) : Type 0 where
   pub only : (i : ℕ) → bit_at mask i ≡ 1 → low / 2 ^ i ≡ high / 2 ^ i
   pub all : (i : ℕ) → i < 32 → low / 2 ^ i ≡ high / 2 ^ i → bit_at mask i ≡ 1

@@ -1,5 +1,5 @@
--- The rules of facts: what is known of a node by its operation, what two pieces of knowledge say together, and what is
--- left when nothing more follows.
+-- The rules of facts: what is known of a node by its operation, what two pieces of knowledge say together, what
+-- reduction makes of them, and what a test with a known result says of its two words.
 use Rattle.std.specs.Prelude.{◌≡◌, ℕ, ◌+◌, ◌-◌, ◌*◌, ◌/◌, ◌%◌, ◌<◌, ◌≤◌, ◌^◌, Bool, true, false, List, if◌then◌else◌, ◌==◌, nat_lt, nat_le, max, min, bit_and, bit_or, Option, None, MatchOption}
 use Rattle.std.specs.Int.{bit_at, w32, trailing_zeros}
 use Rattle.sf_insn.specs.declared.ops.BinOp.{BinOp}
@@ -18,15 +18,17 @@ use Rattle.sf_dom.specs.Reading.{known_at, numbers_at}
 abbrev pub between : ℕ → ℕ → Known
 between low high = known_of low high 0 0
 
--- nothing is known
+-- nothing is known: the interval of all words, and no bit
 abbrev pub full : Known
 full = between 0 4294967295
 
--- a word that has the bits of a value where a mask has ones
+-- What is known of a word that has, where a mask has ones, the bits of a value. It is meant for values without bits
+-- outside the mask; those would count as known too.
 abbrev pub masked : ℕ → ℕ → Known
 masked mask value = known_of 0 4294967295 (bit_and mask (4294967295 - value)) value
 
--- moved left by s bits
+-- what is known of a word, moved left by s bits: its known bits move, zeros come in from the right, and the interval
+-- moves too where its upper end stays a word
 abbrev pub moved_left : Known → ℕ → Known
 moved_left a s =
     if nat_lt (a.high * 2 ^ s) (2 ^ 32)
@@ -34,7 +36,7 @@ moved_left a s =
     (a.ones * 2 ^ s % 2 ^ 32)
     else known_of 0 4294967295 (bit_or (a.zeros * 2 ^ s % 2 ^ 32) (2 ^ s - 1)) (a.ones * 2 ^ s % 2 ^ 32)
 
--- moved right by s bits
+-- what is known of a word, moved right by s bits: its interval and its known bits move, and zeros come in from the left
 abbrev pub moved_right : Known → ℕ → Known
 moved_right a s =
     known_of (a.low / 2 ^ s) (a.high / 2 ^ s) (bit_or (a.zeros / 2 ^ s) (2 ^ 32 - 2 ^ (32 - s))) (a.ones / 2 ^ s)
@@ -69,11 +71,12 @@ forward_negated a =
     else if a.high == 0 then between 0 0
     else full
 
--- a number is known in full
+-- what is known of a word that is known to be this number
 abbrev pub number_known : ℕ → Known
 number_known c = known_of c c (4294967295 - c) c
 
--- what is known of a node by its operation, from what is known of its operands
+-- what is known of a node by its operation, from what is known of its operands: of a constant its number, of a word of
+-- the input nothing
 abbrev pub forward_node : List Known → Node → Known
 forward_node ks (Const c) = number_known c
 forward_node ks (Word i) = full
@@ -84,8 +87,10 @@ forward_node ks (Neg a) = forward_negated (known_at ks a.0)
 abbrev pub met : Known → Known → Known
 met a b = known_of (max a.low b.low) (min a.high b.high) (bit_or a.zeros b.zeros) (bit_or a.ones b.ones)
 
--- Nothing more follows from what is known of a node: some number lies between the ends, no bit is known to be both, the
--- ends are where the known bits put them, and each bit from which on the two ends agree is known.
+-- Nothing more follows, by reduction, from what is known of a node: it is closed. Some number lies between the ends,
+-- which are words. No bit is known to be both. The lower end isn't below the least number with the known bits, nor the
+-- upper end above the greatest. Where the ends agree on a bit and on all higher ones, that bit is known. The ends
+-- themselves need not have the known bits.
 pub record IsClosed (k : Known) : Type 0 where
   pub ordered : k.low ≤ k.high
   pub fits : k.high < 2 ^ 32
@@ -95,72 +100,77 @@ pub record IsClosed (k : Known) : Type 0 where
   pub leading : (i : ℕ) → i < 32 → k.low / 2 ^ i ≡ k.high / 2 ^ i
       → (bit_at k.zeros i ≡ 1 - bit_at k.low i) × (bit_at k.ones i ≡ bit_at k.low i)
 
--- nor from what is known of a word for which these numbers are excluded: both ends are numbers that are left
+-- Nothing more follows from what is known of a word for which these numbers are excluded: it is closed, and both ends
+-- are numbers that are left.
 pub record IsClosedWord (xs : List ℕ) (k : Known) : Type 0 where
   pub known : IsClosed k
   pub tight : IsTight k xs
 
--- the widest of a kind that loses nothing of what was known
+-- `new` is of this kind, and loses nothing of what was known. It is the widest: any knowledge of the kind that loses
+-- nothing of `old` loses nothing of `new` either.
 pub record IsWidest (kind : Known → Type 0) (old new : Known) : Type 0 where
   pub is : kind new
   pub narrower : IsNarrower old new
   pub widest : (k : Known) → kind k → IsNarrower old k → IsNarrower new k
 
--- none of a kind loses nothing of what was known
+-- every knowledge of this kind loses something of what was known
 abbrev pub HasNone : (Known → Type 0) → Known → Type 0
 HasNone kind old = (k : Known) → kind k → ¬ IsNarrower old k
 
 -- Nothing more follows from what is known of the node at a place by itself. The first sixteen nodes are the words of
--- the input, for which numbers are excluded.
+-- the input, for which numbers are excluded: of these nodes both ends are numbers that are left.
 pub record IsClosedAt (ex : List (List ℕ)) (i : ℕ) (k : Known) : Type 0 where
   pub known : IsClosed k
   pub tight : i < 16 → IsTight k (numbers_at ex i)
 
--- what is left of the node at a place
+-- what is known of the node at a place is reduced to this: the widest knowledge that is closed there and loses nothing
 abbrev pub IsReduction : List (List ℕ) → ℕ → Known → Known → Type 0
 IsReduction ex i old new = IsWidest (IsClosedAt ex i) old new
 
--- nothing is left of the node at a place
+-- what is known of the node at a place contradicts itself: every knowledge that is closed there loses something of it
 abbrev pub HasNoReduction : List (List ℕ) → ℕ → Known → Type 0
 HasNoReduction ex i old = HasNone (IsClosedAt ex i) old
 
--- what reduction gives for the node at a place: what is left of it, or nothing
+-- what is known of the node at a place once that is reduced, or nothing where it contradicts itself
 abbrev pub ReductionGives : List (List ℕ) → ℕ → Known → Option Known → Type 0
 ReductionGives ex i old r = MatchOption r (HasNoReduction ex i old) (IsReduction ex i old)
 
--- one step and then another, where each may give nothing: the second goes on from what the first gives
+-- one step and then another, each of which may give nothing: the second goes on from what the first gives, and where
+-- the first gives nothing, both together give nothing
 abbrev pub Then : {A B : Type 0} → (Option A → Type 0) → (A → Option B → Type 0) → Option B → Type 0
 Then {A} first second r = (o : Option A) × first o × MatchOption o (r ≡ None) (λ a. second a r)
 
--- A round of reduction loses nothing. It keeps every closed knowledge in which nothing is lost, and one that changes
--- nothing is the last.
+-- A round of reduction loses nothing of what was known, and leaves the lower end not above the upper one. It goes no
+-- further than it must: any closed knowledge that loses nothing of `old` loses nothing of `new` either. Where a round
+-- changes nothing, the knowledge is closed.
 pub record IsRound (old new : Known) : Type 0 where
   pub narrower : IsNarrower old new
   pub ordered : new.low ≤ new.high
   pub widest : (k : Known) → IsClosed k → IsNarrower old k → IsNarrower new k
   pub last : new ≡ old → IsClosed old
 
--- it is at least n
+-- what is known of a word that is, besides, at least n
 abbrev pub at_least : ℕ → Known → Known
 at_least n k = known_of (max k.low n) k.high k.zeros k.ones
 
--- it is at most n
+-- what is known of a word that is, besides, at most n
 abbrev pub at_most : ℕ → Known → Known
 at_most n k = known_of k.low (min k.high n) k.zeros k.ones
 
--- no number is left
+-- no number is left: the ends of the interval are crossed
 abbrev pub nothing : Known
 nothing = between 1 0
 
--- it is more than n
+-- what is known of a word that is, besides, more than n
 abbrev pub more_than : ℕ → Known → Known
 more_than n k = if n == 4294967295 then nothing else at_least (n + 1) k
 
--- it is less than n
+-- what is known of a word that is, besides, less than n
 abbrev pub less_than : ℕ → Known → Known
 less_than n k = if n == 0 then nothing else at_most (n - 1) k
 
--- it isn't c: an end that is c moves past it
+-- what is known of a word that isn't c: an end that is c moves inwards by one, in `past_low` the lower, in `past_high`
+-- the upper, in `past` each
 abbrev pub past_low : ℕ → Known → Known
 past_low c k = if k.low == c then more_than c k else k
 
@@ -170,7 +180,8 @@ past_high c k = if k.high == c then less_than c k else k
 abbrev pub past : ℕ → Known → Known
 past c k = past_high c (past_low c k)
 
--- it has at least one of these bits: where all of them are known to be 0, it can't be; where only one isn't, it is 1
+-- What is known of a word that has at least one of these bits. Where all of them are known to be 0, no number is left;
+-- where all but one are known to be 0, that one is known to be 1.
 abbrev pub some_of : ℕ → Known → Known
 some_of bits k =
     if bit_and bits (4294967295 - k.zeros) == 0 then nothing
@@ -178,15 +189,15 @@ some_of bits k =
     then known_of k.low k.high k.zeros (bit_or k.ones (bit_and bits (4294967295 - k.zeros)))
     else k
 
--- it has none of these bits
+-- what is known of a word that has none of these bits
 abbrev pub none_of : ℕ → Known → Known
 none_of bits k = known_of k.low k.high (bit_or k.zeros bits) k.ones
 
--- what another word says, where that has only one number
+-- a rule for a number, applied with the number of another word where that word has only one; otherwise nothing changes
 abbrev pub where_decided : Known → (ℕ → Known → Known) → Known → Known
 where_decided other rule k = if other.low == other.high then rule other.low k else k
 
--- what a test with this result leaves of its two words, by what was known of them
+-- what a test with this result says of its two words, by what was known of them; nothing is reduced yet
 unfoldable pub assumed : Test → Bool → Known → Known → Pair
 assumed Equal true v w = record { node = met v w; other = met v w }
 assumed Equal false v w = record { node = where_decided w past v; other = where_decided v past w }

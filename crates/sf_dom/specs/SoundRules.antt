@@ -17,13 +17,15 @@ use Rattle.sf_dom.specs.Backward.{IsPropagatedBack}
 use Rattle.sf_dom.specs.Telling.{IsForcedBy}
 use Rattle.sf_dom.specs.Rules.{IsClosedAt, number_known, forward_known, forward_negated, IsClosed, IsClosedWord, IsWidest, HasNone}
 
--- each number that comes of numbers that the operands may have is one that the result may have
+-- where what is known of the operands admits their numbers, what is known of the result admits the number that the
+-- operation makes of these
 pub record IsForwardSound : Type 0 where
   pub operation : (op : BinOp) (a b : Known) (x y : ℕ) → a.high < 2 ^ 32 → b.high < 2 ^ 32 → Admits a x → Admits b y
       → Admits (forward_known op a b) (apply op x y)
   pub negation : (a : Known) (x : ℕ) → a.high < 2 ^ 32 → Admits a x → Admits (forward_negated a) (negation_of x)
 
--- reduction loses no number, and has one result at most
+-- Reduction loses no number that was admitted, or was left for a word; where it gives nothing, there was none. It has
+-- one result at most.
 pub record IsReductionSound : Type 0 where
   pub some : (old new : Known) (n : ℕ) → n < 2 ^ 32 → old.zeros < 2 ^ 32 → IsWidest IsClosed old new → Admits old n
       → Admits new n
@@ -36,8 +38,9 @@ pub record IsReductionSound : Type 0 where
   pub one_word : (xs : List ℕ) (old a b : Known) → IsWidest (IsClosedWord xs) old a → IsWidest (IsClosedWord xs) old b
       → a ≡ b
 
--- The rules have one result. Equal facts learn equal ones, or neither can; and so it is with what they take in of newer
--- nodes, or of a word. What is known at first is one thing too.
+-- The rules have one result. What is known at first is one thing. If two equal facts both learn a condition, they learn
+-- equal ones, and never does one of them learn it where the other can't. The same goes for taking in newer nodes, and
+-- for learning more of a word.
 pub record HaveOneResult : Type 0 where
   pub started : (f g : FactsView) (ns : List Node) → IsPool ns → StartsBy f ns → StartsBy g ns → AreEqualFacts f g
   pub learnt : (f g c e : FactsView) (ns : List Node) (cond : Cond) → IsPool ns → AreEqualFacts f g
@@ -53,7 +56,7 @@ pub record HaveOneResult : Type 0 where
   pub confines_not : (f g c : FactsView) (ns : List Node) (w : ℕ) (more : Known) → IsPool ns → AreEqualFacts f g
       → TakesInBy f c ns w more → ¬ CantTakeInBy g ns w more
 
--- a forward pass changes nothing below the first node for which more follows
+-- where nothing more follows for any node before a place, a forward pass changes none of these
 abbrev pub PassKeepsOlder : Type 0
 PassKeepsOlder = (old new : List Known) (ex : List (List ℕ)) (ns : List Node) (i : ℕ) → IsPool ns → i ≤ length ns
     → IsPass old new ex ns → ((k : ℕ) → k < i → IsAtRest old ex ns k)
@@ -75,8 +78,9 @@ abbrev pub CarriedAreBuilt : Type 0
 CarriedAreBuilt = (f g : FactsView) (ns : List Node) (conds : List Cond) → AreCarried f ns conds → AreBuiltBy g ns conds
     → AreEqualFacts f g
 
--- What is known of its two nodes forces this result of a condition's test: the second has only one number, nothing more
--- follows from what is known of any node, and no known bits go back from either of the two.
+-- A condition's test is forced to have this result, in a pool where each word of the input stands only at its own
+-- place. What is known of the second node is just this number; what is known of the first one forces the result;
+-- nothing more follows for any node; and what goes back from either of the two is known already.
 pub record IsForcedCondition (f : FactsView) (ns : List Node) (cond : Cond) (number : ℕ) (sense : Bool) : Type 0 where
   pub pool : IsPool ns
   pub words : (i w : ℕ) → i < length ns → node_at ns i ≡ Word w → i ≡ w
@@ -89,7 +93,8 @@ pub record IsForcedCondition (f : FactsView) (ns : List Node) (cond : Cond) (num
   pub node_back : (n : ℕ) → IsPropagatedBack n f.known ns cond.node.0
   pub other_back : (n : ℕ) → IsPropagatedBack n f.known ns cond.other.0
 
--- What is known of a node forces this result of its test against a number. The number may have no node.
+-- The test of a node against a number is forced to have this result: what is known of the node forces it, nothing more
+-- follows for any node, and what goes back from this one is known already. The number need not have a node in the pool.
 pub record IsForcedTest (f : FactsView) (ns : List Node) (node : NodeId) (test : Test) (number : ℕ)
     (sense : Bool) : Type 0 where
   pub pool : IsPool ns
@@ -106,8 +111,9 @@ pub record IsForcedTest (f : FactsView) (ns : List Node) (node : NodeId) (test :
 abbrev pub condition : NodeId → Test → NodeId → Bool → Cond
 condition node test other sense = record { node = node; test = test; other = other; sense = sense }
 
--- The result that is forced can be learnt, and the other one can't. A test against a number is a condition where the
--- number has a node, and once the pool has gained one.
+-- Where a condition's test is forced, the condition with that result can be learnt, and the one with the other result
+-- can't. A forced test against a number is a forced condition where the number has a node, and also where the pool
+-- gains one for it.
 pub record ForcedIsLearnt : Type 0 where
   pub this : (f : FactsView) (ns : List Node) (cond : Cond) (number : ℕ)
       → IsForcedCondition f ns cond number cond.sense → (new : FactsView) × LearnsBy f new ns cond

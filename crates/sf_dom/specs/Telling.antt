@@ -1,4 +1,4 @@
--- When what is known of a word, and of the nodes of a pool, leaves the result of a test open.
+-- When what is known leaves the result of a test against a number open, and when the rules force it.
 use Rattle.std.specs.Prelude.{◌≡◌, ℕ, ◌≤◌, List, Contains, Bool, true, false, not, Option, IfSome, bit_and}
 use Rattle.sf_insn.specs.declared.ops.Test.{Test}
 use Rattle.sf_insn.specs.declared.ops.Test.TheVariants.{Equal, AnyBit}
@@ -22,8 +22,8 @@ abbrev pub IsOpen : Test → Known → ℕ → Type 0
 IsOpen AnyBit k number = (bit_and k.ones number ≡ 0) × ¬ AreBitsOf number k.zeros
 IsOpen test k number = SomeBetweenGives k test number true × SomeBetweenGives k test number false
 
--- Of a test against a number, the rules forbid the other result: it leaves nothing of a word. This result changes
--- nothing of what is known of the word, nor of the number.
+-- By the rules a test against a number has this result: no knowledge of this kind keeps both what is known of the word
+-- and what the other result says of it, and this result says nothing new of the word or of the number.
 pub record IsForcedBy (kind : Known → Type 0) (k : Known) (test : Test) (number : ℕ) (sense : Bool) : Type 0 where
   pub other : HasNone kind (met k (assumed test (not sense) k (number_known number)).node)
   pub this : IsNarrower (assumed test sense k (number_known number)).node k
@@ -36,8 +36,8 @@ pub record IsOpenAt (ks : List Known) (ex : List (List ℕ)) (ns : List Node) (a
   pub known : IsOpen test (known_at ks at) number
   pub kept : test ≡ Equal → ¬ Contains (excluded_of ex (node_at ns at)) number
 
--- The result that is told of a test of the node at a place is forced by the rules, where nothing more follows from what
--- is known of the node by itself, and the node is a word only at that word's own place.
+-- The result that is told of a test of the node at a place, if one is, is forced by the rules. This is promised where
+-- nothing more follows from what is known of the node by itself, and where it is a word only at that word's own place.
 abbrev pub IsForcing : List Known → List (List ℕ) → List Node → ℕ → Test → ℕ → Option Bool → Type 0
 IsForcing ks ex ns at test number told =
     IsClosedAt ex at (known_at ks at) → ((w : ℕ) → node_at ns at ≡ Word w → at ≡ w)

@@ -21,13 +21,13 @@ use Rattle.sf_rows.specs.Pairs.{ArePairsOf, Differ, IsLabelOf, pair_order, pairs
 use Rattle.sf_rows.specs.Rows.{RowData, listed_rows}
 use Rattle.sf_rows.specs.Written.{written_count, written_lines, written_undetermined}
 
--- the label of each region is that of the answers of both stacks to its members
+-- the label of each region is the label of the two answers that the old and the new stack give to its members
 pub record TellPairs (s : BookData) (older : ℕ) (pairs : List PartAnswers) (labels : List ℕ) : Type 0 where
   pub each : (place : ℕ) (region : RegionData) → slice_get s.regions place ≡ Some region
       → (both : PartAnswers) × AreAnswersOf s older region both × IsLabelOf pairs both (slice_index labels place)
 
--- The pairs of answers that differ, and where no piece is outstanding a picture, whose labels are places of the pairs
--- and the number behind all places.
+-- The pairs of answers that differ; and a picture, where no piece is outstanding. A label of the picture is the place
+-- of a pair, or the number of the pairs, which stands for answers that are the same.
 pub record DifferencesData : Type 0 where
   pub pairs : List PartAnswers
   pub picture : Option PictureData
@@ -50,7 +50,7 @@ pub record ArePictured (s : BookData) (older : ℕ) (pairs : List PartAnswers) (
 pub record AreDifferences (s : BookData) (older : ℕ) (x : DifferencesData) : Type 0 where
   pub picture : MatchOption x.picture (0 < length s.outstanding) (ArePictured s older x.pairs)
 
--- a picture is drawn by the rules, with the label of its two answers as the label of each region
+-- this is the picture by the rules, where the label of each region is the label of its two answers
 pub record IsDrawnOfPairs (s : BookData) (answers pairs : List PartAnswers) (leaves : ℕ)
     (p : PictureData) : Type 0 where
   pub labels : List ℕ
@@ -59,15 +59,17 @@ pub record IsDrawnOfPairs (s : BookData) (answers pairs : List PartAnswers) (lea
       → IsLabelOf pairs both (slice_index labels place)
   pub drawn : HasPicture s labels leaves p
 
--- What differs is that of the rules: the pairs of answers that differ, in order and each once, and the picture that is
--- drawn with them, of which so many leaves are allowed.
+-- What differs is that of the rules. `answers` are the two answers to each region. The pairs are those of them that
+-- differ, in order and each once. If there is a picture, it is drawn with these pairs by the rules, where this many
+-- leaves are allowed.
 pub record AreDifferencesByRule (s : BookData) (older : ℕ) (answers : List PartAnswers) (leaves : ℕ)
     (x : DifferencesData) : Type 0 where
   pub answers_are : AreAnswersOfRegions s older answers
   pub pairs : ArePairsOf answers x.pairs
   pub picture : IfSome x.picture (IsDrawnOfPairs s answers x.pairs leaves)
 
--- a comparison of the stacks of files, with what differs, of whose picture so many leaves are allowed
+-- a comparison of the two stacks that files spell, and what differs between their answers: this is right, and that of
+-- the rules, where this many leaves of the picture are allowed
 pub record IsComparisonWithRows (files : List (List ℕ)) (older budget leaves : ℕ) (c : Compared)
     (x : DifferencesData) : Type 0 where
   pub comparison : IsComparison files older budget c
@@ -79,30 +81,30 @@ abbrev pub is_unchanged : ℕ → List ℕ → Bool
 is_unchanged count (label ∷ []) = label == count
 is_unchanged count _ = false
 
--- of some rows those with a difference
+-- the rows that show a difference: all but those whose only label stands for answers that are the same
 abbrev pub changed_of : ℕ → List RowData → List RowData
 changed_of count rows = filter (λ (r : RowData). not (is_unchanged count r.labels)) rows
 
--- the rows in which the answers of both stacks differ
+-- the rows of the picture that show a difference; none, where there is no picture
 abbrev pub changed_rows : DifferencesData → List RowData
 changed_rows x = changed_of (length x.pairs) (listed_rows x.picture)
 
--- whether the answers of a pair are so related, where they differ
+-- whether the answers of a pair, which differ, have the relation
 abbrev pub is_so_related : Relation → PartAnswers → Bool
 is_so_related Looser both = nat_lt (reach_of both.older.action) (reach_of both.newer.action)
 is_so_related Tighter both = nat_lt (reach_of both.newer.action) (reach_of both.older.action)
 is_so_related Different both = true
 
--- whether the answers that a label stands for are so related
+-- whether a label stands for a pair of answers that have the relation
 abbrev pub is_label_of : Relation → List PartAnswers → ℕ → Bool
 is_label_of relation pairs label = option_map_or (is_so_related relation) (slice_get pairs label) false
 
--- of rows those with answers that are so related
+-- the rows of which some label stands for a pair of answers that have the relation
 abbrev pub related_of : Relation → List PartAnswers → List RowData → List RowData
 related_of relation pairs rows = filter (λ (r : RowData). list_any (is_label_of relation pairs) r.labels) rows
 
--- What is shown of the rows in which answers differ: those of a relation only, and how they are told: each by a line,
--- or call by call.
+-- What is shown of the rows that show a difference: only those of a relation, if one is given; and how they are told:
+-- each by a line, or call by call, if names of calls are given (an empty list stands for all calls).
 pub record ShownData : Type 0 where
   pub only : Option Relation
   pub calls : Option (List (List ℕ))
@@ -112,7 +114,7 @@ abbrev pub shown_rows : Option Relation → DifferencesData → List RowData
 shown_rows None x = changed_rows x
 shown_rows (Some relation) x = related_of relation x.pairs (changed_rows x)
 
--- what the rows that are shown have in common
+-- the word for the rows that are shown: the relation, or `changed` for all of them
 abbrev pub shown_words : Option Relation → List ℕ
 shown_words None = codes "changed"
 shown_words (Some Looser) = codes "looser"
@@ -124,8 +126,8 @@ abbrev pub changed_line : Option Relation → (count undetermined : ℕ) → Lis
 changed_line only count undetermined = line (codes "total" ∷ shown_words only ∷ decimal count ∷ codes "undetermined"
     ∷ decimal undetermined ∷ [])
 
--- The line that counts the rows, where they were drawn: where a piece is outstanding there is none, since nothing was
--- looked for.
+-- The line that counts the rows, where there is a picture. Where there is none, since a piece is outstanding, there is
+-- no such line.
 abbrev pub drawn_line : Option PictureData → Option Relation → (count undetermined : ℕ) → List ℕ
 drawn_line None only count undetermined = []
 drawn_line (Some p) only count undetermined = changed_line only count undetermined

@@ -24,7 +24,8 @@ rows_listed sets calls l answers rows = fields (
     ∷ (codes "total", total_document sets calls rows)
     ∷ (codes "version", count 1) ∷ [])
 
--- a listing, with these sets of calls: each row by itself, or the rows of these calls, of all calls where none is named
+-- A listing, with these sets of calls. `calls` says how rows are told: each by itself, where it is `None`; else call by
+-- call, for the calls that it names, or for all calls where it names none.
 abbrev pub listing_document : List NamesData → Option (List (List ℕ)) → Listed → Data
 listing_document sets calls l = rows_listed sets calls l (map answer_document l.answers) (listed_rows l.picture)
 
@@ -34,12 +35,12 @@ pair_document both = fields (
     (codes "new", answer_document both.newer)
     ∷ (codes "old", answer_document both.older) ∷ [])
 
--- what counts the rows, where they were drawn: null where a piece is outstanding, since nothing was looked for
+-- the total of the rows, where a picture was drawn; null where there is none, since a piece is outstanding
 abbrev pub drawn_document : Option PictureData → Data → Data
 drawn_document None total = null
 drawn_document (Some p) total = total
 
--- a comparison with these rows, and what they have in common
+-- the document of a comparison with further fields: the word for the rows that are shown, these rows, and their total
 abbrev pub rows_compared : List NamesData → ShownData → Compared → DifferencesData → List Data → List RowData → Data
 rows_compared sets shown c x pairs rows =
     with_field (codes "total") (drawn_document x.picture (total_document sets shown.calls rows))
@@ -47,8 +48,8 @@ rows_compared sets shown c x pairs rows =
     (with_field (codes "calls") (calls_document sets pairs shown.calls rows)
     (with_field (codes "shown") (string (shown_words shown.only)) (comparison_document sets c))))
 
--- The document of the comparison with further fields: what the rows that are shown have in common, the rows, and how
--- many they are. A label behind all pairs stands for answers that don't differ, which is null.
+-- The document of a comparison with the rows that are shown. What a label stands for is a pair of answers; for the
+-- label behind all pairs it is null, since the answers don't differ.
 abbrev pub differences_document : List NamesData → ShownData → Compared → DifferencesData → Data
 differences_document sets shown c x =
     rows_compared sets shown c x (map pair_document x.pairs) (shown_rows shown.only x)

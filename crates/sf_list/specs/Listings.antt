@@ -27,9 +27,9 @@ pub record Listed : Type 0 where
   pub answers : List Answer
   pub picture : Option PictureData
 
--- The picture shows each member of each region the label of its answer. Answers are in order, and equal ones have one
--- label. On a plain stack no leaf of a picture that isn't spent has two labels, and some member of a region lies at
--- each leaf.
+-- The picture shows each member of each region the label of its answer, which is the answer's first place in the list.
+-- The answers are in order. On a plain stack no leaf of a picture that isn't spent has two labels; and if there are
+-- regions, some member of one lies at each leaf.
 pub record IsPictured (s : BookData) (answers : List Answer) (p : PictureData) : Type 0 where
   pub lawful : IsPicture p
   pub none_left : s.outstanding ≡ []
@@ -49,7 +49,7 @@ pub record IsListing (files : List (List ℕ)) (budget : ℕ) (l : Listed) : Typ
   pub plain : IsPlain l.settled.stack → IsExactExploration l.settled.stack budget l.settled
   pub picture : MatchOption l.picture (0 < length l.settled.outstanding) (IsPictured l.settled l.answers)
 
--- a picture is drawn by the rules, with the first place of its answer as the label of each region
+-- this is the picture by the rules, where the label of each region is the first place of its answer
 pub record IsDrawnWith (s : BookData) (answers : List Answer) (leaves : ℕ) (p : PictureData) : Type 0 where
   pub labels : List ℕ
   pub count : length labels ≡ length s.regions
@@ -57,8 +57,8 @@ pub record IsDrawnWith (s : BookData) (answers : List Answer) (leaves : ℕ) (p 
   pub first : AreFirstPlaces s answers labels
   pub drawn : HasPicture s labels leaves p
 
--- A listing is that of the rules: it has the answers of all regions in order, each once, and the picture that is drawn
--- with them, of which so many leaves are allowed.
+-- A listing is that of the rules: it has the answers of all regions, in order and each once; and if it has a picture,
+-- this is drawn with them by the rules, where this many leaves are allowed.
 pub record IsListingByRule (leaves : ℕ) (l : Listed) : Type 0 where
   pub answers : IsInOrder answer_order (map (λ (r : RegionData). r.answer) l.settled.regions) l.answers
   pub picture : IfSome l.picture (IsDrawnWith l.settled l.answers leaves)
@@ -87,14 +87,15 @@ total_line calls count undetermined =
 abbrev pub head_text : Option (List (List ℕ)) → BookData → List ℕ
 head_text calls b = listing_title calls ++ (stack_line b.stack ++ counts_line (counts_of b))
 
--- The whole text, with these sets of calls: a line for each row, or where calls are asked for the lines of these calls,
--- of all calls where none is named.
+-- The whole text, with these sets of calls: the head, the rows, and the line that counts them. `calls` says how rows
+-- are told: each by a line, where it is `None`; else call by call, for the calls that it names, or for all calls where
+-- it names none.
 abbrev pub listing_text : List NamesData → Option (List (List ℕ)) → Listed → List ℕ
 listing_text sets calls l = let rows = listed_rows l.picture in
     head_text calls l.settled ++ (written_lines sets (map answer_words l.answers) calls rows
     ++ total_line calls (written_count sets calls rows) (written_undetermined sets calls rows))
 
--- whether each input lies in a row with one answer
+-- whether there is a picture, and none of its rows has several answers
 abbrev pub is_whole_listing : Option PictureData → Bool
 is_whole_listing None = false
 is_whole_listing (Some p) = count_by is_undetermined (rows_of p) == 0

@@ -25,7 +25,7 @@ finding_document number (Found e) = needed_document number e.input
 finding_document number Never = found_document number (codes "spare") null
 finding_document number Unsettled = found_document number (codes "unsettled") null
 
--- filters, the first of them with this number
+-- what was found of filters, the first of which has this number
 abbrev pub finding_documents : ℕ → List Change → List Data
 finding_documents number [] = []
 finding_documents number (finding ∷ findings) =
@@ -36,7 +36,7 @@ abbrev pub size_document : NeedsData → Data
 size_document n =
     fields ((codes "filters", count (length n.findings)) ∷ (codes "path", count n.path) ∷ [])
 
--- how often each was found, and how many filters are kept
+-- how many filters are kept, and of how many each result was found
 abbrev pub totals_document : NeedsData → Data
 totals_document n = fields (
     (codes "kept", count (length n.kept))

@@ -53,13 +53,14 @@ pub record IsFoundWithout (files : List (List ℕ)) (place budget : ℕ) (relati
   pub is : IsComparison (with_rest files place) (length files) budget comparison
   pub found : change_of comparison relation ≡ change
 
--- what is found of each filter of the whole stack: how far inputs get without it
+-- for each filter of the whole stack: what a comparison finds of inputs that get further without it
 pub record AreFindings (files : List (List ℕ)) (budget : ℕ) (findings : List Change) : Type 0 where
   pub count : length findings ≡ length files
   pub each : (place : ℕ) (finding : Change) → slice_get findings place ≡ Some finding
       → IsFoundWithout files place budget Looser finding
 
--- What a finding says of the program at a place: no input gets further without it; or this input does.
+-- What a finding says of the program at a place. Never: no input gets further without it. Found: this input does.
+-- Unsettled: nothing.
 abbrev pub Describes : List (List Insn) → ℕ → Change → Type 0
 Describes programs place Never =
     (d : Input) (before after : Answer) → IsInput d → Answers programs d before
@@ -67,38 +68,42 @@ Describes programs place Never =
 Describes programs place (Found e) = IsChange programs (remove programs place) Looser e.input e.before e.after
 Describes programs place Unsettled = Unit {0}
 
--- each finding says so of the filter at its place
+-- if the files spell a stack, what each finding says of the filter at its place is true
 abbrev pub DescribeFilters : List (List ℕ) → List Change → Type 0
 DescribeFilters files findings =
     (programs : List (List Insn)) (place : ℕ) (finding : Change) → SpellStack files programs
     → slice_get findings place ≡ Some finding → Describes programs place finding
 
--- the filter at a place of the list can be dropped: the others at these places answer each input as all of them do
+-- of the filters at some places, the one at this place of the list can be dropped: a comparison finds that the others
+-- answer each input as all of them do
 abbrev pub IsDroppable : List (List ℕ) → ℕ → List ℕ → ℕ → Type 0
 IsDroppable files budget places place = IsFoundWithout (at_places files places) place budget Different Never
 
--- the places that are left where filters of the whole stack are dropped one after another
+-- The places that are left where filters of the whole stack are dropped one after another, each of which can be dropped
+-- from those that were left before.
 pub data IsLeft (files : List (List ℕ)) (budget : ℕ) : List ℕ → Type 0 where
   whole : {places : List ℕ} → places ≡ range_with_len 0 (length files) → IsLeft files budget places
   dropped : {places : List ℕ} (before : List ℕ) (place : ℕ) → IsLeft files budget before → place < length before
       → IsDroppable files budget before place → places ≡ remove before place → IsLeft files budget places
 
--- the filter at a place of the list was tried, and is kept
+-- of the filters at some places, the one at this place of the list is kept: a comparison doesn't find that the others
+-- answer each input as all of them do
 pub record IsKept (files : List (List ℕ)) (budget : ℕ) (places : List ℕ) (place : ℕ) : Type 0 where
   pub change : Change
   pub found : IsFoundWithout (at_places files places) place budget Different change
   pub other : change ≢ Never
 
--- none of the filters at these places can be dropped
+-- each of the filters at these places is kept, as `IsKept` says
 abbrev pub AreKept : List (List ℕ) → ℕ → List ℕ → Type 0
 AreKept files budget places = (place : ℕ) → place < length places → IsKept files budget places place
 
--- places of some of so many filters, in their order
+-- places below `count`, in rising order
 pub record ArePlaces (count : ℕ) (places : List ℕ) : Type 0 where
   pub below : All (λ p. p < count) places
   pub rising : AllPairs (λ p q. p < q) places
 
--- The filters at these places answer each input as the whole stack does; where there are none, each is allowed.
+-- If the files spell a stack, its filters at these places answer each input as the whole stack does. (A stack without
+-- filters allows each input.)
 abbrev pub AnswerAlike : List (List ℕ) → List ℕ → Type 0
 AnswerAlike files places =
     (programs : List (List Insn)) (d : Input) (a : Answer) → SpellStack files programs → IsInput d
@@ -110,7 +115,7 @@ pub record IsPathOf (files : List (List ℕ)) (path : ℕ) : Type 0 where
   pub spelled : SpellStack files programs
   pub length : path ≡ path_length programs
 
--- the filters at some places that are left, and these without one, are refused together
+-- The filters at some places that are left, followed by these filters without one of them, are refused with this fault.
 pub record AreRefusedTogether (files : List (List ℕ)) (budget : ℕ) (fault : Fault) : Type 0 where
   pub places : List ℕ
   pub left : IsLeft files budget places
@@ -118,20 +123,21 @@ pub record AreRefusedTogether (files : List (List ℕ)) (budget : ℕ) (fault : 
   pub within : place < length places
   pub refused : IsFirstRefusal (with_rest (at_places files places) place) fault
 
--- the files are those of a stack; but filters that are left, and these without one, are refused together
+-- the files spell a stack; but filters that are left, followed by these without one of them, are refused with this
+-- fault
 pub record IsRefusedLater (files : List (List ℕ)) (budget : ℕ) (fault : Fault) : Type 0 where
   pub programs : List (List Insn)
   pub spelled : SpellStack files programs
   pub together : AreRefusedTogether files budget fault
 
--- what a comparison of the stack of these files with the stack without the one at a place finds
+-- what a comparison of the stack of these files with the stack without the one at a place finds of looser and different
 pub record IsTrialOf (files : List (List ℕ)) (place budget : ℕ) (trial : Trial) : Type 0 where
   pub comparison : Compared
   pub is : IsComparison (with_rest files place) (length files) budget comparison
   pub looser : change_of comparison Looser ≡ trial.looser
   pub different : change_of comparison Different ≡ trial.different
 
--- what comparisons of the whole stack with the stack without each filter find
+-- for each filter of the whole stack: what a comparison with the stack without it finds
 pub record AreTrials (files : List (List ℕ)) (budget : ℕ) (trials : List Trial) : Type 0 where
   pub count : length trials ≡ length files
   pub each : (place : ℕ) (trial : Trial) → slice_get trials place ≡ Some trial → IsTrialOf files place budget trial

@@ -16,7 +16,7 @@ abbrev pub is_spare : Change → Bool
 is_spare Never = true
 is_spare _ = false
 
--- neither was found
+-- it is unsettled whether some input gets further without the filter
 abbrev pub is_unsettled : Change → Bool
 is_unsettled Unsettled = true
 is_unsettled _ = false
@@ -54,7 +54,7 @@ kept_words (place ∷ places) = flat_map (λ p. 32 ∷ decimal (p + 1)) (place �
 abbrev pub kept_line : List ℕ → List ℕ
 kept_line kept = codes "kept" ++ (kept_words kept ++ 10 ∷ [])
 
--- how often each was found, and how many filters are kept
+-- of how many filters each result was found, and how many are kept
 abbrev pub total_line : NeedsData → List ℕ
 total_line n =
     line (codes "total" ∷ codes "needed" ∷ decimal (count_by is_needed n.findings) ∷ codes "spare"

@@ -1,4 +1,4 @@
--- The order of axes, by which forks come and rows are told.
+-- The order of axes. From the root of a picture on, forks come in this order.
 use Rattle.std.specs.Prelude.{ℕ, ◌+◌, ◌*◌, ◌-◌, ◌^◌, List, [], ◌∷◌, slice_index_or}
 use Rattle.sf_picture.specs.declared.axis.Axis.{Axis}
 

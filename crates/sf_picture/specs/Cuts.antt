@@ -33,7 +33,7 @@ abbrev pub LiesBetween : Cut → Input → Input → Type 0
 LiesBetween c d e = LiesBetweenNumbers c.axis.mask c.last (slice_index d.words c.axis.word)
     (slice_index e.words c.axis.word)
 
--- one of the cuts does
+-- one of the cuts lies between the numbers that two inputs have on its axis
 pub record SomeLiesBetween (cuts : List Cut) (d e : Input) : Type 0 where
   pub cut : Cut
   pub there : Contains cuts cut
@@ -43,12 +43,12 @@ pub record SomeLiesBetween (cuts : List Cut) (d e : Input) : Type 0 where
 abbrev pub IsCutOfWord : Cut → Type 0
 IsCutOfWord c = c.axis.word < 16
 
--- on each input the node of the one test is its number exactly where that of the other is
+-- on each input the first test's node has the first test's number exactly where the second test's node has the second's
 abbrev pub AreEqualAlike : List Node → NumberTest → NumberTest → Type 0
 AreEqualAlike ns t u =
     (d : Input) → IsInput d → (value_of ns d t.node.0 ≡ t.number) ↔ (value_of ns d u.node.0 ≡ u.number)
 
--- The cut is of a whole word, or of one bit of a word, which it tells to be 0 or 1.
+-- The cut is of a whole word; or of one bit of a word, and lies between the inputs with bit 0 and those with bit 1.
 pub record IsPlainCut (c : Cut) : Type 0 where
   pub word : c.axis.word < 16
   pub kind : (c.axis.mask ≡ 4294967295) ⊎ (IsOneBit c.axis.mask × (c.last ≡ 0))
@@ -85,7 +85,8 @@ abbrev pub NeedNoCut : PieceData → Option NodeId → ℕ → ℕ → Type 0
 NeedNoCut p single from end = (j : ℕ) (c : Cond) → from ≤ j → j < end → slice_get p.conditions j ≡ Some c
     → (single ≡ Some c.node) × (c.other.0 < length p.pool)
 
--- where the cut lies between an input that agrees with the facts and another input, one of the cuts does
+-- wherever this cut lies between an input that agrees with the facts and another input, one of the cuts in the list
+-- lies between them too
 abbrev pub IsMovedTo : FactsView → List Cut → Cut → Type 0
 IsMovedTo facts cuts c = (ns : List Node) (d e : Input) → Covers facts ns → IsInput d → IsInput e → Agrees facts ns d
     → LiesBetween c d e → SomeLiesBetween cuts d e

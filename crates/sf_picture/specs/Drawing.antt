@@ -69,8 +69,8 @@ abbrev pub EndBelow : ℕ → List Run → Type 0
 EndBelow first [] = Unit {0}
 EndBelow first (r ∷ rs) = (r.last < first) × EndBelow first rs
 
--- Runs for the numbers below one: they rise, no two neighbours lead to the same, and they lead into a sketch with so
--- many leaves and forks.
+-- Runs for the numbers below `first`: their last numbers rise and are below it, no two neighbours lead to the same, and
+-- they lead into a sketch with so many leaves and forks.
 pub record AreRuns (leaves forks first : ℕ) (rs : List Run) : Type 0 where
   pub rising : RiseFrom 0 rs
   pub apart : AreApart rs
@@ -90,22 +90,23 @@ pub record ClosesRuns (leaves forks last : ℕ) (old new : List Run) : Type 0 wh
   pub ends : 0 < length new → end_of new ≡ last
   pub keeps : (n : ℕ) (b : Branch) → next_of old n ≡ Some b → next_of new n ≡ Some b
 
--- A branch leads into the sketch, and where a number of the axis is found among runs, an input with this number is
--- shown from the branch on what it is shown from there on.
+-- The branch stands for the runs: it leads into the sketch, and each input whose number of the axis is found by the
+-- runs is shown from the branch on what it is shown from where its run leads.
 pub record LeadsAs (s : SketchData) (axis : Axis) (runs : List Run) (b : Branch) : Type 0 where
   pub below : IsBelow (length s.leaves) (length s.forks) b
   pub shows : (d : Input) (c : Branch) → next_of runs (number_on axis d) ≡ Some c
       → shown_at s (Some b) d ≡ shown_at s (Some c) d
 
--- Each member that is held and has a number of the axis below one is found by the runs: they lead on into the sketch,
--- to where its label is shown.
+-- each member that is held, and has a number of the axis below `first`, is found by the runs: its run leads into the
+-- sketch, and from there on the member is shown its label
 abbrev pub IsFoundBelow : SketchData → Axis → List Run → ℕ → HeldData → Type 0
 IsFoundBelow s axis runs first h = (d : Input) → IsHeldBy h d → number_on axis d < first
     → (b : Branch) × (next_of runs (number_on axis d) ≡ Some b) × IsBelow (length s.leaves) (length s.forks) b
     × Contains (shown_at s (Some b) d) h.label
 
--- A sketch and runs were drawn on, to the first number that isn't drawn: what was found below the one before is found
--- below it. The span is drawn then, if it ends on the axis.
+-- From the sketch s and the old runs, which were drawn up to the number `first`, the sketch t and the new runs were
+-- drawn, up to the number `next`. Where all members below `first` were found by the old ones, all below `next` are
+-- found by the new ones. A span that ends on the axis, with `last`, is drawn then.
 pub record DrawsTo (s t : SketchData) (old new : List Run) (held : List HeldData) (axis : Axis)
     (first last next : ℕ) : Type 0 where
   pub grows : Grows s t
@@ -134,13 +135,14 @@ pub record IsAttainedAt (s : SketchData) (b : Branch) (held : List HeldData) (pl
   pub member : IsHeldBy held_one input
   pub shown : shown_at s (Some b) input ≡ slice_index_or s.leaves place []
 
--- so it is for each leaf from a place on; where nothing was drawn, there is no such leaf
+-- For each leaf from a place on, some member that is held is shown exactly the leaf's labels from the branch on. Where
+-- no branch was drawn, there is no such leaf.
 abbrev pub AreAttainedAt : ℕ → SketchData → List HeldData → Option Branch → Type 0
 AreAttainedAt from s held None = (place : ℕ) → from ≤ place → place < length s.leaves → ⊥
 AreAttainedAt from s held (Some b) = (place : ℕ) → from ≤ place → place < length s.leaves → IsAttainedAt s b held place
 
--- some member that is held, with a number of the axis below one, is found by the runs, and shown from there on just the
--- labels of the leaf at a place
+-- some member that is held, and has a number of the axis below `first`, is found by the runs: from where its run leads
+-- on, it is shown just the labels of the leaf at a place
 pub record IsAttainedBelow (s : SketchData) (axis : Axis) (runs : List Run) (first : ℕ) (held : List HeldData)
     (place : ℕ) : Type 0 where
   pub input : Input
@@ -153,12 +155,12 @@ pub record IsAttainedBelow (s : SketchData) (axis : Axis) (runs : List Run) (fir
   pub below : IsBelow (length s.leaves) (length s.forks) next
   pub shown : shown_at s (Some next) input ≡ slice_index_or s.leaves place []
 
--- so it is for each leaf from a place on
+-- the same for each leaf from a place on
 abbrev pub AreAttainedBelow : ℕ → SketchData → Axis → List Run → ℕ → List HeldData → Type 0
 AreAttainedBelow from s axis runs first held = (place : ℕ) → from ≤ place → place < length s.leaves
     → IsAttainedBelow s axis runs first held place
 
--- what is held in a span is drawn, with a run that leads there; then comes the number after the span
+-- what is left in a span is drawn, a run is added that leads to it, and the next number is the one after the span
 pub record DrawsSpan (draws : ADrawing) (inside : List HeldData) (last : ℕ) (s t : SketchData) (old new : List Run)
     (next : ℕ) : Type 0 where
   pub branch : Option Branch
@@ -166,7 +168,7 @@ pub record DrawsSpan (draws : ADrawing) (inside : List HeldData) (last : ℕ) (s
   pub run : AddsSpanTo old last branch new
   pub next_is : next ≡ last + 1
 
--- a region is held besides others
+-- what is held of one more region at first stands behind what is held of others
 pub record IsOneHeldMore (region : RegionData) (label : ℕ) (old new : List HeldData) : Type 0 where
   pub held_one : HeldData
   pub of : IsHeldOf region label held_one

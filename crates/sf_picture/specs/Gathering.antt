@@ -1,4 +1,4 @@
--- How cuts are gathered: for the functions of this crate only.
+-- How the cuts of a region are gathered, condition by condition and cut by cut. For the functions of this crate only.
 use Rattle.std.specs.Prelude.{◌≡◌, ℕ, ◌<◌, ◌≤◌, ◌-◌, ◌⊎◌, ◌↔◌, List, Option, Some, None, Contains, slice_get, slice_index_or}
 use Rattle.sf_sym.specs.declared.pool.Cond.{Cond}
 use Rattle.sf_sym.specs.declared.pool.Node.{Node}
@@ -9,7 +9,7 @@ use Rattle.sf_picture.specs.declared.cuts.Cut.{Cut}
 use Rattle.sf_picture.specs.declared.windows.FixedBits.{FixedBits}
 use Rattle.sf_picture.specs.Cutting.{AxisTest, IsAxisTest, IsCutBy, NeedsNoCut, cut_within, fixed_with, window_of}
 
--- there are all the cuts that there were, and those of a kind
+-- the new list has exactly the cuts of the old one, and all cuts of a kind
 abbrev pub AreMore : List Cut → List Cut → (Cut → Type 0) → Type 0
 AreMore old new kind = (c : Cut) → Contains new c ↔ (Contains old c ⊎ kind c)
 
@@ -27,13 +27,13 @@ pub record IsCutBelow (axis : Axis) (number : ℕ) (c : Cut) : Type 0 where
 abbrev pub bits_at : List FixedBits → ℕ → FixedBits
 bits_at bits word = slice_index_or bits word (record { zeros = 0; ones = 0 })
 
--- cuts, and the fixed bits of each word, with those of a test, if there is one
+-- The cuts of a test were added, and the bits that it fixes; nothing, where there is no test.
 abbrev pub AreWithTest : Option AxisTest → List Cut → List Cut → List FixedBits → List FixedBits → Type 0
 AreWithTest None cuts more bits fixed = (more ≡ cuts) × (fixed ≡ bits)
 AreWithTest (Some t) cuts more bits fixed = AreMore cuts more (IsCutBy t.axis t.test t.number)
     × ((word : ℕ) → word < 16 → bits_at fixed word ≡ fixed_with t word (bits_at bits word))
 
--- so with the test of a condition
+-- the same with the test of an axis that a condition comes to, if it comes to one
 pub record AreWithCondition (ns : List Node) (cond : Cond) (cuts more : List Cut) (bits fixed : List FixedBits)
     : Type 0 where
   pub tested : Option AxisTest
@@ -45,7 +45,7 @@ abbrev pub NeedNone : List Cond → Option NodeId → ℕ → ℕ → Type 0
 NeedNone conds single from end = (j : ℕ) (c : Cond) → from ≤ j → j < end → slice_get conds j ≡ Some c
     → NeedsNoCut single c
 
--- the condition at a place does
+-- the condition at a place, if there is one, needs a cut
 abbrev pub NeedsOne : List Cond → Option NodeId → ℕ → Type 0
 NeedsOne conds single place = (c : Cond) → slice_get conds place ≡ Some c → ¬ NeedsNoCut single c
 
@@ -54,7 +54,7 @@ pub record IsMovedBy (facts : FactsView) (bits : List FixedBits) (tested c : Cut
   pub moved : c ≡ cut_within (window_of (known_at facts.known tested.axis.word) (bits_at bits tested.axis.word)) tested
   pub room : c.last < c.axis.mask
 
--- one of some cuts, moved
+-- a cut that is one of these, moved into the window of its word
 pub record IsMovedFrom (facts : FactsView) (bits : List FixedBits) (tested : List Cut) (c : Cut) : Type 0 where
   pub one : Cut
   pub there : Contains tested one

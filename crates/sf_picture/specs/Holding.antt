@@ -1,4 +1,5 @@
--- What is held of a region while a picture is drawn: for the functions of this crate only.
+-- Which members what is held of regions still has, and what confining it to a span keeps of them. For the functions of
+-- this crate only.
 use Rattle.std.specs.Prelude.{◌≡◌, ℕ, ◌⊎◌, true, slice_get, List, [], ◌∷◌, Contains, Some, ◌<◌, ◌≤◌, length, slice_index_or, All, ◌++◌, Option}
 use Rattle.sf_insn.specs.declared.input.Input.{Input}
 use Rattle.sf_insn.specs.Inputs.{IsInput}
@@ -48,18 +49,19 @@ pub record KeepsMembers (p : PieceData) (f g : FactsView) : Type 0 where
 abbrev pub NoneIsHeldIn : HeldData → Axis → ℕ → ℕ → Type 0
 NoneIsHeldIn h axis first last = (d : Input) → IsHeldBy h d → IsInSpan axis first last d → ⊥
 
--- what is held of the same region, with each member that has a number of the span
+-- under the same label, all members of h that have a number of the span are held by `inside`
 pub record IsHeldIn (h : HeldData) (axis : Axis) (first last : ℕ) (inside : HeldData) : Type 0 where
   pub label : inside.label ≡ h.label
   pub keeps : (d : Input) → IsHeldBy h d → IsInSpan axis first last d → IsHeldBy inside d
 
--- each member with a number of the span is held, under the same label
+-- each member of h with a number of the span is held by one of `inside`, under the same label
 abbrev pub IsKeptIn : List HeldData → Axis → ℕ → ℕ → HeldData → Type 0
 IsKeptIn inside axis first last h = (d : Input) → IsHeldBy h d → IsInSpan axis first last d
     → (k : HeldData) × Contains inside k × (k.label ≡ h.label) × IsHeldBy k d
 
--- The second is held of the same region as the first, and where the span is one to which facts are confined exactly,
--- each input that agrees with its facts agrees with those of the first, and has a number of the span.
+-- k is held of the same region as h, under the same label and with the same cuts. Where the span is one to which facts
+-- are confined exactly, each input that agrees with the facts of k agrees with those of h, and has a number of the
+-- span.
 pub record IsNarrowed (h : HeldData) (axis : Axis) (first last : ℕ) (k : HeldData) : Type 0 where
   pub piece : k.piece ≡ h.piece
   pub label : k.label ≡ h.label
@@ -68,7 +70,7 @@ pub record IsNarrowed (h : HeldData) (axis : Axis) (first last : ℕ) (k : HeldD
   pub only : IsExactSpan axis first last → (d : Input) → IsInput d → Agrees k.facts k.piece.pool d
       → Agrees h.facts h.piece.pool d × IsInSpan axis first last d
 
--- it is narrowed from one of those that are held
+-- k is narrowed from one of those that are held
 pub record IsFromSome (held : List HeldData) (axis : Axis) (first last : ℕ) (k : HeldData) : Type 0 where
   pub held_one : HeldData
   pub there : Contains held held_one
@@ -83,7 +85,7 @@ abbrev pub AreEndsOf : HeldData → Axis → Ends → Type 0
 AreEndsOf h axis e = (d : Input) → IsInput d → Agrees h.facts h.piece.pool d
     → (e.low ≤ number_on axis d) × (number_on axis d ≤ e.high)
 
--- so for each of what is held
+-- a list has, for each of what is held, ends of the axis, at the same place
 pub record AreAllEnds (held : List HeldData) (axis : Axis) (ends : List Ends) : Type 0 where
   pub count : length ends ≡ length held
   pub each : (i : ℕ) (h : HeldData) (e : Ends) → i < length held
@@ -100,7 +102,7 @@ pub record AreHeldIn (held : List HeldData) (span : Span) (inside : List HeldDat
 abbrev pub CantLearnAll : FactsView → List Node → List Cond → Type 0
 CantLearnAll f ns conds = (g : FactsView) → ¬ LearnAll f g ns conds
 
--- something was added, of which this holds, or nothing, if it holds of none
+-- at most one was added at the end, and of this, or of none where none was, `is` holds
 pub record IsAddedBy (is : Option HeldData → Type 0) (old new : List HeldData) : Type 0 where
   pub added : Option HeldData
   pub right : is added

@@ -1,4 +1,5 @@
--- What is held of regions in a span of an axis, by the rules, and which axes, spans and labels what is held has.
+-- What happens to what is held of regions where a picture is drawn, by the rules: which axes it cuts, and into which
+-- spans; what is left of it in a span; and which labels it has.
 use Rattle.std.specs.Prelude.{◌≡◌, ℕ, ◌<◌, ◌-◌, ◌⊎◌, ◌↔◌, ◌++◌, Bool, List, Option, Some, None, Contains, bit_and, if◌then◌else◌, nat_lt, nat_le, ◌==◌, ◌&&◌, ◌||◌, MatchOption, MatchBool, ⊤}
 use Rattle.std.specs.Int.{is_power_of_two}
 use Rattle.std.specs.List.{AllZip, filter_map}
@@ -20,7 +21,7 @@ use Rattle.sf_picture.specs.Pictures.{AreEachOnce}
 
 -- ---- axes and spans
 
--- a word of the input under a mask, which something held cuts
+-- something held has a cut of the axis, which is of a word of the input
 pub record IsCutAxis (held : List HeldData) (axis : Axis) : Type 0 where
   pub word : axis.word < 16
   pub held_one : HeldData
@@ -35,7 +36,7 @@ pub record AreAxes (held : List HeldData) (axes : List Axis) : Type 0 where
   pub once : AreEachOnce axes
   pub order : IsNonDecreasingBy axis_order axes
 
--- the last number below a cut that something held has on the axis
+-- something held has a cut of the axis, with this last number below it, and with numbers above it
 pub record IsLastOfCut (held : List HeldData) (axis : Axis) (last : ℕ) : Type 0 where
   pub below : last < axis.mask
   pub held_one : HeldData
@@ -50,12 +51,13 @@ pub record AreLastsBy (held : List HeldData) (axis : Axis) (lasts : List ℕ) : 
   pub each : (n : ℕ) → Contains lasts n ↔ (IsLastOfCut held axis n ⊎ (n ≡ axis.mask))
   pub rising : IsStrictlyIncreasing lasts
 
--- between which numbers an axis lies, by what is known of its word
+-- the least and the greatest number that an axis can have, by the interval of its word, or under a mask by the word's
+-- known bits
 abbrev pub ends_of : Known → Axis → Ends
 ends_of k axis = if axis.mask == 4294967295 then record { low = k.low; high = k.high }
     else record { low = bit_and k.ones axis.mask; high = bit_and axis.mask (4294967295 - k.zeros) }
 
--- so in what is held
+-- the same by the facts of something held
 abbrev pub ends_on : Axis → HeldData → Ends
 ends_on axis h = ends_of (known_at h.facts.known axis.word) axis
 
@@ -69,28 +71,29 @@ miss e first last = nat_lt last e.low || nat_lt e.high first
 
 -- ---- what is held in a span
 
--- the number that an axis has in a span, where only one can lie in it
+-- The only number that an axis can have in a span, where that is seen at once: the span is one number, or the axis is
+-- one bit and the span is without 0. None in all other cases.
 abbrev pub only_number : Axis → ℕ → ℕ → Option ℕ
 only_number axis first last = if first == last then Some first else if first == 0 then None
     else if is_power_of_two axis.mask then Some axis.mask else None
 
--- what is learnt of a word that has this number under a mask: its bits, if a number can have them
+-- what is learnt of a word from its number under a mask: the bits of the number, if none of them is outside the mask
 abbrev pub learnt_of_number : Axis → Option ℕ → Option Known
 learnt_of_number axis None = None
 learnt_of_number axis (Some n) = if bit_and n axis.mask == n then Some (masked axis.mask n) else None
 
--- What is learnt of the word of an axis in a span. A whole word lies between the span's ends. Under another mask only a
--- single number is learnt.
+-- What is learnt of the word of an axis in a span. A whole word lies between the span's ends. Under another mask
+-- something is learnt only where `only_number` gives a number.
 abbrev pub learnt_in_span : Axis → ℕ → ℕ → Option Known
 learnt_in_span axis first last = if axis.mask == 4294967295 then Some (between first last)
     else learnt_of_number axis (only_number axis first last)
 
--- facts are confined to a span
+-- facts f, confined to a span, become g; they stay as they are where nothing is learnt of the word
 abbrev pub TakeInSpan : List Node → Axis → ℕ → ℕ → FactsView → FactsView → Type 0
 TakeInSpan ns axis first last f g = MatchOption (learnt_in_span axis first last) (g ≡ f)
     (TakesInBy f g ns axis.word)
 
--- facts can't be confined to a span
+-- facts can't be confined to a span: something is learnt of the word, and they can't take it in
 abbrev pub CantTakeInSpan : List Node → Axis → ℕ → ℕ → FactsView → Type 0
 CantTakeInSpan ns axis first last f = MatchOption (learnt_in_span axis first last) ⊥ (CantTakeInBy f ns axis.word)
 
@@ -99,27 +102,27 @@ abbrev pub IsLeftInSpan : List Node → Axis → ℕ → ℕ → FactsView → O
 IsLeftInSpan ns axis first last f None = CantTakeInSpan ns axis first last f
 IsLeftInSpan ns axis first last f (Some g) = TakeInSpan ns axis first last f g
 
--- what is held with these facts, or nothing
+-- the same as h with these facts; nothing, where there are no facts
 abbrev pub IsHeldWith : HeldData → Option FactsView → Option HeldData → Type 0
 IsHeldWith h None k = k ≡ None
 IsHeldWith h (Some facts) k = k ≡ Some (record h { facts = facts })
 
--- what is held of a region in a span that its numbers don't all lie in: its facts are confined to the span
+-- what is left of something held where its facts are confined to a span: nothing, if they can't be
 abbrev pub IsConfined : HeldData → Axis → ℕ → ℕ → Option HeldData → Type 0
 IsConfined h axis first last k = (left : Option FactsView) × IsLeftInSpan h.piece.pool axis first last h.facts left
     × IsHeldWith h left k
 
--- what is held of a region in a span that its numbers don't miss: the same where all lie in it
+-- the same, but without confining the facts where by its ends on the axis all its numbers lie in the span
 abbrev pub IsKeptOf : HeldData → Axis → ℕ → ℕ → Option HeldData → Type 0
 IsKeptOf h axis first last k = MatchBool (lie_in (ends_on axis h) first last) (k ≡ Some h)
     (IsConfined h axis first last k)
 
--- what is held of a region in a span, and nothing where none of its numbers lies in it
+-- what is left of something held in a span: nothing, where by its ends on the axis none of its numbers lies in the span
 abbrev pub IsNarrowedTo : Axis → ℕ → ℕ → HeldData → Option HeldData → Type 0
 IsNarrowedTo axis first last h k = MatchBool (miss (ends_on axis h) first last) (k ≡ None)
     (IsKeptOf h axis first last k)
 
--- what is held in a span, in the same order
+-- what is left in a span of all that is held, in the same order
 pub record AreNarrowedTo (held : List HeldData) (axis : Axis) (first last : ℕ) (inside : List HeldData) : Type 0 where
   pub each : List (Option HeldData)
   pub narrowed : AllZip (IsNarrowedTo axis first last) held each
@@ -127,7 +130,7 @@ pub record AreNarrowedTo (held : List HeldData) (axis : Axis) (first last : ℕ)
 
 -- ---- labels
 
--- all that is held has the same label
+-- no two of what is held have different labels; true also where nothing is held
 abbrev pub AreOneLabel : List HeldData → Type 0
 AreOneLabel held = (h k : HeldData) → Contains held h → Contains held k → h.label ≡ k.label
 
@@ -139,7 +142,8 @@ CanLearnAll f ns conds = (g : FactsView) × LearnAll f g ns conds
 abbrev pub CanLearnAgain : HeldData → Type 0
 CanLearnAgain h = CanLearnAll h.facts h.piece.pool h.piece.conditions
 
--- whether the label of something held is gathered: of what is left, only if its conditions can be learnt once more
+-- Whether the label of something held is gathered. Where all labels are, it is. Where only those that are left are, it
+-- is if the region's conditions can be learnt once more.
 abbrev pub IsGathered : Which → HeldData → Type 0
 IsGathered All h = ⊤
 IsGathered Left h = CanLearnAgain h

@@ -9,9 +9,9 @@ pub record ForkData : Type 0 where
   pub axis : Axis
   pub runs : List Run
 
--- A picture: the labels of its leaves, its forks, where it begins, and whether it is spent: leaves were drawn early
--- then, each with all labels that were left there, since as many were drawn as are allowed. Also how many leaves were
--- drawn, those that are equal to others counted again (from 2 ^ 64 on it is 2 ^ 64 - 1).
+-- A picture: the labels of each of its leaves; its forks; the branch with which it begins; whether it is spent; and how
+-- many leaves were drawn, equal ones counted again (up to 2 ^ 64 - 1). It is spent where a leaf was drawn early, with
+-- all labels that were held there, since as many leaves were drawn as are allowed.
 pub record PictureData : Type 0 where
   pub leaves : List (List ℕ)
   pub forks : List ForkData

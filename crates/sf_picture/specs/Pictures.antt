@@ -41,12 +41,12 @@ abbrev pub IsBelow : ℕ → ℕ → Branch → Type 0
 IsBelow leaves place (Leaf i) = i < leaves
 IsBelow leaves place (Fork i) = i < place
 
--- the last numbers of runs rise, the first one from a number on
+-- the last numbers of runs rise, and the first of them is at least this number
 abbrev pub RiseFrom : ℕ → List Run → Type 0
 RiseFrom low [] = Unit {0}
 RiseFrom low (r ∷ rs) = (low ≤ r.last) × RiseFrom (r.last + 1) rs
 
--- no two neighbours lead to the same
+-- no two neighbours among runs lead to the same branch
 abbrev pub AreApart : List Run → Type 0
 AreApart [] = Unit {0}
 AreApart (r ∷ []) = Unit {0}
@@ -74,7 +74,7 @@ pub record IsRightFork (leaves place : ℕ) (f : ForkData) : Type 0 where
   pub apart : AreApart f.runs
   pub below : LeadBelow leaves place f.runs
 
--- the forks of a picture with this many leaves, each at its place
+-- each fork is right at its place, in a picture with this many leaves
 abbrev pub AreRightForks : ℕ → List ForkData → Type 0
 AreRightForks leaves fs = (i : ℕ) → i < length fs → IsRightFork leaves i (fork_at fs i)
 
@@ -82,8 +82,9 @@ AreRightForks leaves fs = (i : ℕ) → i < length fs → IsRightFork leaves i (
 abbrev pub AreEachOnce : {X : Type 0} → List X → Type 0
 AreEachOnce xs = AllPairs (λ x y. x ≢ y) xs
 
--- What each picture keeps: each leaf and each fork stands in it once, so what leads to equal leaves or forks leads to
--- the same; and the labels of each leaf are in rising order.
+-- What each picture keeps. It begins at one of its leaves or forks, and each fork is right. No two leaves are equal,
+-- and no two forks: branches that lead to equal ones are the same. The labels of each leaf are in order, the least
+-- first.
 pub record IsPicture (p : PictureData) : Type 0 where
   pub root : IsBelow (length p.leaves) (length p.forks) p.root
   pub forks : AreRightForks (length p.leaves) p.forks
@@ -132,6 +133,6 @@ pub record IsAttained (s : BookData) (p : PictureData) (place : ℕ) : Type 0 wh
   pub member : is_member region.piece input ≡ true
   pub shown : labels_at p input ≡ slice_index_or p.leaves place []
 
--- so it is for each leaf
+-- for each leaf some member of a region is shown just the leaf's labels
 abbrev pub IsAttainedEverywhere : BookData → PictureData → Type 0
 IsAttainedEverywhere s p = (place : ℕ) → place < length p.leaves → IsAttained s p place

@@ -14,8 +14,8 @@ use Rattle.sf_picture.specs.Spans.{IsExactSpan, LiesInBox}
 use Rattle.sf_picture.specs.Cuts.{LiesBetween, AreCutsOf}
 use Rattle.sf_picture.specs.Holding.{HeldData}
 
--- It is held of a region of the exploration, under the region's label, with cuts that are enough. Each input that
--- agrees with the facts is a member, and lies in the box.
+-- This is held of a plain region of the exploration, under the region's label, with cuts that are enough. Each input
+-- that agrees with its facts is a member of the region, and lies in the box.
 pub record IsPlainHeld (s : BookData) (labels : List ℕ) (box : List Span) (h : HeldData) : Type 0 where
   pub place : ℕ
   pub region : RegionData
@@ -32,11 +32,12 @@ abbrev pub IsUncut : List Span → List Axis → HeldData → Type 0
 IsUncut box done h = (c : Cut) (d e : Input) → Contains h.cuts c → Contains done c.axis → LiesInBox box d
     → LiesInBox box e → LiesBetween c d e → ⊥
 
--- all its cuts are of these axes
+-- all cuts of what is held are of these axes
 abbrev pub IsCutOn : List Axis → HeldData → Type 0
 IsCutOn axes h = (c : Cut) → Contains h.cuts c → Contains axes c.axis
 
--- What is to be drawn of a plain stack in a box, from the axis at a place on: the axes before are done.
+-- What is to be drawn of a plain stack in a box, from the axis at a place on: no cut of an earlier axis lies between
+-- two inputs of the box, and there are cuts of these axes only.
 pub record IsPlainTask (s : BookData) (labels : List ℕ) (box : List Span) (held : List HeldData) (axes : List Axis)
     (at : ℕ) : Type 0 where
   pub settled : IsSettled s
@@ -48,7 +49,8 @@ pub record IsPlainTask (s : BookData) (labels : List ℕ) (box : List Span) (hel
 abbrev pub IsUncutIn : Span → HeldData → Type 0
 IsUncutIn span h = (c : Cut) → Contains h.cuts c → c.axis ≡ span.axis → (c.last < span.first) ⊎ (span.last ≤ c.last)
 
--- A span of the axis at a place, which is drawn as a whole, unless it has no number.
+-- A span of the axis at a place. If it has numbers, facts are confined to it exactly; and if it also ends on the axis,
+-- no cut of what is held lies between two of them.
 pub record IsPlainSpan (held : List HeldData) (axes : List Axis) (at : ℕ) (span : Span) : Type 0 where
   pub axis : slice_index_or axes at span.axis ≡ span.axis
   pub uncut : span.first ≤ span.last → span.last ≤ span.axis.mask → All (IsUncutIn span) held

@@ -14,15 +14,15 @@ pub record IsInSpan (axis : Axis) (first last : ℕ) (d : Input) : Type 0 where
   pub above : first ≤ number_on axis d
   pub below : number_on axis d ≤ last
 
--- no input that agrees has a number of the span
+-- no input that agrees with the facts has a number of the span
 abbrev pub NoneInSpan : FactsView → List Node → Axis → ℕ → ℕ → Type 0
 NoneInSpan f ns axis first last = (d : Input) → IsInput d → Agrees f ns d → IsInSpan axis first last d → ⊥
 
--- each input that agrees and has a number of the span agrees still
+-- each input that agrees with f and has a number of the span agrees with g
 abbrev pub KeepsSpan : FactsView → List Node → Axis → ℕ → ℕ → FactsView → Type 0
 KeepsSpan f ns axis first last g = (d : Input) → IsInput d → Agrees f ns d → IsInSpan axis first last d → Agrees g ns d
 
--- each input that agrees agreed before, and has a number of the span
+-- each input that agrees with g agrees with f, and has a number of the span
 abbrev pub KeepsOnlySpan : FactsView → List Node → Axis → ℕ → ℕ → FactsView → Type 0
 KeepsOnlySpan f ns axis first last g = (d : Input) → IsInput d → Agrees g ns d
     → Agrees f ns d × IsInSpan axis first last d

@@ -32,7 +32,8 @@ use Rattle.sf_piece.specs.Pieces.{PieceData, StepData, Split, Settled, Empty}
 abbrev pub IsNodeAt : List Node → Node → NodeId → Type 0
 IsNodeAt ns node id = (id.0 < length ns) × (node_at ns id.0 ≡ node)
 
--- A pool gets a node, as it keeps it. Where it has the node, it stays as it is; else the node becomes its last one.
+-- A pool gets a node, in the form in which it keeps that. Where it has a node of this form, it stays as it is; else
+-- this becomes its last node.
 abbrev pub IsPutIn : List Node → Node → List Node → NodeId → Type 0
 IsPutIn old node new id =
     (IsNodeAt old (folded_node old node) id × (new ≡ old))
@@ -59,14 +60,14 @@ abbrev pub Gets : PieceData → Node → Option (PieceData × NodeId) → Type 0
 Gets p node (Some given) = IsGiven p node given.0 given.1
 Gets p node None = CantBeGiven p node
 
--- the word of an operand
+-- a piece gets the word of an operand: for a constant its pool gets a node, while X has one already
 abbrev pub GetsOperand : PieceData → Operand → Option (PieceData × NodeId) → Type 0
 GetsOperand p (Constant k) given = Gets p (Const k) given
 GetsOperand p X given = given ≡ Some (p, p.machine.x)
 
 -- ---- instructions that meet no truth value
 
--- the machine at the next instruction
+-- the machine at the next instruction, none of whose truth values is taken
 abbrev pub on : SymbolicMachine → SymbolicMachine
 on m = record m { place = m.place + 1; taken = 0; value = 0 }
 
@@ -74,19 +75,19 @@ on m = record m { place = m.place + 1; taken = 0; value = 0 }
 abbrev pub with_machine : PieceData → SymbolicMachine → PieceData
 with_machine p m = record p { machine = m }
 
--- with a word in A
+-- the piece at the next instruction, with the word that it was given in A
 abbrev pub with_a : PieceData × NodeId → PieceData
 with_a given = with_machine given.0 (record (on given.0.machine) { a = given.1 })
 
--- with a word in X
+-- the piece at the next instruction, with the word that it was given in X
 abbrev pub with_x : PieceData × NodeId → PieceData
 with_x given = with_machine given.0 (record (on given.0.machine) { x = given.1 })
 
--- A gets a word
+-- the piece gets a word and has it in A at the next instruction; none where the word contradicts
 abbrev pub LoadsA : PieceData → Node → Option PieceData → Type 0
 LoadsA p node = Then (Gets p node) (λ given next. next ≡ Some (with_a given))
 
--- X gets a constant
+-- the piece gets a constant and has it in X at the next instruction; none where the constant contradicts
 abbrev pub LoadsX : PieceData → ℕ → Option PieceData → Type 0
 LoadsX p k = Then (Gets p (Const k)) (λ given next. next ≡ Some (with_x given))
 
@@ -180,7 +181,8 @@ pub record IsSide (asked : PieceData × Cond) (i : Insn) (b : Bool) (c : PieceDa
     facts = c.facts;
   }
 
--- the piece goes on with an implied truth value of the instruction, which only its name gains
+-- The piece goes on with an implied truth value of the instruction: its name gains it, and its machine goes on. Nothing
+-- else changes.
 pub record IsNamedOn (p : PieceData) (i : Insn) (b : Bool) (q : PieceData) : Type 0 where
   pub machine : AfterTruthValue p i b q.machine
   pub rest : q ≡ record p { name = p.name ++ b ∷ []; machine = q.machine }
@@ -195,7 +197,7 @@ code_at p = get_or p.stack (length p.stack - 1 - p.machine.program) []
 abbrev pub IsAtHand : PieceData → Insn → Type 0
 IsAtHand p i = (p.machine.program < length p.stack) × IsAt (code_at p) p.machine.place i
 
--- the instruction makes of the piece the next one
+-- the instruction turns the piece into the next one: by moving words, by making a word, or by an implied truth value
 abbrev pub MakesOf : PieceData → Insn → PieceData → Type 0
 MakesOf p i q =
     ((m : SymbolicMachine) × MovesTo p.machine i m × (q ≡ with_machine p m))
@@ -206,12 +208,12 @@ MakesOf p i q =
 abbrev pub GoesOn : PieceData → PieceData → Type 0
 GoesOn p q = (i : Insn) × IsAtHand p i × MakesOf p i q
 
--- it is split
+-- the piece is split by the instruction at hand: into a side where its query is false, and one where it is true
 abbrev pub SplitsInto : PieceData → PieceData → PieceData → Type 0
 SplitsInto p f t = (i : Insn) × (asked : PieceData × Cond) × IsAtHand p i × HasQuery p i (Some asked)
     × IsSide asked i false f × IsSide asked i true t
 
--- it is emptied
+-- the piece is emptied by the instruction at hand: a word contradicts, or both truth values of its query do
 abbrev pub IsEmptied : PieceData → Type 0
 IsEmptied p = (i : Insn) × IsAtHand p i
     × (Computes p i None ⊎ HasQuery p i None ⊎ ((asked : PieceData × Cond) × HasQuery p i (Some asked)
@@ -224,7 +226,7 @@ abbrev pub GoesOnFor : ℕ → PieceData → PieceData → Type 0
 GoesOnFor zero p q = q ≡ p
 GoesOnFor (suc n) p q = (next : PieceData) × GoesOn p next × GoesOnFor n next q
 
--- what becomes of a piece that has come so far, and the name that the work has then
+-- what becomes of piece p once it has gone on as q, and the name of its work: q's name where it settles, else p's
 abbrev pub EndsAs : PieceData → PieceData → StepData → List Bool → Type 0
 EndsAs p q (Split f t) name = SplitsInto q f t × (name ≡ p.name)
 EndsAs p q (Settled answer) name = (length q.stack ≤ q.machine.program) × (answer ≡ q.machine.so_far) × (name ≡ q.name)
@@ -248,7 +250,7 @@ pub record IsFirst (stack : List (List Insn)) (p : PieceData) : Type 0 where
   pub machine : p.machine ≡ first_machine p.machine.zero
   pub place : p.machine.zero.0 ≡ 16
 
--- down the tree from a piece, at each split to the side of a truth value
+-- piece p lies below r in the tree: from r down, each truth value says which side of the next split is taken
 abbrev pub IsBelow : List Bool → PieceData → PieceData → Type 0
 IsBelow [] r p = p ≡ r
 IsBelow (b ∷ bs) r p = (f : PieceData) × (t : PieceData) × HasStep r (Split f t) r.name
@@ -263,7 +265,8 @@ pub record IsReached (p : PieceData) : Type 0 where
 
 -- ---- equal pieces and steps
 
--- all is the same, but for the order in which the excluded numbers of a word are kept
+-- All is the same, but for what equal facts may differ in: how the excluded numbers of a word are listed, and which
+-- nodes are variables.
 pub record AreSamePieces (p q : PieceData) : Type 0 where
   pub rest : q ≡ record p { facts = q.facts }
   pub facts : AreEqualFacts p.facts q.facts

@@ -10,13 +10,14 @@ use Rattle.sf_dom.specs.Rules.{number_known}
 use Rattle.sf_piece.specs.Pieces.{PieceData}
 use Rattle.sf_piece.specs.Execution.{GetsOperand, query, LeavesOnly}
 
--- an operand is known to be this number, and no bits would go back from it
+-- the operand is the constant of this number; or it is X, which is known to be this number, and from which no bits
+-- would go back
 abbrev pub IsNumberOf : PieceData → Operand → ℕ → Type 0
 IsNumberOf p (Constant k) n = n ≡ k
 IsNumberOf p X n = (known_at p.facts.known p.machine.x.0 ≡ number_known n)
     × ((m : ℕ) → IsPropagatedBack m p.facts.known p.pool p.machine.x.0)
 
--- where the operand of a test of A has a node, the rules leave only this result
+-- the piece can get the operand of a test of A, and with that the rules leave only this result
 abbrev pub IsForetold : PieceData → Test → Operand → Bool → Type 0
 IsForetold p test other b = (asked : PieceData × NodeId) × GetsOperand p other (Some asked)
     × LeavesOnly (asked.0, query p.machine.a test asked.1) b

@@ -2,7 +2,7 @@
 use Rattle.std.specs.declared.cmp.Reverse.{Reverse}
 use Rattle.std.specs.Prelude.{ℕ, false, true, Bool, List, [], ◌∷◌, ◌++◌, replicate}
 
--- the name with these runs: for each so many falses and a true, and at the end so many falses
+-- the name that these runs spell: for each of them that many falses and then a true, and at the end `rest` falses
 abbrev pub spelled : List (Reverse ℕ) → ℕ → List Bool
 spelled [] rest = replicate rest false
 spelled (run ∷ runs) rest = replicate run.0 false ++ true ∷ spelled runs rest

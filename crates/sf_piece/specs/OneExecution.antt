@@ -4,8 +4,8 @@ use Rattle.sf_sym.specs.Pool.{IsPool}
 use Rattle.sf_piece.specs.Pieces.{PieceData, StepData, Split}
 use Rattle.sf_piece.specs.Execution.{HasNoTwins, HasStep, IsReached, AreSamePieces, AreSameSteps}
 
--- A piece has one step at most, and its work one name. A stack's tree has one piece of a name at most. Both sides of a
--- split of the tree are in it. Its pools are lawful, and no node stands in one twice.
+-- The same piece has one step at most, and its work one name. The tree of a stack has one piece of a name at most, and
+-- both sides of each of its splits. The pools of its pieces are lawful, and no node stands in one twice.
 pub record IsExecutionOne : Type 0 where
   pub step : (p q : PieceData) (s t : StepData) (m n : List Bool) → AreSamePieces p q → IsPool p.pool
       → HasNoTwins p.pool → HasStep p s m → HasStep q t n → AreSameSteps s t × (m ≡ n)

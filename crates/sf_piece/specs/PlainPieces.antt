@@ -20,18 +20,20 @@ pub record IsPlainPiece (p : PieceData) : Type 0 where
   pub exact : (d : Input) → IsInput d → Agrees p.facts p.pool d → is_member p d ≡ true
   pub some : (d : Input) × IsInput d × (is_member p d ≡ true)
 
--- both pieces of a split are plain; a region has a member, whose trace is its name; no step is empty
+-- both pieces of a split are plain; where the piece settled, it has a member whose trace is the whole name; no step is
+-- empty
 abbrev pub IsPlainStep : PieceData → StepData → List Bool → Type 0
 IsPlainStep p (Split f t) n = IsPlainPiece f × IsPlainPiece t
 IsPlainStep p (Settled a) n = (d : Input) × IsInput d × (is_member p d ≡ true) × (trace_of p.stack d ≡ n)
 IsPlainStep p Empty n = ⊥
 
--- a work of a plain stack
+-- a work of a plain stack: its piece is plain, and its step is that of a plain piece
 pub record IsPlainWork (w : WorkData) : Type 0 where
   pub piece : IsPlainPiece w.piece
   pub step : IsPlainStep w.piece w.step w.name
 
--- what the type of works keeps: by the rules the piece is in the execution tree, and the step is its step
+-- what the type of works keeps: the work is right, and plain where its stack is; by the rules its piece is in the
+-- execution tree, and its step is the step of the piece
 pub record IsLawfulWork (w : WorkData) : Type 0 where
   pub right : IsRightWork w
   pub plain : IsPlain w.piece.stack → IsPlainWork w

@@ -15,7 +15,8 @@ use Rattle.sf_piece.specs.PlainPieces.{IsPlainPiece}
 use Rattle.sf_piece.specs.SymbolicRun.{IsLawfulPiece}
 use Rattle.sf_piece.specs.Works.{HasAdvanced, IsForeseen}
 
--- after the instruction or truth value the piece goes on as the second one, is split, is settled, or has no member
+-- what is right of an instruction or a truth value, by what it makes of piece p: p goes on as q, is split, settles with
+-- the name and the answer so far of q, or has no member
 abbrev pub IsSmallStep : PieceData → PieceData → SmallStep → Type 0
 IsSmallStep p q On = HasAdvanced p q × IsLawfulPiece q
 IsSmallStep p q (Split f t) = IsRightSplit p f t × (IsPlain p.stack → IsPlainPiece f × IsPlainPiece t)
@@ -23,7 +24,8 @@ IsSmallStep p q (Split f t) = IsRightSplit p f t × (IsPlain p.stack → IsPlain
 IsSmallStep p q Settled = IsRightAnswer p q.name q.machine.so_far
 IsSmallStep p q Empty = HasNoMember p
 
--- what an instruction that makes a word leaves: the next piece, or nothing where a word contradicts
+-- an instruction that makes a word leaves the next piece, or nothing where the word contradicts; it neither splits nor
+-- settles
 abbrev pub IsMade : (Option PieceData → Type 0) → PieceData → SmallStep → Type 0
 IsMade makes q On = makes (Some q)
 IsMade makes q Empty = makes None
@@ -35,7 +37,7 @@ pub record IsTidy (p : PieceData) : Type 0 where
   pub twins : HasNoTwins p.pool
   pub zero : IsNodeAt p.pool (Const 0) p.machine.zero
 
--- the piece has gone on so far, by the rules
+-- by the rules the piece goes on as this one, after some number of small steps
 abbrev pub HasGoneFor : PieceData → PieceData → Type 0
 HasGoneFor p q = (n : ℕ) × GoesOnFor n p q
 
@@ -52,14 +54,16 @@ IsDecision asked i (decided.Split f t) = IsSide asked i false f × IsSide asked 
 IsDecision asked i (Implied b) = LeavesOnly asked b
 IsDecision asked i Neither = LeavesNeither asked
 
--- what is right of a truth value: both pieces are, or every member has it, or there is none
+-- what is right of a decision: both pieces of a split are right and lawful, every member has the implied truth value,
+-- or the piece has no member
 abbrev pub IsRightDecision : PieceData → Insn → Decision → Type 0
 IsRightDecision p i (decided.Split f t) = IsRightSplit p f t
     × (IsPlain p.stack → IsPlainPiece f × IsPlainPiece t) × IsLawfulPiece f × IsLawfulPiece t
 IsRightDecision p i (Implied b) = IsForeseen p i b
 IsRightDecision p i Neither = HasNoMember p
 
--- the piece goes on as was decided
+-- the piece goes on as was decided: it is split into the two pieces of the decision, gets the implied truth value, or
+-- is empty
 abbrev pub IsCarriedOut : PieceData → Insn → Decision → PieceData → SmallStep → Type 0
 IsCarriedOut p i (decided.Split f t) q (Split g u) = (f ≡ g) × (t ≡ u)
 IsCarriedOut p i (Implied b) q On = IsNamedOn p i b q

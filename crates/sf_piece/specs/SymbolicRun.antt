@@ -53,14 +53,15 @@ abbrev pub number_from : ℕ → List Bool → ℕ
 number_from n [] = n
 number_from n (b ∷ bs) = number_from (2 * n + (if b then 1 else 0)) bs
 
--- Which truth values of the instruction at the place are in the name already: none, bits of a returned A, or that X
--- is not 0.
+-- Which truth values of the instruction at the place are in the name already: none; as many bits of a returned A as are
+-- taken; or, of a division, that X is not 0.
 abbrev pub IsPending : List Insn → ℕ → ℕ → List Bool → Type 0
 IsPending code place taken pre =
     ((taken ≡ 0) × (pre ≡ [])) ⊎ ((IsAt code place ReturnA × (taken ≤ 32) × (length pre ≡ taken))
     ⊎ (IsAt code place (Alu Div X) × (taken ≡ 1) × (pre ≡ false ∷ [])))
 
--- the machine stands in this program
+-- the machine stands in this program: on each input in a state that the program may reach, and with these truth values
+-- of its instruction in the name already
 pub record IsIn (code : List Insn) (pool : List Node) (m : SymbolicMachine) (pre : List Bool) : Type 0 where
   pub safe : (d : Input) → IsReachable code (concrete_state pool m d)
   pub pending : IsPending code m.place m.taken pre
@@ -88,7 +89,9 @@ abbrev pub HasTaken : List (List Insn) → Input → State → ℕ → List Bool
 HasTaken [] d s taken pre = Unit {0}
 HasTaken (code ∷ later) d s taken pre = pre ≡ take taken (met_of (step code d s))
 
--- the run of a member has come to the machine's state
+-- The run of this input has come to the machine's state. Whatever the programs that are left meet and return from
+-- there, the trace is `base` and then what they meet; the values are first earlier ones, which make the answer so far,
+-- and then these. The truth values that are taken are those that the step at hand meets first.
 pub record Follows (p : PieceData) (rest : List (List Insn)) (base pre : List Bool) (d : Input) : Type 0 where
   pub ends : (more : List Bool) (vs : List ℕ) → RunsOn rest d (concrete_state p.pool p.machine d) more vs
       → (trace_of p.stack d ≡ base ++ more) × ((earlier : List ℕ) × (returns_of p.stack d ≡ earlier ++ vs)
@@ -105,7 +108,9 @@ pub record StandsAt (p : PieceData) (rest : List (List Insn)) (base pre : List B
   pub route : (more : List Bool) → RouteFrom rest p.machine.place more → IsWholeRoute p.stack (base ++ more)
   pub runs : (d : Input) → IsInput d → is_member p d ≡ true → Follows p rest base pre d
 
--- what a piece keeps
+-- What holds of a piece of a lawful stack. Its pool has the nodes of its conditions and of its machine, one of which is
+-- 0. Its facts cover the pool, and each member agrees with them. The members are the inputs whose trace begins with the
+-- name, and the run of the piece stands somewhere.
 pub record IsPiece (p : PieceData) : Type 0 where
   pub lawful : IsLawfulStack p.stack
   pub pool : IsPool p.pool
@@ -126,7 +131,7 @@ pub record IsLawfulPiece (p : PieceData) : Type 0 where
   pub run : IsPiece p
   pub plain : IsPlain p.stack → IsPlainPiece p
 
--- what the type of pieces keeps: by the rules the piece is in the execution tree of its stack
+-- what the type of pieces keeps: the piece is lawful, and by the rules it is in the execution tree of its stack
 pub record IsPieceOfTree (p : PieceData) : Type 0 where
   pub lawful : IsLawfulPiece p
   pub reached : IsReached p

@@ -36,11 +36,12 @@ use Rattle.sf_piece.specs.Pieces.{PieceData, is_member, IsTrulyNamed}
 use Rattle.sf_piece.specs.PlainPieces.{IsPlainPiece}
 use Rattle.sf_piece.specs.SymbolicRun.{AreNodesBelow, IsLawfulPiece, StandsAt, met_of, concrete_state}
 
--- what is left to do at most: each small step makes this number smaller
+-- a bound on what is still to be done: each small step makes this number smaller
 abbrev pub work_left : PieceData → ℕ
 work_left p = 524288 * (length p.stack - p.machine.program) + 64 * (4096 - p.machine.place) + (33 - p.machine.taken)
 
--- the piece has this instruction at hand
+-- The piece has this instruction at hand, in a program that hasn't returned. Its nodes are in the pool, its numbers are
+-- in their ranges, and the scratch word that the instruction loads, if any, is set.
 pub record HasAtHand (p : PieceData) (i : Insn) : Type 0 where
   pub code : List Insn
   pub later : List (List Insn)
@@ -65,8 +66,9 @@ pub record IsCodeAtHand (p : PieceData) (code : List Insn) : Type 0 where
   pub inside : p.machine.place < length code
   pub short : length code ≤ 4096
 
--- The instruction tests whether A equals a number, and no word of which this is known has that number. So the test
--- fails, and it skips this many instructions.
+-- The instruction tests whether A equals a number; where A is another number, it skips this many instructions. The test
+-- fails on each number that this knowledge admits, and where nothing more follows from the knowledge, the rules force
+-- it to fail.
 pub record IsFailing (i : Insn) (known : Known) (skips : ℕ) : Type 0 where
   pub number : ℕ
   pub on_true : ℕ
@@ -74,7 +76,8 @@ pub record IsFailing (i : Insn) (known : Known) (skips : ℕ) : Type 0 where
   pub fails : (x : ℕ) → Admits known x → passes Equal x number ≡ false
   pub forced : IsClosed known → IsForcedBy IsClosed known Equal number false
 
--- From one place of a program, n such tests lead to another place, each where the one before leads if it fails.
+-- From one place of a program, n tests of this kind lead to another place: each stands where the one before it leads
+-- when it fails.
 abbrev pub AreFailing : List Insn → Known → ℕ → ℕ → ℕ → Type 0
 AreFailing code known zero place behind = behind ≡ place
 AreFailing code known (suc n) place behind =
@@ -115,7 +118,8 @@ pub record HasGrown (p q : PieceData) : Type 0 where
   pub standing : (i : Insn) → HasAtHand p i → HasAtHand q i
   pub nodes : AreNodesBelow (length q.pool) p.machine
 
--- the pool has this node too
+-- A node of the grown pool has the value of this node on every input. Where this node is a constant, that one is the
+-- same constant.
 pub record IsPushed (p : PieceData) (node : Node) (q : PieceData) (id : NodeId) : Type 0 where
   pub grown : HasGrown p q
   pub lawful : IsLawfulPiece q
@@ -123,7 +127,8 @@ pub record IsPushed (p : PieceData) (node : Node) (q : PieceData) (id : NodeId) 
   pub value : (d : Input) → value_of q.pool d id.0 ≡ node_value d (values_of p.pool d) node
   pub constant : (c : ℕ) → node ≡ Const c → node_at q.pool id.0 ≡ Const c
 
--- the second word of an operation or a test has a node
+-- A node of the grown pool has, on every input, the value of the second word of an operation or a test. Where this word
+-- is a constant, the node is that constant.
 pub record IsOperand (p : PieceData) (other : Operand) (q : PieceData) (id : NodeId) : Type 0 where
   pub grown : HasGrown p q
   pub lawful : IsLawfulPiece q
@@ -131,7 +136,8 @@ pub record IsOperand (p : PieceData) (other : Operand) (q : PieceData) (id : Nod
   pub value : (d : Input) → value_of q.pool d id.0 ≡ operand_of (concrete_state p.pool p.machine d) other
   pub constant : (k : ℕ) → other ≡ Constant k → node_at q.pool id.0 ≡ Const k
 
--- a division by X that is not 0, or a step that meets nothing
+-- On every input the instruction meets nothing and goes on to the state of machine m. Or it is a division by X, the
+-- name says already that X is not 0, and on every input the state of m is the next one, with the quotient in A.
 abbrev pub GoesBy : PieceData → Insn → SymbolicMachine → Type 0
 GoesBy p i m =
     ((d : Input) → insn_progress d (concrete_state p.pool p.machine d) i ≡ goes [] (concrete_state p.pool m d))
@@ -141,7 +147,7 @@ GoesBy p i m =
       a = apply Div (value_of p.pool d p.machine.a.0) (value_of p.pool d p.machine.x.0);
     }))
 
--- The instruction goes to this state on each member, and all truth values that it meets are in the name already.
+-- The instruction goes to this state on each input, and all truth values that it meets are in the name already.
 pub record GoesTo (p : PieceData) (i : Insn) (m : SymbolicMachine) : Type 0 where
   pub program : m.program ≡ p.machine.program
   pub so_far : m.so_far ≡ p.machine.so_far
@@ -165,7 +171,8 @@ abbrev pub SetsX : PieceData → Insn → ℕ → Type 0
 SetsX p i k = (d : Input) → insn_progress d (concrete_state p.pool p.machine d) i
     ≡ with_x (concrete_state p.pool p.machine d) k
 
--- the instruction returns this value on each member
+-- the instruction returns this value: it is the constant of a return, or the number of A's bits once all 32 of them are
+-- taken
 abbrev pub ReturnsNow : PieceData → Insn → ℕ → Type 0
 ReturnsNow p i v = (i ≡ ReturnConstant v) ⊎ ((i ≡ ReturnA) × (p.machine.taken ≡ 32) × (v ≡ p.machine.value))
 
@@ -180,7 +187,7 @@ IsMove Tax = Unit {0}
 IsMove Txa = Unit {0}
 IsMove _ = ⊥
 
--- the truth value that comes next of those that a step meets
+-- of the truth values that a step meets, the next one that isn't taken is this
 abbrev pub NextIs : Progress → ℕ → Bool → Type 0
 NextIs progress taken e = slice_get (met_of progress) taken ≡ Some e
 
@@ -200,7 +207,7 @@ pub record IsQuery (p : PieceData) (i : Insn) (cond : Cond) : Type 0 where
       (is_met p.pool d cond)
   pub plain : IsPlain p.stack → IsPlainCondition p.pool cond
 
--- A passes a test against an operand, or doesn't, on every member
+-- on every member the test of A against an operand has this result
 abbrev pub PassesAlways : PieceData → Test → Operand → Bool → Type 0
 PassesAlways p test other b = (d : Input) → IsInput d → is_member p d ≡ true
     → passes test (value_of p.pool d p.machine.a.0) (operand_of (concrete_state p.pool p.machine d) other) ≡ b
@@ -218,7 +225,7 @@ NothingGoesBack p node = GoingBackGives p.facts.known p.facts.excluded p.pool no
 abbrev pub IsAPropagatedBack : PieceData → Type 0
 IsAPropagatedBack p = (n : ℕ) → IsPropagatedBack n p.facts.known p.pool p.machine.a.0
 
--- the next truth value is this on every member
+-- the instruction meets a truth value that is not in the name, and on every member it is this one
 pub record IsForeseen (p : PieceData) (i : Insn) (b : Bool) : Type 0 where
   pub asks : Asks p i
   pub next : (d : Input) → IsInput d → is_member p d ≡ true
@@ -244,8 +251,8 @@ pub record AreChildFacts (p : PieceData) (cond : Cond) (b : Bool) (facts : Facts
   pub decided : DecidesTest p.facts (with_sense cond b)
   pub plain : IsPlain p.stack → KeepsOnly p.facts facts p.pool (Meets p.pool (with_sense cond b))
 
--- the piece of the members on which the condition has this truth value: it has one condition more, and its facts are of
--- just these members
+-- the piece of the members on which the condition has this truth value: it has one condition more, its name has one
+-- truth value more, and its facts hold on these members
 pub record IsChild (p : PieceData) (cond : Cond) (b : Bool) (c : PieceData) : Type 0 where
   pub of : c.stack ≡ p.stack
   pub conditions : c.conditions ≡ p.conditions ++ with_sense cond b ∷ []

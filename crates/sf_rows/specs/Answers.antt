@@ -8,7 +8,7 @@ use Rattle.sf_book.specs.Books.{RegionData, BookData}
 abbrev pub answer_order : Answer → ℕ
 answer_order a = rank (action_number a.action) * 2 ^ 16 + a.info
 
--- no answer of a region stands before the place that is its label
+-- no region's answer stands at a place before the region's label
 pub record AreFirstPlaces (s : BookData) (answers : List Answer) (labels : List ℕ) : Type 0 where
   pub first : (place : ℕ) (region : RegionData) → slice_get s.regions place ≡ Some region
       → (n : ℕ) → n < slice_index labels place → slice_get answers n ≢ Some region.answer

@@ -17,7 +17,7 @@ number_of_call arch number a = bit_and (if a.word == 0 then number else arch) a.
 abbrev pub is_on_call : ConditionData → Bool
 is_on_call c = (c.axis.word == 0) || (c.axis.word == 1)
 
--- the inputs of a call meet a condition, if it is one on their number or their architecture
+-- whether the inputs of a call meet a condition on the call's number or its architecture; true for other conditions
 abbrev pub call_meets : (arch number : ℕ) → ConditionData → Bool
 call_meets arch number c = not (is_on_call c) || is_in_part c.part (number_of_call arch number c.axis)
 
@@ -43,11 +43,11 @@ pub record CallRowData : Type 0 where
 abbrev pub call_row : NamesData → CallData → RowData → CallRowData
 call_row n c r = record { set = n.set; name = c.name; row = r }
 
--- a row as one of a call, if it is about it
+-- a row as one of a call, if the row is about the call; else none
 abbrev pub row_if_about : NamesData → CallData → RowData → List CallRowData
 row_if_about n c r = if is_about_call n.arch c.number r.scope then call_row n c r ∷ [] else []
 
--- of some rows those that are about a call
+-- those of some rows that are about a call
 abbrev pub rows_of_call : List RowData → NamesData → CallData → List CallRowData
 rows_of_call rows n c = flat_map (row_if_about n c) rows
 
@@ -68,8 +68,8 @@ rows_of_set wanted rows n = flat_map (rows_if_wanted wanted rows n) n.calls
 abbrev pub call_rows : List (List ℕ) → List RowData → List NamesData → List CallRowData
 call_rows wanted rows sets = flat_map (rows_of_set wanted rows) sets
 
--- The line of such a row: the set, the call, the answers, and the conditions on other words than the call's number and
--- its architecture.
+-- The line of a row of a call: the set, the call, the words of the row's labels, and its conditions on other words than
+-- the call's number and its architecture.
 abbrev pub call_line : List (List ℕ) → CallRowData → List ℕ
 call_line words r = r.set ++ 32 ∷ (r.name ++ 32 ∷ (labels_words words r.row.labels
     ++ (further_words (codes " if ") r.row.scope.conditions ++ 10 ∷ [])))

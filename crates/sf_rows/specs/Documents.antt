@@ -37,7 +37,7 @@ row_document sets answers r = fields (
     ∷ (codes "conditions", list_of (map condition_document r.scope.conditions))
     ∷ (codes "nr", nr_document r.scope.nr) ∷ [])
 
--- of conditions those on other words than the call's number and its architecture
+-- those conditions that are on other words than the call's number and its architecture
 abbrev pub further_of : List ConditionData → List ConditionData
 further_of cs = filter (λ (c : ConditionData). not (is_on_call c)) cs
 
@@ -54,12 +54,12 @@ abbrev pub calls_document : List NamesData → List Data → Option (List (List 
 calls_document sets answers None rows = null
 calls_document sets answers (Some wanted) rows = list_of (map (call_row_document answers) (call_rows wanted rows sets))
 
--- the rows that are told each by itself: all, or beside those of calls those of other inputs
+-- the rows that are told by themselves: all; where rows are told call by call, those that are told beside these
 abbrev pub single_rows : List NamesData → Option (List (List ℕ)) → List RowData → List RowData
 single_rows sets None rows = rows
 single_rows sets (Some wanted) rows = other_rows wanted sets rows
 
--- these rows
+-- the rows that are told by themselves, as JSON
 abbrev pub rows_document : List NamesData → List Data → Option (List (List ℕ)) → List RowData → Data
 rows_document sets answers calls rows = list_of (map (row_document sets answers) (single_rows sets calls rows))
 

@@ -1,11 +1,11 @@
--- Lists in order, with each element once.
+-- Lists that are put in order by a number, and freed of repetitions.
 use Rattle.std.specs.Prelude.{◌≡◌, ◌↔◌, ℕ, Bool, true, List}
 use Rattle.std.specs.List.{dedup}
 use Rattle.std.specs.List.Sorted.{IsNonDecreasingBy, IsStableByKey}
 use Rattle.std.specs.Ordering.{nat_cmp}
 
--- A list has the elements of another one in order, each once: they are sorted by a number, those of one number stand as
--- they came, and of equal neighbours one is kept.
+-- A list is another one in order: its elements were sorted by a number, those with the same number stand as they came,
+-- and of equal neighbours only one was kept. If no two different elements have the same number, each stands there once.
 pub record IsInOrder {X : Type 0} (number : X → ℕ) (all listed : List X) : Type 0 where
   pub sorted : List X
   pub rises : IsNonDecreasingBy number sorted

@@ -89,12 +89,12 @@ labels_words words (l ∷ m ∷ ls) = slice_index_or words l [] ++ (codes " | " 
 abbrev pub place_words : ScopeData → List ℕ
 place_words s = codes "arch " ++ (arch_words s.arch ++ (codes " nr " ++ (nr_words s.nr ++ 32 ∷ [])))
 
--- the number of spans that are one number
+-- the number that spans are, if they are only one number
 abbrev pub single_number : List Span → Option ℕ
 single_number (s ∷ []) = if s.first == s.last then Some s.first else None
 single_number _ = None
 
--- the architecture that is meant, where it is only one
+-- the architecture of a part, if it is only one, and the part is named by what it is
 abbrev pub only_arch : Option PartData → Option ℕ
 only_arch None = None
 only_arch (Some p) = if p.is_rest then None else single_number p.spans

@@ -13,17 +13,17 @@ Differ both = both.older ≢ both.newer
 abbrev pub pair_order : PartAnswers → ℕ
 pair_order both = answer_order both.older * 2 ^ 48 + answer_order both.newer
 
--- two answers come behind pairs, if they differ
+-- a pair of answers is added behind others if the two differ, and else it is left out
 abbrev pub AddsChanged : PartAnswers → (old new : List PartAnswers) → Type 0
 AddsChanged both old new = (Differ both × (new ≡ old ++ both ∷ [])) ⊎ ((both.older ≡ both.newer) × (new ≡ old))
 
--- the pairs that differ, one after the other, behind others
+-- the pairs whose answers differ are added behind others, one after the other
 abbrev pub AreChangedOf : (all before changed : List PartAnswers) → Type 0
 AreChangedOf [] before changed = changed ≡ before
 AreChangedOf (both ∷ all) before changed =
     (next : List PartAnswers) × AddsChanged both before next × AreChangedOf all next changed
 
--- the pairs of answers that differ, in order and each once
+-- the pairs whose answers differ, in order and each once
 pub record ArePairsOf (all pairs : List PartAnswers) : Type 0 where
   pub changed : List PartAnswers
   pub of : AreChangedOf all [] changed

@@ -10,13 +10,13 @@ use Rattle.sf_picture.specs.Pictures.{fork_at, number_on}
 use Rattle.sf_rows.specs.declared.parts.Span.{Span}
 use Rattle.sf_rows.specs.Parts.{PartData, fork_parts, run_parts}
 
--- a part of an axis, in which inputs have their numbers
+-- a condition on inputs: their numbers of this axis are in this part
 pub record ConditionData : Type 0 where
   pub axis : Axis
   pub part : PartData
 
--- Which inputs a row is about: the architectures and the call numbers that they have, where not all are meant, and
--- further conditions.
+-- Which inputs a row is about: those with an architecture of a part, with a call number of a part, and that meet
+-- further conditions. Where no part is given, all architectures or all call numbers are meant.
 pub record ScopeData : Type 0 where
   pub arch : Option PartData
   pub nr : Option PartData
@@ -31,23 +31,25 @@ pub record RowData : Type 0 where
 abbrev pub whole_scope : ScopeData
 whole_scope = record { arch = None; nr = None; conditions = [] }
 
--- whether an axis is a whole word
+-- whether an axis is the whole of this word
 abbrev pub is_whole : Axis → ℕ → Bool
 is_whole a word = (a.word == word) && (a.mask == 4294967295)
 
--- whether all numbers of a word are meant
+-- whether no part of a word's numbers is given: all are meant
 abbrev pub is_any : Option PartData → Bool
 is_any None = true
 is_any (Some p) = false
 
--- of the inputs that are meant those with their numbers in a part of an axis
+-- The scope of those inputs of a scope whose numbers of an axis are in a part. The part becomes that of the
+-- architectures or of the call numbers, if the axis is this whole word and no part is given yet; else it is one more
+-- condition.
 abbrev pub scope_within : ScopeData → Axis → PartData → ScopeData
 scope_within scope a p =
     if is_whole a 1 && is_any scope.arch then record scope { arch = Some p } else
     if is_whole a 0 && is_any scope.nr then record scope { nr = Some p } else
     record scope { conditions = scope.conditions ++ record { axis = a; part = p } ∷ [] }
 
--- the parts of a fork: of call numbers each run by itself
+-- the parts of a fork; on the axis of call numbers each run is a part by itself
 abbrev pub parts_at : ForkData → List PartData
 parts_at f = if is_whole f.axis 0 then run_parts 0 f.runs else fork_parts f.runs
 

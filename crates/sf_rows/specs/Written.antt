@@ -7,13 +7,14 @@ use Rattle.sf_rows.specs.Lines.{is_undetermined, row_line}
 use Rattle.sf_rows.specs.Rows.{RowData}
 use Rattle.sf_rows.specs.Unnamed.{unnamed_rows}
 
--- The rows that are told beside those of calls: where no call is asked for by its name, those of the inputs that belong
--- to no call with a name, so that nothing is left out.
+-- The rows that are told beside those of calls. Where all calls are told, these are the rows of the inputs that belong
+-- to no call with a name, and so nothing is left out. Where calls are asked for by name, there are none.
 abbrev pub other_rows : List (List ℕ) → List NamesData → List RowData → List RowData
 other_rows [] sets rows = unnamed_rows sets rows
 other_rows (w ∷ ws) sets rows = []
 
--- the lines of rows: one for each, or those of the calls that are asked for, and then those of other inputs
+-- the lines of rows: one for each row; or, call by call, the lines of the calls that are asked for, and behind them
+-- those of `other_rows`
 abbrev pub written_lines : List NamesData → List (List ℕ) → Option (List (List ℕ)) → List RowData → List ℕ
 written_lines sets words None rows = flat_map (row_line sets words) rows
 written_lines sets words (Some wanted) rows =

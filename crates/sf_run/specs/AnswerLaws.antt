@@ -1,4 +1,5 @@
--- The lowest action, value by value.
+-- Answers made value by value: one more value folds into the answer of those before it, and values make at most one
+-- answer.
 use Rattle.std.proofs.Common.{◌≡◌, ℕ, ◌^◌, ◌<◌, ◌≤◌, List, [], ◌∷◌, ◌++◌, get_or, Option, Some, None, refl, sym, ap, subst, ◌∙◌, ◌⊎◌, inl, inr, arith, map}
 use Rattle.std.specs.Prelude.{Contains, All, find, option_map, unwrap_or, ◌==◌, if◌then◌else◌}
 use Rattle.std.proofs.lemmas.Bool.{cases_eq, cases_lt, lt-ltb, le-ltb, eq-eqb, ne_eqb}

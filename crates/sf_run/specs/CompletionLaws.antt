@@ -15,7 +15,7 @@ use Rattle.sf_check.specs.ProgramLaws.{successor_after, successors_inside, below
 use Rattle.sf_run.specs.Machine.{bits}
 use Rattle.sf_run.specs.Routes.{MayMeet, IsWay, returns_at, goes_on}
 
--- where an instruction may lead
+-- the instruction at a place may return, or lead on to one of its successors
 abbrev Choice : ℕ → Insn → Type 0
 Choice at i = ((met : List Bool) × MayMeet at i met None)
     ⊎ ((met : List Bool) × (to : ℕ) × MayMeet at i met (Some to) × Contains (successors at i) to)

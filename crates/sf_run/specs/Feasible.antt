@@ -13,7 +13,8 @@ use Rattle.sf_run.specs.Machine.{trace_of}
 abbrev pub IsFeasible : List (List Insn) → List Bool → Type 0
 IsFeasible programs t = (d : Input) × IsInput d × (trace_of programs d ≡ t)
 
--- Traces in name order, each once: the first truth value in which two differ decides, and false comes before true.
+-- Traces in name order, each once. The first truth value in which two differ decides, and false comes before true. A
+-- trace with which a longer one begins comes before that.
 abbrev pub AreInNameOrder : List (List Bool) → Type 0
 AreInNameOrder ts = IsStrictlySortedBy (slice_cmp bool_cmp) ts
 
@@ -42,7 +43,7 @@ abbrev pub put_in : List Bool → List (List Bool) → List (List Bool)
 put_in t [] = t ∷ []
 put_in t (u ∷ us) = match_ordering (slice_cmp bool_cmp t u) (t ∷ u ∷ us) (u ∷ us) (u ∷ put_in t us)
 
--- traces in name order, each once
+-- the traces of a list, put in name order, each once
 abbrev pub in_name_order : List (List Bool) → List (List Bool)
 in_name_order [] = []
 in_name_order (t ∷ ts) = put_in t (in_name_order ts)

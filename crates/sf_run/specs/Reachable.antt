@@ -5,11 +5,11 @@ use Rattle.sf_check.specs.Insns.{stored_by, successors}
 use Rattle.sf_check.specs.Programs.{IsPath, Stores}
 use Rattle.sf_run.specs.Machine.{State}
 
--- an end of a run, with these truth values before its own
+-- the end of a run, with these truth values put before those that it met
 abbrev pub put : List Bool → List Bool × ℕ → List Bool × ℕ
 put met o = (met ++ o.0, o.1)
 
--- set scratch words stay set, and the one that the instruction stores is set
+-- there are as many scratch words as before; those that were set are set, and so is the one that the instruction stores
 pub record Keeps (i : Insn) (old new : List (Option ℕ)) : Type 0 where
   pub size : length new ≡ length old
   pub kept : (k n : ℕ) → slice_get old k ≡ Some (Some n) → (m : ℕ) × (slice_get new k ≡ Some (Some m))
@@ -20,7 +20,8 @@ pub record Moves (i : Insn) (s next : State) : Type 0 where
   pub leads : Contains (successors s.place i) next.place
   pub keeps : Keeps i s.scratch next.scratch
 
--- a state that a run of the program may reach: some path leads here, and the words that it stores are set
+-- A state that a run of the program may reach. Its place is in the program, and it has sixteen scratch words. Some path
+-- leads to its place, and each scratch word that an earlier instruction of this path stores is set.
 pub record IsReachable (code : List Insn) (s : State) : Type 0 where
   pub inside : s.place < length code
   pub sixteen : length s.scratch ≡ 16

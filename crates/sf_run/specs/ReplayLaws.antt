@@ -178,7 +178,7 @@ way_is_replayed (suc n) code at met more (goes_on i first to later here p rest w
 
 -- ---- a run
 
--- the first is the second, or its 32 bits
+-- the first is the second, or the number of its lowest 32 bits
 abbrev IsWordOf : ℕ → ℕ → Type 0
 IsWordOf w v = (w ≡ v) ⊎ (w ≡ v % 2 ^ 32)
 
@@ -254,7 +254,7 @@ run_is_replayed (suc n) code d s o more e =
 
 -- ---- programs, one after the other
 
--- each of the first values is the second one, or its 32 bits
+-- each of the first values is the second one at its place, or the number of its lowest 32 bits
 abbrev AreWordsOf : List ℕ → List ℕ → Type 0
 AreWordsOf [] [] = Unit {0}
 AreWordsOf (w ∷ ws) (v ∷ vs) = IsWordOf w v × AreWordsOf ws vs

@@ -15,15 +15,15 @@ use Rattle.sf_run.specs.declared.machine.Next.TheVariants.{Goes, Returns}
 use Rattle.sf_run.specs.declared.replaying.PartAnswers.{PartAnswers}
 use Rattle.sf_run.specs.Answers.{Answers, folded_answer}
 
--- A number, and the truth values that are left: its lowest n bits are the next truth values, the highest first, and its
--- higher bits are those of `high`.
+-- The number whose lowest n bits are the next n truth values, the highest first, and whose higher bits are those of
+-- `high`; with it, the truth values that are left. None where there are fewer than n.
 abbrev pub number_and_rest : ℕ → ℕ → List Bool → Option (ℕ × List Bool)
 number_and_rest zero high met = Some (high, met)
 number_and_rest (suc n) high [] = None
 number_and_rest (suc n) high (bit ∷ met) = number_and_rest n (2 * high + (if bit then 1 else 0)) met
 
 -- Where control leads from the instruction at a place, and the truth values that are left: a return of A takes its 32
--- bits, a test its result, and a division by X whether X is 0.
+-- bits, a test its result, and a division by X whether X is 0. None where too few are left to take.
 abbrev pub lead_of : ℕ → Insn → List Bool → Option (Next × List Bool)
 lead_of at (ReturnConstant k) met = Some (Returns k, met)
 lead_of at ReturnA met = option_map (λ a. (Returns a.0, a.1)) (number_and_rest 32 0 met)
@@ -49,21 +49,22 @@ replay_for zero code at met = None
 replay_for (suc n) code at met = option_and_then
     (λ i. option_and_then (return_after (replay_for n code)) (lead_of at i met)) (slice_get code at)
 
--- what a program returns: jumps only go forward, so a replay takes no more instructions than the program has
+-- What a program returns, and the truth values that are left. Jumps only go forward, so a replay takes no more
+-- instructions than the program has.
 unfoldable pub replay_of : List Insn → List Bool → Option (ℕ × List Bool)
 replay_of code met = replay_for (length code) code 0 met
 
--- the values that programs return, which run one after the other
+-- the values that programs return if they run one after the other, and the truth values that are left
 abbrev pub returns_along : List (List Insn) → List Bool → Option (List ℕ × List Bool)
 returns_along [] met = Some ([], met)
 returns_along (code ∷ codes) met = option_and_then
     (λ first. option_map (λ others. (first.0 ∷ others.0, others.1)) (returns_along codes first.1)) (replay_of code met)
 
--- the answer that returned values make, the newest program's first
+-- the answer that return values make; they stand newest program first
 abbrev pub answer_of : List ℕ → Answer
 answer_of values = fold folded_answer (record { action = Allow; info = 0 }) values
 
--- the answer of programs that stand in order of installation
+-- the answer of programs that stand in order of installation, and the truth values that are left
 abbrev pub answer_along : List (List Insn) → List Bool → Option (Answer × List Bool)
 answer_along programs met = option_map (λ o. (answer_of o.0, o.1)) (returns_along (reverse programs) met)
 

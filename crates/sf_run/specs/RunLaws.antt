@@ -305,7 +305,7 @@ outcome_is n code d o lawful e = by (outcome_of code d) refl (lawful_ends code d
         let same : o ≡ o' = run_same n (length code) code d start o o' e e' in
         rw e' (ap (λ (p : List Bool × ℕ). Some p) (sym same))
 
--- so it returns the program's value, and meets what the program meets
+-- a run from the start that comes to an end returns the program's value, and meets what the program meets
 pub value_is : (n : ℕ) (code : List Insn) (d : Input) (o : List Bool × ℕ) → IsLawfulProgram code
     → run_for n code d start ≡ Some o → o.1 ≡ return_of code d
 value_is n code d o lawful e = rw (outcome_is n code d o lawful e) refl

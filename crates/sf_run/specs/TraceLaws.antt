@@ -66,12 +66,12 @@ step_allowed d s ReturnA = (refl, refl)
 step_allowed d s Tax = (refl, refl)
 step_allowed d s Txa = (refl, refl)
 
--- so a step that goes on leads where control allows, with what it meets
+-- a step that goes on meets truth values with which control may lead to its next place
 pub may_go : (d : Input) (s : State) (i : Insn) (met : List Bool) (t : State) → insn_progress d s i ≡ goes met t
     → MayMeet s.place i met (Some t.place)
 may_go d s i met t e = subst (λ (q : Progress). Allowed s.place i q) e (step_allowed d s i)
 
--- and one that returns meets what control allows before a return
+-- a step that returns meets truth values with which control may return
 pub may_return : (d : Input) (s : State) (i : Insn) (met : List Bool) (v : ℕ) → insn_progress d s i ≡ returns met v
     → MayMeet s.place i met None
 may_return d s i met v e = subst (λ (q : Progress). Allowed s.place i q) e (step_allowed d s i)

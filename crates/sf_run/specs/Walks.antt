@@ -36,12 +36,12 @@ meeting_at s word (Alu Div X) = at_place s.place word (Divided s.x)
 meeting_at s word ReturnA = at_place s.place word (Returned s.a)
 meeting_at s word _ = []
 
--- what is met by an instruction, if there is one
+-- what is met at a place with this instruction, and nothing where the place has none
 abbrev pub meeting_in : State → Option ℕ → Option Insn → List Meeting
 meeting_in s word (Some i) = meeting_at s word i
 meeting_in s word None = []
 
--- the word of the input that A holds after an instruction, if there is one
+-- the word of the input that A holds after this instruction; none where the place has no instruction
 abbrev pub word_behind : Option ℕ → Option Insn → Option ℕ
 word_behind word (Some i) = word_after word i
 word_behind word None = None
@@ -65,17 +65,18 @@ pub record CourseData : Type 0 where
 abbrev pub course : List Meeting → ℕ → ℕ → CourseData
 course met place value = record { met = met; place = place; value = value }
 
--- a run that has met this before
+-- the same run, with what was met before it put in front
 abbrev pub after : List Meeting → CourseData → CourseData
 after met w = course (met ++ w.met) w.place w.value
 
--- how a run goes on that takes this step at `place`, where it meets `met`
+-- how a run ends that takes this step at `place` and meets `met` there; `rest` says how it ends from the next state on
 abbrev pub onward : List Meeting → ℕ → (State → Option CourseData) → Progress → Option CourseData
 onward met place rest (goes _ next) = option_map (after met) (rest next)
 onward met place rest (returns _ value) = Some (course met place value)
 onward met place rest stuck = None
 
--- the run of at most n steps from a state in which A holds this word of the input, if it comes to a return
+-- the run of at most n steps from a state in which A holds this word of the input; None where it doesn't come to a
+-- return
 unfoldable pub walk_for : ℕ → List Insn → Input → Option ℕ → State → Option CourseData
 walk_for zero code d word s = None
 walk_for (suc n) code d word s =

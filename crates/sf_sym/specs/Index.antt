@@ -31,7 +31,7 @@ abbrev pub AreLinked : List Interned → Type 0
 AreLinked es = (i : ℕ) → i < length es → IsLastWithHash (nodes_of es) i
     (hash_of (node_at (nodes_of es) i)) (link_at es i)
 
--- nodes are linked, and `heads` has the last node of each hash
+-- nodes are linked, and `heads` has for each hash the place of its last node, counted from 1, or 0 where no node has it
 pub record IsIndexed (es : List Interned) (heads : List ℕ) : Type 0 where
   pub buckets : length heads ≡ 509
   pub linked : AreLinked es

@@ -1,4 +1,4 @@
--- Operations on a node and a constant.
+-- Operations on a node and a constant, and the words under masks that ANDs of this kind make.
 use Rattle.std.specs.Prelude.{◌≡◌, ℕ, zero, suc, List, Option, Some, None, bit_and}
 use Rattle.sf_insn.specs.declared.ops.BinOp.{BinOp}
 use Rattle.sf_insn.specs.declared.ops.BinOp.TheVariants.{Or, And, Xor}
@@ -25,14 +25,14 @@ constant_operand_of ns (Bin op a b) = one_constant op a.0 b.0 (constant_number (
     (constant_number (node_at ns b.0))
 constant_operand_of ns _ = None
 
--- the node at a place is so many ANDs of a word with constants, one after the other, and this is the AND of these; the
--- whole word has the mask 0xffffffff
+-- The node at a place comes of word w of the input by this many ANDs with constants, one after the other. The mask is
+-- the AND of these constants and 0xffffffff; with no AND at all it is 0xffffffff.
 abbrev pub IsAndsOf : ℕ → List Node → ℕ → ℕ → ℕ → Type 0
 IsAndsOf zero ns at w mask = (node_at ns at ≡ Word w) × (mask ≡ 4294967295)
 IsAndsOf (suc n) ns at w mask =
     (x c m : ℕ) × (constant_operand_of ns (node_at ns at) ≡ Some (And, x, c)) × IsAndsOf n ns x w m
     × (mask ≡ bit_and c m)
 
--- the node at a place is a word under a mask
+-- the node at a place is word w of the input under this mask: it comes of the word by ANDs with constants
 abbrev pub IsMaskedWord : List Node → ℕ → ℕ → ℕ → Type 0
 IsMaskedWord ns at w mask = (n : ℕ) × IsAndsOf n ns at w mask
