@@ -40,7 +40,7 @@ lawful : IsLawfulProgram allow_program
 lawful = record {
   some = lit< tt;
   short = omega arith;
-  in_range = λ at i e. subst IsInRange (sym (only at i e)) tt;
+  in_range = λ at i e. subst IsInRange (sym (only at i e)) (lit< tt);
   inside = λ at i e. subst (λ (j : Insn). AllBelow 1 (targets at j)) (sym (only at i e)) tt;
   ends = λ i e. subst IsReturn (sym (only 0 i e)) tt;
   set = λ at k earlier loads path. absurd (loads_none at k loads);

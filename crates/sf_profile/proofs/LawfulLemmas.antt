@@ -30,31 +30,33 @@ found : (code : List Instruction) (at : ℕ) (i : Insn) → IsAt (map insn_of co
     → (j : Instruction) × (slice_get code at ≡ Some j) × (insn_of j ≡ i)
 found code at i e = option_map_some insn_of (slice_get code at) i (sym (slice_get-map insn_of code at) ∙ e)
 
--- the number that an instruction asks for is a word, if it is a test
-abbrev AsksWord : Instruction → Type 0
-AsksWord (Branch test k on_true on_false) = k < 2 ^ 32
-AsksWord _ = Unit {0}
+-- the constant of an instruction is a word
+abbrev HasWord : Instruction → Type 0
+HasWord (Mask k) = k < 2 ^ 32
+HasWord (Branch test k on_true on_false) = k < 2 ^ 32
+HasWord (Return k) = k < 2 ^ 32
+HasWord _ = Unit {0}
 
-asks_word : (i : Instruction) → IsInsn (raw_of i) → AsksWord i
-asks_word (Load word) h = tt
-asks_word (Mask k) h = tt
-asks_word (Branch test k on_true on_false) h = h.3
-asks_word (Skip k) h = tt
-asks_word (Return k) h = tt
+has_word : (i : Instruction) → IsInsn (raw_of i) → HasWord i
+has_word (Load word) h = tt
+has_word (Mask k) h = h.3
+has_word (Branch test k on_true on_false) h = h.3
+has_word (Skip k) h = tt
+has_word (Return k) h = h.3
 
 -- so it is of each instruction that was written
-ask_words : (code : List Instruction) (at : ℕ) (i : Instruction) → AreInsns (map raw_of code)
-    → slice_get code at ≡ Some i → AsksWord i
-ask_words [] at i h e = absurd cc
-ask_words (j ∷ code) zero i h e = subst AsksWord (same_Some j i e) (asks_word j (h 0 (raw_of j) (omega arith)))
-ask_words (j ∷ code) (suc at) i h e = ask_words code at i (λ k d short. h (suc k) d (omega (arith, short))) e
+have_words : (code : List Instruction) (at : ℕ) (i : Instruction) → AreInsns (map raw_of code)
+    → slice_get code at ≡ Some i → HasWord i
+have_words [] at i h e = absurd cc
+have_words (j ∷ code) zero i h e = subst HasWord (same_Some j i e) (has_word j (h 0 (raw_of j) (omega arith)))
+have_words (j ∷ code) (suc at) i h e = have_words code at i (λ k d short. h (suc k) d (omega (arith, short))) e
 
-in_range : (i : Instruction) (n : ℕ) → Leads i n → AsksWord i → IsInRange (insn_of i)
+in_range : (i : Instruction) (n : ℕ) → Leads i n → HasWord i → IsInRange (insn_of i)
 in_range (Load word) n l w = l
-in_range (Mask k) n l w = tt
+in_range (Mask k) n l w = w
 in_range (Branch test k on_true on_false) n l w = w
 in_range (Skip k) n l w = tt
-in_range (Return k) n l w = tt
+in_range (Return k) n l w = w
 
 inside : (i : Instruction) (at n size : ℕ) → at + 1 + n ≡ size → Leads i n → AllBelow size (targets at (insn_of i))
 inside (Load word) at n size e l = tt
@@ -84,7 +86,7 @@ lawful code value h short fields = record {
   in_range = λ at i e.
       let f = found whole at i e in
       let l = leads_at 0 whole at f.0 h f.1 in
-      subst IsInRange f.2 (in_range f.0 l.0 l.2 (ask_words whole at f.0 fields f.1));
+      subst IsInRange f.2 (in_range f.0 l.0 l.2 (have_words whole at f.0 fields f.1));
   inside = λ at i e.
       let f = found whole at i e in
       let l = leads_at 0 whole at f.0 h f.1 in
