@@ -47,12 +47,12 @@ abbrev pub applied_count : Settings → List Data → ℕ
 applied_count s ds = fold (λ n d. if applies s d then n + 1 else n) 0 ds
 
 -- the name of a set of calls
-abbrev pub set_text : CallSet → List ℕ
-set_text X64 = codes "x86_64"
-set_text X32 = codes "x32"
-set_text I386 = codes "i386"
-set_text Aarch64 = codes "aarch64"
-set_text Arm = codes "arm"
+abbrev pub set_name_in_notes : CallSet → List ℕ
+set_name_in_notes X64 = codes "x86_64"
+set_name_in_notes X32 = codes "x32"
+set_name_in_notes I386 = codes "i386"
+set_name_in_notes Aarch64 = codes "aarch64"
+set_name_in_notes Arm = codes "arm"
 
 -- the name of a response's action, and its data
 abbrev pub response_name : Response → List ℕ
@@ -78,7 +78,7 @@ default_line response =
 
 -- the sets, one blank before each
 abbrev pub set_words : CallSet → List ℕ
-set_words set = 32 ∷ set_text set
+set_words set = 32 ∷ set_name_in_notes set
 
 abbrev pub sets_line : List CallSet → List ℕ
 sets_line sets = codes "sets" ++ flat_map set_words sets ++ 10 ∷ []

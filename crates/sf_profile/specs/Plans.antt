@@ -14,7 +14,7 @@ use Rattle.sf_profile.specs.declared.names.Version.{Version}
 use Rattle.sf_profile.specs.Data.{RuleData, PartData, PlanData}
 use Rattle.sf_profile.specs.Meaning.{word_of}
 use Rattle.sf_profile.specs.Trees.{at, listed, text_of, text_where, whole_where}
-use Rattle.sf_profile.specs.Profiles.{set_named, arch_of_set, response_named, comparing_named, up_to_or, argument_numbered, version_of, is_at_least}
+use Rattle.sf_profile.specs.Profiles.{set_named, arch_name_of_set, response_named, comparing_named, up_to_or, argument_numbered, version_of, is_at_least}
 use Rattle.sf_profile.specs.declared.settings.Settings.{Settings}
 use Rattle.sf_profile.specs.Settings.{is_same_set, number_of, has_cap}
 use Rattle.sf_profile.specs.Refusals.{is_own_item}
@@ -27,7 +27,7 @@ texts_at key d = map text_of (listed (at key d))
 
 -- the machine is one of those that a condition names
 abbrev pub names_machine : Settings → Data → Bool
-names_machine s d = list_any (bytes_eq (arch_of_set s.machine)) (texts_at (codes "arches") d)
+names_machine s d = list_any (bytes_eq (arch_name_of_set s.machine)) (texts_at (codes "arches") d)
 
 -- there are no texts
 abbrev pub is_none : List (List ℕ) → Bool

@@ -54,12 +54,12 @@ name_of_set Aarch64 = codes "SCMP_ARCH_AARCH64"
 name_of_set Arm = codes "SCMP_ARCH_ARM"
 
 -- the name of a set among the `arches` of a rule
-abbrev pub arch_of_set : CallSet → List ℕ
-arch_of_set X64 = codes "amd64"
-arch_of_set X32 = codes "x32"
-arch_of_set I386 = codes "x86"
-arch_of_set Aarch64 = codes "arm64"
-arch_of_set Arm = codes "arm"
+abbrev pub arch_name_of_set : CallSet → List ℕ
+arch_name_of_set X64 = codes "amd64"
+arch_name_of_set X32 = codes "x32"
+arch_name_of_set I386 = codes "x86"
+arch_name_of_set Aarch64 = codes "arm64"
+arch_name_of_set Arm = codes "arm"
 
 -- the response of an action's name, with a number where it has one
 abbrev pub response_named : List ℕ → ℕ → Option Response

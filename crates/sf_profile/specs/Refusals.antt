@@ -87,8 +87,8 @@ abbrev pub has_actions : Data → Bool
 has_actions d = knows_action (codes "action") d && list_all knows_comparison (listed (at (codes "args") d))
 
 -- an error number has 16 bits
-abbrev pub has_error_number : List ℕ → Data → Bool
-has_error_number key d = is_some (up_to_or 1 65535 (whole_where (at key d)))
+abbrev pub has_error_number_or_none : List ℕ → Data → Bool
+has_error_number_or_none key d = is_some (up_to_or 1 65535 (whole_where (at key d)))
 
 -- an index is at most 5, and values aren't negative
 abbrev pub has_argument_range : Data → Bool
@@ -99,7 +99,7 @@ has_argument_range d =
 
 abbrev pub has_ranges : Data → Bool
 has_ranges d =
-    has_error_number (codes "errnoRet") d && list_all has_argument_range (listed (at (codes "args") d))
+    has_error_number_or_none (codes "errnoRet") d && list_all has_argument_range (listed (at (codes "args") d))
 
 -- ---- rules
 
@@ -159,21 +159,21 @@ abbrev pub is_own_item : Settings → Data → Bool
 is_own_item s d = bytes_eq (text_where (at (codes "architecture") d)) (name_of_set s.machine)
 
 -- the sets of an entry of `archMap` are known, if it is the machine's
-abbrev pub is_set_item : Settings → Data → Bool
-is_set_item s d = not (is_own_item s d) || list_all (is_set s) (listed (at (codes "subArchitectures") d))
+abbrev pub knows_sets_of_item : Settings → Data → Bool
+knows_sets_of_item s d = not (is_own_item s d) || list_all (is_set s) (listed (at (codes "subArchitectures") d))
 
 -- all sets of the profile are known, and their calls are given
 abbrev pub knows_sets : Settings → Data → Bool
 knows_sets s d =
     has_calls s s.machine && list_all (is_set s) (listed (at (codes "architectures") d))
-    && list_all (is_set_item s) (listed (at (codes "archMap") d))
+    && list_all (knows_sets_of_item s) (listed (at (codes "archMap") d))
 
 -- why a profile is refused, if it is
 abbrev pub profile_refusal : Settings → Data → Option Fault
 profile_refusal s d =
     if not (is_profile d) then Some faults.Key
     else if not (knows_action (codes "defaultAction") d) then Some faults.Actions
-    else if not (has_error_number (codes "defaultErrnoRet") d) then Some faults.Range
+    else if not (has_error_number_or_none (codes "defaultErrnoRet") d) then Some faults.Range
     else if not (knows_sets s d) then Some faults.Set
     else rules_refusal s 1 (listed (at (codes "syscalls") d))
 

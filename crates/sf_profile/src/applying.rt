@@ -8,7 +8,7 @@ ghost use Rattle.sf_profile.specs.Trees.{at, text_of};
 ghost use Rattle.sf_profile.specs.Settings.{has_cap};
 ghost use Rattle.sf_profile.specs.Plans.{applies, is_excluded, is_included, is_new_enough, is_none, names_machine, fits_kernel, texts_at};
 
-use crate::names::{Version, arch_of_set, is_at_least, version_of};
+use crate::names::{Version, arch_name_of_set, is_at_least, version_of};
 use crate::settings::Settings;
 use crate::tree::{at, items_at, text_of};
 use serde_json::Value;
@@ -31,7 +31,10 @@ fn has_text(items: &[Value], text: &str) -> bool
 fn names_machine(settings: &Settings, value: &Value) -> bool
     ensures { result ≡ names_machine settings.now (view value.now) }
 {
-    has_text(items_at(value, "arches"), arch_of_set(settings.machine))
+    has_text(
+        items_at(value, "arches"),
+        arch_name_of_set(settings.machine),
+    )
 }
 
 /// Whether a condition names no machine.

@@ -2,10 +2,10 @@
 
 use crate::fault::Fault;
 use crate::keys::{
-    PROFILE_KEYS, RULE_KEYS, has_arguments, has_condition, has_map, has_rules, is_absent,
+    PROFILE_KEYS, RULE_KEYS, has_arguments, has_condition_or_none, has_map, has_rules, is_absent,
     is_action, is_named, names_number,
 };
-use crate::refusal::{has_error_number, has_one_name, knows_action, profile_in};
+use crate::refusal::{has_error_number_or_none, has_one_name_or_none, knows_action, profile_in};
 use crate::settings::Settings;
 use crate::tree::{at, has_text, is_among, items_at};
 use serde_json::{Map, Value};
@@ -77,7 +77,7 @@ fn key_of_rule<'a>(settings: &Settings, value: &'a Value) -> &'a str {
     if !has_arguments(value) {
         return "args";
     }
-    if has_condition(settings, value, "includes") {
+    if has_condition_or_none(settings, value, "includes") {
         "excludes"
     } else {
         "includes"
@@ -101,7 +101,11 @@ fn key_of_sets(settings: &Settings, value: &Value) -> Option<&'static str> {
 fn key_in_rule<'a>(settings: &Settings, value: &'a Value, fault: Fault) -> Option<&'a str> {
     match fault {
         Fault::RuleKey { .. } => Some(key_of_rule(settings, value)),
-        Fault::RuleName { .. } => Some(if has_one_name(value) { "names" } else { "name" }),
+        Fault::RuleName { .. } => Some(if has_one_name_or_none(value) {
+            "names"
+        } else {
+            "name"
+        }),
         Fault::RuleActions { .. } => {
             Some(if knows_action(value, "action") {
                 "args"
@@ -110,7 +114,7 @@ fn key_in_rule<'a>(settings: &Settings, value: &'a Value, fault: Fault) -> Optio
             })
         }
         Fault::RuleRange { .. } => {
-            Some(if has_error_number(value, "errnoRet") {
+            Some(if has_error_number_or_none(value, "errnoRet") {
                 "args"
             } else {
                 "errnoRet"
@@ -132,7 +136,7 @@ fn key_in_head<'a>(settings: &Settings, value: &'a Value, fault: Fault) -> Optio
 }
 
 /// The number of the rule that is refused, from 1.
-fn rule_of(fault: Fault) -> Option<usize> {
+fn number_of_rule(fault: Fault) -> Option<usize> {
     match fault {
         Fault::RuleKey { rule }
         | Fault::RuleName { rule }
@@ -144,7 +148,7 @@ fn rule_of(fault: Fault) -> Option<usize> {
 
 /// The key for which a profile is refused, for this reason.
 fn key_of<'a>(settings: &Settings, value: &'a Value, fault: Fault) -> Option<&'a str> {
-    match rule_of(fault) {
+    match number_of_rule(fault) {
         Some(rule) => {
             let item = items_at(value, "syscalls").get(rule.checked_sub(1)?)?;
             key_in_rule(settings, item, fault)

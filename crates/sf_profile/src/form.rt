@@ -261,7 +261,11 @@ fn body_code(alloc: Global, plan: &Plan, part: &Part) -> Result<Vec<Instruction>
 }
 
 /// Adds a skip of `size` instructions where the input isn't of the set.
-fn push_set(code: &mut Vec<Instruction>, set: CallSet, size: usize) -> Result<(), AllocError>
+fn push_skip_unless_of_set(
+    code: &mut Vec<Instruction>,
+    set: CallSet,
+    size: usize,
+) -> Result<(), AllocError>
     ensures { OnOk result (code.new.items ≡ code.old.items ++ set_code set size) }
 {
     match set {
@@ -299,7 +303,7 @@ fn push_part(
     ensures { OnOk result (code.new.items ≡ code.old.items ++ part_code plan.now part.now) }
 {
     let body = body_code(alloc, plan, part)?;
-    push_set(code, part.set, body.len())?;
+    push_skip_unless_of_set(code, part.set, body.len())?;
     code.extend_from_slice(&body)
 }
 

@@ -118,7 +118,7 @@ fn is_kernel(settings: &Settings, value: &Value) -> bool
 }
 
 /// Whether `minKernel` of a condition is absent, or a version that can be compared with the kernel's.
-fn has_kernel(settings: &Settings, value: &Value) -> bool
+fn has_kernel_or_none(settings: &Settings, value: &Value) -> bool
     ensures { result ≡ absent_or (is_kernel settings.now)
         (at (codes "minKernel") (view value.now)) }
 {
@@ -135,11 +135,11 @@ fn is_condition(settings: &Settings, value: &Value) -> bool
     has_condition_keys(value)
         && has_texts_or_none(value, "arches")
         && has_texts_or_none(value, "caps")
-        && has_kernel(settings, value)
+        && has_kernel_or_none(settings, value)
 }
 
 /// Whether a key is absent, or has what a rule includes or excludes.
-pub(crate) fn has_condition(settings: &Settings, value: &Value, key: &str) -> bool
+pub(crate) fn has_condition_or_none(settings: &Settings, value: &Value, key: &str) -> bool
     ensures { result ≡ absent_or (is_condition settings.now) (at key.now (view value.now)) }
 {
     match at(value, key) {
@@ -220,8 +220,8 @@ pub(crate) fn is_rule(settings: &Settings, value: &Value) -> bool
         && is_named(value)
         && is_action(value, "action", "errnoRet", "errno")
         && has_arguments(value)
-        && has_condition(settings, value, "includes")
-        && has_condition(settings, value, "excludes")
+        && has_condition_or_none(settings, value, "includes")
+        && has_condition_or_none(settings, value, "excludes")
 }
 
 /// Whether a value is an entry of `archMap`.

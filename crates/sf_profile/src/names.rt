@@ -1,7 +1,7 @@
 //! The texts of a profile, and what they stand for.
 
 ghost use Rattle.std.specs.Prelude.{◌≡◌, ◌≤◌, true};
-ghost use Rattle.sf_profile.specs.Profiles.{after_point, arch_of_set, argument_numbered, comparing_named, has_data, is_at_least, more_digits, name_of_set, response_named, set_named, up_to, up_to_or, version_of, version_read, version_step};
+ghost use Rattle.sf_profile.specs.Profiles.{after_point, arch_name_of_set, argument_numbered, comparing_named, has_data, is_at_least, more_digits, name_of_set, response_named, set_named, up_to, up_to_or, version_of, version_read, version_step};
 
 use crate::rules::{Argument, CallSet, Comparing, Response};
 
@@ -41,8 +41,8 @@ pub(crate) fn name_of_set(set: CallSet) -> &'static str
 }
 
 /// The name of a set among the `arches` of a rule.
-pub(crate) fn arch_of_set(set: CallSet) -> &'static str
-    ensures { result.now ≡ arch_of_set set }
+pub(crate) fn arch_name_of_set(set: CallSet) -> &'static str
+    ensures { result.now ≡ arch_name_of_set set }
 {
     match set {
         CallSet::X64 => "amd64",

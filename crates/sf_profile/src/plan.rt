@@ -65,7 +65,7 @@ fn comparisons_of(alloc: Global, items: &[Value]) -> Result<Vec<Comparison>, All
 }
 
 /// Whether one of the comparisons is of the same argument as this one.
-fn has_same(comparisons: &[Comparison], comparison: Comparison) -> bool
+fn compares_same_argument(comparisons: &[Comparison], comparison: Comparison) -> bool
     ensures { result ≡ list_any (is_of_same comparison) comparisons.now }
 {
     comparisons.iter().any(|other| word_of(comparison.argument) == word_of(other.argument))
@@ -76,7 +76,7 @@ fn compares_twice(comparisons: &[Comparison]) -> bool
     ensures { result ≡ compares_twice comparisons.now }
 {
     for (i, comparison) in comparisons.iter().enumerate() {
-        if has_same(&comparisons[i + 1..], *comparison) {
+        if compares_same_argument(&comparisons[i + 1..], *comparison) {
             return true;
         }
     }

@@ -3,7 +3,7 @@
 ghost use Rattle.std.specs.Prelude.{◌≡◌, codes, map, option_map};
 ghost use Rattle.std.specs.List.{list_all};
 ghost use Rattle.serde_json.specs.View.{view};
-ghost use Rattle.sf_profile.specs.Refusals.{has_actions, has_argument_range, has_error_number, has_name, has_names, has_ranges, is_own_item, is_set, is_set_item, knows_action, knows_comparison, knows_set, knows_sets, profile_in, profile_refusal, rule_refusal, rules_refusal};
+ghost use Rattle.sf_profile.specs.Refusals.{has_actions, has_argument_range, has_error_number_or_none, has_name, has_names, has_ranges, is_own_item, is_set, knows_sets_of_item, knows_action, knows_comparison, knows_set, knows_sets, profile_in, profile_refusal, rule_refusal, rules_refusal};
 ghost use Rattle.sf_profile.specs.Trees.{absent_or, at};
 
 use crate::fault::Fault;
@@ -37,7 +37,7 @@ fn are_names(items: &[Value]) -> bool
 }
 
 /// Whether the one name of a rule is absent, or can be the name of a call.
-pub(crate) fn has_one_name(value: &Value) -> bool
+pub(crate) fn has_one_name_or_none(value: &Value) -> bool
     ensures { result ≡ absent_or has_name (at (codes "name") (view value.now)) }
 {
     match at(value, "name") {
@@ -50,7 +50,7 @@ pub(crate) fn has_one_name(value: &Value) -> bool
 fn has_names(value: &Value) -> bool
     ensures { result ≡ has_names (view value.now) }
 {
-    are_names(items_at(value, "names")) && has_one_name(value)
+    are_names(items_at(value, "names")) && has_one_name_or_none(value)
 }
 
 /// Whether the action at a key is known.
@@ -89,8 +89,8 @@ fn has_actions(value: &Value) -> bool
 }
 
 /// Whether the error number at a key is absent, or has 16 bits.
-pub(crate) fn has_error_number(value: &Value, key: &str) -> bool
-    ensures { result ≡ has_error_number key.now (view value.now) }
+pub(crate) fn has_error_number_or_none(value: &Value, key: &str) -> bool
+    ensures { result ≡ has_error_number_or_none key.now (view value.now) }
 {
     up_to_or(1, 65535, whole_at(value, key)).is_some()
 }
@@ -122,7 +122,7 @@ fn have_argument_ranges(items: &[Value]) -> bool
 fn has_ranges(value: &Value) -> bool
     ensures { result ≡ has_ranges (view value.now) }
 {
-    has_error_number(value, "errnoRet") && have_argument_ranges(items_at(value, "args"))
+    has_error_number_or_none(value, "errnoRet") && have_argument_ranges(items_at(value, "args"))
 }
 
 /// Why the rule with a number is refused, if it is.
@@ -198,24 +198,26 @@ pub(crate) fn is_own_item(settings: &Settings, value: &Value) -> bool
 
 /// Whether an entry of `archMap` is another machine's, or all its `subArchitectures` are known and have their calls
 /// given.
-fn is_set_item(settings: &Settings, value: &Value) -> bool
-    ensures { result ≡ is_set_item settings.now (view value.now) }
+fn knows_sets_of_item(settings: &Settings, value: &Value) -> bool
+    ensures { result ≡ knows_sets_of_item settings.now (view value.now) }
 {
     !is_own_item(settings, value) || are_sets(settings, items_at(value, "subArchitectures"))
 }
 
 /// Whether the sets of all entries of `archMap` are known, if they are the machine's.
-fn are_each_set_items(settings: &Settings, items: &[Value]) -> bool
-    ensures { result ≡ list_all (λ v. is_set_item settings.now (view v)) items.now }
+fn know_sets_of_each_item(settings: &Settings, items: &[Value]) -> bool
+    ensures { result ≡ list_all (λ v. knows_sets_of_item settings.now (view v)) items.now }
 {
-    items.iter().all(|value| is_set_item(settings, value))
+    items
+        .iter()
+        .all(|value| knows_sets_of_item(settings, value))
 }
 
-/// The same as `are_each_set_items`. For the prover: its clause speaks of the list of the values' JSON trees.
-fn are_set_items(settings: &Settings, items: &[Value]) -> bool
-    ensures { result ≡ list_all (is_set_item settings.now) (map view items.now) }
+/// The same as `know_sets_of_each_item`. For the prover: its clause speaks of the list of the values' JSON trees.
+fn know_sets_of_items(settings: &Settings, items: &[Value]) -> bool
+    ensures { result ≡ list_all (knows_sets_of_item settings.now) (map view items.now) }
 {
-    are_each_set_items(settings, items)
+    know_sets_of_each_item(settings, items)
 }
 
 /// Whether all sets that the profile is for are known and have their calls given: the machine's own, those at
@@ -225,7 +227,7 @@ fn knows_sets(settings: &Settings, value: &Value) -> bool
 {
     settings.has_calls(settings.machine)
         && are_sets(settings, items_at(value, "architectures"))
-        && are_set_items(settings, items_at(value, "archMap"))
+        && know_sets_of_items(settings, items_at(value, "archMap"))
 }
 
 /// Why a profile is refused, if it is.
@@ -238,7 +240,7 @@ pub(crate) fn profile_refusal(settings: &Settings, value: &Value) -> Option<Faul
     if !knows_action(value, "defaultAction") {
         return Some(Fault::Actions);
     }
-    if !has_error_number(value, "defaultErrnoRet") {
+    if !has_error_number_or_none(value, "defaultErrnoRet") {
         return Some(Fault::Range);
     }
     if !knows_sets(settings, value) {

@@ -3,7 +3,7 @@
 ghost use Rattle.std.specs.Prelude.{◌≡◌, ◌++◌, Some, codes, filter, fold, is_some, map, IfOk, OnOk, string_bytes};
 ghost use Rattle.std.specs.List.{flat_map, list_any};
 ghost use Rattle.serde_json.specs.View.{view};
-ghost use Rattle.sf_profile.specs.Notes.{applied_count, applied_names, counts_line, default_line, is_unknown, name_word, names_where, notes_text, response_data, response_name, set_text, set_words, sets_line, unknown_line, unknown_names, with_name};
+ghost use Rattle.sf_profile.specs.Notes.{applied_count, applied_names, counts_line, default_line, is_unknown, name_word, names_where, notes_text, response_data, response_name, set_name_in_notes, set_words, sets_line, unknown_line, unknown_names, with_name};
 ghost use Rattle.sf_profile.specs.Plans.{names_of, one_name};
 ghost use Rattle.sf_profile.specs.Settings.{number_where};
 ghost use Rattle.sf_profile.specs.declared.settings.Calls.{Calls as ACalls};
@@ -44,8 +44,8 @@ fn response_data(response: Response) -> u16
 }
 
 /// The name of a set of calls in notes, which is that of files of names. (`name_of_set` has that of profiles.)
-fn set_text(set: CallSet) -> &'static str
-    ensures { result.now ≡ set_text set }
+fn set_name_in_notes(set: CallSet) -> &'static str
+    ensures { result.now ≡ set_name_in_notes set }
 {
     match set {
         CallSet::X64 => "x86_64",
@@ -195,7 +195,7 @@ fn push_set_words(text: &mut String, set: CallSet) -> Result<(), AllocError>
     ensures { OnOk result (string_bytes text.new ≡ string_bytes text.old ++ set_words set) }
 {
     text.push_str(" ")?;
-    text.push_str(set_text(set))
+    text.push_str(set_name_in_notes(set))
 }
 
 /// Adds the names of sets, with a blank before each.
