@@ -113,7 +113,7 @@ fn enter_without_second(
 }
 
 /// Each of two seats draws a job and enters a sheet, the second one first. Before the first seat enters, it looks at
-/// the second question and at the first. Answers the jobs, and what the first seat has seen.
+/// the second question and at the first. Returns the jobs, and what the first seat has seen.
 fn enter_one_each(
     alloc: Global,
     board: &Board,
@@ -156,7 +156,7 @@ fn close_both(board: Board, mut first: Seat, mut second: Seat) -> Option<ShortTa
 }
 
 /// Two seats judge three regions: each of them one, and then the first seat another, whose last sheet has no verdict on
-/// the question for which it has seen a place. Answers the jobs, what the first seat saw, and what the board says.
+/// the question for which it has seen a place. Returns the jobs, what the first seat saw, and what the board says.
 fn share_three(
     alloc: Global,
     settled: &Settled,

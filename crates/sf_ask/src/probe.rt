@@ -89,7 +89,8 @@ impl Probes {
         Ok(Probes { by_call, others })
     }
 
-    /// The probes of the questions about one call whose number is in this range, both ends included.
+    /// The probes of the questions about one call whose number is in this range, both ends included; none where `low`
+    /// is above `high`. The contract doesn't promise that there are no others.
     pub(crate) fn probes_of_calls(&self, low: u32, high: u32) -> &[Probe]
         requires { IsNonDecreasingBy (λ (p : AProbe). p.low) self.now.by_call.items }
         ensures all { (p : AProbe) → Contains self.now.by_call.items p → low ≤ p.low
@@ -100,6 +101,7 @@ impl Probes {
         let by_call = self.by_call.as_slice();
         let from = by_call.partition_point(|probe| probe.low < low);
         let to = by_call.partition_point(|probe| probe.low <= high);
+        // `from` may be past `to` only where `low` is above `high`.
         &by_call[from.min(to)..to]
     }
 }

@@ -168,8 +168,9 @@ impl OutstandingPieces {
         }
     }
 
-    /// Takes the piece under `id` out, and adds two: `f` under `first` and `t` under `second`, both on lease. `Memory`
-    /// where an allocation is refused: all is as it was then.
+    /// Takes the piece under `id` out, and adds the two into which it is split, both on lease: `f`, the false one,
+    /// under `first`, and `t`, the true one, under `second`. `Memory` where an allocation is refused: all is as it was
+    /// then.
     pub(crate) fn split(
         &mut self,
         id: u64,

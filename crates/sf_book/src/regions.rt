@@ -96,7 +96,7 @@ impl Emptied {
     }
 }
 
-/// Adds an element, or leaves all as it was.
+/// Adds an element at the end. `Memory` where an allocation is refused: all is as it was then.
 pub(crate) fn add<T: Drop>(v: &mut Vec<T>, x: T) -> Result<(), Fault>
     ensures ok { OnOk result (v.new.items ≡ v.old.items ++ x ∷ []) }
     ensures err { IfErr result (λ f. (f ≡ Memory) × (v.new.items ≡ v.old.items)) }
@@ -119,7 +119,8 @@ pub(crate) fn is_of(work: &Work, stack: &Arc<Stack>) -> bool
     work.piece().stack().is_same(stack)
 }
 
-/// How the names of two regions compare.
+/// How two regions compare in name order: at the first truth value in which their names differ, false comes before
+/// true, and a name comes before longer ones that begin with it.
 fn compare_names(a: &Region, b: &Region) -> Ordering
     ensures { result ≡ slice_cmp bool_cmp a.now.name b.now.name }
 {

@@ -150,8 +150,9 @@ fn count_below(keys: &[u64], key: u64) -> usize
     keys.partition_point(|k| *k < key)
 }
 
-/// The first place of a chain, from this one on, whose test asks for the number; where none does, the last place of the
-/// chain.
+/// The first place in the chain of `place`, from there on, whose test asks for `number`. Where no test before `last`
+/// asks for it, that is `last`, the last place of the chain. It is found by its key, without going through the tests
+/// before it. The contract doesn't promise that a test for `number` stands there.
 fn find_behind(
     insns: &[Insn],
     keys: &[u64],
@@ -178,6 +179,7 @@ fn find_behind(
     }
     let key = keys[found];
     if key < key_of(chain, number, last) {
+        // The key is of this chain and this number, as `from` is: they differ only in the place.
         place + (key - from) as usize
     } else {
         last
@@ -242,8 +244,8 @@ impl EqualTests {
         }
     }
 
-    /// Skips all tests for other numbers from a place on, each of which stands where the one before leads. They may be
-    /// in several chains.
+    /// Skips the tests for other numbers from a place on, each of which stands where the one before it leads when it
+    /// fails. They may be in several chains. No test for another number stands at the place behind them.
     pub(crate) fn skip_others(&self, insns: &[Insn], place: usize, number: u32) -> Passed
         requires tables { AreEqualTests insns.now self.now.keys.items self.now.chains.items
             self.now.steps.items self.now.lasts.items }

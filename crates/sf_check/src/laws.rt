@@ -30,7 +30,8 @@ pub fn a_fault_spells_no_lawful_program()
         IsFirstFault raws e → Spells raws code → IsLawfulProgram code → ⊥ }
 {}
 
-/// Instructions have at most one first fault. So `check` refuses them for that one, or since memory is refused.
+/// Instructions have at most one first fault. So, if they have one, `check` refuses them for it, or because memory is
+/// refused.
 pub fn one_first_fault()
     ensures { (raws : List RawInsn) (e f : Fault) → IsFirstFault raws e
         → IsFirstFault raws f → e ≡ f }

@@ -42,7 +42,7 @@ fn has_lower_hit(board: &Board, seat: &mut Seat, job: usize, q: usize) -> bool
 }
 
 /// Looks on the board for hits on the questions whose bits are set in `to_judge`. That is the word at the place `word`
-/// of four. Answers a word with all bits set, but those of the questions with a hit at a place below the job.
+/// of four. Returns a word with all bits set, but those of the questions with a hit at a place below the job.
 fn look_at_word(board: &Board, seat: &mut Seat, job: usize, word: usize, to_judge: u64) -> u64
     requires seat { IsSeatOf board.now seat.old }
     requires word { word < 4 }
@@ -61,7 +61,7 @@ fn look_at_word(board: &Board, seat: &mut Seat, job: usize, word: usize, to_judg
     wanted
 }
 
-/// Looks on the board for hits on the questions that are to be judged. Answers all bits set, but those of the questions
+/// Looks on the board for hits on the questions that are to be judged. Returns all bits set, but those of the questions
 /// with a hit at a place below the job. On most regions few questions are to be judged, so few are looked at.
 fn look_at(board: &Board, seat: &mut Seat, job: usize, to_judge: &[u64; 4]) -> [u64; 4]
     requires seat { IsSeatOf board.now seat.old }
@@ -142,7 +142,7 @@ fn enter_job<G: Gate>(
     Ok(())
 }
 
-/// Draws jobs and enters their sheets until all jobs are drawn. Answers the seat, with false where memory ran out
+/// Draws jobs and enters their sheets until all jobs are drawn. Returns the seat, with false where memory ran out
 /// before that.
 fn work<G: Gate>(
     alloc: Global,

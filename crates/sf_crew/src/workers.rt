@@ -176,7 +176,7 @@ impl<N: Naming> Worker<N> {
 }
 
 /// The turns of one worker, until nothing is left to do. Where memory is refused or the budget is spent, it gives its
-/// pieces back and ends. It answers the handle of its bench, which it has emptied.
+/// pieces back and ends. It returns the handle of its bench, which it has emptied.
 fn run<N: Naming, R: Wait, G: Gate>(
     rt: &R,
     alloc: Global,
@@ -234,7 +234,7 @@ fn run_each<'a, N: Naming, R: Threads + Wait + Sync, G: Gate>(
     });
 }
 
-/// Lets this many workers work on a book, and answers it when they have ended.
+/// Lets this many workers work on a book, and returns it when they have ended.
 fn run_all<N: Naming, R: Threads + Wait + Sync, G: Gate>(
     rt: &R,
     alloc: Global,

@@ -52,6 +52,7 @@ fn div(a: Known, b: Known) -> Known
     ensures { a.low ≤ a.high → b.low ≤ b.high → result
         ≡ forward_known BinOp.Div a b }
 {
+    // The second comparison follows from the first, unless the ends are crossed.
     if b.low >= 1 && b.high >= 1 {
         Known::interval(a.low / b.high, a.high / b.low)
     } else {
@@ -95,8 +96,8 @@ fn xor(a: Known, b: Known) -> Known
     }
 }
 
-/// What is known of a word that is moved to the left by `s` bits: the low bits are 0, known bits move along, and so do
-/// the ends, where the high one loses no bit.
+/// What is known of a word that is shifted to the left by `s` bits. Its known bits are shifted, and the `s` low bits
+/// are 0. The ends are shifted too, if the high one loses no bit; else nothing is known of the interval.
 fn shift_left_by(a: Known, s: u32) -> Known
     requires { s < 32 }
     ensures { a.low ≤ a.high → result ≡ moved_left a s }
@@ -120,8 +121,8 @@ fn shift_left_by(a: Known, s: u32) -> Known
     }
 }
 
-/// What is known of a word that is moved to the right by `s` bits: the high bits are 0, and known bits and ends move
-/// along.
+/// What is known of a word that is shifted to the right by `s` bits. Its known bits and both ends are shifted, and the
+/// `s` high bits are 0.
 fn shift_right_by(a: Known, s: u32) -> Known
     requires { s < 32 }
     ensures { result ≡ moved_right a s }
@@ -172,10 +173,13 @@ pub(crate) fn forward(op: BinOp, a: Known, b: Known) -> Known
     }
 }
 
-/// What is known of the negation of a word.
+/// What is known of the negation of a word: 2^32 minus the word, or 0 where the word is 0. Where its interval is
+/// without 0, the negations lie from that of the high end to that of the low end. Where it has only 0, the negation is
+/// 0. Otherwise nothing is known.
 pub(crate) fn negate(a: Known) -> Known
     ensures { a.low ≤ a.high → result ≡ forward_negated a }
 {
+    // The second comparison follows from the first, unless the ends are crossed.
     if a.low >= 1 && a.high >= 1 {
         Known::interval(a.high.wrapping_neg(), a.low.wrapping_neg())
     } else if a.high == 0 {

@@ -1,4 +1,4 @@
-//! The guards: what is known of a word once it is compared with a number.
+//! The guards: what is known of a word once it is compared with a number. `v` is what was known of it before.
 
 ghost use Rattle.std.specs.Prelude.{◌≡◌, ◌≢◌, ℕ, ◌+◌, ◌-◌, ◌*◌, ◌/◌, ◌%◌, ◌<◌, ◌≤◌, ◌^◌};
 ghost use Rattle.sf_dom.specs.Rules.{nothing, at_least, at_most, more_than, less_than, past, some_of, none_of};
@@ -14,7 +14,7 @@ pub(crate) struct Pair {
     pub(crate) other: Known,
 }
 
-/// No number is left.
+/// What is known where no number is left: the ends of the interval are crossed.
 fn nothing() -> Known
     ensures { result ≡ nothing }
 {

@@ -122,8 +122,9 @@ impl Nodes {
         }
     }
 
-    /// Adds what is known of the next node. `fixed`: no more can become known of it. `Memory` where an allocation is
-    /// refused; what is known then stays as it was.
+    /// Adds what is known of the next node. It becomes a variable, unless it is `fixed` (no forward pass makes more
+    /// known of it), known to be one number with all its bits, and no word of the input. `Memory` where an allocation
+    /// is refused; what is known then stays as it was.
     pub(crate) fn push(&mut self, known: Known, fixed: bool) -> Result<(), Fault>
         ensures ok { IfOk result (λ _. self.new.known ≡ self.old.known ++ known ∷ []) }
         ensures variables { IfOk result (λ _. (IsTrue fixed

@@ -45,7 +45,7 @@ fn transfer(nodes: &Nodes, node: Node) -> Known
     }
 }
 
-/// Whether a node has only one number.
+/// Whether the interval of a node has only one number.
 fn is_decided(nodes: &Nodes, at: NodeId) -> bool
     requires { at.0 < length nodes.now.known }
     ensures { IsTrue result → IsDecided (known_at nodes.now.known at.0) }
@@ -54,8 +54,8 @@ fn is_decided(nodes: &Nodes, at: NodeId) -> bool
     known.low == known.high
 }
 
-/// Whether a node is a constant, or an operation on operands that have only one number each: no more can become known
-/// of it then.
+/// Whether a node is a constant, or an operation on operands that have only one number each: once it is taken in, no
+/// forward pass makes more known of it.
 fn is_fixed(nodes: &Nodes, node: Node) -> bool
     requires { OperandsBelow (length nodes.now.known) node }
     ensures { IsTrue result → AreAllDecided nodes.now.known node }

@@ -20,7 +20,7 @@ use crate::nodes::Nodes;
 use sf_insn::Test;
 use sf_sym::{Node, Pool, constant_operand};
 
-/// Whether a word equals a number, where its interval gives the result.
+/// Whether a word equals a number, where its interval gives the result; `None` where it leaves the result open.
 fn tell_equal(known: Known, number: u32) -> Option<bool>
     ensures told { MatchOption result (IsOpen Test.Equal known number)
         (λ b. (x : ℕ) → Admits known x → TestGives Test.Equal x number b) }
@@ -36,7 +36,8 @@ fn tell_equal(known: Known, number: u32) -> Option<bool>
     None
 }
 
-/// Whether a word is greater than a number, where its interval gives the result.
+/// Whether a word is greater than a number, where its interval gives the result; `None` where it leaves the result
+/// open.
 fn tell_greater(known: Known, number: u32) -> Option<bool>
     ensures told { MatchOption result (IsOpen Test.Greater known number)
         (λ b. (x : ℕ) → Admits known x → TestGives Test.Greater x number b) }
@@ -52,7 +53,7 @@ fn tell_greater(known: Known, number: u32) -> Option<bool>
     None
 }
 
-/// Whether a word is at least a number, where its interval gives the result.
+/// Whether a word is at least a number, where its interval gives the result; `None` where it leaves the result open.
 fn tell_at_least(known: Known, number: u32) -> Option<bool>
     ensures told { MatchOption result (IsOpen Test.GreaterOrEqual known number)
         (λ b. (x : ℕ) → Admits known x → TestGives Test.GreaterOrEqual x number b) }
@@ -68,7 +69,8 @@ fn tell_at_least(known: Known, number: u32) -> Option<bool>
     None
 }
 
-/// Whether a word has a common bit with a number, where its known bits give the result.
+/// Whether a word has a common bit with a number, where its known bits give the result; `None` where they leave the
+/// result open.
 fn tell_common(known: Known, number: u32) -> Option<bool>
     ensures told { MatchOption result (IsOpen Test.AnyBit known number)
         (λ b. (x : ℕ) → Admits known x → TestGives Test.AnyBit x number b) }
@@ -105,7 +107,7 @@ impl Known {
     }
 }
 
-/// Whether a number is excluded for a node.
+/// Whether a number is excluded for a node. Numbers are excluded only for words of the input.
 fn is_excluded(excluded: &Excluded, node: Node, number: u32) -> bool
     requires word { (i : ℕ) → node ≡ Node.Word i → i < 16 }
     ensures { IsTrue result ↔ Contains (excluded_of excluded.now node) number }
@@ -140,7 +142,7 @@ pub(crate) fn are_propagated_back(nodes: &Nodes, pool: &Pool, from: usize) -> bo
 }
 
 /// Whether a node passes a test against a number on every input that agrees, where its own interval, known bits and
-/// excluded numbers give the result.
+/// excluded numbers give the result; `None` where they leave it open.
 fn tell_at(
     nodes: &Nodes,
     excluded: &Excluded,

@@ -11,7 +11,7 @@ use std::alloc::AllocError;
 const MOST_NAMES: usize = 8;
 
 /// Adds a name to a row's text, in which `count` names stand before it. In place of the ninth name `..` is written, and
-/// nothing for a further one. Answers how many names stand there then, where `..` counts as one.
+/// nothing for a further one. Returns how many names stand there then, where `..` counts as one.
 fn push_name(text: &mut String, count: usize, name: &str) -> Result<usize, AllocError>
     ensures text { OnOk result (string_bytes text.new ≡ string_bytes text.old
         ++ name_words count name.now) }
@@ -30,7 +30,7 @@ fn push_name(text: &mut String, count: usize, name: &str) -> Result<usize, Alloc
     Ok(count + 1)
 }
 
-/// Adds the name of a call, if its number is one of these, where `count` names were written before. Answers how many
+/// Adds the name of a call, if its number is one of these, where `count` names were written before. Returns how many
 /// are written then.
 fn push_call(
     text: &mut String,
@@ -49,7 +49,7 @@ fn push_call(
     Ok(count)
 }
 
-/// Adds the names of the calls whose numbers are among these, where `count` names were written before. Answers how many
+/// Adds the names of the calls whose numbers are among these, where `count` names were written before. Returns how many
 /// are written then.
 fn push_calls(
     text: &mut String,
@@ -71,7 +71,7 @@ fn push_calls(
 }
 
 /// Adds the names of the calls of one set whose numbers are among these, if it is a set of the architecture, where
-/// `count` names were written before. Answers how many are written then.
+/// `count` names were written before. Returns how many are written then.
 fn push_names_in(
     text: &mut String,
     count: usize,
@@ -93,7 +93,7 @@ fn push_names_in(
 
 /// Adds to a row's text, set after set, the names of the calls of an architecture whose numbers are from `first` to
 /// `last`: ` # ` and then at most eight names with commas between them, and `..` where there are more. `count` is how
-/// many names stand in the row before, 0 in a new one. Answers how many stand there then, at most nine, where `..`
+/// many names stand in the row before, 0 in a new one. Returns how many stand there then, at most nine, where `..`
 /// counts as one.
 pub fn push_names_between(
     text: &mut String,

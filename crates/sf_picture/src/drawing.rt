@@ -125,7 +125,7 @@ fn fork_of(sketch: &mut Sketch, axis: Axis, mut runs: Vec<Run>) -> Result<Option
     Ok(Some(fork))
 }
 
-/// A span of an axis that is to be drawn: from the first number that isn't drawn yet.
+/// A span of an axis that is to be drawn, both ends included: `first` is the first number that isn't drawn yet.
 #[derive(Clone, Copy)]
 struct Span {
     axis: Axis,
@@ -160,9 +160,14 @@ fn held_in(alloc: Global, held: &[Held], ends: &[Ends], span: Span) -> Result<Ve
     Ok(inside)
 }
 
-/// Draws a span by the axes behind the place `at`, and adds a run that leads to what was drawn. `inside` are the
-/// regions that are held in the span: where none of them has a member, no run is added. Answers the first number that
-/// isn't drawn yet after that. `Memory` where an allocation is refused.
+/// Draws a span of the axis at the place `at`, by the axes behind it, and adds a run that leads to the branch that was
+/// drawn. `inside` are the regions that are held in the span. Where it is found that none of them has a member, there
+/// is no branch, and no run is added: the next run, or else the last one, takes in the numbers of the span. Where there
+/// is nothing to draw in the span, nothing changes. Returns the first number that isn't drawn yet after that. `Memory`
+/// where an allocation is refused.
+///
+/// On a plain stack each leaf has at most one label, unless one is drawn early (clause `short`), and some member is
+/// shown the labels of each leaf (clause `attained`): if that was so before, it is so afterwards.
 #[cycle(draw)]
 fn draw_span(
     alloc: Global,
@@ -311,7 +316,7 @@ fn held_of(alloc: Global, settled: &Settled, labels: &[usize]) -> Result<Vec<Hel
     Ok(held)
 }
 
-/// Draws held regions by all axes that they cut, and answers where the picture begins. That is a leaf without labels
+/// Draws held regions by all axes that they cut, and returns where the picture begins. That is a leaf without labels
 /// where nothing was drawn, since no region has a member. `Memory` where an allocation is refused.
 fn root_of(alloc: Global, sketch: &mut Sketch, held: &[Held]) -> Result<Branch, Fault>
     requires right { IsRightSketch sketch.old }

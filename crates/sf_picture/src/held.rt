@@ -24,7 +24,7 @@ use std::alloc::Global;
 use std::marker::Model;
 use std::sync::Arc;
 
-/// A region of which a picture is drawn: its piece, its label, and where it cuts axes.
+/// A region of which a picture is drawn: its piece, its label, and its cuts.
 #[derive(Drop)]
 pub(crate) struct Source {
     piece: Arc<Piece>,
@@ -59,7 +59,7 @@ impl Source {
         self.label
     }
 
-    /// Where the region cuts axes.
+    /// The region's cuts: the places on axes where the results of its conditions may change.
     fn cuts(&self) -> &[Cut]
         ensures { result.now ≡ self.now.cuts }
     {
@@ -167,7 +167,7 @@ impl Held {
         self.source.label()
     }
 
-    /// Where the region cuts axes.
+    /// The region's cuts: the places on axes where the results of its conditions may change.
     pub(crate) fn cuts(&self) -> &[Cut]
         ensures { result.now ≡ self.now.cuts }
     {

@@ -15,8 +15,8 @@ use sf_check::{Insn, Operand, Passed, Program};
 use sf_dom::Known;
 use sf_insn::Test;
 
-/// How many instructions an instruction skips, if it tests whether A equals a number and what is known of A says that
-/// it doesn't. None for any other instruction.
+/// How many instructions a test skips when it fails, if it asks whether A equals a number, and what is known of A says
+/// that A is another one. `None` otherwise.
 fn failing_skips(insn: Insn, known: Known) -> Option<u8>
     ensures { IfSome result (λ n. IsFailing insn known n) }
 {
@@ -27,9 +27,9 @@ fn failing_skips(insn: Insn, known: Known) -> Option<u8>
     }
 }
 
-/// How many tests whether A equals a number are known to fail in a row from this place on, each standing where the one
-/// before leads, and the place behind them. They are looked up, which needs A to have only one number. Where A may have
-/// several, the count is 0, and the caller looks at each instruction.
+/// Skips tests that are known to fail, from `place` on. Each asks whether A equals a number, and stands where the one
+/// before it leads when it fails. If A has only one number, the program looks them up. If A may have several, none is
+/// skipped, and the caller looks at each instruction.
 fn skip_others(program: &Program, place: usize, known: Known) -> Passed
     requires { place < length program.now }
     ensures { AreFailing program.now known result.count place result.behind }
@@ -43,7 +43,8 @@ fn skip_others(program: &Program, place: usize, known: Known) -> Passed
     }
 }
 
-/// How many tests of A in a row are known to fail from the machine's place on, and the place behind them.
+/// All tests in a row, from the machine's place on, that are known to fail: each asks whether A equals a number, and
+/// stands where the one before it leads when it fails. `known` is what is known of A.
 fn failing_chain(run: &Run, known: Known) -> Passed
     requires lawful { IsLawfulPiece run.now }
     requires known { known ≡ known_at run.now.facts.known run.now.machine.a.0 }
@@ -76,8 +77,9 @@ fn failing_chain(run: &Run, known: Known) -> Passed
     Passed { count, behind }
 }
 
-/// Goes on over the tests of A that come now and are known to fail, as most tests of a chain are. Their falses are
-/// added to the name at once, and what is known stays as it is.
+/// Goes on over the tests of A that come now and are known to fail, as most tests of a chain are. A false for each of
+/// them is added to the name, all at once, and what is known stays as it is. `Memory` where the name can't take so
+/// many.
 pub(crate) fn take_failing(run: &mut Run) -> Result<(), Fault>
     requires { IsLawfulPiece run.old }
     ensures gone { IfOk result (λ _. HasGoneOn run.old run.new) }

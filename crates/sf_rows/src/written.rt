@@ -70,7 +70,7 @@ fn push_calls(
 
 /// Adds the lines of rows, by the sets of calls and the words of labels. Without `calls` these are a line for each row.
 /// Where `calls` names some, they are the lines of these calls. Where it names none, they are the lines of all calls,
-/// and then those of the inputs that belong to no call with a name. Answers how many lines were added. `Memory` where
+/// and then those of the inputs that belong to no call with a name. Returns how many lines were added. `Memory` where
 /// an allocation is refused.
 pub fn push_lines(
     alloc: Global,

@@ -38,7 +38,7 @@ pub fn no_whole_route_begins_another()
 {}
 
 /// A replay along the trace of an input gives the values that the programs return on it, newest first, and no truth
-/// value is left. It asks for values of 32 bits; the code has no others.
+/// value is left. The law is of values below 2^32: in a definition a value may be any number, in code all are below it.
 pub fn traces_replay_the_returns()
     ensures { (programs : List (List Insn)) (d : Input) → IsLawfulStack programs
         → All (λ v. v < 2 ^ 32) (returns_of programs d)
@@ -52,12 +52,13 @@ pub fn traces_are_short()
         IsLawfulStack programs → length (trace_of programs d) ≤ 32768 + 32 * 64 }
 {}
 
-/// The list of all inputs has each input, and nothing else.
+/// `all_inputs`, from which `feasible_traces` is made, has each input, and nothing else.
 pub fn all_inputs_are_listed()
     ensures { (d : Input) → Contains all_inputs d ↔ IsInput d }
 {}
 
-/// Each stack has its list of feasible traces.
+/// `feasible_traces` is a list of the feasible traces of a stack: it has, in name order, each trace that some input
+/// has, once, and nothing else. So each stack, lawful or not, has such a list.
 pub fn each_stack_has_its_feasible_traces()
     ensures { (programs : List (List Insn)) → AreFeasibleTraces programs
         (feasible_traces programs) }

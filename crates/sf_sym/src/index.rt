@@ -68,7 +68,7 @@ fn place_behind_operands(node: Node) -> usize
 }
 
 /// The place of a node that is equal to this one, if there is one. The nodes of its bucket are compared with it, the
-/// newest first. None is looked at that stands before the node's operands, or is one of them.
+/// newest first. The search ends at the node's newest operand, if it has operands: an equal node stands behind them.
 fn place_of(interned_nodes: &InternedNodes, heads: &[u32], node: Node) -> Option<usize>
     requires indexed { IsIndexed interned_nodes.now heads.now }
     requires ordered { AreOrdered 0 (nodes_of interned_nodes.now) }

@@ -132,7 +132,7 @@ impl<N: Naming> SharedBook<N> {
         self.book.give_back(lease.lease().id);
     }
 
-    /// Commits the work of a lease, and answers the leases of its children, the false one's first. Where it is refused
+    /// Commits the work of a lease, and returns the leases of its children, the false one's first. Where it is refused
     /// the lease is given back. The work is of the book's stack, as the lease's type says, so the two aren't compared.
     pub(crate) fn hand_in(
         &mut self,

@@ -96,7 +96,7 @@ impl<N: Naming> Thieves<N> {
         Ok(())
     }
 
-    /// Tries each bench once, in order, and answers the first lease that it gets.
+    /// Tries each bench once, in order, and returns the first lease that it gets.
     pub(crate) fn steal(&mut self) -> Option<Held<N>>
         ensures { Steals (thief_views self.old.thieves.items) result
             (thief_views self.new.thieves.items) }

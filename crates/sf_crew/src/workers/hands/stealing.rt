@@ -18,7 +18,7 @@ fn steal_at<N: Naming>(others: &mut [Thief<NamedLease<N>>], place: usize) -> Opt
     }
 }
 
-/// Tries each bench once, in order, and answers the first lease that it gets.
+/// Tries each bench once, in order, and returns the first lease that it gets.
 pub(crate) fn steal_from<N: Naming>(others: &mut [Thief<NamedLease<N>>]) -> Option<Held<N>>
     ensures { Steals (thief_views others.old) result (thief_views others.new) }
 {
