@@ -153,7 +153,7 @@ fn count_below(keys: &[u64], key: u64) -> usize
 /// The first place in the chain of `place`, from there on, whose test asks for `number`. Where no test before `last`
 /// asks for it, that is `last`, the last place of the chain. It is found by its key, without going through the tests
 /// before it. The contract doesn't promise that a test for `number` stands there.
-fn find_behind(
+fn find_test_or_last(
     insns: &[Insn],
     keys: &[u64],
     chains: &[u16],
@@ -237,7 +237,7 @@ impl EqualTests {
                 behind: place,
             };
         }
-        let behind = find_behind(insns, &self.keys, &self.chains, place, last, number);
+        let behind = find_test_or_last(insns, &self.keys, &self.chains, place, last, number);
         Passed {
             count: self.steps_between(place, behind),
             behind,

@@ -30,7 +30,7 @@ fn failing_skips(insn: Insn, known: Known) -> Option<u8>
 /// Skips tests that are known to fail, from `place` on. Each asks whether A equals a number, and stands where the one
 /// before it leads when it fails. If A has only one number, the program looks them up. If A may have several, none is
 /// skipped, and the caller looks at each instruction.
-fn skip_others(program: &Program, place: usize, known: Known) -> Passed
+fn skip_failing(program: &Program, place: usize, known: Known) -> Passed
     requires { place < length program.now }
     ensures { AreFailing program.now known result.count place result.behind }
 {
@@ -69,7 +69,7 @@ fn failing_chain(run: &Run, known: Known) -> Passed
     let Passed {
         mut count,
         mut behind,
-    } = skip_others(program, first, known);
+    } = skip_failing(program, first, known);
     while let Some(skips) = failing_skips(code[behind], known) {
         count += 1;
         behind += 1 + skips as usize;

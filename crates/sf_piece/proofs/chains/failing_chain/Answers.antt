@@ -49,19 +49,19 @@ pub loop-skips-init : goal.loop-skips-init
 loop-skips-init c =
     let p = c.args.run.now in
     let failing =
-    subst (λ (r : PieceData). AreFailing c.in-Some.program.now c.args.known c.skip_others-count.result.count
-    r.machine.place c.skip_others-count.result.behind) c.run.view_is c.skip_others-count.ensures in
+    subst (λ (r : PieceData). AreFailing c.in-Some.program.now c.args.known c.skip_failing-count.result.count
+    r.machine.place c.skip_failing-count.result.behind) c.run.view_is c.skip_failing-count.ensures in
     record {
-      gone = over_failing p c.in-Some.program.now c.args.known c.skip_others-count.result.count
-          c.skip_others-count.result.behind
+      gone = over_failing p c.in-Some.program.now c.args.known c.skip_failing-count.result.count
+          c.skip_failing-count.result.behind
           c.requires.lawful c.in-Some.ensures c.requires.known failing;
       few = omega (
         arith,
-        few_failing c.in-Some.program.now c.args.known c.skip_others-count.result.count p.machine.place
-            c.skip_others-count.result.behind failing,
+        few_failing c.in-Some.program.now c.args.known c.skip_failing-count.result.count p.machine.place
+            c.skip_failing-count.result.behind failing,
       );
       rule = λ laws tidy back.
-          steps_failing laws p c.in-Some.program.now c.args.known c.skip_others-count.result.count
-          c.skip_others-count.result.behind
+          steps_failing laws p c.in-Some.program.now c.args.known c.skip_failing-count.result.count
+          c.skip_failing-count.result.behind
           tidy back c.in-Some.ensures c.requires.known (over_none p c.requires.lawful) failing;
     }

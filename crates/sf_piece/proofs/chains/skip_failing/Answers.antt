@@ -1,7 +1,7 @@
 use Rattle.std.proofs.Common.{arith}
 use Rattle.std.proofs.lemmas.Grind.{common_steps}
 use Rattle.sf_piece.proofs.FailingTests.{others_fail}
-use Rattle.sf_piece.proofs.chains.skip_others.Goals as goal
+use Rattle.sf_piece.proofs.chains.skip_failing.Goals as goal
 
 pub returns-in-Some : goal.returns-in-Some
 returns-in-Some c = grind (arith, common_steps, others_fail)

@@ -1,6 +1,6 @@
 use Rattle.std.proofs.Common.{arith}
 use Rattle.sf_check.proofs.EqualLemmas.{none_by_key, found_by_key}
-use Rattle.sf_check.proofs.equals.find_behind.Goals as goal
+use Rattle.sf_check.proofs.equals.find_test_or_last.Goals as goal
 
 pub returns-then-found-keys : goal.returns-then-found-keys
 returns-then-found-keys c =
