@@ -7,8 +7,8 @@ pub steps_between-requires-clause-forward : goal.steps_between-requires-clause-f
 steps_between-requires-clause-forward c =
     let t = c.args.self.now in
     (passed_to c.args.insns.now t.chains.items t.steps.items t.lasts.items c.args.place c.args.number
-    c.find_behind-behind.result c.requires.tables.chains_are
-    (rw c.deref-2.ensures.value at c.find_behind-behind.ensures)).forward
+    c.find_test_or_last-behind.result c.requires.tables.chains_are
+    (rw c.deref-2.ensures.value at c.find_test_or_last-behind.ensures)).forward
 
 pub returns-clause-passed : goal.returns-clause-passed
 returns-clause-passed c = grind (arith, common_steps, passed_to)
@@ -18,5 +18,5 @@ returns-clause-on c =
     let t = c.args.self.now in
     rw c.steps_between.ensures (passed_to c.args.insns.now t.chains.items t.steps.items t.lasts.items
     c.args.place c.args.number
-    c.find_behind-behind.result c.requires.tables.chains_are
-    (rw c.deref-2.ensures.value at c.find_behind-behind.ensures)).on
+    c.find_test_or_last-behind.result c.requires.tables.chains_are
+    (rw c.deref-2.ensures.value at c.find_test_or_last-behind.ensures)).on
