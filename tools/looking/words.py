@@ -66,7 +66,7 @@ WORDS = [
     ("mark marks marked", only("sf_crew"), "a question that a seat leaves in doubt"),
     ("walk walks walked", only("sf_run", "sf_evaluate"), "a run with all that it meets"),
     ("matter", set(), "nothing: name what is meant"),
-    ("job jobs", only("sf_crew"), "the place of a region that a seat draws"),
+    ("job jobs", only("sf_ask", "sf_crew"), "the place of a region that a seat draws, and of which a sheet is made"),
     ("seat seats", only("sf_crew"), "a worker's part at a board"),
     ("bench benches", only("sf_crew"), "a worker's queue of leases"),
     ("board boards", only("sf_crew"), "the shared words of a sweep"),
@@ -109,27 +109,6 @@ WORDS = [
 
 # Names that break the rule, by their crates, with the reason.
 KNOWN = {
-    "crew_tests": {
-        "matter": "the regions and questions of a board",
-    },
-    "examples_run": {"TURNS": "how often a worker looks for the other one"},
-    "memory_run": {"Tally": "how many of the outcomes were the expected ones", "tally": "a `Tally`"},
-    "sf_ask": {
-        "job": "the place of a sheet's region, for callers that draw it",
-        "mark_left": "sets bits of questions",
-        "marked": "questions whose bits are set",
-    },
-    "sf_book": {
-        "ChangeLaws": "what a call does to a book",
-        "entries": "std's word for what a map holds",
-        "hits": "1 where a list begins with a name",
-    },
-    "sf_check": {
-        "ArePassed": "of `Passed`",
-        "Passed": "tests that fail and are gone over",
-        "member": "a test in a chain",
-        "passed": "of `Passed`",
-    },
     "sf_command": {
         "DoesAsTold": "what words of the command line ask for",
         "RefusesAsTold": "what words of the command line ask for",
@@ -138,14 +117,11 @@ KNOWN = {
     "sf_compare": {
         "told": "what is found of a relation",
     },
-    "sf_crew": {"matter": "the regions and questions of a board"},
-    "sf_dom": {"walked": "bits that go back to an operand"},
     "sf_evaluate": {
         "mark_of": "the text that marks a filter",
         "told": "a text that is written",
     },
     "sf_picture": {"passed": "the numbers below the next one to draw"},
-    "sf_run": {"told": "what a walk shows"},
 }
 
 WORD = {form: (crates, meaning) for forms, crates, meaning in WORDS for form in forms.split()}

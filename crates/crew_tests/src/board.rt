@@ -60,7 +60,7 @@ fn enter(
 ) -> Option<()>
     requires seat { IsSeatOf board.now seat.old }
     requires owes { (seat_view seat.old).owes ≡ Some job }
-    requires matter { (regions_of (about board.now) ≡ settled.now)
+    requires same { (regions_of (about board.now) ≡ settled.now)
         × (questions_of (about board.now) ≡ questions.now) }
     ensures same { IsSeatOf board.now seat.new }
     ensures free { IfSome result (λ _. (seat_view seat.new).owes ≡ None) }
@@ -90,7 +90,7 @@ fn enter_without_second(
 ) -> Option<()>
     requires seat { IsSeatOf board.now seat.old }
     requires owes { (seat_view seat.old).owes ≡ Some job }
-    requires matter { (regions_of (about board.now) ≡ settled.now)
+    requires same { (regions_of (about board.now) ≡ settled.now)
         × (questions_of (about board.now) ≡ questions.now) }
     ensures same { IsSeatOf board.now seat.new }
     ensures free { IfSome result (λ _. (seat_view seat.new).owes ≡ None) }
@@ -123,7 +123,7 @@ fn enter_one_each(
     questions: &[Question],
 ) -> Option<([usize; 2], [Option<usize>; 2])>
     requires seats { IsNewSeat board.now first.old × IsNewSeat board.now second.old }
-    requires matter { (regions_of (about board.now) ≡ settled.now)
+    requires same { (regions_of (about board.now) ≡ settled.now)
         × (questions_of (about board.now) ≡ questions.now) }
     requires two { 1 < length questions.now }
     ensures same { IsSeatOf board.now first.new × IsSeatOf board.now second.new }
@@ -248,7 +248,7 @@ fn draw_all(
     questions: &[Question],
 ) -> Option<Vec<usize>>
     requires seat { IsSeatOf board.now seat × ((seat_view seat).owes ≡ None) }
-    requires matter { (regions_of (about board.now) ≡ settled.now)
+    requires same { (regions_of (about board.now) ≡ settled.now)
         × (questions_of (about board.now) ≡ questions.now) }
 {
     let mut jobs = Vec::new(alloc);

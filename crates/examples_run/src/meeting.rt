@@ -5,7 +5,7 @@ use std::hint::spin_loop;
 use std::sync::atomic::{AtomicUsize, Ordering};
 
 /// How often a worker looks whether the other one has come.
-const TURNS: usize = 100_000_000;
+const LOOKS: usize = 100_000_000;
 
 /// A place where two workers meet: which of them have come.
 #[derive(Drop)]
@@ -39,7 +39,7 @@ impl Place {
         if mine.swap(1, Ordering::SeqCst) != 0 {
             return true;
         }
-        for _ in 0..TURNS {
+        for _ in 0..LOOKS {
             if self.has_come(1 - worker) {
                 return true;
             }

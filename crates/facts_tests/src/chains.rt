@@ -1,6 +1,6 @@
 //! Tests of `Program::skip_others`: which tests for other numbers than the one that A has are skipped.
 use samples::{op, raw};
-use sf_check::{Passed, Program, check};
+use sf_check::{Program, Skipped, check};
 use sf_insn::RawInsn;
 use std::alloc::Global;
 use std::test::Fail;
@@ -17,7 +17,7 @@ fn program_of(alloc: Global, mut code: Vec<RawInsn>) -> Result<Program, Fail> {
 }
 
 /// How many tests are skipped from a place on, and up to which place; `None` where the program has no such place.
-fn skip_others(program: &Program, place: usize, number: u32) -> Option<Passed> {
+fn skip_others(program: &Program, place: usize, number: u32) -> Option<Skipped> {
     if place < program.insns().len() {
         Some(program.skip_others(place, number))
     } else {
@@ -32,7 +32,7 @@ type Case = (usize, u32, usize, usize);
 fn wrong_chain(program: &Program, cases: &[Case]) -> Option<(usize, u32)> {
     for (place, number, count, behind) in cases {
         let (count, behind) = (*count, *behind);
-        if skip_others(program, *place, *number) != Some(Passed { count, behind }) {
+        if skip_others(program, *place, *number) != Some(Skipped { count, behind }) {
             return Some((*place, *number));
         }
     }

@@ -2,7 +2,7 @@
 
 ghost use Rattle.std.specs.Prelude.{◌≤◌, ◌<◌};
 
-use crate::refused::{MEMORY, Refused, Tally};
+use crate::refused::{MEMORY, Refused, Score};
 use crate::stacks::POLICY;
 use sf_audit::{audit, write_report};
 use sf_crew::Open;
@@ -92,7 +92,7 @@ pub fn push_filters(
 /// same.
 pub fn audit_files<R: Threads + Wait + Sync + AllocGlobal>(
     rt: &R,
-    tally: &mut Tally,
+    score: &mut Score,
     files: &[&[u8]],
     page: &mut Page,
 ) -> Result<(), Refused> {
@@ -101,10 +101,10 @@ pub fn audit_files<R: Threads + Wait + Sync + AllocGlobal>(
     report(rt, &filters, 1, page)?;
     let mut by_two = Page::new();
     report(rt, &filters, 2, &mut by_two)?;
-    tally.expect(by_two.bytes() == page.bytes());
+    score.expect(by_two.bytes() == page.bytes());
     let mut by_eight = Page::new();
     report(rt, &filters, 8, &mut by_eight)?;
-    tally.expect(by_eight.bytes() == page.bytes());
+    score.expect(by_eight.bytes() == page.bytes());
     Ok(())
 }
 

@@ -3,7 +3,7 @@
 ghost use Rattle.std.specs.Prelude.{◌≤◌, ◌<◌, length};
 
 use crate::auditing::{Page, push_filters};
-use crate::refused::{Refused, Tally};
+use crate::refused::{Refused, Score};
 use sf_compare::compare;
 use sf_crew::Open;
 use sf_list::{Shown, draw_differences, write_differences};
@@ -36,7 +36,7 @@ fn tell<R: Threads + Wait + Sync + AllocGlobal>(
 /// eight workers have to write the same bytes.
 pub fn compare_files<R: Threads + Wait + Sync + AllocGlobal>(
     rt: &R,
-    tally: &mut Tally,
+    score: &mut Score,
     files: &[&[u8]],
     page: &mut Page,
 ) -> Result<(), Refused> {
@@ -48,9 +48,9 @@ pub fn compare_files<R: Threads + Wait + Sync + AllocGlobal>(
     tell(rt, &filters, older, 1, &mut alone)?;
     let mut by_two = Page::new();
     tell(rt, &filters, older, 2, &mut by_two)?;
-    tally.expect(by_two.bytes() == alone.bytes());
+    score.expect(by_two.bytes() == alone.bytes());
     let mut by_eight = Page::new();
     tell(rt, &filters, older, 8, &mut by_eight)?;
-    tally.expect(by_eight.bytes() == alone.bytes());
+    score.expect(by_eight.bytes() == alone.bytes());
     tell(rt, &filters, older, 1, page)
 }

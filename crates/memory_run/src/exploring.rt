@@ -1,7 +1,7 @@
 //! Books, benches and sheets, and what becomes of them where an allocation is refused.
 
 use crate::books::{BUDGET, are_alike, are_same_pieces, book_after};
-use crate::refused::{MEMORY, Refused, Tally};
+use crate::refused::{MEMORY, Refused, Score};
 use crate::stacks::POLICY;
 use crate::trying::{grow_pools, try_facts};
 use crossbeam_deque::Steal;
@@ -15,12 +15,12 @@ use std::alloc::{AllocError, Global};
 use std::sync::Arc;
 
 /// Leases the first free piece. Where an allocation is refused, the counts of the book have to be as before.
-fn lease(tally: &mut Tally, book: &mut Book) -> Result<Option<Lease>, Refused> {
+fn lease(score: &mut Score, book: &mut Book) -> Result<Option<Lease>, Refused> {
     let before = book.counts();
     match book.lease() {
         Ok(lease) => Ok(lease),
         Err(fault) => {
-            tally.refuse(fault.into(), book.counts() == before);
+            score.refuse(fault.into(), book.counts() == before);
             Ok(book.lease()?)
         }
     }
@@ -30,7 +30,7 @@ fn lease(tally: &mut Tally, book: &mut Book) -> Result<Option<Lease>, Refused> {
 /// another one that took the same works before it, and both then have to take this work.
 fn commit(
     alloc: Global,
-    tally: &mut Tally,
+    score: &mut Score,
     mut book: Book,
     id: u64,
     piece: &Arc<Piece>,
@@ -39,7 +39,7 @@ fn commit(
     match book.commit(id, advance(alloc, piece)?) {
         Ok(None) => Ok(book),
         Ok(Some((f, t))) => {
-            tally.expect(id < f && f < t);
+            score.expect(id < f && f < t);
             book.give_back(f);
             book.give_back(t);
             Ok(book)
@@ -47,7 +47,7 @@ fn commit(
         Err(fault) => {
             let twin = book_after(alloc, piece.stack(), commits)?;
             let is_as_before = are_alike(alloc, book, twin, id, piece)?;
-            tally.expect(is_as_before);
+            score.expect(is_as_before);
             Err(fault.into())
         }
     }
@@ -55,19 +55,19 @@ fn commit(
 
 /// Works all pieces of a book, one after the other, and tries the pool and the facts of each. Gives the book, and on
 /// how many pieces word 0 may be above word 1.
-fn work_off(alloc: Global, tally: &mut Tally, mut book: Book) -> Result<(Book, u32), Refused> {
+fn work_off(alloc: Global, score: &mut Score, mut book: Book) -> Result<(Book, u32), Refused> {
     let mut above = 0u32;
     for _ in 0..BUDGET {
-        let Some(Lease { id, piece }) = lease(tally, &mut book)? else {
+        let Some(Lease { id, piece }) = lease(score, &mut book)? else {
             break;
         };
         if piece.cond_count() == 0 {
-            grow_pools(tally, &piece)?;
+            grow_pools(score, &piece)?;
         }
-        if try_facts(alloc, tally, &piece)? {
+        if try_facts(alloc, score, &piece)? {
             above = above.saturating_add(1);
         }
-        book = commit(alloc, tally, book, id, &piece)?;
+        book = commit(alloc, score, book, id, &piece)?;
     }
     Ok((book, above))
 }
@@ -75,12 +75,12 @@ fn work_off(alloc: Global, tally: &mut Tally, mut book: Book) -> Result<(Book, u
 /// All regions of a stack. Adds the line of what the book counted and of what was tried.
 pub fn settle_stack(
     alloc: Global,
-    tally: &mut Tally,
+    score: &mut Score,
     stack: &Arc<Stack>,
     text: &mut String,
 ) -> Result<Settled, Refused> {
     let opened = Book::open(alloc, Arc::try_clone(stack)?, BUDGET)?;
-    let (book, above) = work_off(alloc, tally, opened)?;
+    let (book, above) = work_off(alloc, score, opened)?;
     let settled = book.finish(stack)?;
     let counts = settled.counts();
     let (left, emptied, commits) = (counts.left, counts.emptied, counts.commits);
@@ -126,7 +126,7 @@ pub fn write_verdicts(alloc: Global, settled: &Settled, text: &mut String) -> Re
 }
 
 /// Puts a lease of the piece on a bench. Where an allocation is refused, the lease has to come back as it was.
-fn put(tally: &mut Tally, owner: &mut Owner, id: u64, piece: &Arc<Piece>) -> Result<(), Refused> {
+fn put(score: &mut Score, owner: &mut Owner, id: u64, piece: &Arc<Piece>) -> Result<(), Refused> {
     let lease = Lease {
         id,
         piece: Arc::try_clone(piece)?,
@@ -135,7 +135,7 @@ fn put(tally: &mut Tally, owner: &mut Owner, id: u64, piece: &Arc<Piece>) -> Res
         return Ok(());
     };
     let refused = Refused { number: MEMORY };
-    tally.refuse(
+    score.refuse(
         refused,
         back.id == id && are_same_pieces(&back.piece, piece),
     );
@@ -150,7 +150,7 @@ const LEASES: u64 = 150;
 
 /// Gets all leases of the bench, by the owner and the thief in turn. They have to come in the order in which they were
 /// put.
-fn get_all(tally: &mut Tally, owner: &mut Owner, thief: &mut Thief) {
+fn get_all(score: &mut Score, owner: &mut Owner, thief: &mut Thief) {
     for id in 0..LEASES {
         let got = if id % 2 == 0 {
             owner.take().map(|lease| lease.id)
@@ -160,24 +160,24 @@ fn get_all(tally: &mut Tally, owner: &mut Owner, thief: &mut Thief) {
                 _ => None,
             }
         };
-        tally.expect(got == Some(id));
+        score.expect(got == Some(id));
     }
-    tally.expect(owner.take().is_none());
+    score.expect(owner.take().is_none());
 }
 
 /// Puts the root of the stack on a bench many times, each time under another id, and gets all leases again.
-pub fn bench_of(alloc: Global, tally: &mut Tally, stack: &Arc<Stack>) -> Result<(), Refused> {
+pub fn bench_of(alloc: Global, score: &mut Score, stack: &Arc<Stack>) -> Result<(), Refused> {
     let mut book = Book::open(alloc, Arc::try_clone(stack)?, 1)?;
-    let Some(root) = lease(tally, &mut book)? else {
-        tally.expect(false);
+    let Some(root) = lease(score, &mut book)? else {
+        score.expect(false);
         return Ok(());
     };
     let (mut owner, mut thieves) = bench(alloc, 1)?;
     for id in 0..LEASES {
-        put(tally, &mut owner, id, &root.piece)?;
+        put(score, &mut owner, id, &root.piece)?;
     }
     if let Some(mut thief) = thieves.pop() {
-        get_all(tally, &mut owner, &mut thief);
+        get_all(score, &mut owner, &mut thief);
     }
     Ok(())
 }

@@ -7,7 +7,7 @@
 
 ghost use Rattle.std.specs.Prelude.{◌<◌, ◌≤◌};
 
-use crate::refused::{MEMORY, Refused, Tally};
+use crate::refused::{MEMORY, Refused, Score};
 use crate::stacks::{FOUR_BITS, stack_in};
 use sf_book::Settled;
 use sf_check::Stack;
@@ -86,11 +86,11 @@ impl Gate for Starving {
 }
 
 /// Counts an exploration: as a refusal, if a worker was starved; and as wrong, if it isn't right.
-fn tell(tally: &mut Tally, starved: bool, is_right: bool) {
+fn tell(score: &mut Score, starved: bool, is_right: bool) {
     if starved {
-        tally.refuse(Refused { number: MEMORY }, is_right);
+        score.refuse(Refused { number: MEMORY }, is_right);
     } else {
-        tally.expect(is_right);
+        score.expect(is_right);
     }
 }
 
@@ -109,7 +109,7 @@ pub fn write_counts(text: &mut String, workers: usize, settled: &Settled) -> Res
 /// for the calling thread.
 fn starve_one<R: Threads + Wait + Sync + AllocGlobal>(
     rt: &R,
-    tally: &mut Tally,
+    score: &mut Score,
     stack: &Arc<Stack>,
     workers: usize,
     text: &mut String,
@@ -125,7 +125,7 @@ fn starve_one<R: Threads + Wait + Sync + AllocGlobal>(
     };
     let settled = explore(rt, rt.alloc(), Arc::try_clone(stack)?, 31, workers, &gate)?;
     let starved = gate.starved.load(Ordering::SeqCst) != 0;
-    tell(tally, starved, gate.strays.load(Ordering::SeqCst) == 0);
+    tell(score, starved, gate.strays.load(Ordering::SeqCst) == 0);
     write_counts(text, workers, &settled)
 }
 
@@ -182,7 +182,7 @@ impl Gate for StarvingAll {
 /// there are commits only where it sees those of the calling thread too.
 fn starve_each<R: Threads + Wait + Sync + AllocGlobal>(
     rt: &R,
-    tally: &mut Tally,
+    score: &mut Score,
     stack: &Arc<Stack>,
     workers: usize,
     text: &mut String,
@@ -192,7 +192,7 @@ fn starve_each<R: Threads + Wait + Sync + AllocGlobal>(
     let gate = StarvingAll::of(rt.alloc(), workers);
     let settled = explore(rt, rt.alloc(), Arc::try_clone(stack)?, 31, workers, &gate)?;
     let starved = gate.starved.load(Ordering::SeqCst) != 0;
-    tell(tally, starved, gate.has_seen(settled.counts().commits));
+    tell(score, starved, gate.has_seen(settled.counts().commits));
     write_counts(text, workers, &settled)
 }
 
@@ -288,7 +288,7 @@ fn data_of(alloc: Global, settled: &Settled) -> Result<String, Refused> {
 /// regions would come first.
 fn starve_half<R: Threads + Wait + Sync + AllocGlobal>(
     rt: &R,
-    tally: &mut Tally,
+    score: &mut Score,
     stack: &Arc<Stack>,
     text: &mut String,
 ) -> Result<(), Refused> {
@@ -307,7 +307,7 @@ fn starve_half<R: Threads + Wait + Sync + AllocGlobal>(
     let on_false = data.as_str() == " 0 1 8 9 10 11 12 13 14 15";
     let on_true = data.as_str() == " 0 1 2 3 4 5 6 7 8 9";
     let starved = gate.has_starved();
-    tell(tally, starved, !starved || on_false || on_true);
+    tell(score, starved, !starved || on_false || on_true);
     let commits = settled.counts().commits;
     write!(text, "workers 2 commits {commits}\n")?;
     Ok(())
@@ -316,15 +316,15 @@ fn starve_half<R: Threads + Wait + Sync + AllocGlobal>(
 /// Makes these explorations, and gives the line of each.
 pub fn starve_all<R: Threads + Wait + Sync + AllocGlobal>(
     rt: &R,
-    tally: &mut Tally,
+    score: &mut Score,
 ) -> Result<String, Refused> {
     let alloc = rt.alloc();
     let mut text = String::new(alloc);
     let stack = Arc::new(alloc, stack_in(alloc, &[FOUR_BITS.as_slice()], &mut text)?)?;
-    starve_one(rt, tally, &stack, 2, &mut text)?;
-    starve_one(rt, tally, &stack, 8, &mut text)?;
-    starve_half(rt, tally, &stack, &mut text)?;
-    starve_each(rt, tally, &stack, 2, &mut text)?;
-    starve_each(rt, tally, &stack, 8, &mut text)?;
+    starve_one(rt, score, &stack, 2, &mut text)?;
+    starve_one(rt, score, &stack, 8, &mut text)?;
+    starve_half(rt, score, &stack, &mut text)?;
+    starve_each(rt, score, &stack, 2, &mut text)?;
+    starve_each(rt, score, &stack, 8, &mut text)?;
     Ok(text)
 }

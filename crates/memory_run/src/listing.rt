@@ -3,7 +3,7 @@
 ghost use Rattle.std.specs.Prelude.{◌≤◌, ◌<◌};
 
 use crate::auditing::{Page, push_filters};
-use crate::refused::{Refused, Tally};
+use crate::refused::{Refused, Score};
 use sf_crew::Open;
 use sf_list::{list, write_listing};
 use sf_names::read_names;
@@ -37,7 +37,7 @@ fn tell<R: Threads + Wait + Sync + AllocGlobal>(
 /// Writes the rows that one worker finds, of the stack of these files. Two and eight workers have to find the same.
 pub fn list_files<R: Threads + Wait + Sync + AllocGlobal>(
     rt: &R,
-    tally: &mut Tally,
+    score: &mut Score,
     files: &[&[u8]],
     page: &mut Page,
 ) -> Result<(), Refused> {
@@ -47,9 +47,9 @@ pub fn list_files<R: Threads + Wait + Sync + AllocGlobal>(
     tell(rt, &filters, 1, &mut alone)?;
     let mut by_two = Page::new();
     tell(rt, &filters, 2, &mut by_two)?;
-    tally.expect(by_two.bytes() == alone.bytes());
+    score.expect(by_two.bytes() == alone.bytes());
     let mut by_eight = Page::new();
     tell(rt, &filters, 8, &mut by_eight)?;
-    tally.expect(by_eight.bytes() == alone.bytes());
+    score.expect(by_eight.bytes() == alone.bytes());
     tell(rt, &filters, 1, page)
 }

@@ -29,7 +29,7 @@ use crate::failing::starve_all;
 use crate::filling::fill_bench;
 use crate::listing::list_files;
 use crate::profiling::profile_text;
-use crate::refused::{Refused, Tally};
+use crate::refused::{Refused, Score};
 use crate::stacks::{DIVIDES, LOGIN, MASKS, NO_X32, TWO_BITS, stack_in};
 use std::io;
 use std::sync::{Arc, Wait};
@@ -54,35 +54,35 @@ enum Part {
 /// What all calls on the stack of these files answer.
 fn calls_on<R: Threads + Wait + Sync + AllocGlobal>(
     rt: &R,
-    tally: &mut Tally,
+    score: &mut Score,
     files: &[&[u8]],
     page: &mut Page,
 ) -> Result<String, Refused> {
     let alloc = rt.alloc();
     let mut text = String::new(alloc);
     let stack = Arc::new(alloc, stack_in(alloc, files, &mut text)?)?;
-    bench_of(alloc, tally, &stack)?;
-    let settled = settle_stack(alloc, tally, &stack, &mut text)?;
+    bench_of(alloc, score, &stack)?;
+    let settled = settle_stack(alloc, score, &stack, &mut text)?;
     write_verdicts(alloc, &settled, &mut text)?;
-    audit_files(rt, tally, files, page)?;
-    compare_files(rt, tally, files, page)?;
-    list_files(rt, tally, files, page)?;
+    audit_files(rt, score, files, page)?;
+    compare_files(rt, score, files, page)?;
+    list_files(rt, score, files, page)?;
     Ok(text)
 }
 
 /// What the calls of a part answer. `files` are those of its stack, if it takes one.
 fn all_of<R: Threads + Wait + Sync + AllocGlobal>(
     rt: &R,
-    tally: &mut Tally,
+    score: &mut Score,
     part: Part,
     files: &[&[u8]],
     page: &mut Page,
 ) -> Result<String, Refused> {
     match part {
         Part::Refusals => refusals(rt),
-        Part::Calls => calls_on(rt, tally, files, page),
+        Part::Calls => calls_on(rt, score, files, page),
         Part::Profile => profile_text(rt.alloc()),
-        Part::Workers => starve_all(rt, tally),
+        Part::Workers => starve_all(rt, score),
         Part::Bench => fill_bench(rt),
     }
 }
@@ -90,35 +90,35 @@ fn all_of<R: Threads + Wait + Sync + AllocGlobal>(
 /// Shows what the calls of a part answer. Where memory runs out, all of them are made a second time.
 fn show<R: Print + Threads + Wait + Sync + AllocGlobal>(
     rt: &R,
-    tally: &mut Tally,
+    score: &mut Score,
     part: Part,
     name: &str,
     files: &[&[u8]],
 ) -> io::Result<()> {
     for _time in 0..2 {
         let mut page = Page::new();
-        match all_of(rt, tally, part, files, &mut page) {
+        match all_of(rt, score, part, files, &mut page) {
             Ok(text) => {
                 print!(rt; "{name}\n{text}{}", page.text())?;
                 return Ok(());
             }
-            Err(refused) => tally.refuse(refused, true),
+            Err(refused) => score.refuse(refused, true),
         }
     }
     println!(rt; "{name}: no memory")
 }
 
 fn main(rt: HostRuntime) -> io::Result<()> {
-    let mut tally = Tally {
+    let mut score = Score {
         refused: 0,
         wrong: 0,
     };
-    show(&rt, &mut tally, Part::Bench, "bench", &[])?;
-    show(&rt, &mut tally, Part::Refusals, "none", &[])?;
-    show(&rt, &mut tally, Part::Calls, "login", &[LOGIN.as_slice()])?;
+    show(&rt, &mut score, Part::Bench, "bench", &[])?;
+    show(&rt, &mut score, Part::Refusals, "none", &[])?;
+    show(&rt, &mut score, Part::Calls, "login", &[LOGIN.as_slice()])?;
     show(
         &rt,
-        &mut tally,
+        &mut score,
         Part::Calls,
         "divides",
         &[DIVIDES.as_slice()],
@@ -130,8 +130,8 @@ fn main(rt: HostRuntime) -> io::Result<()> {
         TWO_BITS.as_slice(),
         LOGIN.as_slice(),
     ];
-    show(&rt, &mut tally, Part::Calls, "five", &five)?;
-    show(&rt, &mut tally, Part::Profile, "profile", &[])?;
-    show(&rt, &mut tally, Part::Workers, "workers", &[])?;
-    println!(rt; "{} refused, {} wrong", tally.refused, tally.wrong)
+    show(&rt, &mut score, Part::Calls, "five", &five)?;
+    show(&rt, &mut score, Part::Profile, "profile", &[])?;
+    show(&rt, &mut score, Part::Workers, "workers", &[])?;
+    println!(rt; "{} refused, {} wrong", score.refused, score.wrong)
 }

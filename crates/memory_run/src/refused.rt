@@ -14,14 +14,14 @@ pub const MEMORY: u16 = 60;
 
 /// How many calls got no memory, and how often something was wrong.
 #[derive(Drop)]
-pub struct Tally {
+pub struct Score {
     /// How many calls got no memory.
     pub refused: u64,
     /// How often a call answered or left something wrong.
     pub wrong: u64,
 }
 
-impl Tally {
+impl Score {
     /// Counts a fault. It has to be refused memory, and what the call was made on has to be as it was (`is_same`).
     pub fn refuse(&mut self, refused: Refused, is_same: bool) {
         self.refused = self.refused.saturating_add(1);

@@ -4,7 +4,7 @@ ghost use Rattle.std.specs.Prelude.{◌<◌, length, IfSome};
 ghost use Rattle.sf_sym.specs.Pool.{IsCondBelow};
 ghost use Rattle.sf_dom.specs.Facts.{Covers};
 
-use crate::refused::{Refused, Tally};
+use crate::refused::{Refused, Score};
 use sf_dom::Facts;
 use sf_insn::Test;
 use sf_piece::Piece;
@@ -26,11 +26,11 @@ pub fn are_same(left: &Pool, right: &Pool) -> bool {
 
 /// Pushes a number to the pool. Where an allocation is refused, the pool has to keep the nodes that it had, which are
 /// those of `before`.
-fn push(tally: &mut Tally, pool: &mut Pool, before: &Pool, number: u32) -> Result<NodeId, Refused> {
+fn push(score: &mut Score, pool: &mut Pool, before: &Pool, number: u32) -> Result<NodeId, Refused> {
     match pool.push(Node::Const(number)) {
         Ok(id) => Ok(id),
         Err(fault) => {
-            tally.refuse(fault.into(), are_same(&*pool, before));
+            score.refuse(fault.into(), are_same(&*pool, before));
             Ok(pool.push(Node::Const(number))?)
         }
     }
@@ -40,22 +40,22 @@ fn push(tally: &mut Tally, pool: &mut Pool, before: &Pool, number: u32) -> Resul
 const NUMBERS: u32 = 70;
 
 /// Pushes the same numbers to two forks of the piece's pool, which have to stay the same.
-pub fn grow_pools(tally: &mut Tally, piece: &Piece) -> Result<(), Refused> {
+pub fn grow_pools(score: &mut Score, piece: &Piece) -> Result<(), Refused> {
     let mut left = piece.pool().fork()?;
     let mut right = left.fork()?;
     for number in 0..NUMBERS {
-        let one = push(tally, &mut left, &right, number + 1000)?;
+        let one = push(score, &mut left, &right, number + 1000)?;
         let before = right.len();
         let other = match right.push(Node::Const(number + 1000)) {
             Ok(id) => id,
             Err(fault) => {
-                tally.refuse(fault.into(), right.len() == before);
+                score.refuse(fault.into(), right.len() == before);
                 right.push(Node::Const(number + 1000))?
             }
         };
-        tally.expect(one == other);
+        score.expect(one == other);
     }
-    tally.expect(are_same(&left, &right));
+    score.expect(are_same(&left, &right));
     Ok(())
 }
 
@@ -63,7 +63,7 @@ pub fn grow_pools(tally: &mut Tally, piece: &Piece) -> Result<(), Refused> {
 /// they were.
 fn learn(
     alloc: Global,
-    tally: &mut Tally,
+    score: &mut Score,
     facts: &mut Facts,
     pool: &Pool,
     cond: &Cond,
@@ -75,11 +75,11 @@ fn learn(
     let before = facts.fork()?;
     match facts.learn(alloc, pool, cond) {
         Ok(taken) => {
-            tally.expect(taken || facts.is_same(&before));
+            score.expect(taken || facts.is_same(&before));
             Ok(taken)
         }
         Err(fault) => {
-            tally.refuse(fault.into(), facts.is_same(&before));
+            score.refuse(fault.into(), facts.is_same(&before));
             Ok(facts.learn(alloc, pool, cond)?)
         }
     }
@@ -114,7 +114,7 @@ fn confine_once(
 /// as they were.
 fn confine(
     alloc: Global,
-    tally: &mut Tally,
+    score: &mut Score,
     facts: &mut Facts,
     pool: &Pool,
     limit: Limit,
@@ -125,30 +125,30 @@ fn confine(
     let before = facts.fork()?;
     match confine_once(alloc, facts, pool, limit) {
         Ok(taken) => {
-            tally.expect(taken || facts.is_same(&before));
+            score.expect(taken || facts.is_same(&before));
             Ok(taken)
         }
         Err(fault) => {
-            tally.refuse(fault.into(), facts.is_same(&before));
+            score.refuse(fault.into(), facts.is_same(&before));
             Ok(confine_once(alloc, facts, pool, limit)?)
         }
     }
 }
 
 /// Takes in a number that a fork of the piece's pool got. The facts have to differ from the piece's then.
-fn grow(alloc: Global, tally: &mut Tally, piece: &Piece) -> Result<(), Refused> {
+fn grow(alloc: Global, score: &mut Score, piece: &Piece) -> Result<(), Refused> {
     let mut pool = piece.pool().fork()?;
     let before = pool.fork()?;
-    let _id = push(tally, &mut pool, &before, 2000)?;
+    let _id = push(score, &mut pool, &before, 2000)?;
     let mut facts = piece.facts().fork()?;
     let grown = match facts.grow(alloc, &pool) {
         Ok(grown) => grown,
         Err(fault) => {
-            tally.refuse(fault.into(), facts.is_same(piece.facts()));
+            score.refuse(fault.into(), facts.is_same(piece.facts()));
             facts.grow(alloc, &pool)?
         }
     };
-    tally.expect(grown && !facts.is_same(piece.facts()));
+    score.expect(grown && !facts.is_same(piece.facts()));
     Ok(())
 }
 
@@ -166,33 +166,33 @@ fn zero_of(pool: &Pool) -> Option<NodeId>
 
 /// Learns on a fork of the piece's facts that word 3 is even, at most 1000 and not 0; 2 has to be the least number that
 /// is left. Then says whether word 0 may be above word 1. The piece reads no word 3.
-pub fn try_facts(alloc: Global, tally: &mut Tally, piece: &Piece) -> Result<bool, Refused> {
-    grow(alloc, tally, piece)?;
+pub fn try_facts(alloc: Global, score: &mut Score, piece: &Piece) -> Result<bool, Refused> {
+    grow(alloc, score, piece)?;
     let pool = piece.pool();
     if pool.len() < 17 {
-        tally.expect(false);
+        score.expect(false);
         return Ok(false);
     }
     let Some(zero) = zero_of(pool) else {
-        tally.expect(false);
+        score.expect(false);
         return Ok(false);
     };
     let mut facts = piece.facts().fork()?;
-    let is_low = confine(alloc, tally, &mut facts, pool, Limit::Low)?;
-    let is_even = confine(alloc, tally, &mut facts, pool, Limit::Even)?;
+    let is_low = confine(alloc, score, &mut facts, pool, Limit::Low)?;
+    let is_even = confine(alloc, score, &mut facts, pool, Limit::Even)?;
     let not_0 = Cond {
         node: NodeId(3),
         test: Test::Equal,
         other: zero,
         sense: false,
     };
-    let is_more = learn(alloc, tally, &mut facts, pool, &not_0)?;
-    tally.expect(is_low && is_even && is_more && facts.least(3) == Some(2));
+    let is_more = learn(alloc, score, &mut facts, pool, &not_0)?;
+    score.expect(is_low && is_even && is_more && facts.least(3) == Some(2));
     let above = Cond {
         node: NodeId(0),
         test: Test::Greater,
         other: NodeId(1),
         sense: true,
     };
-    learn(alloc, tally, &mut facts, pool, &above)
+    learn(alloc, score, &mut facts, pool, &above)
 }

@@ -112,12 +112,12 @@ no_probe = record { question = 0; low = 0; high = 0 }
 
 -- What is so of each of the first probes whose bit isn't set is so of one probe more, where the bits that were set stay
 -- set, and it is so of that probe, or its bit is set.
-pub marked-more : (P : ℕ → Type 0) (probes : List Probe) (old new : List ℕ) (i : ℕ) (d : Probe) → i < length probes
+pub added-more : (P : ℕ → Type 0) (probes : List Probe) (old new : List ℕ) (i : ℕ) (d : Probe) → i < length probes
     → ((q : ℕ) → has_bit new q ≡ false → has_bit old q ≡ false)
     → All (λ (p : Probe). has_bit old p.question ≡ false → P p.question) (take i probes)
     → (has_bit new (get_or probes i d).question ≡ false → P (get_or probes i d).question)
     → All (λ (p : Probe). has_bit new p.question ≡ false → P p.question) (take (i + 1) probes)
-marked-more P probes old new i d l kept before here =
+added-more P probes old new i d l kept before here =
     let Old : Probe → Type 0 = λ p. has_bit old p.question ≡ false → P p.question in
     let New : Probe → Type 0 = λ p. has_bit new p.question ≡ false → P p.question in
     All-more New probes i d l (λ k e lk none. before k e lk (kept (get_or (take i probes) k e).question none)) here

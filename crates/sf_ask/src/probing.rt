@@ -28,7 +28,7 @@ fn is_left_to_judge(facts: &Facts, questions: &[Question], action: Action, probe
 }
 
 /// Sets in `left` the bits of the probes' questions that are left.
-fn mark_left(
+fn add_questions_left(
     facts: &Facts,
     questions: &[Question],
     action: Action,
@@ -38,7 +38,7 @@ fn mark_left(
     requires known { 16 ≤ length facts.now.known }
     requires questions { length questions.now ≤ 256 }
     requires probes { All (IsProbeIn questions.now) probes.now }
-    ensures marked { All (λ (p : AProbe). has_bit left.new p.question ≡ false
+    ensures added { All (λ (p : AProbe). has_bit left.new p.question ≡ false
         → IsRuledOutIfAsked facts.now questions.now action p.question) probes.now }
     ensures kept { (q : ℕ) → has_bit left.new q ≡ false → has_bit left.old q ≡ false }
 {
@@ -64,9 +64,9 @@ fn questions_left(
     let call = facts.known(NodeId(0));
     let mut left = [0u64; 4];
     let others = probes.others.as_slice();
-    mark_left(facts, questions, action, others, &mut left);
+    add_questions_left(facts, questions, action, others, &mut left);
     let by_call = probes.probes_of_calls(call.low, call.high);
-    mark_left(facts, questions, action, by_call, &mut left);
+    add_questions_left(facts, questions, action, by_call, &mut left);
     left
 }
 

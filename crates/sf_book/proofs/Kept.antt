@@ -10,7 +10,7 @@ use Rattle.sf_run.specs.declared.action.Answer.{Answer}
 use Rattle.sf_check.specs.declared.insn.Insn.{Insn}
 use Rattle.sf_check.specs.Stacks.{IsLawfulStack}
 use Rattle.sf_book.specs.PartitionLaws.{prefix-refl}
-use Rattle.sf_book.specs.PrefixCounts.{bit, hits}
+use Rattle.sf_book.specs.PrefixCounts.{bit, prefix_bit}
 use Rattle.sf_book.proofs.Names.{prefix-append}
 use Rattle.sf_book.proofs.MapLemmas.{some_inj}
 use Rattle.sf_piece.specs.Pieces.{PieceData, WorkData, is_prefix, IsTrulyNamed, IsRightSplit, IsRightAnswer, HasNoMember, IsRoot}
@@ -95,12 +95,12 @@ no_child : (b : BookData) (p : PieceData) (i : ℕ) (d : OutstandingData) (n : L
     → i < length b.outstanding → (get_or b.outstanding i d).piece.name ≡ p.name
     → is_prefix p.name n ≡ true → (p.name ≡ n → ⊥) → All (λ e. e.piece.name ≡ n → ⊥) b.outstanding
 no_child b p i d n h l is begins other = λ j e lj same.
-    let m : OutstandingData → ℕ = λ x. hits x.piece.name n in
+    let m : OutstandingData → ℕ = λ x. prefix_bit x.piece.name n in
     let apart : i ≡ j → ⊥ = search (arith, get_or_default) in
     let two : m (get_or b.outstanding i d) + m (get_or b.outstanding j e) ≤ sum_by m b.outstanding =
     two_places m b.outstanding i j d e l lj apart in
-    let first : m (get_or b.outstanding i d) ≡ 1 = ap (λ k. hits k n) is ∙ ap bit begins in
-    let second : m (get_or b.outstanding j e) ≡ 1 = ap (λ k. hits k n) same ∙ ap bit (prefix-refl n) in
+    let first : m (get_or b.outstanding i d) ≡ 1 = ap (λ k. prefix_bit k n) is ∙ ap bit begins in
+    let second : m (get_or b.outstanding j e) ≡ 1 = ap (λ k. prefix_bit k n) same ∙ ap bit (prefix-refl n) in
     let before = h.apart n in
     absurd (omega arith)
 

@@ -15,8 +15,8 @@ use Rattle.sf_check.specs.Stacks.{IsLawfulStack}
 use Rattle.sf_run.specs.declared.action.Answer.{Answer}
 use Rattle.sf_piece.specs.Pieces.{PieceData, is_member, IsTrulyNamed, IsRightSplit, IsRightAnswer, HasNoMember, IsRoot}
 use Rattle.sf_book.specs.Books.{OutstandingData, RegionData, BookData, IsOutstanding, IsRightRegion, IsNoBeginning, HasRisingIds, IsLawfulBook, fresh}
-use Rattle.sf_book.specs.PrefixCounts.{bit, hits}
-use Rattle.sf_book.proofs.Names.{split_members, split_names, same_members, answer_members, answer_begins, hits-le}
+use Rattle.sf_book.specs.PrefixCounts.{bit, prefix_bit}
+use Rattle.sf_book.proofs.Names.{split_members, split_names, same_members, answer_members, answer_begins, prefix_bit-le}
 use Rattle.sf_book.proofs.Lists.{remove_without, HasRisingIds-filter, HasRisingIds-push, HasRisingIds-map, sum_by-map_same}
 
 -- what is known of the place whose piece a commit replaces
@@ -54,8 +54,8 @@ members_left : (b : BookData) (p : PieceData) (i : ℕ) (e : OutstandingData) �
 members_left b p i e h r d n = grind (arith, common_steps, sum_by-remove, same_there)
 
 names_left : (b : BookData) (p : PieceData) (i : ℕ) (e : OutstandingData) → IsReplaced b p i e → (l : List Bool)
-    → sum_by (λ x. hits x.piece.name l) (remove b.outstanding i) + hits p.name l
-    ≡ sum_by (λ x. hits x.piece.name l) b.outstanding
+    → sum_by (λ x. prefix_bit x.piece.name l) (remove b.outstanding i) + prefix_bit p.name l
+    ≡ sum_by (λ x. prefix_bit x.piece.name l) b.outstanding
 names_left b p i e r l = grind (arith, common_steps, sum_by-remove)
 
 abbrev pub leased_piece : ℕ → PieceData → OutstandingData
@@ -96,12 +96,12 @@ split_lawful b p f t i j k e h r s below jk =
           omega arith;
       emptied = h.emptied;
       apart = λ l.
-          let m : OutstandingData → ℕ = λ x. hits x.piece.name l in
-          let out : sum_by m es + hits p.name l ≡ sum_by m b.outstanding = names_left b p i e r l in
+          let m : OutstandingData → ℕ = λ x. prefix_bit x.piece.name l in
+          let out : sum_by m es + prefix_bit p.name l ≡ sum_by m b.outstanding = names_left b p i e r l in
           let first : sum_by m (es ++ F ∷ []) ≡ sum_by m es + m F = sum_by_push m es F in
           let second : sum_by m ((es ++ F ∷ []) ++ T ∷ []) ≡ sum_by m (es ++ F ∷ []) + m T =
           sum_by_push m (es ++ F ∷ []) T in
-          let both : m F + m T ≤ hits p.name l = split_names p f t s l in
+          let both : m F + m T ≤ prefix_bit p.name l = split_names p f t s l in
           let before = h.apart l in
           omega arith;
       pieces = let before = h.pieces in omega arith;
@@ -141,11 +141,11 @@ answer_lawful b p n a i e h r s =
           omega arith;
       emptied = h.emptied;
       apart = λ l.
-          let m : OutstandingData → ℕ = λ x. hits x.piece.name l in
-          let g : RegionData → ℕ = λ x. hits x.name l in
-          let out : sum_by m es + hits p.name l ≡ sum_by m b.outstanding = names_left b p i e r l in
+          let m : OutstandingData → ℕ = λ x. prefix_bit x.piece.name l in
+          let g : RegionData → ℕ = λ x. prefix_bit x.name l in
+          let out : sum_by m es + prefix_bit p.name l ≡ sum_by m b.outstanding = names_left b p i e r l in
           let added : sum_by g (b.regions ++ R ∷ []) ≡ sum_by g b.regions + g R = sum_by_push g b.regions R in
-          let less : hits n l ≤ hits p.name l = hits-le p.name n l (answer_begins p n a s) in
+          let less : prefix_bit n l ≤ prefix_bit p.name l = prefix_bit-le p.name n l (answer_begins p n a s) in
           let before = h.apart l in
           omega arith;
       pieces = let before = h.pieces in omega arith;
@@ -177,9 +177,9 @@ empty_lawful b p i e h r s =
           omega arith;
       emptied = All-push (IsNoBeginning b.stack) b.emptied p.name h.emptied gone;
       apart = λ l.
-          let m : OutstandingData → ℕ = λ x. hits x.piece.name l in
-          let g : List Bool → ℕ = λ x. hits x l in
-          let out : sum_by m es + hits p.name l ≡ sum_by m b.outstanding = names_left b p i e r l in
+          let m : OutstandingData → ℕ = λ x. prefix_bit x.piece.name l in
+          let g : List Bool → ℕ = λ x. prefix_bit x l in
+          let out : sum_by m es + prefix_bit p.name l ≡ sum_by m b.outstanding = names_left b p i e r l in
           let added : sum_by g (b.emptied ++ p.name ∷ []) ≡ sum_by g b.emptied + g p.name =
           sum_by_push g b.emptied p.name in
           let before = h.apart l in
@@ -208,9 +208,9 @@ marks_lawful b g ids pieces h =
       one = search (arith, sum_by-map_same);
       emptied = h.emptied;
       apart = λ l.
-          let m : OutstandingData → ℕ = λ x. hits x.piece.name l in
+          let m : OutstandingData → ℕ = λ x. prefix_bit x.piece.name l in
           let same : sum_by m (map g b.outstanding) ≡ sum_by m b.outstanding =
-          sum_by-map_same m g (λ e. ap (λ p. hits p.name l) (pieces e)) b.outstanding in
+          sum_by-map_same m g (λ e. ap (λ p. prefix_bit p.name l) (pieces e)) b.outstanding in
           let before = h.apart l in
           omega arith;
       pieces = let before = h.pieces in omega arith;
@@ -235,7 +235,7 @@ permuted_lawful b rs p h =
       one = search (arith, sum_by-IsPermutation);
       emptied = h.emptied;
       apart = λ l.
-          let g : RegionData → ℕ = λ x. hits x.name l in
+          let g : RegionData → ℕ = λ x. prefix_bit x.name l in
           let same : sum_by g rs ≡ sum_by g b.regions = sum_by-IsPermutation g b.regions rs p in
           let before = h.apart l in
           omega arith;

@@ -6,7 +6,7 @@ use Rattle.sf_insn.specs.Inputs.{IsInput}
 use Rattle.sf_run.specs.declared.action.Answer.{Answer}
 use Rattle.sf_run.specs.Machine.{trace_of}
 use Rattle.sf_book.specs.PartitionLaws.{prefix-refl}
-use Rattle.sf_book.specs.PrefixCounts.{bit, hits}
+use Rattle.sf_book.specs.PrefixCounts.{bit, prefix_bit}
 use Rattle.sf_piece.specs.Pieces.{PieceData, is_member, is_prefix, IsTrulyNamed, IsRightSplit, IsRightAnswer}
 
 pub bit-le : (b : Bool) → bit b ≤ 1
@@ -19,27 +19,28 @@ prefix-append (true ∷ bs) r = prefix-append bs r
 prefix-append (false ∷ bs) r = prefix-append bs r
 
 -- what begins with a longer name begins with the shorter one
-pub hits-le : (m n t : List Bool) → is_prefix m n ≡ true → hits n t ≤ hits m t
-hits-le [] n t h = bit-le (is_prefix n t)
-hits-le (b ∷ m) [] t h = absurd (cc)
-hits-le (b ∷ m) (c ∷ n) [] h = omega arith
-hits-le (true ∷ m) (true ∷ n) (true ∷ t) h = hits-le m n t h
-hits-le (true ∷ m) (true ∷ n) (false ∷ t) h = omega arith
-hits-le (true ∷ m) (false ∷ n) (e ∷ t) h = absurd (cc)
-hits-le (false ∷ m) (true ∷ n) (e ∷ t) h = absurd (cc)
-hits-le (false ∷ m) (false ∷ n) (true ∷ t) h = omega arith
-hits-le (false ∷ m) (false ∷ n) (false ∷ t) h = hits-le m n t h
+pub prefix_bit-le : (m n t : List Bool) → is_prefix m n ≡ true → prefix_bit n t ≤ prefix_bit m t
+prefix_bit-le [] n t h = bit-le (is_prefix n t)
+prefix_bit-le (b ∷ m) [] t h = absurd (cc)
+prefix_bit-le (b ∷ m) (c ∷ n) [] h = omega arith
+prefix_bit-le (true ∷ m) (true ∷ n) (true ∷ t) h = prefix_bit-le m n t h
+prefix_bit-le (true ∷ m) (true ∷ n) (false ∷ t) h = omega arith
+prefix_bit-le (true ∷ m) (false ∷ n) (e ∷ t) h = absurd (cc)
+prefix_bit-le (false ∷ m) (true ∷ n) (e ∷ t) h = absurd (cc)
+prefix_bit-le (false ∷ m) (false ∷ n) (true ∷ t) h = omega arith
+prefix_bit-le (false ∷ m) (false ∷ n) (false ∷ t) h = prefix_bit-le m n t h
 
 -- at most one of two children is a beginning, and only where the parent is
-hits-children : (q t : List Bool) → hits (q ++ false ∷ []) t + hits (q ++ true ∷ []) t ≤ hits q t
-hits-children [] [] = omega arith
-hits-children [] (true ∷ t) = omega arith
-hits-children [] (false ∷ t) = omega arith
-hits-children (b ∷ q) [] = omega arith
-hits-children (true ∷ q) (true ∷ t) = hits-children q t
-hits-children (true ∷ q) (false ∷ t) = omega arith
-hits-children (false ∷ q) (true ∷ t) = omega arith
-hits-children (false ∷ q) (false ∷ t) = hits-children q t
+prefix_bit-children : (q t : List Bool) → prefix_bit (q ++ false ∷ []) t
+    + prefix_bit (q ++ true ∷ []) t ≤ prefix_bit q t
+prefix_bit-children [] [] = omega arith
+prefix_bit-children [] (true ∷ t) = omega arith
+prefix_bit-children [] (false ∷ t) = omega arith
+prefix_bit-children (b ∷ q) [] = omega arith
+prefix_bit-children (true ∷ q) (true ∷ t) = prefix_bit-children q t
+prefix_bit-children (true ∷ q) (false ∷ t) = omega arith
+prefix_bit-children (false ∷ q) (true ∷ t) = omega arith
+prefix_bit-children (false ∷ q) (false ∷ t) = prefix_bit-children q t
 
 below_none : (a b : Bool) → bit a ≤ bit b → b ≡ false → a ≡ false
 below_none true true l h = absurd (cc)
@@ -47,7 +48,7 @@ below_none true false l h = absurd (omega arith)
 below_none false b l h = refl
 
 pub longer_misses : (m n t : List Bool) → is_prefix m n ≡ true → is_prefix m t ≡ false → is_prefix n t ≡ false
-longer_misses m n t h = below_none (is_prefix n t) (is_prefix m t) (hits-le m n t h)
+longer_misses m n t h = below_none (is_prefix n t) (is_prefix m t) (prefix_bit-le m n t h)
 
 -- pieces of one stack with one name have the same members
 pub same_members : (p q : PieceData) → IsTrulyNamed p → IsTrulyNamed q → p.stack ≡ q.stack → p.name ≡ q.name
@@ -77,8 +78,8 @@ split_members p f t np s d i =
 
 -- the children's names take no more room than the piece's
 pub split_names : (p f t : PieceData) → IsRightSplit p f t → (l : List Bool)
-    → hits f.name l + hits t.name l ≤ hits p.name l
-split_names p f t s l = search (arith, hits-children, hits-le, prefix-append)
+    → prefix_bit f.name l + prefix_bit t.name l ≤ prefix_bit p.name l
+split_names p f t s l = search (arith, prefix_bit-children, prefix_bit-le, prefix-append)
 
 settled : (m : Bool) (p e w : List Bool) → m ≡ is_prefix p w → is_prefix p e ≡ true → (m ≡ true → w ≡ e)
     → m ≡ is_prefix e w

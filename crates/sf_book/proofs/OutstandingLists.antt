@@ -18,7 +18,7 @@ use Rattle.std.proofs.lemmas.List.Elements.{All-head, All-tail, All-nil, All-con
 use Rattle.sf_piece.specs.Pieces.{PieceData}
 use Rattle.sf_book.specs.Books.{OutstandingData}
 use Rattle.sf_book.specs.Changes.{outstanding_at, with_lease_at, without}
-use Rattle.sf_book.specs.ChangeLaws.{all_at}
+use Rattle.sf_book.specs.ChangesLaws.{all_at}
 use Rattle.sf_book.specs.OutstandingMaps.{name_cmp, piece_at, lease_state_of, outstanding_of, outstanding_list, AreMatchingMaps}
 use Rattle.sf_book.specs.declared.outstanding.LeaseState.{LeaseState}
 use Rattle.sf_book.proofs.Lists.{without-above}

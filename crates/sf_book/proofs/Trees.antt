@@ -20,7 +20,7 @@ use Rattle.sf_piece.specs.Pieces.{is_prefix}
 use Rattle.sf_book.specs.Books.{RegionData, OutstandingData, BookData, IsSettled}
 use Rattle.sf_book.specs.NameOrderLaws.{strictly_in_order}
 use Rattle.sf_book.specs.PartitionLaws.{some_there, prefix-refl}
-use Rattle.sf_book.specs.PrefixCounts.{bit, hits}
+use Rattle.sf_book.specs.PrefixCounts.{bit, prefix_bit}
 use Rattle.sf_book.specs.Unfoldings.{Unfolding, Outstanding, Region, Emptied, Fork, HaveSameElements, IsFringe, IsRegionOf, IsSameRegion, AreSameRegions, HaveOneResult, top_of, IsPieceOf, HasSides, IsUnfolding, outstanding_in, emptied_in, regions_in, forks_in}
 
 -- the same ends and forks
@@ -241,7 +241,8 @@ results-one one b c s t h k e x y =
     let trees = trees-one one b.stack h.tree k.tree h.unfolds
     (subst (λ (z : List (List Insn)). IsUnfolding z k.tree) (sym e) k.unfolds) (h.first ∙ sym k.first)
     (none-in b h x) (none-in c k y) in
-    let few : (b : BookData) → IsSettled b → (n : List Bool) → sum_by (λ (r : RegionData). hits r.name n) b.regions ≤ 1
+    let few : (b : BookData) → IsSettled b → (n : List Bool)
+    → sum_by (λ (r : RegionData). prefix_bit r.name n) b.regions ≤ 1
     = λ b s n. let a = s.lawful.apart n in omega arith in
     let emptied = same-through b.emptied (emptied_in h.tree) (emptied_in k.tree) c.emptied h.emptied trees.emptied
     k.emptied in

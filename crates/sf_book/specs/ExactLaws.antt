@@ -21,7 +21,7 @@ use Rattle.sf_piece.specs.Pieces.{is_member, is_prefix}
 use Rattle.sf_book.specs.Books.{OutstandingData, RegionData, BookData, IsOutstanding, IsRightRegion, IsLawfulBook, IsSettled, members_of}
 use Rattle.sf_book.specs.Exact.{HasMember, HasMembers, IsWorkedOff}
 use Rattle.sf_book.specs.PartitionLaws.{some_there}
-use Rattle.sf_book.specs.PrefixCounts.{bit, hits}
+use Rattle.sf_book.specs.PrefixCounts.{bit, prefix_bit}
 use Rattle.sf_book.specs.NameOrderLaws.{strictly_in_order}
 
 -- ---- sums over rows and columns
@@ -71,15 +71,15 @@ sum_of_sums h (x ∷ xs) ys =
 
 -- a name with which a feasible trace begins is hit by it
 some_hit : (name : List Bool) (ts : List (List Bool)) (t : List Bool) → Contains ts t → is_prefix name t ≡ true
-    → 1 ≤ sum_by (λ t. hits name t) ts
+    → 1 ≤ sum_by (λ t. prefix_bit name t) ts
 some_hit name ts t c begins =
-    let at : hits name (get_or ts c.0 t) ≤ sum_by (λ t. hits name t) ts =
-    get_or-le-sum_by (λ t. hits name t) ts c.0 t c.1 in
-    let one : hits name (get_or ts c.0 t) ≡ 1 = ap (λ k. hits name k) c.2 ∙ ap bit begins in
+    let at : prefix_bit name (get_or ts c.0 t) ≤ sum_by (λ t. prefix_bit name t) ts =
+    get_or-le-sum_by (λ t. prefix_bit name t) ts c.0 t c.1 in
+    let one : prefix_bit name (get_or ts c.0 t) ≡ 1 = ap (λ k. prefix_bit name k) c.2 ∙ ap bit begins in
     omega arith
 
 outstanding_hit : (b : BookData) (ts : List (List Bool)) → IsLawfulBook b → HasMembers b → AreFeasibleTraces b.stack ts
-    → All (λ (e : OutstandingData). 1 ≤ sum_by (λ t. hits e.piece.name t) ts) b.outstanding
+    → All (λ (e : OutstandingData). 1 ≤ sum_by (λ t. prefix_bit e.piece.name t) ts) b.outstanding
 outstanding_hit b ts h m f = λ k d less.
     let e = get_or b.outstanding k d in
     let o : IsOutstanding b.stack e = h.outstanding k d less in
@@ -91,7 +91,7 @@ outstanding_hit b ts h m f = λ k d less.
     ((f.exactly (trace_of b.stack some.0)).1 (some.0, some.1, refl)) begins
 
 regions_hit : (b : BookData) (ts : List (List Bool)) → IsLawfulBook b → HasMembers b → AreFeasibleTraces b.stack ts
-    → All (λ (r : RegionData). 1 ≤ sum_by (λ t. hits r.name t) ts) b.regions
+    → All (λ (r : RegionData). 1 ≤ sum_by (λ t. prefix_bit r.name t) ts) b.regions
 regions_hit b ts h m f = λ k d less.
     let r = get_or b.regions k d in
     let right : IsRightRegion b.stack r = h.regions k d less in
@@ -105,19 +105,19 @@ one_for_each_trace b h m =
     let ts = feasible_traces b.stack in
     let f = feasible_are b.stack in
     let es : length b.outstanding ≤ sum_by (λ (e : OutstandingData).
-    sum_by (λ t. hits e.piece.name t) ts) b.outstanding =
-    at_least_one_each (λ (e : OutstandingData). sum_by (λ t. hits e.piece.name t) ts) b.outstanding
+    sum_by (λ t. prefix_bit e.piece.name t) ts) b.outstanding =
+    at_least_one_each (λ (e : OutstandingData). sum_by (λ t. prefix_bit e.piece.name t) ts) b.outstanding
     (outstanding_hit b ts h m f) in
-    let rs : length b.regions ≤ sum_by (λ (r : RegionData). sum_by (λ t. hits r.name t) ts) b.regions =
-    at_least_one_each (λ (r : RegionData). sum_by (λ t. hits r.name t) ts) b.regions (regions_hit b ts h m f) in
-    let ec = sum_of_sums (λ (e : OutstandingData) t. hits e.piece.name t) b.outstanding ts in
-    let rc = sum_of_sums (λ (r : RegionData) t. hits r.name t) b.regions ts in
-    let both = sum_of_both (λ t. sum_by (λ (e : OutstandingData). hits e.piece.name t) b.outstanding)
-    (λ t. sum_by (λ (r : RegionData). hits r.name t) b.regions)
-    (λ t. sum_by (λ (e : OutstandingData). hits e.piece.name t) b.outstanding
-    + sum_by (λ (r : RegionData). hits r.name t) b.regions) (λ t. refl) ts in
-    let few = at_most_one_each (λ t. sum_by (λ (e : OutstandingData). hits e.piece.name t) b.outstanding
-    + sum_by (λ (r : RegionData). hits r.name t) b.regions)
+    let rs : length b.regions ≤ sum_by (λ (r : RegionData). sum_by (λ t. prefix_bit r.name t) ts) b.regions =
+    at_least_one_each (λ (r : RegionData). sum_by (λ t. prefix_bit r.name t) ts) b.regions (regions_hit b ts h m f) in
+    let ec = sum_of_sums (λ (e : OutstandingData) t. prefix_bit e.piece.name t) b.outstanding ts in
+    let rc = sum_of_sums (λ (r : RegionData) t. prefix_bit r.name t) b.regions ts in
+    let both = sum_of_both (λ t. sum_by (λ (e : OutstandingData). prefix_bit e.piece.name t) b.outstanding)
+    (λ t. sum_by (λ (r : RegionData). prefix_bit r.name t) b.regions)
+    (λ t. sum_by (λ (e : OutstandingData). prefix_bit e.piece.name t) b.outstanding
+    + sum_by (λ (r : RegionData). prefix_bit r.name t) b.regions) (λ t. refl) ts in
+    let few = at_most_one_each (λ t. sum_by (λ (e : OutstandingData). prefix_bit e.piece.name t) b.outstanding
+    + sum_by (λ (r : RegionData). prefix_bit r.name t) b.regions)
     (λ t. let a = h.apart t in omega arith) ts in
     omega arith
 
@@ -189,7 +189,7 @@ worked_off b s m none =
     let f = feasible_are b.stack in
     let h = s.lawful in
     let names = map (λ (r : RegionData). r.name) b.regions in
-    let few : (t : List Bool) → sum_by (λ (r : RegionData). hits r.name t) b.regions ≤ 1 = λ t. let a =
+    let few : (t : List Bool) → sum_by (λ (r : RegionData). prefix_bit r.name t) b.regions ≤ 1 = λ t. let a =
     h.apart t in omega arith in
     let order = strictly_in_order b.regions s.order few in
     let same : names ≡ ts = one_order names ts order f.order (name_feasible b ts h m f) (trace_named b ts h f none) in

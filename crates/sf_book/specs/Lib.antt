@@ -1,7 +1,7 @@
 pub mod Numbers
 pub mod Books
 pub mod Changes
-pub mod ChangeLaws
+pub mod ChangesLaws
 pub mod OutstandingMaps
 pub mod Partition
 pub mod PrefixCounts

@@ -11,7 +11,7 @@ use Rattle.sf_run.specs.Feasible.{AreInNameOrder}
 use Rattle.sf_run.specs.FeasibleLaws.{names_total, names_exact, before_all}
 use Rattle.sf_book.specs.Books.{RegionData, IsInNameOrder}
 use Rattle.sf_book.specs.PartitionLaws.{prefix-refl}
-use Rattle.sf_book.specs.PrefixCounts.{bit, hits}
+use Rattle.sf_book.specs.PrefixCounts.{bit, prefix_bit}
 
 -- how two names compare
 abbrev cmp : List Bool → List Bool → Ordering
@@ -28,14 +28,14 @@ before m n low other = by (cmp m n) (cmp n m) refl (names_total.antisymm n m) lo
 
 -- names in order of which no list begins with two are strictly in order
 pub strictly_in_order : (rs : List RegionData) → IsInNameOrder rs
-    → ((t : List Bool) → sum_by (λ (r : RegionData). hits r.name t) rs ≤ 1)
+    → ((t : List Bool) → sum_by (λ (r : RegionData). prefix_bit r.name t) rs ≤ 1)
     → AreInNameOrder (map (λ (r : RegionData). r.name) rs)
 unfolding IsStrictlySortedBy
 strictly_in_order [] order few = tt
 strictly_in_order (r ∷ []) order few = (tt, tt)
 strictly_in_order (r ∷ q ∷ rs) order few =
-    let all = λ (t : List Bool). sum_by-cons (λ (r : RegionData). hits r.name t) r (q ∷ rs) in
-    let more = λ (t : List Bool). sum_by-cons (λ (r : RegionData). hits r.name t) q rs in
+    let all = λ (t : List Bool). sum_by-cons (λ (r : RegionData). prefix_bit r.name t) r (q ∷ rs) in
+    let more = λ (t : List Bool). sum_by-cons (λ (r : RegionData). prefix_bit r.name t) q rs in
     let rest = strictly_in_order (q ∷ rs)
     (λ k d low less. let o = order (suc k) d (omega arith) (omega arith) in
     let e : suc k + 1 ≡ suc (k + 1) = omega arith in rw e at o)
@@ -44,8 +44,8 @@ strictly_in_order (r ∷ q ∷ rs) order few =
     let a = all r.name in
     let b = more r.name in
     let f = few r.name in
-    let one : hits r.name r.name ≡ 1 = ap bit (prefix-refl r.name) in
-    let two : hits q.name r.name ≡ 1 = ap (λ k. hits k r.name) (sym e) ∙ one in
+    let one : prefix_bit r.name r.name ≡ 1 = ap bit (prefix-refl r.name) in
+    let two : prefix_bit q.name r.name ≡ 1 = ap (λ k. prefix_bit k r.name) (sym e) ∙ one in
     omega arith in
     let first : cmp r.name q.name ≡ Less = before r.name q.name (order 0 r (omega arith) (omega arith)) other in
     ((first, before_all r.name q.name (map (λ (r : RegionData). r.name) rs) first rest.0), rest)

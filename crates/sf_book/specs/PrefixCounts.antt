@@ -7,5 +7,5 @@ abbrev pub bit : Bool → ℕ
 bit b = cond b 1 0
 
 -- 1 where the list begins with the name
-abbrev pub hits : List Bool → List Bool → ℕ
-hits n t = bit (is_prefix n t)
+abbrev pub prefix_bit : List Bool → List Bool → ℕ
+prefix_bit n t = bit (is_prefix n t)

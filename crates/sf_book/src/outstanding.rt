@@ -217,7 +217,7 @@ fn key_at(by_id: &BTreeMap<u64, NameKey>, i: usize) -> &NameKey
 /// Puts a piece under an id, or leaves all as it was.
 fn put_id(by_id: &mut BTreeMap<u64, NameKey>, id: u64, piece: NameKey) -> Result<(), Fault>
     ensures updates { OnOk result (Updates nat_cmp by_id.old by_id.new id (Some piece)) }
-    ensures entries { OnOk result (by_id.new.entries
+    ensures inserted { OnOk result (by_id.new.entries
         ≡ insert_entry nat_cmp by_id.old.entries id piece) }
     ensures err { IfErr result (λ f. (f ≡ Memory) × (by_id.new.entries ≡ by_id.old.entries)) }
     ensures ordered { IsOrdered nat_cmp by_id.new }

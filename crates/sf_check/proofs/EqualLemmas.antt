@@ -12,7 +12,7 @@ use Rattle.std.proofs.lemmas.List.Sorted.{All-permutation, Contains-permutation}
 use Rattle.sf_check.specs.declared.insn.Insn.{Insn}
 use Rattle.sf_check.specs.Insns.{targets}
 use Rattle.sf_check.specs.Programs.{AllBelow, IsAt}
-use Rattle.sf_check.specs.EqualTests.{AsksFor, IsEqualTest, ArePassed, LeadsOn, IsInChain, AreChains, test_key, IsTestKey, AreTestKeys, LeadInside}
+use Rattle.sf_check.specs.EqualTests.{AsksFor, IsEqualTest, AreSkipped, LeadsOn, IsInChain, AreChains, test_key, IsTestKey, AreTestKeys, LeadInside}
 use Rattle.sf_check.specs.Joining.{AreJoined, IsReached}
 
 -- an instruction asks for one number at most
@@ -50,28 +50,28 @@ tests_inside code inside at k next t =
 -- ---- skipping tests
 
 -- m tests are skipped, and then n more
-pub passed_more : (code : List Insn) (number m n place middle behind : ℕ) → ArePassed code number m place middle
-    → ArePassed code number n middle behind → ArePassed code number (m + n) place behind
-passed_more code number zero n place middle behind some more =
+pub skipped_more : (code : List Insn) (number m n place middle behind : ℕ) → AreSkipped code number m place middle
+    → AreSkipped code number n middle behind → AreSkipped code number (m + n) place behind
+skipped_more code number zero n place middle behind some more =
     let e : 0 + n ≡ n = omega arith in
-    rw e (subst (λ (p : ℕ). ArePassed code number n p behind) some more)
-passed_more code number (suc m) n place middle behind some more =
+    rw e (subst (λ (p : ℕ). AreSkipped code number n p behind) some more)
+skipped_more code number (suc m) n place middle behind some more =
     let e : suc m + n ≡ suc (m + n) = omega arith in
-    rw e (some.0, some.1, some.2, some.3, passed_more code number m n some.1 middle behind some.4 more)
+    rw e (some.0, some.1, some.2, some.3, skipped_more code number m n some.1 middle behind some.4 more)
 
 -- m tests are skipped, then one, and then n more
-pub passed_one_more : (code : List Insn) (number m n all k place at next behind : ℕ)
-    → ArePassed code number m place at → k ≢ number → IsEqualTest code at k next
-    → ArePassed code number n next behind → all ≡ m + (1 + n) → ArePassed code number all place behind
-passed_one_more code number m n all k place at next behind some other test more is =
-    grind (arith, common_steps, passed_more)
+pub skipped_one_more : (code : List Insn) (number m n all k place at next behind : ℕ)
+    → AreSkipped code number m place at → k ≢ number → IsEqualTest code at k next
+    → AreSkipped code number n next behind → all ≡ m + (1 + n) → AreSkipped code number all place behind
+skipped_one_more code number m n all k place at next behind some other test more is =
+    grind (arith, common_steps, skipped_more)
 
 -- ---- going on in a chain
 
 -- going on along a chain leads to a place that is reached
 walked : (code : List Insn) (chains steps lasts : List ℕ) (number fuel p t : ℕ) → AreChains code chains steps lasts
     → t ≤ p + fuel → IsReached code chains p number t
-    → (n : ℕ) × (slice_index steps t ≡ slice_index steps p + n) × (p + n ≤ t) × ArePassed code number n p t
+    → (n : ℕ) × (slice_index steps t ≡ slice_index steps p + n) × (p + n ≤ t) × AreSkipped code number n p t
 walked code chains steps lasts number zero p t are fuelled reached =
     let e : t ≡ p = omega (arith, fuelled, reached.from) in
     (0, rw e (omega arith), omega (arith, reached.from), e)
@@ -98,20 +98,20 @@ walked code chains steps lasts number (suc fuel) p t are fuelled reached = elim 
 ]
 
 -- what a look-up finds: the tests between are skipped, and their number is a difference of steps
-pub record IsPassed (code : List Insn) (steps : List ℕ) (place number behind : ℕ) : Type 0 where
+pub record IsSkippedTo (code : List Insn) (steps : List ℕ) (place number behind : ℕ) : Type 0 where
   pub forward : slice_index steps place ≤ slice_index steps behind
-  pub passed : ArePassed code number (slice_index steps behind - slice_index steps place) place behind
+  pub skipped : AreSkipped code number (slice_index steps behind - slice_index steps place) place behind
   pub on : place + (slice_index steps behind - slice_index steps place) ≤ behind
 
-pub passed_to : (code : List Insn) (chains steps lasts : List ℕ) (place number at : ℕ)
+pub skipped_to : (code : List Insn) (chains steps lasts : List ℕ) (place number at : ℕ)
     → AreChains code chains steps lasts → IsReached code chains place number at
-    → IsPassed code steps place number at
-passed_to code chains steps lasts place number at are reached =
+    → IsSkippedTo code steps place number at
+skipped_to code chains steps lasts place number at are reached =
     let walk = walked code chains steps lasts number at place at are (omega arith) reached in
     let e : walk.0 ≡ slice_index steps at - slice_index steps place = omega (arith, walk.1) in
     record {
       forward = omega (arith, walk.1);
-      passed = subst (λ (n : ℕ). ArePassed code number n place at) e walk.3;
+      skipped = subst (λ (n : ℕ). AreSkipped code number n place at) e walk.3;
       on = omega (arith, walk.1, walk.2);
     }
 
@@ -206,7 +206,7 @@ joined_by code chains steps lasts chains' steps' lasts' place next number chain 
     each_chain = by.each_chain ∙ are.each_chain;
     each_step = by.each_step ∙ are.each_step;
     each_last = by.each_last ∙ are.each_last;
-    member = λ p within. member p within (cases_eq p next);
+    each_place = λ p within. each_place p within (cases_eq p next);
     on = λ p q before within same. (pairs p q before within same).1;
   };
   front = λ p q before within same. (pairs p q before within same).0;
@@ -219,7 +219,7 @@ joined_by code chains steps lasts chains' steps' lasts' place next number chain 
     further = omega (arith, test.leads)
 
     this : IsInChain code chains steps lasts place
-    this = are.member place (omega (arith, further, inside))
+    this = are.each_place place (omega (arith, further, inside))
 
     begins : chain ≤ place
     begins = omega (arith, this.begins, by.chain_is)
@@ -233,13 +233,13 @@ joined_by code chains steps lasts chains' steps' lasts' place next number chain 
     -- no place below the one that is joined is in a chain of its number
     none_single : (p : ℕ) → p < next → slice_index chains p ≡ next → ⊥
     none_single p before same =
-        let old = are.member p (omega (arith, before, inside)) in
+        let old = are.each_place p (omega (arith, before, inside)) in
         omega (arith, before, same, old.begins)
 
     mine : (p : ℕ) → p ≢ next → p ≤ place → slice_index chains p ≡ chain
         → IsInChain code chains' steps' lasts' p
     mine p ne before e =
-        let old = are.member p (omega (arith, before, further, inside)) in
+        let old = are.each_place p (omega (arith, before, further, inside)) in
         let e' : slice_index chains' p ≡ chain = by.old_chain p ne ∙ e in
         record {
           begins = omega (arith, e', e, old.begins);
@@ -252,7 +252,7 @@ joined_by code chains steps lasts chains' steps' lasts' place next number chain 
     others : (p : ℕ) → p ≢ next → p < length code → slice_index chains p ≢ chain
         → IsInChain code chains' steps' lasts' p
     others p ne within apart =
-        let old = are.member p within in
+        let old = are.each_place p within in
         let c = slice_index chains p in
         let l = slice_index lasts c in
         let e' : slice_index chains' p ≡ c = by.old_chain p ne in
@@ -275,9 +275,9 @@ joined_by code chains steps lasts chains' steps' lasts' place next number chain 
       same = rw (by.new_chain, by.new_last) by.new_chain;
     }
 
-    member : (p : ℕ) → p < length code → (p ≡ next) ⊎ (p ≡ next → ⊥) → IsInChain code chains' steps' lasts' p
-    member p within (inl e) = subst (IsInChain code chains' steps' lasts') (sym e) itself
-    member p within (inr ne) = elim (cases_eq (slice_index chains p) chain) [
+    each_place : (p : ℕ) → p < length code → (p ≡ next) ⊎ (p ≡ next → ⊥) → IsInChain code chains' steps' lasts' p
+    each_place p within (inl e) = subst (IsInChain code chains' steps' lasts') (sym e) itself
+    each_place p within (inr ne) = elim (cases_eq (slice_index chains p) chain) [
       | inl e ↦ elim (cases_lt place p) [
         | inl behind ↦ absurd (none_behind p behind within e)
         | inr before ↦ mine p ne before e
@@ -360,7 +360,7 @@ joined_one code chains steps lasts place next number joined test inside single =
     let chain = slice_index chains place in
     let step = slice_index steps place + 1 in
     let further : place < next = omega (arith, test.leads) in
-    let this = are.member place (omega (arith, further, inside)) in
+    let this = are.each_place place (omega (arith, further, inside)) in
     joined_by code chains steps lasts (set chains next chain) (set steps next step) (set lasts chain next) place next
     number chain joined test inside single (record {
       chain_is = refl;

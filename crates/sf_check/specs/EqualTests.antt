@@ -23,15 +23,15 @@ pub record IsEqualTest (code : List Insn) (at number next : ℕ) : Type 0 where
 
 -- This many equal tests lead from `place` to `behind`: each stands where the one before it leads when it fails. Each
 -- asks for a number other than this one; where A is this number, all of them fail.
-abbrev pub ArePassed : List Insn → ℕ → ℕ → ℕ → ℕ → Type 0
-ArePassed code number zero place behind = behind ≡ place
-ArePassed code number (suc n) place behind =
-    (k : ℕ) × (next : ℕ) × (k ≢ number) × IsEqualTest code place k next × ArePassed code number n next behind
+abbrev pub AreSkipped : List Insn → ℕ → ℕ → ℕ → ℕ → Type 0
+AreSkipped code number zero place behind = behind ≡ place
+AreSkipped code number (suc n) place behind =
+    (k : ℕ) × (next : ℕ) × (k ≢ number) × IsEqualTest code place k next × AreSkipped code number n next behind
 
 -- `count` equal tests, each for a number other than this one, lead from `place` to `behind`. That is a place of the
 -- program, and no equal test for another number stands there.
 pub record IsBehindOthers (code : List Insn) (place number count behind : ℕ) : Type 0 where
-  pub passed : ArePassed code number count place behind
+  pub skipped : AreSkipped code number count place behind
   pub inside : behind < length code
   pub ends : (k next : ℕ) → IsEqualTest code behind k next → k ≡ number
 
@@ -62,7 +62,7 @@ pub record AreChains (code : List Insn) (chains steps lasts : List ℕ) : Type 0
   pub each_chain : length chains ≡ length code
   pub each_step : length steps ≡ length code
   pub each_last : length lasts ≡ length code
-  pub member : (p : ℕ) → p < length code → IsInChain code chains steps lasts p
+  pub each_place : (p : ℕ) → p < length code → IsInChain code chains steps lasts p
   pub on : (p q : ℕ) → p < q → q < length code → slice_index chains p ≡ slice_index chains q
       → LeadsOn code chains steps p q
 

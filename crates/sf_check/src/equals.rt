@@ -3,7 +3,7 @@
 
 ghost use Rattle.std.specs.Prelude.{◌≡◌, ◌≢◌, ◌+◌, ◌-◌, ◌<◌, ◌≤◌, ℕ, length, slice_index, IfOk, IfErr, IfSome, IfNone};
 ghost use Rattle.std.specs.List.Sorted.{IsNonDecreasing, IsPartitionPoint};
-ghost use Rattle.sf_check.specs.EqualTests.{IsEqualTest, ArePassed, IsBehindOthers, AreChains, AreTestKeys, AreEqualTests, LeadInside, test_key};
+ghost use Rattle.sf_check.specs.EqualTests.{IsEqualTest, AreSkipped, IsBehindOthers, AreChains, AreTestKeys, AreEqualTests, LeadInside, test_key};
 ghost use Rattle.sf_check.specs.Joining.{AreJoined, AreOwn, IsReached};
 
 use crate::fault::Fault;
@@ -31,7 +31,7 @@ pub(crate) struct EqualTests {
 
 /// Tests that are skipped, since each of them fails and leads to the next one.
 #[derive(Clone, Copy, Debug, PartialEq, Eq)]
-pub struct Passed {
+pub struct Skipped {
     /// How many there are.
     pub count: usize,
     /// The place to which the last of them leads; where there is none, the place that was asked about.
@@ -222,23 +222,23 @@ impl EqualTests {
 
     /// Skips the tests for other numbers in the chain of a place, from there on, by a look-up. Where the chain ends
     /// soon (`SHORT`), it skips none: the caller then looks at each test.
-    fn skip_in_chain(&self, insns: &[Insn], place: usize, number: u32) -> Passed
+    fn skip_in_chain(&self, insns: &[Insn], place: usize, number: u32) -> Skipped
         requires tables { AreEqualTests insns.now self.now.keys.items self.now.chains.items
             self.now.steps.items self.now.lasts.items }
         requires inside { place < length insns.now }
-        ensures passed { ArePassed insns.now number result.count place result.behind }
+        ensures skipped { AreSkipped insns.now number result.count place result.behind }
         ensures inside { result.behind < length insns.now }
         ensures on { place + result.count ≤ result.behind }
     {
         let last = self.lasts[self.chains[place] as usize] as usize;
         if last - place <= SHORT {
-            return Passed {
+            return Skipped {
                 count: 0,
                 behind: place,
             };
         }
         let behind = find_test_or_last(insns, &self.keys, &self.chains, place, last, number);
-        Passed {
+        Skipped {
             count: self.steps_between(place, behind),
             behind,
         }
@@ -246,13 +246,13 @@ impl EqualTests {
 
     /// Skips the tests for other numbers from a place on, each of which stands where the one before it leads when it
     /// fails. They may be in several chains. No test for another number stands at the place behind them.
-    pub(crate) fn skip_others(&self, insns: &[Insn], place: usize, number: u32) -> Passed
+    pub(crate) fn skip_others(&self, insns: &[Insn], place: usize, number: u32) -> Skipped
         requires tables { AreEqualTests insns.now self.now.keys.items self.now.chains.items
             self.now.steps.items self.now.lasts.items }
         requires inside { place < length insns.now }
         ensures { IsBehindOthers insns.now place number result.count result.behind }
     {
-        let Passed {
+        let Skipped {
             mut count,
             mut behind,
         } = self.skip_in_chain(insns, place, number);
@@ -261,6 +261,6 @@ impl EqualTests {
             count += 1 + more.count;
             behind = more.behind;
         }
-        Passed { count, behind }
+        Skipped { count, behind }
     }
 }

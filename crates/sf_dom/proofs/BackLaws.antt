@@ -19,7 +19,7 @@ use Rattle.sf_dom.specs.Passes.{AreClosed}
 use Rattle.sf_dom.specs.GoingBack.{with_bits, gained, WritingGives, GoingBackGivesIn, GoingBackGives}
 use Rattle.sf_dom.specs.Propagation.{IsNarrowed}
 use Rattle.sf_dom.specs.Backward.{IsPropagatedBack}
-use Rattle.sf_dom.proofs.Backs.{walked-hands, walked-on, gained-same}
+use Rattle.sf_dom.proofs.Backs.{back-hands, back-on, gained-same}
 use Rattle.sf_dom.proofs.RuleLaws.{again}
 use Rattle.std.proofs.lemmas.List.{set-get_or}
 use Rattle.sf_dom.proofs.ConstantOperands.{IsOperand, is-operand}
@@ -168,10 +168,10 @@ back-still (suc m) ks ex ns at p l li closed back = elim (some-or-none (constant
         )
         | inl swap ↦
             let older = (is-operand ns at o p li e).older in
-            let hands = walked-hands ks ns at o.1 o.2 o.0 e swap back in
+            let hands = back-hands ks ns at o.1 o.2 o.0 e swap back in
             let same = gained-same o.0 o.2 (known_at ks at) (known_at ks o.1) hands in
             let rest = back-still m ks ex ns o.1 p (omega arith) (omega arith) closed
-            (walked-on ks ns at o.1 o.2 o.0 e swap back) in
+            (back-on ks ns at o.1 o.2 o.0 e swap back) in
             let left = again (IsClosedAt ex o.1) (known_at ks o.1) (closed o.1 (omega arith)) in (
               suc rest.0,
               (

@@ -14,36 +14,37 @@ use Rattle.sf_dom.specs.GoingBack.{with_bits, gained}
 use Rattle.sf_dom.proofs.Bits.{bits-of-or_right, or-same}
 
 -- what is propagated back from an operand that has its node's bits is propagated back from the node
-pub walked-step : (ks : List Known) (ns : List Node) (at x c : ℕ) (op : BinOp)
+pub back-step : (ks : List Known) (ns : List Node) (at x c : ℕ) (op : BinOp)
     → constant_operand_of ns (node_at ns at) ≡ Some (op, x, c)
     → HandsOn op c (known_at ks at) (known_at ks x) → ((n : ℕ) → IsPropagatedBack n ks ns x) → (n : ℕ)
     → IsPropagatedBack n ks ns at
-walked-step ks ns at x c op e h more zero = tt
-walked-step ks ns at x c op e h more (suc n) = rw e (λ s. (h, more n))
+back-step ks ns at x c op e h more zero = tt
+back-step ks ns at x c op e h more (suc n) = rw e (λ s. (h, more n))
 
 -- the other way round: where bits have gone back from a node, its operand has them, and they have gone back from there
-pub walked-hands : (ks : List Known) (ns : List Node) (at x c : ℕ) (op : BinOp)
+pub back-hands : (ks : List Known) (ns : List Node) (at x c : ℕ) (op : BinOp)
     → constant_operand_of ns (node_at ns at) ≡ Some (op, x, c) → IsSwappable op
     → ((n : ℕ) → IsPropagatedBack n ks ns at) → HandsOn op c (known_at ks at) (known_at ks x)
-walked-hands ks ns at x c op e s h = ((rw e at (h 1)) s).0
+back-hands ks ns at x c op e s h = ((rw e at (h 1)) s).0
 
-pub walked-on : (ks : List Known) (ns : List Node) (at x c : ℕ) (op : BinOp)
+pub back-on : (ks : List Known) (ns : List Node) (at x c : ℕ) (op : BinOp)
     → constant_operand_of ns (node_at ns at) ≡ Some (op, x, c) → IsSwappable op
     → ((n : ℕ) → IsPropagatedBack n ks ns at) → (n : ℕ) → IsPropagatedBack n ks ns x
-walked-on ks ns at x c op e s h n = ((rw e at (h (suc n))) s).1
+back-on ks ns at x c op e s h n = ((rw e at (h (suc n))) s).1
 
 -- backward propagation ends at a node of which not exactly one operand is a constant
-pub walked-end : (ks : List Known) (ns : List Node) (at : ℕ) → constant_operand_of ns (node_at ns at) ≡ None → (n : ℕ)
+pub goes_back-end : (ks : List Known) (ns : List Node) (at : ℕ)
+    → constant_operand_of ns (node_at ns at) ≡ None → (n : ℕ)
     → IsPropagatedBack n ks ns at
-walked-end ks ns at e zero = tt
-walked-end ks ns at e (suc n) = rw e tt
+goes_back-end ks ns at e zero = tt
+goes_back-end ks ns at e (suc n) = rw e tt
 
 -- backward propagation ends at an operation that hands on no bits
-pub walked-other : (ks : List Known) (ns : List Node) (at x c : ℕ) (op : BinOp)
+pub goes_back-other : (ks : List Known) (ns : List Node) (at x c : ℕ) (op : BinOp)
     → constant_operand_of ns (node_at ns at) ≡ Some (op, x, c)
     → ¬ IsSwappable op → (n : ℕ) → IsPropagatedBack n ks ns at
-walked-other ks ns at x c op e never zero = tt
-walked-other ks ns at x c op e never (suc n) = rw e (λ s. absurd (never s))
+goes_back-other ks ns at x c op e never zero = tt
+goes_back-other ks ns at x c op e never (suc n) = rw e (λ s. absurd (never s))
 
 -- where the bits of a node are known of its operand, the operand gains nothing
 bits-same : (k : Known) (z o : ℕ) → AreBitsOf z k.zeros → AreBitsOf o k.ones → with_bits k z o ≡ k

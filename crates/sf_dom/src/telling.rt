@@ -191,7 +191,7 @@ pub(crate) fn tell_node(
         → AgreesWith nodes.now.known excluded.now pool.now d
         → TestGives test (value_of pool.now d at) number b) }
     ensures rule { IsForcing nodes.now.known excluded.now pool.now at test number result }
-    ensures walked { IfSome result (λ b. (n : ℕ)
+    ensures goes_back { IfSome result (λ b. (n : ℕ)
         → IsPropagatedBack n nodes.now.known pool.now at) }
     ensures none { IfNone result (IsOpenAt nodes.now.known excluded.now pool.now at test number
         ⊎ ¬ ((n : ℕ) → IsPropagatedBack n nodes.now.known pool.now at)) }

@@ -9,7 +9,7 @@ use Rattle.sf_check.specs.declared.insn.Insn.{Insn}
 use Rattle.sf_check.specs.declared.insn.Insn.TheVariants.{LoadWord}
 use Rattle.sf_check.specs.declared.insn.Operand.TheVariants.{Constant}
 use Rattle.sf_check.specs.Programs.{IsAt}
-use Rattle.sf_check.specs.EqualTests.{ArePassed}
+use Rattle.sf_check.specs.EqualTests.{AreSkipped}
 use Rattle.sf_dom.specs.declared.known.Known.{Known}
 use Rattle.sf_dom.specs.Known.{Admits}
 use Rattle.sf_dom.specs.Rules.{assumed, IsClosed}
@@ -99,7 +99,7 @@ other_number k m n low high ne = record {
 
 -- tests for other numbers than the one that A has fail
 pub others_fail : (code : List Insn) (known : Known) (number n place behind : ℕ)
-    → known.low ≡ number → known.high ≡ number → ArePassed code number n place behind
+    → known.low ≡ number → known.high ≡ number → AreSkipped code number n place behind
     → AreFailing code known n place behind
 others_fail code known number zero place behind low high passed = passed
 others_fail code known number (suc n) place behind low high passed =
@@ -115,7 +115,7 @@ others_fail code known number (suc n) place behind low high passed =
         forced = λ closed. other_number known number passed.0 low high passed.2;
       },
       others_fail code known number n (place + 1 + test.skips) behind low high
-          (subst (λ (p : ℕ). ArePassed code number n p behind) test.leads passed.4),
+          (subst (λ (p : ℕ). AreSkipped code number n p behind) test.leads passed.4),
     )
   where
     only : (x : ℕ) → Admits known x → x ≡ number

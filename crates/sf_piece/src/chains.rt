@@ -11,7 +11,7 @@ ghost use Rattle.sf_piece.specs.Works.{HasGoneOn, IsFailing, AreFailing, IsAProp
 
 use crate::fault::Fault;
 use crate::run::Run;
-use sf_check::{Insn, Operand, Passed, Program};
+use sf_check::{Insn, Operand, Program, Skipped};
 use sf_dom::Known;
 use sf_insn::Test;
 
@@ -30,13 +30,13 @@ fn failing_skips(insn: Insn, known: Known) -> Option<u8>
 /// Skips tests that are known to fail, from `place` on. Each asks whether A equals a number, and stands where the one
 /// before it leads when it fails. If A has only one number, the program looks them up. If A may have several, none is
 /// skipped, and the caller looks at each instruction.
-fn skip_failing(program: &Program, place: usize, known: Known) -> Passed
+fn skip_failing(program: &Program, place: usize, known: Known) -> Skipped
     requires { place < length program.now }
     ensures { AreFailing program.now known result.count place result.behind }
 {
     match known.decided() {
         Some(number) => program.skip_others(place, number),
-        None => Passed {
+        None => Skipped {
             count: 0,
             behind: place,
         },
@@ -45,7 +45,7 @@ fn skip_failing(program: &Program, place: usize, known: Known) -> Passed
 
 /// All tests in a row, from the machine's place on, that are known to fail: each asks whether A equals a number, and
 /// stands where the one before it leads when it fails. `known` is what is known of A.
-fn failing_chain(run: &Run, known: Known) -> Passed
+fn failing_chain(run: &Run, known: Known) -> Skipped
     requires lawful { IsLawfulPiece run.now }
     requires known { known ≡ known_at run.now.facts.known run.now.machine.a.0 }
     ensures gone { HasGoneOn run.now (behind_chain run.now result.count result.behind) }
@@ -54,19 +54,19 @@ fn failing_chain(run: &Run, known: Known) -> Passed
 {
     let first = run.machine.place;
     let Some(program) = run.program() else {
-        return Passed {
+        return Skipped {
             count: 0,
             behind: first,
         };
     };
     let code = program.insns();
     if failing_skips(code[first], known).is_none() {
-        return Passed {
+        return Skipped {
             count: 0,
             behind: first,
         };
     }
-    let Passed {
+    let Skipped {
         mut count,
         mut behind,
     } = skip_failing(program, first, known);
@@ -74,7 +74,7 @@ fn failing_chain(run: &Run, known: Known) -> Passed
         count += 1;
         behind += 1 + skips as usize;
     }
-    Passed { count, behind }
+    Skipped { count, behind }
 }
 
 /// Goes on over the tests of A that come now and are known to fail, as most tests of a chain are. A false for each of

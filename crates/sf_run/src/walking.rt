@@ -129,7 +129,7 @@ fn push_meeting(
 /// value. `Memory` where an allocation is refused.
 pub fn walk(alloc: Global, program: &Program, input: &Input) -> Result<Course, Fault>
     // It is the run of the definition.
-    ensures told { IfOk result (λ w. walk_of program.now input.now
+    ensures course { IfOk result (λ w. walk_of program.now input.now
         ≡ Some (course w.met.items w.place w.value)) }
 
     // It has the value that the program returns, and the truth values that the program meets.

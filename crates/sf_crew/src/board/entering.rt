@@ -15,7 +15,7 @@ impl Board {
     /// lower.
     fn enter_hits(&self, seat: &mut atomic_table::Seat<u8, View>, sheet: &Sheet)
         requires table { seat.old.table_id ≡ board_id self.now }
-        requires matter { (sheet.now.settled ≡ regions_of (about self.now))
+        requires same { (sheet.now.settled ≡ regions_of (about self.now))
             × (sheet.now.questions ≡ questions_of (about self.now)) }
         ensures table { seat.new.table_id ≡ seat.old.table_id }
         ensures carried { seat.new.me.1 ≡ seat.old.me.1 }

@@ -8,8 +8,8 @@ use Rattle.sf_ask.specs.declared.probe.Probe.{Probe}
 use Rattle.sf_ask.proofs.ProbeLemmas.{call-misses}
 use Rattle.sf_ask.proofs.probing.questions_left.Goals as goal
 
-pub mark_left-requires-2-clause-probes : goal.mark_left-requires-2-clause-probes
-mark_left-requires-2-clause-probes c = λ k d l.
+pub add_questions_left-requires-2-clause-probes : goal.add_questions_left-requires-2-clause-probes
+add_questions_left-requires-2-clause-probes c = λ k d l.
     All-contains (IsProbeIn c.args.questions.now) c.args.probes.now.by_call.items _ c.requires.probes.each.right_calls
     (c.probes_of_calls-by_call.ensures.only _ (Contains-get_or c.probes_of_calls-by_call.result.now k d l))
 
@@ -20,7 +20,7 @@ returns c = λ q l none.
     let action = c.args.action in
     let probes = c.requires.probes.each in
     let P = IsRuledOutIfAsked f questions action in
-    let left : Probe → Type 0 = λ p. has_bit c.mark_left-2.new.left p.question ≡ false → P p.question in
+    let left : Probe → Type 0 = λ p. has_bit c.add_questions_left-2.new.left p.question ≡ false → P p.question in
     let word = c.known-call.ensures in
     elim (probes.each q l) [
       | inl has ↦
@@ -31,14 +31,16 @@ returns c = λ q l none.
             | inl below ↦ call-misses f questions action p is one (inl below)
             | inr from ↦ elim (cases_lt (known_at f.known 0).high p.low) [
               | inl above ↦ call-misses f questions action p is one (inr above)
-              | inr to ↦ All-contains left c.probes_of_calls-by_call.result.now p c.mark_left-2.ensures.marked
+              | inr to ↦ All-contains left c.probes_of_calls-by_call.result.now p c.add_questions_left-2.ensures.added
                   (c.probes_of_calls-by_call.ensures.all p has.1 (rw word from) (rw word to))
-                  (subst (λ x. has_bit c.mark_left-2.new.left x ≡ false) (sym has.2) none)
+                  (subst (λ x. has_bit c.add_questions_left-2.new.left x ≡ false) (sym has.2) none)
             ]
           ])
       | inr has ↦
-          let first = c.mark_left-2.ensures.kept q none in
-          subst P has.2 (All-contains (λ (p : Probe). has_bit c.mark_left.new.left p.question ≡ false → P p.question)
-          c.args.probes.now.others.items has.0 (rw c.as_slice-others.ensures.value at c.mark_left.ensures.marked) has.1
-          (subst (λ x. has_bit c.mark_left.new.left x ≡ false) (sym has.2) first))
+          let first = c.add_questions_left-2.ensures.kept q none in
+          subst P has.2 (All-contains (λ (p : Probe). has_bit c.add_questions_left.new.left p.question
+          ≡ false → P p.question)
+          c.args.probes.now.others.items has.0 (rw c.as_slice-others.ensures.value at
+          c.add_questions_left.ensures.added) has.1
+          (subst (λ x. has_bit c.add_questions_left.new.left x ≡ false) (sym has.2) first))
     ]

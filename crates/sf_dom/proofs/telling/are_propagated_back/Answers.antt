@@ -1,7 +1,7 @@
 use Rattle.std.proofs.Common.{arith, refl, sym, ◌∙◌}
 use Rattle.std.proofs.lemmas.Bool.{false≢true}
 use Rattle.sf_dom.specs.Facts.{known_at}
-use Rattle.sf_dom.proofs.Backs.{walked-step, walked-end, walked-other, walked-hands, walked-on, gained-same, gained-hands}
+use Rattle.sf_dom.proofs.Backs.{back-step, goes_back-end, goes_back-other, back-hands, back-on, gained-same, gained-hands}
 use Rattle.sf_dom.proofs.telling.are_propagated_back.Goals as goal
 
 pub returns-in-None : goal.returns-in-None
@@ -9,7 +9,7 @@ returns-in-None c = (
   λ t. (let ks = c.args.nodes.now.known in
       let ns = c.args.pool.now in
       let o = c.in-Some in
-      c.loop-op.invariant.back (walked-other ks ns c.loop-op.at o.x o.c o.op
+      c.loop-op.invariant.back (goes_back-other ks ns c.loop-op.at o.x o.c o.op
       (sym o.ensures.operand) c.in-None.ensures)),
   λ h. refl,
 )
@@ -24,7 +24,7 @@ returns-then-not-is_same c =
       (λ h.
           let at = c.loop-op.invariant.on h in
           let e = sym o.ensures.operand in
-          let hands = walked-hands ks ns c.loop-op.at o.x o.c o.op e gain.0 at in
+          let hands = back-hands ks ns c.loop-op.at o.x o.c o.op e gain.0 at in
           let same = gained-same o.op o.c (known_at ks c.loop-op.at) (known_at ks o.x) hands in
           absurd (false≢true (sym c.if-not-is_same.true
           ∙ c.is_same.ensures.1 (gain.1 ∙ same ∙ sym c.get-operand.ensures)))),
@@ -43,13 +43,13 @@ loop-op-preserved c =
     let hands = gained-hands o.op o.c (known_at ks c.loop-op.at) (known_at ks o.x) same in
     record {
       within = omega (arith, o.ensures.smaller);
-      back = λ h. inv.back (walked-step ks ns c.loop-op.at o.x o.c o.op e hands h);
-      on = λ h. walked-on ks ns c.loop-op.at o.x o.c o.op e gain.0 (inv.on h);
+      back = λ h. inv.back (back-step ks ns c.loop-op.at o.x o.c o.op e hands h);
+      on = λ h. back-on ks ns c.loop-op.at o.x o.c o.op e gain.0 (inv.on h);
     }
 
 pub returns : goal.returns
 returns c = (
-  (λ t. c.loop-op.invariant.back (walked-end c.args.nodes.now.known c.args.pool.now c.loop-op.at
+  (λ t. c.loop-op.invariant.back (goes_back-end c.args.nodes.now.known c.args.pool.now c.loop-op.at
       (sym c.constant_operand.ensures.operand ∙ c.in_default.is))),
   (λ h. refl),
 )

@@ -47,8 +47,8 @@ steps-preserved c =
           c.in_ok-push_meeting.ensures.pushed before.same w (rw c.word_after-word.ensures at e);
     }
 
-pub returns-in-Returns-clause-told : goal.returns-in-Returns-clause-told
-returns-in-Returns-clause-told c =
+pub returns-in-Returns-clause-course : goal.returns-in-Returns-clause-course
+returns-in-Returns-clause-course c =
     let code = c.insns-code.result.now in
     let d = c.args.input.now in
     let s = state_of c.steps.place c.steps.machine in
@@ -61,4 +61,4 @@ returns-in-Returns-clause-told c =
     c.push_meeting.new.met.items (walk_of code d) some h.at out.took c.in_ok-push_meeting.ensures.pushed before.same
 
 pub returns-in-Returns-clause-run : goal.returns-in-Returns-clause-run
-returns-in-Returns-clause-run c = walk_tells_run _ _ _ (returns-in-Returns-clause-told c)
+returns-in-Returns-clause-run c = walk_tells_run _ _ _ (returns-in-Returns-clause-course c)

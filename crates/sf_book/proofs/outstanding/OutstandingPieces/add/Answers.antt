@@ -24,7 +24,7 @@ returns-in-Ok-clause-ok c =
     let apart = rw (← c.self.view_is) at c.requires.apart in
     let put = rw c.of-named.ensures at c.in_ok-put_id.ensures.updates in
     let named = rw (c.in_ok-twin.ensures.ok, c.of-named.ensures) at c.in-Ok.ensures.updates in
-    let is = rw c.of-named.ensures at c.in_ok-put_id.ensures.entries in
+    let is = rw c.of-named.ensures at c.in_ok-put_id.ensures.inserted in
     rw (← c.self.view_is) (added_view ids names c.args.id p c.args.leased c.put_id.new.by_id.entries
     c.put_name.new.by_name.entries c.self.invariant
     (is_added ids names c.args.id p c.args.leased c.put_id.new.by_id.entries c.put_name.new.by_name.entries
@@ -39,7 +39,7 @@ invariant_of-self-in-Err c =
     rw (
       c.in-Err.ensures.err.1,
       c.drop_id.ensures,
-      c.in_ok-put_id.ensures.entries,
+      c.in_ok-put_id.ensures.inserted,
       put_back ids names c.args.id c.of-named.result above,
     ) c.self.invariant
 
@@ -53,7 +53,7 @@ returns-in-Err-clause-err c =
         ← c.self.view_is,
         c.in-Err.ensures.err.1,
         c.drop_id.ensures,
-        c.in_ok-put_id.ensures.entries,
+        c.in_ok-put_id.ensures.inserted,
         put_back ids names c.args.id c.of-named.result above,
       ) refl,
     )

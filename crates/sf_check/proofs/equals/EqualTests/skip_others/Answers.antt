@@ -1,5 +1,5 @@
 use Rattle.std.proofs.Common.{refl, arith}
-use Rattle.sf_check.proofs.EqualLemmas.{passed_one_more}
+use Rattle.sf_check.proofs.EqualLemmas.{skipped_one_more}
 use Rattle.sf_check.proofs.equals.EqualTests.skip_others.Goals as goal
 
 pub skip_in_chain-more-requires-clause-inside : goal.skip_in_chain-more-requires-clause-inside
@@ -13,9 +13,9 @@ loop-next-preserved c =
     let more = c.skip_in_chain-more.ensures in
     let before = c.loop-next.invariant in
     record {
-      passed = passed_one_more c.args.insns.now c.args.number c.loop-next.count c.skip_in_chain-more.result.count _
-          test.0 c.args.place c.loop-next.behind c.in-Some.next c.skip_in_chain-more.result.behind before.passed
-          test.1 test.2 more.passed refl;
+      skipped = skipped_one_more c.args.insns.now c.args.number c.loop-next.count c.skip_in_chain-more.result.count _
+          test.0 c.args.place c.loop-next.behind c.in-Some.next c.skip_in_chain-more.result.behind before.skipped
+          test.1 test.2 more.skipped refl;
       inside = more.inside;
       few = omega (arith, before.few, more.on, test.2.leads);
     }

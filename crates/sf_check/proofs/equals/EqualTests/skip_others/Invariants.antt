@@ -1,10 +1,10 @@
 use Rattle.std.proofs.Common.{◌≤◌, ◌<◌, ◌-◌, length}
-use Rattle.sf_check.specs.EqualTests.{ArePassed}
+use Rattle.sf_check.specs.EqualTests.{AreSkipped}
 use Rattle.sf_check.proofs.equals.EqualTests.skip_others.Given as goal
 
 abbrev pub invariant-loop-next : goal.invariant-loop-next
 invariant-loop-next l = record {
-  passed : ArePassed l.insns l.number l.count l.fn.place l.behind;
+  skipped : AreSkipped l.insns l.number l.count l.fn.place l.behind;
   inside : l.behind < length l.insns;
   few : l.count ≤ l.behind;
 }

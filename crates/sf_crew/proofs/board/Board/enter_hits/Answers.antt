@@ -14,14 +14,14 @@ fetch_min-requires c =
     let lt : n < length c.args.sheet.now.questions =
     omega (arith, c.loop-q-test.true, c.question_count-q-end.ensures.count) in
     let many : length c.args.sheet.now.questions ≡ length (questions_of (about c.args.self.now)) =
-    ap (λ (y : List QuestionData). length y) c.requires.matter.1 in
+    ap (λ (y : List QuestionData). length y) c.requires.same.1 in
     let breaks : HasHit c.args.sheet.now.settled c.args.sheet.now.questions c.args.sheet.now.job n =
     search (arith, hit-given) in
     let below : c.args.sheet.now.job < count_of_regions (about c.args.self.now) =
-    subst (λ (y : BookData). c.args.sheet.now.job < length y.regions) c.requires.matter.0 right.there in (
+    subst (λ (y : BookData). c.args.sheet.now.job < length y.regions) c.requires.same.0 right.there in (
       c.loop-q.invariant.table ∙ c.requires.table,
       omega (arith, lt, many),
       hits_at _ _ _ n _ _ (omega (arith, lt, many)) (omega (arith, below, c.job-job.ensures.job))
           (subst (λ (y : BookData × List QuestionData × ℕ). HasHit y.0 y.1 y.2 n)
-          (λ i. (c.requires.matter.0 i, c.requires.matter.1 i, sym c.job-job.ensures.job i)) breaks),
+          (λ i. (c.requires.same.0 i, c.requires.same.1 i, sym c.job-job.ensures.job i)) breaks),
     )

@@ -9,4 +9,4 @@ returns-clause-told c = rw (← c.self.view_is) (rw c.deref.ensures at c.tell_no
 pub returns-clause-back : goal.returns-clause-back
 returns-clause-back c =
     rw (← c.self.view_is) (told-back c.tell_node.result _ c.args.pool.now c.args.node.0
-    (rw (← c.self.view_is) at c.requires.covers) c.requires.node (rw c.deref.ensures at c.tell_node.ensures.walked))
+    (rw (← c.self.view_is) at c.requires.covers) c.requires.node (rw c.deref.ensures at c.tell_node.ensures.goes_back))
